@@ -1,0 +1,6 @@
+-- The words get fewer.
+use Rattle.std.proofs.Common.{length}
+use Rattle.tier_base.proofs.reserved.+is_one_of.Given as goal
+
+abbrev pub decreases-is_one_of : goal.decreases-is_one_of
+decreases-is_one_of l = length l.words.now

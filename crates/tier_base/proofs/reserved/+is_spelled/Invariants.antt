@@ -1,0 +1,6 @@
+-- The bytes get fewer.
+use Rattle.std.proofs.Common.{length}
+use Rattle.tier_base.proofs.reserved.+is_spelled.Given as goal
+
+abbrev pub decreases-is_spelled : goal.decreases-is_spelled
+decreases-is_spelled l = length l.bytes.now
