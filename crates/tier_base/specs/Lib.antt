@@ -1,3 +1,4 @@
 pub mod Codes
+pub mod Labels
 pub mod Limits
 pub mod Names

@@ -2,6 +2,7 @@
 #![tactic(auto)]
 
 pub mod code;
+pub mod label;
 pub mod limit;
 pub mod list;
 pub mod name;
@@ -9,6 +10,7 @@ pub mod number;
 pub mod reserved;
 
 pub use code::Code;
+pub use label::{Label, LabelError};
 pub use limit::Limit;
 pub use list::Seq;
 pub use name::{Name, NameError};
