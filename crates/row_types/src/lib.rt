@@ -1,13 +1,23 @@
-// A library with one function.
+//! Values, their order and three-valued comparison, columns, rows, keys and broken rules.
 #![tactic(auto)]
 
-ghost use Rattle.std.specs.Prelude.{◌≡◌};
-ghost use Rattle.row_types.specs.Echo.{echo_of};
+pub mod column;
+pub mod key;
+pub mod laws;
+pub mod row;
+pub mod rule;
+pub mod text;
+pub mod time;
+pub mod truth;
+pub mod value;
+pub mod values;
 
-// The `ensures` clause is the contract: what `echo` returns is `echo_of` of its argument, a definition
-// in `specs/Echo.antt`, which a caller's clause can cite too.
-pub fn echo(x: usize) -> usize
-    ensures { result ≡ echo_of x }
-{
-    x
-}
+pub use column::{Column, Ty, fits};
+pub use key::Key;
+pub use row::Row;
+pub use rule::{Detail, Letter, Refused, Rule};
+pub use text::Text;
+pub use time::Time;
+pub use truth::Truth;
+pub use value::{Value, compare, order};
+pub use values::{copied_values, order_of_values, same_values};

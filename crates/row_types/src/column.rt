@@ -1,0 +1,101 @@
+//! Columns and what they hold.
+
+ghost use Rattle.std.specs.Prelude.{◌≡◌, ◌↔◌, ◌≤◌, IfOk, IsTrue};
+ghost use Rattle.row_types.specs.Columns.{fit_of, holds, is_within};
+
+use crate::value::Value;
+use std::alloc::{AllocError, Global};
+use tier_base::{Code, Name};
+
+/// The type of a column.
+#[derive(Clone, Copy, Debug, PartialEq, Eq)]
+pub enum Ty {
+    /// TT_INTEGER: whole numbers of 32 signed bits.
+    TtInteger,
+    /// TT_BIGINT: whole numbers of 64 signed bits.
+    TtBigint,
+    /// VARCHAR2(n): texts of up to n bytes, n from 1 to 4000.
+    Varchar2(u16),
+    /// TIMESTAMP: times in whole seconds, of the years 0001 to 9999.
+    Timestamp,
+}
+
+impl Ty {
+    /// Whether the type holds the value. Each type holds NULL.
+    pub fn holds(self, value: &Value) -> bool
+        ensures { result ≡ holds self value.now }
+    {
+        match (self, value) {
+            (_, Value::Null) => true,
+            (Ty::TtInteger, Value::Integer(number)) => {
+                is_within(-2_147_483_648, 2_147_483_647, *number)
+            }
+            (Ty::TtBigint, Value::Integer(number)) => is_within(i64::MIN, i64::MAX, *number),
+            (Ty::Varchar2(greatest), Value::Text(text)) => text.as_bytes().len()
+                <= greatest as usize,
+            (Ty::Timestamp, Value::Time(_)) => true,
+            _ => false,
+        }
+    }
+}
+
+fn is_within(first: i64, last: i64, number: i64) -> bool
+    ensures { result ≡ is_within first last number }
+{
+    first <= number && number <= last
+}
+
+/// A column of a table.
+#[derive(Drop)]
+pub struct Column {
+    /// Its name, one identifier.
+    pub name: Name,
+    /// What it holds.
+    pub ty: Ty,
+    /// Whether it refuses NULL.
+    pub not_null: bool,
+}
+
+impl Column {
+    /// Whether this is the same column.
+    pub fn same(&self, other: &Column) -> bool
+        ensures { IsTrue result ↔ (self.now ≡ other.now) }
+    {
+        self.name.same(&other.name) && self.ty == other.ty && self.not_null == other.not_null
+    }
+
+    /// A second copy of the column.
+    pub fn copied(&self, alloc: Global) -> Result<Column, AllocError>
+        ensures { IfOk result (λ column. column ≡ self.now) }
+    {
+        let name = self.name.copied(alloc)?;
+        Ok(Column {
+            name,
+            ty: self.ty,
+            not_null: self.not_null,
+        })
+    }
+}
+
+/// Whether the column takes the value: `NullNotAllowed` for NULL where it refuses NULL, `OutOfRange` for a value
+/// that its type doesn't hold.
+pub fn fits(value: &Value, column: &Column) -> Result<(), Code>
+    ensures { result ≡ fit_of column.now value.now }
+{
+    match value {
+        Value::Null => {
+            if column.not_null {
+                Err(Code::NullNotAllowed)
+            } else {
+                Ok(())
+            }
+        }
+        _ => {
+            if column.ty.holds(value) {
+                Ok(())
+            } else {
+                Err(Code::OutOfRange)
+            }
+        }
+    }
+}
