@@ -2,6 +2,7 @@
 #![tactic(auto)]
 
 pub mod column;
+pub mod declaration;
 pub mod key;
 pub mod laws;
 pub mod row;
@@ -13,6 +14,9 @@ pub mod value;
 pub mod values;
 
 pub use column::{Column, Ty, fits};
+pub use declaration::{
+    ColumnDeclaration, ForeignKeyDeclaration, TableDeclaration, TypeDeclaration,
+};
 pub use key::Key;
 pub use row::Row;
 pub use rule::{Detail, Letter, Refused, Rule};
