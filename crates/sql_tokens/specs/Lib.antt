@@ -1,1 +1,4 @@
 pub mod Kinds
+pub mod Words
+pub mod Lexing
+pub mod States

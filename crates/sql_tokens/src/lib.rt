@@ -2,4 +2,6 @@
 #![tactic(auto)]
 
 pub mod kind;
+pub mod lexer;
 pub mod token;
+pub mod word;
