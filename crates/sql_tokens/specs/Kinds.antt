@@ -1,5 +1,5 @@
 -- The kinds of tokens as numbers, in the order in which they stand.
-use Rattle.std.specs.Prelude.{ℕ}
+use Rattle.std.specs.Prelude.{ℕ, Bool, nat_eq}
 use Rattle.sql_tokens.specs.declared.kind.Kind.{Kind}
 use Rattle.sql_tokens.specs.declared.kind.Kind.TheVariants.{Bad, Colon, Semicolon, Comma, Dot, OpenParen, CloseParen, Star, Plus, Minus, Equals, NotEquals, LessThan, AtMost, GreaterThan, AtLeast, Zero, One, Two, Three, Integer, Decimal, Text, Select, From, Where, And, Or, Not, Null, Is, In, Between, Order, By, Asc, Desc, Insert, Into, Values, Update, Set, Delete, Create, Alter, Drop, Table, Cache, Group, Primary, Foreign, Key, References, On, Cascade, Timestamp, Count, Sum, Min, Max, Call, Commit, Rollback, Load, Refresh, Unload, Flush, Aging, Readonly, Propagate, TtInteger, TtBigint, Varchar2, Byte, Number, Open, Close, Passthrough, Durable, Asynchronous, Synchronous, Writethrough, Dynamic, Usermanaged, Index, Autorefresh, Mode, Incremental, Full, Interval, Millisecond, Second, Minute, Hour, Day, State, Off, Paused, Lru, Use, Lifetime, Cycle, With, Id, Every, Rows, Parallel, Identifier}
 
@@ -113,3 +113,7 @@ code Every = 104
 code Rows = 105
 code Parallel = 106
 code Identifier = 107
+
+-- the kinds are the same
+abbrev pub is_kind : Kind → Kind → Bool
+is_kind k j = nat_eq (code k) (code j)

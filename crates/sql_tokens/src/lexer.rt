@@ -24,7 +24,8 @@ enum State {
     InSign(usize),
 }
 
-fn is_blank(byte: u8) -> bool
+/// Whether the byte is a space or a tab.
+pub fn is_blank(byte: u8) -> bool
     ensures { result ≡ is_blank byte }
 {
     byte == b' ' || byte == b'\t'

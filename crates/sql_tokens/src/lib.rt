@@ -1,6 +1,7 @@
 //! The tokens of a line.
 #![tactic(auto)]
 
+pub mod head;
 pub mod kind;
 pub mod lexer;
 pub mod token;

@@ -1,6 +1,6 @@
 //! Tokens with their places.
 ghost use Rattle.std.specs.Prelude.{◌≡◌};
-ghost use Rattle.sql_tokens.specs.Kinds.{code};
+ghost use Rattle.sql_tokens.specs.Kinds.{code, is_kind};
 
 use crate::kind::Kind;
 
@@ -20,4 +20,11 @@ pub fn number_of(kind: Kind) -> u8
     ensures { result ≡ code kind }
 {
     kind as u8
+}
+
+/// Whether the kinds are the same.
+pub fn is_kind(kind: Kind, other: Kind) -> bool
+    ensures { result ≡ is_kind kind other }
+{
+    number_of(kind) == number_of(other)
 }

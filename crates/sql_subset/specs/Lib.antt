@@ -1,0 +1,5 @@
+pub mod Reading
+pub mod Tables
+pub mod Groups
+pub mod Statements
+pub mod Lines
