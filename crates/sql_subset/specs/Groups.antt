@@ -1,7 +1,7 @@
 -- What the tokens at the front say: cache groups.
-use Rattle.std.specs.Prelude.{ℕ, ◌+◌, ◌-◌, ◌*◌, min, Bool, true, false, List, [], ◌∷◌, drop, Option, Some, None, if◌then◌else◌}
+use Rattle.std.specs.Prelude.{ℕ, ◌+◌, ◌-◌, ◌*◌, min, List, [], ◌∷◌, drop, Option, Some, None, if◌then◌else◌}
 use Rattle.sql_tokens.specs.declared.kind.Kind.{Kind}
-use Rattle.sql_tokens.specs.declared.kind.Kind.TheVariants.{Autorefresh, Full, Interval, Millisecond, Minute, Mode, Off, On, Readonly, Second, State}
+use Rattle.sql_tokens.specs.declared.kind.Kind.TheVariants.{Autorefresh, Full, Interval, Millisecond, Mode, Off, On, Readonly, Second, State}
 use Rattle.sql_tokens.specs.Kinds.{is_kind}
 use Rattle.sql_tokens.specs.Lexing.{Lexeme}
 use Rattle.sql_subset.specs.declared.stmt.Autorefresh as autorefreshes
@@ -86,5 +86,5 @@ abbrev pub group_kinded : GroupKind × List Lexeme → groups.CreateGroup × Lis
 group_kinded x = group_named x.0 (name_of (drop 2 x.1))
 
 -- kind CACHE GROUP name [ AUTOREFRESH .. ] FROM table
-abbrev pub group_of : List Lexeme → groups.CreateGroup × List Lexeme
+unfoldable pub group_of : List Lexeme → groups.CreateGroup × List Lexeme
 group_of ls = group_kinded (kind_of ls)

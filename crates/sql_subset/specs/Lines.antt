@@ -1,5 +1,5 @@
 -- What a request line says.
-use Rattle.std.specs.Prelude.{ℕ, zero, suc, ◌≡◌, ◌<◌, Bool, true, false, ◌||◌, nat_eq, nat_lt, List, [], ◌∷◌, length, drop, map, codes, bytes_eq, Option, Some, None, Result, Ok, Err, if◌then◌else◌}
+use Rattle.std.specs.Prelude.{ℕ, ◌≡◌, Bool, true, false, nat_eq, nat_lt, List, [], ◌∷◌, length, slice_get, drop, map, codes, bytes_eq, Option, Some, None, Result, Ok, Err, if◌then◌else◌}
 use Rattle.tier_base.specs.Labels.{is_label}
 use Rattle.sql_tokens.specs.declared.kind.Kind.{Kind}
 use Rattle.sql_tokens.specs.Lexing.{Lexeme, lexed}
@@ -32,11 +32,14 @@ start_of head =
 abbrev pub kinds_in : List Lexeme → List Kind
 kinds_in ls = map (λ l. l.kind) ls
 
+-- the byte at which the token stands, or the end
+abbrev pub place_or : ℕ → Option Lexeme → ℕ
+place_or end None = end
+place_or end (Some l) = l.place
+
 -- the byte at which the i-th token stands, or the end
 abbrev pub place_at : List Lexeme → ℕ → ℕ → ℕ
-place_at [] i end = end
-place_at (l ∷ ls) zero end = l.place
-place_at (l ∷ ls) (suc i) end = place_at ls i end
+place_at ls i end = place_or end (slice_get ls i)
 
 -- what the tokens of a request say, the colon being the first
 abbrev pub line_of : Start → List ℕ → List Lexeme → Line
@@ -55,17 +58,24 @@ pub data Saying : Type 0 where
   -- it goes on too deep
   TooDeep : Saying
 
--- What the tokens of a line say, by the grammar of who speaks.
-abbrev pub Spoken : Start → List ℕ → List Lexeme → Saying → Type 0
-Spoken s bytes ls Silent = ⊥
-Spoken s bytes ls (Says l) = IsSpelt s 32 (kinds_in ls) × (l ≡ line_of s (head_of bytes) ls)
-Spoken s bytes ls (WrongAt p) = (i : ℕ) × (p ≡ place_at ls i (length bytes)) × Judged s (kinds_in ls) (verdicts.At i)
-Spoken s bytes ls TooDeep = Judged s (kinds_in ls) verdicts.Deep
+-- What the tokens behind a head say, by the grammar of who speaks, in a line of this length.
+abbrev pub Spoken : Start → List ℕ → ℕ → List Lexeme → Saying → Type 0
+Spoken s head end ls Silent = ⊥
+Spoken s head end ls (Says l) = IsSpelt s 32 (kinds_in ls) × (l ≡ line_of s head ls)
+Spoken s head end ls (WrongAt p) = (i : ℕ) × (p ≡ place_at ls i end) × Judged s (kinds_in ls) (verdicts.At i)
+Spoken s head end ls TooDeep = Judged s (kinds_in ls) verdicts.Deep
+
+-- The answer to tokens: what they say, or want of memory.
+abbrev pub Told : Start → List ℕ → ℕ → List Lexeme → Result Line ParseError → Type 0
+Told s head end ls (Ok l) = Spoken s head end ls (Says l)
+Told s head end ls (Err (e.At p)) = Spoken s head end ls (WrongAt p)
+Told s head end ls (Err e.Depth) = Spoken s head end ls TooDeep
+Told s head end ls (Err e.Memory) = Unit {0}
 
 -- What a line says of which the tokens count, or not for its first bad byte.
 abbrev pub Checked : Bool → Start → List ℕ → Saying → Type 0
 Checked true s bytes x = x ≡ WrongAt (good_length bytes)
-Checked false s bytes x = Spoken s bytes (lexed (head_end bytes) bytes) x
+Checked false s bytes x = Spoken s (head_of bytes) (length bytes) (lexed (head_end bytes) bytes) x
 
 -- What a line says of which this one speaks: without a label it is wrong at its first byte.
 abbrev pub Headed : Option Start → List ℕ → Saying → Type 0

@@ -64,10 +64,14 @@ literal_of ls =
     else if begins Null ls then (literals.Null, drop 1 ls)
     else as_literal (integer_of ls)
 
--- from left to right, while the word stands in front: f puts one more in
-abbrev pub chained : {A B : Type 0} → Kind → (A → B → A) → (List Lexeme → B × List Lexeme) → ℕ → A × List Lexeme → A × List Lexeme
-chained w f p zero x = x
-chained w f p (suc n) x = if begins w x.1 then chained w f p n (f x.0 (p (drop 1 x.1)).0, (p (drop 1 x.1)).1) else x
+-- the first token is a comma
+abbrev pub at_comma : List Lexeme → Bool
+at_comma ls = begins Comma ls
+
+-- from left to right, while it goes on with a token and a part behind it: f puts one part more in
+abbrev pub chained : {A B : Type 0} → (List Lexeme → Bool) → (A → B → A) → (List Lexeme → B × List Lexeme) → ℕ → A × List Lexeme → A × List Lexeme
+chained g f p zero x = x
+chained g f p (suc n) x = if g x.1 then chained g f p n (f x.0 (p (drop 1 x.1)).0, (p (drop 1 x.1)).1) else x
 
 abbrev pub with_last : {A : Type 0} → List A → A → List A
 with_last xs x = xs ++ x ∷ []
@@ -77,11 +81,11 @@ as_list x = (x.0 ∷ [], x.1)
 
 -- ident { "," ident }
 abbrev pub identifiers_of : List Lexeme → List (List ℕ) × List Lexeme
-identifiers_of ls = chained Comma with_last identifier_of (length ls) (as_list (identifier_of ls))
+identifiers_of ls = chained at_comma with_last identifier_of (length ls) (as_list (identifier_of ls))
 
 -- literal { "," literal }
 abbrev pub literals_of : List Lexeme → List Literal × List Lexeme
-literals_of ls = chained Comma with_last literal_of (length ls) (as_list (literal_of ls))
+literals_of ls = chained at_comma with_last literal_of (length ls) (as_list (literal_of ls))
 
 abbrev pub compared : List ℕ → IntegerLiteral × List Lexeme → Comparison × List Lexeme
 compared column x = (record { column = column; value = x.0 }, x.1)

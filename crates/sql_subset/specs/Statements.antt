@@ -1,16 +1,14 @@
 -- What the tokens say: statements and requests.
-use Rattle.std.specs.Prelude.{ℕ, suc, zero, Bool, true, false, ◌&&◌, ◌||◌, List, [], ◌∷◌, ◌++◌, length, drop, Option, Some, None, if◌then◌else◌}
+use Rattle.std.specs.Prelude.{ℕ, Bool, ◌&&◌, ◌||◌, List, [], length, drop, Option, Some, None, if◌then◌else◌}
 use Rattle.sql_tokens.specs.declared.kind.Kind.{Kind}
 use Rattle.sql_tokens.specs.declared.kind.Kind.TheVariants as k
 use Rattle.sql_tokens.specs.Kinds.{is_kind}
 use Rattle.sql_tokens.specs.Lexing.{Lexeme}
-use Rattle.row_types.specs.declared.declaration.TableDeclaration.{TableDeclaration}
 use Rattle.sql_subset.specs.declared.stmt.Insert as inserts
 use Rattle.sql_subset.specs.declared.stmt.Update as updates
 use Rattle.sql_subset.specs.declared.stmt.Delete as deletes
 use Rattle.sql_subset.specs.declared.stmt.Comparison.{Comparison}
 use Rattle.sql_subset.specs.declared.stmt.Literal.{Literal}
-use Rattle.sql_subset.specs.declared.stmt.CreateGroup as groups
 use Rattle.sql_subset.specs.declared.stmt.Write.{Write}
 use Rattle.sql_subset.specs.declared.stmt.Write.TheVariants as writes
 use Rattle.sql_subset.specs.declared.stmt.Stmt.{Stmt}
@@ -20,8 +18,8 @@ use Rattle.sql_subset.specs.declared.request.Request.{Request}
 use Rattle.sql_subset.specs.declared.request.Request.TheVariants as requests
 use Rattle.sql_subset.specs.declared.request.ConsoleRequest.{ConsoleRequest}
 use Rattle.sql_subset.specs.declared.request.ConsoleRequest.TheVariants as consoles
-use Rattle.sql_subset.specs.Reading.{begins, first_kind, name_of, literals_of, comparison_of, with_last, as_list}
-use Rattle.sql_subset.specs.Tables.{table_of, past_one}
+use Rattle.sql_subset.specs.Reading.{begins, first_kind, name_of, literals_of, comparison_of, chained, with_last, as_list}
+use Rattle.sql_subset.specs.Tables.{table_of}
 use Rattle.sql_subset.specs.Groups.{group_of}
 
 abbrev pub inserted : List ℕ → List Literal × List Lexeme → inserts.Insert × List Lexeme
@@ -84,14 +82,9 @@ write_of ls =
 abbrev pub goes_on : List Lexeme → Bool
 goes_on ls = begins k.Insert (drop 1 ls) || begins k.Update (drop 1 ls) || begins k.Delete (drop 1 ls)
 
--- the writes behind those so far
-abbrev pub more_writes : ℕ → List Write × List Lexeme → List Write × List Lexeme
-more_writes zero x = x
-more_writes (suc n) x = if goes_on x.1 then more_writes n (x.0 ++ (write_of (drop 1 x.1)).0 ∷ [], (write_of (drop 1 x.1)).1) else x
-
 -- write { ";" write }
 abbrev pub writes_of : List Lexeme → List Write × List Lexeme
-writes_of ls = more_writes (length ls) (as_list (write_of ls))
+writes_of ls = chained goes_on with_last write_of (length ls) (as_list (write_of ls))
 
 -- CREATE TABLE table | writes
 abbrev pub console_of : List Lexeme → ConsoleRequest
