@@ -4,6 +4,7 @@
 pub mod column;
 pub mod key;
 pub mod laws;
+pub mod printing;
 pub mod row;
 pub mod rule;
 pub mod text;
@@ -14,6 +15,7 @@ pub mod values;
 
 pub use column::{Column, Ty, fits};
 pub use key::Key;
+pub use printing::{print, print_into, print_key_into};
 pub use row::Row;
 pub use rule::{Detail, Letter, Refused, Rule};
 pub use text::Text;
