@@ -1,1 +1,3 @@
+pub mod Cases
 pub mod OrderLaws
+pub mod TimeLemmas

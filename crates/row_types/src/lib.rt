@@ -5,6 +5,7 @@ pub mod column;
 pub mod declaration;
 pub mod key;
 pub mod laws;
+pub mod printing;
 pub mod row;
 pub mod rule;
 pub mod text;
@@ -18,6 +19,7 @@ pub use declaration::{
     ColumnDeclaration, ForeignKeyDeclaration, TableDeclaration, TypeDeclaration,
 };
 pub use key::Key;
+pub use printing::{print, print_into, print_key_into};
 pub use row::Row;
 pub use rule::{Detail, Letter, Refused, Rule};
 pub use text::Text;
