@@ -1,9 +1,9 @@
 -- What a chunk is of the joined list, and what an edit of a chunk is there.
-use Rattle.std.proofs.Common.{ℕ, ◌≡◌, ◌+◌, ◌-◌, ◌<◌, ◌≤◌, List, [], ◌∷◌, ◌++◌, length, get_or, set, take, drop, All, refl, sym, ap, ◌∙◌, arith, zero, suc, zero-add, add_assoc, length-append, append_assoc, append-nil, take-append-drop}
+use Rattle.std.proofs.Common.{ℕ, ◌≡◌, ◌+◌, ◌-◌, ◌<◌, ◌≤◌, List, [], ◌∷◌, ◌++◌, length, get_or, set, take, drop, All, refl, sym, ap, ◌∙◌, arith, zero, suc, zero-add, add_assoc, length-append, append_assoc, take-append-drop}
 use Rattle.std.specs.List.{insert, remove}
 use Rattle.std.proofs.lemmas.List.{get_or_append_left, get_or-append-add, set-append_left, set-append_right, drop_all}
 use Rattle.std.proofs.lemmas.List.Edits.{insert-append_left, insert-append_right, remove-append_left, remove-append_right}
-use Rattle.std.proofs.lemmas.List.Elements.{All-set, All-append, All-take, All-drop, All-cons, All-get_or}
+use Rattle.std.proofs.lemmas.List.Elements.{All-set, All-append, All-take, All-drop, All-cons}
 use Rattle.long_list.specs.Chunks.{joined}
 
 -- how many elements stand before chunk c

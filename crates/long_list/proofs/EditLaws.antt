@@ -1,11 +1,11 @@
 -- Each edit of the chunks: what is counted beside them, and the joined list.
-use Rattle.std.proofs.Common.{ℕ, ◌≡◌, ◌+◌, ◌-◌, ◌<◌, ◌≤◌, ◌^◌, List, [], ◌∷◌, ◌++◌, length, get_or, set, take, drop, map, All, Result, Ok, Err, OnOk, OnErr, refl, sym, ap, ◌∙◌, subst, arith, zero, suc, length-append, length-set}
+use Rattle.std.proofs.Common.{ℕ, ◌≡◌, ◌+◌, ◌-◌, ◌<◌, ◌≤◌, ◌^◌, List, [], ◌∷◌, ◌++◌, length, get_or, set, take, drop, map, All, Result, Ok, Err, OnErr, refl, sym, ap, ◌∙◌, subst, arith, suc, length-append, length-set}
 use Rattle.std.specs.List.{insert, remove}
-use Rattle.std.proofs.lemmas.List.{append_assoc, length_push, length-map, map-set, get_or-map, take-map, drop-map, map-append, get_or_default, get_or-drop, length-drop, length-take, length-take-le, set-get_or, get_or_past}
+use Rattle.std.proofs.lemmas.List.{append_assoc, length_push, length-map, map-set, get_or-map, take-map, drop-map, map-append, get_or_default, get_or-drop, length-drop, length-take, length-take-le, set-get_or}
 use Rattle.std.proofs.lemmas.List.Edits.{length-insert, length-remove, get_or-remove_below}
 use Rattle.std.proofs.lemmas.List.Elements.{All-push, All-same}
 use Rattle.long_list.specs.Chunks.{joined, starts_from, IsCounted, IsLocated}
-use Rattle.long_list.proofs.ChunkLaws.{before, joined_at, insert_in, remove_in, set_in, remove_alone, joined_split, joined_merge, IsFilled, filled_at, filled_set, filled_insert, filled_remove, before_up_to, chunk_ends, some_chunk}
+use Rattle.long_list.proofs.ChunkLaws.{before, joined_at, insert_in, remove_in, set_in, remove_alone, joined_split, joined_merge, filled_at, filled_set, filled_insert, filled_remove, chunk_ends}
 use Rattle.long_list.proofs.StartLaws.{length_starts, start_at, starts_grown, starts_shrunk, starts_same, starts_gone, starts_merge, starts_split, start_up_to, start_above}
 
 module _ {V X : Type 0} (f : V → List X) where
@@ -54,7 +54,7 @@ module _ {X : Type 0} (cs : List (List X)) (s : List ℕ) (len : ℕ) (counted :
   all_above c h = λ k d inside.
       let place : c + 1 + k ≡ suc (c + k) = omega arith in
       let is : get_or (drop (c + 1) s) k d ≡ get_or (starts_from 0 cs) (suc (c + k)) d =
-          get_or-drop (c + 1) s k d ∙ ap (λ n. get_or s n d) place ∙ ap (λ l. get_or l (suc (c + k)) d) counted.begins in
+      get_or-drop (c + 1) s k d ∙ ap (λ n. get_or s n d) place ∙ ap (λ l. get_or l (suc (c + k)) d) counted.begins in
       let up = start_above cs (c + k) d counted.filled (omega (arith, counts, length-drop (c + 1) s)) in
       omega arith
 
@@ -83,7 +83,7 @@ module _ {X : Type 0} (cs : List (List X)) (s : List ℕ) (len : ℕ) (counted :
     put_one le y new s' e es =
         let grown : length new ≡ length (get_or cs c []) + 1 = ap length e ∙ length-insert (get_or cs c []) i y (spot.up_to le) in
         let is : joined (set cs c new) ≡ insert (joined cs) at y =
-            ap (λ l. joined (set cs c l)) e ∙ sym (insert_in cs c i y spot.within (spot.up_to le)) ∙ ap (λ n. insert (joined cs) n y) spot.is in
+        ap (λ l. joined (set cs c l)) e ∙ sym (insert_in cs c i y spot.within (spot.up_to le)) ∙ ap (λ n. insert (joined cs) n y) spot.is in
         record {
           counted = record {
             filled = filled_set cs c new counted.filled (omega arith);
@@ -98,7 +98,7 @@ module _ {X : Type 0} (cs : List (List X)) (s : List ℕ) (len : ℕ) (counted :
         let same : length new ≡ length (get_or cs c []) = ap length e ∙ length-set (get_or cs c []) i y in
         let some = filled_at cs c counted.filled spot.within in
         let is : joined (set cs c new) ≡ set (joined cs) at y =
-            ap (λ l. joined (set cs c l)) e ∙ sym (set_in cs c i y spot.within (spot.inside lt)) ∙ ap (λ n. set (joined cs) n y) spot.is in
+        ap (λ l. joined (set cs c l)) e ∙ sym (set_in cs c i y spot.within (spot.inside lt)) ∙ ap (λ n. set (joined cs) n y) spot.is in
         record {
           counted = record {
             filled = filled_set cs c new counted.filled (omega arith);
@@ -112,7 +112,7 @@ module _ {X : Type 0} (cs : List (List X)) (s : List ℕ) (len : ℕ) (counted :
     take_one lt more new s' e es =
         let shrunk : length new + 1 ≡ length (get_or cs c []) = ap (λ l. length l + 1) e ∙ length-remove (get_or cs c []) i (spot.inside lt) in
         let is : joined (set cs c new) ≡ remove (joined cs) at =
-            ap (λ l. joined (set cs c l)) e ∙ sym (remove_in cs c i spot.within (spot.inside lt)) ∙ ap (λ n. remove (joined cs) n) spot.is in
+        ap (λ l. joined (set cs c l)) e ∙ sym (remove_in cs c i spot.within (spot.inside lt)) ∙ ap (λ n. remove (joined cs) n) spot.is in
         let count = counted.count in
         let less = length-remove (joined cs) at lt in
         let same = ap length is in
@@ -128,7 +128,7 @@ module _ {X : Type 0} (cs : List (List X)) (s : List ℕ) (len : ℕ) (counted :
     pub take_last : at < length (joined cs) → length (get_or cs c []) ≡ 1 → (s₁ s' : List ℕ) → s₁ ≡ take (c + 1) s ++ map (λ x. x - 1) (drop (c + 1) s) → s' ≡ remove s₁ c → Edited (remove cs c) s' (len - 1) (remove (joined cs) at)
     take_last lt one s₁ s' e es =
         let is : joined (remove cs c) ≡ remove (joined cs) at =
-            sym (remove_alone cs c i spot.within one (spot.inside lt)) ∙ ap (λ n. remove (joined cs) n) spot.is in
+        sym (remove_alone cs c i spot.within one (spot.inside lt)) ∙ ap (λ n. remove (joined cs) n) spot.is in
         let count = counted.count in
         let less = length-remove (joined cs) at lt in
         let same = ap length is in
@@ -148,7 +148,7 @@ module _ {X : Type 0} (cs : List (List X)) (s : List ℕ) (len : ℕ) (counted :
       let some = filled_at cs c counted.filled (omega arith) in
       let e' : new ≡ get_or cs c [] ++ get_or cs (suc c) [] = e ∙ ap (λ n. get_or cs c [] ++ get_or cs n []) step in
       let chunks : set (remove cs (c + 1)) c new ≡ set (remove cs (suc c)) c (get_or cs c [] ++ get_or cs (suc c) []) =
-          ap (λ n. set (remove cs n) c new) step ∙ ap (set (remove cs (suc c)) c) e' in
+      ap (λ n. set (remove cs n) c new) step ∙ ap (set (remove cs (suc c)) c) e' in
       let is : joined (set (remove cs (c + 1)) c new) ≡ joined cs = ap joined chunks ∙ joined_merge cs c inside in
       record {
         counted = record {
@@ -163,7 +163,7 @@ module _ {X : Type 0} (cs : List (List X)) (s : List ℕ) (len : ℕ) (counted :
   split_one c k h some less low high s' el eh es =
       let step = next c in
       let chunks : insert (set cs c low) (c + 1) high ≡ insert (set cs c (take k (get_or cs c []))) (suc c) (drop k (get_or cs c [])) =
-          ap (λ n. insert (set cs c low) n high) step ∙ ap (λ l. insert (set cs c l) (suc c) high) el ∙ ap (insert (set cs c (take k (get_or cs c []))) (suc c)) eh in
+      ap (λ n. insert (set cs c low) n high) step ∙ ap (λ l. insert (set cs c l) (suc c) high) el ∙ ap (insert (set cs c (take k (get_or cs c []))) (suc c)) eh in
       let is : joined (insert (set cs c low) (c + 1) high) ≡ joined cs = ap joined chunks ∙ joined_split cs c k h in
       record {
         counted = record {
@@ -276,7 +276,7 @@ module _ {V X : Type 0} (f : V → List X) (vs : List V) (s : List ℕ) (len : �
       let read : v ≡ get_or vs c v = r ∙ ap (λ l. get_or l c v) same in
       let e = chunk_read f vs c v h read in
       let chunks : map f vs' ≡ insert (set (map f vs) c (f low)) (c + 1) (f high) =
-          ap (map f) ev ∙ map-insert f (set us c low) (c + 1) high ∙ ap (λ l. insert l (c + 1) (f high)) (ap (λ l. map f (set l c low)) same ∙ map-set f vs c low) in
+      ap (map f) ev ∙ map-insert f (set us c low) (c + 1) high ∙ ap (λ l. insert l (c + 1) (f high)) (ap (λ l. map f (set l c low)) same ∙ map-set f vs c low) in
       edited_as _ _ s' len _ _ (sym chunks) view
       (split_one (map f vs) s len counted c k h some (subst (λ l. k < length l) e less) (f low) (f high) s' (el ∙ ap (take k) e) (eh ∙ ap (drop k) e) es)
 
@@ -286,11 +286,11 @@ module _ {V X : Type 0} (f : V → List X) (vs : List V) (s : List ℕ) (len : �
       let rest : map f vs₁ ≡ remove (map f vs) (c + 1) = ap (map f) e₁ ∙ map-remove f us (c + 1) ∙ ap (λ l. remove l (c + 1)) same in
       let fewer = length-remove (map f vs) (c + 1) h in
       let is_next : f next_one ≡ get_or (map f vs) (c + 1) [] =
-          chunk_read f us (c + 1) next_one (omega (arith, ap length same)) en ∙ ap (λ l. get_or l (c + 1) []) same in
+      chunk_read f us (c + 1) next_one (omega (arith, ap length same)) en ∙ ap (λ l. get_or l (c + 1) []) same in
       let is_low : f low ≡ get_or (map f vs) c [] =
-          chunk_read f vs₁ c low (omega (arith, ap length rest)) el ∙ ap (λ l. get_or l c []) rest ∙ get_or-remove_below (map f vs) (c + 1) [] c (omega arith) h in
+      chunk_read f vs₁ c low (omega (arith, ap length rest)) el ∙ ap (λ l. get_or l c []) rest ∙ get_or-remove_below (map f vs) (c + 1) [] c (omega arith) h in
       let both : f w ≡ get_or (map f vs) c [] ++ get_or (map f vs) (c + 1) [] =
-          ew ∙ ap (λ l. l ++ f next_one) is_low ∙ ap (λ l. get_or (map f vs) c [] ++ l) is_next in
+      ew ∙ ap (λ l. l ++ f next_one) is_low ∙ ap (λ l. get_or (map f vs) c [] ++ l) is_next in
       let chunks : map f (set vs₁ c w) ≡ set (remove (map f vs) (c + 1)) c (f w) = map-set f vs₁ c w ∙ ap (λ l. set l c (f w)) rest in
       edited_as _ _ s' len _ _ (sym chunks) view (join_two (map f vs) s len counted c h (f w) s' both es)
 

@@ -1,12 +1,12 @@
 -- A search among the first elements of the chunks, then in one chunk, is a search in the joined list.
-use Rattle.std.proofs.Common.{ℕ, ◌≡◌, ◌+◌, ◌-◌, ◌<◌, ◌≤◌, List, [], ◌∷◌, ◌++◌, length, get_or, map, Bool, true, false, not, Ordering, Less, Equal, Greater, Result, Ok, Err, refl, sym, ap, ◌∙◌, subst, arith, zero, suc, inl, inr}
-use Rattle.std.specs.List.{HoldsAt, AllWithin}
-use Rattle.std.specs.List.Sorted.{IsNonDecreasingBy, IsPartitionPoint, IsPartitionedBy, IsBinarySearchResult, IsSearchInRange}
+use Rattle.std.proofs.Common.{ℕ, ◌≡◌, ◌+◌, ◌-◌, ◌<◌, ◌≤◌, List, [], ◌∷◌, length, get_or, map, true, false, not, Ordering, Less, Equal, Greater, refl, sym, ap, ◌∙◌, subst, arith, suc, inl, inr}
+use Rattle.std.specs.List.{HoldsAt}
+use Rattle.std.specs.List.Sorted.{IsNonDecreasingBy, IsPartitionPoint, IsPartitionedBy}
 use Rattle.std.specs.Ordering.{is_gt, ordering_index}
 use Rattle.std.proofs.lemmas.Bool.{cases_lt}
 use Rattle.std.proofs.lemmas.List.{get_or-map, get_or_default, length-map}
-use Rattle.long_list.specs.Chunks.{joined, starts_from, begins_up_to, IsCounted}
-use Rattle.long_list.proofs.ChunkLaws.{before, before_next, before_up_to, before_all, joined_at, chunk_ends, some_chunk, IsFilled, filled_at}
+use Rattle.long_list.specs.Chunks.{joined, begins_up_to, IsCounted}
+use Rattle.long_list.proofs.ChunkLaws.{before, before_next, before_all, joined_at, chunk_ends, some_chunk, IsFilled, filled_at}
 use Rattle.long_list.proofs.StartLaws.{before_rises, start_at, length_starts}
 use Rattle.long_list.proofs.EditLaws.{start_read, chunk_read}
 
@@ -66,7 +66,7 @@ module _ {X : Type 0} (order : X → Ordering) (cs : List (List X)) (filled : Is
         let hi : get_or cs i d ≡ get_or cs i [] = get_or_default cs i d [] (omega arith) in
         with_first (get_or cs j []) (filled_at cs j filled lt) _ (λ x.
         let later : ordering_index (order (get_or (joined cs) (before cs j) x)) ≤ 1 =
-            up_to_one _ (sym (begins j lt x) ∙ ap (begins_up_to order) (sym hj) ∙ e) in
+        up_to_one _ (sym (begins j lt x) ∙ ap (begins_up_to order) (sym hj) ∙ e) in
         let rises = rising (before cs i) (before cs j) x (before_rises cs i j le) (first_inside j lt) in
         ap (begins_up_to order) hi ∙ begins i (omega arith) x ∙ not_greater _ (omega arith))
 
@@ -83,14 +83,15 @@ module _ {X : Type 0} (order : X → Ordering) (cs : List (List X)) (filled : Is
 
       -- no chunk begins up to what is sought
       pub before_all_chunks : a ≡ 0 → IsPartitionPoint (λ y. order y ≡ Less) (λ y. order y ≡ Greater) (joined cs) 0
-      before_all_chunks none =
-          ( (λ k d low high. absurd (omega arith))
-          , (λ k d low high.
-              let some = some_chunk cs (omega arith) in
-              let top = ap ordering_index (begins_above d (omega arith)) in
-              let start : before cs a ≤ k = omega (arith, ap (before cs) none) in
-              let rises = rising (before cs a) k d start high in
-              greater_by_index _ (omega arith)))
+      before_all_chunks none = (
+        (λ k d low high. absurd (omega arith)),
+        (λ k d low high.
+            let some = some_chunk cs (omega arith) in
+            let top = ap ordering_index (begins_above d (omega arith)) in
+            let start : before cs a ≤ k = omega (arith, ap (before cs) none) in
+            let rises = rising (before cs a) k d start high in
+            greater_by_index _ (omega arith)),
+      )
 
       module _ (c : ℕ) (last : suc c ≡ a) (i : ℕ) (inside : i ≤ length (get_or cs c [])) (inner : IsPartitionPoint (λ y. order y ≡ Less) (λ y. order y ≡ Greater) (get_or cs c []) i) where
         begins_below : (d : X) → ordering_index (order (get_or (joined cs) (before cs c) d)) ≤ 1
@@ -103,12 +104,14 @@ module _ {X : Type 0} (order : X → Ordering) (cs : List (List X)) (filled : Is
 
         first_less : (d : X) → order (get_or (get_or cs c []) 0 d) ≡ Less
         first_less d =
-            elim (cases_lt 0 i) [ inl k ↦ inner.0 0 d (omega arith) k
-            | inr k ↦
-              let top = ap ordering_index (inner.1 0 d k (filled_at cs c filled (omega arith))) in
-              let same = ap (λ x. ordering_index (order x)) (first_of d) in
-              let low = begins_below d in
-              absurd (omega arith) ]
+            elim (cases_lt 0 i) [
+              | inl k ↦ inner.0 0 d (omega arith) k
+              | inr k ↦
+                  let top = ap ordering_index (inner.1 0 d k (filled_at cs c filled (omega arith))) in
+                  let same = ap (λ x. ordering_index (order x)) (first_of d) in
+                  let low = begins_below d in
+                  absurd (omega arith)
+            ]
 
         in_chunk : (k : ℕ) (d : X) → before cs c ≤ k → k < before cs c + length (get_or cs c []) → get_or (joined cs) k d ≡ get_or (get_or cs c []) (k - before cs c) d
         in_chunk k d low high =
@@ -117,28 +120,34 @@ module _ {X : Type 0} (order : X → Ordering) (cs : List (List X)) (filled : Is
 
         below : (k : ℕ) (d : X) → k < before cs c + i → order (get_or (joined cs) k d) ≡ Less
         below k d h =
-            elim (cases_lt k (before cs c)) [ inl lt ↦
-              let low = ap ordering_index (first_less d) in
-              let same = ap (λ x. ordering_index (order x)) (first_of d) in
-              let rises = rising k (before cs c) d (omega arith) (first_inside c (omega arith)) in
-              less_by_index _ (omega arith)
-            | inr le ↦ ap order (in_chunk k d le (omega arith)) ∙ inner.0 (k - before cs c) d (omega arith) (omega arith) ]
+            elim (cases_lt k (before cs c)) [
+              | inl lt ↦
+                  let low = ap ordering_index (first_less d) in
+                  let same = ap (λ x. ordering_index (order x)) (first_of d) in
+                  let rises = rising k (before cs c) d (omega arith) (first_inside c (omega arith)) in
+                  less_by_index _ (omega arith)
+              | inr le ↦ ap order (in_chunk k d le (omega arith)) ∙ inner.0 (k - before cs c) d (omega arith) (omega arith)
+            ]
 
         behind : (k : ℕ) (d : X) → before cs (suc c) ≤ k → k < length (joined cs) → order (get_or (joined cs) k d) ≡ Greater
         behind k d low high =
-            elim (cases_lt a (length cs)) [ inl lt ↦
-              let top = ap ordering_index (begins_above d lt) in
-              let same = ap (before cs) last in
-              let rises = rising (before cs a) k d (omega arith) high in
-              greater_by_index _ (omega arith)
-            | inr le ↦ absurd (omega (arith, before_all cs (suc c) (omega arith))) ]
+            elim (cases_lt a (length cs)) [
+              | inl lt ↦
+                  let top = ap ordering_index (begins_above d lt) in
+                  let same = ap (before cs) last in
+                  let rises = rising (before cs a) k d (omega arith) high in
+                  greater_by_index _ (omega arith)
+              | inr le ↦ absurd (omega (arith, before_all cs (suc c) (omega arith)))
+            ]
 
         above : (k : ℕ) (d : X) → before cs c + i ≤ k → k < length (joined cs) → order (get_or (joined cs) k d) ≡ Greater
         above k d low high =
             let step = before_next cs c (omega arith) in
-            elim (cases_lt k (before cs (suc c))) [ inl lt ↦
-              ap order (in_chunk k d (omega arith) (omega arith)) ∙ inner.1 (k - before cs c) d (omega arith) (omega arith)
-            | inr le ↦ behind k d le high ]
+            elim (cases_lt k (before cs (suc c))) [
+              | inl lt ↦
+                  ap order (in_chunk k d (omega arith) (omega arith)) ∙ inner.1 (k - before cs c) d (omega arith) (omega arith)
+              | inr le ↦ behind k d le high
+            ]
 
         pub goes_between : IsPartitionPoint (λ y. order y ≡ Less) (λ y. order y ≡ Greater) (joined cs) (before cs c + i)
         goes_between = ((λ k d low high. below k d high), (λ k d low high. above k d low high))
@@ -146,11 +155,12 @@ module _ {X : Type 0} (order : X → Ordering) (cs : List (List X)) (filled : Is
 -- the same of what holds the chunks, as a `Vec` does: f gives the elements
 module _ {V X : Type 0} (f : V → List X) (order : X → Ordering) where
   point_of : (vs : List V) (a : ℕ) → a ≤ length vs → IsPartitionPoint (λ v. begins_up_to order (f v) ≡ true) (λ v. begins_up_to order (f v) ≡ false) vs a → IsPartitionPoint (λ x. begins_up_to order x ≡ true) (λ x. begins_up_to order x ≡ false) (map f vs) a
-  point_of vs a bound point =
-      ( (λ k d low high. with_first vs (omega arith) _ (λ v. ap (begins_up_to order) (get_or-map f vs k v d (omega arith)) ∙ point.0 k v low high))
-      , (λ k d low high.
-          let inside : k < length vs = omega (arith, length-map vs f) in
-          with_first vs (omega arith) _ (λ v. ap (begins_up_to order) (get_or-map f vs k v d inside) ∙ point.1 k v low inside)) )
+  point_of vs a bound point = (
+    (λ k d low high. with_first vs (omega arith) _ (λ v. ap (begins_up_to order) (get_or-map f vs k v d (omega arith)) ∙ point.0 k v low high)),
+    (λ k d low high.
+        let inside : k < length vs = omega (arith, length-map vs f) in
+        with_first vs (omega arith) _ (λ v. ap (begins_up_to order) (get_or-map f vs k v d inside) ∙ point.1 k v low inside)),
+  )
 
   parted_by : (vs : List V) → IsPartitionedBy (begins_up_to order) (map f vs) → IsPartitionedBy (λ v. begins_up_to order (f v)) vs
   parted_by vs h i j d le lt e =

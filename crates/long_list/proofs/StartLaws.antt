@@ -1,11 +1,11 @@
 -- The starts of the chunks, and what an edit of a chunk does to them.
-use Rattle.std.proofs.Common.{ℕ, ◌≡◌, ◌+◌, ◌-◌, ◌<◌, ◌≤◌, ◌^◌, List, [], ◌∷◌, ◌++◌, length, get_or, set, take, drop, map, All, refl, sym, ap, ◌∙◌, subst, arith, zero, suc, leb, true, false, ◌⊎◌, inl, inr, length-append}
+use Rattle.std.proofs.Common.{ℕ, ◌≡◌, ◌+◌, ◌-◌, ◌<◌, ◌≤◌, List, [], ◌∷◌, ◌++◌, length, get_or, set, take, drop, map, refl, sym, ap, ◌∙◌, arith, zero, suc, leb, true, false, ◌⊎◌, inl, inr, length-append}
 use Rattle.std.specs.List.{insert, remove}
-use Rattle.std.specs.List.Sorted.{IsPartitionPoint, IsPartitionedBy}
-use Rattle.std.proofs.lemmas.List.{get_or_default, length-take-le, length-take, length-drop, get_or-drop}
+use Rattle.std.specs.List.Sorted.{IsPartitionPoint}
+use Rattle.std.proofs.lemmas.List.{get_or_default, length-take-le, length-drop}
 use Rattle.std.proofs.lemmas.Bool.{cases_lt, false≢true, leb-true, leb-false, le-leb}
 use Rattle.long_list.specs.Chunks.{joined, starts_from, IsLocated, IsLastReached, AreStarts}
-use Rattle.long_list.proofs.ChunkLaws.{before, before_cons, before_next, before_up_to, before_all, some_chunk, chunk_ends, IsFilled}
+use Rattle.long_list.proofs.ChunkLaws.{before, before_cons, before_next, before_up_to, before_all, some_chunk, IsFilled}
 
 pub length_starts : {X : Type 0} (n : ℕ) (cs : List (List X)) → length (starts_from n cs) ≡ length cs
 length_starts n [] = refl
@@ -33,12 +33,12 @@ are_starts cs s e h =
       some = omega arith;
       zero = ap (λ l. get_or l 0 0) e ∙ start_at 0 cs 0 k;
       rise = λ i j d le lt.
-        let ei : get_or s i d ≡ get_or s i 0 = get_or_default s i d 0 (omega arith) in
-        let ej : get_or s j d ≡ get_or s j 0 = get_or_default s j d 0 lt in
-        let si : get_or s i 0 ≡ 0 + before cs i = ap (λ l. get_or l i 0) e ∙ start_at 0 cs i (omega arith) in
-        let sj : get_or s j 0 ≡ 0 + before cs j = ap (λ l. get_or l j 0) e ∙ start_at 0 cs j (omega arith) in
-        let up = before_rises cs i j le in
-        omega arith;
+          let ei : get_or s i d ≡ get_or s i 0 = get_or_default s i d 0 (omega arith) in
+          let ej : get_or s j d ≡ get_or s j 0 = get_or_default s j d 0 lt in
+          let si : get_or s i 0 ≡ 0 + before cs i = ap (λ l. get_or l i 0) e ∙ start_at 0 cs i (omega arith) in
+          let sj : get_or s j 0 ≡ 0 + before cs j = ap (λ l. get_or l j 0) e ∙ start_at 0 cs j (omega arith) in
+          let up = before_rises cs i j le in
+          omega arith;
     }
 
 next_start : {X : Type 0} (cs : List (List X)) (s : List ℕ) (at c : ℕ) → s ≡ starts_from 0 cs → suc c < length cs → at < get_or s (suc c) 0 → at < before cs (suc c)
@@ -55,8 +55,10 @@ located cs s at c e last =
     let here : get_or s c 0 ≤ at = last.reached in
     let step = before_next cs c inside in
     let ends : (at < before cs (suc c)) ⊎ (before cs (suc c) ≡ length (joined cs)) =
-        (elim (cases_lt (suc c) (length cs)) [ inl k ↦ inl (next_start cs s at c e k (last.next (suc c) (omega arith) (omega arith)))
-        | inr k ↦ inr (before_all cs (suc c) k) ]) in
+    (elim (cases_lt (suc c) (length cs)) [
+      | inl k ↦ inl (next_start cs s at c e k (last.next (suc c) (omega arith) (omega arith)))
+      | inr k ↦ inr (before_all cs (suc c) k)
+    ]) in
     record {
       within = inside;
       is = omega arith;
@@ -67,8 +69,10 @@ located cs s at c e last =
 -- some start is at most any place
 pub some_start : (s : List ℕ) (at a : ℕ) → AreStarts s → IsPartitionPoint (λ y. leb y at ≡ true) (λ y. leb y at ≡ false) s a → 1 ≤ a
 some_start s at a starts point =
-    elim (cases_lt 0 a) [ inl k ↦ k
-    | inr k ↦ absurd (false≢true (sym (point.1 0 0 k starts.some) ∙ ap (λ n. leb n at) starts.zero ∙ le-leb 0 at (omega arith))) ]
+    elim (cases_lt 0 a) [
+      | inl k ↦ k
+      | inr k ↦ absurd (false≢true (sym (point.1 0 0 k starts.some) ∙ ap (λ n. leb n at) starts.zero ∙ le-leb 0 at (omega arith)))
+    ]
 
 -- from the first start that is above a place
 pub last_reached : (s : List ℕ) (at a : ℕ) → AreStarts s → a ≤ length s → IsPartitionPoint (λ y. leb y at ≡ true) (λ y. leb y at ≡ false) s a → IsLastReached s at (a - 1)

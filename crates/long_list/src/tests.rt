@@ -1,6 +1,6 @@
 // A long list beside std's `Vec`, through splits, joins and empty chunks.
 
-ghost use Rattle.std.specs.Prelude.{nat_cmp};
+ghost use Rattle.std.specs.Ordering.{nat_cmp};
 
 use crate::{LongList, Probe};
 use std::cmp::Ordering;

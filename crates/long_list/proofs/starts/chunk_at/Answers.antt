@@ -1,5 +1,4 @@
-use Rattle.std.proofs.Common.{◌≡◌, ◌≤◌, ℕ, nat_le, true, false, arith, rules}
-use Rattle.std.specs.List.Sorted.{IsPartitionPoint}
+use Rattle.std.proofs.Common.{nat_le, rules}
 use Rattle.std.proofs.lemmas.List.Sorted.{IsPartitionPoint-from_clause, IsPartitionedBy-leb}
 use Rattle.long_list.proofs.StartLaws.{last_reached, some_start}
 use Rattle.long_list.proofs.starts.chunk_at.Goals as goal

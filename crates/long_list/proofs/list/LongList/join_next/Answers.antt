@@ -1,4 +1,4 @@
-use Rattle.std.proofs.Common.{vec_items, ◌+◌, ◌-◌, ◌∙◌, ◌≡◌, ◌<◌, ap, arith, map, length, is_ok, true, cond, ◌++◌}
+use Rattle.std.proofs.Common.{vec_items, ◌+◌, ◌∙◌, ◌≡◌, ◌<◌, ap, arith, map, length, is_ok, true, cond, ◌++◌}
 use Rattle.std.proofs.lemmas.List.{length-map}
 use Rattle.std.proofs.lemmas.Grind.{common_steps}
 use Rattle.long_list.proofs.EditLaws.{as_kept, chunks_kept, chunks_joined, counts}

@@ -1,4 +1,4 @@
-use Rattle.std.proofs.Common.{vec_items, ◌∙◌, ◌≡◌, ap, arith, rules, map, length}
+use Rattle.std.proofs.Common.{vec_items, arith, rules}
 use Rattle.std.proofs.lemmas.Fn.{always_returns_same}
 use Rattle.long_list.specs.Chunks.{begins_up_to}
 use Rattle.long_list.proofs.SearchLaws.{goes_first, start_inside, end_inside, end_fits, found_at, goes_at}
