@@ -13,8 +13,9 @@ use Rattle.atomic_table.proofs.Lists.{at_set, set_here, set_else, set_again, at_
 use Rattle.turn_lock.specs.declared.view.View.{View}
 use Rattle.turn_lock.specs.declared.view.Stage.{Stage}
 use Rattle.turn_lock.specs.declared.view.Stage.TheVariants.{Idle, Waits, Holds}
-use Rattle.turn_lock.specs.Turns.{times, total, news, AllBegin, turn_of, found_of, number_of, Fits, opener, spent, shared, spare, merged, waiting, holding, given, Lies, Turned, drew, looked, advanced}
-use Rattle.turn_lock.proofs.Counts.{total_set, total_snoc, total_one, total_other, at_inside, at_once, times_append, begins_same, begins_more, all_more, all_append, news_more, news_none}
+use Rattle.turn_lock.specs.Places.{occurrences, total, new_places, AllBegin}
+use Rattle.turn_lock.specs.Turns.{turn_of, found_of, number_of, Fits, opening_view, spent_view, keeping, portion, joined, waiting, holding, after_giving, IsHomeOrHeld, KeepsTurns, Draws, Looks, Advances}
+use Rattle.turn_lock.proofs.Counts.{total_set, total_snoc, total_one, total_other, at_inside, at_once, occurrences-append, begins_same, begins_more, all_more, all_append, news_more, news_none}
 
 same_turn : (t u : ℕ) → Some t ≡ Some u → t ≡ u
 same_turn t u e = cc
@@ -45,12 +46,12 @@ module _ {E : Type 0} where
   pub is_holds : (s : Stage E) (t : ℕ) (l : List E) → s ≡ Holds t l → s ≡ Holds (number_of s) (found_of s)
   is_holds s t l e = e ∙ (λ i. Holds (sym (ap number_of e) i) (sym (ap found_of e) i))
 
-  seats_set : (K : ℕ → View E → Type 0) (vs : List (View E)) (id : ℕ) (w : View E) → K id w → ((j : ℕ) (u : View E) → j ≢ id → get_elem? vs j ≡ some u → K j u)
+  views_set : (K : ℕ → View E → Type 0) (vs : List (View E)) (id : ℕ) (w : View E) → K id w → ((j : ℕ) (u : View E) → j ≢ id → get_elem? vs j ≡ some u → K j u)
       → (j : ℕ) (u : View E) → get_elem? (set vs id w) j ≡ some u → K j u
-  seats_set K vs id w mine others j u e = ⊎_elim (λ (t : (j ≡ id) × (w ≡ u)). subst (λ (x : ℕ × View E). K x.0 x.1) (λ i. (sym t.0 i, t.1 i)) mine)
+  views_set K vs id w mine others j u e = ⊎_elim (λ (t : (j ≡ id) × (w ≡ u)). subst (λ (x : ℕ × View E). K x.0 x.1) (λ i. (sym t.0 i, t.1 i)) mine)
       (λ (t : (j ≢ id) × (get_elem? vs j ≡ some u)). others j u t.0 t.1) (at_set vs id j w u e)
 
-  -- no two seats have one turn
+  -- no two all_parts have one turn
   abbrev Apart : List (View E) → Type 0
   Apart vs = (i j : ℕ) (v w : View E) (t : ℕ) → get_elem? vs i ≡ some v → get_elem? vs j ≡ some w → turn_of v.stage ≡ Some t → turn_of w.stage ≡ Some t → i ≡ j
 
@@ -84,7 +85,7 @@ module _ {V E : Type 0} (list : V → List E) where
   Homes = List (maybe.Option (Option V))
 
   lies_set : (log : List E) (served : ℕ) (homes : Homes) (vs : List (View E)) (id : ℕ) (v w : View E) → get_elem? vs id ≡ some v → (v.stage ≡ Holds served log → w.stage ≡ Holds served log)
-      → Lies list log served homes vs → Lies list log served homes (set vs id w)
+      → IsHomeOrHeld list log served homes vs → IsHomeOrHeld list log served homes (set vs id w)
   lies_set log served homes vs id v w at keep h = ⊎_elim
       (λ (x : (x : V) × (homes ≡ some (Some x) ∷ []) × (list x ≡ log)). inl x)
       (λ (x : (h : ℕ) × (u : View E) × (homes ≡ none ∷ []) × (get_elem? vs h ≡ some u) × (u.stage ≡ Holds served log)).
@@ -93,14 +94,14 @@ module _ {V E : Type 0} (list : V → List E) where
       (λ else. inr (x.0, x.1, x.2, set_else vs id x.0 w else ∙ x.3, x.4)))
       h
 
-  lies_snoc : (log : List E) (served : ℕ) (homes : Homes) (vs : List (View E)) (w : View E) → Lies list log served homes vs → Lies list log served homes (vs ++ w ∷ [])
+  lies_snoc : (log : List E) (served : ℕ) (homes : Homes) (vs : List (View E)) (w : View E) → IsHomeOrHeld list log served homes vs → IsHomeOrHeld list log served homes (vs ++ w ∷ [])
   lies_snoc log served homes vs w h = ⊎_elim
       (λ (x : (x : V) × (homes ≡ some (Some x) ∷ []) × (list x ≡ log)). inl x)
       (λ (x : (h : ℕ) × (u : View E) × (homes ≡ none ∷ []) × (get_elem? vs h ≡ some u) × (u.stage ≡ Holds served log)).
       inr (x.0, x.1, x.2, at_longer vs (w ∷ []) x.0 x.1 x.3, x.4))
       h
 
-module _ {V E : Type 0} (list : V → List E) (o : List E) (seats : ℕ) where
+module _ {V E : Type 0} (list : V → List E) (o : List E) (all_parts : ℕ) where
   abbrev St : Type 0
   St = State (Option V) (View E)
 
@@ -108,19 +109,19 @@ module _ {V E : Type 0} (list : V → List E) (o : List E) (seats : ℕ) where
   M = Me (Option V) (View E)
 
   abbrev Rule : St → Type 0
-  Rule = Turned list o seats
+  Rule = KeepsTurns list o all_parts
 
   -- the rule does not see a step that changes nothing
   unmoved : (s : St) (i id : ℕ) (v : View E) → get_elem? s.views id ≡ some v → Rule s → Rule record { words = set s.words i (get_or s.words i 0); homes = s.homes; views = set s.views id v }
   unmoved s i id v at r = subst (λ (x : List ℕ × List (View E)). Rule record { words = x.0; homes = s.homes; views = x.1 }) (λ k. (sym (set-get_or s.words i 0) k, sym (set_again s.views id v at) k)) r
 
-  same_own : (s : St) (r : Rule s) (id : ℕ) (v w : View E) (k : ℕ) → get_elem? s.views id ≡ some v → w.own ≡ v.own → total (λ (u : View E). times k u.own) (set s.views id w) ≡ times k (news o r.log)
+  same_own : (s : St) (r : Rule s) (id : ℕ) (v w : View E) (k : ℕ) → get_elem? s.views id ≡ some v → w.given ≡ v.given → total (λ (u : View E). occurrences k u.given) (set s.views id w) ≡ occurrences k (new_places o r.log)
   same_own s r id v w k at same =
-      let a = total_set (λ (u : View E). times k u.own) s.views id v w at in
-      let b : times k w.own ≡ times k v.own = ap (times k) same in
+      let a = total_set (λ (u : View E). occurrences k u.given) s.views id v w at in
+      let b : occurrences k w.given ≡ occurrences k v.given = ap (occurrences k) same in
       let c = r.counted k in omega arith
 
-  same_parts : (s : St) (r : Rule s) (id : ℕ) (v w : View E) → get_elem? s.views id ≡ some v → w.parts ≡ v.parts → total (λ (u : View E). u.parts) (set s.views id w) ≡ seats
+  same_parts : (s : St) (r : Rule s) (id : ℕ) (v w : View E) → get_elem? s.views id ≡ some v → w.parts ≡ v.parts → total (λ (u : View E). u.parts) (set s.views id w) ≡ all_parts
   same_parts s r id v w at same =
       let a = total_set (λ (u : View E). u.parts) s.views id v w at in
       let c = r.parts in omega arith
@@ -136,23 +137,23 @@ module _ {V E : Type 0} (list : V → List E) (o : List E) (seats : ℕ) where
     order = omega arith;
     begins = r.begins;
     lies = lies_set list r.log r.served s.homes s.views id v w at (λ e. absurd (idle_not_held v.stage _ _ idle e)) r.lies;
-    each = seats_set (λ _ u. Fits r.log r.served (r.next + 1) u) s.views id w
+    each = views_set (λ _ u. Fits r.log r.served (r.next + 1) u) s.views id w
         record {
           turn = λ t e. let x : r.next ≡ t = same_turn _ _ e in (omega arith, omega arith);
           holds = λ t l e. absurd (waits_not_held w.stage r.next t l refl e);
           seen = f.seen;
           met = f.met;
-          none_left = λ z. absurd (some_part z);
+          empty = λ z. absurd (some_part z);
         }
-        (λ j u _ e. let g = r.each j u e in record { turn = λ t x. let y = g.turn t x in let y₀ = y.0 in let y₁ = y.1 in (omega arith, omega arith); holds = g.holds; seen = g.seen; met = g.met; none_left = g.none_left });
+        (λ j u _ e. let g = r.each j u e in record { turn = λ t x. let y = g.turn t x in let y₀ = y.0 in let y₁ = y.1 in (omega arith, omega arith); holds = g.holds; seen = g.seen; met = g.met; empty = g.empty });
     apart = apart_set s.views id w r.apart (λ t j u e _ at_u f'. let x : r.next ≡ t = same_turn _ _ e in let y = ((r.each j u at_u).turn t f').1 in omega arith);
     counted = λ k. same_own s r id v w k at refl;
     parts = same_parts s r id v w at refl;
   }
 
-  pub draws : (slots id : ℕ) (m : M) (old : ℕ) → old + 1 < 18446744073709551616 → m.0.stage ≡ Idle → m.0.parts ≢ 0
-      → Allows Rule slots id m 0 (λ n. either (eqb n old) (old + 1) n) (drew (step slots 0 old (old + 1) none) m)
-  draws slots id m old small idle some_part s r len at fits =
+  pub allows_draw : (slots id : ℕ) (m : M) (old : ℕ) → old + 1 < 18446744073709551616 → m.0.stage ≡ Idle → m.0.parts ≢ 0
+      → Allows Rule slots id m 0 (λ n. either (eqb n old) (old + 1) n) (Draws (step slots 0 old (old + 1) none) m)
+  allows_draw slots id m old small idle some_part s r len at fits =
       let n : ℕ = slice_index s.words 0 in
       let is_next : n ≡ r.next = ap (λ ws. slice_index ws 0) r.words in
       let v : View E = m.0 in
@@ -192,13 +193,13 @@ module _ {V E : Type 0} (list : V → List E) (o : List E) (seats : ℕ) where
     order = r.order;
     begins = r.begins;
     lies = inr (id, w, ap (λ hs. set hs 0 none) home, set_at s.views id v w at, λ i. Holds (is_served i) (is i));
-    each = seats_set (λ _ u. Fits r.log r.served r.next u) s.views id w
+    each = views_set (λ _ u. Fits r.log r.served r.next u) s.views id w
         record {
           turn = λ u e. f.turn u (ap turn_of waits ∙ e);
           holds = λ u l e. (sym (ap number_of e) ∙ is_served, sym (ap found_of e) ∙ is);
           seen = f.seen;
           met = f.met;
-          none_left = λ z. absurd (waits_not_idle v.stage t waits (f.none_left z).1);
+          empty = λ z. absurd (waits_not_idle v.stage t waits (f.empty z).1);
         }
         (λ j u _ e. r.each j u e);
     apart = apart_set s.views id w r.apart (λ u j a e other at_a f'. other (sym (r.apart id j v a u at at_a (ap turn_of waits ∙ e) f')));
@@ -206,8 +207,8 @@ module _ {V E : Type 0} (list : V → List E) (o : List E) (seats : ℕ) where
     parts = same_parts s r id v w at refl;
   }
 
-  pub looks : (slots id : ℕ) (m : M) (t : ℕ) → m.0.stage ≡ Waits t → Allows Rule slots id m 1 (λ n. n) (looked list (step slots 1 0 0 none) m)
-  looks slots id m t waits s r len at fits =
+  pub allows_look : (slots id : ℕ) (m : M) (t : ℕ) → m.0.stage ≡ Waits t → Allows Rule slots id m 1 (λ n. n) (Looks list (step slots 1 0 0 none) m)
+  allows_look slots id m t waits s r len at fits =
       let n : ℕ = slice_index s.words 1 in
       let is_served : n ≡ r.served = ap (λ ws. slice_index ws 1) r.words in
       let v : View E = m.0 in
@@ -219,7 +220,7 @@ module _ {V E : Type 0} (list : V → List E) (o : List E) (seats : ℕ) where
         ap (λ hs. get_elem? hs 0) x.1,
         taken s r id t v x.0 at waits (sym hit ∙ is_served) x.1 x.2,
         (λ u e. let same : u ≡ t = sym (ap number_of e) ∙ ap number_of waits in (
-          (λ _. (x.0, ap (λ (k : ℕ). holding v k (list x.0)) (sym same), refl, subst (IsPrefix v.seen) (sym x.2) (r.each id v at).seen)),
+          (λ _. (x.0, ap (λ (k : ℕ). holding v k (list x.0)) (sym same), refl, subst (IsPrefix v.seen) (sym x.2) (r.each id v at).seen, subst (AllBegin v.met) (sym x.2) (r.each id v at).met)),
           (λ no. absurd (no (hit ∙ sym same))),
         )),
       ))
@@ -237,9 +238,9 @@ module _ {V E : Type 0} (list : V → List E) (o : List E) (seats : ℕ) where
 
   -- the value comes back, with a longer list
   returned : (s : St) (r : Rule s) (id t : ℕ) (v : View E) (l : List E) (y : V) (homes' : Homes list) (n : ℕ) → get_elem? s.views id ≡ some v → v.stage ≡ Holds t l → IsPrefix l (list y) → homes' ≡ some (Some y) ∷ [] → n ≡ r.served + 1
-      → Rule record { words = set s.words 1 n; homes = homes'; views = set s.views id (given v l (list y)) }
+      → Rule record { words = set s.words 1 n; homes = homes'; views = set s.views id (after_giving v l (list y)) }
   returned s r id t v l y homes' n at held grows home is_next =
-      let w : View E = given v l (list y) in
+      let w : View E = after_giving v l (list y) in
       let f = r.each id v at in
       let mine = f.holds t l held in
       let turn = f.turn t (ap turn_of held) in
@@ -253,13 +254,13 @@ module _ {V E : Type 0} (list : V → List E) (o : List E) (seats : ℕ) where
         order = omega arith;
         begins = begins_more o r.log (list y) r.begins longer;
         lies = inl (y, home, refl);
-        each = seats_set (λ _ u. Fits (list y) (r.served + 1) r.next u) s.views id w
+        each = views_set (λ _ u. Fits (list y) (r.served + 1) r.next u) s.views id w
             record {
               turn = λ u e. absurd (idle_no_turn w.stage u refl e);
               holds = λ u k e. absurd (idle_not_held w.stage u k refl e);
               seen = begins_same (list y);
               met = all_more v.met r.log (list y) longer f.met;
-              none_left = λ z. absurd (held_not_idle v.stage t l held (f.none_left z).1);
+              empty = λ z. absurd (held_not_idle v.stage t l held (f.empty z).1);
             }
             (λ j u other e. let g = r.each j u e in record {
               turn = λ k x. let b = g.turn k x in let b₀ = b.0 in let b₁ = b.1 in
@@ -267,22 +268,22 @@ module _ {V E : Type 0} (list : V → List E) (o : List E) (seats : ℕ) where
               holds = λ k a x. absurd (other (sym (r.apart id j v u t at e (ap turn_of held) (ap turn_of x ∙ ap Some ((g.holds k a x).0 ∙ sym mine.0)))));
               seen = begins_more u.seen r.log (list y) g.seen longer;
               met = all_more u.met r.log (list y) longer g.met;
-              none_left = g.none_left;
+              empty = g.empty;
             });
         apart = apart_set s.views id w r.apart (λ k j u e _ _ _. idle_no_turn w.stage k refl e);
         counted = λ k.
-            let a = total_set (λ (u : View E). times k u.own) s.views id v w at in
-            let b : times k w.own ≡ times k v.own + times k (news l (list y)) = times_append k v.own (news l (list y)) in
+            let a = total_set (λ (u : View E). occurrences k u.given) s.views id v w at in
+            let b : occurrences k w.given ≡ occurrences k v.given + occurrences k (new_places l (list y)) = occurrences-append k v.given (new_places l (list y)) in
             let c = r.counted k in
-            let d : times k (news o (list y)) ≡ times k (news o r.log) + times k (news r.log (list y)) = news_more o r.log (list y) k r.begins longer in
-            let e : times k (news r.log (list y)) ≡ times k (news l (list y)) = ap (λ z. times k (news z (list y))) (sym mine.1) in
+            let d : occurrences k (new_places o (list y)) ≡ occurrences k (new_places o r.log) + occurrences k (new_places r.log (list y)) = news_more o r.log (list y) k r.begins longer in
+            let e : occurrences k (new_places r.log (list y)) ≡ occurrences k (new_places l (list y)) = ap (λ z. occurrences k (new_places z (list y))) (sym mine.1) in
             omega arith;
         parts = same_parts s r id v w at refl;
       }
 
-  pub advances : (slots id : ℕ) (m : M) (t : ℕ) (l : List E) (y : V) → m.0.stage ≡ Holds t l → m.1 ≡ (0, Some y) ∷ [] → IsPrefix l (list y)
-      → Allows Rule slots id m 1 (λ n. (n + 1) % 2 ^ 64) (advanced list (step slots 1 1 0 none) m)
-  advances slots id m t l y held carried grows s r len at fits =
+  pub allows_advance : (slots id : ℕ) (m : M) (t : ℕ) (l : List E) (y : V) → m.0.stage ≡ Holds t l → m.1 ≡ (0, Some y) ∷ [] → IsPrefix l (list y)
+      → Allows Rule slots id m 1 (λ n. (n + 1) % 2 ^ 64) (Advances list (step slots 1 1 0 none) m)
+  allows_advance slots id m t l y held carried grows s r len at fits =
       let v : View E = m.0 in
       let n : ℕ = slice_index s.words 1 in
       let is_served : n ≡ r.served = ap (λ ws. slice_index ws 1) r.words in
@@ -292,14 +293,14 @@ module _ {V E : Type 0} (list : V → List E) (o : List E) (seats : ℕ) where
       let small = r.small in
       let served : t ≡ r.served = (f.holds t l held).0 in
       let next : (n + 1) % 18446744073709551616 ≡ r.served + 1 = omega arith in (
-        given v l (list y),
+        after_giving v l (list y),
         gives,
         tt,
         returned s r id t v l y (put_back s.homes m.1) ((n + 1) % 2 ^ 64) at held grows (ap (put_back s.homes) carried ∙ filled s.homes r.lies) next,
-        (λ u k x h c. (ap rest carried, λ i. given v (found_same u k h i) (list (value_same x c i)))),
+        (λ u k x h c. (ap rest carried, λ i. after_giving v (found_same u k h i) (list (value_same x c i)))),
       )
     where
-      filled : (homes : Homes list) → Lies list r.log r.served homes s.views → set homes 0 (some (Some y)) ≡ some (Some y) ∷ []
+      filled : (homes : Homes list) → IsHomeOrHeld list r.log r.served homes s.views → set homes 0 (some (Some y)) ≡ some (Some y) ∷ []
       filled homes h = ⊎_elim
           (λ (x : (x : V) × (homes ≡ some (Some x) ∷ []) × (list x ≡ r.log)). ap (λ hs. set hs 0 (some (Some y))) x.1)
           (λ (x : (h : ℕ) × (u : View E) × (homes ≡ none ∷ []) × (get_elem? s.views h ≡ some u) × (u.stage ≡ Holds r.served r.log)). ap (λ hs. set hs 0 (some (Some y))) x.2)
@@ -311,8 +312,8 @@ module _ {V E : Type 0} (list : V → List E) (o : List E) (seats : ℕ) where
       value_same : (x : V) → m.1 ≡ (0, Some x) ∷ [] → y ≡ x
       value_same x c = sym (ap (first_value y) carried) ∙ ap (first_value y) c
 
-  pub splits : (id : ℕ) (v : View E) → 1 < v.parts → Splits Rule id v (shared v) (spare v)
-  splits id v parts s r at = let w : View E = shared v in let n : View E = spare v in let f = r.each id v at in record {
+  pub allows_split : (id : ℕ) (v : View E) (n : ℕ) → 0 < n → n < v.parts → Splits Rule id v (keeping v n) (portion v n)
+  allows_split id v k few less s r at = let w : View E = keeping v k in let n : View E = portion v k in let f = r.each id v at in record {
     next = r.next;
     served = r.served;
     log = r.log;
@@ -322,15 +323,15 @@ module _ {V E : Type 0} (list : V → List E) (o : List E) (seats : ℕ) where
     begins = r.begins;
     lies = lies_snoc list r.log r.served s.homes (set s.views id w) n (lies_set list r.log r.served s.homes s.views id v w at (λ e. e) r.lies);
     each = λ j u e. ⊎_elim
-        (seats_set (λ _ u. Fits r.log r.served r.next u) s.views id w
-        record { turn = f.turn; holds = f.holds; seen = f.seen; met = f.met; none_left = λ z. absurd (omega arith) }
+        (views_set (λ _ u. Fits r.log r.served r.next u) s.views id w
+        record { turn = f.turn; holds = f.holds; seen = f.seen; met = f.met; empty = λ z. absurd (omega arith) }
         (λ j u _ e. r.each j u e) j u)
         (λ (t : n ≡ u). subst (λ (z : View E). Fits r.log r.served r.next z) t record {
           turn = λ t e. absurd (idle_no_turn n.stage t refl e);
           holds = λ t l e. absurd (idle_not_held n.stage t l refl e);
           seen = f.seen;
-          met = tt;
-          none_left = λ z. absurd (omega arith);
+          met = f.met;
+          empty = λ z. absurd (omega arith);
         })
         (at_snoc (set s.views id w) n u j e);
     apart = λ i j a b t ai bj ta tb. ⊎_elim
@@ -342,7 +343,7 @@ module _ {V E : Type 0} (list : V → List E) (o : List E) (seats : ℕ) where
         (λ (x : n ≡ a). absurd (idle_no_turn a.stage t (ap (λ (z : View E). z.stage) (sym x)) ta))
         (at_snoc (set s.views id w) n a i ai);
     counted = λ k.
-        let a = total_snoc (λ (u : View E). times k u.own) (set s.views id w) n in
+        let a = total_snoc (λ (u : View E). occurrences k u.given) (set s.views id w) n in
         let b = same_own s r id v w k at refl in omega arith;
     parts =
         let a = total_snoc (λ (u : View E). u.parts) (set s.views id w) n in
@@ -350,9 +351,9 @@ module _ {V E : Type 0} (list : V → List E) (o : List E) (seats : ℕ) where
         let c = r.parts in omega arith;
   }
 
-  pub joins : (id : ℕ) (v : View E) (other : ℕ) (u : View E) → u.stage ≡ Idle → Joins Rule id v other u (merged v u) spent
-  joins id v other u idle s r at apart there =
-      let w : View E = merged v u in
+  pub allows_join : (id : ℕ) (v : View E) (other : ℕ) (u : View E) → u.stage ≡ Idle → Joins Rule id v other u (joined v u) spent_view
+  allows_join id v other u idle s r at apart there =
+      let w : View E = joined v u in
       let vs : List (View E) = set s.views id w in
       let f = r.each id v at in
       let was : get_elem? s.views other ≡ some u = sym (set_else s.views id other w apart) ∙ there in
@@ -364,40 +365,40 @@ module _ {V E : Type 0} (list : V → List E) (o : List E) (seats : ℕ) where
         small = r.small;
         order = r.order;
         begins = r.begins;
-        lies = lies_set list r.log r.served s.homes vs other u spent there (λ e. absurd (idle_not_held u.stage _ _ idle e)) (lies_set list r.log r.served s.homes s.views id v w at (λ e. e) r.lies);
-        each = seats_set (λ _ z. Fits r.log r.served r.next z) vs other spent
+        lies = lies_set list r.log r.served s.homes vs other u spent_view there (λ e. absurd (idle_not_held u.stage _ _ idle e)) (lies_set list r.log r.served s.homes s.views id v w at (λ e. e) r.lies);
+        each = views_set (λ _ z. Fits r.log r.served r.next z) vs other spent_view
             record {
               turn = λ t e. absurd (idle_no_turn {E = E} Idle t refl e);
               holds = λ t l e. absurd (idle_not_held {E = E} Idle t l refl e);
               seen = (r.log, refl);
               met = tt;
-              none_left = λ _. (refl, refl);
+              empty = λ _. (refl, refl);
             }
-            (λ j x _ e. seats_set (λ _ z. Fits r.log r.served r.next z) s.views id w
+            (λ j x _ e. views_set (λ _ z. Fits r.log r.served r.next z) s.views id w
             record {
               turn = f.turn;
               holds = f.holds;
               seen = f.seen;
               met = all_append v.met (u.seen ∷ u.met) r.log f.met (g.seen, g.met);
-              none_left = λ z. let a = f.none_left (omega arith) in let b = g.none_left (omega arith) in ((λ i. a.0 i ++ b.0 i), a.1);
+              empty = λ z. let a = f.empty (omega arith) in let b = g.empty (omega arith) in ((λ i. a.0 i ++ b.0 i), a.1);
             }
             (λ i y _ e'. r.each i y e') j x e);
-        apart = apart_set vs other spent
+        apart = apart_set vs other spent_view
             (apart_set s.views id w r.apart (λ t j x e else at_x f'. else (sym (r.apart id j v x t at at_x e f'))))
             (λ t j x e _ _ _. idle_no_turn {E = E} Idle t refl e);
         counted = λ k.
-            let a = total_set (λ (z : View E). times k z.own) s.views id v w at in
-            let b = total_set (λ (z : View E). times k z.own) vs other u spent there in
-            let c : times k w.own ≡ times k v.own + times k u.own = times_append k v.own u.own in
+            let a = total_set (λ (z : View E). occurrences k z.given) s.views id v w at in
+            let b = total_set (λ (z : View E). occurrences k z.given) vs other u spent_view there in
+            let c : occurrences k w.given ≡ occurrences k v.given + occurrences k u.given = occurrences-append k v.given u.given in
             let d = r.counted k in omega arith;
         parts =
             let a = total_set (λ (z : View E). z.parts) s.views id v w at in
-            let b = total_set (λ (z : View E). z.parts) vs other u spent there in
+            let b = total_set (λ (z : View E). z.parts) vs other u spent_view there in
             let d = r.parts in omega arith;
       }
 
-  pub starts : (x : V) → list x ≡ o → Rule (opening (0 ∷ 0 ∷ []) (Some x ∷ []) (opener seats o))
-  starts x is = let v : View E = opener seats o in record {
+  pub starts : (x : V) → list x ≡ o → Rule (opening (0 ∷ 0 ∷ []) (Some x ∷ []) (opening_view all_parts o))
+  starts x is = let v : View E = opening_view all_parts o in record {
     next = 0;
     served = 0;
     log = o;
@@ -411,15 +412,15 @@ module _ {V E : Type 0} (list : V → List E) (o : List E) (seats : ℕ) where
       holds = λ t l e. absurd (idle_not_held v.stage t l refl e);
       seen = begins_same o;
       met = tt;
-      none_left = λ _. (refl, refl);
+      empty = λ _. (refl, refl);
     } j u e;
     apart = λ i j a b t ai bj ta tb. absurd (idle_no_turn a.stage t (only_one (λ _ (z : View E). z.stage ≡ Idle) v refl i a ai) ta);
-    counted = λ k. sym (ap (times k) (news_none o));
+    counted = λ k. sym (ap (occurrences k) (news_none o));
     parts = omega arith;
   }
 
-  pub closes : (id : ℕ) (v : View E) (ws : List ℕ) (xs : List (Option V)) → Final (Seen Rule id v) ws xs → v.parts ≡ seats → v.stage ≡ Idle
-      → (y : V) × (get_elem? xs 0 ≡ some (Some y)) × AllBegin (v.seen ∷ v.met) (list y) × IsPrefix o (list y) × ((k : ℕ) → times k v.own ≡ times k (news o (list y)))
+  pub closes : (id : ℕ) (v : View E) (ws : List ℕ) (xs : List (Option V)) → Final (Seen Rule id v) ws xs → v.parts ≡ all_parts → v.stage ≡ Idle
+      → (y : V) × (get_elem? xs 0 ≡ some (Some y)) × AllBegin (v.seen ∷ v.met) (list y) × IsPrefix o (list y) × ((k : ℕ) → occurrences k v.given ≡ occurrences k (new_places o (list y)))
   closes id v ws xs h whole idle =
       let s = h.0 in
       let r = h.1.0 in
@@ -433,9 +434,9 @@ module _ {V E : Type 0} (list : V → List E) (o : List E) (seats : ℕ) where
         h.4 0 (Some x.0) (ap (λ hs. get_elem? hs 0) x.1),
         subst (λ l. IsPrefix v.seen l × AllBegin v.met l) is (f.seen, f.met),
         subst (IsPrefix o) is r.begins,
-        λ k. sym (total_one (λ (u : View E). u.parts) (λ (u : View E). times k u.own) s.views id v (λ j u e z. ap (times k) ((r.each j u e).none_left z).0) at all) ∙ r.counted k ∙ ap (λ l. times k (news o l)) is,
+        λ k. sym (total_one (λ (u : View E). u.parts) (λ (u : View E). occurrences k u.given) s.views id v (λ j u e z. ap (occurrences k) ((r.each j u e).empty z).0) at all) ∙ r.counted k ∙ ap (λ l. occurrences k (new_places o l)) is,
       ))
       (λ (x : (h : ℕ) × (u : View E) × (s.homes ≡ none ∷ []) × (get_elem? s.views h ≡ some u) × (u.stage ≡ Holds r.served r.log)). absurd (dite (ℕ_discrete x.0 id)
       (λ here. idle_not_held v.stage r.served r.log idle (ap (λ (z : View E). z.stage) (at_once s.views id v x.1 at (ap (get_elem? s.views) (sym here) ∙ x.3)) ∙ x.4))
-      (λ else. held_not_idle x.1.stage r.served r.log x.4 ((r.each x.0 x.1 x.3).none_left (total_other (λ (u : View E). u.parts) s.views id x.0 v x.1 at x.3 else all)).1)))
+      (λ else. held_not_idle x.1.stage r.served r.log x.4 ((r.each x.0 x.1 x.3).empty (total_other (λ (u : View E). u.parts) s.views id x.0 v x.1 at x.3 else all)).1)))
       r.lies

@@ -1,24 +1,75 @@
--- What clauses say of a lock and of its passes.
-use Rattle.std.specs.Prelude.{ℕ, List}
+-- What clauses say of a lock, of its passes and of a value that is held. This project's words.
+use Rattle.std.specs.Prelude.{◌≡◌, ℕ, List}
 use Rattle.atomic_table.specs.Seated.{TableId}
+use Rattle.turn_lock.specs.Places.{occurrences, total}
+use Rattle.turn_lock.specs.Turns.{found_of, whole}
 use Rattle.turn_lock.specs.declared.view.Grows.{Ghosts}
 use Rattle.turn_lock.specs.declared.held.Pass.{Pass}
 use Rattle.turn_lock.specs.declared.held.Held.{Held}
-use Rattle.turn_lock.specs.Turns.{found_of}
+use Rattle.turn_lock.specs.declared.lock.TurnLock.{TurnLock}
+
+-- what tells one lock from every other
+abbrev pub LockId : Type 0
+LockId = TableId
+
+module _ {V E : Type 0} where
+  -- which lock it is
+  abbrev pub lock_id : TurnLock V E → LockId
+  lock_id l = l.table.shared.table_id
+
+  -- the value that the lock was made with
+  abbrev pub lock_opening : TurnLock V E → V
+  lock_opening l = l.table.shared.key.value.value
+
+  -- how many passes the lock was made with
+  abbrev pub lock_seats : TurnLock V E → ℕ
+  lock_seats l = l.table.shared.key.seats
 
 module _ {V E : Type 0} {g : Ghosts V E} where
   -- the lock of a pass
-  abbrev pub lock_of : Pass V E g → TableId
-  lock_of p = p.seat.table_id
+  abbrev pub pass_lock : Pass V E g → LockId
+  pass_lock p = p.seat.table_id
 
-  -- the list that the pass has seen
-  abbrev pub seen : Pass V E g → List E
-  seen p = p.seat.me.0.seen
+  -- how many parts a pass has
+  abbrev pub pass_parts : Pass V E g → ℕ
+  pass_parts p = p.seat.me.0.parts
 
-  -- the places that it gave
-  abbrev pub own : Pass V E g → List ℕ
-  own p = p.seat.me.0.own
+  -- the list that a pass has seen: the one that it gave last, or else the one that it began with
+  abbrev pub pass_seen : Pass V E g → List E
+  pass_seen p = p.seat.me.0.seen
 
-  -- the list that was found
-  abbrev pub found : Held V E g → List E
-  found h = found_of h.seat.me.0.stage
+  -- what the passes that it took in had seen
+  abbrev pub pass_met : Pass V E g → List (List E)
+  pass_met p = p.seat.me.0.met
+
+  -- the places of the list that it gave, or that a pass which it took in gave
+  abbrev pub pass_given : Pass V E g → List ℕ
+  pass_given p = p.seat.me.0.given
+
+  -- a pass of this lock of which no part is split off
+  abbrev pub IsWholePassOf : LockId → Pass V E g → Type 0
+  IsWholePassOf lock p = (pass_lock p ≡ lock) × (pass_parts p ≡ whole)
+
+  -- how often these passes, all together, gave the place k
+  abbrev pub times_given : ℕ → List (Pass V E g) → ℕ
+  times_given k ps = total (λ p. occurrences k (pass_given p)) ps
+
+  -- the lock of a value that is held
+  abbrev pub held_lock : Held V E g → LockId
+  held_lock h = h.seat.table_id
+
+  -- the list that the value stored when its turn came
+  abbrev pub held_found : Held V E g → List E
+  held_found h = found_of h.seat.me.0.stage
+
+  -- the parts of the holder's pass
+  abbrev pub held_parts : Held V E g → ℕ
+  held_parts h = h.seat.me.0.parts
+
+  -- what the passes that the holder's pass took in had seen
+  abbrev pub held_met : Held V E g → List (List E)
+  held_met h = h.seat.me.0.met
+
+  -- the places that the holder's pass gave in earlier turns
+  abbrev pub held_given : Held V E g → List ℕ
+  held_given h = h.seat.me.0.given

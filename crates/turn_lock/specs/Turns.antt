@@ -1,97 +1,90 @@
--- The rule of the table, and what each step tells.
--- Word 0 is the next turn, word 1 the turn that is served. The one slot holds the value.
-use Rattle.std.specs.Prelude.{◌≡◌, ◌≢◌, ◌⊎◌, ℕ, suc, ◌+◌, ◌-◌, ◌<◌, ◌≤◌, ◌==◌, if◌then◌else◌, List, [], ◌∷◌, ◌++◌, length, drop, Option, Some, None}
+-- The rule of the table behind the lock, and what each step on it tells. This project's rule, that of a ticket lock.
+-- Word 0 is the next turn to be drawn, and word 1 the turn that is served. The one slot holds the value while nobody has it.
+use Rattle.std.specs.Prelude.{◌≡◌, ◌≢◌, ◌⊎◌, ℕ, ◌+◌, ◌-◌, ◌^◌, ◌<◌, ◌≤◌, List, [], ◌∷◌, ◌++◌, Option, Some, None}
 use mathlib.Core.Option.{some, none}
 use mathlib.Core.Option as maybe
 use mathlib.Core.List.{IsPrefix}
 use lib.ListN.{get_elem?}
 use Rattle.atomic_table.specs.Table.{State, Me, Step}
+use Rattle.turn_lock.specs.Places.{occurrences, total, new_places, AllBegin}
 use Rattle.turn_lock.specs.declared.view.View.{View}
 use Rattle.turn_lock.specs.declared.view.Stage.{Stage}
 use Rattle.turn_lock.specs.declared.view.Stage.TheVariants.{Idle, Waits, Holds}
 
--- how often x stands in the list
-abbrev pub times : ℕ → List ℕ → ℕ
-times x [] = 0
-times x (y ∷ ys) = (if y == x then 1 else 0) + times x ys
-
--- what f gives, added up
-abbrev pub total : {A : Type 0} → (A → ℕ) → List A → ℕ
-total f [] = 0
-total f (x ∷ xs) = f x + total f xs
-
--- the places of these, of which the first is n
-abbrev pub places : {E : Type 0} → ℕ → List E → List ℕ
-places n [] = []
-places n (x ∷ xs) = n ∷ places (suc n) xs
+-- How many parts a pass has before it is split. So it can be split in halves 64 occurrences over.
+abbrev pub whole : ℕ
+whole = 18446744073709551616
 
 module _ {E : Type 0} where
-  -- the places of the new list past the old one
-  abbrev pub news : List E → List E → List ℕ
-  news old new = places (length old) (drop (length old) new)
-
-  -- each of these lists is a beginning of the log
-  abbrev pub AllBegin : List (List E) → List E → Type 0
-  AllBegin [] log = Unit {0}
-  AllBegin (x ∷ xs) log = IsPrefix x log × AllBegin xs log
-
+  -- the turn that a seat Draws and hasn't given back
   abbrev pub turn_of : Stage E → Option ℕ
   turn_of Idle = None
   turn_of (Waits t) = Some t
   turn_of (Holds t l) = Some t
 
-  -- the list that was found by who has its turn
-  abbrev pub found_of : Stage E → List E
-  found_of (Holds t l) = l
-  found_of _ = []
-
+  -- the same as a number, which means nothing for an idle seat
   abbrev pub number_of : Stage E → ℕ
   number_of Idle = 0
   number_of (Waits t) = t
   number_of (Holds t l) = t
 
-  -- what the rule says of one view
+  -- the list that the holder of the value found
+  abbrev pub found_of : Stage E → List E
+  found_of (Holds t l) = l
+  found_of _ = []
+
+  -- the view of the first seat
+  abbrev pub opening_view : ℕ → List E → View E
+  opening_view parts list = record { parts = parts; stage = Idle; seen = list; met = []; given = [] }
+
+  -- the view of a seat that another took in
+  abbrev pub spent_view : View E
+  spent_view = record { parts = 0; stage = Idle; seen = []; met = []; given = [] }
+
+  -- a view that gives n of its parts away
+  abbrev pub keeping : View E → ℕ → View E
+  keeping v n = record v { parts = v.parts - n }
+
+  -- the view of the new seat that gets them: it knows the same, and has given nothing
+  abbrev pub portion : View E → ℕ → View E
+  portion v n = record { parts = n; stage = Idle; seen = v.seen; met = v.met; given = [] }
+
+  -- a view that takes in another: it keeps what both know and gave
+  abbrev pub joined : View E → View E → View E
+  joined v w = record v { parts = v.parts + w.parts; met = v.met ++ w.seen ∷ w.met; given = v.given ++ w.given }
+
+  -- a view that Draws a turn
+  abbrev pub waiting : View E → ℕ → View E
+  waiting v t = record v { stage = Waits t }
+
+  -- a view whose turn is served, and which found this list
+  abbrev pub holding : View E → ℕ → List E → View E
+  holding v t l = record v { stage = Holds t l }
+
+  -- a view that found the old list and gave the new one
+  abbrev pub after_giving : View E → List E → List E → View E
+  after_giving v old new = record v { stage = Idle; seen = new; given = v.given ++ new_places old new }
+
+  -- One view fits the words and the list. A turn is served or yet to come, the served one found the list as it is,
+  -- what the view knows begins the list, and a view without parts has given nothing and is idle.
   pub record Fits (log : List E) (served next : ℕ) (v : View E) : Type 0 where
     pub turn : (t : ℕ) → turn_of v.stage ≡ Some t → (served ≤ t) × (t < next)
     pub holds : (t : ℕ) (l : List E) → v.stage ≡ Holds t l → (t ≡ served) × (l ≡ log)
     pub seen : IsPrefix v.seen log
     pub met : AllBegin v.met log
-    pub none_left : v.parts ≡ 0 → (v.own ≡ []) × (v.stage ≡ Idle)
-
-  abbrev pub opener : ℕ → List E → View E
-  opener seats list = record { parts = seats; stage = Idle; seen = list; met = []; own = [] }
-
-  abbrev pub spent : View E
-  spent = record { parts = 0; stage = Idle; seen = []; met = []; own = [] }
-
-  -- a seat with one part more than the others
-  abbrev pub shared : View E → View E
-  shared v = record v { parts = v.parts - 1 }
-
-  abbrev pub spare : View E → View E
-  spare v = record { parts = 1; stage = Idle; seen = v.seen; met = []; own = [] }
-
-  abbrev pub merged : View E → View E → View E
-  merged v w = record { parts = v.parts + w.parts; stage = v.stage; seen = v.seen; met = v.met ++ w.seen ∷ w.met; own = v.own ++ w.own }
-
-  abbrev pub waiting : View E → ℕ → View E
-  waiting v t = record v { stage = Waits t }
-
-  abbrev pub holding : View E → ℕ → List E → View E
-  holding v t l = record v { stage = Holds t l }
-
-  -- after the list went from old to new
-  abbrev pub given : View E → List E → List E → View E
-  given v old new = record v { stage = Idle; seen = new; own = v.own ++ news old new }
+    pub empty : v.parts ≡ 0 → (v.given ≡ []) × (v.stage ≡ Idle)
 
 module _ {V E : Type 0} where
-  -- the value is at home with the log, or out with the seat whose turn is served, which found the log
-  abbrev pub Lies : (V → List E) → List E → ℕ → List (maybe.Option (Option V)) → List (View E) → Type 0
-  Lies list log served homes views =
+  -- the value lies in the slot and stores the list, or it is out with the seat whose turn is served, which found the list
+  abbrev pub IsHomeOrHeld : (V → List E) → List E → ℕ → List (maybe.Option (Option V)) → List (View E) → Type 0
+  IsHomeOrHeld list log served homes views =
       ((x : V) × (homes ≡ some (Some x) ∷ []) × (list x ≡ log))
       ⊎ ((h : ℕ) × (v : View E) × (homes ≡ none ∷ []) × (get_elem? views h ≡ some v) × (v.stage ≡ Holds served log))
 
-  pub record Turned (list : V → List E) (opening : List E) (seats : ℕ) (s : State (Option V) (View E)) : Type 0 where
+  -- The rule. `log` is the list that the value stores, as of the last turn given back. It begins with the opening list,
+  -- each view fits it, no two views have one turn, each place past the opening list was given by one view, once,
+  -- no other place was given, and no part is lost.
+  pub record KeepsTurns (list : V → List E) (opening : List E) (parts_in_all : ℕ) (s : State (Option V) (View E)) : Type 0 where
     pub next : ℕ
     pub served : ℕ
     pub log : List E
@@ -99,18 +92,21 @@ module _ {V E : Type 0} where
     pub small : next < 18446744073709551616
     pub order : served ≤ next
     pub begins : IsPrefix opening log
-    pub lies : Lies list log served s.homes s.views
+    pub lies : IsHomeOrHeld list log served s.homes s.views
     pub each : (j : ℕ) (v : View E) → get_elem? s.views j ≡ some v → Fits log served next v
     pub apart : (i j : ℕ) (v w : View E) (t : ℕ) → get_elem? s.views i ≡ some v → get_elem? s.views j ≡ some w → turn_of v.stage ≡ Some t → turn_of w.stage ≡ Some t → i ≡ j
-    pub counted : (k : ℕ) → total (λ (v : View E). times k v.own) s.views ≡ times k (news opening log)
-    pub parts : total (λ (v : View E). v.parts) s.views ≡ seats
+    pub counted : (k : ℕ) → total (λ (v : View E). occurrences k v.given) s.views ≡ occurrences k (new_places opening log)
+    pub parts : total (λ (v : View E). v.parts) s.views ≡ parts_in_all
 
-  abbrev pub drew : Step (Option V) → Me (Option V) (View E) → ℕ → Me (Option V) (View E) → Type 0
-  drew st m n m' = (m'.1 ≡ m.1) × (n ≡ st.first → m'.0 ≡ waiting m.0 n) × (n ≢ st.first → m'.0 ≡ m.0)
+  -- Drawing tells: where word 0 was the number expected, that turn is the seat's, and else nothing changed.
+  abbrev pub Draws : Step (Option V) → Me (Option V) (View E) → ℕ → Me (Option V) (View E) → Type 0
+  Draws st m n m' = (m'.1 ≡ m.1) × (n ≡ st.first → m'.0 ≡ waiting m.0 n) × (n ≢ st.first → m'.0 ≡ m.0)
 
-  abbrev pub looked : (V → List E) → Step (Option V) → Me (Option V) (View E) → ℕ → Me (Option V) (View E) → Type 0
-  looked list st m n m' = (t : ℕ) → m.0.stage ≡ Waits t
-      → (n ≡ t → (x : V) × (m'.0 ≡ holding m.0 t (list x)) × (m'.1 ≡ (0, Some x) ∷ m.1) × IsPrefix m.0.seen (list x)) × (n ≢ t → m' ≡ m)
+  -- Looking tells a seat that waits: where its turn is served it took the value, which begins with all that the seat knows, and else nothing changed.
+  abbrev pub Looks : (V → List E) → Step (Option V) → Me (Option V) (View E) → ℕ → Me (Option V) (View E) → Type 0
+  Looks list st m n m' = (t : ℕ) → m.0.stage ≡ Waits t
+      → (n ≡ t → (x : V) × (m'.0 ≡ holding m.0 t (list x)) × (m'.1 ≡ (0, Some x) ∷ m.1) × IsPrefix m.0.seen (list x) × AllBegin m.0.met (list x)) × (n ≢ t → m' ≡ m)
 
-  abbrev pub advanced : (V → List E) → Step (Option V) → Me (Option V) (View E) → ℕ → Me (Option V) (View E) → Type 0
-  advanced list st m n m' = (t : ℕ) (l : List E) (y : V) → m.0.stage ≡ Holds t l → m.1 ≡ (0, Some y) ∷ [] → (m'.1 ≡ []) × (m'.0 ≡ given m.0 l (list y))
+  -- Advancing tells the holder: the value is back in the slot, and the places that its list gained are the seat's.
+  abbrev pub Advances : (V → List E) → Step (Option V) → Me (Option V) (View E) → ℕ → Me (Option V) (View E) → Type 0
+  Advances list st m n m' = (t : ℕ) (l : List E) (y : V) → m.0.stage ≡ Holds t l → m.1 ≡ (0, Some y) ∷ [] → (m'.1 ≡ []) × (m'.0 ≡ after_giving m.0 l (list y))

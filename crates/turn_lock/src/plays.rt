@@ -1,39 +1,54 @@
-//! What each step on the table tells.
-ghost use Rattle.turn_lock.specs.Turns.{drew, looked, advanced, shared, spare, merged, spent};
+//! The kinds of step on the table that change a view, and what each tells.
+ghost use Rattle.std.specs.Prelude.{◌/◌};
+ghost use Rattle.turn_lock.specs.Turns.{Draws, Looks, Advances, keeping, portion, joined, spent_view, whole};
 
 use crate::view::{Grows, View};
 use atomic_table::{Join, Play, Split};
 
+/// Draws the next turn.
 pub(crate) struct Draw;
 
 impl<V: Grows> Play<Option<V>, View<V::Item>> for Draw {
-    ghost then = { drew };
+    ghost then = { Draws };
 }
 
+/// Looks whether the turn is served, and if so takes the slot.
 pub(crate) struct Look;
 
 impl<V: Grows> Play<Option<V>, View<V::Item>> for Look {
-    ghost then = { looked V.list };
+    ghost then = { Looks V.list };
 }
 
+/// Gives the slot back, and serves the next turn.
 pub(crate) struct Advance;
 
 impl<V: Grows> Play<Option<V>, View<V::Item>> for Advance {
-    ghost then = { advanced V.list };
+    ghost then = { Advances V.list };
 }
 
-pub(crate) struct Cut;
+/// Splits the parts of a whole pass off.
+pub(crate) struct Deal;
 
-impl<E> Split<View<E>> for Cut {
-    ghost left = { shared };
+impl<E> Split<View<E>> for Deal {
+    ghost left = { λ v. keeping v whole };
 
-    ghost right = { spare };
+    ghost right = { λ v. portion v whole };
 }
 
-pub(crate) struct Glue;
+/// Splits half of the parts off.
+pub(crate) struct Halve;
 
-impl<E> Join<View<E>> for Glue {
-    ghost both = { merged };
+impl<E> Split<View<E>> for Halve {
+    ghost left = { λ v. keeping v (v.parts / 2) };
 
-    ghost spent = { spent };
+    ghost right = { λ v. portion v (v.parts / 2) };
+}
+
+/// Takes another seat in.
+pub(crate) struct Unite;
+
+impl<E> Join<View<E>> for Unite {
+    ghost both = { joined };
+
+    ghost spent = { spent_view };
 }

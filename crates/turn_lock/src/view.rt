@@ -1,55 +1,68 @@
-//! What a seat of the table knows, and the rule.
-ghost use Rattle.std.specs.Prelude.{ℕ, List};
+//! What a seat of the table knows, and the rule that the table keeps.
+ghost use Rattle.std.specs.Prelude.{ℕ, List, ◌*◌};
 
 use atomic_table::{Seat, Table, TableRule};
 use std::alloc::Global;
 use std::collections::LinkedList;
 use std::snapshot::Snapshot;
 
-/// A value that stores a list.
+/// A value that stores a list, to which each turn may add.
+///
+/// Beneath a lock a value is known by this list alone, and by what its type says of itself.
 pub trait Grows {
     /// What the list is of.
     type Item;
 
+    /// The list that a value stores.
     ghost list: { Self → List Self.Item };
 }
 
+/// Where a seat stands between its turns.
 pub enum Stage<E> {
+    /// It has no turn.
     Idle,
-    /// The turn that was drawn.
+    /// It Draws this turn, which isn't served yet.
     Waits(u64),
-    /// The turn, and the list that was found.
+    /// Its turn is served: the turn, and the list that it found.
     Holds(u64, LinkedList<E>),
 }
 
-/// What a pass knows. No value of it is made.
+/// What a seat knows. No value of this type is made: it exists in proofs alone.
 pub struct View<E> {
+    /// The share of the lock that the seat stands for. No part is ever lost.
     pub parts: u64,
+    /// Where it stands between its turns.
     pub stage: Stage<E>,
+    /// The list that it has seen.
     pub seen: LinkedList<E>,
-    /// What the passes that it took in had seen.
+    /// What the seats that it took in had seen.
     pub met: LinkedList<LinkedList<E>>,
     /// The places of the list that it gave.
-    pub own: LinkedList<u64>,
+    pub given: LinkedList<u64>,
 }
 
 /// What the lock was made with.
 #[derive(Drop)]
 pub struct Opening<V> {
+    /// The value, for proofs alone.
     pub value: Snapshot<V>,
+    /// How many passes were handed out.
     pub seats: usize,
 }
 
+/// The rule of the table: a ticket lock over two words and a slot.
 pub struct Turns;
 
 impl<V: Grows> TableRule<Option<V>, View<V::Item>, Opening<V>> for Turns {
-    ghost use Rattle.turn_lock.specs.Turns.{Turned, opener};
+    ghost use Rattle.turn_lock.specs.Turns.{KeepsTurns, opening_view, whole};
 
-    ghost holds = { λ key. Turned V.list (V.list key.value.value) key.seats };
+    ghost holds = { λ key. KeepsTurns V.list (V.list key.value.value) (key.seats * whole) };
 
-    ghost first = { λ key. opener key.seats (V.list key.value.value) };
+    ghost first = { λ key. opening_view (key.seats * whole) (V.list key.value.value) };
 }
 
-pub type Board<V> = Table<Option<V>, View<<V as Grows>::Item>, Opening<V>, Turns, Global>;
+/// The table behind a lock: two words, and one slot for the value.
+pub type TurnTable<V> = Table<Option<V>, View<<V as Grows>::Item>, Opening<V>, Turns, Global>;
 
-pub type Chair<V> = Seat<Option<V>, View<<V as Grows>::Item>>;
+/// A seat at that table.
+pub type TurnSeat<V> = Seat<Option<V>, View<<V as Grows>::Item>>;
