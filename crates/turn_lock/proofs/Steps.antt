@@ -51,7 +51,7 @@ module _ {E : Type 0} where
   views_set K vs id w mine others j u e = ⊎_elim (λ (t : (j ≡ id) × (w ≡ u)). subst (λ (x : ℕ × View E). K x.0 x.1) (λ i. (sym t.0 i, t.1 i)) mine)
       (λ (t : (j ≢ id) × (get_elem? vs j ≡ some u)). others j u t.0 t.1) (at_set vs id j w u e)
 
-  -- no two all_parts have one turn
+  -- no two seats have one turn
   abbrev Apart : List (View E) → Type 0
   Apart vs = (i j : ℕ) (v w : View E) (t : ℕ) → get_elem? vs i ≡ some v → get_elem? vs j ≡ some w → turn_of v.stage ≡ Some t → turn_of w.stage ≡ Some t → i ≡ j
 
@@ -101,7 +101,7 @@ module _ {V E : Type 0} (list : V → List E) where
       inr (x.0, x.1, x.2, at_longer vs (w ∷ []) x.0 x.1 x.3, x.4))
       h
 
-module _ {V E : Type 0} (list : V → List E) (o : List E) (all_parts : ℕ) where
+module _ {V E : Type 0} (list : V → List E) (o : List E) (seats : ℕ) where
   abbrev St : Type 0
   St = State (Option V) (View E)
 
@@ -109,7 +109,7 @@ module _ {V E : Type 0} (list : V → List E) (o : List E) (all_parts : ℕ) whe
   M = Me (Option V) (View E)
 
   abbrev Rule : St → Type 0
-  Rule = KeepsTurns list o all_parts
+  Rule = KeepsTurns list o seats
 
   -- the rule does not see a step that changes nothing
   unmoved : (s : St) (i id : ℕ) (v : View E) → get_elem? s.views id ≡ some v → Rule s → Rule record { words = set s.words i (get_or s.words i 0); homes = s.homes; views = set s.views id v }
@@ -121,7 +121,7 @@ module _ {V E : Type 0} (list : V → List E) (o : List E) (all_parts : ℕ) whe
       let b : occurrences k w.given ≡ occurrences k v.given = ap (occurrences k) same in
       let c = r.counted k in omega arith
 
-  same_parts : (s : St) (r : Rule s) (id : ℕ) (v w : View E) → get_elem? s.views id ≡ some v → w.parts ≡ v.parts → total (λ (u : View E). u.parts) (set s.views id w) ≡ all_parts
+  same_parts : (s : St) (r : Rule s) (id : ℕ) (v w : View E) → get_elem? s.views id ≡ some v → w.parts ≡ v.parts → total (λ (u : View E). u.parts) (set s.views id w) ≡ seats
   same_parts s r id v w at same =
       let a = total_set (λ (u : View E). u.parts) s.views id v w at in
       let c = r.parts in omega arith
@@ -142,10 +142,10 @@ module _ {V E : Type 0} (list : V → List E) (o : List E) (all_parts : ℕ) whe
           turn = λ t e. let x : r.next ≡ t = same_turn _ _ e in (omega arith, omega arith);
           holds = λ t l e. absurd (waits_not_held w.stage r.next t l refl e);
           seen = f.seen;
-          met = f.met;
+          told = f.told;
           empty = λ z. absurd (some_part z);
         }
-        (λ j u _ e. let g = r.each j u e in record { turn = λ t x. let y = g.turn t x in let y₀ = y.0 in let y₁ = y.1 in (omega arith, omega arith); holds = g.holds; seen = g.seen; met = g.met; empty = g.empty });
+        (λ j u _ e. let g = r.each j u e in record { turn = λ t x. let y = g.turn t x in let y₀ = y.0 in let y₁ = y.1 in (omega arith, omega arith); holds = g.holds; seen = g.seen; told = g.told; empty = g.empty });
     apart = apart_set s.views id w r.apart (λ t j u e _ at_u f'. let x : r.next ≡ t = same_turn _ _ e in let y = ((r.each j u at_u).turn t f').1 in omega arith);
     counted = λ k. same_own s r id v w k at refl;
     parts = same_parts s r id v w at refl;
@@ -198,7 +198,7 @@ module _ {V E : Type 0} (list : V → List E) (o : List E) (all_parts : ℕ) whe
           turn = λ u e. f.turn u (ap turn_of waits ∙ e);
           holds = λ u l e. (sym (ap number_of e) ∙ is_served, sym (ap found_of e) ∙ is);
           seen = f.seen;
-          met = f.met;
+          told = f.told;
           empty = λ z. absurd (waits_not_idle v.stage t waits (f.empty z).1);
         }
         (λ j u _ e. r.each j u e);
@@ -220,7 +220,7 @@ module _ {V E : Type 0} (list : V → List E) (o : List E) (all_parts : ℕ) whe
         ap (λ hs. get_elem? hs 0) x.1,
         taken s r id t v x.0 at waits (sym hit ∙ is_served) x.1 x.2,
         (λ u e. let same : u ≡ t = sym (ap number_of e) ∙ ap number_of waits in (
-          (λ _. (x.0, ap (λ (k : ℕ). holding v k (list x.0)) (sym same), refl, subst (IsPrefix v.seen) (sym x.2) (r.each id v at).seen, subst (AllBegin v.met) (sym x.2) (r.each id v at).met)),
+          (λ _. (x.0, ap (λ (k : ℕ). holding v k (list x.0)) (sym same), refl, subst (IsPrefix v.seen) (sym x.2) (r.each id v at).seen, subst (AllBegin v.told) (sym x.2) (r.each id v at).told)),
           (λ no. absurd (no (hit ∙ sym same))),
         )),
       ))
@@ -259,7 +259,7 @@ module _ {V E : Type 0} (list : V → List E) (o : List E) (all_parts : ℕ) whe
               turn = λ u e. absurd (idle_no_turn w.stage u refl e);
               holds = λ u k e. absurd (idle_not_held w.stage u k refl e);
               seen = begins_same (list y);
-              met = all_more v.met r.log (list y) longer f.met;
+              told = all_more v.told r.log (list y) longer f.told;
               empty = λ z. absurd (held_not_idle v.stage t l held (f.empty z).1);
             }
             (λ j u other e. let g = r.each j u e in record {
@@ -267,7 +267,7 @@ module _ {V E : Type 0} (list : V → List E) (o : List E) (all_parts : ℕ) whe
                   let not_mine : k ≢ t = λ same. other (sym (r.apart id j v u t at e (ap turn_of held) (x ∙ ap Some same))) in (omega arith, omega arith);
               holds = λ k a x. absurd (other (sym (r.apart id j v u t at e (ap turn_of held) (ap turn_of x ∙ ap Some ((g.holds k a x).0 ∙ sym mine.0)))));
               seen = begins_more u.seen r.log (list y) g.seen longer;
-              met = all_more u.met r.log (list y) longer g.met;
+              told = all_more u.told r.log (list y) longer g.told;
               empty = g.empty;
             });
         apart = apart_set s.views id w r.apart (λ k j u e _ _ _. idle_no_turn w.stage k refl e);
@@ -312,8 +312,8 @@ module _ {V E : Type 0} (list : V → List E) (o : List E) (all_parts : ℕ) whe
       value_same : (x : V) → m.1 ≡ (0, Some x) ∷ [] → y ≡ x
       value_same x c = sym (ap (first_value y) carried) ∙ ap (first_value y) c
 
-  pub allows_split : (id : ℕ) (v : View E) (n : ℕ) → 0 < n → n < v.parts → Splits Rule id v (keeping v n) (portion v n)
-  allows_split id v k few less s r at = let w : View E = keeping v k in let n : View E = portion v k in let f = r.each id v at in record {
+  pub allows_split : (id : ℕ) (v : View E) (n : ℕ) → n < v.parts → Splits Rule id v (keeping v n) (portion v n)
+  allows_split id v k less s r at = let w : View E = keeping v k in let n : View E = portion v k in let f = r.each id v at in record {
     next = r.next;
     served = r.served;
     log = r.log;
@@ -324,14 +324,14 @@ module _ {V E : Type 0} (list : V → List E) (o : List E) (all_parts : ℕ) whe
     lies = lies_snoc list r.log r.served s.homes (set s.views id w) n (lies_set list r.log r.served s.homes s.views id v w at (λ e. e) r.lies);
     each = λ j u e. ⊎_elim
         (views_set (λ _ u. Fits r.log r.served r.next u) s.views id w
-        record { turn = f.turn; holds = f.holds; seen = f.seen; met = f.met; empty = λ z. absurd (omega arith) }
+        record { turn = f.turn; holds = f.holds; seen = f.seen; told = f.told; empty = λ z. absurd (omega arith) }
         (λ j u _ e. r.each j u e) j u)
         (λ (t : n ≡ u). subst (λ (z : View E). Fits r.log r.served r.next z) t record {
           turn = λ t e. absurd (idle_no_turn n.stage t refl e);
           holds = λ t l e. absurd (idle_not_held n.stage t l refl e);
           seen = f.seen;
-          met = f.met;
-          empty = λ z. absurd (omega arith);
+          told = f.told;
+          empty = λ _. (refl, refl);
         })
         (at_snoc (set s.views id w) n u j e);
     apart = λ i j a b t ai bj ta tb. ⊎_elim
@@ -371,7 +371,7 @@ module _ {V E : Type 0} (list : V → List E) (o : List E) (all_parts : ℕ) whe
               turn = λ t e. absurd (idle_no_turn {E = E} Idle t refl e);
               holds = λ t l e. absurd (idle_not_held {E = E} Idle t l refl e);
               seen = (r.log, refl);
-              met = tt;
+              told = tt;
               empty = λ _. (refl, refl);
             }
             (λ j x _ e. views_set (λ _ z. Fits r.log r.served r.next z) s.views id w
@@ -379,7 +379,7 @@ module _ {V E : Type 0} (list : V → List E) (o : List E) (all_parts : ℕ) whe
               turn = f.turn;
               holds = f.holds;
               seen = f.seen;
-              met = all_append v.met (u.seen ∷ u.met) r.log f.met (g.seen, g.met);
+              told = all_append v.told (u.seen ∷ u.told) r.log f.told (g.seen, g.told);
               empty = λ z. let a = f.empty (omega arith) in let b = g.empty (omega arith) in ((λ i. a.0 i ++ b.0 i), a.1);
             }
             (λ i y _ e'. r.each i y e') j x e);
@@ -397,8 +397,8 @@ module _ {V E : Type 0} (list : V → List E) (o : List E) (all_parts : ℕ) whe
             let d = r.parts in omega arith;
       }
 
-  pub starts : (x : V) → list x ≡ o → Rule (opening (0 ∷ 0 ∷ []) (Some x ∷ []) (opening_view all_parts o))
-  starts x is = let v : View E = opening_view all_parts o in record {
+  pub starts : (x : V) → list x ≡ o → Rule (opening (0 ∷ 0 ∷ []) (Some x ∷ []) (opening_view seats o))
+  starts x is = let v : View E = opening_view seats o in record {
     next = 0;
     served = 0;
     log = o;
@@ -411,7 +411,7 @@ module _ {V E : Type 0} (list : V → List E) (o : List E) (all_parts : ℕ) whe
       turn = λ t e. absurd (idle_no_turn v.stage t refl e);
       holds = λ t l e. absurd (idle_not_held v.stage t l refl e);
       seen = begins_same o;
-      met = tt;
+      told = tt;
       empty = λ _. (refl, refl);
     } j u e;
     apart = λ i j a b t ai bj ta tb. absurd (idle_no_turn a.stage t (only_one (λ _ (z : View E). z.stage ≡ Idle) v refl i a ai) ta);
@@ -419,8 +419,8 @@ module _ {V E : Type 0} (list : V → List E) (o : List E) (all_parts : ℕ) whe
     parts = omega arith;
   }
 
-  pub closes : (id : ℕ) (v : View E) (ws : List ℕ) (xs : List (Option V)) → Final (Seen Rule id v) ws xs → v.parts ≡ all_parts → v.stage ≡ Idle
-      → (y : V) × (get_elem? xs 0 ≡ some (Some y)) × AllBegin (v.seen ∷ v.met) (list y) × IsPrefix o (list y) × ((k : ℕ) → occurrences k v.given ≡ occurrences k (new_places o (list y)))
+  pub closes : (id : ℕ) (v : View E) (ws : List ℕ) (xs : List (Option V)) → Final (Seen Rule id v) ws xs → v.parts ≡ seats → v.stage ≡ Idle
+      → (y : V) × (get_elem? xs 0 ≡ some (Some y)) × AllBegin (v.seen ∷ v.told) (list y) × IsPrefix o (list y) × ((k : ℕ) → occurrences k v.given ≡ occurrences k (new_places o (list y)))
   closes id v ws xs h whole idle =
       let s = h.0 in
       let r = h.1.0 in
@@ -432,7 +432,7 @@ module _ {V E : Type 0} (list : V → List E) (o : List E) (all_parts : ℕ) whe
       let is = sym x.2 in (
         x.0,
         h.4 0 (Some x.0) (ap (λ hs. get_elem? hs 0) x.1),
-        subst (λ l. IsPrefix v.seen l × AllBegin v.met l) is (f.seen, f.met),
+        subst (λ l. IsPrefix v.seen l × AllBegin v.told l) is (f.seen, f.told),
         subst (IsPrefix o) is r.begins,
         λ k. sym (total_one (λ (u : View E). u.parts) (λ (u : View E). occurrences k u.given) s.views id v (λ j u e z. ap (occurrences k) ((r.each j u e).empty z).0) at all) ∙ r.counted k ∙ ap (λ l. occurrences k (new_places o l)) is,
       ))

@@ -1,11 +1,12 @@
 -- What clauses say of a lock, of its passes and of a value that is held. This project's words.
-use Rattle.std.specs.Prelude.{◌≡◌, ℕ, List}
+use Rattle.std.specs.Prelude.{ℕ, List}
 use Rattle.atomic_table.specs.Seated.{TableId}
 use Rattle.turn_lock.specs.Places.{occurrences, total}
-use Rattle.turn_lock.specs.Turns.{found_of, whole}
+use Rattle.turn_lock.specs.Turns.{found_of}
 use Rattle.turn_lock.specs.declared.view.Grows.{Ghosts}
 use Rattle.turn_lock.specs.declared.held.Pass.{Pass}
 use Rattle.turn_lock.specs.declared.held.Held.{Held}
+use Rattle.turn_lock.specs.declared.held.Seen.{Seen}
 use Rattle.turn_lock.specs.declared.lock.TurnLock.{TurnLock}
 
 -- what tells one lock from every other
@@ -30,25 +31,17 @@ module _ {V E : Type 0} {g : Ghosts V E} where
   abbrev pub pass_lock : Pass V E g → LockId
   pass_lock p = p.seat.table_id
 
-  -- how many parts a pass has
-  abbrev pub pass_parts : Pass V E g → ℕ
-  pass_parts p = p.seat.me.0.parts
-
   -- the list that a pass has seen: the one that it gave last, or else the one that it began with
   abbrev pub pass_seen : Pass V E g → List E
   pass_seen p = p.seat.me.0.seen
 
-  -- what the passes that it took in had seen
-  abbrev pub pass_met : Pass V E g → List (List E)
-  pass_met p = p.seat.me.0.met
+  -- what it was told that other passes had seen
+  abbrev pub pass_told : Pass V E g → List (List E)
+  pass_told p = p.seat.me.0.told
 
-  -- the places of the list that it gave, or that a pass which it took in gave
+  -- the places of the list that it gave
   abbrev pub pass_given : Pass V E g → List ℕ
   pass_given p = p.seat.me.0.given
-
-  -- a pass of this lock of which no part is split off
-  abbrev pub IsWholePassOf : LockId → Pass V E g → Type 0
-  IsWholePassOf lock p = (pass_lock p ≡ lock) × (pass_parts p ≡ whole)
 
   -- how often these passes, all together, gave the place k
   abbrev pub times_given : ℕ → List (Pass V E g) → ℕ
@@ -62,14 +55,22 @@ module _ {V E : Type 0} {g : Ghosts V E} where
   abbrev pub held_found : Held V E g → List E
   held_found h = found_of h.seat.me.0.stage
 
-  -- the parts of the holder's pass
-  abbrev pub held_parts : Held V E g → ℕ
-  held_parts h = h.seat.me.0.parts
-
-  -- what the passes that the holder's pass took in had seen
-  abbrev pub held_met : Held V E g → List (List E)
-  held_met h = h.seat.me.0.met
+  -- what the holder's pass was told that other passes had seen
+  abbrev pub held_told : Held V E g → List (List E)
+  held_told h = h.seat.me.0.told
 
   -- the places that the holder's pass gave in earlier turns
   abbrev pub held_given : Held V E g → List ℕ
   held_given h = h.seat.me.0.given
+
+  -- the lock of what was split off a pass
+  abbrev pub seen_lock : Seen V E g → LockId
+  seen_lock s = s.seat.table_id
+
+  -- the list that the pass had seen
+  abbrev pub seen_list : Seen V E g → List E
+  seen_list s = s.seat.me.0.seen
+
+  -- what the pass was told that others had seen
+  abbrev pub seen_told : Seen V E g → List (List E)
+  seen_told s = s.seat.me.0.told

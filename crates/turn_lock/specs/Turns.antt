@@ -1,6 +1,6 @@
 -- The rule of the table behind the lock, and what each step on it tells. This project's rule, that of a ticket lock.
 -- Word 0 is the next turn to be drawn, and word 1 the turn that is served. The one slot holds the value while nobody has it.
-use Rattle.std.specs.Prelude.{◌≡◌, ◌≢◌, ◌⊎◌, ℕ, ◌+◌, ◌-◌, ◌^◌, ◌<◌, ◌≤◌, List, [], ◌∷◌, ◌++◌, Option, Some, None}
+use Rattle.std.specs.Prelude.{◌≡◌, ◌≢◌, ◌⊎◌, ℕ, ◌+◌, ◌-◌, ◌<◌, ◌≤◌, List, [], ◌∷◌, ◌++◌, Option, Some, None}
 use mathlib.Core.Option.{some, none}
 use mathlib.Core.Option as maybe
 use mathlib.Core.List.{IsPrefix}
@@ -10,10 +10,6 @@ use Rattle.turn_lock.specs.Places.{occurrences, total, new_places, AllBegin}
 use Rattle.turn_lock.specs.declared.view.View.{View}
 use Rattle.turn_lock.specs.declared.view.Stage.{Stage}
 use Rattle.turn_lock.specs.declared.view.Stage.TheVariants.{Idle, Waits, Holds}
-
--- How many parts a pass has before it is split. So it can be split in halves 64 occurrences over.
-abbrev pub whole : ℕ
-whole = 18446744073709551616
 
 module _ {E : Type 0} where
   -- the turn that a seat Draws and hasn't given back
@@ -35,11 +31,11 @@ module _ {E : Type 0} where
 
   -- the view of the first seat
   abbrev pub opening_view : ℕ → List E → View E
-  opening_view parts list = record { parts = parts; stage = Idle; seen = list; met = []; given = [] }
+  opening_view seats list = record { parts = seats; stage = Idle; seen = list; told = []; given = [] }
 
   -- the view of a seat that another took in
   abbrev pub spent_view : View E
-  spent_view = record { parts = 0; stage = Idle; seen = []; met = []; given = [] }
+  spent_view = record { parts = 0; stage = Idle; seen = []; told = []; given = [] }
 
   -- a view that gives n of its parts away
   abbrev pub keeping : View E → ℕ → View E
@@ -47,11 +43,11 @@ module _ {E : Type 0} where
 
   -- the view of the new seat that gets them: it knows the same, and has given nothing
   abbrev pub portion : View E → ℕ → View E
-  portion v n = record { parts = n; stage = Idle; seen = v.seen; met = v.met; given = [] }
+  portion v n = record { parts = n; stage = Idle; seen = v.seen; told = v.told; given = [] }
 
   -- a view that takes in another: it keeps what both know and gave
   abbrev pub joined : View E → View E → View E
-  joined v w = record v { parts = v.parts + w.parts; met = v.met ++ w.seen ∷ w.met; given = v.given ++ w.given }
+  joined v w = record v { parts = v.parts + w.parts; told = v.told ++ w.seen ∷ w.told; given = v.given ++ w.given }
 
   -- a view that Draws a turn
   abbrev pub waiting : View E → ℕ → View E
@@ -71,7 +67,7 @@ module _ {E : Type 0} where
     pub turn : (t : ℕ) → turn_of v.stage ≡ Some t → (served ≤ t) × (t < next)
     pub holds : (t : ℕ) (l : List E) → v.stage ≡ Holds t l → (t ≡ served) × (l ≡ log)
     pub seen : IsPrefix v.seen log
-    pub met : AllBegin v.met log
+    pub told : AllBegin v.told log
     pub empty : v.parts ≡ 0 → (v.given ≡ []) × (v.stage ≡ Idle)
 
 module _ {V E : Type 0} where
@@ -84,7 +80,7 @@ module _ {V E : Type 0} where
   -- The rule. `log` is the list that the value stores, as of the last turn given back. It begins with the opening list,
   -- each view fits it, no two views have one turn, each place past the opening list was given by one view, once,
   -- no other place was given, and no part is lost.
-  pub record KeepsTurns (list : V → List E) (opening : List E) (parts_in_all : ℕ) (s : State (Option V) (View E)) : Type 0 where
+  pub record KeepsTurns (list : V → List E) (opening : List E) (seats : ℕ) (s : State (Option V) (View E)) : Type 0 where
     pub next : ℕ
     pub served : ℕ
     pub log : List E
@@ -96,7 +92,7 @@ module _ {V E : Type 0} where
     pub each : (j : ℕ) (v : View E) → get_elem? s.views j ≡ some v → Fits log served next v
     pub apart : (i j : ℕ) (v w : View E) (t : ℕ) → get_elem? s.views i ≡ some v → get_elem? s.views j ≡ some w → turn_of v.stage ≡ Some t → turn_of w.stage ≡ Some t → i ≡ j
     pub counted : (k : ℕ) → total (λ (v : View E). occurrences k v.given) s.views ≡ occurrences k (new_places opening log)
-    pub parts : total (λ (v : View E). v.parts) s.views ≡ parts_in_all
+    pub parts : total (λ (v : View E). v.parts) s.views ≡ seats
 
   -- Drawing tells: where word 0 was the number expected, that turn is the seat's, and else nothing changed.
   abbrev pub Draws : Step (Option V) → Me (Option V) (View E) → ℕ → Me (Option V) (View E) → Type 0
@@ -105,7 +101,7 @@ module _ {V E : Type 0} where
   -- Looking tells a seat that waits: where its turn is served it took the value, which begins with all that the seat knows, and else nothing changed.
   abbrev pub Looks : (V → List E) → Step (Option V) → Me (Option V) (View E) → ℕ → Me (Option V) (View E) → Type 0
   Looks list st m n m' = (t : ℕ) → m.0.stage ≡ Waits t
-      → (n ≡ t → (x : V) × (m'.0 ≡ holding m.0 t (list x)) × (m'.1 ≡ (0, Some x) ∷ m.1) × IsPrefix m.0.seen (list x) × AllBegin m.0.met (list x)) × (n ≢ t → m' ≡ m)
+      → (n ≡ t → (x : V) × (m'.0 ≡ holding m.0 t (list x)) × (m'.1 ≡ (0, Some x) ∷ m.1) × IsPrefix m.0.seen (list x) × AllBegin m.0.told (list x)) × (n ≢ t → m' ≡ m)
 
   -- Advancing tells the holder: the value is back in the slot, and the places that its list gained are the seat's.
   abbrev pub Advances : (V → List E) → Step (Option V) → Me (Option V) (View E) → ℕ → Me (Option V) (View E) → Type 0

@@ -1,5 +1,5 @@
-//! The right to take turns, and the value while one has it.
-ghost use Rattle.std.specs.Prelude.{◌≡◌, ℕ, ◌<◌, [], ◌∷◌, None};
+//! The right to take turns, the value while one has it, and what one pass tells another.
+ghost use Rattle.std.specs.Prelude.{◌≡◌, ℕ, [], ◌∷◌, None};
 ghost use Rattle.turn_lock.specs.declared.view.Stage.TheVariants.{Idle, Holds};
 ghost use Rattle.turn_lock.specs.Turns.{found_of, number_of};
 
@@ -14,7 +14,7 @@ pub struct Pass<V: Grows> {
     pub(crate) seat: TurnSeat<V>,
     ghost idle: { seat.me.0.stage ≡ Idle },
     ghost bare: { seat.me.1 ≡ [] },
-    ghost some: { 0 < seat.me.0.parts },
+    ghost one: { seat.me.0.parts ≡ 1 },
 }
 
 /// The value, with the pass whose turn is served.
@@ -26,5 +26,16 @@ pub struct Held<V: Grows> {
     pub(crate) seat: TurnSeat<V>,
     ghost served: { seat.me.0.stage ≡ Holds (number_of seat.me.0.stage) (found_of seat.me.0.stage) },
     ghost bare: { seat.me.1 ≡ (0, None) ∷ [] },
-    ghost some: { 0 < seat.me.0.parts },
+    ghost one: { seat.me.0.parts ≡ 1 },
+}
+
+/// What a pass had seen when this was split off, to be told to another pass of the lock.
+/// It has no bytes, gives no right to a turn, and may be dropped.
+#[derive(Drop)]
+pub struct Seen<V: Grows> {
+    pub(crate) seat: TurnSeat<V>,
+    ghost idle: { seat.me.0.stage ≡ Idle },
+    ghost bare: { seat.me.1 ≡ [] },
+    ghost none: { seat.me.0.parts ≡ 0 },
+    ghost nothing: { seat.me.0.given ≡ [] },
 }

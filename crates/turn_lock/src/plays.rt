@@ -1,6 +1,5 @@
 //! The kinds of step on the table that change a view, and what each tells.
-ghost use Rattle.std.specs.Prelude.{◌/◌};
-ghost use Rattle.turn_lock.specs.Turns.{Draws, Looks, Advances, keeping, portion, joined, spent_view, whole};
+ghost use Rattle.turn_lock.specs.Turns.{Draws, Looks, Advances, keeping, portion, joined, spent_view};
 
 use crate::view::{Grows, View};
 use atomic_table::{Join, Play, Split};
@@ -26,22 +25,22 @@ impl<V: Grows> Play<Option<V>, View<V::Item>> for Advance {
     ghost then = { Advances V.list };
 }
 
-/// Splits the parts of a whole pass off.
+/// Splits one part off, for a new pass.
 pub(crate) struct Deal;
 
 impl<E> Split<View<E>> for Deal {
-    ghost left = { λ v. keeping v whole };
+    ghost left = { λ v. keeping v 1 };
 
-    ghost right = { λ v. portion v whole };
+    ghost right = { λ v. portion v 1 };
 }
 
-/// Splits half of the parts off.
-pub(crate) struct Halve;
+/// Splits off what the seat knows, and no part.
+pub(crate) struct Tell;
 
-impl<E> Split<View<E>> for Halve {
-    ghost left = { λ v. keeping v (v.parts / 2) };
+impl<E> Split<View<E>> for Tell {
+    ghost left = { λ v. keeping v 0 };
 
-    ghost right = { λ v. portion v (v.parts / 2) };
+    ghost right = { λ v. portion v 0 };
 }
 
 /// Takes another seat in.

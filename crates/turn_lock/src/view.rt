@@ -1,5 +1,5 @@
 //! What a seat of the table knows, and the rule that the table keeps.
-ghost use Rattle.std.specs.Prelude.{ℕ, List, ◌*◌};
+ghost use Rattle.std.specs.Prelude.{ℕ, List};
 
 use atomic_table::{Seat, Table, TableRule};
 use std::alloc::Global;
@@ -29,14 +29,14 @@ pub enum Stage<E> {
 
 /// What a seat knows. No value of this type is made: it exists in proofs alone.
 pub struct View<E> {
-    /// The share of the lock that the seat stands for. No part is ever lost.
+    /// For how many passes the seat stands. No part is ever lost.
     pub parts: u64,
     /// Where it stands between its turns.
     pub stage: Stage<E>,
     /// The list that it has seen.
     pub seen: LinkedList<E>,
-    /// What the seats that it took in had seen.
-    pub met: LinkedList<LinkedList<E>>,
+    /// What it was told that others had seen.
+    pub told: LinkedList<LinkedList<E>>,
     /// The places of the list that it gave.
     pub given: LinkedList<u64>,
 }
@@ -54,11 +54,11 @@ pub struct Opening<V> {
 pub struct Turns;
 
 impl<V: Grows> TableRule<Option<V>, View<V::Item>, Opening<V>> for Turns {
-    ghost use Rattle.turn_lock.specs.Turns.{KeepsTurns, opening_view, whole};
+    ghost use Rattle.turn_lock.specs.Turns.{KeepsTurns, opening_view};
 
-    ghost holds = { λ key. KeepsTurns V.list (V.list key.value.value) (key.seats * whole) };
+    ghost holds = { λ key. KeepsTurns V.list (V.list key.value.value) key.seats };
 
-    ghost first = { λ key. opening_view (key.seats * whole) (V.list key.value.value) };
+    ghost first = { λ key. opening_view key.seats (V.list key.value.value) };
 }
 
 /// The table behind a lock: two words, and one slot for the value.

@@ -1,8 +1,8 @@
-use Rattle.std.proofs.Common.{◌≡◌, ℕ, ◌+◌, All, arith, ◌∙◌, ap, subst}
+use Rattle.std.proofs.Common.{◌≡◌, ℕ, ◌+◌, arith, ◌∙◌, ap, subst}
 use mathlib.Core.List.{IsPrefix}
 use Rattle.std.proofs.lemmas.List.Elements.{All-push, All-same}
 use Rattle.turn_lock.specs.Places.{AllBegin, occurrences}
-use Rattle.turn_lock.specs.Passes.{pass_seen, pass_met, pass_given, times_given}
+use Rattle.turn_lock.specs.Passes.{pass_seen, pass_told, pass_given, times_given}
 use Rattle.turn_lock.specs.declared.held.Pass.{Pass}
 use Rattle.turn_lock.proofs.Counts.{total_snoc, new_places-once}
 use Rattle.turn_lock.proofs.lock.TurnLock.close.Goals as goal
@@ -11,14 +11,14 @@ pub returns-clause-seen : goal.returns-clause-seen
 returns-clause-seen g c =
     let log = g.V.Grows.list c.finish.result in
     let P = λ (q : Pass g.row.V.Denot g.row.V-Item.Denot g.V.Grows). IsPrefix (pass_seen q) log in
-    let joined = c.join_all.ensures.met log c.finish.ensures.met in
-    All-same P _ _ c.in-Some.ensures.items (All-push P _ _ (λ k d less. (joined.1 k d less).0) (subst (λ l. IsPrefix l log) c.join_all.ensures.seen c.finish.ensures.seen))
+    let joined = c.join_all.ensures.told log c.finish.ensures.told in
+    All-same P _ _ c.in-Some.ensures.items (All-push P _ _ (λ k d less. (joined.1 k d less).0) (subst (λ l. IsPrefix l log) c.join_all.ensures.same.2 c.finish.ensures.seen))
 
-pub returns-clause-met : goal.returns-clause-met
-returns-clause-met g c =
+pub returns-clause-told : goal.returns-clause-told
+returns-clause-told g c =
     let log = g.V.Grows.list c.finish.result in
-    let P = λ (q : Pass g.row.V.Denot g.row.V-Item.Denot g.V.Grows). AllBegin (pass_met q) log in
-    let joined = c.join_all.ensures.met log c.finish.ensures.met in
+    let P = λ (q : Pass g.row.V.Denot g.row.V-Item.Denot g.V.Grows). AllBegin (pass_told q) log in
+    let joined = c.join_all.ensures.told log c.finish.ensures.told in
     All-same P _ _ c.in-Some.ensures.items (All-push P _ _ (λ k d less. (joined.1 k d less).1) joined.0)
 
 pub returns-clause-given : goal.returns-clause-given

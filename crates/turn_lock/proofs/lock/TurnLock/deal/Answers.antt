@@ -6,4 +6,4 @@ pub split_seat-other-requires : goal.split_seat-other-requires
 split_seat-other-requires g c =
     let i = c.loop.invariant in
     let parts = i.parts in
-    (i.table ∙ c.requires.seat.0, search rules, allows_split g.V.Grows.list _ _ _ _ _ (omega arith) (omega arith))
+    (i.table ∙ c.requires.seat.0, search rules, allows_split g.V.Grows.list _ _ _ _ _ (omega arith))

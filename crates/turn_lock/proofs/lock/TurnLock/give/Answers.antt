@@ -1,4 +1,4 @@
-use Rattle.std.proofs.Common.{rules, ◌<◌, ◌∷◌, ◌++◌, Some, ap, sym, subst, ◌∙◌}
+use Rattle.std.proofs.Common.{rules, ◌∷◌, ◌++◌, Some, ap, ◌∙◌}
 use Rattle.atomic_table.specs.Table.{rest}
 use Rattle.turn_lock.specs.Places.{new_places}
 use Rattle.turn_lock.specs.Turns.{found_of}
@@ -16,7 +16,7 @@ invariant_of-result g c =
     let did = c.fetch_add.ensures.2 _ _ c.args.held.value (ap (λ m. m.0.stage) now ∙ c.args.held.served) (ap (λ m. m.1) now ∙ ap (λ x. (0, Some c.args.held.value) ∷ rest x) c.args.held.bare) in record {
       idle = ap (λ v. v.stage) did.1;
       bare = did.0;
-      some = subst (λ n. 0 < n) (sym (ap (λ v. v.parts) did.1 ∙ ap (λ m. m.0.parts) now)) c.args.held.some;
+      one = ap (λ v. v.parts) did.1 ∙ ap (λ m. m.0.parts) now ∙ c.args.held.one;
     }
 
 pub returns-clause-seen : goal.returns-clause-seen
@@ -35,4 +35,4 @@ pub returns-clause-same : goal.returns-clause-same
 returns-clause-same g c =
     let now = c.exchange.ensures.3 in
     let did = c.fetch_add.ensures.2 _ _ c.args.held.value (ap (λ m. m.0.stage) now ∙ c.args.held.served) (ap (λ m. m.1) now ∙ ap (λ x. (0, Some c.args.held.value) ∷ rest x) c.args.held.bare) in
-    (ap (λ v. v.parts) did.1 ∙ ap (λ m. m.0.parts) now, ap (λ v. v.met) did.1 ∙ ap (λ m. m.0.met) now)
+    ap (λ v. v.told) did.1 ∙ ap (λ m. m.0.told) now

@@ -1,8 +1,0 @@
-use Rattle.std.proofs.Common.{rules, arith}
-use Rattle.turn_lock.proofs.Steps.{allows_split}
-use Rattle.turn_lock.proofs.lock.TurnLock.split.Goals as goal
-
-pub split_seat-other-requires : goal.split_seat-other-requires
-split_seat-other-requires g c =
-    let many = c.requires.parts in
-    (c.requires.lock, search rules, allows_split g.V.Grows.list _ _ _ _ _ (omega arith) (omega arith))
