@@ -12,7 +12,7 @@ use Rattle.turn_lock.specs.declared.view.Stage.{Stage}
 use Rattle.turn_lock.specs.declared.view.Stage.TheVariants.{Idle, Waits, Holds}
 
 module _ {E : Type 0} where
-  -- the turn that a seat Draws and hasn't given back
+  -- the turn that a seat drew and hasn't given back
   abbrev pub turn_of : Stage E → Option ℕ
   turn_of Idle = None
   turn_of (Waits t) = Some t
@@ -49,7 +49,7 @@ module _ {E : Type 0} where
   abbrev pub joined : View E → View E → View E
   joined v w = record v { parts = v.parts + w.parts; told = v.told ++ w.seen ∷ w.told; given = v.given ++ w.given }
 
-  -- a view that Draws a turn
+  -- a view that drew a turn
   abbrev pub waiting : View E → ℕ → View E
   waiting v t = record v { stage = Waits t }
 

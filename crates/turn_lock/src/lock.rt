@@ -22,6 +22,7 @@ use std::thread;
 pub struct TurnLock<V: Grows> {
     table: TurnTable<V>,
     ghost sized: { (table.shared.table_id.words ≡ 2) × (table.shared.table_id.slots ≡ 1) },
+    ghost some: { 0 < table.shared.key.seats },
 }
 
 impl<V: Grows> TurnLock<V> {
@@ -142,7 +143,6 @@ impl<V: Grows> TurnLock<V> {
     pub fn close(self, mut passes: Vec<Pass<V>>) -> V
         requires lock { All (λ p. pass_lock p ≡ lock_id self) passes.items }
         requires all { vec_len passes ≡ lock_seats self }
-        requires some { 0 < vec_len passes }
 
         // The value's list begins with the opening one, and with all that each pass has seen.
         ensures begins { IsPrefix (V.list (lock_opening self)) (V.list result) }
@@ -163,7 +163,8 @@ impl<V: Grows> TurnLock<V> {
 
     // The table, with the value at home, and its first seat.
     fn lay(alloc: Global, value: V, about: &Opening<V>) -> Result<(TurnLock<V>, TurnSeat<V>), V>
-        requires { about.now.value.value ≡ value }
+        requires value { about.now.value.value ≡ value }
+        requires seats { 0 < about.now.seats }
         ensures ok { IfOk result (λ r. (r.0.table.shared.key ≡ about.now) × (r.1.table_id ≡ r.0.table.shared.table_id) × (r.1.me ≡ (opening_view about.now.seats (V.list value), []))) }
         ensures err { IfErr result (λ v. v ≡ value) }
     {

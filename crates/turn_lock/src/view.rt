@@ -21,7 +21,7 @@ pub trait Grows {
 pub enum Stage<E> {
     /// It has no turn.
     Idle,
-    /// It Draws this turn, which isn't served yet.
+    /// It drew this turn, which isn't served yet.
     Waits(u64),
     /// Its turn is served: the turn, and the list that it found.
     Holds(u64, LinkedList<E>),
