@@ -85,13 +85,13 @@ module _ {V E : Type 0} where
     pub served : ℕ
     pub log : List E
     pub words : s.words ≡ next ∷ served ∷ []
-    pub small : next < 18446744073709551616
+    pub in_range : next < 18446744073709551616
     pub order : served ≤ next
     pub begins : IsPrefix opening log
-    pub lies : IsHomeOrHeld list log served s.homes s.views
-    pub each : (j : ℕ) (v : View E) → get_elem? s.views j ≡ some v → Fits log served next v
+    pub home_or_held : IsHomeOrHeld list log served s.homes s.views
+    pub fits : (j : ℕ) (v : View E) → get_elem? s.views j ≡ some v → Fits log served next v
     pub apart : (i j : ℕ) (v w : View E) (t : ℕ) → get_elem? s.views i ≡ some v → get_elem? s.views j ≡ some w → turn_of v.stage ≡ Some t → turn_of w.stage ≡ Some t → i ≡ j
-    pub counted : (k : ℕ) → total (λ (v : View E). occurrences k v.given) s.views ≡ occurrences k (new_places opening log)
+    pub given_once : (k : ℕ) → total (λ (v : View E). occurrences k v.given) s.views ≡ occurrences k (new_places opening log)
     pub parts : total (λ (v : View E). v.parts) s.views ≡ seats
 
   -- Drawing tells: where word 0 was the number expected, that turn is the seat's, and else nothing changed.

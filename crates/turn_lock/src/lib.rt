@@ -8,6 +8,6 @@ mod plays;
 mod tests;
 mod view;
 
-pub use held::{Held, Pass};
+pub use held::{Held, Pass, Seen};
 pub use lock::TurnLock;
 pub use view::Grows;

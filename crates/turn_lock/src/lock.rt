@@ -14,7 +14,7 @@ use std::snapshot::Snapshot;
 use std::sync::Wait;
 use std::thread;
 
-/// A value that one pass at a time may have, in the order in which turns were drawn.
+/// A value that one pass at a time may have: the one whose turn is served.
 ///
 /// It is a ticket lock over two words and a slot. The value's list only grows, and each pass keeps
 /// what it has seen of it and which places it gave.
@@ -67,7 +67,7 @@ impl<V: Grows> TurnLock<V> {
 
     /// Waits for a turn, and lends the value. It takes no memory.
     ///
-    /// Turns are served in the order in which they were drawn. No clause says that a turn comes.
+    /// No clause says that the turn comes.
     pub fn turn<R: Wait>(&self, rt: &R, pass: Pass<V>) -> Held<V>
         requires { pass_lock pass ≡ lock_id self.now }
         ensures lock { held_lock result ≡ pass_lock pass }
