@@ -68,9 +68,6 @@ module _ (es : Entries) (m : Table) (h : T (is_sorted key_order es)) (view : fm.
   pub entry_is : (i : ℕ) (e : List Value × List Value) → i < length es → e ≡ get_or es i e → slice_get (fm.entries m) i ≡ Some e
   entry_is i e lt is = ap (λ l. slice_get l i) entries_of ∙ slice_get_read es i e lt is
 
-  pub row_is : (i : ℕ) (e : List Value × List Value) → i < length es → e ≡ get_or es i e → slice_get (fm.values m) i ≡ Some e.1
-  row_is i e lt is = slice_get_map (λ e. e.1) (fm.entries m) i e (entry_is i e lt is)
-
   pub inside : (i : ℕ) → i < fm.len m → i < length es
   inside i lt = subst (λ n. i < n) length_of lt
 

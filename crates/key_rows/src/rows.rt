@@ -127,7 +127,7 @@ impl Rows {
         requires { place < map.len self.now }
         ensures { slice_get (map.values self.now) place ≡ Some result.now }
     {
-        &self.entries.at(place).1
+        &self.entry_at(place).1
     }
 
     /// Puts in a row where its key has none, and says whether it had none.

@@ -1,8 +1,6 @@
-use Rattle.key_rows.proofs.MapLaws.{inside, row_is}
+use Rattle.std.specs.FinMap as fm
+use Rattle.key_rows.proofs.MapLaws.{slice_get_map}
 use Rattle.key_rows.proofs.rows.Rows.row_at.Goals as goal
 
-pub at-requires : goal.at-requires
-at-requires c = inside c.self.inside.entries c.args.self.now c.self.invariant c.self.view_is _ c.requires
-
 pub returns : goal.returns
-returns c = row_is c.self.inside.entries c.args.self.now c.self.invariant c.self.view_is _ c.at.result.now (inside c.self.inside.entries c.args.self.now c.self.invariant c.self.view_is _ c.requires) c.at.ensures
+returns c = slice_get_map (λ e. e.1) (fm.entries c.args.self.now) c.args.place c.entry_at.result.now c.entry_at.ensures
