@@ -1,3 +1,4 @@
 pub mod Cases
+pub mod Digits
 pub mod OrderLaws
 pub mod TimeLemmas
