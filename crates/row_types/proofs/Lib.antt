@@ -1,4 +1,5 @@
 pub mod Cases
 pub mod Digits
 pub mod OrderLaws
+pub mod QuoteLemmas
 pub mod TimeLemmas

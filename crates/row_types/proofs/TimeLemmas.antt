@@ -129,8 +129,8 @@ date_is_time date time year is low =
     let early : days_from_civil (pos 1) 1 1 ≤ℤ days_from_civil date.year date.month date.day = rw is (first_of_year year 1 date.month date.day civil (omega arith) low) in
     let last = dates.epoch_day_range date in
     record {
-        first = omega (arith, signed_arith, day_count-first, days_from_civil-day_count (pos 1) 1 1, last.1, time.hour_in, time.minute_in, time.second_in);
-        last = omega (arith, signed_arith, last.1, time.hour_in, time.minute_in, time.second_in)
+      first = omega (arith, signed_arith, day_count-first, days_from_civil-day_count (pos 1) 1 1, last.1, time.hour_in, time.minute_in, time.second_in);
+      last = omega (arith, signed_arith, last.1, time.hour_in, time.minute_in, time.second_in);
     }
 
 pub time_at_is : (date : Date) (time : Time) (y m d h mi s : ℕ) → is_date y m d ≡ true → date.year ≡ pos y → date.month ≡ m → date.day ≡ d → is_clock h mi s ≡ true → time.hour ≡ h → time.minute ≡ mi → time.second ≡ s → time_at y m d h mi s ≡ Some (civil_seconds (record { date = date; time = time }))

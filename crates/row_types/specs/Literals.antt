@@ -75,6 +75,6 @@ value_of bytes =
     else integer_value bytes))
 
 -- why a literal is refused: it has no value, or memory was wanting
-abbrev pub IsNoValue : List ℕ → Refused → Type 0
-IsNoValue bytes (Rule rule) = (value_of bytes ≡ None) × (rule ≡ record { code = OutOfRange; detail = NoType })
-IsNoValue bytes Memory = Unit {0}
+abbrev pub IsLiteralRefusal : List ℕ → Refused → Type 0
+IsLiteralRefusal bytes (Rule rule) = (value_of bytes ≡ None) × (rule ≡ record { code = OutOfRange; detail = NoType })
+IsLiteralRefusal bytes Memory = Unit {0}

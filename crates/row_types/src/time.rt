@@ -114,14 +114,7 @@ fn two_digits(number: u8) -> [u8; 2]
     [b'0' + number / 10, b'0' + number % 10]
 }
 
-fn time_at(
-    year: u16,
-    month: u16,
-    day: u16,
-    hour: u16,
-    minute: u16,
-    second: u16,
-) -> Option<Time>
+fn time_at(year: u16, month: u16, day: u16, hour: u16, minute: u16, second: u16) -> Option<Time>
     requires date { (year < 10000) × (month < 100) × (day < 100) }
     requires clock { (hour < 100) × (minute < 100) × (second < 100) }
     ensures { result ≡ time_at year month day hour minute second }

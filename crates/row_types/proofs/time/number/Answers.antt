@@ -1,5 +1,5 @@
 -- One digit more.
-use Rattle.std.proofs.Common.{◌≡◌, ◌+◌, ◌<◌, add-one, arith, rules}
+use Rattle.std.proofs.Common.{add-one, arith}
 use Rattle.std.proofs.Math.Nat.{pow-suc}
 use Rattle.std.proofs.lemmas.Int.Digits.{digits_value_more}
 use Rattle.std.proofs.lemmas.Str.{digit_value_digit}
@@ -14,6 +14,6 @@ loop-digit-preserved c =
     let is = digit_at digits i (numerals.to digits c.requires.digits) c.loop-digit-test.true in
     let digit = digit_value_digit _ is in
     record {
-        value = omega (arith, digits_value_more 10 digits i c.loop-digit-test.true, digit, is, c.loop-digit.invariant.value, c.from.ensures);
-        bound = rw (add-one, pow-suc) (omega (arith, is, c.loop-digit.invariant.bound, c.from.ensures))
+      value = omega (arith, digits_value_more 10 digits i c.loop-digit-test.true, digit, is, c.loop-digit.invariant.value, c.from.ensures);
+      bound = rw (add-one, pow-suc) (omega (arith, is, c.loop-digit.invariant.bound, c.from.ensures));
     }

@@ -6,5 +6,5 @@ use Rattle.row_types.proofs.time.number.Given as goal
 abbrev pub invariant-loop-digit : goal.invariant-loop-digit
 invariant-loop-digit l = record {
   value : l.number ≡ digits_value 10 (take l.digit-index l.digits);
-  bound : l.number < 10 ^ l.digit-index
+  bound : l.number < 10 ^ l.digit-index;
 }

@@ -1,5 +1,5 @@
 -- The seconds of the date and the time of day.
-use Rattle.std.proofs.Common.{◌≡◌, ap, ◌∙◌, sym, Some, arith, to_z, of_z, w64}
+use Rattle.std.proofs.Common.{◌≡◌, sym, Some, arith, to_z, of_z, w64}
 use Rattle.jiff_core.proofs.SignedLemmas.{signed_arith}
 use Rattle.row_types.specs.Times.{IsTime}
 use Rattle.row_types.specs.TimeTexts.{time_at}
@@ -21,5 +21,5 @@ returns c =
     let date = c.in_ok-date.ensures in
     let clock = c.in_ok-time.ensures in
     let is : time_at c.args.year c.args.month c.args.day c.args.hour c.args.minute c.args.second ≡ Some result =
-        rw c.to_second.ensures.value (time_at_is c.in_ok-date.date c.in_ok-time.time _ _ _ _ _ _ date.0 date.1 date.2 date.3 clock.0 clock.1 clock.2 clock.3) in
+    rw c.to_second.ensures.value (time_at_is c.in_ok-date.date c.in_ok-time.time _ _ _ _ _ _ date.0 date.1 date.2 date.3 clock.0 clock.1 clock.2 clock.3) in
     rw back (sym is)
