@@ -25,7 +25,7 @@ numerals = numerals_by_value _ (search rules)
 integer_parts : (bytes : List ℕ) → is_integer bytes ≡ true → (0 < length (digits_of bytes)) × (list_all is_ascii_digit (digits_of bytes) ≡ true)
 integer_parts bytes h = grind (arith, nat_tests)
 
-value_if : (bytes : List ℕ) (held : Bool) → is_integer bytes ≡ true → holds TtBigint (Integer (integer_of bytes)) ≡ held → integer_value bytes ≡ cond held (Some (Integer (integer_of bytes))) None
+pub value_if : (bytes : List ℕ) (held : Bool) → is_integer bytes ≡ true → holds TtBigint (Integer (integer_of bytes)) ≡ held → integer_value bytes ≡ cond held (Some (Integer (integer_of bytes))) None
 value_if bytes held is e = rw (is, e)
 
 within_negative : (v : ℕ) → v ≤ 2 ^ 63 → holds TtBigint (Integer (neg_ℤ (pos v))) ≡ true

@@ -5,7 +5,7 @@ use Rattle.std.specs.List.{list_any, starts_with}
 use Rattle.std.proofs.lemmas.Bool.Decides.{nat_tests}
 use Rattle.row_types.specs.Literals.{undoubled}
 
-undoubled-plain : (b : ℕ) (bytes : List ℕ) → nat_eq b 39 ≡ false → undoubled (b ∷ bytes) ≡ option_map (λ text. b ∷ text) (undoubled bytes)
+pub undoubled-plain : (b : ℕ) (bytes : List ℕ) → nat_eq b 39 ≡ false → undoubled (b ∷ bytes) ≡ option_map (λ text. b ∷ text) (undoubled bytes)
 unfolding undoubled
 undoubled-plain b [] plain = rw plain
 undoubled-plain b (c ∷ bytes) plain = rw plain

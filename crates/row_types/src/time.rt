@@ -91,7 +91,8 @@ impl Time {
         ]
     }
 
-    fn date(self) -> civil::Date
+    /// The date of the time's day.
+    pub(crate) fn date(self) -> civil::Date
         ensures day { epoch_day result ≡ day_number self }
         ensures year { pos 1 ≤ℤ result.year }
     {
