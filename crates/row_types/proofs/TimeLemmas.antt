@@ -1,15 +1,18 @@
 -- The calendar of times and their texts.
-use Rattle.std.proofs.Common.{◌≡◌, ℕ, zero, suc, ◌-◌, ◌<◌, ◌≤◌, refl, ◌∷◌, ◌++◌, arith, ℤ, pos, negsuc, ◌-ℤ◌, ◌<ℤ◌, ◌≤ℤ◌, unsigned_abs, int_lt, true, false, rules}
+use Rattle.std.proofs.Common.{◌≡◌, ℕ, zero, suc, ◌-◌, ◌<◌, ◌≤◌, refl, ◌∷◌, ◌++◌, arith, ℤ, pos, negsuc, ◌-ℤ◌, ◌<ℤ◌, ◌≤ℤ◌, Some, unsigned_abs, int_lt, true, false, rules}
 use Rattle.row_types.proofs.Cases.{by_order}
 use Rattle.std.proofs.lemmas.Int.{ints, by_lt_z}
-use Rattle.jiff_core.specs.Calendar.{days_from_civil, day_count, IsCivilDate}
+use Rattle.jiff_core.specs.Calendar.{days_from_civil, days_in_month, day_count, IsCivilDate}
 use Rattle.jiff_core.proofs.CalendarLemmas.{days_from_civil-day_count, day_count-day_of_year, day_count-lt_year, day_count-lt_month, day_count-day}
 use Rattle.jiff_core.proofs.MarchLemmas.{day_count-early}
 use Rattle.jiff_core.proofs.SignedLemmas.{signed_arith}
 use Rattle.jiff_core.specs.declared.civil.date.Date.{Date}
+use Rattle.jiff_core.specs.declared.civil.time.Time.{Time}
+use Rattle.jiff_core.specs.DateTime.{civil_seconds}
+use Rattle.std.proofs.lemmas.Bool.Decides.{nat_tests}
 use Rattle.jiff_core.proofs.DateLemmas as dates
 use Rattle.row_types.specs.Times.{IsTime}
-use Rattle.row_types.specs.TimeTexts.{begun_by, year_of, month_of, day_of, time_text, date_text, clock_text, day_number, second_of_day}
+use Rattle.row_types.specs.TimeTexts.{begun_by, year_of, month_of, day_of, time_text, date_text, clock_text, day_number, second_of_day, is_date, is_clock, time_at}
 
 -- of n starts, those up to the k-th have come
 begun_by_is : (day : ℤ) (start : ℕ → ℤ) (n k : ℕ) → k ≤ n → ((i : ℕ) → 1 ≤ i → i ≤ k → start i ≤ℤ day) → ((i : ℕ) → k < i → i ≤ n → day <ℤ start i) → begun_by day start n ≡ k
@@ -113,3 +116,24 @@ date_time_text seconds date year day is low =
 pub positive : (z : ℤ) → pos 1 ≤ℤ z → z ≡ pos (unsigned_abs z)
 positive (pos n) low = refl
 positive (negsuc n) low = absurd (omega (arith, ints))
+
+-- the test of a date says what it names
+pub date_test : (y m d : ℕ) → is_date y m d ≡ true → (1 ≤ y) × (y ≤ 9999) × (1 ≤ m) × (m ≤ 12) × (1 ≤ d) × (d ≤ days_in_month (pos y) m)
+date_test y m d h = grind (arith, nat_tests)
+
+-- the time on a date is one of the years 0001 to 9999
+pub date_is_time : (date : Date) (time : Time) (year : ℕ) → date.year ≡ pos year → 1 ≤ year → IsTime (civil_seconds (record { date = date; time = time }))
+unfolding civil_seconds
+date_is_time date time year is low =
+    let civil : IsCivilDate (pos year) date.month date.day = rw is at (dates.civil date) in
+    let early : days_from_civil (pos 1) 1 1 ≤ℤ days_from_civil date.year date.month date.day = rw is (first_of_year year 1 date.month date.day civil (omega arith) low) in
+    let last = dates.epoch_day_range date in
+    record {
+      first = omega (arith, signed_arith, day_count-first, days_from_civil-day_count (pos 1) 1 1, last.1, time.hour_in, time.minute_in, time.second_in);
+      last = omega (arith, signed_arith, last.1, time.hour_in, time.minute_in, time.second_in);
+    }
+
+pub time_at_is : (date : Date) (time : Time) (y m d h mi s : ℕ) → is_date y m d ≡ true → date.year ≡ pos y → date.month ≡ m → date.day ≡ d → is_clock h mi s ≡ true → time.hour ≡ h → time.minute ≡ mi → time.second ≡ s → time_at y m d h mi s ≡ Some (civil_seconds (record { date = date; time = time }))
+unfolding civil_seconds
+time_at_is date time y m d h mi s date_is year month day clock_is hour minute second =
+    rw (date_is, clock_is, year, month, day, hour, minute, second)

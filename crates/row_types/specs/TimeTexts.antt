@@ -1,11 +1,13 @@
 -- The text of a time, `YYYY-MM-DD HH:MM:SS`, on the Gregorian calendar. (TimesTen SQL Reference, "Datetime literals";
 -- the calendar's words are those of the crate jiff_core.)
 
-use Rattle.std.specs.Prelude.{ℕ, zero, suc, ◌+◌, ◌*◌, ◌/◌, ◌%◌, ◌==◌, nat_le, Bool, ◌&&◌, if◌then◌else◌, List, [], ◌∷◌, ◌++◌, length, slice_index, slice_range, Option, Some, None, ℤ, pos, int_lt, ◌+ℤ◌, ◌-ℤ◌, ◌*ℤ◌, unsigned_abs}
+use Rattle.std.specs.Prelude.{ℕ, zero, suc, ◌+◌, ◌*◌, ◌/◌, ◌%◌, ◌==◌, nat_le, Bool, true, false, ◌&&◌, ◌≡◌, if◌then◌else◌, List, [], ◌∷◌, ◌++◌, length, slice_index, slice_range, Option, Some, None, ℤ, pos, int_lt, ◌+ℤ◌, ◌-ℤ◌, ◌*ℤ◌, unsigned_abs}
 use Rattle.std.specs.Int.{int_div_euclid, int_rem_euclid}
 use Rattle.std.specs.List.{list_all}
 use Rattle.std.specs.Char.{is_ascii_digit}
 use Rattle.std.specs.Str.Parse.{digits_value}
+use Rattle.jiff_core.specs.declared.civil.date.Date.{Date}
+use Rattle.jiff_core.specs.declared.civil.time.Time.{Time}
 use Rattle.jiff_core.specs.Calendar.{days_from_civil, days_in_month}
 
 -- how many of the starts 1 to n have come by the day
@@ -85,14 +87,29 @@ abbrev pub has_numbers : List ℕ → Bool
 has_numbers text =
     has_digits text 0 4 && has_digits text 5 7 && has_digits text 8 10 && has_digits text 11 13 && has_digits text 14 16 && has_digits text 17 19
 
+abbrev pub has_form : List ℕ → Bool
+has_form text = has_marks text && has_numbers text
+
 -- the time that these parts name
 abbrev pub time_at : ℕ → ℕ → ℕ → ℕ → ℕ → ℕ → Option ℤ
 time_at year month day hour minute second =
     if is_date year month day && is_clock hour minute second then Some (seconds_of year month day hour minute second) else None
 
 -- the time that a text names
-unfoldable pub time_of : List ℕ → Option ℤ
+abbrev pub time_of : List ℕ → Option ℤ
 time_of text =
-    if has_marks text && has_numbers text
+    if has_form text
     then time_at (number_in text 0 4) (number_in text 5 7) (number_in text 8 10) (number_in text 11 13) (number_in text 14 16) (number_in text 17 19)
     else None
+
+-- the calendar's date of this year, month and day
+abbrev pub IsDateAt : ℕ → ℕ → ℕ → Option Date → Type 0
+IsDateAt year month day None = is_date year month day ≡ false
+IsDateAt year month day (Some date) =
+    (is_date year month day ≡ true) × (date.year ≡ pos year) × (date.month ≡ month) × (date.day ≡ day)
+
+-- the clock's time of this hour, minute and second
+abbrev pub IsClockAt : ℕ → ℕ → ℕ → Option Time → Type 0
+IsClockAt hour minute second None = is_clock hour minute second ≡ false
+IsClockAt hour minute second (Some time) =
+    (is_clock hour minute second ≡ true) × (time.hour ≡ hour) × (time.minute ≡ minute) × (time.second ≡ second) × (time.subsec_nanosecond ≡ 0)
