@@ -7,4 +7,4 @@ pub mod operation;
 
 pub use definition::{BackingSchema, ForeignKey, TableDef};
 pub use history::{Entry, History, Sealed};
-pub use operation::{Op, Ops};
+pub use operation::{Op, Ops, copied_ops, same_ops};
