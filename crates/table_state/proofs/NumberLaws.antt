@@ -19,5 +19,5 @@ pub too_great : (digits : List ℕ) (i n : ℕ) → n ≡ number_of (take i digi
 too_great digits i n e lt h =
     let whole : number_of digits ≡ fold with_digit (with_digit n (get_or digits i 0)) (drop (i + 1) digits) =
         ap number_of (sym (take-append-drop i digits)) ∙ fold-append with_digit 0 (take i digits) (drop i digits) ∙ ap (λ m. fold with_digit m (drop i digits)) (sym e) ∙ ap (fold with_digit n) (drop_more digits i 0 lt) in
-    let great : 4000 < fold with_digit (with_digit n (get_or digits i 0)) (drop (i + 1) digits) = grown _ _ h in
+    let great : 4000 < fold with_digit (with_digit n (get_or digits i 0)) (drop (i + 1) digits) = grown (with_digit n (get_or digits i 0)) (drop (i + 1) digits) h in
     omega arith

@@ -1,6 +1,6 @@
 //! Declared tables checked against a schema, and their limits.
 
-ghost use Rattle.std.specs.Prelude.{◌≡◌, None, IfErr, IfOk, OnOk, length, map, option_copied, position, unwrap_or};
+ghost use Rattle.std.specs.Prelude.{◌≡◌, [], ◌∷◌, None, IfErr, IfOk, OnOk, length, map, option_copied, position};
 ghost use Rattle.tier_base.specs.declared.code.Code.TheVariants as code;
 ghost use Rattle.table_state.specs.Declarations.{IsRefusedBy, Tells, broken_at, fault_of, foreign_places, key_fault, key_places, limit_of, places_of, refuses_null, resolved, resolved_column, resolved_reference, type_fault};
 ghost use Rattle.std.specs.Option.{option_map};
@@ -116,21 +116,37 @@ fn resolved_columns(
     let declared = declaration.columns.as_slice();
     let mut columns = Vec::with_capacity(alloc, declared.len())?;
     for column in declared {
-        match type_of(&column.ty) {
-            None => {
-                return Err(Refused::Rule(Rule {
-                    code: Code::OutOfRange,
-                    detail: Detail::NoType,
-                }));
-            }
-            Some(ty) => {
-                let name = column.name.copied(alloc)?;
-                let not_null = refuses_null(declaration, column);
-                columns.push(Column { name, ty, not_null })?;
-            }
+        let column = resolved_column(alloc, declaration, column)?;
+        match columns.push(column) {
+            Ok(()) => {}
+            Err(_) => return Err(Refused::Memory),
         }
     }
     Ok(Seq::from_vec(columns))
+}
+
+fn resolved_column(
+    alloc: Global,
+    declaration: &TableDeclaration,
+    column: &ColumnDeclaration,
+) -> Result<Column, Refused>
+    ensures told { Tells result (type_fault (column.now ∷ [])) }
+    ensures column { IfOk result (λ made. made ≡ resolved_column declaration.now column.now) }
+{
+    match type_of(&column.ty) {
+        None => Err(Refused::Rule(Rule {
+            code: Code::OutOfRange,
+            detail: Detail::NoType,
+        })),
+        Some(ty) => match column.name.copied(alloc) {
+            Err(_) => Err(Refused::Memory),
+            Ok(name) => Ok(Column {
+                name,
+                ty,
+                not_null: refuses_null(declaration, column),
+            }),
+        },
+    }
 }
 
 // Whether the column is declared so, or is one of a key.
@@ -151,19 +167,18 @@ fn key_places(alloc: Global, declaration: &TableDeclaration) -> Result<Seq<usize
     let names = key_names(declaration);
     if names.is_empty() {
         let mut places = Seq::new(alloc);
-        places.push(own_key(columns))?;
+        places.push(own_key(columns).unwrap_or(0))?;
         Ok(places)
     } else {
         places_of(alloc, columns, names)
     }
 }
 
-// The place of the column with PRIMARY KEY behind it, 0 where there is none.
-fn own_key(columns: &[ColumnDeclaration]) -> usize
-    ensures { result ≡ unwrap_or (position (λ c. c.primary_key) columns.now) 0 }
+// The place of the column with PRIMARY KEY behind it.
+fn own_key(columns: &[ColumnDeclaration]) -> Option<usize>
+    ensures { result ≡ position (λ c. c.primary_key) columns.now }
 {
-    let place = columns.iter().position(|column| column.primary_key);
-    place.unwrap_or(0)
+    columns.iter().position(|column| column.primary_key)
 }
 
 // The places of the columns of these names.
