@@ -1,8 +1,17 @@
 //! Laws of the definitions, each on the contract of a function that does nothing.
 
+ghost use Rattle.std.specs.Prelude.{◌≡◌, ◌≤◌, ◌++◌, ℕ, ℤ, List, length, codes, true, Some};
+ghost use Rattle.row_types.specs.Columns.{holds};
+ghost use Rattle.row_types.specs.Literals.{value_of};
 ghost use Rattle.row_types.specs.Order.{key_order, order_of};
+ghost use Rattle.row_types.specs.Printing.{printed};
+ghost use Rattle.row_types.specs.TimeTexts.{time_of, time_text};
+ghost use Rattle.row_types.specs.declared.column.Ty.TheVariants.{TtBigint};
+ghost use Rattle.row_types.specs.declared.value.Value.TheVariants as value;
 ghost use Rattle.std.specs.FinMap.{IsAntisymmetric};
 ghost use Rattle.std.specs.Cmp.{IsTotalOrder};
+
+use crate::time::Time;
 
 /// The order of values is total, and only the same values are equal in it.
 pub fn order_law()
@@ -15,3 +24,21 @@ pub fn key_order_law()
     ensures total { IsTotalOrder key_order }
     ensures exact { IsAntisymmetric key_order }
 {}
+
+/// What is printed of NULL, of a number of 64 signed bits and of a text of 1 to 4,000 bytes is a literal of it.
+pub fn printed_literal_law()
+    ensures null { value_of (printed value.Null) ≡ Some value.Null }
+    ensures integer { (n : ℤ) → holds TtBigint (value.Integer n) ≡ true
+        → value_of (printed (value.Integer n)) ≡ Some (value.Integer n) }
+    ensures text { (text : List ℕ) → 1 ≤ length text → length text ≤ 4000
+        → value_of (printed (value.Text text)) ≡ Some (value.Text text) }
+{}
+
+/// What is printed of a time names it, alone and in a literal.
+pub fn time_text_law(time: Time)
+    ensures text { time_of (time_text time) ≡ Some time }
+    ensures literal { value_of (codes "TIMESTAMP '" ++ time_text time ++ codes "'")
+        ≡ Some (value.Time time) }
+{
+    let _date = time.date();
+}

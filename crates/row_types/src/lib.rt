@@ -5,6 +5,8 @@ pub mod column;
 pub mod declaration;
 pub mod key;
 pub mod laws;
+pub mod literal;
+pub mod printing;
 pub mod row;
 pub mod rule;
 pub mod text;
@@ -18,6 +20,8 @@ pub use declaration::{
     ColumnDeclaration, ForeignKeyDeclaration, TableDeclaration, TypeDeclaration,
 };
 pub use key::Key;
+pub use literal::parse_literal;
+pub use printing::{print, print_into, print_key_into};
 pub use row::Row;
 pub use rule::{Detail, Letter, Refused, Rule};
 pub use text::Text;
@@ -25,3 +29,6 @@ pub use time::Time;
 pub use truth::Truth;
 pub use value::{Value, compare, order};
 pub use values::{copied_values, order_of_values, same_values};
+
+#[cfg(test)]
+mod tests;

@@ -1,3 +1,5 @@
+pub mod Declarations
 pub mod Histories
+pub mod Names
 pub mod Operations
 pub mod Tables

@@ -39,6 +39,12 @@ applied (Insert t row) s = on_table s t (with_row s row)
 applied (Update t old new) s = on_table s t (with_change s old new)
 applied (Delete t old) s = on_table s t (without_row s t old)
 
+-- the table of an operation's row
+abbrev pub table_of : Op → TableId
+table_of (Insert t row) = t
+table_of (Update t old new) = t
+table_of (Delete t old) = t
+
 -- from left to right, and none if one doesn't apply
 abbrev pub applied_all : List Op → TableState → Option TableState
 applied_all [] s = Some s

@@ -1,10 +1,15 @@
 //! Table definitions, table states, operations on them, the backing history and footprints.
 #![tactic(auto)]
 
+pub mod check;
 pub mod definition;
+mod faults;
 pub mod history;
+pub mod lookup;
 pub mod operation;
+mod types;
 
 pub use definition::{BackingSchema, ForeignKey, TableDef};
 pub use history::{Entry, History, Sealed};
-pub use operation::{Op, Ops};
+pub use lookup::{find_table, key_at, key_of_row};
+pub use operation::{Op, Ops, copied_ops, same_ops};

@@ -1,0 +1,4 @@
+mod ChunkLaws
+mod StartLaws
+mod EditLaws
+mod SearchLaws

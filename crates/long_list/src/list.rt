@@ -1,0 +1,265 @@
+// The list in chunks.
+
+ghost use Rattle.std.specs.Prelude.{◌≡◌, ◌==◌, ◌≤◌, ◌<◌, ◌+◌, ◌-◌, List, length, OnOk, OnErr, insert, remove, slice_get, slice_index_or, slice_set, [], ◌∷◌, ◌++◌};
+ghost use Rattle.std.specs.Option.{option_copied};
+ghost use Rattle.std.specs.List.Sorted.{IsSearchInRange, IsBinarySearchResult};
+ghost use Rattle.std.specs.declared.cmp.Ordering.{Ordering};
+ghost use Rattle.long_list.specs.Chunks.{begins_up_to};
+
+use crate::starts::{locate, lower_from, raise_from};
+use std::alloc::{AllocError, Global};
+use std::cmp::Ordering;
+use std::marker::Model;
+use std::mem;
+
+// How many elements a chunk has at most.
+const MOST: usize = 256;
+
+/// What a list in order is searched by.
+pub trait Probe<T> {
+    ghost order_gives: { Self → T → Ordering };
+
+    /// How an element stands to what is sought: `Less` before it, `Greater` behind it.
+    fn order(&self, element: &T) -> Ordering
+        ensures { result ≡ order_gives self.now element.now };
+}
+
+/// A list of any length, in which an element is found, put in and taken out by its place.
+///
+/// Reading a place costs a search among the chunks, some tens of nanoseconds in order.
+/// An edit moves at most one chunk, and counts the chunks behind it anew.
+#[derive(Drop)]
+pub struct LongList<T> {
+    chunks: Vec<Vec<T>>,
+    // How many elements stand before each chunk.
+    starts: Vec<usize>,
+    len: usize,
+    alloc: Global,
+}
+
+impl<T> Model for LongList<T> {
+    ghost use Rattle.std.specs.Prelude.{List, map, vec_items};
+    ghost use Rattle.long_list.specs.Chunks.{joined, IsCounted};
+
+    ghost Value = { List T };
+
+    ghost view = { λ l. joined (map vec_items l.chunks.items) };
+
+    ghost invariant = { λ l. IsCounted (map vec_items l.chunks.items) l.starts.items l.len };
+}
+
+impl<T> LongList<T> {
+    /// An empty list. It takes no memory yet.
+    pub fn new(alloc: Global) -> LongList<T>
+        ensures { result ≡ [] }
+    {
+        LongList {
+            chunks: Vec::new(alloc),
+            starts: Vec::new(alloc),
+            len: 0,
+            alloc,
+        }
+    }
+
+    /// How many elements there are.
+    pub fn len(&self) -> usize
+        ensures { result ≡ length self.now }
+    {
+        self.len
+    }
+
+    /// Whether there is no element.
+    pub fn is_empty(&self) -> bool
+        ensures { result ≡ (length self.now == 0) }
+    {
+        self.len == 0
+    }
+
+    /// The element at a place, which is below the length.
+    pub fn at(&self, place: usize) -> &T
+        requires { place < length self.now }
+        ensures { result.now ≡ slice_index_or self.now place result.now }
+    {
+        let (c, i) = locate(&self.chunks, &self.starts, place);
+        &self.chunks[c][i]
+    }
+
+    /// The element at a place, or `None` past the end.
+    pub fn get(&self, place: usize) -> Option<&T>
+        ensures { option_copied result ≡ slice_get self.now place }
+    {
+        if place < self.len() {
+            Some(self.at(place))
+        } else {
+            None
+        }
+    }
+
+    /// Where what is sought is, as `Ok`, or where it would go, as `Err`.
+    pub fn search<P: Probe<T>>(&self, probe: &P) -> Result<usize, usize>
+        ensures bound { IsSearchInRange result (length self.now) }
+        ensures position { IsBinarySearchResult (P.order_gives probe.now) self.now result }
+    {
+        let _len = self.len;
+        let after = self.chunks.partition_point(
+            |chunk: &Vec<T>| -> bool
+                ensures { result ≡ begins_up_to (P.order_gives probe.entry.now) chunk.now.items }
+            {
+                match chunk.first() {
+                    Some(first) => !probe.order(first).is_gt(),
+                    None => true,
+                }
+            },
+        );
+        if after == 0 {
+            return Err(0);
+        }
+        let start = self.starts[after - 1];
+        match self.chunks[after - 1].binary_search_by(
+            |element: &T| -> Ordering
+                ensures { result ≡ P.order_gives probe.entry.now element.now }
+            { probe.order(element) },
+        ) {
+            Ok(i) => Ok(start + i),
+            Err(i) => Err(start + i),
+        }
+    }
+
+    /// Puts another element at a place below the length, and gives back the old one.
+    pub fn replace(&mut self, place: usize, element: T) -> T
+        requires { place < length self.old }
+        ensures old { result ≡ slice_index_or self.old place result }
+        ensures new { self.new ≡ slice_set self.old place element }
+    {
+        let (c, i) = locate(&self.chunks, &self.starts, place);
+        mem::replace(&mut self.chunks[c][i], element)
+    }
+
+    /// Takes out the element at a place below the length. Those behind it move down by one.
+    pub fn remove(&mut self, place: usize) -> T
+        requires { place < length self.old }
+        ensures old { result ≡ slice_index_or self.old place result }
+        ensures new { self.new ≡ remove self.old place }
+    {
+        let (c, i) = locate(&self.chunks, &self.starts, place);
+        lower_from(&mut self.starts, c + 1);
+        self.len -= 1;
+        if self.chunks[c].len() == 1 {
+            let _ = self.starts.remove(c);
+            let mut chunk = self.chunks.remove(c);
+            let element = chunk.remove(0);
+            chunk.destroy_empty();
+            return element;
+        }
+        let element = self.chunks[c].remove(i);
+        self.join_next(c);
+        element
+    }
+
+    // Joins a chunk and the next where both are short, and there is room for it.
+    fn join_next(&mut self, c: usize)
+        ensures { self.new ≡ self.old }
+    {
+        let count = self.chunks.len();
+        if count < 2 || c > count - 2 {
+            return;
+        }
+        let high = self.chunks[c + 1].len();
+        if self.chunks[c].len() > MOST / 4 || high > MOST / 4 {
+            return;
+        }
+        match self.chunks[c].reserve(high) {
+            Ok(()) => {}
+            Err(_) => return,
+        }
+        let mut next = self.chunks.remove(c + 1);
+        let _ = self.starts.remove(c + 1);
+        let _ = self.chunks[c].append(&mut next);
+        next.destroy_empty();
+    }
+
+    /// Puts in an element at a place up to the length. Those from there on move up by one.
+    ///
+    /// It fails for want of memory alone, and the list then is as it was.
+    pub fn insert(&mut self, place: usize, element: T) -> Result<(), AllocError>
+    where
+        T: Drop,
+        requires { place ≤ length self.old }
+        ensures ok { OnOk result (self.new ≡ insert self.old place element) }
+        ensures err { OnErr result (self.new ≡ self.old) }
+    {
+        if self.len == 0 || (place == self.len && self.is_last_full()) {
+            return self.push_chunk(element);
+        }
+        self.make_room(place)?;
+        self.put(place, element)
+    }
+
+    // Whether the last chunk has no room, so that what goes behind it begins a chunk of its own.
+    fn is_last_full(&self) -> bool {
+        match self.chunks.last() {
+            Some(chunk) => chunk.len() >= MOST,
+            None => true,
+        }
+    }
+
+    // Puts an element behind all others, in a chunk of its own.
+    fn push_chunk(&mut self, element: T) -> Result<(), AllocError>
+    where
+        T: Drop,
+        ensures ok { OnOk result (self.new ≡ self.old ++ element ∷ []) }
+        ensures err { OnErr result (self.new ≡ self.old) }
+    {
+        if self.len == usize::MAX {
+            return Err(AllocError);
+        }
+        let mut chunk = Vec::new(self.alloc);
+        chunk.push(element)?;
+        self.starts.reserve(1)?;
+        self.chunks.push(chunk)?;
+        self.starts.push(self.len)?;
+        self.len += 1;
+        Ok(())
+    }
+
+    // Puts an element into the chunk of its place.
+    fn put(&mut self, place: usize, element: T) -> Result<(), AllocError>
+    where
+        T: Drop,
+        requires within { place ≤ length self.old }
+        requires some { 0 < length self.old }
+        ensures ok { OnOk result (self.new ≡ insert self.old place element) }
+        ensures err { OnErr result (self.new ≡ self.old) }
+    {
+        if self.len == usize::MAX {
+            return Err(AllocError);
+        }
+        let (c, i) = locate(&self.chunks, &self.starts, place);
+        self.chunks[c].insert(i, element)?;
+        raise_from(&mut self.starts, c + 1);
+        self.len += 1;
+        Ok(())
+    }
+
+    // Splits the chunk of a place where it is full.
+    fn make_room(&mut self, place: usize) -> Result<(), AllocError>
+    where
+        T: Drop,
+        requires { 0 < length self.old }
+        ensures { self.new ≡ self.old }
+    {
+        let (c, _) = locate(&self.chunks, &self.starts, place);
+        let len = self.chunks[c].len();
+        if len < MOST {
+            return Ok(());
+        }
+        let half = len / 2;
+        self.starts.reserve(1)?;
+        self.chunks.reserve(1)?;
+        let high = self.chunks[c].split_off(half)?;
+        let start = self.starts[c] + half;
+        self.chunks.insert(c + 1, high)?;
+        self.starts.insert(c + 1, start)?;
+        Ok(())
+    }
+}

@@ -1,0 +1,6 @@
+pub mod Bank
+pub mod Calls
+pub mod Clocks
+pub mod Faults
+pub mod Holding
+pub mod Writing
