@@ -1,0 +1,13 @@
+use Rattle.std.proofs.Common.{refl, sym}
+use Rattle.sql_subset.specs.Reading.{at_comma, with_last, literal_of, literals_of}
+use Rattle.sql_subset.proofs.Chains.{chain_more, chain_ends}
+use Rattle.sql_subset.proofs.Shrinking.{literal_shrinks}
+use Rattle.sql_subset.proofs.reading.read_literals.Goals as goal
+
+pub loop-rest-preserved : goal.loop-rest-preserved
+loop-rest-preserved c =
+    chain_more _ _ at_comma with_last literal_of (literals_of c.args.r) literal_shrinks refl c.loop-rest.literals.items _ c.in_ok-literal.literal c.loop-rest.rest c.skip.result c.in_ok-literal.behind c.loop-rest.invariant
+    c.loop-rest-test.ensures c.skip.ensures c.in_ok-literal.ensures c.in_ok-push-2.ensures.items
+
+pub returns : goal.returns
+returns c = rw c.from_vec.ensures (chain_ends _ _ at_comma with_last literal_of (literals_of c.args.r) c.loop-rest.literals.items c.loop-rest.rest c.loop-rest.invariant (sym c.loop-rest-test.ensures))

@@ -1,0 +1,104 @@
+-- What a request line says.
+use Rattle.std.specs.Prelude.{ℕ, ◌≡◌, Bool, true, false, nat_eq, nat_lt, List, [], ◌∷◌, length, slice_get, drop, map, codes, bytes_eq, Option, Some, None, Result, Ok, Err, if◌then◌else◌}
+use Rattle.tier_base.specs.Labels.{is_label}
+use Rattle.sql_tokens.specs.declared.kind.Kind.{Kind}
+use Rattle.sql_tokens.specs.Lexing.{Lexeme, lexed}
+use Rattle.sql_tokens.specs.Heads.{head_of, head_end, good_length}
+use Rattle.sql_grammar.specs.declared.start.Start.{Start}
+use Rattle.sql_grammar.specs.declared.start.Start.TheVariants as starts
+use Rattle.sql_grammar.specs.declared.engine.Verdict.TheVariants as verdicts
+use Rattle.sql_grammar.specs.Verdict.{IsSpelt, Judged}
+use Rattle.sql_subset.specs.declared.stmt.Stmt.{Stmt}
+use Rattle.sql_subset.specs.declared.request.Line.{Line}
+use Rattle.sql_subset.specs.declared.request.Line.TheVariants as line
+use Rattle.sql_subset.specs.declared.request.ParseError.{ParseError}
+use Rattle.sql_subset.specs.declared.request.ParseError.TheVariants as e
+use Rattle.sql_subset.specs.Statements.{statement_of, request_of, console_of}
+
+-- The line is empty or a comment: it has no reply.
+abbrev pub is_silent : List ℕ → Bool
+is_silent [] = true
+is_silent (b ∷ bytes) = nat_eq b 35
+
+-- who speaks: a session, or the console
+abbrev pub start_of : List ℕ → Option Start
+start_of head =
+    if bytes_eq head (codes "backing") then Some starts.Console
+    else if bytes_eq head (codes "clock") then None
+    else if is_label head then Some starts.Session
+    else None
+
+-- what each token is
+abbrev pub kinds_in : List Lexeme → List Kind
+kinds_in ls = map (λ l. l.kind) ls
+
+-- the byte at which the token stands, or the end
+abbrev pub place_or : ℕ → Option Lexeme → ℕ
+place_or end None = end
+place_or end (Some l) = l.place
+
+-- the byte at which the i-th token stands, or the end
+abbrev pub place_at : List Lexeme → ℕ → ℕ → ℕ
+place_at ls i end = place_or end (slice_get ls i)
+
+-- what the tokens of a request say, the colon being the first
+abbrev pub line_of : Start → List ℕ → List Lexeme → Line
+line_of starts.Console head ls = line.Console (console_of (drop 1 ls))
+line_of starts.Session head ls = line.Session head (request_of (drop 1 ls))
+line_of starts.Statement head ls = line.Session head (request_of ls)
+
+-- What a line says.
+pub data Saying : Type 0 where
+  -- nothing: it is empty or a comment
+  Silent : Saying
+  -- this request
+  Says : Line → Saying
+  -- it is spelt wrong at this byte
+  WrongAt : ℕ → Saying
+  -- it goes on too deep
+  TooDeep : Saying
+
+-- What the tokens behind a head say, by the grammar of who speaks, in a line of this length.
+abbrev pub Spoken : Start → List ℕ → ℕ → List Lexeme → Saying → Type 0
+Spoken s head end ls Silent = ⊥
+Spoken s head end ls (Says l) = IsSpelt s 32 (kinds_in ls) × (l ≡ line_of s head ls)
+Spoken s head end ls (WrongAt p) = (i : ℕ) × (p ≡ place_at ls i end) × Judged s (kinds_in ls) (verdicts.At i)
+Spoken s head end ls TooDeep = Judged s (kinds_in ls) verdicts.Deep
+
+-- The answer to tokens: what they say, or want of memory.
+abbrev pub Told : Start → List ℕ → ℕ → List Lexeme → Result Line ParseError → Type 0
+Told s head end ls (Ok l) = Spoken s head end ls (Says l)
+Told s head end ls (Err (e.At p)) = Spoken s head end ls (WrongAt p)
+Told s head end ls (Err e.Depth) = Spoken s head end ls TooDeep
+Told s head end ls (Err e.Memory) = Unit {0}
+
+-- What a line says of which the tokens count, or not for its first bad byte.
+abbrev pub Checked : Bool → Start → List ℕ → Saying → Type 0
+Checked true s bytes x = x ≡ WrongAt (good_length bytes)
+Checked false s bytes x = Spoken s (head_of bytes) (length bytes) (lexed (head_end bytes) bytes) x
+
+-- What a line says of which this one speaks: without a label it is wrong at its first byte.
+abbrev pub Headed : Option Start → List ℕ → Saying → Type 0
+Headed None bytes x = x ≡ WrongAt 0
+Headed (Some s) bytes x = Checked (nat_lt (good_length bytes) (length bytes)) s bytes x
+
+-- What a line says that is silent, or not.
+abbrev pub Heard : Bool → List ℕ → Saying → Type 0
+Heard true bytes x = x ≡ Silent
+Heard false bytes x = Headed (start_of (head_of bytes)) bytes x
+
+-- What a line says (this project's rule).
+abbrev pub Means : List ℕ → Saying → Type 0
+Means bytes x = Heard (is_silent bytes) bytes x
+
+-- The answer to a line: what it says, or want of memory, which no silent line meets.
+abbrev pub Answers : List ℕ → Result (Option Line) ParseError → Type 0
+Answers bytes (Ok None) = Means bytes Silent
+Answers bytes (Ok (Some l)) = Means bytes (Says l)
+Answers bytes (Err (e.At p)) = Means bytes (WrongAt p)
+Answers bytes (Err e.Depth) = Means bytes TooDeep
+Answers bytes (Err e.Memory) = is_silent bytes ≡ false
+
+-- The bytes spell this statement.
+abbrev pub Spells : List ℕ → Stmt → Type 0
+Spells bytes s = (length bytes ≡ good_length bytes) × IsSpelt starts.Statement 32 (kinds_in (lexed 0 bytes)) × (s ≡ statement_of (lexed 0 bytes))

@@ -1,0 +1,95 @@
+-- What the tokens at the front say: names, literals, and lists of them. On tokens that no statement has these functions
+-- give some value, which no line says.
+use Rattle.std.specs.Prelude.{ℕ, zero, suc, Bool, true, false, nat_eq, List, [], ◌∷◌, ◌++◌, length, drop, codes, if◌then◌else◌}
+use Rattle.tier_base.specs.Names.{folded, is_name}
+use Rattle.sql_tokens.specs.declared.kind.Kind.{Kind}
+use Rattle.sql_tokens.specs.declared.kind.Kind.TheVariants.{Bad, Comma, Dot, Minus, Null, Text}
+use Rattle.sql_tokens.specs.Kinds.{is_kind}
+use Rattle.sql_tokens.specs.Lexing.{Lexeme}
+use Rattle.sql_subset.specs.declared.stmt.IntegerLiteral.{IntegerLiteral}
+use Rattle.sql_subset.specs.declared.stmt.Literal.{Literal}
+use Rattle.sql_subset.specs.declared.stmt.Literal.TheVariants as literals
+use Rattle.sql_subset.specs.declared.stmt.Comparison.{Comparison}
+
+-- what the first token is
+abbrev pub first_kind : List Lexeme → Kind
+first_kind [] = Bad
+first_kind (l ∷ ls) = l.kind
+
+-- the bytes of the first token
+abbrev pub first_text : List Lexeme → List ℕ
+first_text [] = []
+first_text (l ∷ ls) = l.text
+
+-- the first token is of this kind
+abbrev pub begins : Kind → List Lexeme → Bool
+begins k ls = is_kind (first_kind ls) k
+
+-- the bytes as a name, folded
+abbrev pub name_from : List ℕ → List ℕ
+name_from bytes = if is_name bytes then folded bytes else codes "NONAME"
+
+-- ident
+abbrev pub identifier_of : List Lexeme → List ℕ × List Lexeme
+identifier_of ls = (name_from (first_text ls), drop 1 ls)
+
+-- ident [ "." ident ]
+abbrev pub name_of : List Lexeme → List ℕ × List Lexeme
+name_of ls =
+    if begins Dot (drop 1 ls) then (name_from (first_text ls ++ 46 ∷ first_text (drop 2 ls)), drop 3 ls) else (name_from (first_text ls), drop 1 ls)
+
+-- digits | "-" digits
+abbrev pub integer_of : List Lexeme → IntegerLiteral × List Lexeme
+integer_of ls =
+    if begins Minus ls then (record { negative = true; digits = first_text (drop 1 ls) }, drop 2 ls)
+    else (record { negative = false; digits = first_text ls }, drop 1 ls)
+
+-- the bytes with each quote that is followed by another one as one quote, behind a quote or not
+abbrev pub halved : Bool → List ℕ → List ℕ
+halved behind [] = []
+halved false (b ∷ bs) = if nat_eq b 39 then halved true bs else b ∷ halved false bs
+halved true (b ∷ bs) = 39 ∷ halved false bs
+
+-- the text between the quotes
+abbrev pub unquoted : List ℕ → List ℕ
+unquoted bytes = halved false (drop 1 bytes)
+
+abbrev pub as_literal : IntegerLiteral × List Lexeme → Literal × List Lexeme
+as_literal x = (literals.Integer x.0, x.1)
+
+-- integer | text | NULL
+abbrev pub literal_of : List Lexeme → Literal × List Lexeme
+literal_of ls =
+    if begins Text ls then (literals.Text (unquoted (first_text ls)), drop 1 ls)
+    else if begins Null ls then (literals.Null, drop 1 ls)
+    else as_literal (integer_of ls)
+
+-- the first token is a comma
+abbrev pub at_comma : List Lexeme → Bool
+at_comma ls = begins Comma ls
+
+-- from left to right, while it goes on with a token and a part behind it: f puts one part more in
+abbrev pub chained : {A B : Type 0} → (List Lexeme → Bool) → (A → B → A) → (List Lexeme → B × List Lexeme) → ℕ → A × List Lexeme → A × List Lexeme
+chained g f p zero x = x
+chained g f p (suc n) x = if g x.1 then chained g f p n (f x.0 (p (drop 1 x.1)).0, (p (drop 1 x.1)).1) else x
+
+abbrev pub with_last : {A : Type 0} → List A → A → List A
+with_last xs x = xs ++ x ∷ []
+
+abbrev pub as_list : {A : Type 0} → A × List Lexeme → List A × List Lexeme
+as_list x = (x.0 ∷ [], x.1)
+
+-- ident { "," ident }
+abbrev pub identifiers_of : List Lexeme → List (List ℕ) × List Lexeme
+identifiers_of ls = chained at_comma with_last identifier_of (length ls) (as_list (identifier_of ls))
+
+-- literal { "," literal }
+abbrev pub literals_of : List Lexeme → List Literal × List Lexeme
+literals_of ls = chained at_comma with_last literal_of (length ls) (as_list (literal_of ls))
+
+abbrev pub compared : List ℕ → IntegerLiteral × List Lexeme → Comparison × List Lexeme
+compared column x = (record { column = column; value = x.0 }, x.1)
+
+-- ident "=" integer
+abbrev pub comparison_of : List Lexeme → Comparison × List Lexeme
+comparison_of ls = compared (name_from (first_text ls)) (integer_of (drop 2 ls))

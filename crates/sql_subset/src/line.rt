@@ -1,0 +1,137 @@
+//! Request lines, from their bytes.
+ghost use Rattle.std.specs.Prelude.{◌≡◌, ◌≤◌, ℕ, List, length, IfOk};
+ghost use Rattle.sql_tokens.specs.Lexing.{lexemes_of, lexed};
+ghost use Rattle.sql_subset.specs.Lines.{is_silent, start_of, place_at, line_of, Told, Answers, Means, Saying};
+
+use crate::reader::Reader;
+use crate::request::{Line, ParseError};
+use crate::statements::{read_console, read_request};
+use sql_grammar::engine::{Verdict, one_verdict, recognize};
+use sql_grammar::start::Start;
+use sql_tokens::head::{good_length, head};
+use sql_tokens::lexer::lex;
+use sql_tokens::token::Token;
+use std::alloc::{AllocError, Global};
+use tier_base::Label;
+use tier_base::label::spells_label;
+
+/// Whether the line is empty or a comment, which has no reply.
+pub fn is_silent(bytes: &[u8]) -> bool
+    ensures { result ≡ is_silent bytes.now }
+{
+    match bytes.first() {
+        None => true,
+        Some(byte) => *byte == b'#',
+    }
+}
+
+/// Who speaks, by the head of the line: the console, a session, or no one.
+fn start_of(head: &[u8]) -> Option<Start>
+    ensures { result ≡ start_of head.now }
+{
+    if head == b"backing".as_slice() {
+        return Some(Start::Console);
+    }
+    if head == b"clock".as_slice() {
+        return None;
+    }
+    if spells_label(head) {
+        return Some(Start::Session);
+    }
+    None
+}
+
+/// The byte at which the token stands, or the end.
+fn place_of(line: &[u8], tokens: &[Token], i: usize) -> usize
+    ensures { result ≡ place_at (lexemes_of line.now tokens.now) i (length line.now) }
+{
+    match tokens.get(i) {
+        None => line.len(),
+        Some(token) => token.start,
+    }
+}
+
+/// The request of the tokens behind this head.
+fn read_line(start: Start, head: &[u8], r: Reader<'_>) -> Result<Line, AllocError>
+    ensures { IfOk result (λ line. line ≡ line_of start head.now r.entry) }
+{
+    match start {
+        Start::Console => {
+            let request = read_console(r.skip(1))?;
+            Ok(Line::Console(request))
+        }
+        Start::Session => {
+            let Ok(label) = Label::new(r.alloc(), head) else {
+                return Err(AllocError);
+            };
+            let request = read_request(r.skip(1))?;
+            Ok(Line::Session(label, request))
+        }
+        Start::Statement => {
+            let Ok(label) = Label::new(r.alloc(), head) else {
+                return Err(AllocError);
+            };
+            let request = read_request(r)?;
+            Ok(Line::Session(label, request))
+        }
+    }
+}
+
+/// What the tokens behind the head say.
+fn parse_tokens(
+    alloc: Global,
+    start: Start,
+    head: &[u8],
+    line: &[u8],
+    from: usize,
+) -> Result<Line, ParseError>
+    requires { from ≤ length line.now }
+    ensures { Told start head.now (length line.now) (lexed from line.now) result }
+{
+    let Ok(tokens) = lex(alloc, line, from) else {
+        return Err(ParseError::Memory);
+    };
+    match recognize(alloc, start, &tokens) {
+        Err(_) => return Err(ParseError::Memory),
+        Ok(Verdict::At(i)) => return Err(ParseError::At(place_of(line, &tokens, i))),
+        Ok(Verdict::Deep) => return Err(ParseError::Depth),
+        Ok(Verdict::Fits) => {}
+    }
+    match read_line(start, head, Reader::new(alloc, line, &tokens)) {
+        Ok(line) => Ok(line),
+        Err(_) => Err(ParseError::Memory),
+    }
+}
+
+/// What the line says; nothing where it is silent, for which no memory is taken.
+///
+/// `At` tells the first byte of the first token with which no request goes on, or the line's length at its end; 0
+/// where the line has no label; and the first bad byte where it has one. `Depth` comes where that token goes on only
+/// more than 32 levels deep.
+pub fn parse_line(alloc: Global, bytes: &[u8]) -> Result<Option<Line>, ParseError>
+    ensures { Answers bytes.now result }
+{
+    if is_silent(bytes) {
+        return Ok(None);
+    }
+    let (from, to) = head(bytes);
+    let head = &bytes[from..to];
+    let Some(start) = start_of(head) else {
+        return Err(ParseError::At(0));
+    };
+    let good = good_length(bytes);
+    if good < bytes.len() {
+        return Err(ParseError::At(good));
+    }
+    match parse_tokens(alloc, start, head, bytes, to) {
+        Ok(line) => Ok(Some(line)),
+        Err(error) => Err(error),
+    }
+}
+
+/// Each line says just one thing.
+pub fn one_meaning()
+    ensures { (bytes : List ℕ) (x y : Saying) → Means bytes x → Means bytes y → x ≡ y }
+{
+    one_verdict();
+}

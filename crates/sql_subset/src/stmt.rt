@@ -1,0 +1,169 @@
+//! Statements.
+
+use row_types::{TableDeclaration, Text};
+use tier_base::{Name, Seq};
+
+/// An integer as it is written. Blanks between its sign and its digits don't count.
+#[derive(Drop)]
+pub struct IntegerLiteral {
+    /// Whether a `-` stands before it.
+    pub negative: bool,
+    /// Its digits, leading zeros too.
+    pub digits: Text,
+}
+
+/// A literal as it is written.
+#[derive(Drop)]
+pub enum Literal {
+    /// NULL.
+    Null,
+    /// An integer.
+    Integer(IntegerLiteral),
+    /// A text: its bytes without the quotes around it, `''` in it being one quote.
+    Text(Text),
+}
+
+/// `SELECT * FROM table`
+#[derive(Drop)]
+pub struct Select {
+    /// the table
+    pub table: Name,
+}
+
+/// `INSERT INTO table VALUES (value, ..)`
+#[derive(Drop)]
+pub struct Insert {
+    /// the table
+    pub table: Name,
+    /// the values, in the order of the table's columns
+    pub values: Seq<Literal>,
+}
+
+/// `column = value`
+#[derive(Drop)]
+pub struct Comparison {
+    /// the column, one identifier
+    pub column: Name,
+    /// what it is compared with
+    pub value: IntegerLiteral,
+}
+
+/// `UPDATE table SET column = value [WHERE column = value]`
+#[derive(Drop)]
+pub struct Update {
+    /// the table
+    pub table: Name,
+    /// the column that is set, and its new value
+    pub assignment: Comparison,
+    /// which rows; all where there is none
+    pub filter: Option<Comparison>,
+}
+
+/// `DELETE FROM table [WHERE column = value]`
+#[derive(Drop)]
+pub struct Delete {
+    /// the table
+    pub table: Name,
+    /// which rows; all where there is none
+    pub filter: Option<Comparison>,
+}
+
+/// A statement that writes rows.
+#[derive(Drop)]
+pub enum Write {
+    /// INSERT
+    Insert(Insert),
+    /// UPDATE
+    Update(Update),
+    /// DELETE
+    Delete(Delete),
+}
+
+/// The kind of a cache group.
+#[derive(Clone, Copy, Debug, PartialEq, Eq)]
+pub enum GroupKind {
+    /// READONLY
+    ReadOnly,
+    /// ASYNCHRONOUS WRITETHROUGH
+    AsynchronousWritethrough,
+}
+
+/// How a group is refreshed.
+#[derive(Clone, Copy, Debug, PartialEq, Eq)]
+pub enum RefreshMode {
+    /// by what has changed
+    Incremental,
+    /// in full
+    Full,
+}
+
+/// Whether a group is refreshed by itself.
+#[derive(Clone, Copy, Debug, PartialEq, Eq)]
+pub enum RefreshState {
+    /// at each interval
+    On,
+    /// not
+    Off,
+    /// not before it is loaded
+    Paused,
+}
+
+/// `AUTOREFRESH [MODE mode] [INTERVAL n unit] [STATE state]`, each part that is left out being its
+/// default: INCREMENTAL, 5 MINUTES, PAUSED.
+#[derive(Clone, Copy)]
+pub struct Autorefresh {
+    /// the mode
+    pub mode: RefreshMode,
+    /// the interval in milliseconds; 2^64 - 1 stands for all that is longer
+    pub interval: u64,
+    /// the state
+    pub state: RefreshState,
+}
+
+/// `CREATE kind CACHE GROUP name [AUTOREFRESH ..] FROM table`
+#[derive(Drop)]
+pub struct CreateGroup {
+    /// the group
+    pub name: Name,
+    /// its kind
+    pub kind: GroupKind,
+    /// Its AUTOREFRESH clause. A READONLY group has one, written or not.
+    pub autorefresh: Option<Autorefresh>,
+    /// its table
+    pub table: TableDeclaration,
+}
+
+/// `LOAD CACHE GROUP group`
+#[derive(Drop)]
+pub struct Load {
+    /// the group
+    pub group: Name,
+}
+
+/// `CALL procedure [([argument, ..])]`
+#[derive(Drop)]
+pub struct Call {
+    /// the procedure
+    pub procedure: Name,
+    /// its arguments; none where there are no parentheses
+    pub arguments: Seq<Literal>,
+}
+
+/// A statement of a session.
+#[derive(Drop)]
+pub enum Stmt {
+    /// SELECT
+    Select(Select),
+    /// INSERT
+    Insert(Insert),
+    /// CREATE CACHE GROUP
+    CreateGroup(CreateGroup),
+    /// LOAD CACHE GROUP
+    Load(Load),
+    /// CALL
+    Call(Call),
+    /// COMMIT
+    Commit,
+    /// ROLLBACK
+    Rollback,
+}

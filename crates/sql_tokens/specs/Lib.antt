@@ -1,0 +1,5 @@
+pub mod Kinds
+pub mod Words
+pub mod Lexing
+pub mod States
+pub mod Heads
