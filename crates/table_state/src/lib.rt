@@ -7,9 +7,13 @@ mod faults;
 pub mod history;
 pub mod lookup;
 pub mod operation;
+pub mod refusal;
+pub mod tables;
 mod types;
 
 pub use definition::{BackingSchema, ForeignKey, TableDef};
 pub use history::{Entry, History, Sealed};
 pub use lookup::{find_table, key_at, key_of_row};
 pub use operation::{Op, Ops, copied_ops, same_ops};
+pub use refusal::ApplyError;
+pub use tables::Tables;
