@@ -1,3 +1,4 @@
+pub mod Changes
 pub mod Declarations
 pub mod Histories
 pub mod Names

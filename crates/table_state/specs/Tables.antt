@@ -64,10 +64,11 @@ has_child_in (def ∷ defs) (table ∷ tables) t key = list_any (names_parent t 
 abbrev pub has_child : TableState → TableId → List Value → Bool
 has_child s t key = has_child_in s.schema s.tables t key
 
+-- this row was found
+abbrev pub is_found : List Value → Option (List Value) → Bool
+is_found row None = false
+is_found row (Some found) = is_same found row
+
 -- the table has this row at its key
 abbrev pub is_there : TableDef → List Value → Table → Bool
-is_there def row table = is_found (get table (key_of def.primary_key row))
-  where
-  is_found : Option (List Value) → Bool
-  is_found None = false
-  is_found (Some found) = is_same found row
+is_there def row table = is_found row (get table (key_of def.primary_key row))

@@ -1,10 +1,13 @@
 //! Table definitions, table states, operations on them, the backing history and footprints.
 #![tactic(auto)]
 
+mod change;
 pub mod check;
 pub mod definition;
 mod faults;
+mod fitting;
 pub mod history;
+mod judging;
 pub mod lookup;
 pub mod operation;
 pub mod refusal;
