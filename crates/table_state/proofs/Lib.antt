@@ -1,3 +1,4 @@
+pub mod ChangeLaws
 pub mod ListLaws
 pub mod NumberLaws
 pub mod RefusalLaws

@@ -39,16 +39,14 @@ impl Tables {
         Ok(())
     }
 
-    /// Puts a row over the one that the key has.
-    pub(crate) fn put_over(&mut self, table: TableId, key: Key, row: Row) -> Option<Row>
-        ensures old { result ≡ map.get (table_at self.old table) key }
-        ensures new { self.new ≡ with_table self.old table (put_over (table_at self.old table) key row) }
+    /// Puts a row over the one that the key has. It takes no memory.
+    pub(crate) fn put_over(&mut self, table: TableId, key: Key, row: Row)
+        ensures { self.new ≡ with_table self.old table (put_over (table_at self.old table) key row) }
     {
         let place = table.0 as usize;
-        if place >= self.rows.len() {
-            return None;
+        if place < self.rows.len() {
+            let _ = self.rows[place].replace(key, row);
         }
-        self.rows[place].replace(key, row)
     }
 
     /// Takes out the row of a key.
@@ -67,9 +65,7 @@ impl Tables {
     {
         match undo {
             Undo::Inserted(table, key) => self.take_out(table, &key),
-            Undo::Changed(table, key, row) => {
-                let _ = self.put_over(table, key, row);
-            }
+            Undo::Changed(table, key, row) => self.put_over(table, key, row),
         }
     }
 

@@ -9,6 +9,7 @@ mod fitting;
 pub mod history;
 mod judging;
 pub mod lookup;
+mod operating;
 pub mod operation;
 pub mod refusal;
 pub mod tables;
