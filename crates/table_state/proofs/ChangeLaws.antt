@@ -1,25 +1,22 @@
 -- Laws of changes of rows and of taking them back.
-use Rattle.std.proofs.Common.{◌≡◌, ℕ, zero, suc, ◌<◌, Bool, true, false, cond, not, ◌&&◌, Option, Some, None, OnSome, List, [], ◌∷◌, ◌++◌, length, slice_get, slice_set, unwrap_or, is_some, refl, sym, ap, ◌∙◌, subst, arith}
-use Rattle.std.specs.Option.{option_and_then}
+use Rattle.std.proofs.Common.{◌≡◌, ℕ, zero, suc, Bool, true, false, cond, not, ◌&&◌, Option, Some, None, OnSome, List, [], ◌∷◌, ◌++◌, slice_get, slice_set, unwrap_or, is_some, refl, sym, ap, ◌∙◌}
 use Rattle.std.specs.Cmp.{eq_by_cmp_equiv}
 use Rattle.std.specs.Ordering.{eq_by_cmp, is_eq}
 use Rattle.std.specs.declared.cmp.Ordering.{Ordering}
 use Rattle.std.specs.declared.cmp.Ordering.TheVariants.{Less, Equal, Greater}
-use Rattle.std.specs.FinMap.{empty, contains_key, get, insert, remove, get-insert, get-remove, get_tied, same_map}
+use Rattle.std.specs.FinMap.{empty, contains_key, get, insert, remove, get-insert, get-remove, same_map}
 use Rattle.row_types.specs.declared.value.Value.{Value}
 use Rattle.row_types.specs.Order.{key_order}
 use Rattle.row_types.proofs.OrderLaws.{key_total, key_exact}
 use Rattle.tier_base.specs.declared.number.TableId.{TableId}
-use Rattle.table_state.specs.declared.definition.TableDef.{TableDef}
 use Rattle.table_state.specs.declared.operation.Op.{Op}
 use Rattle.table_state.specs.declared.operation.Op.TheVariants.{Insert, Update, Delete}
 use Rattle.table_state.specs.declared.refusal.ApplyError.{ApplyError}
 use Rattle.table_state.specs.declared.change.Undo.{Undo}
-use Rattle.table_state.specs.declared.change.Undo.TheVariants.{Inserted, Changed}
-use Rattle.table_state.specs.Tables.{Table, TableState, fits_columns, has_child, has_parent, is_found, is_same, is_there, key_of, table_at}
-use Rattle.table_state.specs.Operations.{applied, applied_all, on_table, with_change, with_row, without_row}
+use Rattle.table_state.specs.Tables.{Table, TableState, fits_columns, is_found, is_same, is_there, key_of, table_at}
+use Rattle.table_state.specs.Operations.{applied, with_change, with_row, without_row}
 use Rattle.table_state.specs.declared.refusal.ApplyError.TheVariants as error
-use Rattle.table_state.specs.Refusals.{IsFault, SaysNone, broken_by, broken_by_all, insert_fault, update_fault, delete_fault, in_table}
+use Rattle.table_state.specs.Refusals.{IsFault, SaysNone, broken_by, insert_fault, update_fault, delete_fault}
 use Rattle.table_state.specs.Changes.{IsKeyIn, all_taken_back, put_in, put_over, taken_back, with_table}
 use Rattle.table_state.proofs.RefusalLaws.{insert_is, update_is, delete_is, unbroken, stays_out}
 
@@ -57,9 +54,9 @@ unput m key row absent = ap (λ b. remove (cond b m (insert m key row)) key) abs
       | Greater ↦ λ e. refl
     ] refl)
   where
-  none_of : (o : Option Row) → is_some o ≡ false → o ≡ None
-  none_of None e = refl
-  none_of (Some x) e = cc
+    none_of : (o : Option Row) → is_some o ≡ false → o ≡ None
+    none_of None e = refl
+    none_of (Some x) e = cc
 
 pub unchange : (m : Table) (key old new : Row) → get m key ≡ Some old → put_over (insert m key new) key old ≡ m
 unchange m key old new is = ap (λ b. cond b (insert (insert m key new) key old) (insert m key new)) (there key) ∙ same_map key_total key_exact (insert (insert m key new) key old) m (λ q.
@@ -70,8 +67,8 @@ unchange m key old new is = ap (λ b. cond b (insert (insert m key new) key old)
       | Greater ↦ λ e. refl
     ] refl)
   where
-  there : (k : Row) → is_some (get (insert m k new) k) ≡ true
-  there k = ap is_some (get-insert key_total m k new k ∙ ap (λ b. cond b (Some new) (get m k)) ((eq_by_cmp_equiv key_total).refl k))
+    there : (k : Row) → is_some (get (insert m k new) k) ≡ true
+    there k = ap is_some (get-insert key_total m k new k ∙ ap (λ b. cond b (Some new) (get m k)) ((eq_by_cmp_equiv key_total).refl k))
 
 -- only the same values are the same
 
@@ -112,9 +109,10 @@ inserted s t row key none is_key =
     let at : table_at s t ≡ table = at_table s t table table_is in
     let key_is : key ≡ key_of def.primary_key row = is_key def def_is in
     let put : put_in (table_at s t) key row ≡ insert table (key_of def.primary_key row) row =
-        ap (λ m. put_in m key row) at ∙ ap (λ k. put_in table k row) key_is ∙ ap (λ b. cond b table (insert table (key_of def.primary_key row) row)) absent in
-    (made ∙ ap (λ m. Some (with_table s t m)) (sym put),
-     λ m m_is. ap (λ x. remove (put_in x key row) key) at ∙ unput table key row (ap (contains_key table) key_is ∙ absent) ∙ same_some (sym table_is ∙ m_is))
+    ap (λ m. put_in m key row) at ∙ ap (λ k. put_in table k row) key_is ∙ ap (λ b. cond b table (insert table (key_of def.primary_key row) row)) absent in (
+      made ∙ ap (λ m. Some (with_table s t m)) (sym put),
+      λ m m_is. ap (λ x. remove (put_in x key row) key) at ∙ unput table key row (ap (contains_key table) key_is ∙ absent) ∙ same_some (sym table_is ∙ m_is),
+    )
 
 pub updated : (s : TableState) (t : TableId) (old new key : Row) → broken_by (Update t old new) s ≡ None → IsKeyIn s t old key →
     (applied (Update t old new) s ≡ Some (with_table s t (put_over (table_at s t) key new))) × ((m : Table) → slice_get s.tables t.0 ≡ Some m → put_over (put_over (table_at s t) key new) key old ≡ m)
@@ -127,9 +125,10 @@ updated s t old new key none is_key =
     let key_is : key ≡ key_of def.primary_key old = is_key def def_is in
     let found : get table key ≡ Some old = ap (get table) key_is ∙ row_found old _ there in
     let put : put_over (table_at s t) key new ≡ insert table key new =
-        ap (λ m. put_over m key new) at ∙ ap (λ o. cond (is_some o) (insert table key new) table) found in
-    (made ∙ ap (λ k. Some (with_table s t (insert table k new))) (sym (key_is ∙ same)) ∙ ap (λ m. Some (with_table s t m)) (sym put),
-     λ m m_is. ap (λ x. put_over x key old) put ∙ unchange table key old new found ∙ same_some (sym table_is ∙ m_is))
+    ap (λ m. put_over m key new) at ∙ ap (λ o. cond (is_some o) (insert table key new) table) found in (
+      made ∙ ap (λ k. Some (with_table s t (insert table k new))) (sym (key_is ∙ same)) ∙ ap (λ m. Some (with_table s t m)) (sym put),
+      λ m m_is. ap (λ x. put_over x key old) put ∙ unchange table key old new found ∙ same_some (sym table_is ∙ m_is),
+    )
 
 pub deleted : (s : TableState) (t : TableId) (old key : Row) → broken_by (Delete t old) s ≡ None → IsKeyIn s t old key → applied (Delete t old) s ≡ Some (with_table s t (remove (table_at s t) key))
 deleted s t old key none is_key =
@@ -158,9 +157,9 @@ refuses (Delete t old) s e some = stays_out s t (delete_fault s t old) (without_
 pub unbroken_where_applied : (op : Op) (s n : TableState) → applied op s ≡ Some n → broken_by op s ≡ None
 unbroken_where_applied op s n is = by (broken_by op s) refl
   where
-  by : (f : Option ApplyError) → broken_by op s ≡ f → broken_by op s ≡ None
-  by None e = e
-  by (Some y) e = let none : applied op s ≡ None = refuses op s y e in cc
+    by : (f : Option ApplyError) → broken_by op s ≡ f → broken_by op s ≡ None
+    by None e = e
+    by (Some y) e = let none : applied op s ≡ None = refuses op s y e in cc
 
 -- what a refusal says of the state behind
 pub says_none : (op : Op) (s : TableState) (e : ApplyError) → IsFault (broken_by op s) e → SaysNone (applied op s) e

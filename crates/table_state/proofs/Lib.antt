@@ -1,4 +1,6 @@
 pub mod ChangeLaws
+pub mod CopyLaws
+pub mod HistoryLaws
 pub mod ListLaws
 pub mod NumberLaws
 pub mod RefusalLaws

@@ -1,5 +1,5 @@
 -- Laws of refusals: an operation applies exactly where it breaks no rule.
-use Rattle.std.proofs.Common.{◌≡◌, ℕ, zero, suc, ◌+◌, Bool, true, false, cond, not, eq-eqb, ◌&&◌, ◌||◌, ◌==◌, ◌⊎◌, inl, inr, Option, Some, None, Result, Ok, Err, is_some, List, [], ◌∷◌, map, length, slice_get, slice_set, unwrap_or, refl, sym, ap, ◌∙◌, arith}
+use Rattle.std.proofs.Common.{◌≡◌, ℕ, suc, Bool, true, false, cond, not, eq-eqb, ◌&&◌, ◌||◌, ◌==◌, ◌⊎◌, inl, inr, Option, Some, None, Result, Ok, Err, is_some, List, [], ◌∷◌, map, length, slice_get, slice_set, unwrap_or, refl, sym, ap, ◌∙◌, arith}
 use Rattle.std.proofs.lemmas.Bool.{eqb-true}
 use Rattle.std.specs.Option.{option_and_then, option_map, option_or}
 use Rattle.std.specs.Result.{is_ok}
@@ -15,14 +15,12 @@ use Rattle.row_types.specs.declared.column.Column.{Column}
 use Rattle.row_types.specs.declared.value.Value.{Value}
 use Rattle.row_types.specs.declared.value.Value.TheVariants.{Null, Integer, Text, Time}
 use Rattle.row_types.specs.Columns.{fit_of, holds}
-use Rattle.row_types.specs.Order.{key_order, order_of}
+use Rattle.row_types.specs.Order.{order_of}
 use Rattle.table_state.specs.declared.definition.TableDef.{TableDef}
-use Rattle.table_state.specs.declared.operation.Op.{Op}
-use Rattle.table_state.specs.declared.operation.Op.TheVariants.{Insert, Update, Delete}
 use Rattle.table_state.specs.declared.refusal.ApplyError.{ApplyError}
 use Rattle.table_state.specs.Tables.{Table, TableState, fits_columns, has_child, has_child_in, has_parent, is_same, is_there, key_of, names_parent}
-use Rattle.table_state.specs.Operations.{applied, on_table, only_if, with_change, with_row, without_row}
-use Rattle.table_state.specs.Refusals.{broken_by, changed_key, changes, child_of, delete_fault, differing, first_child, first_refused, has_children, in_table, insert_fault, is_code, misfit, missing_parent, refused_at, taken_key, update_fault}
+use Rattle.table_state.specs.Operations.{on_table, only_if}
+use Rattle.table_state.specs.Refusals.{changed_key, changes, child_of, delete_fault, differing, first_child, first_refused, has_children, in_table, insert_fault, is_code, misfit, missing_parent, refused_at, taken_key, update_fault}
 
 abbrev Row : Type 0
 Row = List Value
@@ -89,9 +87,9 @@ more : (fit : Fit) (name : List ℕ) (a b : Option (List ℕ)) (rest : Bool) →
 more fit name a b rest (inl e) h = rw e h
 more fit name a b rest (inr (inl e)) h = rw e (late a)
   where
-  late : (a : Option (List ℕ)) → is_some (option_or (refused_at OutOfRange a) (refused_at NullNotAllowed (Some name))) ≡ true
-  late None = refl
-  late (Some x) = refl
+    late : (a : Option (List ℕ)) → is_some (option_or (refused_at OutOfRange a) (refused_at NullNotAllowed (Some name))) ≡ true
+    late None = refl
+    late (Some x) = refl
 more fit name a b rest (inr (inr e)) h = rw e refl
 
 fitting : (columns : List Column) (row : Row) → length row ≡ length columns → is_some (both columns row) ≡ not (fits_columns columns row)
@@ -107,9 +105,9 @@ other_number [] (value ∷ row) n = refl
 other_number (column ∷ columns) [] n = refl
 other_number (column ∷ columns) (value ∷ row) n = ap (λ b. is_ok (fit_of column value) && b) (other_number columns row (λ e. n (ap suc e))) ∙ none (is_ok (fit_of column value))
   where
-  none : (b : Bool) → (b && false) ≡ false
-  none true = refl
-  none false = refl
+    none : (b : Bool) → (b && false) ≡ false
+    none true = refl
+    none false = refl
 
 differ : (m n : ℕ) → (m == n) ≡ false → m ≡ n → ⊥
 differ m n e same = let test : (m == n) ≡ true = eq-eqb m n same in cc
@@ -117,9 +115,9 @@ differ m n e same = let test : (m == n) ≡ true = eq-eqb m n same in cc
 misfit_is : (columns : List Column) (row : Row) → is_some (misfit columns row) ≡ not (fits_columns columns row)
 misfit_is columns row = by (length row == length columns) refl
   where
-  by : (b : Bool) → (length row == length columns) ≡ b → is_some (misfit columns row) ≡ not (fits_columns columns row)
-  by true e = rw e (fitting columns row (eqb-true _ _ e))
-  by false e = rw (e, other_number columns row (λ same. differ (length row) (length columns) e same)) refl
+    by : (b : Bool) → (length row == length columns) ≡ b → is_some (misfit columns row) ≡ not (fits_columns columns row)
+    by true e = rw e (fitting columns row (eqb-true _ _ e))
+    by false e = rw (e, other_number columns row (λ same. differ (length row) (length columns) e same)) refl
 
 -- the primary key
 
@@ -175,15 +173,15 @@ pub insert_is : (s : TableState) (row : Row) (def : TableDef) (table : Table) �
     is_some (insert_fault s row def table) ≡ not (fits_columns def.columns row && not (fm.contains_key table (key_of def.primary_key row)) && has_parent s def.foreign_key row)
 insert_is s row def table =
     some_or (misfit def.columns row) _ (fits_columns def.columns row) _ (misfit_is def.columns row)
-      (some_or (taken_key def row table) (missing_parent s def row) (not (fm.contains_key table (key_of def.primary_key row))) (has_parent s def.foreign_key row) (some_unless _ _) (some_if _ _))
+    (some_or (taken_key def row table) (missing_parent s def row) (not (fm.contains_key table (key_of def.primary_key row))) (has_parent s def.foreign_key row) (some_unless _ _) (some_if _ _))
     ∙ ap not (and_assoc (fits_columns def.columns row) (not (fm.contains_key table (key_of def.primary_key row))) (has_parent s def.foreign_key row))
 
 pub update_is : (s : TableState) (t : TableId) (old new : Row) (def : TableDef) (table : Table) →
     is_some (update_fault s t old new def table) ≡ not (fits_columns def.columns new && is_same (key_of def.primary_key old) (key_of def.primary_key new) && is_there def old table && has_parent s def.foreign_key new)
 update_is s t old new def table =
     some_or (changed_key def old new) _ (is_same (key_of def.primary_key old) (key_of def.primary_key new)) _ (changed_is def old new)
-      (some_or (misfit def.columns new) _ (fits_columns def.columns new) _ (misfit_is def.columns new)
-        (some_or (differing t def old table) (missing_parent s def new) (is_there def old table) (has_parent s def.foreign_key new) (some_if _ _) (some_if _ _)))
+    (some_or (misfit def.columns new) _ (fits_columns def.columns new) _ (misfit_is def.columns new)
+    (some_or (differing t def old table) (missing_parent s def new) (is_there def old table) (has_parent s def.foreign_key new) (some_if _ _) (some_if _ _)))
     ∙ ap not (reordered (is_same (key_of def.primary_key old) (key_of def.primary_key new)) (fits_columns def.columns new) (is_there def old table) (has_parent s def.foreign_key new))
 
 double : (b : Bool) → not (not b) ≡ b
@@ -194,7 +192,7 @@ pub delete_is : (s : TableState) (t : TableId) (old : Row) (def : TableDef) (tab
     is_some (delete_fault s t old def table) ≡ not (is_there def old table && not (has_child s t (key_of def.primary_key old)))
 delete_is s t old def table =
     some_or (differing t def old table) (has_children s t (key_of def.primary_key old)) (is_there def old table) (not (has_child s t (key_of def.primary_key old))) (some_if _ _)
-      (children_is s t (key_of def.primary_key old) ∙ sym (double _))
+    (children_is s t (key_of def.primary_key old) ∙ sym (double _))
 
 -- in a table of the state
 module _ (s : TableState) (t : TableId) (fault : TableDef → Table → Option ApplyError) (change : TableDef → Table → Option Table) (test : TableDef → Table → Bool) (result : TableDef → Table → Table)
@@ -204,23 +202,23 @@ module _ (s : TableState) (t : TableId) (fault : TableDef → Table → Option A
       × (on_table s t change ≡ Some (record { schema = s.schema; tables = slice_set s.tables t.0 (result def table) }))
   unbroken none = by (slice_get s.schema t.0) (slice_get s.tables t.0) refl refl none
     where
-    by : (d : Option TableDef) (m : Option Table) → slice_get s.schema t.0 ≡ d → slice_get s.tables t.0 ≡ m → in_table fault d m ≡ None →
-        (def : TableDef) × (table : Table) × (slice_get s.schema t.0 ≡ Some def) × (slice_get s.tables t.0 ≡ Some table) × (test def table ≡ true)
-        × (on_table s t change ≡ Some (record { schema = s.schema; tables = slice_set s.tables t.0 (result def table) }))
-    by None m d_is m_is h = cc
-    by (Some def) None d_is m_is h = cc
-    by (Some def) (Some table) d_is m_is h =
-        let holds : test def table ≡ true = tested (test def table) (is_test def table) h in
-        (def, table, d_is, m_is, holds, rw (d_is, m_is, is_change def table, holds) refl)
-      where
-      tested : (b : Bool) → is_some (fault def table) ≡ not b → fault def table ≡ None → b ≡ true
-      tested true e f = refl
-      tested false e f = let some : is_some (fault def table) ≡ false = ap is_some f in cc
+      by : (d : Option TableDef) (m : Option Table) → slice_get s.schema t.0 ≡ d → slice_get s.tables t.0 ≡ m → in_table fault d m ≡ None →
+          (def : TableDef) × (table : Table) × (slice_get s.schema t.0 ≡ Some def) × (slice_get s.tables t.0 ≡ Some table) × (test def table ≡ true)
+          × (on_table s t change ≡ Some (record { schema = s.schema; tables = slice_set s.tables t.0 (result def table) }))
+      by None m d_is m_is h = cc
+      by (Some def) None d_is m_is h = cc
+      by (Some def) (Some table) d_is m_is h =
+          let holds : test def table ≡ true = tested (test def table) (is_test def table) h in
+          (def, table, d_is, m_is, holds, rw (d_is, m_is, is_change def table, holds) refl)
+        where
+          tested : (b : Bool) → is_some (fault def table) ≡ not b → fault def table ≡ None → b ≡ true
+          tested true e f = refl
+          tested false e f = let some : is_some (fault def table) ≡ false = ap is_some f in cc
 
   pub stays_out : (e : ApplyError) → in_table fault (slice_get s.schema t.0) (slice_get s.tables t.0) ≡ Some e → on_table s t change ≡ None
   stays_out e some = by (slice_get s.schema t.0) (slice_get s.tables t.0) refl refl some
     where
-    by : (d : Option TableDef) (m : Option Table) → slice_get s.schema t.0 ≡ d → slice_get s.tables t.0 ≡ m → in_table fault d m ≡ Some e → on_table s t change ≡ None
-    by None m d_is m_is h = rw d_is refl
-    by (Some def) None d_is m_is h = rw (d_is, m_is) refl
-    by (Some def) (Some table) d_is m_is h = rw (d_is, m_is, is_change def table, holds_back (fault def table) (test def table) (result def table) (is_test def table) e h) refl
+      by : (d : Option TableDef) (m : Option Table) → slice_get s.schema t.0 ≡ d → slice_get s.tables t.0 ≡ m → in_table fault d m ≡ Some e → on_table s t change ≡ None
+      by None m d_is m_is h = rw d_is refl
+      by (Some def) None d_is m_is h = rw (d_is, m_is) refl
+      by (Some def) (Some table) d_is m_is h = rw (d_is, m_is, is_change def table, holds_back (fault def table) (test def table) (result def table) (is_test def table) e h) refl

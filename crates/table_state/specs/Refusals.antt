@@ -12,7 +12,6 @@ use Rattle.tier_base.specs.declared.number.TableId.{TableId}
 use Rattle.row_types.specs.declared.column.Column.{Column}
 use Rattle.row_types.specs.declared.rule.Detail.{Detail}
 use Rattle.row_types.specs.declared.rule.Detail.TheVariants as detail
-use Rattle.row_types.specs.declared.rule.Rule.{Rule}
 use Rattle.row_types.specs.declared.value.Value.{Value}
 use Rattle.row_types.specs.declared.value.Value.TheVariants.{Null}
 use Rattle.row_types.specs.Columns.{fit_of}
@@ -24,7 +23,7 @@ use Rattle.table_state.specs.declared.operation.Op.TheVariants.{Insert, Update, 
 use Rattle.table_state.specs.declared.refusal.ApplyError.{ApplyError}
 use Rattle.table_state.specs.declared.refusal.ApplyError.TheVariants as error
 use Rattle.table_state.specs.Tables.{Table, TableState, key_of, has_parent, names_parent, is_there}
-use Rattle.table_state.specs.Operations.{applied, applied_all}
+use Rattle.table_state.specs.Operations.{applied}
 
 abbrev pub refused : Code → Detail → Option ApplyError
 refused code detail = Some (error.Rule (record { code = code; detail = detail }))

@@ -1,6 +1,6 @@
 -- Tables and table states. (TimesTen SQL Reference, "CREATE TABLE": primary keys and foreign keys.)
 
-use Rattle.std.specs.Prelude.{ℕ, List, [], ◌∷◌, ◌+◌, Option, Some, None, Bool, true, false, ◌&&◌, ◌||◌, nat_eq, map, slice_get, slice_set, unwrap_or}
+use Rattle.std.specs.Prelude.{ℕ, List, [], ◌∷◌, Option, Some, None, Bool, true, false, ◌&&◌, ◌||◌, nat_eq, map, slice_get, unwrap_or}
 use Rattle.std.specs.Ordering.{is_eq}
 use Rattle.std.specs.List.{list_any}
 use Rattle.std.specs.FinMap.{FinMap, empty, contains_key, get, values}
@@ -52,8 +52,8 @@ abbrev pub names_parent : TableId → List Value → Option ForeignKey → List 
 names_parent t key None row = false
 names_parent t key (Some foreign) row = is_table t foreign.parent && is_same (key_of foreign.columns row) key
   where
-  is_table : TableId → TableId → Bool
-  is_table a b = nat_eq a.0 b.0
+    is_table : TableId → TableId → Bool
+    is_table a b = nat_eq a.0 b.0
 
 -- some row of these tables refers to it
 abbrev pub has_child_in : List TableDef → List Table → TableId → List Value → Bool

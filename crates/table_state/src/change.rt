@@ -22,12 +22,7 @@ pub(crate) enum Undo {
 
 impl Tables {
     /// Puts in a row where its key has none.
-    pub(crate) fn put_new(
-        &mut self,
-        table: TableId,
-        key: Key,
-        row: Row,
-    ) -> Result<(), AllocError>
+    pub(crate) fn put_new(&mut self, table: TableId, key: Key, row: Row) -> Result<(), AllocError>
         ensures ok { OnOk result (self.new ≡ with_table self.old table (put_in (table_at self.old table) key row)) }
         ensures err { OnErr result (self.new ≡ self.old) }
     {

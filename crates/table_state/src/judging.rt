@@ -119,7 +119,13 @@ impl Tables {
     fn check_childless(&self, alloc: Global, table: TableId, key: &Key) -> Result<(), ApplyError>
         ensures { Judges result (has_children self.now table key.now) }
     {
-        match first_child(alloc, table, key, self.schema.as_slice(), self.rows.as_slice()) {
+        match first_child(
+            alloc,
+            table,
+            key,
+            self.schema.as_slice(),
+            self.rows.as_slice(),
+        ) {
             Err(_) => Err(ApplyError::Memory),
             Ok(None) => Ok(()),
             Ok(Some(child)) => Err(broken(Code::ChildExists, child)),

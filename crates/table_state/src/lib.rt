@@ -3,6 +3,7 @@
 
 mod change;
 pub mod check;
+mod copy;
 pub mod definition;
 mod faults;
 mod fitting;
@@ -13,8 +14,10 @@ mod operating;
 pub mod operation;
 pub mod refusal;
 pub mod tables;
+mod transaction;
 mod types;
 
+pub use copy::copied_schema;
 pub use definition::{BackingSchema, ForeignKey, TableDef};
 pub use history::{Entry, History, Sealed};
 pub use lookup::{find_table, key_at, key_of_row};

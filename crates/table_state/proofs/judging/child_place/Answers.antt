@@ -1,7 +1,7 @@
 use Rattle.std.proofs.Common.{◌≡◌, ◌&&◌, false, nat_eq, refl, ap, arith}
 use Rattle.std.proofs.lemmas.Grind.{common_steps}
 use Rattle.std.specs.FinMap.{entries}
-use Rattle.table_state.specs.Tables.{is_same, key_of, names_parent}
+use Rattle.table_state.specs.Tables.{is_same, key_of}
 use Rattle.table_state.proofs.ListLaws.{find_none}
 use Rattle.table_state.proofs.judging.child_place.Goals as goal
 
