@@ -1,6 +1,7 @@
 pub mod Changes
 pub mod Declarations
 pub mod Histories
+pub mod Independence
 pub mod Names
 pub mod Operations
 pub mod Refusals
