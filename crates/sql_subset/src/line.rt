@@ -135,3 +135,6 @@ pub fn one_meaning()
 {
     one_verdict();
 }
+
+#[cfg(test)]
+mod tests;
