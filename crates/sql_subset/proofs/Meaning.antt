@@ -8,6 +8,8 @@ use Rattle.sql_tokens.specs.Heads.{head_start, head_of, head_end, good_length}
 use Rattle.sql_grammar.specs.declared.start.Start.{Start}
 use Rattle.sql_grammar.specs.declared.engine.Verdict.{Verdict}
 use Rattle.sql_grammar.specs.declared.engine.Verdict.TheVariants as verdicts
+use Rattle.sql_grammar.specs.Grammar.{Grammar}
+use Rattle.sql_grammar.specs.Sql.{grammar_of}
 use Rattle.sql_grammar.specs.Verdict.{kinds_of, Judged}
 use Rattle.sql_subset.specs.declared.request.Line.{Line}
 use Rattle.sql_subset.specs.declared.request.ParseError.{ParseError}
@@ -16,7 +18,7 @@ use Rattle.sql_subset.specs.Lines.{is_silent, start_of, kinds_in, place_at, line
 
 -- Just one verdict is right.
 abbrev pub OneVerdict : Type 0
-OneVerdict = (s : Start) (ks : List Kind) (v w : Verdict) → Judged s ks v → Judged s ks w → v ≡ w
+OneVerdict = (g : Grammar) (ks : List Kind) (v w : Verdict) → Judged g ks v → Judged g ks w → v ≡ w
 
 same_spoken : OneVerdict → (s : Start) (head : List ℕ) (end : ℕ) (ls : List Lexeme) (x y : Saying) → Spoken s head end ls x → Spoken s head end ls y → x ≡ y
 same_spoken u s head end ls Silent y d f = absurd d
@@ -24,16 +26,16 @@ same_spoken u s head end ls (Says l) Silent d f = absurd f
 same_spoken u s head end ls (WrongAt p) Silent d f = absurd f
 same_spoken u s head end ls TooDeep Silent d f = absurd f
 same_spoken u s head end ls (Says l) (Says m) (d, a) (f, b) = ap Says (a ∙ sym b)
-same_spoken u s head end ls (Says l) (WrongAt q) (d, a) (j, b, f) = let h = u s (kinds_in ls) verdicts.Fits (verdicts.At j) d f in absurd (cc)
-same_spoken u s head end ls (Says l) TooDeep (d, a) f = let h = u s (kinds_in ls) verdicts.Fits verdicts.Deep d f in absurd (cc)
-same_spoken u s head end ls (WrongAt p) (Says m) (i, a, d) (f, b) = let h = u s (kinds_in ls) (verdicts.At i) verdicts.Fits d f in absurd (cc)
+same_spoken u s head end ls (Says l) (WrongAt q) (d, a) (j, b, f) = let h = u (grammar_of s) (kinds_in ls) verdicts.Fits (verdicts.At j) d f in absurd (cc)
+same_spoken u s head end ls (Says l) TooDeep (d, a) f = let h = u (grammar_of s) (kinds_in ls) verdicts.Fits verdicts.Deep d f in absurd (cc)
+same_spoken u s head end ls (WrongAt p) (Says m) (i, a, d) (f, b) = let h = u (grammar_of s) (kinds_in ls) (verdicts.At i) verdicts.Fits d f in absurd (cc)
 same_spoken u s head end ls (WrongAt p) (WrongAt q) (i, a, d) (j, b, f) =
-    let h : verdicts.At i ≡ verdicts.At j = u s (kinds_in ls) (verdicts.At i) (verdicts.At j) d f in
+    let h : verdicts.At i ≡ verdicts.At j = u (grammar_of s) (kinds_in ls) (verdicts.At i) (verdicts.At j) d f in
     let g : i ≡ j = cc in
     ap WrongAt (a ∙ (ap (λ n. place_at ls n end) g ∙ sym b))
-same_spoken u s head end ls (WrongAt p) TooDeep (i, a, d) f = let h = u s (kinds_in ls) (verdicts.At i) verdicts.Deep d f in absurd (cc)
-same_spoken u s head end ls TooDeep (Says m) d (f, b) = let h = u s (kinds_in ls) verdicts.Deep verdicts.Fits d f in absurd (cc)
-same_spoken u s head end ls TooDeep (WrongAt q) d (j, b, f) = let h = u s (kinds_in ls) verdicts.Deep (verdicts.At j) d f in absurd (cc)
+same_spoken u s head end ls (WrongAt p) TooDeep (i, a, d) f = let h = u (grammar_of s) (kinds_in ls) (verdicts.At i) verdicts.Deep d f in absurd (cc)
+same_spoken u s head end ls TooDeep (Says m) d (f, b) = let h = u (grammar_of s) (kinds_in ls) verdicts.Deep verdicts.Fits d f in absurd (cc)
+same_spoken u s head end ls TooDeep (WrongAt q) d (j, b, f) = let h = u (grammar_of s) (kinds_in ls) verdicts.Deep (verdicts.At j) d f in absurd (cc)
 same_spoken u s head end ls TooDeep TooDeep d f = refl
 
 same_checked : OneVerdict → (b : Bool) (s : Start) (bytes : List ℕ) (x y : Saying) → Checked b s bytes x → Checked b s bytes y → x ≡ y
@@ -59,14 +61,14 @@ kinds-lexemes line (t ∷ ts) = ap (λ ks. t.kind ∷ ks) (kinds-lexemes line ts
 kinds_same : (line : List ℕ) (ts : List Token) (ls : List Lexeme) → lexemes_of line ts ≡ ls → kinds_of ts ≡ kinds_in ls
 kinds_same line ts ls h = sym (kinds-lexemes line ts) ∙ ap (λ x. kinds_in x) h
 
-pub told_says : (s : Start) (head line : List ℕ) (end : ℕ) (ts : List Token) (ls : List Lexeme) (l : Line) → lexemes_of line ts ≡ ls → Judged s (kinds_of ts) verdicts.Fits → l ≡ line_of s head (lexemes_of line ts) → Told s head end ls (Ok l)
-told_says s head line end ts ls l h d f = (subst (λ ks. Judged s ks verdicts.Fits) (kinds_same line ts ls h) d, f ∙ ap (λ x. line_of s head x) h)
+pub told_says : (s : Start) (head line : List ℕ) (end : ℕ) (ts : List Token) (ls : List Lexeme) (l : Line) → lexemes_of line ts ≡ ls → Judged (grammar_of s) (kinds_of ts) verdicts.Fits → l ≡ line_of s head (lexemes_of line ts) → Told s head end ls (Ok l)
+told_says s head line end ts ls l h d f = (subst (λ ks. Judged (grammar_of s) ks verdicts.Fits) (kinds_same line ts ls h) d, f ∙ ap (λ x. line_of s head x) h)
 
-pub told_at : (s : Start) (head line : List ℕ) (ts : List Token) (ls : List Lexeme) (i p : ℕ) → lexemes_of line ts ≡ ls → Judged s (kinds_of ts) (verdicts.At i) → p ≡ place_at (lexemes_of line ts) i (length line) → Told s head (length line) ls (Err (e.At p))
-told_at s head line ts ls i p h d f = (i, f ∙ ap (λ x. place_at x i (length line)) h, subst (λ ks. Judged s ks (verdicts.At i)) (kinds_same line ts ls h) d)
+pub told_at : (s : Start) (head line : List ℕ) (ts : List Token) (ls : List Lexeme) (i p : ℕ) → lexemes_of line ts ≡ ls → Judged (grammar_of s) (kinds_of ts) (verdicts.At i) → p ≡ place_at (lexemes_of line ts) i (length line) → Told s head (length line) ls (Err (e.At p))
+told_at s head line ts ls i p h d f = (i, f ∙ ap (λ x. place_at x i (length line)) h, subst (λ ks. Judged (grammar_of s) ks (verdicts.At i)) (kinds_same line ts ls h) d)
 
-pub told_deep : (s : Start) (head line : List ℕ) (end : ℕ) (ts : List Token) (ls : List Lexeme) → lexemes_of line ts ≡ ls → Judged s (kinds_of ts) verdicts.Deep → Told s head end ls (Err e.Depth)
-told_deep s head line end ts ls h d = subst (λ ks. Judged s ks verdicts.Deep) (kinds_same line ts ls h) d
+pub told_deep : (s : Start) (head line : List ℕ) (end : ℕ) (ts : List Token) (ls : List Lexeme) → lexemes_of line ts ≡ ls → Judged (grammar_of s) (kinds_of ts) verdicts.Deep → Told s head end ls (Err e.Depth)
+told_deep s head line end ts ls h d = subst (λ ks. Judged (grammar_of s) ks verdicts.Deep) (kinds_same line ts ls h) d
 
 -- What the tokens of a line say, the line says.
 heard : (bytes : List ℕ) (s : Start) (x : Saying) → is_silent bytes ≡ false → start_of (head_of bytes) ≡ Some s → nat_lt (good_length bytes) (length bytes) ≡ false
