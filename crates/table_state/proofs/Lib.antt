@@ -1,1 +1,7 @@
+pub mod ChangeLaws
+pub mod CopyLaws
+pub mod HistoryLaws
+pub mod IndependenceLaws
+pub mod ListLaws
 pub mod NumberLaws
+pub mod RefusalLaws

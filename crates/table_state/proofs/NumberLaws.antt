@@ -18,6 +18,6 @@ grown n (d ∷ digits) h = grown (with_digit n d) digits (omega arith)
 pub too_great : (digits : List ℕ) (i n : ℕ) → n ≡ number_of (take i digits) → i < length digits → 4000 < with_digit n (get_or digits i 0) → 4001 ≡ min 4001 (number_of digits)
 too_great digits i n e lt h =
     let whole : number_of digits ≡ fold with_digit (with_digit n (get_or digits i 0)) (drop (i + 1) digits) =
-        ap number_of (sym (take-append-drop i digits)) ∙ fold-append with_digit 0 (take i digits) (drop i digits) ∙ ap (λ m. fold with_digit m (drop i digits)) (sym e) ∙ ap (fold with_digit n) (drop_more digits i 0 lt) in
+    ap number_of (sym (take-append-drop i digits)) ∙ fold-append with_digit 0 (take i digits) (drop i digits) ∙ ap (λ m. fold with_digit m (drop i digits)) (sym e) ∙ ap (fold with_digit n) (drop_more digits i 0 lt) in
     let great : 4000 < fold with_digit (with_digit n (get_or digits i 0)) (drop (i + 1) digits) = grown (with_digit n (get_or digits i 0)) (drop (i + 1) digits) h in
     omega arith

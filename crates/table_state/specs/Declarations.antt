@@ -10,7 +10,6 @@ use Rattle.tier_base.specs.declared.code.Code.{Code}
 use Rattle.tier_base.specs.declared.code.Code.TheVariants.{UnknownTable, UnknownColumn, NameInUse, TypeMismatch, OutOfRange}
 use Rattle.tier_base.specs.declared.limit.Limit.{Limit}
 use Rattle.tier_base.specs.declared.limit.Limit.TheVariants.{Tables, Columns, KeyColumns}
-use Rattle.tier_base.specs.declared.number.TableId.{TableId}
 use Rattle.row_types.specs.declared.column.Column.{Column}
 use Rattle.row_types.specs.declared.column.Ty.{Ty}
 use Rattle.row_types.specs.declared.column.Ty.TheVariants as ty
@@ -109,9 +108,9 @@ abbrev pub has_type : Option ColumnDeclaration → Ty → Bool
 has_type None wanted = false
 has_type (Some c) wanted = is_type (type_of c.ty)
   where
-  is_type : Option Ty → Bool
-  is_type None = false
-  is_type (Some t) = same_type t wanted
+    is_type : Option Ty → Bool
+    is_type None = false
+    is_type (Some t) = same_type t wanted
 
 -- the column has the type of the parent's column, which has the name behind REFERENCES
 abbrev pub refers_to : List ColumnDeclaration → List ℕ → List ℕ → Option Column → Bool

@@ -1,6 +1,6 @@
 -- The backing history, and the state at a position of it. (This project's model of the backing database.)
 
-use Rattle.std.specs.Prelude.{ℕ, List, [], ◌∷◌, ◌++◌, Option, Some, None, Bool, false, ◌||◌, nat_eq, take}
+use Rattle.std.specs.Prelude.{ℕ, List, [], ◌∷◌, ◌++◌, Option, Some, Bool, false, ◌||◌, nat_eq, take}
 use Rattle.std.specs.Option.{option_and_then}
 use Rattle.std.specs.FinMap.{empty}
 use Rattle.table_state.specs.declared.history.Entry.{Entry}

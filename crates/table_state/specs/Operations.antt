@@ -1,6 +1,6 @@
 -- What operations make of a table state. (TimesTen SQL Reference, INSERT, UPDATE, DELETE; foreign keys.)
 
-use Rattle.std.specs.Prelude.{ℕ, List, [], ◌∷◌, Option, Some, None, Bool, ◌&&◌, not, slice_get, slice_set, if◌then◌else◌}
+use Rattle.std.specs.Prelude.{List, [], ◌∷◌, Option, Some, None, Bool, ◌&&◌, not, slice_get, slice_set, if◌then◌else◌}
 use Rattle.std.specs.Option.{option_and_then, option_map}
 use Rattle.std.specs.FinMap.{contains_key, insert, remove}
 use Rattle.row_types.specs.declared.value.Value.{Value}

@@ -1,6 +1,6 @@
 -- Tables and table states. (TimesTen SQL Reference, "CREATE TABLE": primary keys and foreign keys.)
 
-use Rattle.std.specs.Prelude.{ℕ, List, [], ◌∷◌, ◌+◌, Option, Some, None, Bool, true, false, ◌&&◌, ◌||◌, nat_eq, map, slice_get, slice_set, unwrap_or}
+use Rattle.std.specs.Prelude.{ℕ, List, [], ◌∷◌, Option, Some, None, Bool, true, false, ◌&&◌, ◌||◌, nat_eq, map, slice_get, unwrap_or}
 use Rattle.std.specs.Ordering.{is_eq}
 use Rattle.std.specs.List.{list_any}
 use Rattle.std.specs.FinMap.{FinMap, empty, contains_key, get, values}
@@ -52,8 +52,8 @@ abbrev pub names_parent : TableId → List Value → Option ForeignKey → List 
 names_parent t key None row = false
 names_parent t key (Some foreign) row = is_table t foreign.parent && is_same (key_of foreign.columns row) key
   where
-  is_table : TableId → TableId → Bool
-  is_table a b = nat_eq a.0 b.0
+    is_table : TableId → TableId → Bool
+    is_table a b = nat_eq a.0 b.0
 
 -- some row of these tables refers to it
 abbrev pub has_child_in : List TableDef → List Table → TableId → List Value → Bool
@@ -64,10 +64,11 @@ has_child_in (def ∷ defs) (table ∷ tables) t key = list_any (names_parent t 
 abbrev pub has_child : TableState → TableId → List Value → Bool
 has_child s t key = has_child_in s.schema s.tables t key
 
+-- this row was found
+abbrev pub is_found : List Value → Option (List Value) → Bool
+is_found row None = false
+is_found row (Some found) = is_same found row
+
 -- the table has this row at its key
 abbrev pub is_there : TableDef → List Value → Table → Bool
-is_there def row table = is_found (get table (key_of def.primary_key row))
-  where
-  is_found : Option (List Value) → Bool
-  is_found None = false
-  is_found (Some found) = is_same found row
+is_there def row table = is_found row (get table (key_of def.primary_key row))

@@ -6,12 +6,13 @@ ghost use Rattle.table_state.specs.Declarations.{IsRefusedBy, Tells, broken_at, 
 ghost use Rattle.std.specs.Option.{option_map};
 
 use crate::definition::{BackingSchema, ForeignKey, TableDef};
-use crate::faults::{foreign_names, has_one_key, is_sound_reference, key_names, missing_parent, taken_name, wrong_name};
+use crate::faults::{
+    foreign_names, has_one_key, is_sound_reference, key_names, missing_parent, taken_name,
+    wrong_name,
+};
 use crate::lookup::{find_table, is_listed, place_of_column};
 use crate::types::type_of;
-use row_types::{
-    Column, ColumnDeclaration, Detail, Refused, Rule, TableDeclaration,
-};
+use row_types::{Column, ColumnDeclaration, Detail, Refused, Rule, TableDeclaration};
 use std::alloc::{AllocError, Global};
 use tier_base::{Code, Limit, Name, Seq, TableId};
 
@@ -106,10 +107,7 @@ fn refuse_keys(declaration: &TableDeclaration, schema: &BackingSchema) -> Result
     }
 }
 
-fn resolved_columns(
-    alloc: Global,
-    declaration: &TableDeclaration,
-) -> Result<Seq<Column>, Refused>
+fn resolved_columns(alloc: Global, declaration: &TableDeclaration) -> Result<Seq<Column>, Refused>
     ensures told { Tells result (type_fault declaration.now.columns) }
     ensures columns { IfOk result (λ columns. columns ≡ map (resolved_column declaration.now) declaration.now.columns) }
 {

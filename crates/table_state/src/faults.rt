@@ -157,7 +157,11 @@ fn refers_to_key(
 ) -> bool
     ensures { result ≡ refers_to_key columns.now parent.now names.now others.now places.now }
 {
-    match (names.split_first(), others.split_first(), places.split_first()) {
+    match (
+        names.split_first(),
+        others.split_first(),
+        places.split_first(),
+    ) {
         (None, None, None) => true,
         (Some((name, names)), Some((other, others)), Some((place, places))) => {
             refers_to(columns, name, other, parent.get(*place))
@@ -183,10 +187,7 @@ fn refers_to(
     }
 }
 
-fn column_named<'a>(
-    columns: &'a [ColumnDeclaration],
-    name: &Name,
-) -> Option<&'a ColumnDeclaration>
+fn column_named<'a>(columns: &'a [ColumnDeclaration], name: &Name) -> Option<&'a ColumnDeclaration>
     ensures { option_copied result ≡ find (λ c. same_name c.name name.now) columns.now }
 {
     columns

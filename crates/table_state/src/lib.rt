@@ -1,15 +1,26 @@
 //! Table definitions, table states, operations on them, the backing history and footprints.
 #![tactic(auto)]
 
+mod change;
 pub mod check;
+mod copy;
 pub mod definition;
 mod faults;
+mod fitting;
 pub mod history;
+mod judging;
 pub mod lookup;
+mod operating;
 pub mod operation;
+pub mod refusal;
+pub mod tables;
+mod transaction;
 mod types;
 
+pub use copy::copied_schema;
 pub use definition::{BackingSchema, ForeignKey, TableDef};
 pub use history::{Entry, History, Sealed};
 pub use lookup::{find_table, key_at, key_of_row};
 pub use operation::{Op, Ops, copied_ops, same_ops};
+pub use refusal::ApplyError;
+pub use tables::Tables;

@@ -6,9 +6,7 @@ ghost use Rattle.table_state.specs.Declarations.{has_type, number_of, same_type,
 ghost use Rattle.std.specs.List.{list_all};
 ghost use Rattle.std.specs.Char.{is_ascii_digit};
 
-
 use row_types::{ColumnDeclaration, Text, Ty, TypeDeclaration};
-
 
 /// The greatest number of bytes of a VARCHAR2.
 const VARCHAR2_BYTES: u16 = 4000;

@@ -1,0 +1,133 @@
+-- Laws of operations on tables that have nothing to do with one another, and of tables that come later.
+use Rattle.std.proofs.Common.{◌≡◌, ℕ, zero, suc, ◌+◌, ◌<◌, Bool, true, false, ◌||◌, ◌&&◌, not, nat_eq, Option, Some, None, is_some, List, [], ◌∷◌, ◌++◌, length, map, slice_get, slice_set, unwrap_or, refl, sym, ap, ◌∙◌, eq-eqb, arith}
+use Rattle.std.specs.Option.{option_and_then, option_map}
+use Rattle.std.specs.List.{list_any}
+use Rattle.std.specs.FinMap as fm
+use Rattle.std.specs.FinMap.{empty}
+use Rattle.std.proofs.lemmas.List.{nil_from_length, length-append, length-set}
+use Rattle.row_types.specs.declared.value.Value.{Value}
+use Rattle.row_types.specs.Order.{key_order}
+use Rattle.tier_base.specs.declared.number.TableId.{TableId}
+use Rattle.table_state.specs.declared.definition.ForeignKey.{ForeignKey}
+use Rattle.table_state.specs.declared.definition.TableDef.{TableDef}
+use Rattle.table_state.specs.declared.operation.Op.{Op}
+use Rattle.table_state.specs.declared.operation.Op.TheVariants.{Insert, Update, Delete}
+use Rattle.table_state.specs.Tables.{Table, TableState, fits_columns, has_child, has_child_in, has_parent, is_same, is_there, key_of, names_parent, table_at}
+use Rattle.table_state.specs.Operations.{applied, applied_all, on_table, only_if, table_of, with_change, with_row, without_row}
+use Rattle.table_state.specs.Changes.{with_table}
+use Rattle.table_state.specs.Independence.{AreApart, Commute, IsWhole, is_child_of, refers_to, with_new}
+
+abbrev Row : Type 0
+Row = List Value
+
+-- the change that an operation makes of its table
+abbrev change_of : Op → TableState → TableDef → Table → Option Table
+change_of (Insert t row) s def table = with_row s row def table
+change_of (Update t old new) s def table = with_change s old new def table
+change_of (Delete t old) s def table = without_row s t old def table
+
+abbrev new_of : TableState → TableId → (TableDef → Table → Option Table) → Option Table
+new_of s t change = option_and_then (λ def. option_and_then (change def) (slice_get s.tables t.0)) (slice_get s.schema t.0)
+
+by_new : (s : TableState) (t : TableId) (change : TableDef → Table → Option Table) → on_table s t change ≡ option_map (with_table s t) (new_of s t change)
+by_new s t change = by (slice_get s.schema t.0) (slice_get s.tables t.0)
+  where
+  by : (d : Option TableDef) (m : Option Table) →
+      option_and_then (λ def. option_and_then (λ table. option_map (λ new. with_table s t new) (change def table)) m) d ≡ option_map (with_table s t) (option_and_then (λ def. option_and_then (change def) m) d)
+  by None m = refl
+  by (Some def) None = refl
+  by (Some def) (Some table) = refl
+
+-- an operation, by the new table that it makes
+applied_new : (op : Op) (s : TableState) → applied op s ≡ option_map (with_table s (table_of op)) (new_of s (table_of op) (change_of op s))
+applied_new (Insert t row) s = by_new s t (with_row s row)
+applied_new (Update t old new) s = by_new s t (with_change s old new)
+applied_new (Delete t old) s = by_new s t (without_row s t old)
+
+-- one table changes
+
+get_other : {X : Type 0} (xs : List X) (i j : ℕ) (x : X) → (i ≡ j → ⊥) → slice_get (slice_set xs i x) j ≡ slice_get xs j
+get_other [] i j x ne = refl
+get_other (y ∷ xs) zero zero x ne = absurd (ne refl)
+get_other (y ∷ xs) zero (suc j) x ne = refl
+get_other (y ∷ xs) (suc i) zero x ne = refl
+get_other (y ∷ xs) (suc i) (suc j) x ne = get_other xs i j x (λ e. ne (ap suc e))
+
+set_apart : {X : Type 0} (xs : List X) (i j : ℕ) (x y : X) → (i ≡ j → ⊥) → slice_set (slice_set xs i x) j y ≡ slice_set (slice_set xs j y) i x
+set_apart [] i j x y ne = refl
+set_apart (z ∷ xs) zero zero x y ne = absurd (ne refl)
+set_apart (z ∷ xs) zero (suc j) x y ne = refl
+set_apart (z ∷ xs) (suc i) zero x y ne = refl
+set_apart (z ∷ xs) (suc i) (suc j) x y ne = ap (λ l. z ∷ l) (set_apart xs i j x y (λ e. ne (ap suc e)))
+
+unequal : (a b : ℕ) → nat_eq a b ≡ false → a ≡ b → ⊥
+unequal a b e same = let test : nat_eq a b ≡ true = eq-eqb a b same in cc
+
+unequal_back : (a b : ℕ) → nat_eq a b ≡ false → b ≡ a → ⊥
+unequal_back a b e same = unequal a b e (sym same)
+
+same_parent : (s : TableState) (t : TableId) (new : Table) (foreign : Option ForeignKey) (row : Row) → refers_to t foreign ≡ false → has_parent (with_table s t new) foreign row ≡ has_parent s foreign row
+same_parent s t new None row apart = refl
+same_parent s t new (Some foreign) row apart =
+    ap (λ o. fm.contains_key (unwrap_or o empty) (key_of foreign.columns row)) (get_other s.tables t.0 foreign.parent.0 new (unequal t.0 foreign.parent.0 apart))
+
+never : {X : Type 0} (p : X → Bool) → ((x : X) → p x ≡ false) → (xs : List X) → list_any p xs ≡ false
+never p fails [] = refl
+never p fails (x ∷ xs) = ap (λ b. b || list_any p xs) (fails x) ∙ never p fails xs
+
+no_name : (t : TableId) (key : Row) (foreign : Option ForeignKey) → refers_to t foreign ≡ false → (row : Row) → names_parent t key foreign row ≡ false
+no_name t key None apart row = refl
+no_name t key (Some foreign) apart row = ap (λ b. b && is_same (key_of foreign.columns row) key) apart
+
+same_child : (defs : List TableDef) (tables : List Table) (i : ℕ) (new : Table) (t : TableId) (key : Row) → is_child_of t (slice_get defs i) ≡ false → has_child_in defs (slice_set tables i new) t key ≡ has_child_in defs tables t key
+same_child [] tables i new t key apart = refl
+same_child (def ∷ defs) [] i new t key apart = refl
+same_child (def ∷ defs) (table ∷ tables) zero new t key apart =
+    ap (λ b. b || has_child_in defs tables t key) (never (names_parent t key def.foreign_key) (no_name t key def.foreign_key apart) (fm.values new) ∙ sym (never (names_parent t key def.foreign_key) (no_name t key def.foreign_key apart) (fm.values table)))
+same_child (def ∷ defs) (table ∷ tables) (suc i) new t key apart =
+    ap (λ b. list_any (names_parent t key def.foreign_key) (fm.values table) || b) (same_child defs tables i new t key apart)
+
+-- the change stays the same where another table that has nothing to do with it changes
+same_change : (op : Op) (s : TableState) (t : TableId) (new : Table) (def : TableDef) (table : Table) → refers_to t def.foreign_key ≡ false → is_child_of (table_of op) (slice_get s.schema t.0) ≡ false
+    → change_of op (with_table s t new) def table ≡ change_of op s def table
+same_change (Insert u row) s t new def table apart childless =
+    ap (λ b. only_if (fits_columns def.columns row && not (fm.contains_key table (key_of def.primary_key row)) && b) (fm.insert table (key_of def.primary_key row) row)) (same_parent s t new def.foreign_key row apart)
+same_change (Update u old row) s t new def table apart childless =
+    ap (λ b. only_if (fits_columns def.columns row && is_same (key_of def.primary_key old) (key_of def.primary_key row) && is_there def old table && b) (fm.insert table (key_of def.primary_key row) row)) (same_parent s t new def.foreign_key row apart)
+same_change (Delete u old) s t new def table apart childless =
+    ap (λ b. only_if (is_there def old table && not b) (fm.remove table (key_of def.primary_key old))) (same_child s.schema s.tables t.0 new u (key_of def.primary_key old) childless)
+
+-- the new table stays the same then
+same_new : (op : Op) (s : TableState) (t : TableId) (new : Table) → (t.0 ≡ (table_of op).0 → ⊥) → is_child_of t (slice_get s.schema (table_of op).0) ≡ false → is_child_of (table_of op) (slice_get s.schema t.0) ≡ false
+    → new_of (with_table s t new) (table_of op) (change_of op (with_table s t new)) ≡ new_of s (table_of op) (change_of op s)
+same_new op s t new ne apart childless =
+    ap (λ m. option_and_then (λ def. option_and_then (change_of op (with_table s t new) def) m) (slice_get s.schema (table_of op).0)) (get_other s.tables t.0 (table_of op).0 new ne)
+    ∙ by (slice_get s.schema (table_of op).0) (slice_get s.tables (table_of op).0) apart
+  where
+  by : (d : Option TableDef) (m : Option Table) → is_child_of t d ≡ false → option_and_then (λ def. option_and_then (change_of op (with_table s t new) def) m) d ≡ option_and_then (λ def. option_and_then (change_of op s def) m) d
+  by None m e = refl
+  by (Some def) None e = refl
+  by (Some def) (Some table) e = same_change op s t new def table e childless
+
+-- operations on tables that have nothing to do with one another commute
+pub applied_commute : (a b : Op) (s : TableState) → AreApart s.schema (table_of a) (table_of b) → Commute a b s
+applied_commute a b s apart =
+    ap (option_and_then (applied b)) (applied_new a s) ∙ by (new_of s (table_of a) (change_of a s)) (new_of s (table_of b) (change_of b s)) refl refl ∙ sym (ap (option_and_then (applied a)) (applied_new b s))
+  where
+  after_a : (x : Table) → applied b (with_table s (table_of a) x) ≡ option_map (with_table (with_table s (table_of a) x) (table_of b)) (new_of s (table_of b) (change_of b s))
+  after_a x =
+      applied_new b (with_table s (table_of a) x)
+      ∙ ap (option_map (with_table (with_table s (table_of a) x) (table_of b))) (same_new b s (table_of a) x (unequal (table_of a).0 (table_of b).0 apart.different) apart.other apart.one)
+  after_b : (y : Table) → applied a (with_table s (table_of b) y) ≡ option_map (with_table (with_table s (table_of b) y) (table_of a)) (new_of s (table_of a) (change_of a s))
+  after_b y =
+      applied_new a (with_table s (table_of b) y)
+      ∙ ap (option_map (with_table (with_table s (table_of b) y) (table_of a))) (same_new a s (table_of b) y (unequal_back (table_of a).0 (table_of b).0 apart.different) apart.one apart.other)
+  by : (x y : Option Table) → new_of s (table_of a) (change_of a s) ≡ x → new_of s (table_of b) (change_of b s) ≡ y
+      → option_and_then (applied b) (option_map (with_table s (table_of a)) x) ≡ option_and_then (applied a) (option_map (with_table s (table_of b)) y)
+  by None None e f = refl
+  by None (Some y) e f = sym (after_b y ∙ ap (option_map (with_table (with_table s (table_of b) y) (table_of a))) e)
+  by (Some x) None e f = after_a x ∙ ap (option_map (with_table (with_table s (table_of a) x) (table_of b))) f
+  by (Some x) (Some y) e f =
+      after_a x ∙ ap (option_map (with_table (with_table s (table_of a) x) (table_of b))) f
+      ∙ ap (λ tables. Some (record { schema = s.schema; tables = tables })) (set_apart s.tables (table_of a).0 (table_of b).0 x y (unequal (table_of a).0 (table_of b).0 apart.different))
+      ∙ sym (after_b y ∙ ap (option_map (with_table (with_table s (table_of b) y) (table_of a))) e)

@@ -1,0 +1,36 @@
+-- Changes of one row of one table, and how they are taken back.
+
+use Rattle.std.specs.Prelude.{◌≡◌, List, [], ◌∷◌, Some, slice_get, slice_set, if◌then◌else◌}
+use Rattle.std.specs.FinMap.{contains_key, insert, remove}
+use Rattle.row_types.specs.declared.value.Value.{Value}
+use Rattle.tier_base.specs.declared.number.TableId.{TableId}
+use Rattle.table_state.specs.declared.definition.TableDef.{TableDef}
+use Rattle.table_state.specs.declared.change.Undo.{Undo}
+use Rattle.table_state.specs.declared.change.Undo.TheVariants.{Inserted, Changed}
+use Rattle.table_state.specs.Tables.{Table, TableState, key_of, table_at}
+
+-- one table of the state is another
+abbrev pub with_table : TableState → TableId → Table → TableState
+with_table s t table = record { schema = s.schema; tables = slice_set s.tables t.0 table }
+
+-- the row goes in where the key has none
+abbrev pub put_in : Table → List Value → List Value → Table
+put_in table key row = if contains_key table key then table else insert table key row
+
+-- the row goes in where the key has one
+abbrev pub put_over : Table → List Value → List Value → Table
+put_over table key row = if contains_key table key then insert table key row else table
+
+-- the key of the row, where the table is there
+abbrev pub IsKeyIn : TableState → TableId → List Value → List Value → Type 0
+IsKeyIn s t row key = (def : TableDef) → slice_get s.schema t.0 ≡ Some def → key ≡ key_of def.primary_key row
+
+-- a change is taken back
+abbrev pub taken_back : Undo → TableState → TableState
+taken_back (Inserted t key) s = with_table s t (remove (table_at s t) key)
+taken_back (Changed t key row) s = with_table s t (put_over (table_at s t) key row)
+
+-- all changes are taken back, the last one first
+abbrev pub all_taken_back : List Undo → TableState → TableState
+all_taken_back [] s = s
+all_taken_back (undo ∷ undos) s = taken_back undo (all_taken_back undos s)

@@ -1,0 +1,171 @@
+//! What rows have to be: fit for their columns, and with the values of a key.
+
+ghost use Rattle.std.specs.Prelude.{◌≡◌, option_copied, unwrap_or, slice_get, IfOk, None, Some, find};
+ghost use Rattle.std.specs.Ordering.{is_eq};
+ghost use Rattle.row_types.specs.declared.value.Value.TheVariants.{Null};
+ghost use Rattle.row_types.specs.Columns.{fit_of};
+ghost use Rattle.row_types.specs.Order.{order_of};
+ghost use Rattle.table_state.specs.Tables.{is_same, key_of};
+ghost use Rattle.table_state.specs.Refusals.{Judges, changed_key, changes, column_name, first_refused, is_code, misfit, refused, refused_at, value_at};
+
+use crate::definition::TableDef;
+use crate::refusal::ApplyError;
+use row_types::{Column, Detail, Row, Rule, Value, fits, order, order_of_values};
+use std::alloc::{AllocError, Global};
+use std::cmp::Ordering;
+use tier_base::{Code, Name};
+
+/// A broken rule.
+pub(crate) fn broken(code: Code, detail: Detail) -> ApplyError
+    ensures { Some result ≡ refused code detail }
+{
+    ApplyError::Rule(Rule { code, detail })
+}
+
+/// Refuses a row that doesn't fit the columns.
+pub(crate) fn check_fit(alloc: Global, columns: &[Column], row: &Row) -> Result<(), ApplyError>
+    ensures { Judges result (misfit columns.now row.now) }
+{
+    let values = row.values();
+    if values.len() != columns.len() {
+        return Err(broken(Code::TypeMismatch, Detail::Nothing));
+    }
+    check_column(alloc, Code::OutOfRange, columns, values)?;
+    check_column(alloc, Code::NullNotAllowed, columns, values)
+}
+
+fn check_column(
+    alloc: Global,
+    code: Code,
+    columns: &[Column],
+    values: &[Value],
+) -> Result<(), ApplyError>
+    ensures { Judges result (refused_at code (first_refused code columns.now values.now)) }
+{
+    match first_refused(code, columns, values) {
+        None => Ok(()),
+        Some(name) => match name.copied(alloc) {
+            Err(_) => Err(ApplyError::Memory),
+            Ok(name) => Err(broken(code, Detail::Name(name))),
+        },
+    }
+}
+
+fn first_refused<'a>(code: Code, columns: &'a [Column], values: &[Value]) -> Option<&'a Name>
+    ensures { option_copied result ≡ first_refused code columns.now values.now }
+{
+    match (columns.split_first(), values.split_first()) {
+        (Some((column, columns)), Some((value, values))) => {
+            if is_code(code, fits(value, column)) {
+                Some(&column.name)
+            } else {
+                first_refused(code, columns, values)
+            }
+        }
+        _ => None,
+    }
+}
+
+fn is_code(code: Code, fit: Result<(), Code>) -> bool
+    ensures { result ≡ is_code code fit }
+{
+    match fit {
+        Ok(()) => false,
+        Err(why) => why.number() == code.number(),
+    }
+}
+
+/// Refuses a change of the primary key.
+pub(crate) fn check_key_stays(
+    alloc: Global,
+    def: &TableDef,
+    old: &Row,
+    new: &Row,
+) -> Result<(), ApplyError>
+    ensures { Judges result (changed_key def.now old.now new.now) }
+{
+    match first_change(def.primary_key.as_slice(), old.values(), new.values()) {
+        None => Ok(()),
+        Some(place) => match column_name(alloc, def.columns.get(place)) {
+            Err(_) => Err(ApplyError::Memory),
+            Ok(name) => Err(broken(Code::KeyColumnSet, name)),
+        },
+    }
+}
+
+fn column_name(alloc: Global, column: Option<&Column>) -> Result<Detail, AllocError>
+    ensures { IfOk result (λ name. name ≡ column_name (option_copied column.entry)) }
+{
+    match column {
+        None => Ok(Detail::Nothing),
+        Some(column) => {
+            let name = column.name.copied(alloc)?;
+            Ok(Detail::Name(name))
+        }
+    }
+}
+
+fn first_change(places: &[usize], old: &[Value], new: &[Value]) -> Option<usize>
+    ensures { result ≡ find (changes old.now new.now) places.now }
+{
+    match places.split_first() {
+        None => None,
+        Some((place, places)) => {
+            if changes(old, new, *place) {
+                Some(*place)
+            } else {
+                first_change(places, old, new)
+            }
+        }
+    }
+}
+
+fn changes(old: &[Value], new: &[Value], place: usize) -> bool
+    ensures { result ≡ changes old.now new.now place }
+{
+    let null = Value::Null;
+    !is_same_value(value_at(old, place, &null), value_at(new, place, &null))
+}
+
+fn value_at<'a>(values: &'a [Value], place: usize, null: &'a Value) -> &'a Value
+    requires { null.now ≡ Null }
+    ensures { result.now ≡ value_at values.now place }
+{
+    match values.get(place) {
+        None => null,
+        Some(value) => value,
+    }
+}
+
+fn is_same_value(a: &Value, b: &Value) -> bool
+    ensures { result ≡ is_eq (order_of a.now b.now) }
+{
+    match order(a, b) {
+        Ordering::Equal => true,
+        _ => false,
+    }
+}
+
+/// Whether the values of the row at these places are the key.
+pub(crate) fn has_key(places: &[usize], row: &[Value], key: &[Value]) -> bool
+    ensures { result ≡ is_same (key_of places.now row.now) key.now }
+{
+    match (places.split_first(), key.split_first()) {
+        (None, None) => true,
+        (Some((place, places)), Some((value, key))) => {
+            let null = Value::Null;
+            is_same_value(value_at(row, *place, &null), value) && has_key(places, row, key)
+        }
+        _ => false,
+    }
+}
+
+/// Whether both rows have the same values.
+pub(crate) fn is_same_row(a: &Row, b: &Row) -> bool
+    ensures { result ≡ is_same a.now b.now }
+{
+    match order_of_values(a.values(), b.values()) {
+        Ordering::Equal => true,
+        _ => false,
+    }
+}
