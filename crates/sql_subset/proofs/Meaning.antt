@@ -6,6 +6,7 @@ use Rattle.sql_tokens.specs.declared.token.Token.{Token}
 use Rattle.sql_tokens.specs.Lexing.{Lexeme, lexed, lexemes_of}
 use Rattle.sql_tokens.specs.Heads.{head_start, head_of, head_end, good_length}
 use Rattle.sql_grammar.specs.declared.start.Start.{Start}
+use Rattle.sql_grammar.specs.declared.start.Start.TheVariants as starts
 use Rattle.sql_grammar.specs.declared.engine.Verdict.{Verdict}
 use Rattle.sql_grammar.specs.declared.engine.Verdict.TheVariants as verdicts
 use Rattle.sql_grammar.specs.Grammar.{Grammar}
@@ -14,7 +15,9 @@ use Rattle.sql_grammar.specs.Verdict.{kinds_of, Judged}
 use Rattle.sql_subset.specs.declared.request.Line.{Line}
 use Rattle.sql_subset.specs.declared.request.ParseError.{ParseError}
 use Rattle.sql_subset.specs.declared.request.ParseError.TheVariants as e
-use Rattle.sql_subset.specs.Lines.{is_silent, start_of, kinds_in, place_at, line_of, Saying, Silent, Says, WrongAt, TooDeep, Spoken, Told, Checked, Headed, Heard, Means, Answers}
+use Rattle.sql_subset.specs.Lines.{is_silent, start_of, kinds_in, place_at, line_of, Saying, Silent, Says, WrongAt, TooDeep, Spoken, Told, Checked, Headed, Heard, Means, Answers, is_spoilt, Unspelt, Parses}
+use Rattle.sql_subset.specs.declared.stmt.Stmt.{Stmt}
+use Rattle.sql_subset.specs.Statements.{statement_of}
 
 -- Just one verdict is right.
 abbrev pub OneVerdict : Type 0
@@ -93,3 +96,22 @@ parsed_err bytes s x a b g h i j k l m d =
     let p : nat_lt (good_length bytes) (length bytes) ≡ false = ap (λ n. nat_lt n (length bytes)) (sym l) ∙ not_less g (length bytes) m in
     let q : Told s (head_of bytes) (length bytes) (lexed b bytes) (Err x) = subst (λ w. Told s w (length bytes) (lexed b bytes) (Err x)) e d in
     answers_err bytes s x (sym h) o p (subst (λ n. Told s (head_of bytes) (length bytes) (lexed n bytes) (Err x)) j q)
+
+-- The same of the bytes of a statement.
+not_spoilt : (bytes : List ℕ) (g : ℕ) → g ≡ good_length bytes → length bytes ≤ g → is_spoilt bytes ≡ false
+not_spoilt bytes g l m = ap (λ n. nat_lt n (length bytes)) (sym l) ∙ not_less g (length bytes) m
+
+pub spelt_says : (bytes : List ℕ) (g : ℕ) (ts : List Token) (x : Stmt) → g ≡ good_length bytes → length bytes ≤ g → lexemes_of bytes ts ≡ lexed 0 bytes → Judged (grammar_of starts.Statement) (kinds_of ts) verdicts.Fits
+    → x ≡ statement_of (lexemes_of bytes ts) → Parses bytes (Ok x)
+spelt_says bytes g ts x l m h d f =
+    (not_spoilt bytes g l m, subst (λ ks. Judged (grammar_of starts.Statement) ks verdicts.Fits) (kinds_same bytes ts (lexed 0 bytes) h) d, f ∙ ap (λ y. statement_of y) h)
+
+pub spelt_at : (bytes : List ℕ) (g : ℕ) (ts : List Token) (i p : ℕ) → g ≡ good_length bytes → length bytes ≤ g → lexemes_of bytes ts ≡ lexed 0 bytes → Judged (grammar_of starts.Statement) (kinds_of ts) (verdicts.At i)
+    → p ≡ place_at (lexemes_of bytes ts) i (length bytes) → Parses bytes (Err (e.At p))
+spelt_at bytes g ts i p l m h d f =
+    subst (λ b. Unspelt b bytes (e.At p)) (sym (not_spoilt bytes g l m))
+    (i, f ∙ ap (λ y. place_at y i (length bytes)) h, subst (λ ks. Judged (grammar_of starts.Statement) ks (verdicts.At i)) (kinds_same bytes ts (lexed 0 bytes) h) d)
+
+pub spelt_deep : (bytes : List ℕ) (g : ℕ) (ts : List Token) → g ≡ good_length bytes → length bytes ≤ g → lexemes_of bytes ts ≡ lexed 0 bytes → Judged (grammar_of starts.Statement) (kinds_of ts) verdicts.Deep → Parses bytes (Err e.Depth)
+spelt_deep bytes g ts l m h d =
+    subst (λ b. Unspelt b bytes e.Depth) (sym (not_spoilt bytes g l m)) (subst (λ ks. Judged (grammar_of starts.Statement) ks verdicts.Deep) (kinds_same bytes ts (lexed 0 bytes) h) d)
