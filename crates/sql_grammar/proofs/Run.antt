@@ -3,17 +3,16 @@ use Rattle.std.proofs.Common.{◌≡◌, ℕ, suc, ◌<◌, ◌≤◌, true, Opt
 use Rattle.std.proofs.Math.Seq.{take-suc}
 use Rattle.std.proofs.lemmas.Option.{slice_get_within, slice_get_cases, get_or_from_slice_get}
 use Rattle.sql_tokens.specs.declared.kind.Kind.{Kind}
-use Rattle.sql_grammar.specs.declared.start.Start.{Start}
 use Rattle.sql_grammar.specs.declared.engine.Move.{Move}
 use Rattle.sql_grammar.specs.declared.engine.Move.TheVariants.{On, Took, Wrong, Deep, Ended}
 use Rattle.sql_grammar.specs.declared.engine.Verdict.TheVariants as v
-use Rattle.sql_grammar.specs.Grammar.{Empty, Token, Then, Either, Many, Deeper, Named, Parts, Over, Part, Reads}
-use Rattle.sql_grammar.specs.Decided.{has}
+use Rattle.sql_grammar.specs.Grammar.{Grammar, Empty, Token, Then, Either, Many, Deeper, Named, Parts, Over, Part, Reads}
+use Rattle.sql_grammar.specs.Decided.{has, is_decided}
 use Rattle.sql_grammar.specs.Machine.{step_of, Settles, last, more}
-use Rattle.sql_grammar.specs.Sql.{rule, grammar_of, known}
+use Rattle.sql_grammar.specs.Sql.{rule, known}
 use Rattle.sql_grammar.specs.Verdict.{IsSpelt, Begins, Judged}
 use Rattle.sql_grammar.proofs.Alive.{ending}
-use Rattle.sql_grammar.proofs.Passes.{decided, start_decided, lives}
+use Rattle.sql_grammar.proofs.Passes.{decided, lives}
 use Rattle.sql_grammar.proofs.Steps.{Fine, Law, begins, step_law}
 
 -- What two moves in a row mean.
@@ -31,21 +30,21 @@ settled_law {next} {ps} {m} (more {qs} e s) f =
     two_laws next ps qs m.0 m.1 l (settled_law s l.0)
 
 -- What was read so far, and what the parts are then.
-pub record Reading (s : Start) (ks : List Kind) (i : ℕ) (ps : Parts) : Type 0 where
+pub record Reading (s : Grammar) (ks : List Kind) (i : ℕ) (ps : Parts) : Type 0 where
   pub within : i ≤ length ks
   pub fine : Fine known ps
   pub back : (n : ℕ) (r : List Kind) → 32 ≤ n → Reads rule n ps r → IsSpelt s n (take i ks ++ r)
   pub forth : (n : ℕ) (r : List Kind) → IsSpelt s n (take i ks ++ r) → Reads rule n ps r
 
-start_fine : (s : Start) → Fine known (Part 0 (grammar_of s) Over)
-start_fine s = (start_decided s, λ k p q. absurd (no_test k q), tt)
+start_fine : (s : Grammar) → is_decided known s ≡ true → Fine known (Part 0 s Over)
+start_fine s h = (h, λ k p q. absurd (no_test k q), tt)
   where
     no_test : (k : Kind) → has (begins known Over) k ≡ true → ⊥
     no_test k q = absurd (cc)
 
 -- Nothing is read yet.
-pub reading_none : (s : Start) (ks : List Kind) → Reading s ks 0 (Part 0 (grammar_of s) Over)
-reading_none s ks = record { within = omega arith; fine = start_fine s; back = λ n r l d. d; forth = λ n r d. d }
+pub reading_none : (s : Grammar) (ks : List Kind) → is_decided known s ≡ true → Reading s ks 0 (Part 0 s Over)
+reading_none s ks h = record { within = omega arith; fine = start_fine s h; back = λ n r l d. d; forth = λ n r d. d }
 
 -- Only a token that is there is taken.
 took_some : {next : Option Kind} {ps : Parts} {m : Move × Parts} → Settles rule next ps m → m.0 ≡ Took → (k : Kind) × (next ≡ Some k)
@@ -70,7 +69,7 @@ front_more ks i k r h =
     let g : get_or ks i k ≡ k = get_or_from_slice_get ks i k k h in
     rw (take-suc ks i k w, g, append_assoc (take i ks) (k ∷ []) r)
 
-pub took : (s : Start) (ks : List Kind) (i : ℕ) (ps qs : Parts) → Reading s ks i ps → Settles rule (slice_get ks i) ps (Took, qs) → (i < length ks) × Reading s ks (suc i) qs
+pub took : (s : Grammar) (ks : List Kind) (i : ℕ) (ps qs : Parts) → Reading s ks i ps → Settles rule (slice_get ks i) ps (Took, qs) → (i < length ks) × Reading s ks (suc i) qs
 took s ks i ps qs l d =
     let (k, h) = took_some d refl in
     let (f, b, g) = settled_law d l.fine in
@@ -85,13 +84,13 @@ took s ks i ps qs l d =
     )
 
 -- What was read so far begins something that is spelt.
-reading_begins : (s : Start) (ks : List Kind) (i : ℕ) (ps : Parts) → Reading s ks i ps → Begins s 32 (take i ks)
+reading_begins : (s : Grammar) (ks : List Kind) (i : ℕ) (ps : Parts) → Reading s ks i ps → Begins s 32 (take i ks)
 reading_begins s ks i ps l = let (r, d) = ending rule lives 32 ps in (r, l.back 32 r (omega arith) d)
 
-pub wrong : (s : Start) (ks : List Kind) (i : ℕ) (ps qs : Parts) → Reading s ks i ps → Settles rule (slice_get ks i) ps (Wrong, qs) → Judged s ks (v.At i)
+pub wrong : (s : Grammar) (ks : List Kind) (i : ℕ) (ps qs : Parts) → Reading s ks i ps → Settles rule (slice_get ks i) ps (Wrong, qs) → Judged s ks (v.At i)
 wrong s ks i ps qs l d = (l.within, reading_begins s ks i ps l, λ n (r, a, x). settled_law d l.fine n r a (l.forth n r x))
 
-pub deep : (s : Start) (ks : List Kind) (i : ℕ) (ps qs : Parts) → Reading s ks i ps → Settles rule (slice_get ks i) ps (Deep, qs) → Judged s ks v.Deep
+pub deep : (s : Grammar) (ks : List Kind) (i : ℕ) (ps qs : Parts) → Reading s ks i ps → Settles rule (slice_get ks i) ps (Deep, qs) → Judged s ks v.Deep
 deep s ks i ps qs l d =
     let (f, (n, r, m, a, x)) = settled_law d l.fine in
     (i, l.within, reading_begins s ks i ps l, λ (t, b, y). f t b (l.forth 32 t y), (n, (r, a, l.back n r m x)))
@@ -107,6 +106,6 @@ all_read ks i w h =
     differs : (x : Kind) → slice_get ks i ≡ Some x → slice_get ks i ≡ None → ⊥
     differs x p q = absurd (cc)
 
-pub ended : (s : Start) (ks : List Kind) (i : ℕ) (ps qs : Parts) → Reading s ks i ps → Settles rule (slice_get ks i) ps (Ended, qs) → Judged s ks v.Fits
+pub ended : (s : Grammar) (ks : List Kind) (i : ℕ) (ps qs : Parts) → Reading s ks i ps → Settles rule (slice_get ks i) ps (Ended, qs) → Judged s ks v.Fits
 ended s ks i ps qs l d =
     let (h, f) = settled_law d l.fine in subst (λ y. IsSpelt s 32 y) (all_read ks i l.within h) (l.back 32 [] (omega arith) (f 32))

@@ -6,10 +6,9 @@ use Rattle.std.proofs.Math.Seq.{drop-cons}
 use Rattle.std.proofs.Math.ListN.{drop_of_length-le}
 use Rattle.std.proofs.lemmas.Option.{slice_get_cases}
 use Rattle.sql_tokens.specs.declared.kind.Kind.{Kind}
-use Rattle.sql_grammar.specs.declared.start.Start.{Start}
 use Rattle.sql_grammar.specs.declared.engine.Verdict.{Verdict}
 use Rattle.sql_grammar.specs.declared.engine.Verdict.TheVariants as v
-use Rattle.sql_grammar.specs.Grammar.{ahead}
+use Rattle.sql_grammar.specs.Grammar.{Grammar, ahead}
 use Rattle.sql_grammar.specs.Verdict.{IsSpelt, Begins, GoesOn, Judged}
 
 -- what comes next, where some come behind
@@ -35,24 +34,24 @@ front_between ks r i j l = let e : take i (take j ks) ≡ take i ks = take-take 
     let f : take i ks ++ drop i (take j ks) ≡ take j ks = rw (← e) (take-append-drop i (take j ks)) in
     rw (← append_assoc, f)
 
-goes_before : (s : Start) (n i j : ℕ) (ks : List Kind) → i < j → j ≤ length ks → Begins s n (take j ks) → GoesOn s n i ks
+goes_before : (s : Grammar) (n i j : ℕ) (ks : List Kind) → i < j → j ≤ length ks → Begins s n (take j ks) → GoesOn s n i ks
 goes_before s n i j ks l m (r, d) = (drop i (take j ks) ++ r, ahead_between ks r i j l m, subst (λ x. IsSpelt s n x) (front_between ks r i j l) d)
 
-whole_goes : (s : Start) (n i : ℕ) (ks : List Kind) → IsSpelt s n ks → GoesOn s n i ks
+whole_goes : (s : Grammar) (n i : ℕ) (ks : List Kind) → IsSpelt s n ks → GoesOn s n i ks
 whole_goes s n i ks d = (drop i ks, ahead_drop ks i, subst (λ x. IsSpelt s n x) (sym (take-append-drop i ks)) d)
 
 order : (i j : ℕ) → (i < j) ⊎ ((j < i) ⊎ (i ≡ j))
 order i j =
     elim (cases_lt i j) [ inl l ↦ inl l | inr m ↦ elim (cases_lt j i) [ inl l ↦ inr (inl l) | inr n ↦ inr (inr (omega arith)) ] ]
 
-at_deep : (s : Start) (ks : List Kind) (i j n : ℕ) → i ≤ length ks → Begins s 32 (take i ks) → ((n : ℕ) → GoesOn s n i ks → ⊥) → j ≤ length ks → Begins s 32 (take j ks) → (GoesOn s 32 j ks → ⊥) → GoesOn s n j ks → ⊥
+at_deep : (s : Grammar) (ks : List Kind) (i j n : ℕ) → i ≤ length ks → Begins s 32 (take i ks) → ((n : ℕ) → GoesOn s n i ks → ⊥) → j ≤ length ks → Begins s 32 (take j ks) → (GoesOn s 32 j ks → ⊥) → GoesOn s n j ks → ⊥
 at_deep s ks i j n w b f x c g h =
     elim (order i j) [
       | inl l ↦ f 32 (goes_before s 32 i j ks l x c)
       | inr q ↦ elim q [ inl l ↦ g (goes_before s 32 j i ks l w b) | inr e ↦ f n (subst (λ m. GoesOn s n m ks) (sym e) h) ]
     ]
 
-pub unique : (s : Start) (ks : List Kind) (x y : Verdict) → Judged s ks x → Judged s ks y → x ≡ y
+pub unique : (s : Grammar) (ks : List Kind) (x y : Verdict) → Judged s ks x → Judged s ks y → x ≡ y
 unique s ks v.Fits v.Fits d e = refl
 unique s ks v.Fits (v.At i) d (w, b, f) = absurd (f 32 (whole_goes s 32 i ks d))
 unique s ks v.Fits v.Deep d (i, w, b, f, g) = absurd (f (whole_goes s 32 i ks d))

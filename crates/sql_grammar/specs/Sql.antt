@@ -1,36 +1,16 @@
 -- The grammar of the lines, as data.
 use Rattle.std.specs.Prelude.{ℕ, Bool, true, false, List, [], ◌∷◌}
-use Rattle.sql_tokens.specs.declared.kind.Kind.{Kind}
-use Rattle.sql_tokens.specs.declared.kind.Kind.TheVariants.{Colon, Semicolon, Comma, Dot, OpenParen, CloseParen, Star, Minus, Equals, Text, Select, From, Where, Not, Null, Insert, Into, Values, Update, Set, Delete, Create, Table, Cache, Group, Primary, Key, On, Call, Commit, Rollback, Load, Readonly, TtInteger, TtBigint, Open, Close, Passthrough, Durable, Asynchronous, Writethrough, Autorefresh, Mode, Interval, State}
+use Rattle.sql_tokens.specs.declared.kind.Kind.TheVariants.{Colon, Semicolon, Comma, Dot, OpenParen, CloseParen, Star, Plus, Minus, Equals, Text, Select, From, Where, And, Or, Not, Null, Order, Insert, Into, Values, Update, Set, Delete, Create, Alter, Drop, Table, Cache, Group, Primary, Key, On, Timestamp, Count, Call, Commit, Rollback, Load, Refresh, Unload, Flush, Aging, Readonly, TtInteger, TtBigint, Open, Close, Passthrough, Durable, Asynchronous, Synchronous, Writethrough, Dynamic, Usermanaged, Index, Autorefresh, Mode, Interval, State, Off, Lru, Use, Cycle, With, Parallel}
 use Rattle.sql_grammar.specs.declared.test.Test.{Test}
-use Rattle.sql_grammar.specs.declared.test.Test.TheVariants.{Only, Name, Whole, Level, Flag, Manner, Rest, IntervalUnit}
+use Rattle.sql_grammar.specs.declared.test.Test.TheVariants.{Only, Name, Sign, Whole, Digits, Level, Flag, Direction, Fold, Manner, Rest, IntervalUnit}
 use Rattle.sql_grammar.specs.declared.rule.Rule.{Rule}
 use Rattle.sql_grammar.specs.declared.rule.Rule.TheVariants as rules
 use Rattle.sql_grammar.specs.declared.start.Start.{Start}
 use Rattle.sql_grammar.specs.declared.start.Start.TheVariants as starts
-use Rattle.sql_grammar.specs.Grammar.{Grammar, Empty, Token, Then, Either, Many, Named}
+use Rattle.sql_grammar.specs.Grammar.{Grammar, Empty, Token, Either, Many, Named}
 use Rattle.sql_grammar.specs.Decided.{Known}
-
--- the first, then the second
-infixr 60 ◌▸◌
-abbrev pub ◌▸◌ : Grammar → Grammar → Grammar
-a ▸ b = Then a b
-
--- this kind of token
-abbrev pub the : Kind → Grammar
-the k = Token (Only k)
-
--- [ k a ]
-abbrev pub optional : Kind → Grammar → Grammar
-optional k a = Either (Only k) a Empty
-
--- k a | b
-abbrev pub choice : Kind → Grammar → Grammar → Grammar
-choice k a b = Either (Only k) a b
-
--- { k a }
-abbrev pub repeated : Kind → Grammar → Grammar
-repeated k a = Many (Only k) a
+use Rattle.sql_grammar.specs.Notation.{◌▸◌, the, optional, choice, repeated}
+use Rattle.sql_grammar.specs.Whole as whole
 
 -- name = ident [ "." ident ]
 abbrev pub table_name : Grammar
@@ -116,6 +96,52 @@ rule rules.Statement = choice Select select (choice Insert insert (choice Create
 rule rules.Columns = columns
 -- [ ";" [ write writes ] ]
 rule rules.Writes = optional Semicolon (choice Insert (insert ▸ Named rules.Writes) (choice Update (update ▸ Named rules.Writes) (optional Delete (delete ▸ Named rules.Writes))))
+-- name = ident [ "." ident ]
+rule rules.Named = Token Name ▸ optional Dot (Token Name)
+-- idents = ident { "," ident }
+rule rules.Idents = Token Name ▸ repeated Comma (Token Name)
+-- literal = number | text | NULL | TIMESTAMP text | "-" number
+rule rules.Literal = Either Digits Empty (choice Text Empty (choice Null Empty (choice Timestamp (the Text) (the Minus ▸ Token Digits))))
+-- expr = term { ("+" | "-") term }
+rule rules.Expr = whole.term ▸ Many Sign whole.term
+-- a predicate
+rule rules.Pred = whole.pred
+-- a condition
+rule rules.Cond = whole.cond
+-- what follows a list
+rule rules.After = whole.after
+-- the rest of a list of exprs
+rule rules.Exprs = whole.exprs_rest
+-- the rest of a list of aggregates
+rule rules.Aggs = whole.aggs_rest
+-- the rest of a mixed list
+rule rules.Mixed = whole.mixed_rest
+-- behind SELECT
+rule rules.Select = whole.select
+-- behind INSERT
+rule rules.Insert = whole.insert
+-- behind UPDATE
+rule rules.Update = whole.update
+-- behind DELETE
+rule rules.Delete = whole.delete
+-- the rest of a table of the whole grammar behind a column
+rule rules.MoreColumns = whole.columns
+-- a table of the whole grammar
+rule rules.Table = whole.table
+-- behind AGING
+rule rules.Aging = whole.aging
+-- behind the kind of a group
+rule rules.Group = whole.group
+-- behind CREATE
+rule rules.Create = whole.create
+-- which instances
+rule rules.Chosen = whole.chosen
+-- behind CALL
+rule rules.Called = whole.called
+-- a statement of the whole grammar
+rule rules.AnyStatement = whole.statement
+-- [ ";" [ write writes ] ] of the whole grammar
+rule rules.MoreWrites = optional Semicolon (choice Insert (Named rules.Insert ▸ Named rules.MoreWrites) (choice Update (Named rules.Update ▸ Named rules.MoreWrites) (optional Delete (Named rules.Delete ▸ Named rules.MoreWrites))))
 
 -- What a whole text may be.
 abbrev pub grammar_of : Start → Grammar
@@ -126,6 +152,18 @@ grammar_of starts.Session = the Colon ▸ choice Open (optional Passthrough (Tok
 -- a line of the console behind its label: ":" ( CREATE TABLE table [ ";" ] | write { ";" write } [ ";" ] )
 grammar_of starts.Console = the Colon ▸ choice Create (the Table ▸ table ▸ optional Semicolon Empty) (choice Insert (insert ▸ Named rules.Writes) (choice Update (update ▸ Named rules.Writes) (the Delete ▸ delete ▸ Named rules.Writes)))
 
+-- a line of a session behind its label, by the whole grammar: ":" ( OPEN .. | CLOSE | statement ) [ ";" ]
+abbrev pub whole_session : Grammar
+whole_session = the Colon ▸ choice Open (optional Passthrough (Token Level) ▸ optional Durable (Token Flag)) (choice Close Empty (Named rules.AnyStatement)) ▸ optional Semicolon Empty
+
+-- a line of the console behind its label, by the whole grammar: ":" ( CREATE TABLE table [ ";" ] | write { ";" write } [ ";" ] )
+abbrev pub whole_console : Grammar
+whole_console = the Colon ▸ choice Create (the Table ▸ Named rules.Table ▸ optional Semicolon Empty) (choice Insert (Named rules.Insert ▸ Named rules.MoreWrites) (choice Update (Named rules.Update ▸ Named rules.MoreWrites) (the Delete ▸ Named rules.Delete ▸ Named rules.MoreWrites)))
+
+-- a line of the clock behind its label: ":" "+" number [ ";" ]
+abbrev pub whole_clock : Grammar
+whole_clock = the Colon ▸ the Plus ▸ Token Whole ▸ optional Semicolon Empty
+
 -- What is known of the rules.
 abbrev pub known : Known
 known = record { empty = λ m. empty_known m; starts = λ m. starts_known m; ends = λ m. ends_known m; weight = λ m. weight_known m }
@@ -134,18 +172,110 @@ known = record { empty = λ m. empty_known m; starts = λ m. starts_known m; end
     empty_known rules.Statement = false
     empty_known rules.Columns = false
     empty_known rules.Writes = true
+    empty_known rules.Named = false
+    empty_known rules.Idents = false
+    empty_known rules.Literal = false
+    empty_known rules.Expr = false
+    empty_known rules.Pred = false
+    empty_known rules.Cond = false
+    empty_known rules.After = false
+    empty_known rules.Exprs = false
+    empty_known rules.Aggs = false
+    empty_known rules.Mixed = false
+    empty_known rules.Select = false
+    empty_known rules.Insert = false
+    empty_known rules.Update = false
+    empty_known rules.Delete = false
+    empty_known rules.MoreColumns = false
+    empty_known rules.Table = false
+    empty_known rules.Aging = false
+    empty_known rules.Group = false
+    empty_known rules.Create = false
+    empty_known rules.Chosen = true
+    empty_known rules.Called = false
+    empty_known rules.AnyStatement = false
+    empty_known rules.MoreWrites = true
 
     starts_known : Rule → List Test
     starts_known rules.Statement = Only Select ∷ Only Insert ∷ Only Create ∷ Only Load ∷ Only Call ∷ Only Commit ∷ Only Rollback ∷ []
     starts_known rules.Columns = Only CloseParen ∷ Only Comma ∷ []
     starts_known rules.Writes = Only Semicolon ∷ []
+    starts_known rules.Named = Name ∷ []
+    starts_known rules.Idents = Name ∷ []
+    starts_known rules.Literal = Digits ∷ Only Text ∷ Only Null ∷ Only Timestamp ∷ Only Minus ∷ []
+    starts_known rules.Expr = Name ∷ Digits ∷ Only Text ∷ Only Null ∷ Only Timestamp ∷ Only Minus ∷ []
+    starts_known rules.Pred = Only OpenParen ∷ Only Not ∷ Name ∷ Digits ∷ Only Text ∷ Only Null ∷ Only Timestamp ∷ Only Minus ∷ []
+    starts_known rules.Cond = Only OpenParen ∷ Only Not ∷ Name ∷ Digits ∷ Only Text ∷ Only Null ∷ Only Timestamp ∷ Only Minus ∷ []
+    starts_known rules.After = Only From ∷ []
+    starts_known rules.Exprs = Only Comma ∷ Only From ∷ []
+    starts_known rules.Aggs = Only Comma ∷ Only From ∷ []
+    starts_known rules.Mixed = Only Comma ∷ Only From ∷ []
+    starts_known rules.Select = Only Star ∷ Only Count ∷ Fold ∷ Name ∷ Digits ∷ Only Text ∷ Only Null ∷ Only Timestamp ∷ Only Minus ∷ []
+    starts_known rules.Insert = Only Into ∷ []
+    starts_known rules.Update = Name ∷ []
+    starts_known rules.Delete = Only From ∷ []
+    starts_known rules.MoreColumns = Only CloseParen ∷ Only Comma ∷ []
+    starts_known rules.Table = Name ∷ []
+    starts_known rules.Aging = Only Lru ∷ Only Use ∷ []
+    starts_known rules.Group = Only Cache ∷ []
+    starts_known rules.Create = Only Index ∷ Only Dynamic ∷ Only Usermanaged ∷ Only Readonly ∷ Only Asynchronous ∷ Only Synchronous ∷ []
+    starts_known rules.Chosen = Only Where ∷ Only With ∷ []
+    starts_known rules.Called = Name ∷ []
+    starts_known rules.AnyStatement = Only Select ∷ Only Insert ∷ Only Update ∷ Only Delete ∷ Only Create ∷ Only Load ∷ Only Refresh ∷ Only Unload ∷ Only Flush ∷ Only Drop ∷ Only Alter ∷ Only Call ∷ Only Commit ∷ Only Rollback ∷ []
+    starts_known rules.MoreWrites = Only Semicolon ∷ []
 
     ends_known : Rule → List Test
     ends_known rules.Statement = Only Dot ∷ Only OpenParen ∷ []
     ends_known rules.Columns = []
     ends_known rules.Writes = Only Delete ∷ Only Update ∷ Only Insert ∷ Only Semicolon ∷ Only Where ∷ Only Dot ∷ []
+    ends_known rules.Named = Only Dot ∷ []
+    ends_known rules.Idents = Only Comma ∷ []
+    ends_known rules.Literal = []
+    ends_known rules.Expr = Sign ∷ Only Star ∷ Only Dot ∷ []
+    ends_known rules.Pred = Sign ∷ Only Star ∷ Only Dot ∷ []
+    ends_known rules.Cond = Only Or ∷ Only And ∷ Sign ∷ Only Star ∷ Only Dot ∷ []
+    ends_known rules.After = Only Comma ∷ Direction ∷ Only Dot ∷ Only Order ∷ Only Group ∷ Only Or ∷ Only And ∷ Sign ∷ Only Star ∷ Only Where ∷ Name ∷ []
+    ends_known rules.Exprs = Only Comma ∷ Direction ∷ Only Dot ∷ Only Order ∷ Only Group ∷ Only Where ∷ Name ∷ Only Or ∷ Only And ∷ Sign ∷ Only Star ∷ []
+    ends_known rules.Aggs = Only Comma ∷ Direction ∷ Only Dot ∷ Only Order ∷ Only Group ∷ Only Where ∷ Name ∷ Only Or ∷ Only And ∷ Sign ∷ Only Star ∷ []
+    ends_known rules.Mixed = Only Comma ∷ Direction ∷ Only Dot ∷ Only Order ∷ []
+    ends_known rules.Select = Only Comma ∷ Direction ∷ Only Dot ∷ Only Order ∷ Only Group ∷ Only Or ∷ Only And ∷ Sign ∷ Only Star ∷ Only Where ∷ Name ∷ []
+    ends_known rules.Insert = []
+    ends_known rules.Update = Only Or ∷ Only And ∷ Sign ∷ Only Star ∷ Only Dot ∷ Only Where ∷ Only Comma ∷ []
+    ends_known rules.Delete = Only Or ∷ Only And ∷ Sign ∷ Only Star ∷ Only Dot ∷ Only Where ∷ []
+    ends_known rules.MoreColumns = []
+    ends_known rules.Table = []
+    ends_known rules.Aging = Only Off ∷ Only On ∷ Only Cycle ∷ []
+    ends_known rules.Group = Only Comma ∷ Only Or ∷ Only And ∷ Sign ∷ Only Star ∷ Only Dot ∷ Only Where ∷ Only Off ∷ Only On ∷ Only Cycle ∷ Only Aging ∷ []
+    ends_known rules.Create = Only Comma ∷ Only Or ∷ Only And ∷ Sign ∷ Only Star ∷ Only Dot ∷ Only Where ∷ Only Off ∷ Only On ∷ Only Cycle ∷ Only Aging ∷ []
+    ends_known rules.Chosen = Only With ∷ Only Or ∷ Only And ∷ Sign ∷ Only Star ∷ Only Dot ∷ Only Where ∷ []
+    ends_known rules.Called = Only OpenParen ∷ Only Dot ∷ []
+    ends_known rules.AnyStatement = Only Comma ∷ Direction ∷ Only Dot ∷ Only Order ∷ Only Group ∷ Only Or ∷ Only And ∷ Sign ∷ Only Star ∷ Only Where ∷ Name ∷ Only Off ∷ Only On ∷ Only Cycle ∷ Only Aging ∷ Only Parallel ∷ Only Commit ∷ Only With ∷ Only OpenParen ∷ []
+    ends_known rules.MoreWrites = Only Delete ∷ Only Update ∷ Only Insert ∷ Only Semicolon ∷ Only Where ∷ Only Comma ∷ Only Or ∷ Only And ∷ Sign ∷ Only Star ∷ Only Dot ∷ []
 
     weight_known : Rule → ℕ
     weight_known rules.Statement = 7
     weight_known rules.Columns = 3
     weight_known rules.Writes = 2
+    weight_known rules.Named = 2
+    weight_known rules.Idents = 2
+    weight_known rules.Literal = 6
+    weight_known rules.Expr = 10
+    weight_known rules.Pred = 14
+    weight_known rules.Cond = 17
+    weight_known rules.After = 3
+    weight_known rules.Exprs = 5
+    weight_known rules.Aggs = 5
+    weight_known rules.Mixed = 4
+    weight_known rules.Select = 15
+    weight_known rules.Insert = 2
+    weight_known rules.Update = 4
+    weight_known rules.Delete = 2
+    weight_known rules.MoreColumns = 3
+    weight_known rules.Table = 4
+    weight_known rules.Aging = 4
+    weight_known rules.Group = 2
+    weight_known rules.Create = 8
+    weight_known rules.Chosen = 5
+    weight_known rules.Called = 4
+    weight_known rules.AnyStatement = 14
+    weight_known rules.MoreWrites = 2

@@ -1,5 +1,5 @@
 //! The engine: reads tokens by a grammar that its next token decides.
-ghost use Rattle.std.specs.Prelude.{◌≡◌, ◌≢◌, ℕ, List, slice_get, map, IfOk, OnOk, IfNone, IfSome, IsTrue};
+ghost use Rattle.std.specs.Prelude.{◌≡◌, true, ◌≢◌, ℕ, List, slice_get, map, IfOk, OnOk, IfNone, IfSome, IsTrue};
 ghost use Rattle.sql_tokens.specs.Kinds.{code};
 
 use crate::rule::Rule;
@@ -49,10 +49,11 @@ pub struct Entry {
 
 ghost use Rattle.sql_grammar.specs.Grammar.{Parts, Over, Part};
 ghost use Rattle.sql_grammar.specs.Machine.{view, parts_of, is_next, at_end, step_of, Settles};
-ghost use Rattle.sql_grammar.specs.Sql.{rule, grammar_of};
+ghost use Rattle.sql_grammar.specs.Sql.{rule, grammar_of, known};
 ghost use Rattle.sql_grammar.specs.Verdict.{kinds_of, Judged};
 ghost use Rattle.sql_tokens.specs.declared.kind.Kind.{Kind as OneKind};
-ghost use Rattle.sql_grammar.specs.declared.start.Start.{Start as OneStart};
+ghost use Rattle.sql_grammar.specs.Grammar.{Grammar as OneGrammar};
+ghost use Rattle.sql_grammar.specs.Decided.{is_decided};
 ghost use Rattle.sql_grammar.specs.declared.engine.Verdict.{Verdict as OneVerdict};
 
 fn put(stack: &mut Vec<Entry>, level: u8, part: &'static Syntax<'static>) -> Result<(), AllocError>
@@ -167,13 +168,18 @@ fn token_at(tokens: &[Token], i: usize) -> Option<Kind>
     }
 }
 
-/// Reads the tokens by the grammar: whether they are spelt by it, or else where not. Only want of
-/// memory is an error.
-pub fn recognize(alloc: Global, start: Start, tokens: &[Token]) -> Result<Verdict, AllocError>
-    ensures { IfOk result (λ v. Judged start (kinds_of tokens.now) v) }
+/// Reads the tokens by a grammar that its next token decides: whether they are spelt by it, or else where not. Only
+/// want of memory is an error.
+pub fn recognize_by(
+    alloc: Global,
+    grammar: &'static Syntax<'static>,
+    tokens: &[Token],
+) -> Result<Verdict, AllocError>
+    requires { is_decided known (view grammar.now) ≡ true }
+    ensures { IfOk result (λ v. Judged (view grammar.now) (kinds_of tokens.now) v) }
 {
     let mut stack = Vec::new(alloc);
-    put(&mut stack, 0, whole(start))?;
+    put(&mut stack, 0, grammar)?;
     let mut i = 0;
     loop {
         let next = token_at(tokens, i);
@@ -187,7 +193,18 @@ pub fn recognize(alloc: Global, start: Start, tokens: &[Token]) -> Result<Verdic
     }
 }
 
+/// Reads the tokens as this: whether they are spelt so, or else where not. Only want of memory is an error.
+#[tactic(auto, using(crate::proofs::Passes::start_decided))]
+pub fn recognize(alloc: Global, start: Start, tokens: &[Token]) -> Result<Verdict, AllocError>
+    ensures { IfOk result (λ v. Judged (grammar_of start) (kinds_of tokens.now) v) }
+{
+    recognize_by(alloc, whole(start), tokens)
+}
+
 /// Just one verdict is right.
 pub fn one_verdict()
-    ensures { (s : OneStart) (ks : List OneKind) (v w : OneVerdict) → Judged s ks v → Judged s ks w → v ≡ w }
+    ensures { (s : OneGrammar) (ks : List OneKind) (v w : OneVerdict) → Judged s ks v → Judged s ks w → v ≡ w }
 {}
+
+#[cfg(test)]
+mod tests;

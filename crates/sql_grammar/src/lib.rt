@@ -2,8 +2,10 @@
 #![tactic(auto)]
 
 pub mod engine;
+mod lines;
 pub mod rule;
-mod sql;
+pub mod sql;
 pub mod start;
 pub mod syntax;
 pub mod test;
+mod whole;

@@ -1,242 +1,21 @@
-//! The grammar of the lines, as a tree of references for each rule.
+//! The rules of the grammar, and what a whole text may be.
 ghost use Rattle.std.specs.Prelude.{◌≡◌};
 ghost use Rattle.sql_grammar.specs.Machine.{view};
 ghost use Rattle.sql_grammar.specs.Sql as sql;
 
+use crate::lines::{
+    COLUMNS_RULE, CONSOLE_START, SESSION_START, STATEMENT_RULE, STATEMENT_START, WRITES_RULE,
+};
 use crate::rule::Rule;
 use crate::start::Start;
 use crate::syntax::Syntax;
-use crate::test::Test;
-use sql_tokens::kind::Kind;
-
-macro_rules! seq {
-    ($a:expr) => { $a };
-    ($a:expr, $($b:expr),+) => { Syntax::Then(&$a, &seq!($($b),+)) };
-}
-
-macro_rules! the {
-    ($k:ident) => { Syntax::Token(Test::Only(Kind::$k)) };
-}
-
-macro_rules! optional {
-    ($k:ident, $a:expr) => { Syntax::Either(Test::Only(Kind::$k), &$a, &Syntax::Empty) };
-}
-
-macro_rules! choice {
-    ($k:ident, $a:expr, $b:expr) => { Syntax::Either(Test::Only(Kind::$k), &$a, &$b) };
-}
-
-macro_rules! repeated {
-    ($k:ident, $a:expr) => { Syntax::Many(Test::Only(Kind::$k), &$a) };
-}
-
-const TABLE_NAME: Syntax<'static> = seq!(
-    Syntax::Token(Test::Name),
-    optional!(Dot, Syntax::Token(Test::Name))
-);
-
-const LITERAL: Syntax<'static> = Syntax::Either(
-    Test::Whole,
-    &Syntax::Empty,
-    &choice!(
-        Text,
-        Syntax::Empty,
-        choice!(
-            Null,
-            Syntax::Empty,
-            seq!(the!(Minus), Syntax::Token(Test::Whole))
-        )
-    ),
-);
-
-const SIGNED: Syntax<'static> = Syntax::Either(
-    Test::Whole,
-    &Syntax::Empty,
-    &seq!(the!(Minus), Syntax::Token(Test::Whole)),
-);
-
-const IDENTS: Syntax<'static> = seq!(
-    Syntax::Token(Test::Name),
-    repeated!(Comma, Syntax::Token(Test::Name))
-);
-
-const LITERALS: Syntax<'static> = seq!(LITERAL, repeated!(Comma, LITERAL));
-
-const COLUMN_REST: Syntax<'static> = seq!(
-    choice!(TtInteger, Syntax::Empty, the!(TtBigint)),
-    optional!(Not, the!(Null)),
-    optional!(Primary, the!(Key))
-);
-
-const COLUMNS: Syntax<'static> = choice!(
-    CloseParen,
-    Syntax::Empty,
-    seq!(
-        the!(Comma),
-        choice!(
-            Primary,
-            seq!(
-                the!(Key),
-                the!(OpenParen),
-                IDENTS,
-                the!(CloseParen),
-                the!(CloseParen)
-            ),
-            seq!(
-                Syntax::Token(Test::Name),
-                COLUMN_REST,
-                Syntax::Named(Rule::Columns)
-            )
-        )
-    )
-);
-
-const TABLE: Syntax<'static> = seq!(
-    TABLE_NAME,
-    the!(OpenParen),
-    Syntax::Token(Test::Name),
-    COLUMN_REST,
-    Syntax::Named(Rule::Columns)
-);
-
-const STATE: Syntax<'static> = choice!(On, Syntax::Empty, Syntax::Token(Test::Rest));
-
-const AUTOREFRESH: Syntax<'static> = optional!(
-    Autorefresh,
-    seq!(
-        optional!(Mode, Syntax::Token(Test::Manner)),
-        optional!(
-            Interval,
-            seq!(
-                Syntax::Token(Test::Whole),
-                Syntax::Token(Test::IntervalUnit)
-            )
-        ),
-        optional!(State, STATE)
-    )
-);
-
-const GROUP_KIND: Syntax<'static> = choice!(
-    Readonly,
-    Syntax::Empty,
-    seq!(the!(Asynchronous), the!(Writethrough))
-);
-
-const CREATE_GROUP: Syntax<'static> = seq!(
-    GROUP_KIND,
-    the!(Cache),
-    the!(Group),
-    TABLE_NAME,
-    AUTOREFRESH,
-    the!(From),
-    TABLE
-);
-
-const INSERT: Syntax<'static> = seq!(
-    the!(Into),
-    TABLE_NAME,
-    the!(Values),
-    the!(OpenParen),
-    LITERALS,
-    the!(CloseParen)
-);
-
-const KEY_FILTER: Syntax<'static> = optional!(
-    Where,
-    seq!(Syntax::Token(Test::Name), the!(Equals), SIGNED)
-);
-
-const UPDATE: Syntax<'static> = seq!(
-    TABLE_NAME,
-    the!(Set),
-    Syntax::Token(Test::Name),
-    the!(Equals),
-    SIGNED,
-    KEY_FILTER
-);
-
-const DELETE: Syntax<'static> = seq!(the!(From), TABLE_NAME, KEY_FILTER);
-
-const SELECT: Syntax<'static> = seq!(the!(Star), the!(From), TABLE_NAME);
-
-const LOAD: Syntax<'static> = seq!(the!(Cache), the!(Group), TABLE_NAME);
-
-const ARGUMENTS: Syntax<'static> = optional!(
-    OpenParen,
-    choice!(CloseParen, Syntax::Empty, seq!(LITERALS, the!(CloseParen)))
-);
-
-static STATEMENT_RULE: Syntax<'static> = choice!(
-    Select,
-    SELECT,
-    choice!(
-        Insert,
-        INSERT,
-        choice!(
-            Create,
-            CREATE_GROUP,
-            choice!(
-                Load,
-                LOAD,
-                choice!(
-                    Call,
-                    seq!(TABLE_NAME, ARGUMENTS),
-                    choice!(Commit, Syntax::Empty, the!(Rollback))
-                )
-            )
-        )
-    )
-);
-
-static COLUMNS_RULE: Syntax<'static> = COLUMNS;
-
-static WRITES_RULE: Syntax<'static> = optional!(
-    Semicolon,
-    choice!(
-        Insert,
-        seq!(INSERT, Syntax::Named(Rule::Writes)),
-        choice!(
-            Update,
-            seq!(UPDATE, Syntax::Named(Rule::Writes)),
-            optional!(Delete, seq!(DELETE, Syntax::Named(Rule::Writes)))
-        )
-    )
-);
-
-static STATEMENT_START: Syntax<'static> = seq!(
-    Syntax::Named(Rule::Statement),
-    optional!(Semicolon, Syntax::Empty)
-);
-
-static SESSION_START: Syntax<'static> = seq!(
-    the!(Colon),
-    choice!(
-        Open,
-        seq!(
-            optional!(Passthrough, Syntax::Token(Test::Level)),
-            optional!(Durable, Syntax::Token(Test::Flag))
-        ),
-        choice!(Close, Syntax::Empty, Syntax::Named(Rule::Statement))
-    ),
-    optional!(Semicolon, Syntax::Empty)
-);
-
-static CONSOLE_START: Syntax<'static> = seq!(
-    the!(Colon),
-    choice!(
-        Create,
-        seq!(the!(Table), TABLE, optional!(Semicolon, Syntax::Empty)),
-        choice!(
-            Insert,
-            seq!(INSERT, Syntax::Named(Rule::Writes)),
-            choice!(
-                Update,
-                seq!(UPDATE, Syntax::Named(Rule::Writes)),
-                seq!(the!(Delete), DELETE, Syntax::Named(Rule::Writes))
-            )
-        )
-    )
-);
+use crate::whole::{
+    AFTER_RULE, AGGS_RULE, AGING_RULE, ANY_STATEMENT_RULE, CALLED_RULE, CHOSEN_RULE, COND_RULE,
+    CREATE_RULE, DELETE_RULE, EXPR_RULE, EXPRS_RULE, GROUP_RULE, IDENTS_RULE, INSERT_RULE,
+    LITERAL_RULE, MIXED_RULE, MORE_COLUMNS_RULE, MORE_WRITES_RULE, NAMED_RULE, PRED_RULE,
+    SELECT_RULE, TABLE_RULE, UPDATE_RULE, WHOLE_CLOCK_START, WHOLE_CONSOLE_START,
+    WHOLE_SESSION_START,
+};
 
 /// What the rule says.
 pub fn body(rule: Rule) -> &'static Syntax<'static>
@@ -246,6 +25,29 @@ pub fn body(rule: Rule) -> &'static Syntax<'static>
         Rule::Statement => &STATEMENT_RULE,
         Rule::Columns => &COLUMNS_RULE,
         Rule::Writes => &WRITES_RULE,
+        Rule::Named => &NAMED_RULE,
+        Rule::Idents => &IDENTS_RULE,
+        Rule::Literal => &LITERAL_RULE,
+        Rule::Expr => &EXPR_RULE,
+        Rule::Pred => &PRED_RULE,
+        Rule::Cond => &COND_RULE,
+        Rule::After => &AFTER_RULE,
+        Rule::Exprs => &EXPRS_RULE,
+        Rule::Aggs => &AGGS_RULE,
+        Rule::Mixed => &MIXED_RULE,
+        Rule::Select => &SELECT_RULE,
+        Rule::Insert => &INSERT_RULE,
+        Rule::Update => &UPDATE_RULE,
+        Rule::Delete => &DELETE_RULE,
+        Rule::MoreColumns => &MORE_COLUMNS_RULE,
+        Rule::Table => &TABLE_RULE,
+        Rule::Aging => &AGING_RULE,
+        Rule::Group => &GROUP_RULE,
+        Rule::Create => &CREATE_RULE,
+        Rule::Chosen => &CHOSEN_RULE,
+        Rule::Called => &CALLED_RULE,
+        Rule::AnyStatement => &ANY_STATEMENT_RULE,
+        Rule::MoreWrites => &MORE_WRITES_RULE,
     }
 }
 
@@ -258,4 +60,25 @@ pub fn whole(start: Start) -> &'static Syntax<'static>
         Start::Session => &SESSION_START,
         Start::Console => &CONSOLE_START,
     }
+}
+
+/// A line of a session behind its label, by the whole grammar.
+pub fn whole_session() -> &'static Syntax<'static>
+    ensures { view result.now ≡ sql.whole_session }
+{
+    &WHOLE_SESSION_START
+}
+
+/// A line of the console behind its label, by the whole grammar.
+pub fn whole_console() -> &'static Syntax<'static>
+    ensures { view result.now ≡ sql.whole_console }
+{
+    &WHOLE_CONSOLE_START
+}
+
+/// A line of the clock behind its label.
+pub fn whole_clock() -> &'static Syntax<'static>
+    ensures { view result.now ≡ sql.whole_clock }
+{
+    &WHOLE_CLOCK_START
 }

@@ -7,6 +7,7 @@ use Rattle.sql_tokens.specs.Heads.{head_of, head_end, good_length}
 use Rattle.sql_grammar.specs.declared.start.Start.{Start}
 use Rattle.sql_grammar.specs.declared.start.Start.TheVariants as starts
 use Rattle.sql_grammar.specs.declared.engine.Verdict.TheVariants as verdicts
+use Rattle.sql_grammar.specs.Sql.{grammar_of}
 use Rattle.sql_grammar.specs.Verdict.{IsSpelt, Judged}
 use Rattle.sql_subset.specs.declared.stmt.Stmt.{Stmt}
 use Rattle.sql_subset.specs.declared.request.Line.{Line}
@@ -61,9 +62,9 @@ pub data Saying : Type 0 where
 -- What the tokens behind a head say, by the grammar of who speaks, in a line of this length.
 abbrev pub Spoken : Start → List ℕ → ℕ → List Lexeme → Saying → Type 0
 Spoken s head end ls Silent = ⊥
-Spoken s head end ls (Says l) = IsSpelt s 32 (kinds_in ls) × (l ≡ line_of s head ls)
-Spoken s head end ls (WrongAt p) = (i : ℕ) × (p ≡ place_at ls i end) × Judged s (kinds_in ls) (verdicts.At i)
-Spoken s head end ls TooDeep = Judged s (kinds_in ls) verdicts.Deep
+Spoken s head end ls (Says l) = IsSpelt (grammar_of s) 32 (kinds_in ls) × (l ≡ line_of s head ls)
+Spoken s head end ls (WrongAt p) = (i : ℕ) × (p ≡ place_at ls i end) × Judged (grammar_of s) (kinds_in ls) (verdicts.At i)
+Spoken s head end ls TooDeep = Judged (grammar_of s) (kinds_in ls) verdicts.Deep
 
 -- The answer to tokens: what they say, or want of memory.
 abbrev pub Told : Start → List ℕ → ℕ → List Lexeme → Result Line ParseError → Type 0
@@ -99,6 +100,23 @@ Answers bytes (Err (e.At p)) = Means bytes (WrongAt p)
 Answers bytes (Err e.Depth) = Means bytes TooDeep
 Answers bytes (Err e.Memory) = is_silent bytes ≡ false
 
+-- some byte is a bad one
+abbrev pub is_spoilt : List ℕ → Bool
+is_spoilt bytes = nat_lt (good_length bytes) (length bytes)
+
 -- The bytes spell this statement.
 abbrev pub Spells : List ℕ → Stmt → Type 0
-Spells bytes s = (length bytes ≡ good_length bytes) × IsSpelt starts.Statement 32 (kinds_in (lexed 0 bytes)) × (s ≡ statement_of (lexed 0 bytes))
+Spells bytes s = (is_spoilt bytes ≡ false) × IsSpelt (grammar_of starts.Statement) 32 (kinds_in (lexed 0 bytes)) × (s ≡ statement_of (lexed 0 bytes))
+
+-- Why the bytes spell no statement, or want of memory.
+abbrev pub Unspelt : Bool → List ℕ → ParseError → Type 0
+Unspelt spoilt bytes e.Memory = Unit {0}
+Unspelt true bytes (e.At p) = p ≡ good_length bytes
+Unspelt true bytes e.Depth = ⊥
+Unspelt false bytes (e.At p) = (i : ℕ) × (p ≡ place_at (lexed 0 bytes) i (length bytes)) × Judged (grammar_of starts.Statement) (kinds_in (lexed 0 bytes)) (verdicts.At i)
+Unspelt false bytes e.Depth = Judged (grammar_of starts.Statement) (kinds_in (lexed 0 bytes)) verdicts.Deep
+
+-- The answer to the bytes of a statement.
+abbrev pub Parses : List ℕ → Result Stmt ParseError → Type 0
+Parses bytes (Ok s) = Spells bytes s
+Parses bytes (Err x) = Unspelt (is_spoilt bytes) bytes x

@@ -1,11 +1,12 @@
 //! Request lines, from their bytes.
 ghost use Rattle.std.specs.Prelude.{◌≡◌, ◌≤◌, ℕ, List, length, IfOk};
 ghost use Rattle.sql_tokens.specs.Lexing.{lexemes_of, lexed};
-ghost use Rattle.sql_subset.specs.Lines.{is_silent, start_of, place_at, line_of, Told, Answers, Means, Saying};
+ghost use Rattle.sql_subset.specs.Lines.{is_silent, start_of, place_at, line_of, Told, Answers, Parses, Means, Saying};
 
 use crate::reader::Reader;
 use crate::request::{Line, ParseError};
-use crate::statements::{read_console, read_request};
+use crate::statements::{read_console, read_request, read_statement};
+use crate::stmt::Stmt;
 use sql_grammar::engine::{Verdict, one_verdict, recognize};
 use sql_grammar::start::Start;
 use sql_tokens::head::{good_length, head};
@@ -129,9 +130,38 @@ pub fn parse_line(alloc: Global, bytes: &[u8]) -> Result<Option<Line>, ParseErro
     }
 }
 
+/// The statement that the bytes spell, without a label.
+///
+/// `At` tells the first bad byte where there is one, else the first byte of the first token with which no statement
+/// goes on, or the length at the end. `Depth` comes where that token goes on only more than 32 levels deep.
+pub fn parse(alloc: Global, bytes: &[u8]) -> Result<Stmt, ParseError>
+    ensures { Parses bytes.now result }
+{
+    let good = good_length(bytes);
+    if good < bytes.len() {
+        return Err(ParseError::At(good));
+    }
+    let Ok(tokens) = lex(alloc, bytes, 0) else {
+        return Err(ParseError::Memory);
+    };
+    match recognize(alloc, Start::Statement, &tokens) {
+        Err(_) => return Err(ParseError::Memory),
+        Ok(Verdict::At(i)) => return Err(ParseError::At(place_of(bytes, &tokens, i))),
+        Ok(Verdict::Deep) => return Err(ParseError::Depth),
+        Ok(Verdict::Fits) => {}
+    }
+    match read_statement(Reader::new(alloc, bytes, &tokens)) {
+        Ok(statement) => Ok(statement),
+        Err(_) => Err(ParseError::Memory),
+    }
+}
+
 /// Each line says just one thing.
 pub fn one_meaning()
     ensures { (bytes : List ℕ) (x y : Saying) → Means bytes x → Means bytes y → x ≡ y }
 {
     one_verdict();
 }
+
+#[cfg(test)]
+mod tests;
