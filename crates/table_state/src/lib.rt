@@ -9,6 +9,7 @@ mod faults;
 mod fitting;
 pub mod history;
 mod judging;
+pub mod laws;
 pub mod lookup;
 mod operating;
 pub mod operation;
