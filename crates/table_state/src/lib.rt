@@ -7,6 +7,7 @@ mod copy;
 pub mod definition;
 mod faults;
 mod fitting;
+pub mod footprint;
 pub mod history;
 mod judging;
 pub mod laws;
@@ -20,6 +21,7 @@ mod types;
 
 pub use copy::copied_schema;
 pub use definition::{BackingSchema, ForeignKey, TableDef};
+pub use footprint::{Footprint, RowKey, conflicts};
 pub use history::{Entry, History, Sealed};
 pub use lookup::{find_table, key_at, key_of_row};
 pub use operation::{Op, Ops, copied_ops, same_ops};
