@@ -27,3 +27,6 @@ pub use lookup::{find_table, key_at, key_of_row};
 pub use operation::{Op, Ops, copied_ops, same_ops};
 pub use refusal::ApplyError;
 pub use tables::Tables;
+
+#[cfg(test)]
+mod tests;
