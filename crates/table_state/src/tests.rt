@@ -1,14 +1,14 @@
 // Declared tables, and operations on a parent and a child table.
 
 use crate::{
-    ApplyError, Entry, Footprint, Op, Sealed, TableDef, Tables, conflicts, copied_ops, copied_schema,
+    ApplyError, Entry, Footprint, Op, Ops, Sealed, TableDef, Tables, conflicts, copied_ops, copied_schema,
     find_table, key_at, key_of_row, same_ops,
 };
 use row_types::{
     ColumnDeclaration, ForeignKeyDeclaration, Refused, Row, TableDeclaration, Text, TypeDeclaration,
     Value,
 };
-use std::alloc::Global;
+use std::alloc::{AllocError, Global};
 use std::test::Fail;
 use tier_base::{Name, Seq, TableId, Ticket};
 
@@ -115,15 +115,38 @@ fn outcome(answer: Result<(), ApplyError>) -> u16 {
     }
 }
 
-fn pair(alloc: Global, first: i64, second: i64) -> Result<Row, Fail> {
-    let values = vec![in alloc; Value::Integer(first), Value::Integer(second)]?;
+// A row of either table. The second value is NULL where there is none.
+fn row(alloc: Global, id: i64, other: Option<i64>) -> Result<Row, AllocError> {
+    let other = match other {
+        None => Value::Null,
+        Some(number) => Value::Integer(number),
+    };
+    let mut values = Vec::new(alloc);
+    values.push(Value::Integer(id))?;
+    values.push(other)?;
     Ok(Row::from_vec(values))
 }
 
-// A row of the parent, without a note.
-fn owner(alloc: Global, id: i64) -> Result<Row, Fail> {
-    let values = vec![in alloc; Value::Integer(id), Value::Null]?;
-    Ok(Row::from_vec(values))
+fn insert(alloc: Global, table: TableId, id: i64, other: Option<i64>) -> Result<Op, AllocError> {
+    Ok(Op::Insert(table, row(alloc, id, other)?))
+}
+
+fn delete(alloc: Global, table: TableId, id: i64, other: Option<i64>) -> Result<Op, AllocError> {
+    Ok(Op::Delete(table, row(alloc, id, other)?))
+}
+
+// A child's row becomes another.
+fn moved(alloc: Global, old: (i64, i64), new: (i64, i64)) -> Result<Op, AllocError> {
+    let before = row(alloc, old.0, Some(old.1))?;
+    let after = row(alloc, new.0, Some(new.1))?;
+    Ok(Op::Update(CHILD, before, after))
+}
+
+fn applied(alloc: Global, tables: &mut Tables, op: Result<Op, AllocError>) -> u16 {
+    match op {
+        Ok(op) => outcome(tables.apply(alloc, &op)),
+        Err(_) => 299,
+    }
 }
 
 fn counts(tables: &Tables) -> (usize, usize) {
@@ -133,27 +156,42 @@ fn counts(tables: &Tables) -> (usize, usize) {
     }
 }
 
+fn parent_code(alloc: Global, digits: &[u8], tables: &Tables) -> Result<u16, Fail> {
+    let declaration = parent(alloc, digits)?;
+    Ok(checked(alloc, &declaration, tables))
+}
+
+// `columns` more columns N are put behind the others, each with PRIMARY KEY behind it.
+fn child_code(
+    alloc: Global,
+    ty: TypeDeclaration,
+    key: &[u8],
+    columns: usize,
+    tables: &Tables,
+) -> Result<u16, Fail> {
+    let mut declaration = child(alloc, ty, key, b"P")?;
+    for _ in 0..columns {
+        let more = column(alloc, b"N", TypeDeclaration::Timestamp, true)?;
+        declaration.columns.push(more)?;
+    }
+    Ok(checked(alloc, &declaration, tables))
+}
+
 #[test]
 fn a_declaration_tells_the_first_rule_that_it_breaks(rt: HostRuntime) -> Result<(), Fail> {
     let alloc = rt.alloc();
     let mut tables = Tables::new(alloc);
-    let integer = child(alloc, TypeDeclaration::TtInteger, b"ID", b"P")?;
-    assert_eq!(rt; checked(alloc, &integer, &tables), 102);
-    assert_eq!(rt; checked(alloc, &parent(alloc, b"0")?, &tables), 105);
-    assert_eq!(rt; checked(alloc, &parent(alloc, b"4001")?, &tables), 105);
-    assert_eq!(rt; checked(alloc, &parent(alloc, b"99999999999999999999999")?, &tables), 105);
+    assert_eq!(rt; child_code(alloc, TypeDeclaration::TtInteger, b"ID", 0, &tables)?, 102);
+    assert_eq!(rt; parent_code(alloc, b"0", &tables)?, 105);
+    assert_eq!(rt; parent_code(alloc, b"4001", &tables)?, 105);
+    assert_eq!(rt; parent_code(alloc, b"99999999999999999999999", &tables)?, 105);
     defined(alloc, &parent(alloc, b"4000")?, &mut tables)?;
-    assert_eq!(rt; checked(alloc, &parent(alloc, b"20")?, &tables), 113);
-    assert_eq!(rt; checked(alloc, &integer, &tables), 0);
-    let unknown = child(alloc, TypeDeclaration::TtInteger, b"KEY1", b"P")?;
-    assert_eq!(rt; checked(alloc, &unknown, &tables), 103);
-    let other_type = child(alloc, TypeDeclaration::TtBigint, b"ID", b"P")?;
-    assert_eq!(rt; checked(alloc, &other_type, &tables), 104);
-    let mut two_keys = child(alloc, TypeDeclaration::TtInteger, b"ID", b"P")?;
-    two_keys.columns.push(column(alloc, b"N", TypeDeclaration::Timestamp, true)?)?;
-    assert_eq!(rt; checked(alloc, &two_keys, &tables), 104);
-    two_keys.columns.push(column(alloc, b"N", TypeDeclaration::Timestamp, true)?)?;
-    assert_eq!(rt; checked(alloc, &two_keys, &tables), 103);
+    assert_eq!(rt; parent_code(alloc, b"20", &tables)?, 113);
+    assert_eq!(rt; child_code(alloc, TypeDeclaration::TtInteger, b"ID", 0, &tables)?, 0);
+    assert_eq!(rt; child_code(alloc, TypeDeclaration::TtInteger, b"K", 0, &tables)?, 103);
+    assert_eq!(rt; child_code(alloc, TypeDeclaration::TtBigint, b"ID", 0, &tables)?, 104);
+    assert_eq!(rt; child_code(alloc, TypeDeclaration::TtInteger, b"ID", 1, &tables)?, 104);
+    assert_eq!(rt; child_code(alloc, TypeDeclaration::TtInteger, b"ID", 2, &tables)?, 103);
     Ok(())
 }
 
@@ -169,7 +207,7 @@ fn a_definition_is_found_and_copied(rt: HostRuntime) -> Result<(), Fail> {
             assert!(rt; copy.same(def));
             assert!(rt; copy.over_limit(tables.schema()).is_none());
             assert_eq!(rt; copy.primary_key.as_slice(), [0].as_slice());
-            let row = pair(alloc, 7, 8)?;
+            let row = row(alloc, 7, Some(8))?;
             let key = key_of_row(alloc, copy, &row)?;
             let both = key_at(alloc, &[1, 0], &row)?;
             assert_eq!(rt; key.values().len(), 1);
@@ -184,78 +222,121 @@ fn a_definition_is_found_and_copied(rt: HostRuntime) -> Result<(), Fail> {
 fn an_operation_tells_the_first_rule_that_it_breaks(rt: HostRuntime) -> Result<(), Fail> {
     let alloc = rt.alloc();
     let mut tables = family(alloc)?;
-    let insert_child = Op::Insert(CHILD, pair(alloc, 1, 5)?);
-    let insert_parent = Op::Insert(PARENT, owner(alloc, 5)?);
-    assert_eq!(rt; outcome(tables.apply(alloc, &Op::Insert(TableId(2), owner(alloc, 5)?))), 102);
-    assert_eq!(rt; outcome(tables.apply(alloc, &Op::Insert(CHILD, owner(alloc, 5)?))), 106);
-    assert_eq!(rt; outcome(tables.apply(alloc, &Op::Insert(PARENT, pair(alloc, 5, 5)?))), 105);
-    assert_eq!(rt; outcome(tables.apply(alloc, &insert_child)), 108);
-    assert_eq!(rt; outcome(tables.apply(alloc, &insert_parent)), 0);
-    assert_eq!(rt; outcome(tables.apply(alloc, &insert_parent)), 107);
-    assert_eq!(rt; outcome(tables.apply(alloc, &insert_child)), 0);
-    assert_eq!(rt; outcome(tables.apply(alloc, &Op::Delete(PARENT, owner(alloc, 5)?))), 109);
-    assert_eq!(rt; outcome(tables.apply(alloc, &Op::Delete(CHILD, pair(alloc, 1, 6)?))), 210);
-    let other_key = Op::Update(CHILD, pair(alloc, 1, 5)?, pair(alloc, 2, 5)?);
-    assert_eq!(rt; outcome(tables.apply(alloc, &other_key)), 118);
-    let other_parent = Op::Update(CHILD, pair(alloc, 1, 5)?, pair(alloc, 1, 6)?);
-    assert_eq!(rt; outcome(tables.apply(alloc, &other_parent)), 108);
-    assert_eq!(rt; outcome(tables.apply(alloc, &Op::Delete(CHILD, pair(alloc, 1, 5)?))), 0);
-    assert_eq!(rt; outcome(tables.apply(alloc, &Op::Delete(PARENT, owner(alloc, 5)?))), 0);
+    let nowhere = insert(alloc, TableId(2), 5, None);
+    assert_eq!(rt; applied(alloc, &mut tables, nowhere), 102);
+    let cases = [
+        (insert(alloc, CHILD, 5, None), 106),
+        (insert(alloc, PARENT, 5, Some(5)), 105),
+        (insert(alloc, CHILD, 1, Some(5)), 108),
+        (insert(alloc, PARENT, 5, None), 0),
+        (insert(alloc, PARENT, 5, None), 107),
+        (insert(alloc, CHILD, 1, Some(5)), 0),
+        (delete(alloc, PARENT, 5, None), 109),
+        (delete(alloc, CHILD, 1, Some(6)), 210),
+        (moved(alloc, (1, 5), (2, 5)), 118),
+        (moved(alloc, (1, 5), (1, 6)), 108),
+        (delete(alloc, CHILD, 1, Some(5)), 0),
+        (delete(alloc, PARENT, 5, None), 0),
+    ];
+    for (op, code) in cases {
+        assert_eq!(rt; applied(alloc, &mut tables, op), code);
+    }
     assert_eq!(rt; counts(&tables), (0, 0));
     Ok(())
+}
+
+// Two parents and a child, which goes from the first to the second.
+fn good_ops(alloc: Global) -> Result<Vec<Op>, AllocError> {
+    let mut ops = Vec::new(alloc);
+    ops.push(insert(alloc, PARENT, 5, None)?)?;
+    ops.push(insert(alloc, CHILD, 1, Some(5))?)?;
+    ops.push(insert(alloc, PARENT, 6, None)?)?;
+    ops.push(moved(alloc, (1, 5), (1, 6))?)?;
+    Ok(ops)
+}
+
+// The last one is there already.
+fn bad_ops(alloc: Global) -> Result<Vec<Op>, AllocError> {
+    let mut ops = Vec::new(alloc);
+    ops.push(insert(alloc, PARENT, 7, None)?)?;
+    ops.push(moved(alloc, (1, 6), (1, 7))?)?;
+    ops.push(insert(alloc, PARENT, 6, None)?)?;
+    Ok(ops)
+}
+
+fn deletes(alloc: Global) -> Result<Vec<Op>, AllocError> {
+    let mut ops = Vec::new(alloc);
+    ops.push(delete(alloc, CHILD, 1, Some(6))?)?;
+    ops.push(delete(alloc, PARENT, 6, None)?)?;
+    Ok(ops)
+}
+
+fn all_applied(alloc: Global, tables: &mut Tables, ops: Result<Vec<Op>, AllocError>) -> u16 {
+    match ops {
+        Ok(ops) => outcome(tables.apply_all(alloc, ops.as_slice())),
+        Err(_) => 299,
+    }
 }
 
 #[test]
 fn a_transaction_is_applied_whole_or_not_at_all(rt: HostRuntime) -> Result<(), Fail> {
     let alloc = rt.alloc();
     let mut tables = family(alloc)?;
-    let mut ops = Seq::new(alloc);
-    ops.push(Op::Insert(PARENT, owner(alloc, 5)?))?;
-    ops.push(Op::Insert(CHILD, pair(alloc, 1, 5)?))?;
-    ops.push(Op::Insert(PARENT, owner(alloc, 6)?))?;
-    ops.push(Op::Update(CHILD, pair(alloc, 1, 5)?, pair(alloc, 1, 6)?))?;
-    assert_eq!(rt; outcome(tables.apply_all(alloc, ops.as_slice())), 0);
+    assert_eq!(rt; all_applied(alloc, &mut tables, good_ops(alloc)), 0);
     assert_eq!(rt; counts(&tables), (2, 1));
-    let mut bad = Seq::new(alloc);
-    bad.push(Op::Insert(PARENT, owner(alloc, 7)?))?;
-    bad.push(Op::Update(CHILD, pair(alloc, 1, 6)?, pair(alloc, 1, 7)?))?;
-    bad.push(Op::Insert(PARENT, owner(alloc, 6)?))?;
-    assert_eq!(rt; outcome(tables.apply_all(alloc, bad.as_slice())), 107);
+    assert_eq!(rt; all_applied(alloc, &mut tables, bad_ops(alloc)), 107);
     assert_eq!(rt; counts(&tables), (2, 1));
-    let mut deletes = Seq::new(alloc);
-    deletes.push(Op::Delete(CHILD, pair(alloc, 1, 6)?))?;
-    deletes.push(Op::Delete(PARENT, owner(alloc, 6)?))?;
     let before = tables.copied(alloc)?;
-    assert_eq!(rt; outcome(tables.apply_all(alloc, deletes.as_slice())), 0);
+    assert_eq!(rt; all_applied(alloc, &mut tables, deletes(alloc)), 0);
     assert_eq!(rt; counts(&tables), (1, 0));
     assert_eq!(rt; counts(&before), (2, 1));
     Ok(())
 }
 
-#[test]
-fn a_history_is_run_and_its_entries_are_copied(rt: HostRuntime) -> Result<(), Fail> {
-    let alloc = rt.alloc();
-    let source = family(alloc)?;
+fn one(alloc: Global, op: Result<Op, AllocError>) -> Result<Ops, AllocError> {
+    let mut ops = Vec::new(alloc);
+    ops.push(op?)?;
+    Ok(Seq::from_vec(ops))
+}
+
+fn definitions(alloc: Global, tables: &Tables) -> Result<Vec<Entry>, AllocError> {
     let mut entries = Vec::new(alloc);
-    for def in copied_schema(alloc, source.schema().as_slice())?.into_vec() {
+    for def in copied_schema(alloc, tables.schema().as_slice())?.into_vec() {
         entries.push(Entry::Definition(def))?;
     }
-    let mut ops = Seq::new(alloc);
-    ops.push(Op::Insert(PARENT, owner(alloc, 5)?))?;
-    let sealed = Sealed { ticket: Ticket(1), ops };
-    let copy = sealed.copied(alloc)?;
-    assert!(rt; copy.same(&sealed));
-    assert!(rt; same_ops(copy.ops.as_slice(), copied_ops(alloc, sealed.ops.as_slice())?.as_slice()));
-    entries.push(Entry::Own(sealed.ticket, sealed.ops))?;
-    let mut more = Seq::new(alloc);
-    more.push(Op::Insert(CHILD, pair(alloc, 1, 5)?))?;
-    let last = Entry::Foreign(more);
-    assert!(rt; last.copied(alloc)?.same(&last));
+    Ok(entries)
+}
+
+#[test]
+fn a_history_is_run(rt: HostRuntime) -> Result<(), Fail> {
+    let alloc = rt.alloc();
+    let entries = definitions(alloc, &family(alloc)?)?;
+    let parents = one(alloc, insert(alloc, PARENT, 5, None))?;
+    let children = one(alloc, insert(alloc, CHILD, 1, Some(5)))?;
+    let first = Entry::Own(Ticket(1), parents);
+    let second = Entry::Foreign(children);
     let mut tables = Tables::new(alloc);
     assert_eq!(rt; outcome(tables.run(alloc, entries.as_slice())), 0);
-    assert_eq!(rt; outcome(tables.step(alloc, &last)), 0);
-    assert_eq!(rt; outcome(tables.step(alloc, &last)), 107);
+    assert_eq!(rt; outcome(tables.step(alloc, &second)), 108);
+    assert_eq!(rt; outcome(tables.step(alloc, &first)), 0);
+    assert_eq!(rt; outcome(tables.step(alloc, &second)), 0);
     assert_eq!(rt; counts(&tables), (1, 1));
+    Ok(())
+}
+
+#[test]
+fn a_transaction_is_copied(rt: HostRuntime) -> Result<(), Fail> {
+    let alloc = rt.alloc();
+    let sealed = Sealed {
+        ticket: Ticket(1),
+        ops: one(alloc, moved(alloc, (1, 5), (1, 6)))?,
+    };
+    let copy = sealed.copied(alloc)?;
+    assert!(rt; copy.same(&sealed));
+    let ops = copied_ops(alloc, sealed.ops.as_slice())?;
+    assert!(rt; same_ops(ops.as_slice(), copy.ops.as_slice()));
+    let entry = Entry::Own(Ticket(2), ops);
+    assert!(rt; entry.copied(alloc)?.same(&entry));
     Ok(())
 }
 
@@ -264,9 +345,9 @@ fn a_deleted_row_refers_to_its_parent(rt: HostRuntime) -> Result<(), Fail> {
     let alloc = rt.alloc();
     let tables = family(alloc)?;
     let schema = tables.schema();
-    let deletes = vec![in alloc; Op::Delete(CHILD, pair(alloc, 1, 5)?)]?;
-    let inserts = vec![in alloc; Op::Insert(PARENT, owner(alloc, 5)?)]?;
-    let others = vec![in alloc; Op::Insert(PARENT, owner(alloc, 1)?)]?;
+    let deletes = one(alloc, delete(alloc, CHILD, 1, Some(5)))?;
+    let inserts = one(alloc, insert(alloc, PARENT, 5, None))?;
+    let others = one(alloc, insert(alloc, PARENT, 1, None))?;
     let deleted = Footprint::of(alloc, schema, deletes.as_slice())?;
     let inserted = Footprint::of(alloc, schema, inserts.as_slice())?;
     let other = Footprint::of(alloc, schema, others.as_slice())?;
