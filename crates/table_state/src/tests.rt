@@ -10,21 +10,31 @@ use row_types::{
 };
 use std::alloc::{AllocError, Global};
 use std::test::Fail;
-use tier_base::{Name, Seq, TableId, Ticket};
+use tier_base::{Name, NameError, Seq, TableId, Ticket};
 
 const PARENT: TableId = TableId(0);
 const CHILD: TableId = TableId(1);
 
-fn name(alloc: Global, bytes: &[u8]) -> Result<Name, Fail> {
-    Ok(Name::new(alloc, bytes)?)
+fn list_of_two<T: Drop>(alloc: Global, first: T, second: T) -> Result<Seq<T>, AllocError> {
+    let mut items = Vec::new(alloc);
+    items.push(first)?;
+    items.push(second)?;
+    Ok(Seq::from_vec(items))
 }
 
-fn names(alloc: Global, all: &[&[u8]]) -> Result<Seq<Name>, Fail> {
-    let mut list = Vec::new(alloc);
-    for bytes in all {
-        list.push(name(alloc, bytes)?)?;
-    }
-    Ok(Seq::from_vec(list))
+fn put<T: Drop>(list: &mut Seq<T>, item: T) -> Result<(), AllocError> {
+    list.push(item)?;
+    Ok(())
+}
+
+fn name(alloc: Global, bytes: &[u8]) -> Result<Name, NameError> {
+    Name::new(alloc, bytes)
+}
+
+fn names(alloc: Global, bytes: &[u8]) -> Result<Seq<Name>, NameError> {
+    let mut names = Seq::new(alloc);
+    put(&mut names, name(alloc, bytes)?)?;
+    Ok(names)
 }
 
 fn column(
@@ -32,49 +42,64 @@ fn column(
     bytes: &[u8],
     ty: TypeDeclaration,
     primary_key: bool,
-) -> Result<ColumnDeclaration, Fail> {
+) -> Result<ColumnDeclaration, NameError> {
+    let name = name(alloc, bytes)?;
     Ok(ColumnDeclaration {
-        name: name(alloc, bytes)?,
+        name,
         ty,
         not_null: false,
         primary_key,
     })
 }
 
+// Two columns, ID and another.
+fn columns(
+    alloc: Global,
+    is_key: bool,
+    bytes: &[u8],
+    ty: TypeDeclaration,
+) -> Result<Seq<ColumnDeclaration>, NameError> {
+    let first = column(alloc, b"ID", TypeDeclaration::TtInteger, is_key)?;
+    let second = column(alloc, bytes, ty, false)?;
+    let columns = list_of_two(alloc, first, second)?;
+    Ok(columns)
+}
+
 // CREATE TABLE P (ID TT_INTEGER PRIMARY KEY, NOTE VARCHAR2(digits))
-fn parent(alloc: Global, digits: &[u8]) -> Result<TableDeclaration, Fail> {
+fn parent(alloc: Global, digits: &[u8]) -> Result<TableDeclaration, NameError> {
     let digits = Text::new(alloc, digits)?;
-    let mut columns = Vec::new(alloc);
-    columns.push(column(alloc, b"ID", TypeDeclaration::TtInteger, true)?)?;
-    columns.push(column(alloc, b"NOTE", TypeDeclaration::Varchar2(digits), false)?)?;
+    let columns = columns(alloc, true, b"NOTE", TypeDeclaration::Varchar2(digits))?;
+    let name = name(alloc, b"P")?;
     Ok(TableDeclaration {
-        name: name(alloc, b"P")?,
-        columns: Seq::from_vec(columns),
+        name,
+        columns,
         primary_key: None,
         foreign_key: None,
     })
 }
 
-// CREATE TABLE C (ID TT_INTEGER, OWNER ty, PRIMARY KEY (key), FOREIGN KEY (OWNER) REFERENCES to (ID))
-fn child(
-    alloc: Global,
-    ty: TypeDeclaration,
-    key: &[u8],
-    to: &[u8],
-) -> Result<TableDeclaration, Fail> {
-    let mut columns = Vec::new(alloc);
-    columns.push(column(alloc, b"ID", TypeDeclaration::TtInteger, false)?)?;
-    columns.push(column(alloc, b"OWNER", ty, false)?)?;
-    let foreign = ForeignKeyDeclaration {
-        columns: names(alloc, &[b"OWNER"])?,
-        parent: name(alloc, to)?,
-        parent_columns: names(alloc, &[b"ID"])?,
+fn reference(alloc: Global) -> Result<ForeignKeyDeclaration, NameError> {
+    let columns = names(alloc, b"OWNER")?;
+    let parent_columns = names(alloc, b"ID")?;
+    let parent = name(alloc, b"P")?;
+    Ok(ForeignKeyDeclaration {
+        columns,
+        parent,
+        parent_columns,
         cascade: false,
-    };
+    })
+}
+
+// CREATE TABLE C (ID TT_INTEGER, OWNER ty, PRIMARY KEY (key), FOREIGN KEY (OWNER) REFERENCES P (ID))
+fn child(alloc: Global, ty: TypeDeclaration, key: &[u8]) -> Result<TableDeclaration, NameError> {
+    let columns = columns(alloc, false, b"OWNER", ty)?;
+    let key = names(alloc, key)?;
+    let foreign = reference(alloc)?;
+    let name = name(alloc, b"C")?;
     Ok(TableDeclaration {
-        name: name(alloc, b"C")?,
-        columns: Seq::from_vec(columns),
-        primary_key: Some(names(alloc, &[key])?),
+        name,
+        columns,
+        primary_key: Some(key),
         foreign_key: Some(foreign),
     })
 }
@@ -87,22 +112,24 @@ fn checked(alloc: Global, declaration: &TableDeclaration, tables: &Tables) -> u1
     }
 }
 
-fn defined(alloc: Global, declaration: &TableDeclaration, tables: &mut Tables) -> Result<(), Fail> {
+// Checks and makes a table.
+fn define(alloc: Global, tables: &mut Tables, declaration: &TableDeclaration) -> u16 {
     match TableDef::check(alloc, declaration, tables.schema()) {
-        Ok(def) => {
-            tables.define(alloc, def)?;
-            Ok(())
-        }
-        Err(_) => Err("refused".into()),
+        Ok(def) => match tables.define(alloc, def) {
+            Ok(()) => 0,
+            Err(_) => 299,
+        },
+        Err(_) => 100,
     }
 }
 
 // A parent and its child table, without rows.
-fn family(alloc: Global) -> Result<Tables, Fail> {
+fn family(alloc: Global) -> Result<Tables, NameError> {
+    let parent = parent(alloc, b"20")?;
+    let child = child(alloc, TypeDeclaration::TtInteger, b"ID")?;
     let mut tables = Tables::new(alloc);
-    defined(alloc, &parent(alloc, b"20")?, &mut tables)?;
-    let declaration = child(alloc, TypeDeclaration::TtInteger, b"ID", b"P")?;
-    defined(alloc, &declaration, &mut tables)?;
+    define(alloc, &mut tables, &parent);
+    define(alloc, &mut tables, &child);
     Ok(tables)
 }
 
@@ -156,65 +183,76 @@ fn counts(tables: &Tables) -> (usize, usize) {
     }
 }
 
-fn parent_code(alloc: Global, digits: &[u8], tables: &Tables) -> Result<u16, Fail> {
-    let declaration = parent(alloc, digits)?;
-    Ok(checked(alloc, &declaration, tables))
+fn parent_code(alloc: Global, digits: &[u8], tables: &Tables) -> u16 {
+    match parent(alloc, digits) {
+        Ok(declaration) => checked(alloc, &declaration, tables),
+        Err(_) => 299,
+    }
 }
 
-// `columns` more columns N are put behind the others, each with PRIMARY KEY behind it.
-fn child_code(
-    alloc: Global,
-    ty: TypeDeclaration,
-    key: &[u8],
-    columns: usize,
-    tables: &Tables,
-) -> Result<u16, Fail> {
-    let mut declaration = child(alloc, ty, key, b"P")?;
-    for _ in 0..columns {
-        let more = column(alloc, b"N", TypeDeclaration::Timestamp, true)?;
-        declaration.columns.push(more)?;
+fn child_code(alloc: Global, ty: TypeDeclaration, key: &[u8], tables: &Tables) -> u16 {
+    match child(alloc, ty, key) {
+        Ok(declaration) => checked(alloc, &declaration, tables),
+        Err(_) => 299,
     }
-    Ok(checked(alloc, &declaration, tables))
+}
+
+// The child's declaration with a second primary key.
+fn two_keys(alloc: Global) -> Result<TableDeclaration, NameError> {
+    let mut declaration = child(alloc, TypeDeclaration::TtInteger, b"ID")?;
+    let more = column(alloc, b"N", TypeDeclaration::Timestamp, true)?;
+    put(&mut declaration.columns, more)?;
+    Ok(declaration)
 }
 
 #[test]
 fn a_declaration_tells_the_first_rule_that_it_breaks(rt: HostRuntime) -> Result<(), Fail> {
     let alloc = rt.alloc();
     let mut tables = Tables::new(alloc);
-    assert_eq!(rt; child_code(alloc, TypeDeclaration::TtInteger, b"ID", 0, &tables)?, 102);
-    assert_eq!(rt; parent_code(alloc, b"0", &tables)?, 105);
-    assert_eq!(rt; parent_code(alloc, b"4001", &tables)?, 105);
-    assert_eq!(rt; parent_code(alloc, b"99999999999999999999999", &tables)?, 105);
-    defined(alloc, &parent(alloc, b"4000")?, &mut tables)?;
-    assert_eq!(rt; parent_code(alloc, b"20", &tables)?, 113);
-    assert_eq!(rt; child_code(alloc, TypeDeclaration::TtInteger, b"ID", 0, &tables)?, 0);
-    assert_eq!(rt; child_code(alloc, TypeDeclaration::TtInteger, b"K", 0, &tables)?, 103);
-    assert_eq!(rt; child_code(alloc, TypeDeclaration::TtBigint, b"ID", 0, &tables)?, 104);
-    assert_eq!(rt; child_code(alloc, TypeDeclaration::TtInteger, b"ID", 1, &tables)?, 104);
-    assert_eq!(rt; child_code(alloc, TypeDeclaration::TtInteger, b"ID", 2, &tables)?, 103);
+    let numbers = [
+        child_code(alloc, TypeDeclaration::TtInteger, b"ID", &tables),
+        parent_code(alloc, b"0", &tables),
+        parent_code(alloc, b"4001", &tables),
+        parent_code(alloc, b"99999999999999999999999", &tables),
+    ];
+    assert_eq!(rt; numbers, [102, 105, 105, 105]);
+    assert_eq!(rt; define(alloc, &mut tables, &parent(alloc, b"4000")?), 0);
+    let numbers = [
+        parent_code(alloc, b"20", &tables),
+        child_code(alloc, TypeDeclaration::TtInteger, b"ID", &tables),
+        child_code(alloc, TypeDeclaration::TtInteger, b"K", &tables),
+        child_code(alloc, TypeDeclaration::TtBigint, b"ID", &tables),
+        checked(alloc, &two_keys(alloc)?, &tables),
+    ];
+    assert_eq!(rt; numbers, [113, 0, 103, 104, 104]);
     Ok(())
 }
 
 #[test]
-fn a_definition_is_found_and_copied(rt: HostRuntime) -> Result<(), Fail> {
+fn a_table_is_found_by_its_name(rt: HostRuntime) -> Result<(), Fail> {
     let alloc = rt.alloc();
     let tables = family(alloc)?;
     assert_eq!(rt; find_table(tables.schema(), &name(alloc, b"c")?), Some(CHILD));
     assert_eq!(rt; find_table(tables.schema(), &name(alloc, b"D")?), None);
-    let copies = copied_schema(alloc, tables.schema().as_slice())?;
-    match (copies.get(1), tables.schema().get(1)) {
-        (Some(copy), Some(def)) => {
-            assert!(rt; copy.same(def));
-            assert!(rt; copy.over_limit(tables.schema()).is_none());
-            assert_eq!(rt; copy.primary_key.as_slice(), [0].as_slice());
-            let row = row(alloc, 7, Some(8))?;
-            let key = key_of_row(alloc, copy, &row)?;
-            let both = key_at(alloc, &[1, 0], &row)?;
-            assert_eq!(rt; key.values().len(), 1);
-            assert_eq!(rt; both.values().len(), 2);
-        }
-        _ => assert!(rt; false),
-    }
+    Ok(())
+}
+
+fn key_lengths(alloc: Global, def: &TableDef) -> Result<(usize, usize), AllocError> {
+    let row = row(alloc, 7, Some(8))?;
+    let key = key_of_row(alloc, def, &row)?;
+    let both = key_at(alloc, &[1, 0], &row)?;
+    Ok((key.values().len(), both.values().len()))
+}
+
+#[test]
+fn a_key_has_the_values_at_its_places(rt: HostRuntime) -> Result<(), Fail> {
+    let alloc = rt.alloc();
+    let tables = family(alloc)?;
+    let lengths = match tables.schema().get(1) {
+        Some(def) => key_lengths(alloc, def)?,
+        None => (0, 0),
+    };
+    assert_eq!(rt; lengths, (1, 2));
     Ok(())
 }
 
@@ -222,25 +260,25 @@ fn a_definition_is_found_and_copied(rt: HostRuntime) -> Result<(), Fail> {
 fn an_operation_tells_the_first_rule_that_it_breaks(rt: HostRuntime) -> Result<(), Fail> {
     let alloc = rt.alloc();
     let mut tables = family(alloc)?;
-    let nowhere = insert(alloc, TableId(2), 5, None);
-    assert_eq!(rt; applied(alloc, &mut tables, nowhere), 102);
-    let cases = [
-        (insert(alloc, CHILD, 5, None), 106),
-        (insert(alloc, PARENT, 5, Some(5)), 105),
-        (insert(alloc, CHILD, 1, Some(5)), 108),
-        (insert(alloc, PARENT, 5, None), 0),
-        (insert(alloc, PARENT, 5, None), 107),
-        (insert(alloc, CHILD, 1, Some(5)), 0),
-        (delete(alloc, PARENT, 5, None), 109),
-        (delete(alloc, CHILD, 1, Some(6)), 210),
-        (moved(alloc, (1, 5), (2, 5)), 118),
-        (moved(alloc, (1, 5), (1, 6)), 108),
-        (delete(alloc, CHILD, 1, Some(5)), 0),
-        (delete(alloc, PARENT, 5, None), 0),
+    let inserts = [
+        applied(alloc, &mut tables, insert(alloc, TableId(2), 5, None)),
+        applied(alloc, &mut tables, insert(alloc, CHILD, 5, None)),
+        applied(alloc, &mut tables, insert(alloc, PARENT, 5, Some(5))),
+        applied(alloc, &mut tables, insert(alloc, CHILD, 1, Some(5))),
+        applied(alloc, &mut tables, insert(alloc, PARENT, 5, None)),
+        applied(alloc, &mut tables, insert(alloc, PARENT, 5, None)),
+        applied(alloc, &mut tables, insert(alloc, CHILD, 1, Some(5))),
     ];
-    for (op, code) in cases {
-        assert_eq!(rt; applied(alloc, &mut tables, op), code);
-    }
+    assert_eq!(rt; inserts, [102, 106, 105, 108, 0, 107, 0]);
+    let others = [
+        applied(alloc, &mut tables, delete(alloc, PARENT, 5, None)),
+        applied(alloc, &mut tables, delete(alloc, CHILD, 1, Some(6))),
+        applied(alloc, &mut tables, moved(alloc, (1, 5), (2, 5))),
+        applied(alloc, &mut tables, moved(alloc, (1, 5), (1, 6))),
+        applied(alloc, &mut tables, delete(alloc, CHILD, 1, Some(5))),
+        applied(alloc, &mut tables, delete(alloc, PARENT, 5, None)),
+    ];
+    assert_eq!(rt; others, [109, 210, 118, 108, 0, 0]);
     assert_eq!(rt; counts(&tables), (0, 0));
     Ok(())
 }
