@@ -116,11 +116,11 @@ front_fault : (xs ys : List Op) (s : TableState) (e : ApplyError) → broken_by_
 front_fault [] ys s e h = cc
 front_fault (op ∷ xs) ys s e h = by (broken_by op s) (applied op s) h (λ t. front_fault xs ys t e)
   where
-  by : (f : Option ApplyError) (o : Option TableState) → option_or f (option_and_then (broken_by_all xs) o) ≡ Some e → ((t : TableState) → broken_by_all xs t ≡ Some e → broken_by_all (xs ++ ys) t ≡ Some e)
-      → option_or f (option_and_then (broken_by_all (xs ++ ys)) o) ≡ Some e
-  by (Some y) o h rest = h
-  by None None h rest = cc
-  by None (Some t) h rest = rest t h
+    by : (f : Option ApplyError) (o : Option TableState) → option_or f (option_and_then (broken_by_all xs) o) ≡ Some e → ((t : TableState) → broken_by_all xs t ≡ Some e → broken_by_all (xs ++ ys) t ≡ Some e)
+        → option_or f (option_and_then (broken_by_all (xs ++ ys)) o) ≡ Some e
+    by (Some y) o h rest = h
+    by None None h rest = cc
+    by None (Some t) h rest = rest t h
 
 pub fault_in_front : (xs ys : List Op) (s : TableState) (e : ApplyError) → IsFault (broken_by_all xs s) e → IsFault (broken_by_all (xs ++ ys) s) e
 fault_in_front xs ys s (error.Rule rule) h = front_fault xs ys s (error.Rule rule) h

@@ -1,6 +1,6 @@
 -- What a transaction reads and writes, and when the order of two transactions matters. (This project's rule.)
 
-use Rattle.std.specs.Prelude.{ℕ, List, [], ◌∷◌, ◌++◌, Option, Some, None, Bool, ◌&&◌, ◌||◌, nat_eq, slice_get}
+use Rattle.std.specs.Prelude.{List, [], ◌∷◌, Option, Some, None, Bool, ◌&&◌, ◌||◌, nat_eq, slice_get}
 use Rattle.std.specs.List.{flat_map, list_any}
 use Rattle.row_types.specs.declared.value.Value.{Value}
 use Rattle.tier_base.specs.declared.number.TableId.{TableId}

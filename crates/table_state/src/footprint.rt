@@ -46,11 +46,7 @@ fn is_any_in(footprint: &Footprint, keys: &[RowKey]) -> bool
 
 impl Footprint {
     /// The footprint of a transaction.
-    pub fn of(
-        alloc: Global,
-        schema: &BackingSchema,
-        ops: &[Op],
-    ) -> Result<Footprint, AllocError>
+    pub fn of(alloc: Global, schema: &BackingSchema, ops: &[Op]) -> Result<Footprint, AllocError>
         ensures { IfOk result (λ footprint. footprint ≡ footprint_of schema.now ops.now) }
     {
         let mut footprint = Footprint {

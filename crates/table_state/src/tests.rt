@@ -1,18 +1,19 @@
 // Declared tables, and operations on a parent and a child table.
 
 use crate::{
-    ApplyError, Entry, Footprint, Op, Ops, Sealed, TableDef, Tables, conflicts, copied_ops, copied_schema,
-    find_table, key_at, key_of_row, same_ops,
+    ApplyError, Entry, Footprint, Op, Ops, Sealed, TableDef, Tables, conflicts, copied_ops,
+    copied_schema, find_table, key_at, key_of_row, same_ops,
 };
 use row_types::{
-    ColumnDeclaration, ForeignKeyDeclaration, Refused, Row, TableDeclaration, Text, TypeDeclaration,
-    Value,
+    ColumnDeclaration, ForeignKeyDeclaration, Refused, Row, TableDeclaration, Text,
+    TypeDeclaration, Value,
 };
 use std::alloc::{AllocError, Global};
 use std::test::Fail;
 use tier_base::{Name, NameError, Seq, TableId, Ticket};
 
 const PARENT: TableId = TableId(0);
+
 const CHILD: TableId = TableId(1);
 
 fn list_of_two<T: Drop>(alloc: Global, first: T, second: T) -> Result<Seq<T>, AllocError> {
@@ -232,7 +233,10 @@ fn a_declaration_tells_the_first_rule_that_it_breaks(rt: HostRuntime) -> Result<
 fn a_table_is_found_by_its_name(rt: HostRuntime) -> Result<(), Fail> {
     let alloc = rt.alloc();
     let tables = family(alloc)?;
-    assert_eq!(rt; find_table(tables.schema(), &name(alloc, b"c")?), Some(CHILD));
+    assert_eq!(rt;
+        find_table(tables.schema(), &name(alloc, b"c")?),
+        Some(CHILD)
+    );
     assert_eq!(rt; find_table(tables.schema(), &name(alloc, b"D")?), None);
     Ok(())
 }
