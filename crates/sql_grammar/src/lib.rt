@@ -9,3 +9,4 @@ pub mod start;
 pub mod syntax;
 pub mod test;
 mod whole;
+mod whole_queries;

@@ -10,7 +10,7 @@ loop-done-preserved g c =
     let done = c.loop-done.done in
     let n = c.in-Ok.count in
     let both : take done bytes ++ take n (take (length bytes - done) (drop done bytes)) ≡ take (done + n) bytes =
-        ap (λ l. take done bytes ++ take n l) (take_rest bytes done) ∙ take_more done n bytes
+    ap (λ l. take done bytes ++ take n l) (take_rest bytes done) ∙ take_more done n bytes
     in
     record {
       front = subst (λ (l : List ℕ). Appends (g.K.Sink.written c.args.sink.now) (g.K.Sink.written c.put.new.self) l) both
