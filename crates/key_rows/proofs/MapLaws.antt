@@ -1,16 +1,18 @@
 -- What a search among the entries says of the map.
-use Rattle.std.proofs.Common.{ℕ, ◌≡◌, ◌<◌, ◌≤◌, Ordering, Less, Equal, Greater, List, [], ◌∷◌, length, get_or, set, map, Bool, true, false, cond, T, Option, Some, None, Result, Ok, Err, IfOk, IfErr, OnOk, OnErr, slice_get, is_some, option_map, refl, sym, ap, ◌∙◌, subst, arith, zero, suc}
+use Rattle.std.proofs.Common.{ℕ, ◌≡◌, ◌<◌, ◌≤◌, Less, Equal, Greater, List, [], ◌∷◌, length, get_or, set, map, true, false, cond, T, Some, None, Result, Ok, Err, IfOk, IfErr, slice_get, is_some, option_map, refl, sym, ap, ◌∙◌, subst, arith, zero, suc}
 use Rattle.std.specs.List.{insert, remove}
 use Rattle.std.specs.List.Sorted.{IsPartitionPoint, IsBinarySearchResult, IsSearchInRange}
 use Rattle.std.specs.Ordering.{eq_by_cmp, is_eq}
 use Rattle.std.specs.FinMap.{find, put, is_sorted}
 use Rattle.std.specs.FinMap.Entries.{is_sorted-put}
+use Rattle.std.proofs.Common.{◌≢◌, ◌+◌, All, take, drop, MatchResult, length-take, length-drop}
+use Rattle.std.proofs.lemmas.List.{get_or-take, get_or-drop, get_or-map, length-map}
 use Rattle.std.specs.FinMap as fm
 use Rattle.row_types.specs.declared.value.Value.{Value}
 use Rattle.row_types.specs.Order.{key_order}
 use Rattle.row_types.proofs.OrderLaws.{key_total, key_exact}
-use Rattle.key_rows.specs.Places.{Entries, IsKeyAt, IsGapFor}
-use Rattle.key_rows.proofs.Sorted.{rising, split_absent, split_put, key_at, find_at, put_at, sorted_remove, find_remove}
+use Rattle.key_rows.specs.Places.{Entries, IsKeyAt, IsGapFor, IsSplitAt}
+use Rattle.key_rows.proofs.Sorted.{rising, split_absent, split_put, key_at, find_at, put_at, sorted_remove, find_remove, split_at_key, split_in_gap}
 
 abbrev Table : Type 0
 Table = fm.FinMap key_order (List Value)
@@ -51,11 +53,11 @@ module _ (m : Table) (k : List Value) (i : ℕ) where
   pub not_removed : IsGapFor (fm.entries m) k i → m ≡ fm.remove m k
   not_removed gap =
       fm.same_map key_total key_exact m (fm.remove m k) (λ q.
-        elim (key_order q k) as (λ r. key_order q k ≡ r → fm.get m q ≡ cond (is_eq r) None (fm.get m q)) [
-          | Less ↦ λ t. refl
-          | Equal ↦ λ t. ap (fm.get m) (key_exact q k t) ∙ no_row gap
-          | Greater ↦ λ t. refl
-        ] refl ∙ sym (fm.get-remove key_total m k q))
+      elim (key_order q k) as (λ r. key_order q k ≡ r → fm.get m q ≡ cond (is_eq r) None (fm.get m q)) [
+        | Less ↦ λ t. refl
+        | Equal ↦ λ t. ap (fm.get m) (key_exact q k t) ∙ no_row gap
+        | Greater ↦ λ t. refl
+      ] refl ∙ sym (fm.get-remove key_total m k q))
 
 -- the map of entries in order
 module _ (es : Entries) (m : Table) (h : T (is_sorted key_order es)) (view : fm.from_sorted es ≡ m) where
@@ -100,10 +102,10 @@ module _ (es : Entries) (m : Table) (h : T (is_sorted key_order es)) (view : fm.
   pub removed : (k : List Value) (i : ℕ) → IsKeyAt (fm.entries m) k i → fm.from_sorted (remove es i) ≡ fm.remove m k
   removed k i at =
       fm.same_map key_total key_exact (fm.from_sorted (remove es i)) (fm.remove m k) (λ q.
-        fm.get-from_sorted key_order (remove es i) q (sorted_without i)
-        ∙ find_remove key_order key_total es k i q h (key_here k i at)
-        ∙ ap (cond (eq_by_cmp key_order q k) None) (sym (fm.get-entries m q ∙ ap (find key_order q) entries_of))
-        ∙ sym (fm.get-remove key_total m k q))
+      fm.get-from_sorted key_order (remove es i) q (sorted_without i)
+      ∙ find_remove key_order key_total es k i q h (key_here k i at)
+      ∙ ap (cond (eq_by_cmp key_order q k) None) (sym (fm.get-entries m q ∙ ap (find key_order q) entries_of))
+      ∙ sym (fm.get-remove key_total m k q))
 
   -- what a search among the entries found
   pub in_range : (r : Result ℕ ℕ) → IsSearchInRange r (length es) → IsSearchInRange r (fm.len m)
@@ -120,3 +122,27 @@ module _ (es : Entries) (m : Table) (h : T (is_sorted key_order es)) (view : fm.
   pub found_gap : (k : List Value) (r : Result ℕ ℕ) → IsSearchInRange r (length es) → IsBinarySearchResult (λ e. key_order e.0 k) es r → IfErr r (IsGapFor (fm.entries m) k)
   found_gap k (Ok i) b p = tt
   found_gap k (Err i) b p = subst (λ l. IsGapFor l k i) (sym entries_of) (gap_here k i b (p (rising key_order key_total es k h)))
+
+  pub found_split : (k : List Value) (r : Result ℕ ℕ) → IsSearchInRange r (length es) → IsBinarySearchResult (λ e. key_order e.0 k) es r → MatchResult r (IsSplitAt (fm.entries m) k) (IsSplitAt (fm.entries m) k)
+  found_split k (Ok i) b p =
+      subst (λ l. IsSplitAt l k i) (sym entries_of) (split_at_key key_order key_total es k i h (key_at key_order key_total key_exact es k i b p))
+  found_split k (Err i) b p =
+      subst (λ l. IsSplitAt l k i) (sym entries_of) (split_in_gap key_order key_total es k i (p (rising key_order key_total es k h)))
+
+-- a split of the entries is one of the keys
+module _ (m : Table) (k : List Value) (i : ℕ) (split : IsSplitAt (fm.entries m) k i) (within : i ≤ fm.len m) where
+  pub keys_below : All (λ other. key_order other k ≡ Less) (take i (fm.keys m))
+  keys_below j d lt =
+      let here : j < i = omega (arith, length-take i (fm.keys m)) in
+      let inside : j < length (fm.entries m) = omega (arith, fm.len-entries m) in
+      let read : get_or (take i (fm.keys m)) j d ≡ (get_or (fm.entries m) j (d, [])).0 =
+      get_or-take i (fm.keys m) j d here ∙ get_or-map (λ e. e.0) (fm.entries m) j (d, []) d inside in
+      ap (λ other. key_order other k) read ∙ split.0 j (d, []) (omega arith) here
+
+  pub keys_at_least : All (λ other. key_order other k ≢ Less) (drop i (fm.keys m))
+  keys_at_least j d lt =
+      let inside : i + j < length (fm.entries m) =
+      omega (arith, length-drop i (fm.keys m), length-map (fm.entries m) (λ e. e.0)) in
+      let read : get_or (drop i (fm.keys m)) j d ≡ (get_or (fm.entries m) (i + j) (d, [])).0 =
+      get_or-drop i (fm.keys m) j d ∙ get_or-map (λ e. e.0) (fm.entries m) (i + j) (d, []) d inside in
+      λ less. split.1 (i + j) (d, []) (omega arith) inside (ap (λ other. key_order other k) (sym read) ∙ less)

@@ -1,13 +1,13 @@
 -- Entries in key order, for any order that is total and exact.
-use Rattle.std.proofs.Common.{ℕ, ◌≡◌, ◌+◌, ◌<◌, ◌≤◌, List, [], ◌∷◌, ◌++◌, length, get_or, set, take, drop, map, Bool, true, false, cond, ◌&&◌, T, Option, Some, None, Ordering, Less, Equal, Greater, Result, Ok, Err, IfOk, IfErr, slice_get, refl, sym, ap, ◌∙◌, subst, arith, zero, suc}
+use Rattle.std.proofs.Common.{ℕ, ◌≡◌, ◌<◌, ◌≤◌, List, [], ◌∷◌, length, get_or, set, map, Bool, true, false, cond, ◌&&◌, T, Some, None, Ordering, Less, Equal, Greater, slice_get, refl, sym, ap, ◌∙◌, arith, zero, suc}
 use Rattle.std.specs.List.{insert, remove, HoldsAt}
-use Rattle.std.specs.List.Sorted.{IsNonDecreasingBy, IsPartitionPoint, IsBinarySearchResult, IsSearchInRange}
+use Rattle.std.specs.List.Sorted.{IsNonDecreasingBy, IsPartitionPoint}
 use Rattle.std.specs.Ordering.{eq_by_cmp, is_eq, is_lt, ordering_index, ordering_reverse}
 use Rattle.std.specs.Option.{unwrap_or}
 use Rattle.std.specs.Cmp.{IsTotalOrder}
 use Rattle.std.specs.FinMap.{IsAntisymmetric, find, put, is_sorted}
 use Rattle.std.specs.FinMap.Entries.{below_all}
-use Rattle.std.proofs.Common.{◌⊎◌, inl, inr}
+use Rattle.std.proofs.Common.{inl, inr}
 use Rattle.std.proofs.lemmas.Bool.{cases_lt}
 use Rattle.std.proofs.lemmas.Cmp.{tied_itself, tied_back, alike_right}
 
@@ -157,10 +157,10 @@ module _ {K X : Type 0} (R : K → K → Ordering) (o : IsTotalOrder R) where
   below_none : (q x : K) (es : List (K × X)) → T (below_all R x es) → R q x ≡ Equal → find R q es ≡ None
   below_none q x es h tie =
       not_found es q (λ i d lt same.
-        let less = below_at R x es i d h lt in
-        let e : R (get_or es i d).0 x ≡ R (get_or es i d).0 q = sym (alike_right o q x (get_or es i d).0 tie) in
-        let g : R (get_or es i d).0 x ≡ Greater = turned_greater R o x (get_or es i d).0 less in
-        cc)
+      let less = below_at R x es i d h lt in
+      let e : R (get_or es i d).0 x ≡ R (get_or es i d).0 q = sym (alike_right o q x (get_or es i d).0 tie) in
+      let g : R (get_or es i d).0 x ≡ Greater = turned_greater R o x (get_or es i d).0 less in
+      cc)
 
   -- what is found without a key's entry
   pub find_remove : (es : List (K × X)) (k : K) (i : ℕ) (q : K) → T (is_sorted R es) → slice_get (map (λ e. e.0) es) i ≡ Some k → find R q (remove es i) ≡ cond (eq_by_cmp R q k) None (find R q es)
@@ -180,3 +180,32 @@ module _ {K X : Type 0} (R : K → K → Ordering) (o : IsTotalOrder R) where
         | Equal ↦ λ t. ap (λ r. cond (is_eq r) None (Some e.1)) (sym (o.congr q e.0 k t ∙ less))
         | Greater ↦ λ t. rest
       ] refl
+
+  -- a key's place stands between the lower keys and the others
+  split_low : (es : List (K × X)) (k : K) (i : ℕ) → T (is_sorted R es) → slice_get (map (λ e. e.0) es) i ≡ Some k → (j : ℕ) (d : K × X) → j < i → R (get_or es j d).0 k ≡ Less
+  split_low [] k i h at j d lt = cc
+  split_low (e ∷ es) k zero h at j d lt = absurd (omega arith)
+  split_low (e ∷ es) k (suc i) h at zero d lt = below_key R e.0 k es i (below_tail R e es h) at
+  split_low (e ∷ es) k (suc i) h at (suc j) d lt = split_low es k i (sorted_tail R e es h) at j d (omega arith)
+
+  split_high : (es : List (K × X)) (k : K) (i : ℕ) → T (is_sorted R es) → slice_get (map (λ e. e.0) es) i ≡ Some k → (j : ℕ) (d : K × X) → i ≤ j → j < length es → R (get_or es j d).0 k ≡ Less → ⊥
+  split_high [] k i h at j d le lt = cc
+  split_high (e ∷ es) k zero h at zero d le lt =
+      let tie : R e.0 k ≡ Equal = ap (R e.0) (sym (some_is_same e.0 k at)) ∙ tied_itself o e.0 in
+      λ less. cc
+  split_high (e ∷ es) k zero h at (suc j) d le lt =
+      let is = some_is_same e.0 k at in
+      let less : R e.0 (get_or es j d).0 ≡ Less = below_at R e.0 es j d (below_tail R e es h) (omega arith) in
+      let up : R (get_or es j d).0 e.0 ≡ Greater = turned_greater R o e.0 (get_or es j d).0 less in
+      let same : R (get_or es j d).0 k ≡ R (get_or es j d).0 e.0 = ap (R (get_or es j d).0) (sym is) in
+      λ low. cc
+  split_high (e ∷ es) k (suc i) h at zero d le lt = absurd (omega arith)
+  split_high (e ∷ es) k (suc i) h at (suc j) d le lt = split_high es k i (sorted_tail R e es h) at j d (omega arith) (omega arith)
+
+  pub split_at_key : (es : List (K × X)) (k : K) (i : ℕ) → T (is_sorted R es) → slice_get (map (λ e. e.0) es) i ≡ Some k → IsPartitionPoint (λ e. R e.0 k ≡ Less) (λ e. R e.0 k ≡ Less → ⊥) es i
+  split_at_key es k i h at =
+      ((λ j d low high. split_low es k i h at j d high), (λ j d low high. split_high es k i h at j d low high))
+
+  pub split_in_gap : (es : List (K × X)) (k : K) (i : ℕ) → IsPartitionPoint (λ e. R e.0 k ≡ Less) (λ e. R e.0 k ≡ Greater) es i → IsPartitionPoint (λ e. R e.0 k ≡ Less) (λ e. R e.0 k ≡ Less → ⊥) es i
+  split_in_gap es k i point =
+      (point.0, (λ j d low high. let up : R (get_or es j d).0 k ≡ Greater = point.1 j d low high in λ less. cc))

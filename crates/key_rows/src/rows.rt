@@ -1,10 +1,10 @@
 //! Rows in key order.
 
-ghost use Rattle.std.specs.Prelude.{◌≡◌, ◌==◌, ◌<◌, List, IfOk, IfErr, OnOk, OnErr, OnSome, length, None, Some, false, not, slice_get, MatchOption, option_copied, if◌then◌else◌};
+ghost use Rattle.std.specs.Prelude.{◌≡◌, ◌==◌, ◌<◌, ◌≤◌, ◌≢◌, List, All, take, drop, MatchResult, IfOk, IfErr, OnOk, OnErr, OnSome, length, None, Some, false, not, slice_get, MatchOption, option_copied, if◌then◌else◌};
 ghost use Rattle.std.specs.List.Sorted.{IsSearchInRange};
 ghost use Rattle.row_types.specs.declared.value.Value.{Value};
 ghost use Rattle.row_types.specs.Order.{key_order};
-ghost use Rattle.key_rows.specs.Places.{IsKeyAt, IsGapFor};
+ghost use Rattle.key_rows.specs.Places.{IsKeyAt, IsGapFor, IsSplitAt};
 ghost use Rattle.std.specs.FinMap as map;
 
 use long_list::{LongList, Probe};
@@ -80,6 +80,7 @@ impl Rows {
         ensures bound { IsSearchInRange result (map.len self.now) }
         ensures found { IfOk result (IsKeyAt (map.entries self.now) key.now) }
         ensures absent { IfErr result (IsGapFor (map.entries self.now) key.now) }
+        ensures split { MatchResult result (IsSplitAt (map.entries self.now) key.now) (IsSplitAt (map.entries self.now) key.now) }
     {
         self.entries.search(&ByKey(key))
     }
@@ -111,6 +112,20 @@ impl Rows {
         match self.search(key) {
             Ok(place) => Some(place),
             Err(_) => None,
+        }
+    }
+
+    /// The place of the first key that isn't below a key, or the length where each is below it.
+    ///
+    /// A range of keys goes from one such place to another.
+    pub fn first_at_least(&self, key: &Key) -> usize
+        ensures bound { result ≤ map.len self.now }
+        ensures below { All (λ other. key_order other key.now ≡ Ordering.Less) (take result (map.keys self.now)) }
+        ensures at_least { All (λ other. key_order other key.now ≢ Ordering.Less) (drop result (map.keys self.now)) }
+    {
+        match self.search(key) {
+            Ok(place) => place,
+            Err(place) => place,
         }
     }
 

@@ -42,16 +42,18 @@ fn expect_at(rt: &impl Abort, rows: &Rows, number: u32, place: usize, note: u32)
     let key = key_of(number);
     assert!(rt; rows.contains_key(&key));
     assert_eq!(rt; rows.position(&key), Some(place));
+    assert_eq!(rt; rows.first_at_least(&key), place);
     assert_eq!(rt; rows.get(&key).and_then(note_of), Some(i64::from(note)));
     assert!(rt; place < rows.len());
     assert_eq!(rt; note_of(rows.row_at(place)), Some(i64::from(note)));
     assert!(rt; rows.entry_at(place).0.same(&key));
 }
 
-fn expect_absent(rt: &impl Abort, rows: &Rows, number: u32) {
+fn expect_absent(rt: &impl Abort, rows: &Rows, number: u32, place: usize) {
     let key = key_of(number);
     assert!(rt; !rows.contains_key(&key));
     assert_eq!(rt; rows.position(&key), None);
+    assert_eq!(rt; rows.first_at_least(&key), place);
     assert!(rt; rows.get(&key).is_none());
 }
 
@@ -87,10 +89,11 @@ fn replaces_even_keys_and_removes_odd_ones(rt: HostRuntime) -> Result<(), Fail> 
     }
     assert_eq!(rt; rows.len(), 1002);
     for number in 0..COUNT {
+        let even_below = (number / 2) as usize;
         if number % 2 == 0 {
-            expect_at(&rt, &rows, number, (number / 2) as usize, number);
+            expect_at(&rt, &rows, number, even_below, number);
         } else {
-            expect_absent(&rt, &rows, number);
+            expect_absent(&rt, &rows, number, even_below + 1);
         }
     }
     Ok(())

@@ -32,9 +32,6 @@ pub record Edited {X : Type 0} (chunks : List (List X)) (starts : List ℕ) (len
 next : (c : ℕ) → c + 1 ≡ suc c
 next c = omega arith
 
-pub some_inserted : {X : Type 0} (xs : List X) (i : ℕ) (y : X) → 0 < length (insert xs i y)
-some_inserted xs i y = omega (arith, length-append (take i xs) (y ∷ drop i xs))
-
 module _ {X : Type 0} (cs : List (List X)) (s : List ℕ) (len : ℕ) (counted : IsCounted cs s len) where
   pub counts : length s ≡ length cs
   counts = ap length counted.begins ∙ length_starts 0 cs

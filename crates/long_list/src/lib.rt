@@ -1,4 +1,4 @@
-// A list that stays fast at millions of elements: it is kept in chunks, and its contracts see one list.
+//! A list that stays fast at millions of elements: it is kept in chunks, and its contracts see one list.
 #![tactic(auto)]
 
 mod list;

@@ -1,4 +1,4 @@
-// The list in chunks.
+//! The list in chunks.
 
 ghost use Rattle.std.specs.Prelude.{◌≡◌, ◌==◌, ◌≤◌, ◌<◌, ◌+◌, ◌-◌, List, length, OnOk, OnErr, insert, remove, slice_get, slice_index_or, slice_set, [], ◌∷◌, ◌++◌};
 ghost use Rattle.std.specs.Option.{option_copied};

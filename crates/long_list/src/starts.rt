@@ -1,4 +1,4 @@
-// The starts of the chunks: how many elements stand before each.
+//! The starts of the chunks: how many elements stand before each.
 
 ghost use Rattle.std.specs.Prelude.{◌++◌, take, drop, vec_items, ◌≡◌, ◌≤◌, ◌<◌, ◌+◌, ◌-◌, ◌^◌, length, map, All, nat_le};
 ghost use Rattle.long_list.specs.Chunks.{IsLastReached, AreStarts, IsLocated, joined, starts_from};

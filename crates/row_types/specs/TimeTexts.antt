@@ -1,13 +1,11 @@
 -- The text of a time, `YYYY-MM-DD HH:MM:SS`, on the Gregorian calendar. (TimesTen SQL Reference, "Datetime literals";
 -- the calendar's words are those of the crate jiff_core.)
 
-use Rattle.std.specs.Prelude.{ℕ, zero, suc, ◌+◌, ◌*◌, ◌/◌, ◌%◌, ◌==◌, nat_le, Bool, true, false, ◌&&◌, ◌≡◌, if◌then◌else◌, List, [], ◌∷◌, ◌++◌, length, slice_index, slice_range, Option, Some, None, ℤ, pos, int_lt, ◌+ℤ◌, ◌-ℤ◌, ◌*ℤ◌, unsigned_abs}
+use Rattle.std.specs.Prelude.{ℕ, zero, suc, ◌+◌, ◌*◌, ◌/◌, ◌%◌, ◌==◌, nat_le, Bool, ◌&&◌, if◌then◌else◌, List, [], ◌∷◌, ◌++◌, length, slice_index, slice_range, Option, Some, None, ℤ, pos, int_lt, ◌+ℤ◌, ◌-ℤ◌, ◌*ℤ◌, unsigned_abs}
 use Rattle.std.specs.Int.{int_div_euclid, int_rem_euclid}
 use Rattle.std.specs.List.{list_all}
 use Rattle.std.specs.Char.{is_ascii_digit}
 use Rattle.std.specs.Str.Parse.{digits_value}
-use Rattle.jiff_core.specs.declared.civil.date.Date.{Date}
-use Rattle.jiff_core.specs.declared.civil.time.Time.{Time}
 use Rattle.jiff_core.specs.Calendar.{days_from_civil, days_in_month}
 
 -- how many of the starts 1 to n have come by the day
@@ -101,15 +99,3 @@ time_of text =
     if has_form text
     then time_at (number_in text 0 4) (number_in text 5 7) (number_in text 8 10) (number_in text 11 13) (number_in text 14 16) (number_in text 17 19)
     else None
-
--- the calendar's date of this year, month and day
-abbrev pub IsDateAt : ℕ → ℕ → ℕ → Option Date → Type 0
-IsDateAt year month day None = is_date year month day ≡ false
-IsDateAt year month day (Some date) =
-    (is_date year month day ≡ true) × (date.year ≡ pos year) × (date.month ≡ month) × (date.day ≡ day)
-
--- the clock's time of this hour, minute and second
-abbrev pub IsClockAt : ℕ → ℕ → ℕ → Option Time → Type 0
-IsClockAt hour minute second None = is_clock hour minute second ≡ false
-IsClockAt hour minute second (Some time) =
-    (is_clock hour minute second ≡ true) × (time.hour ≡ hour) × (time.minute ≡ minute) × (time.second ≡ second) × (time.subsec_nanosecond ≡ 0)

@@ -5,7 +5,8 @@ ghost use Rattle.jiff_core.specs.Date.{epoch_day};
 ghost use Rattle.std.specs.List.{list_all};
 ghost use Rattle.std.specs.Char.{is_ascii_digit};
 ghost use Rattle.std.specs.Str.Parse.{digits_value};
-ghost use Rattle.row_types.specs.TimeTexts.{day_number, has_form, has_marks, has_numbers, second_of_day, time_at, time_of, time_text, two_digits, IsDateAt, IsClockAt};
+ghost use Rattle.row_types.specs.TimeTexts.{day_number, has_form, has_marks, has_numbers, second_of_day, time_at, time_of, time_text, two_digits};
+ghost use Rattle.row_types.specs.CivilForms.{IsClockAt, IsDateAt};
 ghost use Rattle.row_types.specs.Times.{IsTime};
 
 use jiff_core::civil;

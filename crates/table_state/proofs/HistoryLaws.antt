@@ -1,7 +1,7 @@
 -- Laws of lists of operations and of histories.
-use Rattle.std.proofs.Common.{◌≡◌, ℕ, ◌+◌, ◌<◌, Bool, true, false, ◌||◌, Option, Some, None, List, [], ◌∷◌, ◌++◌, length, take, drop, get_or, refl, sym, ap, ◌∙◌}
+use Rattle.std.proofs.Common.{◌≡◌, ℕ, ◌+◌, ◌<◌, ◌≤◌, Bool, true, false, ◌||◌, Option, Some, None, List, [], ◌∷◌, ◌++◌, length, take, drop, get_or, refl, sym, ap, ◌∙◌}
 use Rattle.std.specs.Option.{option_and_then, option_or}
-use Rattle.std.proofs.lemmas.List.{take_more, drop_more, take-append-drop}
+use Rattle.std.proofs.lemmas.List.{take_all, take_more, drop_more, take-append-drop}
 use Rattle.table_state.specs.declared.operation.Op.{Op}
 use Rattle.table_state.specs.declared.history.Entry.{Entry}
 use Rattle.table_state.specs.declared.refusal.ApplyError.{ApplyError}
@@ -110,3 +110,32 @@ pub no_state_here : (entries : List Entry) (i : ℕ) (entry : Entry) (start now 
 no_state_here entries i entry start now lt is so_far (error.Rule rule) h = stops_here after_entry state_from (λ s. refl) (λ x xs s. refl) state_from-append entries i entry start now lt is so_far h
 no_state_here entries i entry start now lt is so_far (error.Differs t key row) h = stops_here after_entry state_from (λ s. refl) (λ x xs s. refl) state_from-append entries i entry start now lt is so_far h
 no_state_here entries i entry start now lt is so_far error.Memory h = tt
+
+-- the fault of a front is that of the whole
+front_fault : (xs ys : List Op) (s : TableState) (e : ApplyError) → broken_by_all xs s ≡ Some e → broken_by_all (xs ++ ys) s ≡ Some e
+front_fault [] ys s e h = cc
+front_fault (op ∷ xs) ys s e h = by (broken_by op s) (applied op s) h (λ t. front_fault xs ys t e)
+  where
+    by : (f : Option ApplyError) (o : Option TableState) → option_or f (option_and_then (broken_by_all xs) o) ≡ Some e → ((t : TableState) → broken_by_all xs t ≡ Some e → broken_by_all (xs ++ ys) t ≡ Some e)
+        → option_or f (option_and_then (broken_by_all (xs ++ ys)) o) ≡ Some e
+    by (Some y) o h rest = h
+    by None None h rest = cc
+    by None (Some t) h rest = rest t h
+
+pub fault_in_front : (xs ys : List Op) (s : TableState) (e : ApplyError) → IsFault (broken_by_all xs s) e → IsFault (broken_by_all (xs ++ ys) s) e
+fault_in_front xs ys s (error.Rule rule) h = front_fault xs ys s (error.Rule rule) h
+fault_in_front xs ys s (error.Differs t key row) h = front_fault xs ys s (error.Differs t key row) h
+fault_in_front xs ys s error.Memory h = tt
+
+-- an operation behind those that apply
+pub last_applied : (front : List Op) (last : Op) (start now new : TableState) → applied_all front start ≡ Some now → applied last now ≡ Some new → applied_all (front ++ last ∷ []) start ≡ Some new
+last_applied front last start now new so_far is = applied_all-append front (last ∷ []) start ∙ ap (option_and_then (applied_all (last ∷ []))) so_far ∙ ap (option_and_then (applied_all [])) is
+
+pub last_fault : (front : List Op) (last : Op) (start now : TableState) → applied_all front start ≡ Some now → (e : ApplyError) → IsFault (broken_by last now) e → IsFault (broken_by_all (front ++ last ∷ []) start) e
+last_fault front last start now so_far (error.Rule rule) h = broken_behind front (last ∷ []) start now so_far ∙ ap (λ f. option_or f (option_and_then (broken_by_all []) (applied last now))) h
+last_fault front last start now so_far (error.Differs t key row) h = broken_behind front (last ∷ []) start now so_far ∙ ap (λ f. option_or f (option_and_then (broken_by_all []) (applied last now))) h
+last_fault front last start now so_far error.Memory h = tt
+
+-- all operations of the list were gone through
+pub all_gone_through : (ops : List Op) (i : ℕ) (start now : TableState) → length ops ≤ i → applied_all (take i ops) start ≡ Some now → applied_all ops start ≡ Some now
+all_gone_through ops i start now h so_far = ap (λ l. applied_all l start) (sym (take_all i ops h)) ∙ so_far

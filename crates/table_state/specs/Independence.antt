@@ -1,6 +1,6 @@
 -- Operations that have nothing to do with one another, and tables that come later.
 
-use Rattle.std.specs.Prelude.{◌≡◌, ℕ, List, [], ◌∷◌, ◌++◌, Option, Some, None, Bool, false, nat_eq, length, slice_get}
+use Rattle.std.specs.Prelude.{◌≡◌, List, [], ◌∷◌, ◌++◌, Option, Some, None, Bool, false, nat_eq, length, slice_get}
 use Rattle.std.specs.FinMap.{empty}
 use Rattle.std.specs.Option.{option_and_then}
 use Rattle.tier_base.specs.declared.number.TableId.{TableId}
@@ -8,7 +8,7 @@ use Rattle.table_state.specs.declared.definition.ForeignKey.{ForeignKey}
 use Rattle.table_state.specs.declared.definition.TableDef.{TableDef}
 use Rattle.table_state.specs.declared.operation.Op.{Op}
 use Rattle.table_state.specs.Tables.{TableState}
-use Rattle.table_state.specs.Operations.{applied, table_of}
+use Rattle.table_state.specs.Operations.{applied}
 
 -- the foreign key refers to the table
 abbrev pub refers_to : TableId → Option ForeignKey → Bool

@@ -1,5 +1,6 @@
 pub mod Changes
 pub mod Declarations
+pub mod Footprints
 pub mod Histories
 pub mod Independence
 pub mod Names

@@ -164,7 +164,14 @@ pub(crate) fn has_key(places: &[usize], row: &[Value], key: &[Value]) -> bool
 pub(crate) fn is_same_row(a: &Row, b: &Row) -> bool
     ensures { result ≡ is_same a.now b.now }
 {
-    match order_of_values(a.values(), b.values()) {
+    is_same_values(a.values(), b.values())
+}
+
+/// Whether both lists have the same values.
+pub(crate) fn is_same_values(a: &[Value], b: &[Value]) -> bool
+    ensures { result ≡ is_same a.now b.now }
+{
+    match order_of_values(a, b) {
         Ordering::Equal => true,
         _ => false,
     }

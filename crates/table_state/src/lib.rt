@@ -7,8 +7,10 @@ mod copy;
 pub mod definition;
 mod faults;
 mod fitting;
+pub mod footprint;
 pub mod history;
 mod judging;
+pub mod laws;
 pub mod lookup;
 mod operating;
 pub mod operation;
@@ -19,8 +21,12 @@ mod types;
 
 pub use copy::copied_schema;
 pub use definition::{BackingSchema, ForeignKey, TableDef};
+pub use footprint::{Footprint, RowKey, conflicts};
 pub use history::{Entry, History, Sealed};
 pub use lookup::{find_table, key_at, key_of_row};
 pub use operation::{Op, Ops, copied_ops, same_ops};
 pub use refusal::ApplyError;
 pub use tables::Tables;
+
+#[cfg(test)]
+mod tests;

@@ -1,6 +1,6 @@
 //! Transactions and histories applied to tables.
 
-ghost use Rattle.std.specs.Prelude.{◌≡◌, ℕ, IfErr, IfOk, MatchOption, OnErr, OnOk, Some, take};
+ghost use Rattle.std.specs.Prelude.{◌≡◌, [], ◌∷◌, ◌++◌, ℕ, IfErr, IfOk, MatchOption, OnErr, OnOk, Some, take};
 ghost use Rattle.table_state.specs.Operations.{applied, applied_all};
 ghost use Rattle.table_state.specs.Histories.{after_entry, state_from};
 ghost use Rattle.table_state.specs.Refusals.{IsFault, SaysNone, broken_by, broken_by_all};
@@ -17,25 +17,35 @@ impl Tables {
     /// Applies the operations of a transaction from left to right, all or none.
     ///
     /// The error is that of the first operation that doesn't apply, as `apply` tells it. After an error, want of
-    /// memory too, the tables are as they were. A transaction without a delete costs what its own rows cost; one
-    /// with a delete is applied to a copy of the tables.
+    /// memory too, the tables are as they were. A transaction costs what its own rows cost, but one with a delete
+    /// before its last operation is applied to a copy of the tables.
     pub fn apply_all(&mut self, alloc: Global, ops: &[Op]) -> Result<(), ApplyError>
         ensures ok { OnOk result (applied_all ops.now self.old ≡ Some self.new) }
         ensures refused { IfErr result (IsFault (broken_by_all ops.now self.old)) }
         ensures none { IfErr result (SaysNone (applied_all ops.now self.old)) }
         ensures unchanged { OnErr result (self.new ≡ self.old) }
     {
-        self.apply_in_place(alloc, ops)
+        match ops.split_last() {
+            None => Ok(()),
+            Some((last, front)) => self.apply_in_place(alloc, ops, front, last),
+        }
     }
 
-    // Each change is kept until all are done, so that it can be taken back.
-    fn apply_in_place(&mut self, alloc: Global, ops: &[Op]) -> Result<(), ApplyError>
+    // The changes before the last one are kept until all are done, so that they can be taken back.
+    fn apply_in_place(
+        &mut self,
+        alloc: Global,
+        ops: &[Op],
+        front: &[Op],
+        last: &Op,
+    ) -> Result<(), ApplyError>
+        requires { ops.now ≡ front.now ++ last.now ∷ [] }
         ensures ok { OnOk result (applied_all ops.now self.old ≡ Some self.new) }
         ensures refused { IfErr result (IsFault (broken_by_all ops.now self.old)) }
         ensures unchanged { OnErr result (self.new ≡ self.old) }
     {
-        let mut done: Vec<Undo> = Vec::with_capacity(alloc, ops.len())?;
-        for op in ops {
+        let mut done: Vec<Undo> = Vec::with_capacity(alloc, front.len())?;
+        for op in front {
             match self.apply_undoable(alloc, op) {
                 Err(e) => {
                     self.take_all_back(done);
@@ -55,7 +65,13 @@ impl Tables {
                 },
             }
         }
-        Ok(())
+        match self.apply(alloc, last) {
+            Ok(()) => Ok(()),
+            Err(e) => {
+                self.take_all_back(done);
+                Err(e)
+            }
+        }
     }
 
     // Applies an insert or an update, and tells how that is taken back. Nothing is done of a delete.

@@ -6,6 +6,6 @@ use Rattle.table_state.proofs.tables.Tables.apply_in_place.Given as goal
 
 abbrev pub invariant-loop-op : goal.invariant-loop-op
 invariant-loop-op l = record {
-  so_far : applied_all (take l.op-index l.ops) l.fn.self ≡ Some l.self;
+  so_far : applied_all (take l.op-index l.front) l.fn.self ≡ Some l.self;
   back : all_taken_back l.done.items l.self ≡ l.fn.self;
 }
