@@ -164,4 +164,6 @@ pub fn one_meaning()
 }
 
 #[cfg(test)]
+mod cases;
+#[cfg(test)]
 mod tests;
