@@ -37,7 +37,7 @@ pub record Comes (s : Sealed) (after : List Ticket) (old new : List Entry) : Typ
   pub can : CanFollow s after old
   pub grows : Grows (entry_of s ∷ []) old new
 
--- the receipt is this transaction's, and its position is a length of the history that has it
+-- the receipt is this transaction's, and its position is at most the length of the history
 pub record IsReceipt (s : Sealed) (receipt : Receipt) (new : List Entry) : Type 0 where
   pub ticket : receipt.ticket ≡ s.ticket
   pub position : receipt.position.0 ≤ length new

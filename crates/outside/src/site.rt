@@ -15,7 +15,7 @@ use tier_base::{Position, TableId, Ticket};
 pub struct Receipt {
     /// Its ticket.
     pub ticket: Ticket,
-    /// A length of the history that has it.
+    /// At most the length of the history then. Where it came now, more than the length before.
     pub position: Position,
 }
 
@@ -28,7 +28,8 @@ pub enum Applied {
     Before(Receipt),
     /// This ticket, which has to stand before it, isn't recorded.
     NotReady(Ticket),
-    /// An operation doesn't apply: the table, the key of the row that differs, and the row there.
+    /// An operation doesn't apply: the table, the key of the row that differs, and the row there. No clause ties these
+    /// three to the operation yet.
     Differs(TableId, Key, Option<Row>),
 }
 
