@@ -20,8 +20,8 @@ pub use declaration::{
     ColumnDeclaration, ForeignKeyDeclaration, TableDeclaration, TypeDeclaration,
 };
 pub use key::Key;
-pub use literal::parse_literal;
-pub use printing::{print, print_into, print_key_into};
+pub use literal::{held_text, parse_integer, parse_literal};
+pub use printing::{print, print_into, print_key_into, print_values_into};
 pub use row::Row;
 pub use rule::{Detail, Letter, Refused, Rule};
 pub use text::Text;

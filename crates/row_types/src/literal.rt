@@ -59,16 +59,16 @@ fn parse_text(alloc: Global, quoted: &[u8]) -> Result<Option<Value>, AllocError>
     ensures { IfOk result (λ value. value ≡ option_and_then held_text (undoubled quoted.now)) }
 {
     if !quoted.contains(&b'\'') {
-        return held(alloc, quoted);
+        return held_text(alloc, quoted);
     }
     match undoubled(alloc, quoted)? {
         None => Ok(None),
-        Some(text) => held(alloc, text.as_slice()),
+        Some(text) => held_text(alloc, text.as_slice()),
     }
 }
 
-/// The value of a text.
-fn held(alloc: Global, text: &[u8]) -> Result<Option<Value>, AllocError>
+/// The value of a text literal without its quotes: NULL of none, and none of more than 4,000 bytes.
+pub fn held_text(alloc: Global, text: &[u8]) -> Result<Option<Value>, AllocError>
     ensures { IfOk result (λ value. value ≡ held_text text.now) }
 {
     if text.is_empty() {
@@ -114,8 +114,9 @@ fn first_of_text(quoted: &[u8]) -> Option<(u8, &[u8])>
     }
 }
 
-/// The number of an integer literal.
-fn parse_integer(bytes: &[u8]) -> Option<i64>
+/// The number of an integer literal, digits with or without a `-` before them; none of other bytes and of a number past
+/// 64 signed bits.
+pub fn parse_integer(bytes: &[u8]) -> Option<i64>
     ensures { option_map Integer result ≡ integer_value bytes.now }
 {
     if !is_integer(bytes) {

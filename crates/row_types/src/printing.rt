@@ -42,14 +42,16 @@ pub fn print_key_into(out: &mut Vec<u8>, key: &Key) -> Result<(), AllocError>
     ensures err { OnErr result (out.new.items ≡ out.old.items) }
 {
     let len = out.len();
-    let done = append_values(out, key.values());
+    let done = print_values_into(out, key.values());
     if done.is_err() {
         out.truncate(len);
     }
     done
 }
 
-fn append_values(out: &mut Vec<u8>, values: &[Value]) -> Result<(), AllocError>
+/// Puts the values, with `|` between, behind what the buffer holds. Where memory is wanting the buffer begins with what
+/// it held.
+pub fn print_values_into(out: &mut Vec<u8>, values: &[Value]) -> Result<(), AllocError>
     ensures ok { OnOk result (out.new.items ≡ out.old.items ++ printed_key values.now) }
     ensures err { OnErr result (take (vec_len out.old) out.new.items ≡ out.old.items) }
 {

@@ -1,0 +1,4 @@
+pub mod BankLaws
+pub mod DifferenceLaws
+pub mod PlanLaws
+pub mod TicketLaws

@@ -1,0 +1,6 @@
+pub mod Differences
+pub mod Heeding
+pub mod Memory
+pub mod Plans
+pub mod SiteLaws
+pub mod Tickets

@@ -1,0 +1,167 @@
+//! Tables with the history that they come of.
+
+ghost use Rattle.std.specs.Prelude.{◌≡◌, [], ◌∷◌, ◌++◌, false, IfErr, IfOk, IsSome, Ok, OnErr, OnOk, Some};
+ghost use Rattle.table_state.specs.declared.history.Entry.{Entry};
+ghost use Rattle.table_state.specs.Tables.{TableState};
+ghost use Rattle.table_state.specs.Histories.{entry_of, has_ticket, state_of};
+ghost use Rattle.table_state.specs.Refusals.{IsFault, SaysNone, broken_by_all};
+ghost use Rattle.outside.specs.Bank.{AppliesOnce, HasAll};
+ghost use Rattle.backing_gate.specs.Differences.{TellsDifference};
+ghost use Rattle.backing_gate.specs.Tickets.{FirstMissing};
+
+use crate::difference::first_difference;
+use crate::ledger::Ledger;
+use outside::{Applied, Receipt};
+use std::alloc::{AllocError, Global};
+use std::marker::Model;
+use table_state::{ApplyError, BackingSchema, History, Sealed, TableDef, Tables, copied_ops};
+use tier_base::{Position, Ticket};
+
+/// The backing tables, with the history that left them. Clauses see the history.
+#[derive(Drop)]
+pub(crate) struct Bank {
+    ledger: Ledger,
+    tables: Tables,
+}
+
+impl Model for Bank {
+    ghost use Rattle.std.specs.Prelude.{◌≡◌, List, Some};
+    ghost use Rattle.table_state.specs.declared.history.Entry.{Entry};
+    ghost use Rattle.table_state.specs.Histories.{state_of};
+
+    ghost Value = { List Entry };
+
+    ghost view = { λ b. b.ledger };
+
+    ghost invariant = { λ b. state_of b.ledger ≡ Some b.tables };
+}
+
+impl Bank {
+    /// A bank without tables. It takes no memory.
+    pub(crate) fn new(alloc: Global) -> Bank
+        ensures { result ≡ [] }
+    {
+        Bank {
+            ledger: Ledger::new(alloc),
+            tables: Tables::new(alloc),
+        }
+    }
+
+    /// The history.
+    pub(crate) fn history(&self) -> &History
+        ensures { result.now ≡ self.now }
+    {
+        self.ledger.entries()
+    }
+
+    /// The definitions of the tables, in the order in which they were made.
+    pub(crate) fn schema(&self) -> &BackingSchema
+        ensures { (s : TableState) → state_of self.now ≡ Some s → result.now ≡ s.schema }
+    {
+        self.tables.schema()
+    }
+
+    /// Makes a table. For want of memory nothing changes.
+    pub(crate) fn define(&mut self, alloc: Global, def: &TableDef) -> Result<(), AllocError>
+        ensures ok { OnOk result (self.new ≡ self.old ++ Entry.Definition def.now ∷ []) }
+        ensures err { OnErr result (self.new ≡ self.old) }
+    {
+        let entry = def.copied(alloc)?;
+        let kept = def.copied(alloc)?;
+        self.ledger.push_definition(entry)?;
+        match self.tables.define(alloc, kept) {
+            Ok(()) => Ok(()),
+            Err(failed) => {
+                self.ledger.take_back();
+                Err(failed)
+            }
+        }
+    }
+
+    /// Applies and records a transaction where its ticket is new, those of `after` are there and its operations
+    /// apply. For want of memory nothing changes.
+    pub(crate) fn apply_once(
+        &mut self,
+        alloc: Global,
+        sealed: &Sealed,
+        after: &[Ticket],
+    ) -> Result<Applied, AllocError>
+        ensures ok { IfOk result (λ applied. AppliesOnce sealed.now after.now (Ok applied) self.old self.new) }
+        ensures differs { IfOk result (λ applied. TellsDifference applied sealed.now.ops self.old) }
+        ensures err { OnErr result (self.new ≡ self.old) }
+    {
+        if let Some(front) = self.ledger.front_with(sealed.ticket) {
+            return Ok(Applied::Before(Receipt {
+                ticket: sealed.ticket,
+                position: Position(front),
+            }));
+        }
+        if let Some(ticket) = self.first_missing(after) {
+            return Ok(Applied::NotReady(ticket));
+        }
+        self.apply_new(alloc, sealed, after)
+    }
+
+    /// The first of the tickets that isn't recorded.
+    fn first_missing(&self, tickets: &[Ticket]) -> Option<Ticket>
+        ensures { FirstMissing result tickets.now self.now }
+    {
+        for ticket in tickets {
+            if self.ledger.front_with(*ticket).is_none() {
+                return Some(*ticket);
+            }
+        }
+        None
+    }
+
+    // The ticket is new, and those of `after` are there.
+    fn apply_new(
+        &mut self,
+        alloc: Global,
+        sealed: &Sealed,
+        after: &[Ticket],
+    ) -> Result<Applied, AllocError>
+        requires fresh { has_ticket sealed.now.ticket.0 self.old ≡ false }
+        requires waited { HasAll after.now self.old }
+        ensures ok { IfOk result (λ applied. AppliesOnce sealed.now after.now (Ok applied) self.old self.new) }
+        ensures differs { IfOk result (λ applied. TellsDifference applied sealed.now.ops self.old) }
+        ensures err { OnErr result (self.new ≡ self.old) }
+    {
+        match self.record(alloc, sealed) {
+            Ok(()) => {
+                return Ok(Applied::Now(Receipt {
+                    ticket: sealed.ticket,
+                    position: Position(self.ledger.entries().len() as u64),
+                }));
+            }
+            Err(ApplyError::Memory) => return Err(AllocError),
+            Err(ApplyError::Differs(table, key, row)) => {
+                return Ok(Applied::Differs(table, key, row));
+            }
+            Err(ApplyError::Rule(_)) => {
+                let found = first_difference(alloc, &self.tables, sealed.ops.as_slice())?;
+                return Ok(Applied::Differs(found.table, found.key, found.row));
+            }
+        }
+    }
+
+    // Puts the transaction behind the history and applies it, where it applies.
+    fn record(&mut self, alloc: Global, sealed: &Sealed) -> Result<(), ApplyError>
+        requires { has_ticket sealed.now.ticket.0 self.old ≡ false }
+        ensures ok { OnOk result (self.new ≡ self.old ++ entry_of sealed.now ∷ []) }
+        ensures applies { OnOk result (IsSome (state_of (self.old ++ entry_of sealed.now ∷ []))) }
+        ensures none { IfErr result (SaysNone (state_of (self.old ++ entry_of sealed.now ∷ []))) }
+        ensures refused { IfErr result (λ error. (s : TableState) → state_of self.old ≡ Some s → IsFault (broken_by_all sealed.now.ops s) error) }
+        ensures unchanged { OnErr result (self.new ≡ self.old) }
+    {
+        let ops = copied_ops(alloc, sealed.ops.as_slice())?;
+        self.ledger.push_own(sealed.ticket, ops)?;
+        match self.tables.apply_all(alloc, sealed.ops.as_slice()) {
+            Ok(()) => return Ok(()),
+            Err(error) => {
+                self.ledger.take_back();
+                return Err(error);
+            }
+        }
+    }
+}

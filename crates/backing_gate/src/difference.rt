@@ -1,0 +1,126 @@
+//! The row at which a transaction doesn't apply.
+
+ghost use Rattle.std.specs.Prelude.{◌≡◌, IfOk, None, Some};
+ghost use Rattle.std.specs.FinMap as map;
+ghost use Rattle.std.specs.Option.{option_map};
+ghost use Rattle.table_state.specs.Operations.{applied_all};
+ghost use Rattle.table_state.specs.Refusals.{IsFault, broken_by};
+ghost use Rattle.table_state.specs.Tables.{table_at};
+ghost use Rattle.backing_gate.specs.Differences.{difference_of, first_difference, own_key, place_of, row_of};
+
+use row_types::{Detail, Key, Row};
+use std::alloc::{AllocError, Global};
+use table_state::{ApplyError, Op, Tables, find_table, key_of_row};
+use tier_base::TableId;
+
+/// A row that isn't as an operation wants it: its table, its key, and the row that is there.
+#[derive(Drop)]
+pub struct Difference {
+    /// The table.
+    pub table: TableId,
+    /// The key.
+    pub key: Key,
+    /// The row there, where there is one.
+    pub row: Option<Row>,
+}
+
+/// The difference at the first operation that doesn't apply. A condition is that one doesn't. It is found on a copy of
+/// the tables.
+pub(crate) fn first_difference(
+    alloc: Global,
+    tables: &Tables,
+    ops: &[Op],
+) -> Result<Difference, AllocError>
+    requires { applied_all ops.now tables.now ≡ None }
+    ensures { IfOk result (λ difference. first_difference ops.now tables.now ≡ Some difference) }
+{
+    let mut copy = tables.copied(alloc)?;
+    for op in ops {
+        match copy.apply(alloc, op) {
+            Ok(()) => {}
+            Err(error) => return difference_of(alloc, &copy, op, error),
+        }
+    }
+    unreachable!()
+}
+
+// The difference at an operation that has this fault.
+fn difference_of(
+    alloc: Global,
+    tables: &Tables,
+    op: &Op,
+    error: ApplyError,
+) -> Result<Difference, AllocError>
+    requires { IsFault (broken_by op.now tables.now) error }
+    ensures { IfOk result (λ difference. option_map (difference_of op.now tables.now) (broken_by op.now tables.now) ≡ Some difference) }
+{
+    match error {
+        ApplyError::Memory => return Err(AllocError),
+        ApplyError::Differs(table, key, row) => return Ok(Difference { table, key, row }),
+        ApplyError::Rule(rule) => {
+            let (table, key) = place_of(alloc, tables, op, rule.detail)?;
+            let row = row_at(alloc, tables, table, &key)?;
+            return Ok(Difference { table, key, row });
+        }
+    }
+}
+
+// The row that a rule names, else the operation's own.
+fn place_of(
+    alloc: Global,
+    tables: &Tables,
+    op: &Op,
+    detail: Detail,
+) -> Result<(TableId, Key), AllocError>
+    ensures { IfOk result (λ place. place ≡ place_of op.now tables.now detail) }
+{
+    match detail {
+        Detail::Row(name, key) => {
+            let table = find_table(tables.schema(), &name).unwrap_or(op.table());
+            Ok((table, key))
+        }
+        _ => {
+            let key = own_key(alloc, tables, op)?;
+            Ok((op.table(), key))
+        }
+    }
+}
+
+fn own_key(alloc: Global, tables: &Tables, op: &Op) -> Result<Key, AllocError>
+    ensures { IfOk result (λ key. key ≡ own_key op.now tables.now) }
+{
+    match tables.schema().get(op.table().0 as usize) {
+        None => Ok(Key::from_vec(Vec::new(alloc))),
+        Some(def) => key_of_row(alloc, def, row_of(op)),
+    }
+}
+
+fn row_at(
+    alloc: Global,
+    tables: &Tables,
+    table: TableId,
+    key: &Key,
+) -> Result<Option<Row>, AllocError>
+    ensures { IfOk result (λ row. row ≡ map.get (table_at tables.now table) key.now) }
+{
+    match tables.table(table) {
+        None => Ok(None),
+        Some(rows) => match rows.get(key) {
+            None => Ok(None),
+            Some(row) => {
+                let row = row.copied(alloc)?;
+                Ok(Some(row))
+            }
+        },
+    }
+}
+
+fn row_of(op: &Op) -> &Row
+    ensures { result.now ≡ row_of op.now }
+{
+    match op {
+        Op::Insert(_, row) => row,
+        Op::Update(_, row, _) => row,
+        Op::Delete(_, row) => row,
+    }
+}

@@ -1,0 +1,100 @@
+//! The backing history with its tickets.
+
+ghost use Rattle.std.specs.Prelude.{◌≡◌, [], ◌∷◌, ◌++◌, false, length, List, OnErr, OnOk};
+ghost use Rattle.table_state.specs.declared.history.Entry.{Entry};
+ghost use Rattle.table_state.specs.Histories.{has_ticket};
+ghost use Rattle.backing_gate.specs.Tickets.{IsNewIn, front_with};
+
+use std::alloc::{AllocError, Global};
+use std::collections::BTreeMap;
+use std::marker::Model;
+use table_state::{Entry, History, Ops, TableDef};
+use tier_base::{Seq, Ticket};
+
+/// The backing history, in which a ticket is found without going through it. Clauses see the entries.
+#[derive(Drop)]
+pub(crate) struct Ledger {
+    entries: History,
+    // By ticket, the length of the shortest front of the history that has it.
+    fronts: BTreeMap<u64, u64>,
+}
+
+impl Model for Ledger {
+    ghost use Rattle.std.specs.Prelude.{◌≡◌, List, ℕ};
+    ghost use Rattle.std.specs.BTreeMap.{get};
+    ghost use Rattle.std.specs.Ordering.{nat_cmp};
+    ghost use Rattle.table_state.specs.declared.history.Entry.{Entry};
+    ghost use Rattle.backing_gate.specs.Tickets.{front_with};
+
+    ghost Value = { List Entry };
+
+    ghost view = { λ l. l.entries };
+
+    ghost invariant = { λ l. (ticket : ℕ) → get nat_cmp l.fronts ticket ≡ front_with ticket l.entries };
+}
+
+impl Ledger {
+    /// The history without entries. It takes no memory.
+    pub(crate) fn new(alloc: Global) -> Ledger
+        ensures { result ≡ [] }
+    {
+        Ledger {
+            entries: Seq::new(alloc),
+            fronts: BTreeMap::new(alloc),
+        }
+    }
+
+    /// The entries.
+    pub(crate) fn entries(&self) -> &History
+        ensures { result.now ≡ self.now }
+    {
+        &self.entries
+    }
+
+    /// The length of the shortest front of the history that has the ticket, where one has.
+    pub(crate) fn front_with(&self, ticket: Ticket) -> Option<u64>
+        ensures { result ≡ front_with ticket.0 self.now }
+    {
+        self.fronts.get(&ticket.0).copied()
+    }
+
+    /// Puts a definition behind the history. For want of memory it stays.
+    pub(crate) fn push_definition(&mut self, def: TableDef) -> Result<(), AllocError>
+        ensures ok { OnOk result (self.new ≡ self.old ++ Entry.Definition def ∷ []) }
+        ensures err { OnErr result (self.new ≡ self.old) }
+    {
+        self.entries.push(Entry::Definition(def))?;
+        Ok(())
+    }
+
+    /// Puts a transaction of the tier, whose ticket is new, behind the history. For want of memory it stays.
+    pub(crate) fn push_own(&mut self, ticket: Ticket, ops: Ops) -> Result<(), AllocError>
+        requires { has_ticket ticket.0 self.old ≡ false }
+        ensures ok { OnOk result (self.new ≡ self.old ++ Entry.Own ticket ops ∷ []) }
+        ensures err { OnErr result (self.new ≡ self.old) }
+    {
+        self.entries.push(Entry::Own(ticket, ops))?;
+        match self.fronts.insert(ticket.0, self.entries.len() as u64) {
+            Ok(_) => Ok(()),
+            Err(failed) => {
+                let _ = self.entries.pop();
+                Err(AllocError::from(failed))
+            }
+        }
+    }
+
+    /// Takes the last entry back. A condition is that no entry before it has its ticket. It takes no memory.
+    pub(crate) fn take_back(&mut self)
+        requires { (front : List Entry) (last : Entry) → self.old ≡ front ++ last ∷ [] → IsNewIn front last }
+        ensures { (front : List Entry) (last : Entry) → self.old ≡ front ++ last ∷ [] → self.new ≡ front }
+    {
+        match self.entries.pop() {
+            None => {}
+            Some(Entry::Definition(_)) => {}
+            Some(Entry::Foreign(_)) => {}
+            Some(Entry::Own(ticket, _)) => {
+                let _ = self.fronts.remove(&ticket.0);
+            }
+        }
+    }
+}

@@ -1,0 +1,221 @@
+-- The pieces of the input, from the first to the last.
+use Rattle.std.proofs.Common.{◌≡◌, ap₂, ℕ, min, ◌+◌, ◌-◌, ◌≤◌, ◌<◌, List, [], ◌++◌, length, take, drop, Option, Some, None, refl, sym, ◌∙◌, ap, append-nil, append_assoc, inl, inr, arith, lit≤, take-append-drop}
+use Rattle.std.specs.Io.KnownBytes.{Consumes, IsAtEnd, Keeps}
+use Rattle.std.proofs.lemmas.List.{length-append, length-take, length-drop}
+use Rattle.outside.specs.Holding.{Held}
+use Rattle.tier_engine.specs.Steps.{World}
+use Rattle.table_state.specs.declared.history.Entry.{Entry}
+use Rattle.tier_engine.specs.TierStates.{TierState, fresh}
+use Rattle.session_cli.specs.declared.session.Session.{Session}
+use Rattle.session_cli.specs.declared.serving.Status.TheVariants.{Finished, SourceFailed, SinkFailed, NoMemory, InputTooLong}
+use Rattle.session_cli.specs.Cutting.{ended_lines, all_lines}
+use Rattle.session_cli.specs.Serving.{Origin, Serving, Whole, CutShort, IsNew, begins}
+use Rattle.session_cli.specs.Ends.{Ended, Taken}
+use Rattle.session_cli.proofs.CuttingLaws.{front_short}
+use Rattle.session_cli.proofs.ServingLaws.{serving_whole}
+
+-- Between two pieces: so much was given and so much is left.
+pub record Taking (input : List ℕ) (room : ℕ) (source : Option (List ℕ)) : Type 0 where
+  pub given : List ℕ
+  pub left : List ℕ
+  pub tells : source ≡ Some left
+  pub parts : input ≡ given ++ left
+  pub total : length given + room ≡ 4294967296
+
+-- And all that was given is taken in.
+pub record Going (o : Origin) (input : List ℕ) (room : ℕ) (source sink : Option (List ℕ)) (site : Option Held) (faults moment : ℕ) (session : Session) : Type 0 where
+  pub taking : Taking input room source
+  pub serving : Serving o taking.given sink site faults moment session
+
+abbrev pub world : TierState → List Entry → ℕ → ℕ → World
+world tier history faults moment = record { tier = tier; history = history; bank_faults = faults; moment = moment }
+
+-- at the beginning
+pub taking_new : (input : List ℕ) (source : Option (List ℕ)) → source ≡ Some input → Taking input 4294967296 source
+taking_new input source is = record { given = []; left = input; tells = is; parts = refl; total = refl }
+
+pub serving_new : (session : Session) (start : List ℕ) (held : Held) (sink : Option (List ℕ)) (site : Option Held) (faults moment : ℕ) → IsNew session → sink ≡ Some start → site ≡ Some held → held.history ≡ []
+    → Serving (begins held.slots start faults moment) [] sink site faults moment session
+serving_new session start held sink site faults moment n is_sink is_site none = record {
+  log = [];
+  held = held;
+  replies = [];
+  tells = is_site;
+  slots = refl;
+  stands = rw none n.stands;
+  run = ap₂ (λ t h. world t h faults moment) (rw none n.tier) none;
+  line = n.line ∙ sym (front_short [] (lit≤ tt));
+  passed = record { count = 0; written = rw is_sink (sym (append-nil start)); waits = n.output };
+}
+
+pub going_new : (session : Session) (input start : List ℕ) (held : Held) (source sink : Option (List ℕ)) (site : Option Held) (faults moment : ℕ) → IsNew session → source ≡ Some input → sink ≡ Some start → site ≡ Some held → held.history ≡ []
+    → Going (begins held.slots start faults moment) input 4294967296 source sink site faults moment session
+unfolding taking_new
+going_new session input start held source sink site faults moment n is_source is_sink is_site none = record {
+  taking = taking_new input source is_source;
+  serving = serving_new session start held sink site faults moment n is_sink is_site none;
+}
+
+-- memory was wanting before the first request
+pub ended_unstarted : (input start : List ℕ) (held : Held) (source sink : Option (List ℕ)) (site : Option Held) (faults moment : ℕ) → source ≡ Some input → sink ≡ Some start → site ≡ Some held → held.history ≡ []
+    → Ended NoMemory (begins held.slots start faults moment) input source sink site faults moment
+ended_unstarted input start held source sink site faults moment is_source is_sink is_site none = record {
+  taken = record { given = []; left = input; tells = is_source; parts = refl; gives = refl };
+  outcome = record {
+    replies = [];
+    answered = record {
+      last = world fresh [] faults moment;
+      run = refl;
+      held = held;
+      tells = is_site;
+      slots = refl;
+      history = none;
+      counted = refl;
+      now = refl;
+      legal = λ conflict. record { once = tt; ops = tt; order = tt };
+    };
+    tells = is_sink ∙ ap (λ l. Some l) (sym (append-nil start));
+  };
+}
+
+kept_told : (a b : Option (List ℕ)) (x : List ℕ) → a ≡ Some x → Keeps a b → b ≡ Some x
+kept_told None b x is k = cc
+kept_told (Some a) None x is k = absurd k
+kept_told (Some a) (Some b) x is k = cc
+
+-- what a source gave, and what is left
+pub record Took (old : List ℕ) (new : Option (List ℕ)) (bytes room : List ℕ) (n : ℕ) : Type 0 where
+  pub left : List ℕ
+  pub tells : new ≡ Some left
+  pub parts : old ≡ bytes ++ left
+  pub ended : n ≡ 0 → 0 < length room → left ≡ []
+
+-- a call of a source that took n bytes
+abbrev pub TakeOf : Option (List ℕ) → Option (List ℕ) → ℕ → List ℕ → Type 0
+TakeOf a b n buf = Consumes a b (take n buf) × (n ≡ 0 → 0 < length buf → IsAtEnd b)
+
+took : (a b : Option (List ℕ)) (old buf : List ℕ) (n : ℕ) → a ≡ Some old → TakeOf a b n buf → Took old b (take n buf) buf n
+took None b old buf n is p = cc
+took (Some a) None old buf n is p = absurd p.0
+took (Some a) (Some b) old buf n is p = record { left = b; tells = refl; parts = let e : a ≡ old = cc in sym e ∙ p.0; ended = p.1 }
+
+-- the source failed
+pub taken_failed : (input : List ℕ) (room : ℕ) (source source' : Option (List ℕ)) → 0 < room → Keeps source source' → Taking input room source → Taken SourceFailed input source'
+taken_failed input room source source' some kept t = record {
+  given = t.given;
+  left = t.left;
+  tells = kept_told source source' t.left t.tells kept;
+  parts = t.parts;
+  gives = omega (arith, t.total);
+}
+
+-- too many bytes were given
+pub taken_long : (input : List ℕ) (room : ℕ) (source : Option (List ℕ)) → room ≤ 0 → Taking input room source → Taken InputTooLong input source
+taken_long input room source full t = record { given = t.given; left = t.left; tells = t.tells; parts = t.parts; gives = omega (arith, t.total) }
+
+-- the source is at its end
+pub taken_all : (input : List ℕ) (room : ℕ) (source source' : Option (List ℕ)) (buf : List ℕ) (n : ℕ) → n ≡ 0 → 0 < room → 0 < length buf → TakeOf source source' n buf → Taking input room source → Taken Finished input source'
+taken_all input room source source' buf n none some space p t =
+    let k = took source source' t.left buf n t.tells p in
+    record {
+      given = t.given;
+      left = k.left;
+      tells = k.tells;
+      parts = t.parts ∙ ap (λ l. t.given ++ l) (k.parts ∙ ap (λ i. take i buf ++ k.left) none);
+      gives = (k.ended none space, omega (arith, t.total));
+    }
+
+-- and the sink failed
+pub taken_unwritten : (input : List ℕ) (room : ℕ) (source source' : Option (List ℕ)) (buf : List ℕ) (n : ℕ) → n ≡ 0 → TakeOf source source' n buf → Taking input room source → Taken SinkFailed input source'
+taken_unwritten input room source source' buf n none p t =
+    let k = took source source' t.left buf n t.tells p in
+    record {
+      given = t.given;
+      left = k.left;
+      tells = k.tells;
+      parts = t.parts ∙ ap (λ l. t.given ++ l) (k.parts ∙ ap (λ i. take i buf ++ k.left) none);
+      gives = omega (arith, t.total);
+    }
+
+-- a piece more was given
+pub taking_on : (input : List ℕ) (room room' : ℕ) (source source' : Option (List ℕ)) (buf bytes : List ℕ) (n : ℕ) → bytes ≡ take n buf → length bytes ≡ n → n ≤ room → room' ≡ room - n → TakeOf source source' n buf
+    → Taking input room source → Taking input room' source'
+taking_on input room room' source source' buf bytes n are len within less p t =
+    let k = took source source' t.left buf n t.tells p in
+    record {
+      given = t.given ++ bytes;
+      left = k.left;
+      tells = k.tells;
+      parts = t.parts ∙ ap (λ l. t.given ++ l) (k.parts ∙ ap (λ l. l ++ k.left) (sym are)) ∙ sym (append_assoc t.given bytes k.left);
+      total = omega (arith, t.total, length-append t.given bytes);
+    }
+
+-- and the sink failed in it
+pub taken_in_piece : (input : List ℕ) (room : ℕ) (source : Option (List ℕ)) → Taking input room source → Taken SinkFailed input source
+taken_in_piece input room source t = record { given = t.given; left = t.left; tells = t.tells; parts = t.parts; gives = omega (arith, t.total) }
+
+pub ended_source : (o : Origin) (input : List ℕ) (room : ℕ) (source source' sink : Option (List ℕ)) (site : Option Held) (faults moment : ℕ) (session : Session) → session.output ≡ [] → 0 < room → Keeps source source'
+    → Going o input room source sink site faults moment session → Ended SourceFailed o input source' sink site faults moment
+unfolding taken_failed
+ended_source o input room source source' sink site faults moment session none some kept g = record {
+  taken = taken_failed input room source source' some kept g.taking;
+  outcome = serving_whole o g.taking.given sink site faults moment session none g.serving;
+}
+
+pub ended_long : (o : Origin) (input : List ℕ) (room : ℕ) (source sink : Option (List ℕ)) (site : Option Held) (faults moment : ℕ) (session : Session) → session.output ≡ [] → room ≤ 0
+    → Going o input room source sink site faults moment session → Ended InputTooLong o input source sink site faults moment
+unfolding taken_long
+ended_long o input room source sink site faults moment session none full g = record {
+  taken = taken_long input room source full g.taking;
+  outcome = serving_whole o g.taking.given sink site faults moment session none g.serving;
+}
+
+pub ended_all : (o : Origin) (input : List ℕ) (room : ℕ) (source source' sink sink' : Option (List ℕ)) (site site' : Option Held) (faults faults' moment moment' : ℕ) (session : Session) (buf : List ℕ) (n : ℕ) → n ≡ 0 → 0 < room → 0 < length buf
+    → TakeOf source source' n buf → (g : Going o input room source sink site faults moment session) → Whole o (all_lines g.taking.given) sink' site' faults' moment' → Ended Finished o input source' sink' site' faults' moment'
+unfolding taken_all
+ended_all o input room source source' sink sink' site site' faults faults' moment moment' session buf n none some space p g whole = record {
+  taken = taken_all input room source source' buf n none some space p g.taking;
+  outcome = whole;
+}
+
+pub ended_unwritten : (o : Origin) (input : List ℕ) (room : ℕ) (source source' sink sink' : Option (List ℕ)) (site site' : Option Held) (faults faults' moment moment' : ℕ) (session : Session) (buf : List ℕ) (n : ℕ) → n ≡ 0
+    → TakeOf source source' n buf → (g : Going o input room source sink site faults moment session) → CutShort o (all_lines g.taking.given) sink' site' faults' moment' → Ended SinkFailed o input source' sink' site' faults' moment'
+unfolding taken_unwritten
+ended_unwritten o input room source source' sink sink' site site' faults faults' moment moment' session buf n none p g short = record {
+  taken = taken_unwritten input room source source' buf n none p g.taking;
+  outcome = record { front = g.taking.given; behind = []; parts = sym (append-nil g.taking.given); answered = inr short };
+}
+
+pub ended_in_piece : (o : Origin) (input : List ℕ) (room room' : ℕ) (source source' sink sink' : Option (List ℕ)) (site site' : Option Held) (faults faults' moment moment' : ℕ) (session : Session) (buf bytes : List ℕ) (n : ℕ)
+    → bytes ≡ take n buf → length bytes ≡ n → n ≤ room → room' ≡ room - n → TakeOf source source' n buf
+    → (g : Going o input room source sink site faults moment session) → (m : ℕ) × CutShort o (ended_lines (g.taking.given ++ take m bytes)) sink' site' faults' moment' → Ended SinkFailed o input source' sink' site' faults' moment'
+unfolding taking_on taken_in_piece
+ended_in_piece o input room room' source source' sink sink' site site' faults faults' moment moment' session buf bytes n are len within less p g (m, short) = record {
+  taken = taken_in_piece input room' source' (taking_on input room room' source source' buf bytes n are len within less p g.taking);
+  outcome = record {
+    front = g.taking.given ++ take m bytes;
+    behind = drop m bytes;
+    parts = ap (λ l. g.taking.given ++ l) (sym (take-append-drop m bytes)) ∙ sym (append_assoc g.taking.given (take m bytes) (drop m bytes));
+    answered = inl short;
+  };
+}
+
+pub going_on : (o : Origin) (input : List ℕ) (room room' : ℕ) (source source' sink sink' : Option (List ℕ)) (site site' : Option Held) (faults faults' moment moment' : ℕ) (session session' : Session) (buf bytes : List ℕ) (n : ℕ)
+    → bytes ≡ take n buf → length bytes ≡ n → n ≤ room → room' ≡ room - n → TakeOf source source' n buf
+    → (g : Going o input room source sink site faults moment session) → Serving o (g.taking.given ++ bytes) sink' site' faults' moment' session' → Going o input room' source' sink' site' faults' moment' session'
+unfolding taking_on
+going_on o input room room' source source' sink sink' site site' faults faults' moment moment' session session' buf bytes n are len within less p g s = record {
+  taking = taking_on input room room' source source' buf bytes n are len within less p g.taking;
+  serving = s;
+}
+
+-- the part of the buffer that the source may fill
+pub has_room : (buf piece : List ℕ) (want room : ℕ) → want ≡ min room (length piece) → length buf ≡ length (take want piece) → 0 < room → 0 < length piece → 0 < length buf
+has_room buf piece want room is len some space = omega (arith, length-take want piece)
+
+pub fits_room : (buf piece : List ℕ) (want room n : ℕ) → want ≡ min room (length piece) → length buf ≡ length (take want piece) → n ≤ length buf → n ≤ room
+fits_room buf piece want room n is len le = omega (arith, length-take want piece)
+
+-- the buffer keeps its length
+pub keeps_length : (buf piece : List ℕ) (want : ℕ) → length buf ≡ length (take want piece) → length (buf ++ drop want piece) ≡ length piece
+keeps_length buf piece want len = omega (arith, length-append buf (drop want piece), length-take want piece, length-drop want piece)

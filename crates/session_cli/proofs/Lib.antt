@@ -1,0 +1,5 @@
+pub mod CuttingLaws
+pub mod OutputLaws
+pub mod FlatMaps
+pub mod ServingLaws
+pub mod EndsLaws

@@ -1,0 +1,236 @@
+-- A run goes on by lines and bytes.
+use Rattle.std.proofs.Common.{◌≡◌, ◌≢◌, ℕ, zero, suc, Bool, ◌+◌, ◌<◌, length, get_or, List, [], ◌∷◌, ◌++◌, take, drop, Option, Some, None, Result, Ok, Err, refl, sym, ◌∙◌, ap, subst, append-nil, append_assoc, lit≤}
+use Rattle.std.specs.Io.KnownBytes.{Appends}
+use Rattle.std.specs.Result.{IsErr, OnOk}
+use Rattle.table_state.specs.declared.history.Sealed.{Sealed}
+use Rattle.outside.specs.Holding.{Held}
+use Rattle.table_state.specs.declared.history.Entry.{Entry}
+use Rattle.tier_engine.proofs.LegalLaws.{legal_front}
+use Rattle.tier_engine.specs.Commits.{IsLegal}
+use Rattle.tier_engine.specs.declared.tier.Tier.{Tier}
+use Rattle.tier_engine.specs.declared.reply.Reply.{Reply}
+use Rattle.tier_engine.specs.Replying.{reply_bytes, replies_bytes}
+use Rattle.tier_engine.specs.Standing.{StandsFor, world_of}
+use Rattle.tier_engine.specs.Steps.{World, Run, LineStep}
+use Rattle.session_cli.specs.declared.session.Session.{Session}
+use Rattle.session_cli.specs.Cutting.{cut, front_of, text_of, ended_lines, all_lines}
+use Rattle.session_cli.specs.Output.{Splits, Breaks, Passes}
+use Rattle.session_cli.specs.Serving.{Origin, Responds, Serving, Answered, Whole, CutShort, Feeds, Finishes, Closing, Closes}
+use Rattle.session_cli.proofs.CuttingLaws.{ended_push, rest_ended, ended_same, rest_push, front_push, front_short, text_front, take_one, take_within, all_ended, all_more}
+use Rattle.session_cli.proofs.OutputLaws.{splits_then, breaks_then}
+
+-- a step more
+pub run_push : (w : World) (ls : List (List ℕ)) (rs : List (Option Reply)) (w1 : World) (l : List ℕ) (r : Option Reply) (w2 : World) → Run w ls rs w1 → LineStep w1 l w2 r → Run w (ls ++ l ∷ []) (rs ++ r ∷ []) w2
+run_push w [] [] w1 l r w2 run step = (w2, subst (λ (x : World). LineStep x l w2 r) run step, refl)
+run_push w [] (r' ∷ rs) w1 l r w2 run step = absurd run
+run_push w (l' ∷ ls) [] w1 l r w2 run step = absurd run
+run_push w (l' ∷ ls) (r' ∷ rs) w1 l r w2 (mid, first, rest) step = (mid, first, run_push mid ls rs w1 l r w2 rest step)
+
+pub replies_push : (rs : List (Option Reply)) (r : Option Reply) → replies_bytes (rs ++ r ∷ []) ≡ replies_bytes rs ++ reply_bytes r
+replies_push [] r = append-nil (reply_bytes r)
+replies_push (r' ∷ rs) r = ap (λ l. reply_bytes r' ++ l) (replies_push rs r) ∙ sym (append_assoc (reply_bytes r') (replies_bytes rs) (reply_bytes r))
+
+pub told_after : (a : List ℕ) (b : Option (List ℕ)) (xs : List ℕ) → Appends (Some a) b xs → b ≡ Some (a ++ xs)
+told_after a None xs p = absurd p
+told_after a (Some b) xs p = ap (λ l. Some l) p
+
+-- what a tier stands for is legal
+pub legal_of : (t : Tier) (log : List Sealed) (history : List Entry) → StandsFor t log history → (conflict : Sealed → Sealed → Bool) → IsLegal conflict history log
+legal_of t log history s conflict =
+    subst (λ (h : List Entry). IsLegal conflict h log) (sym s.is) (legal_front conflict s.defs 1 s.came log t.next s.rise)
+
+-- the ended lines and one more are answered
+pub answered_line : {E : Type 0} (res : Result (Unit {0}) E) (o : Origin) (given : List ℕ) (sink sink' : Option (List ℕ)) (site site' : Option Held) (faults faults' moment moment' : ℕ) (session : Session) (tier' : Tier) (waiting' line : List ℕ)
+    → (s : Serving o given sink site faults moment session) → (r : Responds res sink sink' session.output waiting' site' faults faults' moment moment' session.tier tier' s.log s.held line)
+    → Answered o (ended_lines given ++ line ∷ []) (s.replies ++ r.reply ∷ []) site' faults' moment'
+answered_line res o given sink sink' site site' faults faults' moment moment' session tier' waiting' line s r = record {
+  last = world_of tier' r.served.log' r.served.held'.history faults' moment';
+  run = run_push o.world (ended_lines given) s.replies (world_of session.tier s.log s.held.history faults moment) line r.reply (world_of tier' r.served.log' r.served.held'.history faults' moment') s.run r.served.made;
+  held = r.served.held';
+  tells = r.served.tells;
+  slots = r.served.slots ∙ s.slots;
+  history = refl;
+  counted = refl;
+  now = refl;
+  legal = legal_of tier' r.served.log' r.served.held'.history r.served.stands;
+}
+
+-- a front of the replies is written
+pub cut_short : (o : Origin) (lines : List (List ℕ)) (replies : List (Option Reply)) (sink : Option (List ℕ)) (site : Option Held) (faults moment : ℕ) → Answered o lines replies site faults moment → Breaks (Some o.written) sink (replies_bytes replies)
+    → CutShort o lines sink site faults moment
+cut_short o lines replies sink site faults moment a b = record { replies = replies; answered = a; count = b.count; tells = told_after o.written sink (take b.count (replies_bytes replies)) b.written }
+
+-- a line feed came, and the reply was passed on
+pub serving_line : {E : Type 0} (o : Origin) (given : List ℕ) (sink sink' : Option (List ℕ)) (site site' : Option Held) (faults faults' moment moment' : ℕ) (session session' : Session) (line : List ℕ)
+    → line ≡ text_of session.line → session'.line ≡ [] → (s : Serving o given sink site faults moment session)
+    → Responds {E = E} (Ok tt) sink sink' session.output session'.output site' faults faults' moment moment' session.tier session'.tier s.log s.held line
+    → Serving o (given ++ 10 ∷ []) sink' site' faults' moment' session'
+unfolding answered_line
+serving_line o given sink sink' site site' faults faults' moment moment' session session' line is empty s r =
+    let text : line ≡ text_of (cut given).1 = is ∙ ap text_of s.line ∙ text_front (cut given).1 in
+    let lines : ended_lines given ++ line ∷ [] ≡ ended_lines (given ++ 10 ∷ []) = ap (λ l. ended_lines given ++ l ∷ []) text ∙ sym (ended_push given) in
+    let a = answered_line _ o given sink sink' site site' faults faults' moment moment' session session'.tier session'.output line s r in
+    record {
+      log = r.served.log';
+      held = r.served.held';
+      replies = s.replies ++ r.reply ∷ [];
+      tells = r.served.tells;
+      slots = a.slots;
+      stands = r.served.stands;
+      run = subst (λ (ls : List (List ℕ)). Run o.world ls (s.replies ++ r.reply ∷ []) (world_of session'.tier r.served.log' r.served.held'.history faults' moment')) lines a.run;
+      line = empty ∙ sym (ap front_of (rest_ended given) ∙ front_short [] (lit≤ tt));
+      passed = rw (replies_push s.replies r.reply) (splits_then (Some o.written) sink sink' (replies_bytes s.replies) session.output (reply_bytes r.reply) session'.output s.passed r.passed);
+    }
+
+-- a line feed came, and the sink failed
+pub cut_short_line : {E : Type 0} (e : E) (o : Origin) (given : List ℕ) (sink sink' : Option (List ℕ)) (site site' : Option Held) (faults faults' moment moment' : ℕ) (session : Session) (tier' : Tier) (waiting' line : List ℕ)
+    → line ≡ text_of session.line → (s : Serving o given sink site faults moment session)
+    → Responds (Err e) sink sink' session.output waiting' site' faults faults' moment moment' session.tier tier' s.log s.held line
+    → CutShort o (ended_lines (given ++ 10 ∷ [])) sink' site' faults' moment'
+cut_short_line e o given sink sink' site site' faults faults' moment moment' session tier' waiting' line is s r =
+    let text : line ≡ text_of (cut given).1 = is ∙ ap text_of s.line ∙ text_front (cut given).1 in
+    let lines : ended_lines given ++ line ∷ [] ≡ ended_lines (given ++ 10 ∷ []) = ap (λ l. ended_lines given ++ l ∷ []) text ∙ sym (ended_push given) in
+    let a = answered_line _ o given sink sink' site site' faults faults' moment moment' session tier' waiting' line s r in
+    subst (λ (ls : List (List ℕ)). CutShort o ls sink' site' faults' moment') lines
+    (cut_short o (ended_lines given ++ line ∷ []) (s.replies ++ r.reply ∷ []) sink' site' faults' moment' a
+    (rw (replies_push s.replies r.reply) (breaks_then (Some o.written) sink sink' (replies_bytes s.replies) session.output (reply_bytes r.reply) s.passed r.passed)))
+
+-- another byte came
+pub serving_byte : (o : Origin) (given : List ℕ) (b : ℕ) (sink : Option (List ℕ)) (site : Option Held) (faults moment : ℕ) (session session' : Session)
+    → b ≢ 10 → session'.tier ≡ session.tier → session'.line ≡ front_of (session.line ++ b ∷ []) → session'.output ≡ session.output
+    → Serving o given sink site faults moment session → Serving o (given ++ b ∷ []) sink site faults moment session'
+serving_byte o given b sink site faults moment session session' differs tier line output s = record {
+  log = s.log;
+  held = s.held;
+  replies = s.replies;
+  tells = s.tells;
+  slots = s.slots;
+  stands = rw tier s.stands;
+  run = rw (ended_same given b differs, tier) s.run;
+  line = line ∙ ap (λ l. front_of (l ++ b ∷ [])) s.line ∙ front_push (cut given).1 b ∙ sym (ap front_of (rest_push given b differs));
+  passed = rw output s.passed;
+}
+
+-- the sink failed behind a front of the bytes
+pub feeds_failed : {E : Type 0} (r : Result (Unit {0}) E) (o : Origin) (given bytes : List ℕ) (n : ℕ) (sink : Option (List ℕ)) (site : Option Held) (faults moment : ℕ) (session : Session) → IsErr r
+    → CutShort o (ended_lines (given ++ take n bytes)) sink site faults moment → Feeds r o given bytes sink site faults moment session
+feeds_failed (Ok done) o given bytes n sink site faults moment session is c = cc
+feeds_failed (Err e) o given bytes n sink site faults moment session is c = (n, c)
+
+pub feeds_again : {E F : Type 0} (e : E) (r : Result (Unit {0}) F) (o : Origin) (given bytes : List ℕ) (sink : Option (List ℕ)) (site : Option Held) (faults moment : ℕ) (session session' : Session) → IsErr r
+    → Feeds (Err e) o given bytes sink site faults moment session → Feeds r o given bytes sink site faults moment session'
+feeds_again e (Ok done) o given bytes sink site faults moment session session' is c = cc
+feeds_again e (Err f) o given bytes sink site faults moment session session' is c = c
+
+-- the sink failed at a byte of a piece
+pub feeds_byte_failed : {E F : Type 0} (e : E) (r : Result (Unit {0}) F) (o : Origin) (given bytes : List ℕ) (i : ℕ) (sink : Option (List ℕ)) (site : Option Held) (faults moment : ℕ) (session session' : Session) → IsErr r → i < length bytes
+    → Feeds (Err e) o (given ++ take i bytes) (get_or bytes i 0 ∷ []) sink site faults moment session → Feeds r o given bytes sink site faults moment session'
+feeds_byte_failed e r o given bytes i sink site faults moment session session' is lt (n, c) =
+    let w = take_within bytes i n lt in
+    feeds_failed r o given bytes w.0 sink site faults moment session' is
+    (subst (λ (l : List ℕ). CutShort o (ended_lines l) sink site faults moment) (append_assoc given (take i bytes) (take n (get_or bytes i 0 ∷ [])) ∙ ap (λ l. given ++ l) w.1) c)
+
+-- a byte of a piece was taken in
+pub serving_more : (o : Origin) (given bytes : List ℕ) (i : ℕ) (sink : Option (List ℕ)) (site : Option Held) (faults moment : ℕ) (session : Session) → i < length bytes
+    → Serving o ((given ++ take i bytes) ++ get_or bytes i 0 ∷ []) sink site faults moment session → Serving o (given ++ take (i + 1) bytes) sink site faults moment session
+serving_more o given bytes i sink site faults moment session lt s =
+    subst (λ (l : List ℕ). Serving o l sink site faults moment session) (append_assoc given (take i bytes) (get_or bytes i 0 ∷ []) ∙ ap (λ l. given ++ l) (take_one bytes i lt)) s
+
+-- the ended lines are answered
+pub answered_here : (o : Origin) (given : List ℕ) (sink : Option (List ℕ)) (site : Option Held) (faults moment : ℕ) (session : Session) → (s : Serving o given sink site faults moment session) → Answered o (ended_lines given) s.replies site faults moment
+answered_here o given sink site faults moment session s = record {
+  last = world_of session.tier s.log s.held.history faults moment;
+  run = s.run;
+  held = s.held;
+  tells = s.tells;
+  slots = s.slots;
+  history = refl;
+  counted = refl;
+  now = refl;
+  legal = legal_of session.tier s.log s.held.history s.stands;
+}
+
+take_whole : (xs : List ℕ) → take (length xs) xs ≡ xs
+take_whole [] = refl
+take_whole (x ∷ xs) = ap (λ l. x ∷ l) (take_whole xs)
+
+-- what waited is written
+pub serving_flushed : {E : Type 0} (r : Result (Unit {0}) E) (o : Origin) (given bytes : List ℕ) (sink sink' : Option (List ℕ)) (site : Option Held) (faults moment : ℕ) (session session' : Session)
+    → session'.tier ≡ session.tier → session'.line ≡ session.line → Serving o (given ++ bytes) sink site faults moment session → Passes r sink sink' session.output session'.output []
+    → Feeds r o given bytes sink' site faults moment session'
+serving_flushed (Ok done) o given bytes sink sink' site faults moment session session' tier line s p = record {
+  log = s.log;
+  held = s.held;
+  replies = s.replies;
+  tells = s.tells;
+  slots = s.slots;
+  stands = rw tier s.stands;
+  run = rw tier s.run;
+  line = line ∙ s.line;
+  passed = subst (λ (l : List ℕ). Splits (Some o.written) sink' l session'.output) (append-nil (replies_bytes s.replies))
+      (splits_then (Some o.written) sink sink' (replies_bytes s.replies) session.output [] session'.output s.passed p);
+}
+serving_flushed (Err e) o given bytes sink sink' site faults moment session session' tier line s p = (
+  length bytes,
+  subst (λ (l : List ℕ). CutShort o (ended_lines (given ++ l)) sink' site faults moment) (sym (take_whole bytes))
+      (cut_short o (ended_lines (given ++ bytes)) s.replies sink' site faults moment (answered_here o (given ++ bytes) sink site faults moment session s)
+      (subst (λ (l : List ℕ). Breaks (Some o.written) sink' l) (append-nil (replies_bytes s.replies)) (breaks_then (Some o.written) sink sink' (replies_bytes s.replies) session.output [] s.passed p))),
+)
+
+-- all lines end with a line feed
+pub closes_ended : (o : Origin) (given : List ℕ) (sink : Option (List ℕ)) (site : Option Held) (faults moment : ℕ) (session : Session) → session.line ≡ [] → Serving o given sink site faults moment session
+    → Closing o (all_lines given) sink site faults moment session.output
+closes_ended o given sink site faults moment session none s = record {
+  replies = s.replies;
+  answered = rw (all_ended given (sym s.line ∙ none)) (answered_here o given sink site faults moment session s);
+  passed = s.passed;
+}
+
+-- the last line is answered
+pub closes_line : {E : Type 0} (r : Result (Unit {0}) E) (o : Origin) (given : List ℕ) (sink sink' : Option (List ℕ)) (site site' : Option Held) (faults faults' moment moment' : ℕ) (session : Session) (tier' : Tier) (waiting' line : List ℕ)
+    → line ≡ session.line → session.line ≢ [] → (s : Serving o given sink site faults moment session)
+    → Responds r sink sink' session.output waiting' site' faults faults' moment moment' session.tier tier' s.log s.held line
+    → Closes r o given sink' site' faults' moment' waiting'
+closes_line (Ok done) o given sink sink' site site' faults faults' moment moment' session tier' waiting' line is some s p = record {
+  replies = s.replies ++ p.reply ∷ [];
+  answered = rw (all_more given line (is ∙ s.line) (λ none. some (sym is ∙ none))) (answered_line _ o given sink sink' site site' faults faults' moment moment' session tier' waiting' line s p);
+  passed = rw (replies_push s.replies p.reply) (splits_then (Some o.written) sink sink' (replies_bytes s.replies) session.output (reply_bytes p.reply) waiting' s.passed p.passed);
+}
+closes_line (Err e) o given sink sink' site site' faults faults' moment moment' session tier' waiting' line is some s p =
+    rw (all_more given line (is ∙ s.line) (λ none. some (sym is ∙ none)))
+    (cut_short o (ended_lines given ++ line ∷ []) (s.replies ++ p.reply ∷ []) sink' site' faults' moment' (answered_line _ o given sink sink' site site' faults faults' moment moment' session tier' waiting' line s p)
+    (rw (replies_push s.replies p.reply) (breaks_then (Some o.written) sink sink' (replies_bytes s.replies) session.output (reply_bytes p.reply) s.passed p.passed)))
+
+pub closes_failed : {E F : Type 0} (e : E) (r : Result (Unit {0}) F) (o : Origin) (given : List ℕ) (sink : Option (List ℕ)) (site : Option Held) (faults moment : ℕ) (waiting : List ℕ) → IsErr r
+    → Closes (Err e) o given sink site faults moment waiting → Finishes r o given sink site faults moment
+closes_failed e (Ok done) o given sink site faults moment waiting is c = cc
+closes_failed e (Err f) o given sink site faults moment waiting is c = c
+
+take_rest : (n : ℕ) (xs : List ℕ) → drop n xs ≡ [] → take n xs ≡ xs
+take_rest zero [] none = refl
+take_rest zero (x ∷ xs) none = cc
+take_rest (suc n) [] none = refl
+take_rest (suc n) (x ∷ xs) none = ap (λ l. x ∷ l) (take_rest n xs none)
+
+-- nothing is left to write
+all_written : (o : Origin) (lines : List (List ℕ)) (replies : List (Option Reply)) (sink : Option (List ℕ)) (site : Option Held) (faults moment : ℕ) → Answered o lines replies site faults moment
+    → Splits (Some o.written) sink (replies_bytes replies) [] → Whole o lines sink site faults moment
+all_written o lines replies sink site faults moment a p = record {
+  replies = replies;
+  answered = a;
+  tells = told_after o.written sink (take p.count (replies_bytes replies)) p.written ∙ ap (λ l. Some (o.written ++ l)) (take_rest p.count (replies_bytes replies) (sym p.waits));
+}
+
+pub finishes_closed : {E : Type 0} (r : Result (Unit {0}) E) (o : Origin) (given : List ℕ) (sink sink' : Option (List ℕ)) (site : Option Held) (faults moment : ℕ) (waiting waiting' : List ℕ)
+    → Closing o (all_lines given) sink site faults moment waiting → Passes r sink sink' waiting waiting' [] → OnOk r (waiting' ≡ []) → Finishes r o given sink' site faults moment
+finishes_closed (Ok done) o given sink sink' site faults moment waiting waiting' c p none =
+    all_written o (all_lines given) c.replies sink' site faults moment c.answered
+    (rw (← none) (subst (λ (l : List ℕ). Splits (Some o.written) sink' l waiting') (append-nil (replies_bytes c.replies)) (splits_then (Some o.written) sink sink' (replies_bytes c.replies) waiting [] waiting' c.passed p)))
+finishes_closed (Err e) o given sink sink' site faults moment waiting waiting' c p none =
+    cut_short o (all_lines given) c.replies sink' site faults moment c.answered
+    (subst (λ (l : List ℕ). Breaks (Some o.written) sink' l) (append-nil (replies_bytes c.replies)) (breaks_then (Some o.written) sink sink' (replies_bytes c.replies) waiting [] c.passed p))
+
+-- where nothing waits, all replies of the ended lines are written
+pub serving_whole : (o : Origin) (given : List ℕ) (sink : Option (List ℕ)) (site : Option Held) (faults moment : ℕ) (session : Session) → session.output ≡ [] → Serving o given sink site faults moment session → Whole o (ended_lines given) sink site faults moment
+serving_whole o given sink site faults moment session none s =
+    all_written o (ended_lines given) s.replies sink site faults moment (answered_here o given sink site faults moment session s) (rw (← none) s.passed)

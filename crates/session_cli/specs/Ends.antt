@@ -1,0 +1,78 @@
+-- What a run of the program means.
+
+use Rattle.std.specs.Prelude.{◌≡◌, ℕ, ◌^◌, ◌<◌, ◌≤◌, ◌⊎◌, nat_eq, Bool, false, List, [], ◌∷◌, ◌++◌, Option, Some, length, codes}
+use Rattle.std.specs.Borrow.{Bor}
+use Rattle.std.specs.Cmp.Lexicographic.{pointwise}
+use Rattle.outside.specs.Holding.{Held}
+use Rattle.session_cli.specs.declared.serving.Status.{Status}
+use Rattle.session_cli.specs.declared.serving.Status.TheVariants.{Finished, SourceFailed, SinkFailed, NoMemory, InputTooLong}
+use Rattle.session_cli.specs.Cutting.{ended_lines, all_lines}
+use Rattle.session_cli.specs.Serving.{Origin, Whole, CutShort, begins}
+
+-- at most this many bytes are taken without an end
+abbrev pub input_limit : ℕ
+input_limit = 2 ^ 32
+
+-- a front of the bytes given was answered, and a front of its replies is written
+pub record Stops (o : Origin) (given : List ℕ) (sink : Option (List ℕ)) (site : Option Held) (faults moment : ℕ) : Type 0 where
+  pub front : List ℕ
+  pub behind : List ℕ
+  pub parts : given ≡ front ++ behind
+  pub answered : CutShort o (ended_lines front) sink site faults moment ⊎ CutShort o (all_lines front) sink site faults moment
+
+-- what a run takes of its input, by how it ended: these bytes were given, and those are left
+abbrev pub Gives : Status → List ℕ → List ℕ → Type 0
+Gives Finished given left = (left ≡ []) × (length given < input_limit)
+Gives SourceFailed given left = length given < input_limit
+Gives InputTooLong given left = length given ≡ input_limit
+Gives SinkFailed given left = length given ≤ input_limit
+Gives NoMemory given left = given ≡ []
+
+-- The source gave a front of its bytes.
+pub record Taken (status : Status) (input : List ℕ) (source : Option (List ℕ)) : Type 0 where
+  pub given : List ℕ
+  pub left : List ℕ
+  pub tells : source ≡ Some left
+  pub parts : input ≡ given ++ left
+  pub gives : Gives status given left
+
+-- where the source tells what it holds
+abbrev pub Takes : Status → Option (List ℕ) → Option (List ℕ) → Type 0
+Takes status source source' = (input : List ℕ) → source ≡ Some input → Taken status input source'
+
+-- how the run ended, by the bytes given
+abbrev pub Outcome : Status → Origin → List ℕ → Option (List ℕ) → Option Held → ℕ → ℕ → Type 0
+-- all lines are answered
+Outcome Finished o given sink site faults moment = Whole o (all_lines given) sink site faults moment
+-- the lines that ended are answered
+Outcome SourceFailed o given sink site faults moment = Whole o (ended_lines given) sink site faults moment
+Outcome InputTooLong o given sink site faults moment = Whole o (ended_lines given) sink site faults moment
+-- a front of the replies is written
+Outcome SinkFailed o given sink site faults moment = Stops o given sink site faults moment
+-- no line is answered
+Outcome NoMemory o given sink site faults moment = Whole o [] sink site faults moment
+
+-- The source gave a front of its bytes, and so the run ended.
+pub record Ended (status : Status) (o : Origin) (input : List ℕ) (source sink : Option (List ℕ)) (site : Option Held) (faults moment : ℕ) : Type 0 where
+  pub taken : Taken status input source
+  pub outcome : Outcome status o taken.given sink site faults moment
+
+-- Where source, sink and site tell what they hold, and the site's history has no entries, they tell it afterwards too,
+-- and this is what the run did.
+abbrev pub Runs : Status → Option (List ℕ) → Option (List ℕ) → Option Held → ℕ → ℕ → Option (List ℕ) → Option (List ℕ) → Option Held → ℕ → ℕ → Type 0
+Runs status source sink site faults moment source' sink' site' faults' moment' =
+    (input start : List ℕ) (held : Held) → source ≡ Some input → sink ≡ Some start → site ≡ Some held → held.history ≡ [] →
+    Ended status (begins held.slots start faults moment) input source' sink' site' faults' moment'
+
+-- the words are the program's name and the command `run`
+abbrev pub is_run : List (Bor (List ℕ)) → Bool
+is_run (name ∷ command ∷ []) = pointwise nat_eq command.now (codes "run")
+is_run words = false
+
+-- the statuses with which a run ends
+abbrev pub number_of : Status → ℕ
+number_of Finished = 0
+number_of SourceFailed = 3
+number_of SinkFailed = 4
+number_of NoMemory = 7
+number_of InputTooLong = 10

@@ -1,0 +1,102 @@
+-- A run in the middle and at its end.
+
+use Rattle.std.specs.Prelude.{◌≡◌, ℕ, Bool, List, [], ◌++◌, Option, Some, Result, Ok, Err, take}
+use Rattle.table_state.specs.declared.history.Sealed.{Sealed}
+use Rattle.outside.specs.Holding.{Held, Slots}
+use Rattle.tier_engine.specs.declared.tier.Tier.{Tier}
+use Rattle.tier_engine.specs.declared.reply.Reply.{Reply}
+use Rattle.tier_engine.specs.Replying.{reply_bytes, replies_bytes}
+use Rattle.tier_engine.specs.Standing.{StandsFor, Serves, tier_state, world_of}
+use Rattle.tier_engine.specs.Commits.{IsLegal}
+use Rattle.tier_engine.specs.Steps.{World, Run}
+use Rattle.tier_engine.specs.TierStates.{fresh}
+use Rattle.session_cli.specs.declared.session.Session.{Session}
+use Rattle.session_cli.specs.Cutting.{cut, front_of, ended_lines, all_lines}
+use Rattle.session_cli.specs.Output.{Splits, Passes}
+
+-- Where a run begins: a world, the slots of its site, and what the sink holds.
+pub record Origin : Type 0 where
+  pub world : World
+  pub slots : Slots
+  pub written : List ℕ
+
+-- the run of a fresh tier over a site whose history has no entries
+abbrev pub begins : Slots → List ℕ → ℕ → ℕ → Origin
+begins slots written faults moment = record {
+  world = record { tier = fresh; history = []; bank_faults = faults; moment = moment };
+  slots = slots;
+  written = written;
+}
+
+-- One line was answered: the request was served, and its reply passed on to the sink.
+pub record Responds {E : Type 0} (result : Result (Unit {0}) E) (sink sink' : Option (List ℕ)) (waiting waiting' : List ℕ) (site' : Option Held) (faults faults' moment moment' : ℕ) (tier tier' : Tier) (log : List Sealed) (held : Held) (line : List ℕ) : Type 0 where
+  pub reply : Option Reply
+  pub served : Serves site' faults faults' moment moment' tier tier' log held line reply
+  pub passed : Passes result sink sink' waiting waiting' (reply_bytes reply)
+
+-- After the bytes given: each line that ended is answered, a front of the replies is written and the others wait, and
+-- of the line that hasn't ended the session keeps the front.
+pub record Serving (o : Origin) (given : List ℕ) (sink : Option (List ℕ)) (site : Option Held) (faults moment : ℕ) (session : Session) : Type 0 where
+  pub log : List Sealed
+  pub held : Held
+  pub replies : List (Option Reply)
+  pub tells : site ≡ Some held
+  pub slots : held.slots ≡ o.slots
+  pub stands : StandsFor session.tier log held.history
+  pub run : Run o.world (ended_lines given) replies (world_of session.tier log held.history faults moment)
+  pub line : session.line ≡ front_of (cut given).1
+  pub passed : Splits (Some o.written) sink (replies_bytes replies) session.output
+
+-- These are the replies of a run over the lines, and at its end the site holds what the run's last world says. Whatever
+-- is called a conflict, its history has each ticket once at most, with the operations of its commit, and conflicting
+-- ones in ticket order.
+pub record Answered (o : Origin) (lines : List (List ℕ)) (replies : List (Option Reply)) (site : Option Held) (faults moment : ℕ) : Type 0 where
+  pub last : World
+  pub run : Run o.world lines replies last
+  pub held : Held
+  pub tells : site ≡ Some held
+  pub slots : held.slots ≡ o.slots
+  pub history : held.history ≡ last.history
+  pub counted : last.bank_faults ≡ faults
+  pub now : last.moment ≡ moment
+  pub legal : (conflict : Sealed → Sealed → Bool) → IsLegal conflict last.history last.tier.log
+
+-- The lines are answered, and all replies written.
+pub record Whole (o : Origin) (lines : List (List ℕ)) (sink : Option (List ℕ)) (site : Option Held) (faults moment : ℕ) : Type 0 where
+  pub replies : List (Option Reply)
+  pub answered : Answered o lines replies site faults moment
+  pub tells : sink ≡ Some (o.written ++ replies_bytes replies)
+
+-- The lines are answered, but only a front of the replies is written.
+pub record CutShort (o : Origin) (lines : List (List ℕ)) (sink : Option (List ℕ)) (site : Option Held) (faults moment : ℕ) : Type 0 where
+  pub replies : List (Option Reply)
+  pub answered : Answered o lines replies site faults moment
+  pub count : ℕ
+  pub tells : sink ≡ Some (o.written ++ take count (replies_bytes replies))
+
+-- More bytes were taken in, or at a fault of the sink a front of them.
+abbrev pub Feeds : {E : Type 0} → Result (Unit {0}) E → Origin → List ℕ → List ℕ → Option (List ℕ) → Option Held → ℕ → ℕ → Session → Type 0
+Feeds (Ok done) o given bytes sink site faults moment session = Serving o (given ++ bytes) sink site faults moment session
+Feeds (Err e) o given bytes sink site faults moment session = (n : ℕ) × CutShort o (ended_lines (given ++ take n bytes)) sink site faults moment
+
+-- The end of the input came: the lines are answered, a front of the replies is written and the others wait.
+pub record Closing (o : Origin) (lines : List (List ℕ)) (sink : Option (List ℕ)) (site : Option Held) (faults moment : ℕ) (waiting : List ℕ) : Type 0 where
+  pub replies : List (Option Reply)
+  pub answered : Answered o lines replies site faults moment
+  pub passed : Splits (Some o.written) sink (replies_bytes replies) waiting
+
+abbrev pub Closes : {E : Type 0} → Result (Unit {0}) E → Origin → List ℕ → Option (List ℕ) → Option Held → ℕ → ℕ → List ℕ → Type 0
+Closes (Ok done) o given sink site faults moment waiting = Closing o (all_lines given) sink site faults moment waiting
+Closes (Err e) o given sink site faults moment waiting = CutShort o (all_lines given) sink site faults moment
+
+-- And all replies are written.
+abbrev pub Finishes : {E : Type 0} → Result (Unit {0}) E → Origin → List ℕ → Option (List ℕ) → Option Held → ℕ → ℕ → Type 0
+Finishes (Ok done) o given sink site faults moment = Whole o (all_lines given) sink site faults moment
+Finishes (Err e) o given sink site faults moment = CutShort o (all_lines given) sink site faults moment
+
+-- A session that has been given nothing, over a fresh tier.
+pub record IsNew (session : Session) : Type 0 where
+  pub stands : StandsFor session.tier [] []
+  pub tier : tier_state session.tier [] [] ≡ fresh
+  pub line : session.line ≡ []
+  pub output : session.output ≡ []

@@ -1,0 +1,25 @@
+//! A session of the program: it cuts its input into request lines, lets the tier answer them, and writes the replies.
+#![tactic(auto)]
+
+pub mod answering;
+pub mod line;
+pub mod output;
+pub mod program;
+pub mod replies;
+pub mod serving;
+pub mod session;
+pub mod values;
+
+pub use answering::respond;
+pub use line::LineBuffer;
+pub use output::Output;
+pub use program::top;
+pub use replies::write_reply;
+pub use serving::{Status, serve};
+pub use session::Session;
+pub use values::{write_key, write_number};
+
+#[cfg(test)]
+mod first_run;
+#[cfg(test)]
+mod tests;

@@ -1,0 +1,116 @@
+//! A run over a whole input.
+
+ghost use Rattle.std.specs.Prelude.{◌≡◌, ◌<◌, length};
+ghost use Rattle.outside.specs.Faults.{Rose};
+ghost use Rattle.session_cli.specs.Ends.{Runs, Takes};
+ghost use Rattle.session_cli.specs.Serving.{IsNew};
+
+use crate::session::Session;
+use outside::{Sink, Site, Source};
+use std::alloc::Global;
+
+/// At most so many bytes are taken without an end.
+const INPUT_BYTES: u64 = 4_294_967_296;
+
+/// How many bytes of the input are taken at once.
+const PIECE_BYTES: usize = 65_536;
+
+/// How a run ended.
+#[derive(Clone, Copy, Debug, PartialEq, Eq)]
+pub enum Status {
+    /// The input was read to its end.
+    Finished,
+    /// The source failed.
+    SourceFailed,
+    /// The sink failed, or took nothing of something.
+    SinkFailed,
+    /// Memory was wanting before the first request.
+    NoMemory,
+    /// 2^32 bytes were taken without an end.
+    InputTooLong,
+}
+
+impl Status {
+    ghost use Rattle.std.specs.Prelude.{◌≡◌};
+    ghost use Rattle.session_cli.specs.Ends.{number_of};
+
+    /// The program's status.
+    pub fn number(self) -> u8
+        ensures { result ≡ number_of self }
+    {
+        match self {
+            Status::Finished => 0,
+            Status::SourceFailed => 3,
+            Status::SinkFailed => 4,
+            Status::NoMemory => 7,
+            Status::InputTooLong => 10,
+        }
+    }
+}
+
+/// Lets a fresh tier answer each request line of the source, and writes the replies into the sink.
+///
+/// One pass over the input, in pieces. All memory of its own is taken before the first request. Replies are written
+/// before more of the input is asked for.
+pub fn serve<S: Source, K: Sink, P: Site>(
+    alloc: Global,
+    source: &mut S,
+    sink: &mut K,
+    site: &mut P,
+) -> Status
+    ensures runs { Runs result (S.left source.old) (K.written sink.old) (P.Disk.held site.old) (P.bank_faults site.old) (P.Disk.moment site.old) (S.left source.new) (K.written sink.new) (P.Disk.held site.new) (P.bank_faults site.new) (P.Disk.moment site.new) }
+    ensures takes { Takes result (S.left source.old) (S.left source.new) }
+    ensures read { result ≡ Status.SourceFailed → Rose (S.faults source.old) (S.faults source.new) }
+    ensures write { result ≡ Status.SinkFailed → Rose (K.faults sink.old) (K.faults sink.new) }
+{
+    let Ok(mut session) = Session::new(alloc) else {
+        return Status::NoMemory;
+    };
+    let Ok(mut piece) = vec![in alloc; 0u8; PIECE_BYTES] else {
+        return Status::NoMemory;
+    };
+    serve_pieces(
+        alloc,
+        &mut session,
+        piece.as_mut_slice(),
+        source,
+        sink,
+        site,
+    )
+}
+
+// The same with a new session and a buffer for pieces.
+fn serve_pieces<S: Source, K: Sink, P: Site>(
+    alloc: Global,
+    session: &mut Session,
+    piece: &mut [u8],
+    source: &mut S,
+    sink: &mut K,
+    site: &mut P,
+) -> Status
+    requires new { IsNew session.old }
+    requires room { 0 < length piece.old }
+    ensures runs { Runs result (S.left source.old) (K.written sink.old) (P.Disk.held site.old) (P.bank_faults site.old) (P.Disk.moment site.old) (S.left source.new) (K.written sink.new) (P.Disk.held site.new) (P.bank_faults site.new) (P.Disk.moment site.new) }
+    ensures takes { Takes result (S.left source.old) (S.left source.new) }
+    ensures read { result ≡ Status.SourceFailed → Rose (S.faults source.old) (S.faults source.new) }
+    ensures write { result ≡ Status.SinkFailed → Rose (K.faults sink.old) (K.faults sink.new) }
+{
+    let mut room = INPUT_BYTES;
+    while room > 0 {
+        let want = room.min(piece.len() as u64) as usize;
+        let Ok(count) = source.take(&mut piece[..want]) else {
+            return Status::SourceFailed;
+        };
+        if count == 0 {
+            match session.finish(alloc, sink, site) {
+                Ok(()) => return Status::Finished,
+                Err(_) => return Status::SinkFailed,
+            }
+        }
+        let Ok(()) = session.feed(alloc, sink, site, &piece[..count]) else {
+            return Status::SinkFailed;
+        };
+        room -= count as u64;
+    }
+    Status::InputTooLong
+}

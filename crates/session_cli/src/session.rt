@@ -1,0 +1,151 @@
+//! A session over the input's bytes as they come.
+
+use crate::answering::respond;
+use crate::line::LineBuffer;
+use crate::output::Output;
+use outside::{Failed, Sink, Site};
+use std::alloc::{AllocError, Global};
+use tier_engine::Tier;
+
+/// What is kept between the pieces of the input.
+#[derive(Drop)]
+pub struct Session {
+    /// The tier.
+    pub tier: Tier,
+    /// The line that hasn't ended.
+    pub line: LineBuffer,
+    /// The reply bytes that aren't written.
+    pub output: Output,
+}
+
+impl Session {
+    ghost use Rattle.std.specs.Prelude.{◌≡◌, ◌∷◌, [], List, ℕ, OnOk, IfOk};
+    ghost use Rattle.outside.specs.Faults.{HasCause};
+    ghost use Rattle.session_cli.specs.Serving.{Closes, Feeds, Finishes, IsNew, Origin, Serving};
+
+    /// A session over a backing database without entries. All memory of its buffers is taken here.
+    pub fn new(alloc: Global) -> Result<Session, AllocError>
+        ensures { IfOk result IsNew }
+    {
+        Ok(Session {
+            tier: Tier::new(alloc),
+            line: LineBuffer::new(alloc)?,
+            output: Output::new(alloc)?,
+        })
+    }
+
+    /// Takes in a piece of the input: the lines that end in it are answered, and their replies written.
+    ///
+    /// `Failed` only where the sink failed or took nothing of something: the lines that end in a front of the piece
+    /// are then answered, and a front of the replies is written.
+    pub fn feed<K: Sink, P: Site>(
+        &mut self,
+        alloc: Global,
+        sink: &mut K,
+        site: &mut P,
+        bytes: &[u8],
+    ) -> Result<(), Failed>
+        ensures serves { (o : Origin) (given : List ℕ) → Serving o given (K.written sink.old) (P.Disk.held site.old) (P.bank_faults site.old) (P.Disk.moment site.old) self.old → Feeds result o given bytes.now (K.written sink.new) (P.Disk.held site.new) (P.bank_faults site.new) (P.Disk.moment site.new) self.new }
+        ensures empty { OnOk result (self.new.output ≡ []) }
+        ensures cause { HasCause (K.faults sink.old) (K.faults sink.new) result }
+    {
+        self.take_in(alloc, sink, site, bytes)?;
+        self.output.flush(sink)
+    }
+
+    /// Answers the last line, where the input ended behind no line feed, and writes all replies.
+    ///
+    /// `Failed` only where the sink failed or took nothing of something: all lines are then answered, and a front of
+    /// the replies is written.
+    pub fn finish<K: Sink, P: Site>(
+        &mut self,
+        alloc: Global,
+        sink: &mut K,
+        site: &mut P,
+    ) -> Result<(), Failed>
+        ensures serves { (o : Origin) (given : List ℕ) → Serving o given (K.written sink.old) (P.Disk.held site.old) (P.bank_faults site.old) (P.Disk.moment site.old) self.old → Finishes result o given (K.written sink.new) (P.Disk.held site.new) (P.bank_faults site.new) (P.Disk.moment site.new) }
+        ensures cause { HasCause (K.faults sink.old) (K.faults sink.new) result }
+    {
+        self.end_input(alloc, sink, site)?;
+        self.output.flush(sink)
+    }
+
+    // The same, but the replies may wait.
+    fn end_input<K: Sink, P: Site>(
+        &mut self,
+        alloc: Global,
+        sink: &mut K,
+        site: &mut P,
+    ) -> Result<(), Failed>
+        ensures serves { (o : Origin) (given : List ℕ) → Serving o given (K.written sink.old) (P.Disk.held site.old) (P.bank_faults site.old) (P.Disk.moment site.old) self.old → Closes result o given (K.written sink.new) (P.Disk.held site.new) (P.bank_faults site.new) (P.Disk.moment site.new) self.new.output }
+        ensures cause { HasCause (K.faults sink.old) (K.faults sink.new) result }
+    {
+        if self.line.is_empty() {
+            return Ok(());
+        }
+        respond(
+            alloc,
+            &mut self.tier,
+            &mut self.output,
+            sink,
+            site,
+            self.line.as_bytes(),
+        )
+    }
+
+    // The same as `feed`, but the replies may wait.
+    fn take_in<K: Sink, P: Site>(
+        &mut self,
+        alloc: Global,
+        sink: &mut K,
+        site: &mut P,
+        bytes: &[u8],
+    ) -> Result<(), Failed>
+        ensures serves { (o : Origin) (given : List ℕ) → Serving o given (K.written sink.old) (P.Disk.held site.old) (P.bank_faults site.old) (P.Disk.moment site.old) self.old → Feeds result o given bytes.now (K.written sink.new) (P.Disk.held site.new) (P.bank_faults site.new) (P.Disk.moment site.new) self.new }
+        ensures cause { HasCause (K.faults sink.old) (K.faults sink.new) result }
+    {
+        for byte in bytes {
+            self.take_byte(alloc, sink, site, *byte)?;
+        }
+        Ok(())
+    }
+
+    fn take_byte<K: Sink, P: Site>(
+        &mut self,
+        alloc: Global,
+        sink: &mut K,
+        site: &mut P,
+        byte: u8,
+    ) -> Result<(), Failed>
+        ensures serves { (o : Origin) (given : List ℕ) → Serving o given (K.written sink.old) (P.Disk.held site.old) (P.bank_faults site.old) (P.Disk.moment site.old) self.old → Feeds result o given (byte ∷ []) (K.written sink.new) (P.Disk.held site.new) (P.bank_faults site.new) (P.Disk.moment site.new) self.new }
+        ensures cause { HasCause (K.faults sink.old) (K.faults sink.new) result }
+    {
+        if byte == b'\n' {
+            return self.end_line(alloc, sink, site);
+        }
+        self.line.push(byte);
+        Ok(())
+    }
+
+    // A line feed came.
+    fn end_line<K: Sink, P: Site>(
+        &mut self,
+        alloc: Global,
+        sink: &mut K,
+        site: &mut P,
+    ) -> Result<(), Failed>
+        ensures serves { (o : Origin) (given : List ℕ) → Serving o given (K.written sink.old) (P.Disk.held site.old) (P.bank_faults site.old) (P.Disk.moment site.old) self.old → Feeds result o given (10 ∷ []) (K.written sink.new) (P.Disk.held site.new) (P.bank_faults site.new) (P.Disk.moment site.new) self.new }
+        ensures cause { HasCause (K.faults sink.old) (K.faults sink.new) result }
+    {
+        respond(
+            alloc,
+            &mut self.tier,
+            &mut self.output,
+            sink,
+            site,
+            self.line.text(),
+        )?;
+        self.line.clear();
+        Ok(())
+    }
+}

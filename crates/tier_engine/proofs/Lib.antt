@@ -1,0 +1,16 @@
+pub mod BankSteps
+pub mod CommitLaws
+pub mod CommitSteps
+pub mod DrainSteps
+pub mod GroupSteps
+pub mod InsertLaws
+pub mod InsertSteps
+pub mod LegalLaws
+pub mod ReplyLaws
+pub mod RoundLaws
+pub mod RoundSteps
+pub mod RowLaws
+pub mod SelectSteps
+pub mod ServingLaws
+pub mod ShownLaws
+pub mod StandingLaws

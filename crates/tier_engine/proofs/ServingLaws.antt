@@ -1,0 +1,279 @@
+-- Parts of a request line, one behind the other.
+use Rattle.std.proofs.Common.{◌≡◌, ℕ, suc, ◌≤◌, ◌⊎◌, List, [], ◌∷◌, map, Option, Some, None, Result, Bool, true, false, ◌&&◌, not, cond, is_some, is_none, refl, sym, ◌∙◌, ap, subst, inl, arith}
+use Rattle.std.specs.Bool.{MatchBool}
+use Rattle.std.specs.Option.{option_map, option_and_then}
+use Rattle.tier_base.specs.declared.code.Code.TheVariants as code
+use Rattle.table_state.specs.declared.definition.TableDef.{TableDef}
+use Rattle.table_state.specs.declared.history.Entry.{Entry}
+use Rattle.table_state.specs.declared.history.Sealed.{Sealed}
+use Rattle.table_state.specs.Tables.{TableState}
+use Rattle.outside.specs.Holding.{Held}
+use Rattle.outside.specs.Faults.{Rose}
+use Rattle.outside.specs.declared.fault.BankError.{BankError}
+use Rattle.sql_subset.specs.declared.request.Line.{Line}
+use Rattle.sql_subset.specs.declared.stmt.Stmt.{Stmt}
+use Rattle.sql_subset.specs.Lines.{Says, Means}
+use Rattle.tier_engine.specs.declared.reply.Reply.{Reply}
+use Rattle.tier_engine.specs.declared.tier.Tier.{Tier}
+use Rattle.tier_engine.specs.declared.tier.Group.{Group}
+use Rattle.tier_engine.specs.declared.tier.Session.{Session}
+use Rattle.tier_engine.specs.TierStates.{TierState, SessionState, session_of, group_of_table, is_named}
+use Rattle.tier_engine.specs.Answers.{refused, faulty}
+use Rattle.sql_subset.specs.declared.stmt.Call.{Call}
+use Rattle.sql_subset.specs.declared.stmt.Stmt.TheVariants as statement
+use Rattle.tier_engine.specs.Steps.{World, Quiet, is_long, Drains, Heeds, is_drain, Asked, Does, ForSession, Parts, TellsBankFault, WantsMemory, asks, stopped}
+use Rattle.tier_engine.specs.Storing.{place_named}
+use Rattle.tier_engine.specs.Standing.{StandsFor, Made, Turns, Serves, ServesPart, AskServes, AsksWhere, tier_state, group_state, session_state, world_of}
+
+-- a refusal and want of memory tell no fault of the bank
+pub no_refusal : TellsBankFault refused → ⊥
+no_refusal x = Prim.cc x.last
+
+pub no_memory : TellsBankFault (faulty code.Memory) → ⊥
+no_memory x = Prim.cc (x.last, x.fault)
+
+-- A step without a call of the site.
+pub quiet_serves : (before : Option Held) (faults moment : ℕ) (t t' : Tier) (reply : Reply) (P : World → World → Type 0) → ((log : List Sealed) (h : List Entry) → StandsFor t log h → Turns t t' log h P)
+    → ((w w' : World) → P w w' → TellsBankFault reply → ⊥) → ServesPart before before faults faults moment moment t t' reply P
+quiet_serves before faults moment t t' reply P turns clean log held told stands =
+    let x = turns log held.history stands in
+    record { log' = x.log'; held' = held; tells = told; slots = refl; stands = x.stands; made = (x.made faults moment, λ b. absurd (clean _ _ (x.made faults moment) b)) }
+
+-- Such a statement.
+pub quiet_statement : (before : Option Held) (faults moment : ℕ) (t t' : Tier) (reply : Reply) (st st' : Stmt) → st ≡ st'
+    → ((log : List Sealed) (h : List Entry) → StandsFor t log h → Turns t t' log h (λ w w'. ForSession w.tier.session st' w w' reply ⊎ WantsMemory w w' reply))
+    → ((w w' : World) → ForSession w.tier.session st' w w' reply ⊎ WantsMemory w w' reply → TellsBankFault reply → ⊥)
+    → ServesPart before before faults faults moment moment t t' reply (λ w w'. ForSession w.tier.session st w w' reply ⊎ WantsMemory w w' reply)
+quiet_statement before faults moment t t' reply st st' e turns clean =
+    subst (λ (s : Stmt). ServesPart before before faults faults moment moment t t' reply (λ w w'. ForSession w.tier.session s w w' reply ⊎ WantsMemory w w' reply)) (sym e)
+        (quiet_serves before faults moment t t' reply (λ w w'. ForSession w.tier.session st' w w' reply ⊎ WantsMemory w w' reply) turns clean)
+
+-- The same statement.
+pub statement_as : (before now : Option Held) (f f' m m' : ℕ) (t t' : Tier) (reply : Reply) (st st' : Stmt) → st ≡ st'
+    → ServesPart before now f f' m m' t t' reply (λ w w'. ForSession w.tier.session st' w w' reply ⊎ WantsMemory w w' reply)
+    → ServesPart before now f f' m m' t t' reply (λ w w'. ForSession w.tier.session st w w' reply ⊎ WantsMemory w w' reply)
+statement_as before now f f' m m' t t' reply st st' e part =
+    subst (λ (s : Stmt). ServesPart before now f f' m m' t t' reply (λ w w'. ForSession w.tier.session s w w' reply ⊎ WantsMemory w w' reply)) (sym e) part
+
+-- Nothing is done.
+pub idle_serves : (before : Option Held) (faults moment : ℕ) (t : Tier) (reply : Reply) (P : World → World → Type 0) → ((w : World) → P w w) → (TellsBankFault reply → ⊥)
+    → ServesPart before before faults faults moment moment t t reply P
+idle_serves before faults moment t reply P p clean log held told stands =
+    record { log' = log; held' = held; tells = told; slots = refl; stands = stands; made = (p (world_of t log held.history faults moment), λ b. absurd (clean b)) }
+
+-- A part with a weaker relation.
+pub part_as : (before now : Option Held) (f f' m m' : ℕ) (t t' : Tier) (reply : Reply) (P Q : World → World → Type 0)
+    → ((log : List Sealed) (h : List Entry) (w' : World) → P (world_of t log h f m) w' → Q (world_of t log h f m) w')
+    → ServesPart before now f f' m m' t t' reply P → ServesPart before now f f' m m' t t' reply Q
+part_as before now f f' m m' t t' reply P Q go part log held told stands =
+    let x = part log held told stands in
+    record { log' = x.log'; held' = x.held'; tells = x.tells; slots = x.slots; stands = x.stands; made = (go log held.history _ x.made.0, x.made.1) }
+
+-- A step of its own contract, with what causes its fault.
+pub caused_serves : (before now : Option Held) (f f' m m' : ℕ) (t t' : Tier) (reply : Reply) (P : World → World → Type 0)
+    → ((log : List Sealed) (held : Held) → before ≡ Some held → StandsFor t log held.history → Made now f f' m m' t t' log held P)
+    → (TellsBankFault reply → Rose f f') → ServesPart before now f f' m m' t t' reply P
+caused_serves before now f f' m m' t t' reply P made cause log held told stands =
+    let x = made log held told stands in
+    record { log' = x.log'; held' = x.held'; tells = x.tells; slots = x.slots; stands = x.stands; made = (x.made, cause) }
+
+-- The question was asked.
+pub was_asked : (now : Option Held) (f f' m m' : ℕ) (t t' : Tier) (log : List Sealed) (held : Held) (b : Bool) (stop : Option Reply) → b ≡ true
+    → Made now f f' m m' t t' log held (λ w w'. (answer : Result (List TableDef) BankError) × Asked answer w w' × (stop ≡ stopped answer))
+    → Made now f f' m m' t t' log held (AsksWhere b stop)
+was_asked now f f' m m' t t' log held b stop e x = record {
+  log' = x.log';
+  held' = x.held';
+  tells = x.tells;
+  slots = x.slots;
+  stands = x.stands;
+  made = subst (λ c. AsksWhere c stop (world_of t log held.history f m) (world_of t' x.log' x.held'.history f' m')) (sym e) x.made
+}
+
+-- The line asks nothing.
+pub plain_part : (line : Line) (before now : Option Held) (f f' m m' : ℕ) (t t' : Tier) (reply : Reply) → ((x : TierState) → asks x line ≡ false)
+    → ServesPart before now f f' m m' t t' reply (λ w w'. Does line w w' reply ⊎ WantsMemory w w' reply)
+    → ServesPart before now f f' m m' t t' reply (λ w w'. Parts line w w' reply)
+plain_part line before now f f' m m' t t' reply none part =
+    part_as before now f f' m m' t t' reply (λ w w'. Does line w w' reply ⊎ WantsMemory w w' reply) (λ w w'. Parts line w w' reply)
+        (λ log h w' p. let w = world_of t log h f m in record {
+          due = w;
+          asked = w;
+          stop = None;
+          is_due = refl;
+          asks_first = subst (λ (b : Bool). MatchBool b ((answer : Result (List TableDef) BankError) × Asked answer w w × (◌≡◌ {A = Option Reply} None (stopped answer))) ((w ≡ w) × (◌≡◌ {A = Option Reply} None None))) (sym (none w.tier)) (refl, refl);
+          through = p
+        }) part
+
+-- The question failed, and the line ends with its fault.
+pub stopped_part : (line : Line) (before now : Option Held) (f f' m m' : ℕ) (t t' : Tier) (b : Bool) (fault : Reply)
+    → ((log : List Sealed) (h : List Entry) → b ≡ asks (tier_state t log h) line) → AskServes before now f f' m m' t t' b (Some fault) → (TellsBankFault fault → Rose f f')
+    → ServesPart before now f f' m m' t t' fault (λ w w'. Parts line w w' fault)
+stopped_part line before now f f' m m' t t' b fault same ask cause log held told stands =
+    let x = ask log held told stands in
+    let w = world_of t log held.history f m in
+    let w' = world_of t' x.log' x.held'.history f' m' in
+    record {
+      log' = x.log';
+      held' = x.held';
+      tells = x.tells;
+      slots = x.slots;
+      stands = x.stands;
+      made = (record { due = w; asked = w'; stop = Some fault; is_due = refl; asks_first = subst (λ (c : Bool). AsksWhere c (Some fault) w w') (same log held.history) x.made; through = (refl, refl) }, cause)
+    }
+
+rose_later : (a b c : ℕ) → a ≤ b → Rose b c → Rose a c
+rose_later a b c p q = Prim.omega (arith, p, q)
+
+-- The question was answered, or not asked, and the statement follows.
+pub through_part : (line : Line) (before between after : Option Held) (f f1 f2 m m1 m2 : ℕ) (t mid t' : Tier) (b : Bool) (reply : Reply)
+    → ((log : List Sealed) (h : List Entry) → b ≡ asks (tier_state t log h) line) → AskServes before between f f1 m m1 t mid b None → f ≤ f1
+    → ServesPart between after f1 f2 m1 m2 mid t' reply (λ w w'. Does line w w' reply ⊎ WantsMemory w w' reply)
+    → ServesPart before after f f2 m m2 t t' reply (λ w w'. Parts line w w' reply)
+through_part line before between after f f1 f2 m m1 m2 t mid t' b reply same ask later part log held told stands =
+    let x = ask log held told stands in
+    let y = part x.log' x.held' x.tells x.stands in
+    let w = world_of t log held.history f m in
+    let w1 = world_of mid x.log' x.held'.history f1 m1 in
+    record {
+      log' = y.log';
+      held' = y.held';
+      tells = y.tells;
+      slots = y.slots ∙ x.slots;
+      stands = y.stands;
+      made = (record { due = w; asked = w1; stop = None; is_due = refl; asks_first = subst (λ (c : Bool). AsksWhere c None w w1) (same log held.history) x.made; through = y.made.0 }, λ z. rose_later f f1 f2 later (y.made.1 z))
+    }
+
+-- whether a table is cached is seen in the stored groups
+pub cached_stored : (base : TableState) (gs : List Group) (name : List ℕ) → is_some (place_named gs name) ≡ is_some (group_of_table (map (group_state base) gs) name)
+cached_stored base [] name = refl
+cached_stored base (g ∷ gs) name = by_name (is_named g.def.name name) (cached_stored base gs name)
+  where
+  mapped : (o : Option ℕ) → is_some (option_map suc o) ≡ is_some o
+  mapped None = refl
+  mapped (Some n) = refl
+  by_name : (b : Bool) → is_some (place_named gs name) ≡ is_some (group_of_table (map (group_state base) gs) name)
+      → is_some (cond b (Some 0) (option_map suc (place_named gs name))) ≡ is_some (cond b (Some (group_state base g)) (group_of_table (map (group_state base) gs) name))
+  by_name true later = refl
+  by_name false later = mapped (place_named gs name) ∙ later
+
+-- the session under its label
+pub session_here : (t : Tier) (log : List Sealed) (h : List Entry) (label : List ℕ) → is_some (session_of (tier_state t log h) label) ≡ true → session_of (tier_state t log h) label ≡ (tier_state t log h).session
+session_here t log h label e = by_session (tier_state t log h).session e
+  where
+  by_name : (s : SessionState) (b : Bool) → is_some (cond b (Some s) None) ≡ true → cond b (Some s) None ≡ Some s
+  by_name s true p = refl
+  by_name s false p = Prim.cc
+  by_session : (o : Option SessionState) → is_some (option_and_then (λ s. cond (is_named s.label label) (Some s) None) o) ≡ true → option_and_then (λ s. cond (is_named s.label label) (Some s) None) o ≡ o
+  by_session None p = refl
+  by_session (Some s) p = by_name s (is_named s.label label) p
+
+pub no_session : (t : Tier) (log : List Sealed) (h : List Entry) (label : List ℕ) → is_some (session_of (tier_state t log h) label) ≡ false → session_of (tier_state t log h) label ≡ None
+no_session t log h label e = by_option (session_of (tier_state t log h) label) e
+  where
+  by_option : (o : Option SessionState) → is_some o ≡ false → o ≡ None
+  by_option None p = refl
+  by_option (Some s) p = Prim.cc
+
+-- flags
+pub and_left : (a b c : Bool) → a ≡ true → b ≡ c → b ≡ (a && c)
+and_left a b c p q = q ∙ sym (ap (λ x. x && c) p)
+
+pub and_middle : (a b c : Bool) → b ≡ false → false ≡ ((a && b) && c)
+and_middle true b c p = sym (ap (λ x. x && c) p)
+and_middle false b c p = refl
+
+pub and_all : (a b c d : Bool) → a ≡ true → b ≡ true → c ≡ d → c ≡ ((a && b) && d)
+and_all a b c d p q r = r ∙ sym (ap (λ x. (x && b) && d) p ∙ ap (λ x. x && d) q)
+
+-- A line that asks nothing, of a step without a call.
+pub plain_quiet : (line : Line) (before : Option Held) (faults moment : ℕ) (t t' : Tier) (reply : Reply) → ((x : TierState) → asks x line ≡ false)
+    → ((log : List Sealed) (h : List Entry) → StandsFor t log h → Turns t t' log h (λ w w'. Does line w w' reply)) → ((w w' : World) → Does line w w' reply → TellsBankFault reply → ⊥)
+    → ServesPart before before faults faults moment moment t t' reply (λ w w'. Parts line w w' reply)
+plain_quiet line before faults moment t t' reply none turns clean =
+    plain_part line before before faults faults moment moment t t' reply none
+        (part_as before before faults faults moment moment t t' reply (λ w w'. Does line w w' reply) (λ w w'. Does line w w' reply ⊎ WantsMemory w w' reply) (λ log h w' p. inl p)
+            (quiet_serves before faults moment t t' reply (λ w w'. Does line w w' reply) turns clean))
+
+-- The same line.
+pub parts_as : (before now : Option Held) (f f' m m' : ℕ) (t t' : Tier) (reply : Reply) (line line' : Line) → line ≡ line'
+    → ServesPart before now f f' m m' t t' reply (λ w w'. Parts line' w w' reply) → ServesPart before now f f' m m' t t' reply (λ w w'. Parts line w w' reply)
+parts_as before now f f' m m' t t' reply line line' e part =
+    subst (λ (l : Line). ServesPart before now f f' m m' t t' reply (λ w w'. Parts l w w' reply)) (sym e) part
+
+-- ttDrain of an open session.
+pub drain_part : (before now : Option Held) (f f' m m' : ℕ) (t t' : Tier) (reply : Reply) (call : Call) → is_none t.session ≡ false → is_drain call.procedure call.arguments ≡ true
+    → ((log : List Sealed) (held : Held) → before ≡ Some held → StandsFor t log held.history → Made now f f' m m' t t' log held (λ w w'. Drains w w' reply))
+    → (TellsBankFault reply → Rose f f')
+    → ServesPart before now f f' m m' t t' reply (λ w w'. ForSession w.tier.session (statement.Call call) w w' reply ⊎ WantsMemory w w' reply)
+drain_part before now f f' m m' t t' reply call opened is made cause =
+    part_as before now f f' m m' t t' reply (λ w w'. Drains w w' reply) (λ w w'. ForSession w.tier.session (statement.Call call) w w' reply ⊎ WantsMemory w w' reply)
+        (λ log h w' d. inl (by_session (world_of t log h f m) w' t.session opened d))
+        (caused_serves before now f f' m m' t t' reply (λ w w'. Drains w w' reply) made cause)
+  where
+  by_session : (w w' : World) (o : Option Session) → is_none o ≡ false → Drains w w' reply → ForSession (option_map session_state o) (statement.Call call) w w' reply
+  by_session w w' None p d = Prim.cc
+  by_session w w' (Some s) p d = subst (λ b. MatchBool b (Drains w w' reply) (Quiet w (w.tier, refused) w' reply)) (sym is) d
+
+-- A statement under a label under which no session is open.
+pub closed_part : (before : Option Held) (f m : ℕ) (t : Tier) (reply : Reply) (st : Stmt) (label : List ℕ) → reply ≡ refused
+    → ((log : List Sealed) (h : List Entry) → is_some (session_of (tier_state t log h) label) ≡ false)
+    → ServesPart before before f f m m t t reply (λ w w'. ForSession (session_of w.tier label) st w w' reply ⊎ WantsMemory w w' reply)
+closed_part before f m t reply st label e closed log held told stands =
+    let w = world_of t log held.history f m in
+    record {
+      log' = log;
+      held' = held;
+      tells = told;
+      slots = refl;
+      stands = stands;
+      made = (inl (subst (λ (o : Option SessionState). ForSession o st w w reply) (sym (no_session t log held.history label (closed log held.history))) (refl, e)), λ b. absurd (no_refusal (subst TellsBankFault e b)))
+    }
+
+-- A statement under the label of the open session.
+pub opened_part : (before now : Option Held) (f f' m m' : ℕ) (t t' : Tier) (reply : Reply) (st : Stmt) (label : List ℕ)
+    → ((log : List Sealed) (h : List Entry) → is_some (session_of (tier_state t log h) label) ≡ true)
+    → ServesPart before now f f' m m' t t' reply (λ w w'. ForSession w.tier.session st w w' reply ⊎ WantsMemory w w' reply)
+    → ServesPart before now f f' m m' t t' reply (λ w w'. ForSession (session_of w.tier label) st w w' reply ⊎ WantsMemory w w' reply)
+opened_part before now f f' m m' t t' reply st label opened part =
+    part_as before now f f' m m' t t' reply (λ w w'. ForSession w.tier.session st w w' reply ⊎ WantsMemory w w' reply) (λ w w'. ForSession (session_of w.tier label) st w w' reply ⊎ WantsMemory w w' reply)
+        (λ log h w' p. subst (λ (o : Option SessionState). ForSession o st (world_of t log h f m) w' reply ⊎ WantsMemory (world_of t log h f m) w' reply) (sym (session_here t log h label (opened log h))) p) part
+
+-- What a line says was served.
+pub heeds_part : (before now : Option Held) (f f' m m' : ℕ) (t t' : Tier) (reply : Reply) (bytes : List ℕ) (line : Line) → Means bytes (Says line)
+    → ServesPart before now f f' m m' t t' reply (λ w w'. Parts line w w' reply) → ServesPart before now f f' m m' t t' reply (λ w w'. Heeds w bytes w' reply)
+heeds_part before now f f' m m' t t' reply bytes line means part =
+    part_as before now f f' m m' t t' reply (λ w w'. Parts line w w' reply) (λ w w'. Heeds w bytes w' reply) (λ log h w' p. inl (Says line, means, p)) part
+
+pub not_true : (b : Bool) → not b ≡ true → b ≡ false
+not_true true p = sym p
+not_true false p = refl
+
+pub not_false : (b : Bool) → not b ≡ false → b ≡ true
+not_false true p = refl
+not_false false p = sym p
+
+pub none_of : {X : Type 0} (o : Option X) → is_some o ≡ false → is_none o ≡ true
+none_of None p = refl
+none_of (Some x) p = Prim.cc
+
+pub some_of : {X : Type 0} (o : Option X) → is_some o ≡ true → is_none o ≡ false
+some_of None p = Prim.cc
+some_of (Some x) p = refl
+
+-- A line that isn't too long was served.
+pub line_served : (before now : Option Held) (f f' m m' : ℕ) (t t' : Tier) (reply : Reply) (bytes : List ℕ) → is_long bytes ≡ false → f ≤ f'
+    → ServesPart before now f f' m m' t t' reply (λ w w'. Heeds w bytes w' reply)
+    → (log : List Sealed) (held : Held) → before ≡ Some held → StandsFor t log held.history → Serves now f f' m m' t t' log held bytes (Some reply)
+line_served before now f f' m m' t t' reply bytes short later part log held told stands =
+    let x = part log held told stands in
+    let w = world_of t log held.history f m in
+    let w' = world_of t' x.log' x.held'.history f' m' in
+    record {
+      log' = x.log';
+      held' = x.held';
+      tells = x.tells;
+      slots = x.slots;
+      stands = x.stands;
+      made = (record { later = later; caused = x.made.1 }, subst (λ b. MatchBool b (Quiet w (w.tier, refused) w' reply) (Heeds w bytes w' reply)) (sym short) x.made.0)
+    }

@@ -1,0 +1,10 @@
+pub mod Answers
+pub mod Commits
+pub mod LiteralValues
+pub mod Storing
+pub mod Replying
+pub mod RoundStates
+pub mod Rounds
+pub mod Standing
+pub mod Steps
+pub mod TierStates

@@ -1,0 +1,25 @@
+-- The values of literals. (TimesTen SQL Reference, "Constants" and "Null values": the text without bytes is NULL.)
+
+use Rattle.std.specs.Prelude.{ℕ, List, [], ◌∷◌, Option, Some, if◌then◌else◌}
+use Rattle.std.specs.Option.{option_map, option_and_then}
+use Rattle.row_types.specs.declared.value.Value.{Value}
+use Rattle.row_types.specs.declared.value.Value.TheVariants as value
+use Rattle.row_types.specs.Literals.{held_text, integer_value}
+use Rattle.sql_subset.specs.declared.stmt.IntegerLiteral.{IntegerLiteral}
+use Rattle.sql_subset.specs.declared.stmt.Literal.{Literal}
+use Rattle.sql_subset.specs.declared.stmt.Literal.TheVariants.{Null, Integer, Text}
+
+-- the digits, with a `-` before them where one stands there
+abbrev pub signed_digits : IntegerLiteral → List ℕ
+signed_digits literal = if literal.negative then 45 ∷ literal.digits else literal.digits
+
+-- NULL, an integer of 64 signed bits, a text of up to 4,000 bytes; none where no type holds the literal
+abbrev pub literal_value : Literal → Option Value
+literal_value Null = Some value.Null
+literal_value (Integer literal) = integer_value (signed_digits literal)
+literal_value (Text bytes) = held_text bytes
+
+-- the values of literals; none where one has none
+abbrev pub values_of : List Literal → Option (List Value)
+values_of [] = Some []
+values_of (literal ∷ literals) = option_and_then (λ value. option_map (λ values. value ∷ values) (values_of literals)) (literal_value literal)

@@ -1,0 +1,258 @@
+-- What one request line does, and what a list of them does.
+
+use Rattle.std.specs.Prelude.{◌≡◌, ℕ, ◌≤◌, ◌⊎◌, nat_lt, List, [], ◌∷◌, ◌++◌, Bool, true, false, ◌&&◌, not, Option, Some, None, length, codes, is_none, is_some, Result, Ok, Err}
+use Rattle.std.specs.Option.{option_map}
+use Rattle.std.specs.Bool.{MatchBool}
+use Rattle.std.specs.Result.{IsErrOf, OnOk}
+use Rattle.tier_base.specs.declared.limit.Limit.TheVariants as limit
+use Rattle.tier_base.specs.Limits.{greatest}
+use Rattle.tier_base.specs.declared.code.Code.TheVariants as code
+use Rattle.row_types.specs.declared.rule.Rule.{Rule}
+use Rattle.row_types.specs.declared.declaration.TableDeclaration.{TableDeclaration}
+use Rattle.sql_subset.specs.declared.request.Line.{Line}
+use Rattle.sql_subset.specs.declared.request.Line.TheVariants as says
+use Rattle.sql_subset.specs.declared.request.Request.{Request}
+use Rattle.sql_subset.specs.declared.request.Request.TheVariants as asks_for
+use Rattle.sql_subset.specs.declared.request.ConsoleRequest.{ConsoleRequest}
+use Rattle.sql_subset.specs.declared.request.ConsoleRequest.TheVariants as console
+use Rattle.sql_subset.specs.declared.stmt.Stmt.{Stmt}
+use Rattle.sql_subset.specs.declared.stmt.Stmt.TheVariants as statement
+use Rattle.sql_subset.specs.declared.stmt.Literal.{Literal}
+use Rattle.sql_subset.specs.Lines.{Saying, Silent, Says, WrongAt, TooDeep, Means, is_silent}
+use Rattle.table_state.specs.declared.definition.TableDef.{TableDef}
+use Rattle.table_state.specs.declared.history.Entry.{Entry}
+use Rattle.table_state.specs.declared.history.Sealed.{Sealed}
+use Rattle.table_state.specs.Tables.{TableState}
+use Rattle.table_state.specs.Histories.{state_of}
+use Rattle.outside.specs.Bank.{Defines, TellsSchema}
+use Rattle.outside.specs.Faults.{Rose}
+use Rattle.outside.specs.declared.fault.BankError.{BankError}
+use Rattle.outside.specs.declared.fault.BankError.TheVariants.{Failed, Memory}
+use Rattle.tier_engine.specs.declared.reply.Reply.{Reply}
+use Rattle.tier_engine.specs.declared.reply.Last.TheVariants.{Done, Fault}
+use Rattle.tier_engine.specs.declared.rounds.RoundFault.{RoundFault}
+use Rattle.tier_engine.specs.declared.rounds.RoundFault.TheVariants as stop
+use Rattle.tier_engine.specs.Commits.{pending, in_commit_order}
+use Rattle.tier_engine.specs.Rounds.{Round, FirstDiffers}
+use Rattle.tier_engine.specs.TierStates.{TierState, SessionState, GroupState, session_of, group_of_table, seen, is_named}
+use Rattle.tier_engine.specs.Answers.{Answer, only, refused, faulty, open_answer, defined_by, group_answer, insert_answer, select_answer, commit_answer}
+
+-- The tier, the one backing history, how often the bank has failed, and the site's moment.
+pub record World : Type 0 where
+  pub tier : TierState
+  pub history : List Entry
+  pub bank_faults : ℕ
+  pub moment : ℕ
+
+-- a failed call of the bank, or its want of memory
+abbrev pub bank_fault : BankError → Reply
+bank_fault Failed = faulty code.BackingFault
+bank_fault Memory = faulty code.Memory
+
+-- nothing but the tier changes
+abbrev pub Quiet : World → Answer → World → Reply → Type 0
+Quiet w answer w' reply = (w' ≡ record w { tier = answer.0 }) × (reply ≡ answer.1)
+
+-- counts and moments that a call of the bank may raise
+pub record GoesOn (w w' : World) : Type 0 where
+  pub faults : w.bank_faults ≤ w'.bank_faults
+  pub moment : w.moment ≤ w'.moment
+
+-- what is due before a statement: nothing yet
+abbrev pub Due : World → World → Type 0
+Due w mid = mid ≡ w
+
+-- the table is that of some group
+abbrev pub is_cached : TierState → List ℕ → Bool
+is_cached t table = is_some (group_of_table t.groups table)
+
+abbrev pub names_uncached : TierState → Stmt → Bool
+names_uncached t (statement.CreateGroup d) = not (is_cached t d.table.name)
+names_uncached t (statement.Insert insert) = not (is_cached t insert.table)
+names_uncached t (statement.Select select) = not (is_cached t select.table)
+names_uncached t (statement.Load load) = false
+names_uncached t (statement.Call call) = false
+names_uncached t statement.Commit = false
+names_uncached t statement.Rollback = false
+
+abbrev pub request_asks : TierState → List ℕ → Request → Bool
+request_asks t label (asks_for.Open options) = false
+request_asks t label asks_for.Close = false
+request_asks t label (asks_for.Statement s) = is_none t.known && is_some (session_of t label) && names_uncached t s
+
+abbrev pub console_asks : TierState → ConsoleRequest → Bool
+console_asks t (console.CreateTable d) = is_none t.known && not (is_cached t d.name)
+console_asks t (console.Writes writes) = false
+
+-- The tier asks for the schema that it doesn't know before a statement that names a table which isn't cached.
+abbrev pub asks : TierState → Line → Bool
+asks t (says.Session label request) = request_asks t label request
+asks t (says.Console request) = console_asks t request
+
+-- what the tier knows then
+abbrev pub told : Result (List TableDef) BankError → TierState → TierState
+told (Ok schema) t = record t { known = Some schema }
+told (Err e) t = t
+
+abbrev pub stopped : Result (List TableDef) BankError → Option Reply
+stopped (Ok schema) = None
+stopped (Err e) = Some (bank_fault e)
+
+pub record Asked (result : Result (List TableDef) BankError) (w w' : World) : Type 0 where
+  pub tier : w'.tier ≡ told result w.tier
+  pub history : TellsSchema result w.history w'.history
+  pub on : GoesOn w w'
+
+-- the question, and whether the line ends with its fault
+abbrev pub Asks : Line → World → World → Option Reply → Type 0
+Asks line w w' stop = MatchBool (asks w.tier line) ((result : Result (List TableDef) BankError) × Asked result w w' × (stop ≡ stopped result)) ((w' ≡ w) × (stop ≡ None))
+
+-- what the tier knows after a definition at the bank
+abbrev pub known_after : TableDef → Result (Unit {0}) BankError → TierState → TierState
+known_after def (Ok done) t = record t { known = option_map (λ schema. schema ++ def ∷ []) t.known }
+known_after def (Err Failed) t = record t { known = None }
+known_after def (Err Memory) t = t
+
+abbrev pub define_reply : Result (Unit {0}) BankError → Reply
+define_reply (Ok done) = only (Done 0)
+define_reply (Err e) = bank_fault e
+
+-- CREATE TABLE at the bank
+pub record Creates (def : TableDef) (w w' : World) (reply : Reply) : Type 0 where
+  pub result : Result (Unit {0}) BankError
+  pub tier : w'.tier ≡ known_after def result w.tier
+  pub history : Defines def result w.history w'.history
+  pub on : GoesOn w w'
+  pub answer : reply ≡ define_reply result
+
+abbrev pub CreatesTable : Option TableDef → World → World → Reply → Type 0
+CreatesTable None w w' reply = Quiet w (w.tier, refused) w' reply
+CreatesTable (Some def) w w' reply = Creates def w w' reply
+
+abbrev pub DoesDefine : TableDeclaration → Option (List TableDef) → World → World → Reply → Type 0
+DoesDefine d None w w' reply = Quiet w (w.tier, refused) w' reply
+DoesDefine d (Some schema) w w' reply = CreatesTable (defined_by d schema) w w' reply
+
+-- how a round's end is answered
+abbrev pub round_reply : Result ℕ RoundFault → Reply
+round_reply (Ok n) = only (Done n)
+round_reply (Err stop.Failed) = faulty code.BackingFault
+round_reply (Err stop.Memory) = faulty code.Memory
+round_reply (Err stop.Differs) = faulty code.RowDiffers
+
+-- nothing is pending, and the backing state is all committed transactions applied in their order
+pub record IsDrained (history : List Entry) (log : List Sealed) : Type 0 where
+  pub settled : pending history log ≡ []
+  pub ordered : in_commit_order history log ≡ state_of history
+  pub defined : (s : TableState) × (state_of history ≡ Some s)
+
+-- CALL ttDrain: a round, and nothing else of the tier changes
+pub record Drains (w w' : World) (reply : Reply) : Type 0 where
+  pub result : Result ℕ RoundFault
+  pub round : Round w.tier.unsettled w.history w'.tier.unsettled w'.history result
+  pub tier : w'.tier ≡ record w.tier { unsettled = w'.tier.unsettled }
+  pub on : GoesOn w w'
+  pub drained : OnOk result (IsDrained w'.history w'.tier.log)
+  pub differs : IsErrOf result stop.Differs → FirstDiffers w'.tier.unsettled w'.history
+  pub answer : reply ≡ round_reply result
+
+abbrev pub Inserts : SessionState → Option GroupState → List Literal → World → World → Reply → Type 0
+Inserts s None literals w w' reply = Quiet w (w.tier, refused) w' reply
+Inserts s (Some g) literals w w' reply = (state : TableState) × (seen w.tier s.own w.history ≡ Some state) × Quiet w (insert_answer w.tier s g literals state) w' reply
+
+abbrev pub Selects : SessionState → Option GroupState → World → World → Reply → Type 0
+Selects s None w w' reply = Quiet w (w.tier, refused) w' reply
+Selects s (Some g) w w' reply = (state : TableState) × (seen w.tier s.own w.history ≡ Some state) × Quiet w (select_answer w.tier g state) w' reply
+
+-- the call of ttDrain
+abbrev pub is_drain : List ℕ → List Literal → Bool
+is_drain procedure [] = is_named procedure (codes "TTDRAIN")
+is_drain procedure (argument ∷ arguments) = false
+
+-- a statement of an open session
+abbrev pub InSession : SessionState → Stmt → World → World → Reply → Type 0
+InSession s (statement.CreateGroup d) w w' reply = Quiet w (group_answer w.tier d w.tier.known) w' reply
+InSession s (statement.Insert insert) w w' reply = Inserts s (group_of_table w.tier.groups insert.table) insert.values w w' reply
+InSession s (statement.Select select) w w' reply = Selects s (group_of_table w.tier.groups select.table) w w' reply
+InSession s (statement.Load load) w w' reply = Quiet w (w.tier, refused) w' reply
+InSession s (statement.Call call) w w' reply = MatchBool (is_drain call.procedure call.arguments) (Drains w w' reply) (Quiet w (w.tier, refused) w' reply)
+InSession s statement.Commit w w' reply = Quiet w (commit_answer w.tier s) w' reply
+InSession s statement.Rollback w w' reply = Quiet w (w.tier, refused) w' reply
+
+abbrev pub ForSession : Option SessionState → Stmt → World → World → Reply → Type 0
+ForSession None st w w' reply = Quiet w (w.tier, refused) w' reply
+ForSession (Some s) st w w' reply = InSession s st w w' reply
+
+abbrev pub DoesRequest : List ℕ → Request → World → World → Reply → Type 0
+DoesRequest label (asks_for.Open options) w w' reply = Quiet w (open_answer w.tier label options) w' reply
+DoesRequest label asks_for.Close w w' reply = Quiet w (w.tier, refused) w' reply
+DoesRequest label (asks_for.Statement s) w w' reply = ForSession (session_of w.tier label) s w w' reply
+
+abbrev pub DoesConsole : ConsoleRequest → World → World → Reply → Type 0
+DoesConsole (console.CreateTable d) w w' reply = DoesDefine d w.tier.known w w' reply
+DoesConsole (console.Writes writes) w w' reply = Quiet w (w.tier, refused) w' reply
+
+-- what a line does where memory suffices
+abbrev pub Does : Line → World → World → Reply → Type 0
+Does (says.Session label request) w w' reply = DoesRequest label request w w' reply
+Does (says.Console request) w w' reply = DoesConsole request w w' reply
+
+-- want of memory leaves all as it was
+abbrev pub WantsMemory : World → World → Reply → Type 0
+WantsMemory w w' reply = (w' ≡ w) × (reply ≡ faulty code.Memory)
+
+-- the statement itself, or the fault of the question before it
+abbrev pub GoesThrough : Option Reply → Line → World → World → Reply → Type 0
+GoesThrough (Some fault) line w w' reply = (w' ≡ w) × (reply ≡ fault)
+GoesThrough None line w w' reply = Does line w w' reply ⊎ WantsMemory w w' reply
+
+-- due work, the question for the schema, the statement
+pub record Parts (line : Line) (w w' : World) (reply : Reply) : Type 0 where
+  pub due : World
+  pub asked : World
+  pub stop : Option Reply
+  pub is_due : Due w due
+  pub asks_first : Asks line due asked stop
+  pub through : GoesThrough stop line asked w' reply
+
+-- the reply tells a fault of the bank
+pub record TellsBankFault (reply : Reply) : Type 0 where
+  pub rule : Rule
+  pub last : reply.last ≡ Fault rule
+  pub fault : rule.code ≡ code.BackingFault
+
+-- a fault of the bank that is told has a failed call of its own
+abbrev pub IsCaused : World → World → Reply → Type 0
+IsCaused w w' reply = TellsBankFault reply → Rose w.bank_faults w'.bank_faults
+
+-- failed calls only come, and a fault that is told is one of this line
+pub record Counts (w w' : World) (reply : Reply) : Type 0 where
+  pub later : w.bank_faults ≤ w'.bank_faults
+  pub caused : IsCaused w w' reply
+
+-- what a line is answered by what it says
+abbrev pub Answers : Saying → World → World → Reply → Type 0
+Answers Silent w w' reply = ⊥
+Answers (Says line) w w' reply = Parts line w w' reply
+Answers (WrongAt place) w w' reply = Quiet w (w.tier, refused) w' reply
+Answers TooDeep w w' reply = Quiet w (w.tier, refused) w' reply
+
+-- a line is answered as what it says, or, unless it is silent, by want of memory
+abbrev pub Heeds : World → List ℕ → World → Reply → Type 0
+Heeds w bytes w' reply = ((said : Saying) × Means bytes said × Answers said w w' reply) ⊎ ((is_silent bytes ≡ false) × WantsMemory w w' reply)
+
+-- more bytes than a line may have
+abbrev pub is_long : List ℕ → Bool
+is_long bytes = nat_lt (greatest limit.Line) (length bytes)
+
+-- one line of these bytes; a silent one has no reply and does nothing
+abbrev pub LineStep : World → List ℕ → World → Option Reply → Type 0
+LineStep w bytes w' None = (is_long bytes ≡ false) × (is_silent bytes ≡ true) × (w' ≡ w)
+LineStep w bytes w' (Some reply) = Counts w w' reply × MatchBool (is_long bytes) (Quiet w (w.tier, refused) w' reply) (Heeds w bytes w' reply)
+
+-- one line after another
+abbrev pub Run : World → List (List ℕ) → List (Option Reply) → World → Type 0
+Run w [] [] w' = w' ≡ w
+Run w (line ∷ lines) (reply ∷ replies) w' = (mid : World) × LineStep w line mid reply × Run mid lines replies w'
+Run w [] (reply ∷ replies) w' = ⊥
+Run w (line ∷ lines) [] w' = ⊥

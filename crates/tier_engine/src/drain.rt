@@ -1,0 +1,40 @@
+//! CALL ttDrain.
+
+ghost use Rattle.std.specs.Prelude.{◌≡◌, ◌≤◌, List, Some};
+ghost use Rattle.outside.specs.Faults.{Rose};
+ghost use Rattle.outside.specs.Holding.{Held};
+ghost use Rattle.table_state.specs.declared.history.Sealed.{Sealed as OneSealed};
+ghost use Rattle.tier_engine.specs.Standing.{Made, StandsFor};
+ghost use Rattle.tier_engine.specs.Steps.{Drains, TellsBankFault, round_reply};
+
+use crate::reply::Reply;
+use crate::rounds::{RoundFault, round};
+use crate::tier::Tier;
+use outside::Site;
+use std::alloc::Global;
+use tier_base::Code;
+
+impl Tier {
+    /// CALL ttDrain: a round of propagation. Where nothing stops it, all committed transactions stand in the backing
+    /// history then, and the reply tells how many got their receipt.
+    pub fn drain<P: Site>(&mut self, alloc: Global, site: &mut P) -> Reply
+        ensures step { (log : List OneSealed) (held : Held) → P.Disk.held site.old ≡ Some held → StandsFor self.old log held.history → Made (P.Disk.held site.new) (P.bank_faults site.old) (P.bank_faults site.new) (P.Disk.moment site.old) (P.Disk.moment site.new) self.old self.new log held (λ w w'. Drains w w' result) }
+        ensures later { P.bank_faults site.old ≤ P.bank_faults site.new }
+        ensures cause { TellsBankFault result → Rose (P.bank_faults site.old) (P.bank_faults site.new) }
+    {
+        let end = round(site, &mut self.unsettled);
+        round_reply(alloc, end)
+    }
+}
+
+/// What the end of a round is answered.
+fn round_reply(alloc: Global, end: Result<u64, RoundFault>) -> Reply
+    ensures { result ≡ round_reply end }
+{
+    match end {
+        Ok(receipts) => Reply::done(alloc, receipts),
+        Err(RoundFault::Failed) => Reply::faulty(alloc, Code::BackingFault),
+        Err(RoundFault::Memory) => Reply::faulty(alloc, Code::Memory),
+        Err(RoundFault::Differs) => Reply::faulty(alloc, Code::RowDiffers),
+    }
+}

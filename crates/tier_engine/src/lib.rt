@@ -1,0 +1,22 @@
+//! The tier: what it keeps, and what each request line does to it and to the backing database.
+#![tactic(auto)]
+
+mod bank;
+mod cached;
+mod commit;
+mod define_group;
+mod drain;
+mod insert;
+mod literal;
+mod select;
+mod serving;
+mod session;
+mod statement;
+pub mod reply;
+pub mod request;
+pub mod rounds;
+pub mod tier;
+
+pub use reply::{Last, Note, Reply};
+pub use rounds::RoundFault;
+pub use tier::{Group, Session, Tier};

@@ -1,0 +1,63 @@
+//! One request line.
+
+ghost use Rattle.std.specs.Prelude.{◌≡◌, ◌≤◌, List, [], ℕ, Some};
+ghost use Rattle.outside.specs.Holding.{Held};
+ghost use Rattle.table_state.specs.declared.history.Entry.{Entry};
+ghost use Rattle.table_state.specs.declared.history.Sealed.{Sealed as OneSealed};
+ghost use Rattle.tier_engine.specs.Standing.{Serves, StandsFor, tier_state};
+ghost use Rattle.tier_engine.specs.TierStates.{fresh};
+ghost use Rattle.sql_subset.specs.Lines.{is_silent};
+
+use crate::reply::Reply;
+use crate::tier::Tier;
+use outside::Site;
+use std::alloc::Global;
+use std::collections::VecDeque;
+use tier_base::Seq;
+
+/// The greatest number of bytes of a line.
+const LINE_BYTES: usize = 65_536;
+
+impl Tier {
+    /// The tier over a backing database without entries. It takes no memory.
+    pub fn new(alloc: Global) -> Tier
+        ensures stands { StandsFor result [] [] }
+        ensures fresh { tier_state result [] [] ≡ fresh }
+    {
+        Tier {
+            known: Some(Seq::new(alloc)),
+            groups: Vec::new(alloc),
+            session: None,
+            unsettled: VecDeque::new(alloc),
+            next: 1,
+        }
+    }
+
+    /// Answers one request line, without its line end. A line that is empty or a comment has no reply.
+    ///
+    /// The backing database is called only where the statement wants it: CREATE TABLE, `ttDrain`, and the question for
+    /// the schema after a definition that failed. Where memory is wanting the tier is as before, and so is the backing
+    /// database but for what calls before did.
+    pub fn request<P: Site>(&mut self, alloc: Global, site: &mut P, line: &[u8]) -> Option<Reply>
+        ensures step { (log : List OneSealed) (held : Held) → P.Disk.held site.old ≡ Some held → StandsFor self.old log held.history → Serves (P.Disk.held site.new) (P.bank_faults site.old) (P.bank_faults site.new) (P.Disk.moment site.old) (P.Disk.moment site.new) self.old self.new log held line.now result }
+        ensures later { P.bank_faults site.old ≤ P.bank_faults site.new }
+    {
+        if line.len() > LINE_BYTES {
+            return Some(Reply::refused(alloc));
+        }
+        if is_silent(line) {
+            return None;
+        }
+        Some(self.serve(alloc, site, line))
+    }
+}
+
+/// Whether the line is empty or a comment.
+fn is_silent(line: &[u8]) -> bool
+    ensures { result ≡ is_silent line.now }
+{
+    match line.first() {
+        None => true,
+        Some(byte) => *byte == b'#',
+    }
+}

@@ -1,0 +1,48 @@
+//! SELECT from a stored group.
+
+ghost use Rattle.std.specs.Prelude.{◌≡◌, ◌++◌, IfOk, OnOk};
+ghost use Rattle.std.specs.FinMap.{values};
+ghost use Rattle.tier_engine.specs.Replying.{row_bytes, rows_bytes};
+ghost use Rattle.tier_engine.specs.Storing.{select_rows};
+
+use crate::reply::{Last, Reply};
+use key_rows::Rows;
+use row_types::{Row, print_values_into};
+use std::alloc::{AllocError, Global};
+use tier_base::{Limit, Seq};
+
+/// All rows, in key order. It changes nothing.
+pub fn select_rows(alloc: Global, rows: &Rows) -> Result<Reply, AllocError>
+    ensures { IfOk result (λ reply. reply ≡ select_rows rows.now) }
+{
+    if rows.len() as u64 > Limit::Answer.number() {
+        return Ok(Reply::refused(alloc));
+    }
+    let printed = print_rows(alloc, rows)?;
+    Ok(Reply {
+        notes: Seq::new(alloc),
+        rows: Seq::from_vec(printed),
+        last: Last::Done(rows.len() as u64),
+    })
+}
+
+/// The rows as they are printed, in key order.
+fn print_rows(alloc: Global, rows: &Rows) -> Result<Vec<u8>, AllocError>
+    ensures { IfOk result (λ out. out.items ≡ rows_bytes (values rows.now)) }
+{
+    let mut out = Vec::new(alloc);
+    for place in 0..rows.len() {
+        print_row_into(&mut out, rows.row_at(place))?;
+    }
+    Ok(out)
+}
+
+/// Puts a row as it is printed behind what the buffer holds.
+fn print_row_into(out: &mut Vec<u8>, row: &Row) -> Result<(), AllocError>
+    ensures { OnOk result (out.new.items ≡ out.old.items ++ row_bytes row.now) }
+{
+    out.extend_from_slice(b"= ")?;
+    print_values_into(out, row.values())?;
+    out.push(b'\n')?;
+    Ok(())
+}

@@ -1,0 +1,111 @@
+//! What a request line says is done.
+
+ghost use Rattle.std.specs.Prelude.{◌≡◌, ◌≤◌, ◌⊎◌, List, false};
+ghost use Rattle.table_state.specs.declared.history.Entry.{Entry};
+ghost use Rattle.table_state.specs.declared.history.Sealed.{Sealed as OneSealed};
+ghost use Rattle.sql_subset.specs.declared.request.ConsoleRequest.TheVariants as console;
+ghost use Rattle.sql_subset.specs.declared.request.Line.TheVariants as says;
+ghost use Rattle.sql_subset.specs.declared.request.Request.TheVariants as asks_for;
+ghost use Rattle.sql_subset.specs.Lines.{is_silent};
+ghost use Rattle.tier_engine.specs.Standing.{ServesPart, tier_state};
+ghost use Rattle.tier_engine.specs.Steps.{Heeds, Parts, console_asks, request_asks};
+
+use crate::reply::Reply;
+use crate::tier::Tier;
+use outside::Site;
+use row_types::TableDeclaration;
+use sql_subset::line::parse_line;
+use sql_subset::request::{ConsoleRequest, Line, ParseError, Request};
+use sql_subset::stmt::Stmt;
+use std::alloc::Global;
+use tier_base::{Code, Label};
+
+impl Tier {
+    /// Answers a line that isn't silent.
+    pub fn serve<P: Site>(&mut self, alloc: Global, site: &mut P, line: &[u8]) -> Reply
+        requires { is_silent line.now ≡ false }
+        ensures step { ServesPart (P.Disk.held site.old) (P.Disk.held site.new) (P.bank_faults site.old) (P.bank_faults site.new) (P.Disk.moment site.old) (P.Disk.moment site.new) self.old self.new result (λ w w'. Heeds w line.now w' result) }
+        ensures later { P.bank_faults site.old ≤ P.bank_faults site.new }
+    {
+        match parse_line(alloc, line) {
+            Ok(None) => unreachable!(),
+            Ok(Some(line)) => self.serve_line(alloc, site, line),
+            Err(ParseError::At(_)) => Reply::refused(alloc),
+            Err(ParseError::Depth) => Reply::refused(alloc),
+            Err(ParseError::Memory) => Reply::faulty(alloc, Code::Memory),
+        }
+    }
+
+    fn serve_line<P: Site>(&mut self, alloc: Global, site: &mut P, line: Line) -> Reply
+        ensures step { ServesPart (P.Disk.held site.old) (P.Disk.held site.new) (P.bank_faults site.old) (P.bank_faults site.new) (P.Disk.moment site.old) (P.Disk.moment site.new) self.old self.new result (λ w w'. Parts line w w' result) }
+        ensures later { P.bank_faults site.old ≤ P.bank_faults site.new }
+    {
+        match line {
+            Line::Session(label, request) => self.serve_request(alloc, site, label, request),
+            Line::Console(request) => self.serve_console(alloc, site, request),
+        }
+    }
+
+    fn serve_request<P: Site>(&mut self, alloc: Global, site: &mut P, label: Label, request: Request) -> Reply
+        ensures step { ServesPart (P.Disk.held site.old) (P.Disk.held site.new) (P.bank_faults site.old) (P.bank_faults site.new) (P.Disk.moment site.old) (P.Disk.moment site.new) self.old self.new result (λ w w'. Parts (says.Session label request) w w' result) }
+        ensures later { P.bank_faults site.old ≤ P.bank_faults site.new }
+    {
+        match request {
+            Request::Open(options) => self.open(alloc, label, options),
+            Request::Close => Reply::refused(alloc),
+            Request::Statement(statement) => self.serve_statement(alloc, site, &label, statement),
+        }
+    }
+
+    fn serve_console<P: Site>(&mut self, alloc: Global, site: &mut P, request: ConsoleRequest) -> Reply
+        ensures step { ServesPart (P.Disk.held site.old) (P.Disk.held site.new) (P.bank_faults site.old) (P.bank_faults site.new) (P.Disk.moment site.old) (P.Disk.moment site.new) self.old self.new result (λ w w'. Parts (says.Console request) w w' result) }
+        ensures later { P.bank_faults site.old ≤ P.bank_faults site.new }
+    {
+        match request {
+            ConsoleRequest::CreateTable(declaration) => self.serve_create(alloc, site, &declaration),
+            ConsoleRequest::Writes(_) => Reply::refused(alloc),
+        }
+    }
+
+    fn serve_statement<P: Site>(&mut self, alloc: Global, site: &mut P, label: &Label, statement: Stmt) -> Reply
+        ensures step { ServesPart (P.Disk.held site.old) (P.Disk.held site.new) (P.bank_faults site.old) (P.bank_faults site.new) (P.Disk.moment site.old) (P.Disk.moment site.new) self.old self.new result (λ w w'. Parts (says.Session label.now (asks_for.Statement statement)) w w' result) }
+        ensures later { P.bank_faults site.old ≤ P.bank_faults site.new }
+    {
+        let asks = self.asks_before(label, &statement);
+        match self.ask_where(alloc, site, asks) {
+            Some(fault) => fault,
+            None => self.execute_as(alloc, site, label, statement),
+        }
+    }
+
+    fn serve_create<P: Site>(&mut self, alloc: Global, site: &mut P, declaration: &TableDeclaration) -> Reply
+        ensures step { ServesPart (P.Disk.held site.old) (P.Disk.held site.new) (P.bank_faults site.old) (P.bank_faults site.new) (P.Disk.moment site.old) (P.Disk.moment site.new) self.old self.new result (λ w w'. Parts (says.Console (console.CreateTable declaration.now)) w w' result) }
+        ensures later { P.bank_faults site.old ≤ P.bank_faults site.new }
+    {
+        let asks = self.asks_before_create(declaration);
+        match self.ask_where(alloc, site, asks) {
+            Some(fault) => fault,
+            None => self.create_table(alloc, site, declaration),
+        }
+    }
+
+    /// Whether the tier asks for the schema before a session's statement: it doesn't know it, and the statement names a
+    /// table which isn't cached.
+    fn asks_before(&self, label: &Label, statement: &Stmt) -> bool
+        ensures { (log : List OneSealed) (history : List Entry) → result ≡ request_asks (tier_state self.now log history) label.now (asks_for.Statement statement.now) }
+    {
+        if self.known.is_some() {
+            return false;
+        }
+        if !self.is_open(label) {
+            return false;
+        }
+        self.names_uncached(statement)
+    }
+
+    fn asks_before_create(&self, declaration: &TableDeclaration) -> bool
+        ensures { (log : List OneSealed) (history : List Entry) → result ≡ console_asks (tier_state self.now log history) (console.CreateTable declaration.now) }
+    {
+        self.known.is_none() && !self.is_cached(&declaration.name)
+    }
+}

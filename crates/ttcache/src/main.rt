@@ -1,0 +1,100 @@
+//! `ttcache`: a relational cache in front of a backing database.
+//!
+//! `ttcache run` reads request lines from standard input and writes replies to standard output. It ends with the status
+//! that `session_cli::top` answers, or with 11 where the settings can't be read.
+#![tactic(auto)]
+
+mod streams;
+mod system_clock;
+
+use backing_gate::MemorySite;
+use session_cli::top;
+use std::alloc::{AllocError, Global};
+use std::io::ErrorKind;
+use std::process::ExitCode;
+use std::{env, fs};
+use streams::{ReaderSource, WriterSink};
+use system_clock::SystemClock;
+
+/// The settings, in the working folder.
+const SETTINGS: &str = "ttcache.toml";
+
+/// The status where the words aren't taken.
+const WRONG_WORDS: u8 = 1;
+
+/// The status where memory is wanting.
+const NO_MEMORY: u8 = 7;
+
+/// The status where the settings can't be read.
+const CANNOT_OPEN: u8 = 11;
+
+fn main(rt: HostRuntime) -> ExitCode {
+    ExitCode::from(status(&rt))
+}
+
+fn status(rt: &HostRuntime) -> u8 {
+    let Some(settings) = settings(rt) else {
+        let _ = eprintln!(rt; "ttcache: cannot open {SETTINGS}");
+        return CANNOT_OPEN;
+    };
+    let status = run(rt, settings.as_slice());
+    if status == WRONG_WORDS {
+        let _ = eprintln!(rt; "usage: ttcache run");
+    }
+    status
+}
+
+// The bytes of the settings file, none where there is no file.
+fn settings(rt: &HostRuntime) -> Option<Vec<u8>> {
+    match fs::read(rt, SETTINGS) {
+        Ok(bytes) => Some(bytes),
+        Err(error) => {
+            if error.kind() == ErrorKind::NotFound {
+                return Some(Vec::new(rt.alloc()));
+            }
+            None
+        }
+    }
+}
+
+// Calls the program with the real objects.
+fn run(rt: &HostRuntime, settings: &[u8]) -> u8 {
+    let args = match env::args(rt) {
+        Ok(args) => args,
+        Err(error) => {
+            if error.kind() == ErrorKind::OutOfMemory {
+                return NO_MEMORY;
+            }
+            return WRONG_WORDS;
+        }
+    };
+    let Ok(args) = args.collect::<Vec<String>>(rt.alloc()) else {
+        return NO_MEMORY;
+    };
+    let Ok(words) = words_of(rt.alloc(), args.as_slice()) else {
+        return NO_MEMORY;
+    };
+    let mut source = ReaderSource::new(rt.stdin());
+    let mut sink = WriterSink::new(rt.stdout());
+    let Ok(mut site) = MemorySite::new(rt.alloc()) else {
+        return NO_MEMORY;
+    };
+    let mut clock = SystemClock::new(*rt);
+    top(
+        rt.alloc(),
+        words.as_slice(),
+        settings,
+        &mut source,
+        &mut sink,
+        &mut site,
+        &mut clock,
+    )
+}
+
+fn words_of(alloc: Global, args: &[String]) -> Result<Vec<&str>, AllocError> {
+    let mut words = Vec::with_capacity(alloc, args.len())?;
+    for arg in args {
+        words.push(arg.as_str())?;
+    }
+    Ok(words)
+}
