@@ -43,6 +43,7 @@ serving_new session start held sink site faults moment n is_sink is_site none = 
   tells = is_site;
   slots = refl;
   stands = rw none n.stands;
+  legal = rw none n.legal;
   run = ap₂ (λ t h. world t h faults moment) (rw none n.tier) none;
   line = n.line ∙ sym (front_short [] (lit≤ tt));
   passed = record { count = 0; written = rw is_sink (sym (append-nil start)); waits = n.output };

@@ -5,8 +5,6 @@ use Rattle.std.specs.Result.{IsErr, OnOk}
 use Rattle.table_state.specs.declared.history.Sealed.{Sealed}
 use Rattle.outside.specs.Holding.{Held}
 use Rattle.table_state.specs.declared.history.Entry.{Entry}
-use Rattle.tier_engine.proofs.LegalLaws.{legal_front}
-use Rattle.tier_engine.specs.Commits.{IsLegal}
 use Rattle.tier_engine.specs.declared.tier.Tier.{Tier}
 use Rattle.tier_engine.specs.declared.reply.Reply.{Reply}
 use Rattle.tier_engine.specs.Replying.{reply_bytes, replies_bytes}
@@ -34,11 +32,6 @@ pub told_after : (a : List ℕ) (b : Option (List ℕ)) (xs : List ℕ) → Appe
 told_after a None xs p = absurd p
 told_after a (Some b) xs p = ap (λ l. Some l) p
 
--- what a tier stands for is legal
-pub legal_of : (t : Tier) (log : List Sealed) (history : List Entry) → StandsFor t log history → (conflict : Sealed → Sealed → Bool) → IsLegal conflict history log
-legal_of t log history s conflict =
-    subst (λ (h : List Entry). IsLegal conflict h log) (sym s.is) (legal_front conflict s.defs 1 s.came log t.next s.rise)
-
 -- the ended lines and one more are answered
 pub answered_line : {E : Type 0} (res : Result (Unit {0}) E) (o : Origin) (given : List ℕ) (sink sink' : Option (List ℕ)) (site site' : Option Held) (faults faults' moment moment' : ℕ) (session : Session) (tier' : Tier) (waiting' line : List ℕ)
     → (s : Serving o given sink site faults moment session) → (r : Responds res sink sink' session.output waiting' site' faults faults' moment moment' session.tier tier' s.log s.held line)
@@ -52,7 +45,7 @@ answered_line res o given sink sink' site site' faults faults' moment moment' se
   history = refl;
   counted = refl;
   now = refl;
-  legal = legal_of tier' r.served.log' r.served.held'.history r.served.stands;
+  legal = r.legal;
 }
 
 -- a front of the replies is written
@@ -77,6 +70,7 @@ serving_line o given sink sink' site site' faults faults' moment moment' session
       tells = r.served.tells;
       slots = a.slots;
       stands = r.served.stands;
+      legal = r.legal;
       run = subst (λ (ls : List (List ℕ)). Run o.world ls (s.replies ++ r.reply ∷ []) (world_of session'.tier r.served.log' r.served.held'.history faults' moment')) lines a.run;
       line = empty ∙ sym (ap front_of (rest_ended given) ∙ front_short [] (lit≤ tt));
       passed = rw (replies_push s.replies r.reply) (splits_then (Some o.written) sink sink' (replies_bytes s.replies) session.output (reply_bytes r.reply) session'.output s.passed r.passed);
@@ -106,6 +100,7 @@ serving_byte o given b sink site faults moment session session' differs tier lin
   tells = s.tells;
   slots = s.slots;
   stands = rw tier s.stands;
+  legal = s.legal;
   run = rw (ended_same given b differs, tier) s.run;
   line = line ∙ ap (λ l. front_of (l ++ b ∷ [])) s.line ∙ front_push (cut given).1 b ∙ sym (ap front_of (rest_push given b differs));
   passed = rw output s.passed;
@@ -147,7 +142,7 @@ answered_here o given sink site faults moment session s = record {
   history = refl;
   counted = refl;
   now = refl;
-  legal = legal_of session.tier s.log s.held.history s.stands;
+  legal = s.legal;
 }
 
 take_whole : (xs : List ℕ) → take (length xs) xs ≡ xs
@@ -165,6 +160,7 @@ serving_flushed (Ok done) o given bytes sink sink' site faults moment session se
   tells = s.tells;
   slots = s.slots;
   stands = rw tier s.stands;
+  legal = s.legal;
   run = rw tier s.run;
   line = line ∙ s.line;
   passed = subst (λ (l : List ℕ). Splits (Some o.written) sink' l session'.output) (append-nil (replies_bytes s.replies))

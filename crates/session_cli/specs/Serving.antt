@@ -1,6 +1,7 @@
 -- A run in the middle and at its end.
 
 use Rattle.std.specs.Prelude.{◌≡◌, ℕ, Bool, List, [], ◌++◌, Option, Some, Result, Ok, Err, take}
+use Rattle.table_state.specs.declared.history.Entry.{Entry}
 use Rattle.table_state.specs.declared.history.Sealed.{Sealed}
 use Rattle.outside.specs.Holding.{Held, Slots}
 use Rattle.tier_engine.specs.declared.tier.Tier.{Tier}
@@ -28,10 +29,16 @@ begins slots written faults moment = record {
   written = written;
 }
 
+-- Whatever is called a conflict, each of these committed transactions stands in the history once at most, with the
+-- operations of its commit, and conflicting ones in commit order.
+abbrev pub AreLegal : List Entry → List Sealed → Type 0
+AreLegal history log = (conflict : Sealed → Sealed → Bool) → IsLegal conflict history log
+
 -- One line was answered: the request was served, and its reply passed on to the sink.
 pub record Responds {E : Type 0} (result : Result (Unit {0}) E) (sink sink' : Option (List ℕ)) (waiting waiting' : List ℕ) (site' : Option Held) (faults faults' moment moment' : ℕ) (tier tier' : Tier) (log : List Sealed) (held : Held) (line : List ℕ) : Type 0 where
   pub reply : Option Reply
   pub served : Serves site' faults faults' moment moment' tier tier' log held line reply
+  pub legal : AreLegal served.held'.history served.log'
   pub passed : Passes result sink sink' waiting waiting' (reply_bytes reply)
 
 -- After the bytes given: each line that ended is answered, a front of the replies is written and the others wait, and
@@ -43,13 +50,12 @@ pub record Serving (o : Origin) (given : List ℕ) (sink : Option (List ℕ)) (s
   pub tells : site ≡ Some held
   pub slots : held.slots ≡ o.slots
   pub stands : StandsFor session.tier log held.history
+  pub legal : AreLegal held.history log
   pub run : Run o.world (ended_lines given) replies (world_of session.tier log held.history faults moment)
   pub line : session.line ≡ front_of (cut given).1
   pub passed : Splits (Some o.written) sink (replies_bytes replies) session.output
 
--- These are the replies of a run over the lines, and at its end the site holds what the run's last world says. Whatever
--- is called a conflict, its history has each ticket once at most, with the operations of its commit, and conflicting
--- ones in ticket order.
+-- These are the replies of a run over the lines, and at its end the site holds what the run's last world says.
 pub record Answered (o : Origin) (lines : List (List ℕ)) (replies : List (Option Reply)) (site : Option Held) (faults moment : ℕ) : Type 0 where
   pub last : World
   pub run : Run o.world lines replies last
@@ -59,7 +65,7 @@ pub record Answered (o : Origin) (lines : List (List ℕ)) (replies : List (Opti
   pub history : held.history ≡ last.history
   pub counted : last.bank_faults ≡ faults
   pub now : last.moment ≡ moment
-  pub legal : (conflict : Sealed → Sealed → Bool) → IsLegal conflict last.history last.tier.log
+  pub legal : AreLegal last.history last.tier.log
 
 -- The lines are answered, and all replies written.
 pub record Whole (o : Origin) (lines : List (List ℕ)) (sink : Option (List ℕ)) (site : Option Held) (faults moment : ℕ) : Type 0 where
@@ -97,6 +103,7 @@ Finishes (Err e) o given sink site faults moment = CutShort o (all_lines given) 
 -- A session that has been given nothing, over a fresh tier.
 pub record IsNew (session : Session) : Type 0 where
   pub stands : StandsFor session.tier [] []
+  pub legal : AreLegal [] []
   pub tier : tier_state session.tier [] [] ≡ fresh
   pub line : session.line ≡ []
   pub output : session.output ≡ []

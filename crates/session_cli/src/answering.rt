@@ -11,7 +11,7 @@ use crate::output::Output;
 use crate::replies::write_reply;
 use outside::{Failed, Sink, Site};
 use std::alloc::Global;
-use tier_engine::Tier;
+use tier_engine::{Tier, legal_law};
 
 /// Lets the tier answer a line, and passes the reply on to the sink.
 ///
@@ -28,6 +28,7 @@ pub fn respond<K: Sink, P: Site>(
     ensures serves { (log : List OneSealed) (held : Held) → P.Disk.held site.old ≡ Some held → StandsFor tier.old log held.history → Responds result (K.written sink.old) (K.written sink.new) output.old output.new (P.Disk.held site.new) (P.bank_faults site.old) (P.bank_faults site.new) (P.Disk.moment site.old) (P.Disk.moment site.new) tier.old tier.new log held line.now }
     ensures cause { HasCause (K.faults sink.old) (K.faults sink.new) result }
 {
+    legal_law();
     match tier.request(alloc, site, line) {
         None => Ok(()),
         Some(reply) => write_reply(output, sink, &reply),

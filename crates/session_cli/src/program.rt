@@ -1,12 +1,15 @@
 //! The program's one way in.
 
-ghost use Rattle.std.specs.Prelude.{◌≡◌, ◌≢◌, ◌↔◌, ◌⊎◌, [], true, false};
+ghost use Rattle.std.specs.Prelude.{◌≡◌, ◌≢◌, ◌↔◌, ◌⊎◌, ℕ, List, Option, [], true, false};
 ghost use Rattle.outside.specs.Faults.{Rose};
+ghost use Rattle.tier_engine.specs.declared.reply.Reply.{Reply};
+ghost use Rattle.tier_engine.specs.Steps.{AreCaused, Run, World};
 ghost use Rattle.session_cli.specs.Ends.{Runs, Takes, is_run, number_of};
 
 use crate::serving::{Status, serve};
 use outside::{Clock, Sink, Site, Source};
 use std::alloc::Global;
+use tier_engine::fault_law;
 
 /// The status where the words aren't taken.
 const WRONG_WORDS: u8 = 1;
@@ -43,8 +46,11 @@ pub fn top<S: Source, K: Sink, P: Site, C: Clock>(
     ensures takes { is_run words.now ≡ true → settings.now ≡ [] → ((status : Status) × (result ≡ number_of status) × Takes status (S.left source.old) (S.left source.new)) }
     ensures read { result ≡ 3 → Rose (S.faults source.old) (S.faults source.new) }
     ensures write { result ≡ 4 → Rose (K.faults sink.old) (K.faults sink.new) }
+    // In the run that the clause `runs` speaks of, each fault of the bank that is told has a failed call of its own.
+    ensures caused { (w w' : World) (lines : List (List ℕ)) (replies : List (Option Reply)) → Run w lines replies w' → AreCaused w replies w' }
     ensures unasked { clock.new ≡ clock.old }
 {
+    fault_law();
     if !is_run(words) {
         return WRONG_WORDS;
     }

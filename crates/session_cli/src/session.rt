@@ -5,7 +5,7 @@ use crate::line::LineBuffer;
 use crate::output::Output;
 use outside::{Failed, Sink, Site};
 use std::alloc::{AllocError, Global};
-use tier_engine::Tier;
+use tier_engine::{Tier, legal_law};
 
 /// What is kept between the pieces of the input.
 #[derive(Drop)]
@@ -27,6 +27,7 @@ impl Session {
     pub fn new(alloc: Global) -> Result<Session, AllocError>
         ensures { IfOk result IsNew }
     {
+        legal_law();
         Ok(Session {
             tier: Tier::new(alloc),
             line: LineBuffer::new(alloc)?,

@@ -10,7 +10,8 @@ use Rattle.table_state.specs.declared.history.Sealed.{Sealed}
 use Rattle.table_state.specs.Histories.{has_ticket, entry_of, state_of}
 use Rattle.tier_base.specs.declared.number.Ticket.{Ticket}
 use Rattle.tier_engine.specs.Commits.{RiseBetween, AreOps, HasOps, FollowsLower, KeepsOrder, IsLegal, is_other, in_commit_order}
-use Rattle.tier_engine.specs.Standing.{definition_entries}
+use Rattle.tier_engine.specs.declared.tier.Tier.{Tier}
+use Rattle.tier_engine.specs.Standing.{StandsFor, definition_entries}
 use Rattle.tier_engine.proofs.CommitLaws.{has_ticket-append, nat_eq_same, or_true, once_rising, once_definitions, rise_take}
 
 append_nil : {X : Type 0} (xs : List X) → xs ++ [] ≡ xs
@@ -99,7 +100,7 @@ order_behind_definitions conflict log front (def ∷ defs) h p =
         (subst (λ (f : List Entry). KeepsOrder conflict log f h) (sym (append_assoc front (Definition def ∷ []) (definition_entries defs))) p)
 
 -- definitions and a front of a rising log are legal over it
-pub legal_front : (conflict : Sealed → Sealed → Bool) (defs : List TableDef) (low n : ℕ) (log : List Sealed) (high : ℕ) → RiseBetween low log high
+legal_front : (conflict : Sealed → Sealed → Bool) (defs : List TableDef) (low n : ℕ) (log : List Sealed) (high : ℕ) → RiseBetween low log high
     → IsLegal conflict (definition_entries defs ++ map entry_of (take n log)) log
 legal_front conflict defs low n log high rise = record {
   once = once_definitions defs (map entry_of (take n log)) (once_rising low (take n log) high (rise_take n low log high rise));
@@ -108,6 +109,11 @@ legal_front conflict defs low n log high rise = record {
       (subst (λ (f : List Entry). KeepsOrder conflict log f (map entry_of (take n log))) (append_nil (definition_entries defs))
           (keeps_order conflict (definition_entries defs) low [] n log high rise))
 }
+
+-- what a tier stands for is legal
+pub legal_standing : (t : Tier) (log : List Sealed) (history : List Entry) → StandsFor t log history → (conflict : Sealed → Sealed → Bool) → IsLegal conflict history log
+legal_standing t log history s conflict =
+    subst (λ (h : List Entry). IsLegal conflict h log) (sym s.is) (legal_front conflict s.defs 1 s.came log t.next s.rise)
 
 none_other : (log ss : List Sealed) → AllStand ss (map entry_of log) → filter (is_other log) (map entry_of ss) ≡ []
 none_other log [] all = refl

@@ -2,6 +2,7 @@ pub mod BankSteps
 pub mod CommitLaws
 pub mod CommitSteps
 pub mod DrainSteps
+pub mod FaultLaws
 pub mod GroupSteps
 pub mod InsertLaws
 pub mod InsertSteps

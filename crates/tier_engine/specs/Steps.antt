@@ -1,12 +1,13 @@
 -- What one request line does, and what a list of them does.
 
-use Rattle.std.specs.Prelude.{◌≡◌, ℕ, ◌≤◌, ◌⊎◌, nat_lt, List, [], ◌∷◌, ◌++◌, Bool, true, false, ◌&&◌, not, Option, Some, None, length, codes, is_none, is_some, Result, Ok, Err}
+use Rattle.std.specs.Prelude.{◌≡◌, ℕ, ◌+◌, ◌-◌, ◌^◌, ◌≤◌, ◌⊎◌, min, nat_eq, nat_lt, if◌then◌else◌, List, [], ◌∷◌, ◌++◌, Bool, true, false, ◌&&◌, not, Option, Some, None, length, codes, is_none, is_some, Result, Ok, Err}
 use Rattle.std.specs.Option.{option_map}
 use Rattle.std.specs.Bool.{MatchBool}
 use Rattle.std.specs.Result.{IsErrOf, OnOk}
 use Rattle.tier_base.specs.declared.limit.Limit.TheVariants as limit
 use Rattle.tier_base.specs.Limits.{greatest}
 use Rattle.tier_base.specs.declared.code.Code.TheVariants as code
+use Rattle.tier_base.specs.Codes.{number_of}
 use Rattle.row_types.specs.declared.rule.Rule.{Rule}
 use Rattle.row_types.specs.declared.declaration.TableDeclaration.{TableDeclaration}
 use Rattle.sql_subset.specs.declared.request.Line.{Line}
@@ -29,7 +30,8 @@ use Rattle.outside.specs.Faults.{Rose}
 use Rattle.outside.specs.declared.fault.BankError.{BankError}
 use Rattle.outside.specs.declared.fault.BankError.TheVariants.{Failed, Memory}
 use Rattle.tier_engine.specs.declared.reply.Reply.{Reply}
-use Rattle.tier_engine.specs.declared.reply.Last.TheVariants.{Done, Fault}
+use Rattle.tier_engine.specs.declared.reply.Last.{Last}
+use Rattle.tier_engine.specs.declared.reply.Last.TheVariants.{Done, No, Fault}
 use Rattle.tier_engine.specs.declared.rounds.RoundFault.{RoundFault}
 use Rattle.tier_engine.specs.declared.rounds.RoundFault.TheVariants as stop
 use Rattle.tier_engine.specs.Commits.{pending, in_commit_order}
@@ -256,3 +258,20 @@ Run w [] [] w' = w' ≡ w
 Run w (line ∷ lines) (reply ∷ replies) w' = (mid : World) × LineStep w line mid reply × Run mid lines replies w'
 Run w [] (reply ∷ replies) w' = ⊥
 Run w (line ∷ lines) [] w' = ⊥
+
+-- the last line of a reply tells a fault of the bank
+abbrev pub is_bank_fault : Last → Bool
+is_bank_fault (Done n) = false
+is_bank_fault (No rule) = false
+is_bank_fault (Fault rule) = nat_eq (number_of rule.code) (number_of code.BackingFault)
+
+-- how many replies tell a fault of the bank
+abbrev pub faults_told : List (Option Reply) → ℕ
+faults_told [] = 0
+faults_told (None ∷ replies) = faults_told replies
+faults_told (Some reply ∷ replies) = (if is_bank_fault reply.last then 1 else 0) + faults_told replies
+
+-- Each fault that is told has a failed call of its own: the count of failed calls rose by as many, or stands at its last
+-- value.
+abbrev pub AreCaused : World → List (Option Reply) → World → Type 0
+AreCaused w replies w' = min (w.bank_faults + faults_told replies) (2 ^ 64 - 1) ≤ w'.bank_faults

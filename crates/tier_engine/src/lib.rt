@@ -7,6 +7,7 @@ mod commit;
 mod define_group;
 mod drain;
 mod insert;
+pub mod laws;
 mod literal;
 mod select;
 mod serving;
@@ -17,6 +18,7 @@ pub mod request;
 pub mod rounds;
 pub mod tier;
 
+pub use laws::{fault_law, legal_law};
 pub use reply::{Last, Note, Reply};
 pub use rounds::RoundFault;
 pub use tier::{Group, Session, Tier};

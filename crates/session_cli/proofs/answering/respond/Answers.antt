@@ -2,4 +2,4 @@ use Rattle.std.proofs.Common.{Some}
 use Rattle.session_cli.proofs.answering.respond.Goals as goal
 
 pub returns-in-Some-clause-serves : goal.returns-in-Some-clause-serves
-returns-in-Some-clause-serves g c = λ log held told stands. record { reply = Some c.in-Some.reply; served = c.in-Some.ensures.step log held told stands; passed = c.write_reply.ensures.bytes }
+returns-in-Some-clause-serves g c = λ log held told stands. record { reply = Some c.in-Some.reply; served = c.in-Some.ensures.step log held told stands; legal = c.legal_law.ensures _ _ _ (c.in-Some.ensures.step log held told stands).stands; passed = c.write_reply.ensures.bytes }
