@@ -1,14 +1,12 @@
 -- A run goes on by lines and bytes.
-use Rattle.std.proofs.Common.{◌≡◌, ◌≢◌, ℕ, zero, suc, Bool, ◌+◌, ◌<◌, length, get_or, List, [], ◌∷◌, ◌++◌, take, drop, Option, Some, None, Result, Ok, Err, refl, sym, ◌∙◌, ap, subst, append-nil, append_assoc, lit≤}
+use Rattle.std.proofs.Common.{◌≡◌, ◌≢◌, ℕ, zero, suc, ◌+◌, ◌<◌, length, get_or, List, [], ◌∷◌, ◌++◌, take, drop, Option, Some, None, Result, Ok, Err, refl, sym, ◌∙◌, ap, subst, append-nil, append_assoc, lit≤}
 use Rattle.std.specs.Io.KnownBytes.{Appends}
 use Rattle.std.specs.Result.{IsErr, OnOk}
-use Rattle.table_state.specs.declared.history.Sealed.{Sealed}
 use Rattle.outside.specs.Holding.{Held}
-use Rattle.table_state.specs.declared.history.Entry.{Entry}
 use Rattle.tier_engine.specs.declared.tier.Tier.{Tier}
 use Rattle.tier_engine.specs.declared.reply.Reply.{Reply}
 use Rattle.tier_engine.specs.Replying.{reply_bytes, replies_bytes}
-use Rattle.tier_engine.specs.Standing.{StandsFor, world_of}
+use Rattle.tier_engine.specs.Standing.{world_of}
 use Rattle.tier_engine.specs.Steps.{World, Run, LineStep}
 use Rattle.session_cli.specs.declared.session.Session.{Session}
 use Rattle.session_cli.specs.Cutting.{cut, front_of, text_of, ended_lines, all_lines}

@@ -36,15 +36,7 @@ fn expect_replies(
     let mut source = MemorySource::new(script, given.max(1), Vec::new(alloc));
     let mut clock = ScriptClock::new(Vec::new(alloc));
     let words = ["ttcache", "run"];
-    let ended = top(
-        alloc,
-        &words,
-        b"",
-        &mut source,
-        &mut sink,
-        site,
-        &mut clock,
-    );
+    let ended = top(alloc, &words, b"", &mut source, &mut sink, site, &mut clock);
     assert_eq!(rt; ended, status);
     assert!(rt; sink.bytes() == replies);
     Ok(())
@@ -81,7 +73,15 @@ fn the_first_run_breaks_off_where_the_sink_fails(rt: HostRuntime) -> Result<(), 
         failing.push(call as u64)?;
         let mut site = MemorySite::new(rt.alloc())?;
         let sink = MemorySink::new(rt.alloc(), 1, failing);
-        expect_replies(&rt, rt.alloc(), &mut site, 65_536, sink, 4, &REPLIES[..call])?;
+        expect_replies(
+            &rt,
+            rt.alloc(),
+            &mut site,
+            65_536,
+            sink,
+            4,
+            &REPLIES[..call],
+        )?;
     }
     Ok(())
 }

@@ -42,9 +42,9 @@ pub record WasTold (now : Option Held) (old : Held) (step : List Entry → List 
 was_told : (before now : Option Held) (old : Held) (step : List Entry → List Entry → Type 0) → before ≡ Some old → Told before now (BankCall step) → WasTold now old step
 was_told before now old step e t = by_now now (subst (λ (o : Option Held). Told o now (BankCall step)) e t)
   where
-  by_now : (n : Option Held) → Told (Some old) n (BankCall step) → WasTold n old step
-  by_now None x = absurd x
-  by_now (Some held) x = record { held = held; tells = refl; slots = x.slots; history = x.history }
+    by_now : (n : Option Held) → Told (Some old) n (BankCall step) → WasTold n old step
+    by_now None x = absurd x
+    by_now (Some held) x = record { held = held; tells = refl; slots = x.slots; history = x.history }
 
 append_nil : {X : Type 0} (xs : List X) → xs ++ [] ≡ xs
 append_nil [] = refl
@@ -55,9 +55,9 @@ same_schema : (s : TableState) (o : Option Table) (n : ℕ) (s' : TableState) �
 same_schema s None n s' e = Prim.cc
 same_schema s (Some new) n s' e = sym (ap (λ o. option_schema o) e)
   where
-  option_schema : Option TableState → List TableDef
-  option_schema None = s.schema
-  option_schema (Some x) = x.schema
+    option_schema : Option TableState → List TableDef
+    option_schema None = s.schema
+    option_schema (Some x) = x.schema
 
 on_schema : (s : TableState) (n : ℕ) (f : TableDef → Table → Option Table) (od : Option TableDef) (ot : Option Table) (s' : TableState)
     → option_and_then (λ def. option_and_then (λ table. option_map (λ new. let r : TableState = record { schema = s.schema; tables = slice_set s.tables n new } in r) (f def table)) ot) od ≡ Some s' → s'.schema ≡ s.schema
@@ -95,22 +95,23 @@ schema_after (def ∷ defs) log s s' e =
 pub defined_front : (t : Tier) (log : List Sealed) (h : List Entry) (stands : StandsFor t log h) → (s : TableState) × (state_of h ≡ Some s) × (s.schema ≡ stands.defs)
 defined_front t log h stands = by_state (state_of h) refl
   where
-  parted : state_of (definition_entries stands.defs ++ map entry_of log) ≡ option_and_then (state_from (map entry_of (drop stands.came log))) (state_of h)
-  parted =
-      ap (λ (l : List Sealed). state_of (definition_entries stands.defs ++ map entry_of l)) (sym (take-append-drop stands.came log))
-      ∙ ap (λ (l : List Entry). state_of (definition_entries stands.defs ++ l)) (map-append entry_of (take stands.came log) (drop stands.came log))
-      ∙ ap state_of (sym (append_assoc (definition_entries stands.defs) (map entry_of (take stands.came log)) (map entry_of (drop stands.came log))))
-      ∙ state_from-append (definition_entries stands.defs ++ map entry_of (take stands.came log)) (map entry_of (drop stands.came log)) no_tables
-      ∙ ap (λ (x : List Entry). option_and_then (state_from (map entry_of (drop stands.came log))) (state_of x)) (sym stands.is)
-  by_state : (o : Option TableState) → state_of h ≡ o → (s : TableState) × (state_of h ≡ Some s) × (s.schema ≡ stands.defs)
-  by_state None e =
-      let p : ◌≡◌ {A = Option TableState} None (Some stands.base) =
-          sym (ap (option_and_then (state_from (map entry_of (drop stands.came log)))) e) ∙ sym parted ∙ stands.all in
-      absurd (none_some p)
-    where
-    none_some : ◌≡◌ {A = Option TableState} None (Some stands.base) → ⊥
-    none_some x = Prim.cc
-  by_state (Some s) e = (s, e, schema_after stands.defs (take stands.came log) no_tables s (ap state_of (sym stands.is) ∙ e))
+    parted : state_of (definition_entries stands.defs ++ map entry_of log) ≡ option_and_then (state_from (map entry_of (drop stands.came log))) (state_of h)
+    parted =
+        ap (λ (l : List Sealed). state_of (definition_entries stands.defs ++ map entry_of l)) (sym (take-append-drop stands.came log))
+        ∙ ap (λ (l : List Entry). state_of (definition_entries stands.defs ++ l)) (map-append entry_of (take stands.came log) (drop stands.came log))
+        ∙ ap state_of (sym (append_assoc (definition_entries stands.defs) (map entry_of (take stands.came log)) (map entry_of (drop stands.came log))))
+        ∙ state_from-append (definition_entries stands.defs ++ map entry_of (take stands.came log)) (map entry_of (drop stands.came log)) no_tables
+        ∙ ap (λ (x : List Entry). option_and_then (state_from (map entry_of (drop stands.came log))) (state_of x)) (sym stands.is)
+
+    by_state : (o : Option TableState) → state_of h ≡ o → (s : TableState) × (state_of h ≡ Some s) × (s.schema ≡ stands.defs)
+    by_state None e =
+        let p : ◌≡◌ {A = Option TableState} None (Some stands.base) =
+        sym (ap (option_and_then (state_from (map entry_of (drop stands.came log)))) e) ∙ sym parted ∙ stands.all in
+        absurd (none_some p)
+      where
+        none_some : ◌≡◌ {A = Option TableState} None (Some stands.base) → ⊥
+        none_some x = Prim.cc
+    by_state (Some s) e = (s, e, schema_after stands.defs (take stands.came log) no_tables s (ap state_of (sym stands.is) ∙ e))
 
 -- only what is known of the schema changed
 pub record OnlyKnown (old new : Tier) : Type 0 where
@@ -136,7 +137,7 @@ stands_known t t' log h s x knows = record {
   base = s.base;
   all = s.all;
   rows = subst (λ (gs : List Group). KeepsRows gs (own_in t'.session) s.defs log s.base) (sym x.groups)
-      (subst (λ (o : Option Session). KeepsRows t.groups.items (own_in o) s.defs log s.base) (sym x.session) s.rows)
+      (subst (λ (o : Option Session). KeepsRows t.groups.items (own_in o) s.defs log s.base) (sym x.session) s.rows);
 }
 
 -- the question was answered
@@ -149,17 +150,17 @@ asks_made t t' log held schema before now faults faults' moment moment' e told_n
     let front = defined_front t log held.history stands in
     let defs : schema ≡ stands.defs = c.history.1 front.0 (ap state_of same ∙ front.1) ∙ front.2 in
     let here : StandsFor t' log held.history =
-        stands_known t t' log held.history stands x (subst (λ (o : Option (List TableDef)). IfSome o (λ y. y ≡ stands.defs)) (sym known) defs)
+    stands_known t t' log held.history stands x (subst (λ (o : Option (List TableDef)). IfSome o (λ y. y ≡ stands.defs)) (sym known) defs)
     in
     let state : tier_state t' log c.held.history ≡ told (Ok schema) (tier_state t log held.history) =
-        λ i. record {
-          known = known i;
-          groups = map (group_state (unwrap_or (virtual_state (same i) log) no_tables)) (x.groups i);
-          session = option_map session_state (x.session i);
-          log = log;
-          unsettled = x.unsettled i;
-          next = x.next i
-        }
+    λ i. record {
+      known = known i;
+      groups = map (group_state (unwrap_or (virtual_state (same i) log) no_tables)) (x.groups i);
+      session = option_map session_state (x.session i);
+      log = log;
+      unsettled = x.unsettled i;
+      next = x.next i;
+    }
     in
     record {
       log' = log;
@@ -167,15 +168,15 @@ asks_made t t' log held schema before now faults faults' moment moment' e told_n
       tells = c.tells;
       slots = c.slots;
       stands = subst (λ (h : List Entry). StandsFor t' log h) (sym same) here;
-      made = (Ok schema, record { tier = state; history = c.history; on = record { faults = more; moment = later } }, refl)
+      made = (Ok schema, record { tier = state; history = c.history; on = record { faults = more; moment = later } }, refl);
     }
 
 take_none : (n : ℕ) (log : List Sealed) → log ≡ [] → map entry_of (take n log) ≡ []
 take_none n log e = ap (λ l. map entry_of (take n l)) e ∙ none n
   where
-  none : (n : ℕ) → map entry_of (take n []) ≡ []
-  none zero = refl
-  none (suc n) = refl
+    none : (n : ℕ) → map entry_of (take n []) ≡ []
+    none zero = refl
+    none (suc n) = refl
 
 -- there is no table yet, so there is no group
 no_group : (gs : List Group) (own : List Op) (defs : List TableDef) (log : List Sealed) (base : TableState) → defs ≡ [] → KeepsRows gs own defs log base → (gs ≡ []) × (own ≡ []) × (log ≡ [])
@@ -206,7 +207,7 @@ stands_defined t t' log h def s unknown x knows =
       single = Prim.omega arith;
       base = one_table def empty;
       all = ap (λ (l : List Sealed). state_of (definition_entries (def ∷ []) ++ map entry_of l)) bare.2;
-      rows = subst (λ (gs : List Group). KeepsRows gs (own_in t'.session) (def ∷ []) log (one_table def empty)) (sym (x.groups ∙ bare.0)) (ap own_in x.session ∙ bare.1, bare.2)
+      rows = subst (λ (gs : List Group). KeepsRows gs (own_in t'.session) (def ∷ []) log (one_table def empty)) (sym (x.groups ∙ bare.0)) (ap own_in x.session ∙ bare.1, bare.2);
     }
 
 -- without a group the state doesn't depend on the history
@@ -214,8 +215,8 @@ state_bare : (t t' : Tier) (log : List Sealed) (h h' : List Entry) → t.groups.
     → tier_state t' log h' ≡ record (tier_state t log h) { known = known }
 state_bare t t' log h h' none x known e =
     let groups : (tier_state t' log h').groups ≡ (tier_state t log h).groups =
-        ap (λ (gs : List Group). map (group_state (unwrap_or (virtual_state h' log) no_tables)) gs) (x.groups ∙ none)
-        ∙ sym (ap (λ (gs : List Group). map (group_state (unwrap_or (virtual_state h log) no_tables)) gs) none)
+    ap (λ (gs : List Group). map (group_state (unwrap_or (virtual_state h' log) no_tables)) gs) (x.groups ∙ none)
+    ∙ sym (ap (λ (gs : List Group). map (group_state (unwrap_or (virtual_state h log) no_tables)) gs) none)
     in
     λ i. record { known = e i; groups = groups i; session = option_map session_state (x.session i); log = log; unsettled = x.unsettled i; next = x.next i }
 
@@ -248,8 +249,8 @@ creates_made t t' log held def reply result known before now faults faults' mome
         tier = state_bare t t' log held.history c.held.history (bare_groups t log held.history stands unknown) x known is_known ∙ after;
         history = c.history;
         on = record { faults = more; moment = later };
-        answer = answer
-      }
+        answer = answer;
+      };
     }
 
 pub came_stands : (t t' : Tier) (log : List Sealed) (h : List Entry) (def : TableDef) → t.known ≡ Some [] → OnlyKnown t t' → IfSome t'.known (λ schema. schema ≡ def ∷ []) → StandsFor t log h
@@ -272,10 +273,10 @@ pub came_made : (t t' : Tier) (log : List Sealed) (held : Held) (def : TableDef)
     → Made now faults faults' moment moment' t t' log held (λ w w'. Creates def w w' reply ⊎ WantsMemory w w' reply)
 came_made t t' log held def schema reply before now faults faults' moment moment' e told_now more later unknown known one x answer stands =
     let after : ◌≡◌ {A = TierState} (record (tier_state t log held.history) { known = Some schema }) (known_after def (Ok tt) (tier_state t log held.history)) =
-        ap (λ (o : Option (List TableDef)). let y : TierState = record (tier_state t log held.history) { known = o } in y) (ap Some one ∙ sym (ap (option_map (λ (l : List TableDef). l ++ def ∷ [])) unknown))
+    ap (λ (o : Option (List TableDef)). let y : TierState = record (tier_state t log held.history) { known = o } in y) (ap Some one ∙ sym (ap (option_map (λ (l : List TableDef). l ++ def ∷ [])) unknown))
     in
     or_memory _ _ (creates_made t t' log held def reply (Ok tt) (Some schema) before now faults faults' moment moment' e told_now more later unknown known x refl after
-        (came_stands t t' log held.history def unknown x (subst (λ (o : Option (List TableDef)). IfSome o (λ y. y ≡ def ∷ [])) (sym known) one) stands) answer stands)
+    (came_stands t t' log held.history def unknown x (subst (λ (o : Option (List TableDef)). IfSome o (λ y. y ≡ def ∷ [])) (sym known) one) stands) answer stands)
 
 -- the call failed
 pub failed_made : (t t' : Tier) (log : List Sealed) (held : Held) (def : TableDef) (reply : Reply) (before now : Option Held) (faults faults' moment moment' : ℕ)
@@ -284,20 +285,21 @@ pub failed_made : (t t' : Tier) (log : List Sealed) (held : Held) (def : TableDe
     → Made now faults faults' moment moment' t t' log held (λ w w'. Creates def w w' reply ⊎ WantsMemory w w' reply)
 failed_made t t' log held def reply before now faults faults' moment moment' e told_now more later unknown none x answer stands =
     or_memory _ _ (creates_made t t' log held def reply (Err Failed) None before now faults faults' moment moment' e told_now more later unknown none x refl refl
-        (failed_stands t t' log held.history def unknown x none stands) answer stands)
+    (failed_stands t t' log held.history def unknown x none stands) answer stands)
 
 -- a table is made only where there is none
 pub defined_first : (d : TableDeclaration) (schema : List TableDef) (def : TableDef) → defined_by d schema ≡ Some def → schema ≡ []
 defined_first d schema def e = by_length schema (by_bool (is_none (fault_of d schema) && is_none (limit_of (resolved d schema) schema)) (nat_eq (length schema) 0) e)
   where
-  by_bool : (a b : Bool) → cond {A = Option TableDef} (a && b) (Some (resolved d schema)) None ≡ Some def → b ≡ true
-  by_bool true true p = refl
-  by_bool true false p = Prim.cc
-  by_bool false true p = refl
-  by_bool false false p = Prim.cc
-  by_length : (l : List TableDef) → nat_eq (length l) 0 ≡ true → l ≡ []
-  by_length [] p = refl
-  by_length (x ∷ l) p = let q : suc (length l) ≡ 0 = eqb-true (suc (length l)) 0 p in absurd (Prim.omega (arith, q))
+    by_bool : (a b : Bool) → cond {A = Option TableDef} (a && b) (Some (resolved d schema)) None ≡ Some def → b ≡ true
+    by_bool true true p = refl
+    by_bool true false p = Prim.cc
+    by_bool false true p = refl
+    by_bool false false p = Prim.cc
+
+    by_length : (l : List TableDef) → nat_eq (length l) 0 ≡ true → l ≡ []
+    by_length [] p = refl
+    by_length (x ∷ l) p = let q : suc (length l) ≡ 0 = eqb-true (suc (length l)) 0 p in absurd (Prim.omega (arith, q))
 
 -- CREATE TABLE of a definition that may be made
 pub does_made : (t t' : Tier) (log : List Sealed) (held : Held) (d : TableDeclaration) (schema : List TableDef) (def : TableDef) (reply : Reply) (now : Option Held) (faults faults' moment moment' : ℕ)
@@ -308,6 +310,6 @@ does_made t t' log held d schema def reply now faults faults' moment moment' kno
     let w = world_of t log held.history faults moment in
     let w' = world_of t' m.log' m.held'.history faults' moment' in
     let does : Creates def w w' reply → DoesDefine d t.known w w' reply =
-        λ c. subst (λ (o : Option (List TableDef)). DoesDefine d o w w' reply) (sym known) (subst (λ (o : Option TableDef). CreatesTable o w w' reply) (sym may) c)
+    λ c. subst (λ (o : Option (List TableDef)). DoesDefine d o w w' reply) (sym known) (subst (λ (o : Option TableDef). CreatesTable o w w' reply) (sym may) c)
     in
     record { log' = m.log'; held' = m.held'; tells = m.tells; slots = m.slots; stands = m.stands; made = elim m.made [ inl c ↦ inl (does c) | inr x ↦ inr x ] }

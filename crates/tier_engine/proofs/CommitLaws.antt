@@ -35,9 +35,9 @@ has_definitions t (def ∷ defs) = has_definitions t defs
 pub nat_eq_other : (a b : ℕ) → (a ≡ b → ⊥) → nat_eq a b ≡ false
 nat_eq_other a b differ = by_test (nat_eq a b) refl
   where
-  by_test : (r : Bool) → nat_eq a b ≡ r → nat_eq a b ≡ false
-  by_test true e = absurd (differ (eqb-true a b e))
-  by_test false e = e
+    by_test : (r : Bool) → nat_eq a b ≡ r → nat_eq a b ≡ false
+    by_test true e = absurd (differ (eqb-true a b e))
+    by_test false e = e
 
 pub nat_eq_same : (a : ℕ) → nat_eq a a ≡ true
 nat_eq_same a = eq-eqb a a refl
@@ -67,29 +67,29 @@ pending_front h low zero log high none rise =
     let same : h ++ [] ≡ h = append_nil h in
     ap (λ x. pending x log) same ∙ all_pending h low log high none rise
   where
-  append_nil : (xs : List Entry) → xs ++ [] ≡ xs
-  append_nil [] = refl
-  append_nil (x ∷ xs) = ap (λ l. x ∷ l) (append_nil xs)
+    append_nil : (xs : List Entry) → xs ++ [] ≡ xs
+    append_nil [] = refl
+    append_nil (x ∷ xs) = ap (λ l. x ∷ l) (append_nil xs)
 pending_front h low (suc n) [] high none rise = refl
 pending_front h low (suc n) (s ∷ log) high none rise =
     let whole = h ++ (entry_of s ∷ map entry_of (take n log)) in
     let here : has_ticket s.ticket.0 whole ≡ true =
-        has_ticket-append s.ticket.0 h (entry_of s ∷ map entry_of (take n log))
-        ∙ ap (λ b. has_ticket s.ticket.0 h || (b || has_ticket s.ticket.0 (map entry_of (take n log)))) (nat_eq_same s.ticket.0)
-        ∙ or_true (has_ticket s.ticket.0 h)
+    has_ticket-append s.ticket.0 h (entry_of s ∷ map entry_of (take n log))
+    ∙ ap (λ b. has_ticket s.ticket.0 h || (b || has_ticket s.ticket.0 (map entry_of (take n log)))) (nat_eq_same s.ticket.0)
+    ∙ or_true (has_ticket s.ticket.0 h)
     in
     let next : (t : ℕ) → s.ticket.0 + 1 ≤ t → has_ticket t (h ++ entry_of s ∷ []) ≡ false =
-        λ t l.
-          let first : low ≤ s.ticket.0 = rise.0 in
-          let l' : s.ticket.0 + 1 ≤ t = l in
-          let above : low ≤ t = Prim.omega arith in
-          has_ticket-append t h (entry_of s ∷ [])
-          ∙ ap (λ b. b || (nat_eq s.ticket.0 t || false)) (none t above)
-          ∙ ap (λ b. b || false) (nat_eq_other s.ticket.0 t (λ e. Prim.omega arith))
+    λ t l.
+    let first : low ≤ s.ticket.0 = rise.0 in
+    let l' : s.ticket.0 + 1 ≤ t = l in
+    let above : low ≤ t = Prim.omega arith in
+    has_ticket-append t h (entry_of s ∷ [])
+    ∙ ap (λ b. b || (nat_eq s.ticket.0 t || false)) (none t above)
+    ∙ ap (λ b. b || false) (nat_eq_other s.ticket.0 t (λ e. Prim.omega arith))
     in
     let rest : pending whole log ≡ drop n log =
-        ap (λ x. pending x log) (sym (append_assoc h (entry_of s ∷ []) (map entry_of (take n log))))
-        ∙ pending_front (h ++ entry_of s ∷ []) (s.ticket.0 + 1) n log high next rise.1
+    ap (λ x. pending x log) (sym (append_assoc h (entry_of s ∷ []) (map entry_of (take n log))))
+    ∙ pending_front (h ++ entry_of s ∷ []) (s.ticket.0 + 1) n log high next rise.1
     in
     ap (λ b. cond (not b) (s ∷ pending whole log) (pending whole log)) here ∙ rest
 
@@ -118,7 +118,7 @@ virtual_whole defs low n log high rise =
     let front = definition_entries defs ++ map entry_of (take n log) in
     let waiting : pending front log ≡ drop n log = pending_front (definition_entries defs) low n log high (λ t l. has_definitions t defs) rise in
     let parted : map entry_of (take n log) ++ map entry_of (drop n log) ≡ map entry_of log =
-        sym (map-append entry_of (take n log) (drop n log)) ∙ ap (map entry_of) (take-append-drop n log)
+    sym (map-append entry_of (take n log) (drop n log)) ∙ ap (map entry_of) (take-append-drop n log)
     in
     ap (λ l. option_and_then (applied_sealed l) (state_of front)) waiting
     ∙ by_option (applied_sealed (drop n log)) (state_from (map entry_of (drop n log))) (λ s. applied_sealed-state_from (drop n log) s) (state_of front)
@@ -134,9 +134,9 @@ state_push front log s =
     ∙ state_from-append (front ++ map entry_of log) (entry_of s ∷ []) no_tables
     ∙ by_option (state_from (entry_of s ∷ [])) (applied_all s.ops) (λ x. once_more (applied_all s.ops x)) (state_of (front ++ map entry_of log))
   where
-  once_more : (o : Option TableState) → option_and_then (state_from []) o ≡ o
-  once_more None = refl
-  once_more (Some x) = refl
+    once_more : (o : Option TableState) → option_and_then (state_from []) o ≡ o
+    once_more None = refl
+    once_more (Some x) = refl
 
 -- tickets of a rising log stand in its history once
 pub once_rising : (low : ℕ) (log : List Sealed) (high : ℕ) → RiseBetween low log high → Once (map entry_of log)
@@ -152,8 +152,8 @@ pub rise_take : (n low : ℕ) (log : List Sealed) (high : ℕ) → RiseBetween l
 rise_take zero low [] high rise = rise
 rise_take zero low (s ∷ log) high rise = rise_least low (s ∷ log) high rise
   where
-  rise_least : (low : ℕ) (log : List Sealed) (high : ℕ) → RiseBetween low log high → low ≤ high
-  rise_least low [] high rise = rise
-  rise_least low (s ∷ log) high rise = let more : s.ticket.0 + 1 ≤ high = rise_least (s.ticket.0 + 1) log high rise.1 in let first : low ≤ s.ticket.0 = rise.0 in Prim.omega arith
+    rise_least : (low : ℕ) (log : List Sealed) (high : ℕ) → RiseBetween low log high → low ≤ high
+    rise_least low [] high rise = rise
+    rise_least low (s ∷ log) high rise = let more : s.ticket.0 + 1 ≤ high = rise_least (s.ticket.0 + 1) log high rise.1 in let first : low ≤ s.ticket.0 = rise.0 in Prim.omega arith
 rise_take (suc n) low [] high rise = rise
 rise_take (suc n) low (s ∷ log) high rise = (rise.0, rise_take n (s.ticket.0 + 1) log high rise.1)

@@ -49,9 +49,9 @@ key_set_insert table k row = set.same_set key_total key_exact (set.insert (key_s
     (λ q. set.contains-insert key_total (key_set table) k q ∙ ap (λ b. eq_by_cmp key_order q k || b) (has_key_set table q)
     ∙ sym (has_key_set (insert table k row) q ∙ ap is_some (get-insert key_total table k row q) ∙ by_bool (eq_by_cmp key_order q k) (get table q)))
   where
-  by_bool : (b : Bool) (o : Option (List Value)) → is_some (cond b (Some row) o) ≡ (b || is_some o)
-  by_bool true o = refl
-  by_bool false o = refl
+    by_bool : (b : Bool) (o : Option (List Value)) → is_some (cond b (Some row) o) ≡ (b || is_some o)
+    by_bool true o = refl
+    by_bool false o = refl
 
 some_same : {X : Type 0} {a b : X} → Some a ≡ Some b → a ≡ b
 some_same {X} {a} {b} e = ap (λ o. unwrap_or o a) e
@@ -68,13 +68,15 @@ at_place def x row n =
 inserted_at : (def : TableDef) (x : Table) (row : List Value) (n : ℕ) (s : TableState) → at_place def x row n ≡ Some s → (n ≡ 0) × (s ≡ one_table def (insert x (key_of def.primary_key row) row))
 inserted_at def x row zero s e = (refl, by_test _ e)
   where
-  new : Table
-  new = insert x (key_of def.primary_key row) row
-  as_state : Table → TableState
-  as_state t = record { schema = def ∷ []; tables = t ∷ [] }
-  by_test : (b : Bool) → option_map as_state (only_if b new) ≡ Some s → s ≡ as_state new
-  by_test true p = Prim.cc
-  by_test false p = Prim.cc
+    new : Table
+    new = insert x (key_of def.primary_key row) row
+
+    as_state : Table → TableState
+    as_state t = record { schema = def ∷ []; tables = t ∷ [] }
+
+    by_test : (b : Bool) → option_map as_state (only_if b new) ≡ Some s → s ≡ as_state new
+    by_test true p = Prim.cc
+    by_test false p = Prim.cc
 inserted_at def x row (suc n) s e = Prim.cc
 
 inserted_one : (def : TableDef) (x : Table) (table : TableId) (row : List Value) (s : TableState) → applied (Insert table row) (one_table def x) ≡ Some s
@@ -98,9 +100,8 @@ keys_follow : (g : GroupState) (first : g.table.0 ≡ 0) (own : List Op) (x : Ta
     → keys_after g own (key_set x) ≡ key_set rows
 keys_follow g first [] x rows are e = ap key_set same
   where
-  same : x ≡ rows
-  same = let p : ◌≡◌ {A = Option TableState} (Some (one_table g.def x)) (Some (one_table g.def rows)) = e in let q : x ∷ [] ≡ rows ∷ [] = ap (λ (s : TableState). s.tables) (some_same p) in ap (table_in x) q
-    
+    same : x ≡ rows
+    same = let p : ◌≡◌ {A = Option TableState} (Some (one_table g.def x)) (Some (one_table g.def rows)) = e in let q : x ∷ [] ≡ rows ∷ [] = ap (λ (s : TableState). s.tables) (some_same p) in ap (table_in x) q
 keys_follow g first (Insert table row ∷ own) x rows are e =
     by_state g first table row own x rows (λ x' p. keys_follow g first own x' rows are p) (applied (Insert table row) (one_table g.def x)) refl e
 keys_follow g first (Update table old new ∷ own) x rows are e = absurd are
@@ -133,30 +134,30 @@ sealed_one t t' log h reply g s stands one opened k some room ticket x =
     let ss = session_state s in
     let longer : length log' ≡ length log + 1 = length-append log (new ∷ []) in
     let all' : state_of (definition_entries stands.defs ++ map entry_of log') ≡ Some base' =
-        state_push (definition_entries stands.defs) log new ∙ ap (option_and_then (applied_all s.own)) stands.all ∙ k.over
+    state_push (definition_entries stands.defs) log new ∙ ap (option_and_then (applied_all s.own)) stands.all ∙ k.over
     in
     let groups' : t'.groups.items ≡ g ∷ [] = x.groups ∙ one in
     let keeps : KeepsOne g [] stands.defs base' = record { first = k.first; alone = k.alone; defined = k.defined; inserts = tt; committed = g.rows; below = refl; over = refl } in
     let within' : stands.came ≤ length log' = let w : stands.came ≤ length log = stands.within in Prim.omega arith in
     let stands' : StandsFor t' log' h = record {
-          rise = subst (λ n. RiseBetween 1 log' n) (sym x.next) (rise_push 1 log new t.next stands.rise refl);
-          last = let n : t'.next ≡ t.next + 1 = x.next in Prim.omega arith;
-          defs = stands.defs;
-          came = stands.came;
-          received = stands.received;
-          is = stands.is ∙ ap (λ l. definition_entries stands.defs ++ map entry_of l) (sym (append_take stands.came log (new ∷ []) stands.within));
-          within = within';
-          at_least = stands.at_least;
-          at_most = stands.at_most;
-          rest = x.unsettled ∙ ap (λ l. l ++ new ∷ []) stands.rest
-              ∙ sym (drop-append-le stands.received log (new ∷ []) (let a : stands.received ≤ stands.came = stands.at_least in let b : stands.came ≤ length log = stands.within in Prim.omega arith));
-          knows = subst (λ (o : Option (List TableDef)). IfSome o (λ schema. schema ≡ stands.defs)) (sym x.known) stands.knows;
-          single = stands.single;
-          base = base';
-          all = all';
-          rows = subst (λ (gs : List Group). KeepsRows gs (own_in t'.session) stands.defs log' base') (sym groups')
-              (subst (λ (o : Option Session). KeepsRows (g ∷ []) (own_in o) stands.defs log' base') (sym x.session) keeps)
-        }
+      rise = subst (λ n. RiseBetween 1 log' n) (sym x.next) (rise_push 1 log new t.next stands.rise refl);
+      last = let n : t'.next ≡ t.next + 1 = x.next in Prim.omega arith;
+      defs = stands.defs;
+      came = stands.came;
+      received = stands.received;
+      is = stands.is ∙ ap (λ l. definition_entries stands.defs ++ map entry_of l) (sym (append_take stands.came log (new ∷ []) stands.within));
+      within = within';
+      at_least = stands.at_least;
+      at_most = stands.at_most;
+      rest = x.unsettled ∙ ap (λ l. l ++ new ∷ []) stands.rest
+          ∙ sym (drop-append-le stands.received log (new ∷ []) (let a : stands.received ≤ stands.came = stands.at_least in let b : stands.came ≤ length log = stands.within in Prim.omega arith));
+      knows = subst (λ (o : Option (List TableDef)). IfSome o (λ schema. schema ≡ stands.defs)) (sym x.known) stands.knows;
+      single = stands.single;
+      base = base';
+      all = all';
+      rows = subst (λ (gs : List Group). KeepsRows gs (own_in t'.session) stands.defs log' base') (sym groups')
+          (subst (λ (o : Option Session). KeepsRows (g ∷ []) (own_in o) stands.defs log' base') (sym x.session) keeps);
+    }
     in
     let base_state : (tier_state t log h).groups ≡ group_state stands.base g ∷ [] = one_group t log h stands g one in
     let rows_state : (tier_state t' log' h).groups ≡ group_state base' g ∷ [] = one_group t' log' h stands' g groups' in
@@ -164,17 +165,17 @@ sealed_one t t' log h reply g s stands one opened k some room ticket x =
     let over_rows : table_at base' g.table ≡ g.rows = first_table g k.first in
     let over : applied_all s.own (one_table g.def k.committed) ≡ Some (one_table g.def g.rows) = ap (applied_all s.own) (sym k.below) ∙ k.over in
     let follow : keys_after (group_state stands.base g) s.own (key_set (table_at stands.base g.table)) ≡ key_set (table_at base' g.table) =
-        ap (λ y. keys_after (group_state stands.base g) s.own (key_set y)) below_rows
-        ∙ keys_follow (group_state stands.base g) k.first s.own k.committed g.rows k.inserts over
-        ∙ ap key_set (sym over_rows)
+    ap (λ y. keys_after (group_state stands.base g) s.own (key_set y)) below_rows
+    ∙ keys_follow (group_state stands.base g) k.first s.own k.committed g.rows k.inserts over
+    ∙ ap key_set (sym over_rows)
     in
     let groups_after : (tier_state t' log' h).groups ≡ map (group_after s.own) st.groups =
-        rows_state
-        ∙ ap (λ ks. let y : GroupState = record { name = g.name; table = g.table; def = g.def; keys = ks } in y ∷ []) (sym follow)
-        ∙ sym (ap (map (group_after s.own)) base_state)
+    rows_state
+    ∙ ap (λ ks. let y : GroupState = record { name = g.name; table = g.table; def = g.def; keys = ks } in y ∷ []) (sym follow)
+    ∙ sym (ap (map (group_after s.own)) base_state)
     in
     let after : tier_state t' log' h ≡ committed st ss =
-        λ i. record { known = x.known i; groups = groups_after i; session = option_map session_state (x.session i); log = log'; unsettled = x.unsettled i; next = x.next i }
+    λ i. record { known = x.known i; groups = groups_after i; session = option_map session_state (x.session i); log = log'; unsettled = x.unsettled i; next = x.next i }
     in
     let open_state : st.session ≡ Some ss = ap (option_map session_state) opened in
     let answer : commit_answer st ss ≡ (committed st ss, only (Done t.next)) = commits st ss some room ticket in
@@ -182,13 +183,14 @@ sealed_one t t' log h reply g s stands one opened k some room ticket x =
       log' = log';
       stands = stands';
       made = λ faults moment.
-        let w = world_of t log h faults moment in
-        let w' = world_of t' log' h faults moment in
-        let quiet : Quiet w (commit_answer st ss) w' reply =
-            (ap (λ (y : TierState). let z : World = record { tier = y; history = h; bank_faults = faults; moment = moment } in z) (after ∙ sym (ap (λ (a : Answer). a.0) answer)),
-            x.told ∙ sym (ap (λ (a : Answer). a.1) answer))
-        in
-        subst (λ (o : Option SessionState). ForSession o statement.Commit w w' reply) (sym open_state) quiet
+          let w = world_of t log h faults moment in
+          let w' = world_of t' log' h faults moment in
+          let quiet : Quiet w (commit_answer st ss) w' reply = (
+            ap (λ (y : TierState). let z : World = record { tier = y; history = h; bank_faults = faults; moment = moment } in z) (after ∙ sym (ap (λ (a : Answer). a.0) answer)),
+            x.told ∙ sym (ap (λ (a : Answer). a.1) answer),
+          )
+          in
+          subst (λ (o : Option SessionState). ForSession o statement.Commit w w' reply) (sym open_state) quiet;
     }
 
 -- by the groups that there are

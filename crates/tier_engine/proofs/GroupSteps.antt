@@ -47,7 +47,7 @@ with_found t name (Some found) = (record t { groups = t.groups ++ record { name 
 
 by_test : (t : TierState) (name : List ℕ) (table : TableId) (def : TableDef) (b : Bool)
     → cond b (let a : Answer = (record t { groups = t.groups ++ record { name = name; table = table; def = def; keys = set.empty } ∷ [] }, only (Done 0)) in a) (t, refused)
-        ≡ with_found t name (cond b (Some (table, def)) None)
+    ≡ with_found t name (cond b (Some (table, def)) None)
 by_test t name table def true = refl
 by_test t name table def false = refl
 
@@ -82,8 +82,8 @@ pub record IsFound (known : Option (List TableDef)) (table : TableId) (def : Tab
 no_key : (d : CreateGroup) (x : TableDef) → describes d.table x ≡ true → x.foreign_key ≡ None
 no_key d x e =
     is_none_is x.foreign_key
-        (and_last (same_columns (resolved d.table []).columns x.columns && pointwise nat_eq (resolved d.table []).primary_key x.primary_key && is_none (resolved d.table []).foreign_key) (is_none x.foreign_key)
-            (and_last (is_none (fault_of d.table [])) (same_table (resolved d.table []) x) e))
+    (and_last (same_columns (resolved d.table []).columns x.columns && pointwise nat_eq (resolved d.table []).primary_key x.primary_key && is_none (resolved d.table []).foreign_key) (is_none x.foreign_key)
+    (and_last (is_none (fault_of d.table [])) (same_table (resolved d.table []) x) e))
 
 found_if : (d : CreateGroup) (schema : List TableDef) (t : TableId) (x : TableDef) (table : TableId) (def : TableDef) → slice_get schema t.0 ≡ Some x
     → (b : Bool) → (is_asynchronous d.kind && is_none d.autorefresh && describes d.table x) ≡ b → cond {A = Option (TableId × TableDef)} b (Some (t, x)) None ≡ Some (table, def) → IsFound (Some schema) table def
@@ -95,7 +95,7 @@ found_if d schema t x table def there true is p =
       schema = schema;
       knows = refl;
       there = ap (λ (y : TableId). slice_get schema y.0) (sym same_table) ∙ there ∙ ap Some same_def;
-      alone = ap (λ (y : TableDef). y.foreign_key) (sym same_def) ∙ no_key d x whole
+      alone = ap (λ (y : TableDef). y.foreign_key) (sym same_def) ∙ no_key d x whole;
     }
 found_if d schema t x table def there false is p = Prim.cc
 
@@ -134,27 +134,27 @@ added_one t t' log h d table def reply (Some s) stands none opened some k e x =
     let one = one_def stands.defs table.0 def stands.single (ap (λ (l : List TableDef). slice_get l table.0) (sym schema) ∙ f.there) in
     let groups' : t'.groups.items ≡ g ∷ [] = x.groups ∙ ap (λ (l : List Group). l ++ g ∷ []) none in
     let fresh : state_of (definition_entries stands.defs ++ map entry_of log) ≡ Some (one_table def empty) =
-        ap (λ (l : List Sealed). state_of (definition_entries stands.defs ++ map entry_of l)) k.1 ∙ ap (λ (l : List TableDef). state_of (definition_entries l ++ [])) one.1
+    ap (λ (l : List Sealed). state_of (definition_entries stands.defs ++ map entry_of l)) k.1 ∙ ap (λ (l : List TableDef). state_of (definition_entries l ++ [])) one.1
     in
     let below : stands.base ≡ one_table def empty = ap (λ o. unwrap_or o stands.base) (sym stands.all ∙ fresh) in
     let keeps : KeepsOne g (own_in t'.session) stands.defs stands.base = subst (λ (own : List Op). KeepsOne g own stands.defs stands.base) (sym (ap own_in x.session ∙ k.0))
-        (record { first = one.0; alone = f.alone; defined = one.1; inserts = tt; committed = empty; below = below; over = ap Some below })
+    (record { first = one.0; alone = f.alone; defined = one.1; inserts = tt; committed = empty; below = below; over = ap Some below })
     in
     let stands' : StandsFor t' log h =
-        stands_with t t' log h stands x.known x.unsettled x.next (subst (λ (gs : List Group). KeepsRows gs (own_in t'.session) stands.defs log stands.base) (sym groups') keeps)
+    stands_with t t' log h stands x.known x.unsettled x.next (subst (λ (gs : List Group). KeepsRows gs (own_in t'.session) stands.defs log stands.base) (sym groups') keeps)
     in
     let no_groups : st.groups ≡ [] = ap (λ (gs : List Group). map (group_state (unwrap_or (virtual_state h log) no_tables)) gs) none in
     let table_empty : table_at stands.base table ≡ empty =
-        ap (λ (y : TableState). table_at y table) below ∙ ap (λ n. unwrap_or {T = Table} (slice_get {X = Table} (empty ∷ []) n) empty) one.0
+    ap (λ (y : TableState). table_at y table) below ∙ ap (λ n. unwrap_or {T = Table} (slice_get {X = Table} (empty ∷ []) n) empty) one.0
     in
     let groups_after : (tier_state t' log h).groups ≡ st.groups ++ record { name = d.name; table = table; def = def; keys = set.empty } ∷ [] =
-        ap (λ (gs : List Group). map (group_state (unwrap_or (virtual_state h log) no_tables)) gs) groups'
-        ∙ ap (λ o. group_state (unwrap_or o no_tables) g ∷ []) (virtual_base t log h stands)
-        ∙ ap (λ ks. let y : GroupState = record { name = d.name; table = table; def = def; keys = ks } in y ∷ []) (ap key_set table_empty ∙ no_keys)
-        ∙ sym (ap (λ (l : List GroupState). l ++ record { name = d.name; table = table; def = def; keys = set.empty } ∷ []) no_groups)
+    ap (λ (gs : List Group). map (group_state (unwrap_or (virtual_state h log) no_tables)) gs) groups'
+    ∙ ap (λ o. group_state (unwrap_or o no_tables) g ∷ []) (virtual_base t log h stands)
+    ∙ ap (λ ks. let y : GroupState = record { name = d.name; table = table; def = def; keys = ks } in y ∷ []) (ap key_set table_empty ∙ no_keys)
+    ∙ sym (ap (λ (l : List GroupState). l ++ record { name = d.name; table = table; def = def; keys = set.empty } ∷ []) no_groups)
     in
     let after : tier_state t' log h ≡ record st { groups = st.groups ++ record { name = d.name; table = table; def = def; keys = set.empty } ∷ [] } =
-        λ i. record { known = x.known i; groups = groups_after i; session = option_map session_state (x.session i); log = log; unsettled = x.unsettled i; next = x.next i }
+    λ i. record { known = x.known i; groups = groups_after i; session = option_map session_state (x.session i); log = log; unsettled = x.unsettled i; next = x.next i }
     in
     let open_state : st.session ≡ Some ss = ap (option_map session_state) opened in
     let answer : group_answer st d st.known ≡ with_found st d.name (Some (table, def)) = answers st d st.known (ap length no_groups) ∙ ap (with_found st d.name) e in
@@ -162,13 +162,14 @@ added_one t t' log h d table def reply (Some s) stands none opened some k e x =
       log' = log;
       stands = stands';
       made = λ faults moment.
-        let w = world_of t log h faults moment in
-        let w' = world_of t' log h faults moment in
-        let quiet : Quiet w (group_answer st d st.known) w' reply =
-            (ap (λ (y : TierState). let z : World = record { tier = y; history = h; bank_faults = faults; moment = moment } in z) (after ∙ sym (ap (λ (a : Answer). a.0) answer)),
-            x.told ∙ sym (ap (λ (a : Answer). a.1) answer))
-        in
-        subst (λ (o : Option SessionState). ForSession o (statement.CreateGroup d) w w' reply) (sym open_state) quiet
+          let w = world_of t log h faults moment in
+          let w' = world_of t' log h faults moment in
+          let quiet : Quiet w (group_answer st d st.known) w' reply = (
+            ap (λ (y : TierState). let z : World = record { tier = y; history = h; bank_faults = faults; moment = moment } in z) (after ∙ sym (ap (λ (a : Answer). a.0) answer)),
+            x.told ∙ sym (ap (λ (a : Answer). a.1) answer),
+          )
+          in
+          subst (λ (o : Option SessionState). ForSession o (statement.CreateGroup d) w w' reply) (sym open_state) quiet;
     }
 
 pub adds_turns : (t t' : Tier) (log : List Sealed) (h : List Entry) (d : CreateGroup) (table : TableId) (def : TableDef) (reply : Reply)
@@ -182,9 +183,9 @@ adds_turns t t' log h d table def reply none some e x stands =
       | inr y ↦ memory_turns t t' log h reply _ y.1 y.0 stands
     ]
   where
-  no_length : (gs : List Group) → length gs ≡ 0 → gs ≡ []
-  no_length [] e = refl
-  no_length (g ∷ gs) e = absurd (Prim.omega (arith, e))
+    no_length : (gs : List Group) → length gs ≡ 0 → gs ≡ []
+    no_length [] e = refl
+    no_length (g ∷ gs) e = absurd (Prim.omega (arith, e))
 
 -- nothing is described
 refused_by : (t : Tier) (log : List Sealed) (h : List Entry) (d : CreateGroup) (reply : Reply) (o : Option Session) → length t.groups.items ≡ 0 → t.session ≡ o → described t.known d ≡ None → reply ≡ refused
@@ -193,9 +194,10 @@ refused_by t log h d reply None none opened e told faults moment = (refl, told)
 refused_by t log h d reply (Some s) none opened e told faults moment =
     let st = tier_state t log h in
     let no_groups : length st.groups ≡ 0 = length-map t.groups.items (group_state (unwrap_or (virtual_state h log) no_tables)) ∙ none in
-    let answer : group_answer st d st.known ≡ (st, refused) = answers st d st.known no_groups ∙ ap (with_found st d.name) e in
-    (ap (λ (y : TierState). let z : World = record { tier = y; history = h; bank_faults = faults; moment = moment } in z) (sym (ap (λ (a : Answer). a.0) answer)),
-    told ∙ sym (ap (λ (a : Answer). a.1) answer))
+    let answer : group_answer st d st.known ≡ (st, refused) = answers st d st.known no_groups ∙ ap (with_found st d.name) e in (
+      ap (λ (y : TierState). let z : World = record { tier = y; history = h; bank_faults = faults; moment = moment } in z) (sym (ap (λ (a : Answer). a.0) answer)),
+      told ∙ sym (ap (λ (a : Answer). a.1) answer),
+    )
 
 pub undescribed_turns : (t : Tier) (log : List Sealed) (h : List Entry) (d : CreateGroup) (reply : Reply) → length t.groups.items ≡ 0 → described t.known d ≡ None → reply ≡ refused → StandsFor t log h
     → Turns t t log h (λ w w'. ForSession w.tier.session (statement.CreateGroup d) w w' reply ⊎ WantsMemory w w' reply)

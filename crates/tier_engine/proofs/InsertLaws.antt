@@ -48,9 +48,9 @@ inserted g row first alone fits fresh =
     let s = one_table g.def g.rows in
     let new = insert g.rows (key_of g.def.primary_key row) row in
     let goes : with_row s row g.def g.rows ≡ Some new =
-        ap (λ b. only_if (b && not (contains_key g.rows (key_of g.def.primary_key row)) && has_parent s g.def.foreign_key row) new) fits
-        ∙ ap (λ b. only_if (not b && has_parent s g.def.foreign_key row) new) fresh
-        ∙ ap (λ f. only_if (has_parent s f row) new) alone
+    ap (λ b. only_if (b && not (contains_key g.rows (key_of g.def.primary_key row)) && has_parent s g.def.foreign_key row) new) fits
+    ∙ ap (λ b. only_if (not b && has_parent s g.def.foreign_key row) new) fresh
+    ∙ ap (λ f. only_if (has_parent s f row) new) alone
     in
     ap (λ (n : ℕ). option_and_then (λ def. option_and_then (λ table. option_map (λ t. let r : TableState = record { schema = s.schema; tables = slice_set s.tables n t } in r) (with_row s row def table)) (slice_get s.tables n)) (slice_get s.schema n)) first
     ∙ ap (λ o. option_map (λ t. let r : TableState = record { schema = s.schema; tables = slice_set s.tables 0 t } in r) o) goes
@@ -75,16 +75,16 @@ row_keeps g own defs log base row fits k =
     let P : Stored → Type 0 = λ x. KeepsRows (x.0 ∷ []) x.1 defs log base in
     let new = insert g.rows (key_of g.def.primary_key row) row in
     by_test P (contains_key g.rows (key_of g.def.primary_key row)) (g, own, key_taken g.def row) (record g { rows = new }, own ++ Insert g.table row ∷ [], only (Done 1)) (λ e. k)
-        (λ e. record {
-          first = k.first;
-          alone = k.alone;
-          defined = k.defined;
-          inserts = inserts_more own g.table row k.inserts;
-          committed = k.committed;
-          below = k.below;
-          over = applied_all-append own (Insert g.table row ∷ []) base ∙ ap (option_and_then (applied_all (Insert g.table row ∷ []))) k.over
-              ∙ ap (option_and_then (applied_all [])) (inserted g row k.first k.alone fits e)
-        })
+    (λ e. record {
+      first = k.first;
+      alone = k.alone;
+      defined = k.defined;
+      inserts = inserts_more own g.table row k.inserts;
+      committed = k.committed;
+      below = k.below;
+      over = applied_all-append own (Insert g.table row ∷ []) base ∙ ap (option_and_then (applied_all (Insert g.table row ∷ []))) k.over
+          ∙ ap (option_and_then (applied_all [])) (inserted g row k.first k.alone fits e);
+    })
 
 -- the stored group and writes stand for the same with the row
 pub insert_keeps : (g : Group) (own : List Op) (defs : List TableDef) (log : List Sealed) (base : TableState) (o : Option (List Value))
@@ -93,9 +93,9 @@ insert_keeps g own defs log base None k = k
 insert_keeps g own defs log base (Some row) k =
     let P : Stored → Type 0 = λ x. KeepsRows (x.0 ∷ []) x.1 defs log base in
     by_test P (not (fits_columns g.def.columns row)) _ _ (λ e. k)
-        (λ fit. by_test P (not (nat_lt (length own) (greatest limit.Operations))) _ _ (λ e. k)
-            (λ e. by_test P (not (nat_lt (len g.rows) (greatest limit.Rows))) _ _ (λ e. k)
-                (λ e. row_keeps g own defs log base row (not_false _ fit) k)))
+    (λ fit. by_test P (not (nat_lt (length own) (greatest limit.Operations))) _ _ (λ e. k)
+    (λ e. by_test P (not (nat_lt (len g.rows) (greatest limit.Rows))) _ _ (λ e. k)
+    (λ e. row_keeps g own defs log base row (not_false _ fit) k)))
 
 own_stays : (t : TierState) (s : SessionState) → t.session ≡ Some s → t ≡ with_own t s s.own
 own_stays t s e = ap (λ (o : Option SessionState). let t' : TierState = record t { session = o } in t') e
@@ -109,10 +109,10 @@ insert_answers t s base g (Some row) state same at =
     let f : Stored → Answer = λ x. (with_own t s x.1, x.2) in
     let stays : (r : Reply) → ◌≡◌ {A = Answer} (t, r) (with_own t s s.own, r) = λ r. ap (λ (t' : TierState). let a : Answer = (t', r) in a) (own_stays t s same) in
     by_same_test f (not (fits_columns g.def.columns row)) _ _ _ _ (λ e. stays refused)
-        (λ e. by_same_test f (not (nat_lt (length s.own) (greatest limit.Operations))) _ _ _ _ (λ e. stays refused)
-            (λ e. ap (λ (table : Table). if not (nat_lt (len table) (greatest limit.Rows)) then (t, refused) else insert_row t s (group_state base g) row table) at
-                ∙ by_same_test f (not (nat_lt (len g.rows) (greatest limit.Rows))) _ _ _ _ (λ e. stays refused)
-                    (λ e. by_same_test f (contains_key g.rows (key_of g.def.primary_key row)) _ _ _ _ (λ e. stays (key_taken g.def row)) (λ e. refl))))
+    (λ e. by_same_test f (not (nat_lt (length s.own) (greatest limit.Operations))) _ _ _ _ (λ e. stays refused)
+    (λ e. ap (λ (table : Table). if not (nat_lt (len table) (greatest limit.Rows)) then (t, refused) else insert_row t s (group_state base g) row table) at
+    ∙ by_same_test f (not (nat_lt (len g.rows) (greatest limit.Rows))) _ _ _ _ (λ e. stays refused)
+    (λ e. by_same_test f (contains_key g.rows (key_of g.def.primary_key row)) _ _ _ _ (λ e. stays (key_taken g.def row)) (λ e. refl))))
 
 -- the group is the same but for its rows
 pub store_same : (base : TableState) (g : Group) (own : List Op) (o : Option (List Value)) → group_state base (store_values g own o).0 ≡ group_state base g
@@ -120,6 +120,6 @@ store_same base g own None = refl
 store_same base g own (Some row) =
     let P : Stored → Type 0 = λ x. group_state base x.0 ≡ group_state base g in
     by_test P (not (fits_columns g.def.columns row)) _ _ (λ e. refl)
-        (λ fit. by_test P (not (nat_lt (length own) (greatest limit.Operations))) _ _ (λ e. refl)
-            (λ e. by_test P (not (nat_lt (len g.rows) (greatest limit.Rows))) _ _ (λ e. refl)
-                (λ e. by_test P (contains_key g.rows (key_of g.def.primary_key row)) _ _ (λ e. refl) (λ e. refl))))
+    (λ fit. by_test P (not (nat_lt (length own) (greatest limit.Operations))) _ _ (λ e. refl)
+    (λ e. by_test P (not (nat_lt (len g.rows) (greatest limit.Rows))) _ _ (λ e. refl)
+    (λ e. by_test P (contains_key g.rows (key_of g.def.primary_key row)) _ _ (λ e. refl) (λ e. refl))))

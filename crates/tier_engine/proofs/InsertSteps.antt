@@ -52,43 +52,44 @@ stored_one t t' log h name literals reply g s stands one opened named k x =
     let base = stands.base in
     let groups' : t'.groups.items ≡ g' ∷ [] = x.groups ∙ ap (λ (gs : List Group). slice_set gs 0 g') one in
     let keeps : KeepsRows t'.groups.items (own_in t'.session) stands.defs log base =
-        subst (λ (gs : List Group). KeepsRows gs (own_in t'.session) stands.defs log base) (sym groups')
-            (subst (λ (o : Option Session). KeepsRows (g' ∷ []) (own_in o) stands.defs log base) (sym x.session) (insert_keeps g s.own stands.defs log base values k))
+    subst (λ (gs : List Group). KeepsRows gs (own_in t'.session) stands.defs log base) (sym groups')
+    (subst (λ (o : Option Session). KeepsRows (g' ∷ []) (own_in o) stands.defs log base) (sym x.session) (insert_keeps g s.own stands.defs log base values k))
     in
     let state' : tier_state t' log h ≡ record st { groups = map (group_state (unwrap_or (virtual_state h log) no_tables)) (g' ∷ []); session = Some (record { label = s.label; own = own' }) } =
-        state_with t t' log h x.known x.unsettled x.next (g' ∷ []) (Some (record { label = s.label; own = own' })) groups' x.session
+    state_with t t' log h x.known x.unsettled x.next (g' ∷ []) (Some (record { label = s.label; own = own' })) groups' x.session
     in
     let same_groups : map (group_state (unwrap_or (virtual_state h log) no_tables)) (g' ∷ []) ≡ st.groups =
-        ap (λ o. group_state (unwrap_or o no_tables) g' ∷ []) (virtual_base t log h stands) ∙ ap (λ (y : GroupState). y ∷ []) (store_same base g s.own values) ∙ sym (one_group t log h stands g one)
+    ap (λ o. group_state (unwrap_or o no_tables) g' ∷ []) (virtual_base t log h stands) ∙ ap (λ (y : GroupState). y ∷ []) (store_same base g s.own values) ∙ sym (one_group t log h stands g one)
     in
     let after : tier_state t' log h ≡ with_own st ss own' =
-        state' ∙ ap (λ (gs : List GroupState). let y : TierState = record st { groups = gs; session = Some (record { label = s.label; own = own' }) } in y) same_groups
+    state' ∙ ap (λ (gs : List GroupState). let y : TierState = record st { groups = gs; session = Some (record { label = s.label; own = own' }) } in y) same_groups
     in
     let state = one_table g.def g.rows in
     let open_state : st.session ≡ Some ss = ap (option_map session_state) opened in
     let answer : insert_answer st ss (group_state base g) literals state ≡ (with_own st ss own', (store_values g s.own values).2) =
-        insert_answers st ss base g values state open_state (first_table g k.first)
+    insert_answers st ss base g values state open_state (first_table g k.first)
     in
     let sees : seen st s.own h ≡ Some state =
-        ap (λ o. seen st (own_in o) h) (sym opened)
-        ∙ sees_rows t log h stands g one (subst (λ (o : Option Session). KeepsRows (g ∷ []) (own_in o) stands.defs log base) (sym opened) k)
+    ap (λ o. seen st (own_in o) h) (sym opened)
+    ∙ sees_rows t log h stands g one (subst (λ (o : Option Session). KeepsRows (g ∷ []) (own_in o) stands.defs log base) (sym opened) k)
     in
     let found : group_of_table st.groups name ≡ Some (group_state base g) =
-        ap (λ (gs : List GroupState). group_of_table gs name) (one_group t log h stands g one) ∙ ap (λ b. cond b (Some (group_state base g)) None) named
+    ap (λ (gs : List GroupState). group_of_table gs name) (one_group t log h stands g one) ∙ ap (λ b. cond b (Some (group_state base g)) None) named
     in
     record {
       log' = log;
       stands = stands_with t t' log h stands x.known x.unsettled x.next keeps;
       made = λ faults moment.
-        let w = world_of t log h faults moment in
-        let w' = world_of t' log h faults moment in
-        let ins : Insert = record { table = name; values = literals } in
-        let quiet : Quiet w (insert_answer st ss (group_state base g) literals state) w' reply =
-            (ap (λ (y : TierState). let z : World = record { tier = y; history = h; bank_faults = faults; moment = moment } in z) (after ∙ sym (ap (λ (a : Answer). a.0) answer)),
-            x.told ∙ sym (ap (λ (a : Answer). a.1) answer))
-        in
-        subst (λ (o : Option SessionState). ForSession o (statement.Insert ins) w w' reply) (sym open_state)
-            (subst (λ (o : Option GroupState). Inserts ss o literals w w' reply) (sym found) (state, sees, quiet))
+          let w = world_of t log h faults moment in
+          let w' = world_of t' log h faults moment in
+          let ins : Insert = record { table = name; values = literals } in
+          let quiet : Quiet w (insert_answer st ss (group_state base g) literals state) w' reply = (
+            ap (λ (y : TierState). let z : World = record { tier = y; history = h; bank_faults = faults; moment = moment } in z) (after ∙ sym (ap (λ (a : Answer). a.0) answer)),
+            x.told ∙ sym (ap (λ (a : Answer). a.1) answer),
+          )
+          in
+          subst (λ (o : Option SessionState). ForSession o (statement.Insert ins) w w' reply) (sym open_state)
+          (subst (λ (o : Option GroupState). Inserts ss o literals w w' reply) (sym found) (state, sees, quiet));
     }
 
 pub named_first : (g : Group) (name : List ℕ) (place : ℕ) (b : Bool) → is_named g.def.name name ≡ b → place_named (g ∷ []) name ≡ Some place → (is_named g.def.name name ≡ true) × (place ≡ 0)
@@ -102,12 +103,12 @@ stored : (t t' : Tier) (log : List Sealed) (h : List Entry) (name : List ℕ) (l
     → Turns t t' log h (λ w w'. ForSession w.tier.session (statement.Insert (record { table = name; values = literals })) w w' reply)
 stored t t' log h name literals reply place gs None stands is opened some k p x = let e : true ≡ false = sym (ap is_none opened) ∙ some in absurd (true_false e)
   where
-  true_false : true ≡ false → ⊥
-  true_false e = Prim.cc
+    true_false : true ≡ false → ⊥
+    true_false e = Prim.cc
 stored t t' log h name literals reply place [] (Some s) stands is opened some k p x = absurd (none_some p)
   where
-  none_some : ◌≡◌ {A = Option ℕ} None (Some place) → ⊥
-  none_some e = Prim.cc
+    none_some : ◌≡◌ {A = Option ℕ} None (Some place) → ⊥
+    none_some e = Prim.cc
 stored t t' log h name literals reply place (g ∷ []) (Some s) stands is opened some k p x =
     let here = named_first g name place (is_named g.def.name name) refl p in
     let there : slice_get t.groups.items place ≡ Some g = ap (λ (l : List Group). slice_get l place) is ∙ ap (λ n. slice_get (g ∷ []) n) here.1 in
@@ -121,4 +122,4 @@ pub stores_turns : (t t' : Tier) (log : List Sealed) (h : List Entry) (name : Li
     → Turns t t' log h (λ w w'. ForSession w.tier.session (statement.Insert (record { table = name; values = literals })) w w' reply)
 stores_turns t t' log h name literals reply place values some p v x stands =
     stored t t' log h name literals reply place t.groups.items t.session stands refl refl some stands.rows p
-        (λ g s e f. subst (λ (o : Option (List Value)). Stores t t' place o reply g s) v (x g s e f))
+    (λ g s e f. subst (λ (o : Option (List Value)). Stores t t' place o reply g s) v (x g s e f))

@@ -25,11 +25,12 @@ AllStand (s ∷ ss) history = (has_ticket s.ticket.0 history ≡ true) × AllSta
 
 pub all_stand : (pre : List Entry) (log : List Sealed) → AllStand log (pre ++ map entry_of log)
 all_stand pre [] = tt
-all_stand pre (s ∷ log) =
-    (has_ticket-append s.ticket.0 pre (entry_of s ∷ map entry_of log)
-    ∙ ap (λ b. has_ticket s.ticket.0 pre || (b || has_ticket s.ticket.0 (map entry_of log))) (nat_eq_same s.ticket.0)
-    ∙ or_true (has_ticket s.ticket.0 pre),
-    subst (λ (h : List Entry). AllStand log h) (append_assoc pre (entry_of s ∷ []) (map entry_of log)) (all_stand (pre ++ entry_of s ∷ []) log))
+all_stand pre (s ∷ log) = (
+  has_ticket-append s.ticket.0 pre (entry_of s ∷ map entry_of log)
+      ∙ ap (λ b. has_ticket s.ticket.0 pre || (b || has_ticket s.ticket.0 (map entry_of log))) (nat_eq_same s.ticket.0)
+      ∙ or_true (has_ticket s.ticket.0 pre),
+  subst (λ (h : List Entry). AllStand log h) (append_assoc pre (entry_of s ∷ []) (map entry_of log)) (all_stand (pre ++ entry_of s ∷ []) log),
+)
 
 -- a ticket behind a rising front is at least the first
 least : (low : ℕ) (before : List Sealed) (s : Sealed) (ss : List Sealed) (high : ℕ) → RiseBetween low (before ++ s ∷ ss) high → low ≤ s.ticket.0
@@ -56,10 +57,11 @@ has_ops : (low : ℕ) (before : List Sealed) (n : ℕ) (log : List Sealed) (high
 has_ops low before zero log high rise = tt
 has_ops low before (suc n) [] high rise = tt
 has_ops low before (suc n) (s ∷ log) high rise =
-    let same : (before ++ s ∷ []) ++ log ≡ before ++ (s ∷ log) = append_assoc before (s ∷ []) log in
-    (are_ops low before s log high rise,
-    subst (λ (l : List Sealed). HasOps l (map entry_of (take n log))) same
-        (has_ops low (before ++ s ∷ []) n log high (subst (λ (l : List Sealed). RiseBetween low l high) (sym same) rise)))
+    let same : (before ++ s ∷ []) ++ log ≡ before ++ (s ∷ log) = append_assoc before (s ∷ []) log in (
+      are_ops low before s log high rise,
+      subst (λ (l : List Sealed). HasOps l (map entry_of (take n log))) same
+          (has_ops low (before ++ s ∷ []) n log high (subst (λ (l : List Sealed). RiseBetween low l high) (sym same) rise)),
+    )
 
 ops_behind_definitions : (log : List Sealed) (defs : List TableDef) (h : List Entry) → HasOps log h → HasOps log (definition_entries defs ++ h)
 ops_behind_definitions log [] h p = p
@@ -85,19 +87,20 @@ keeps_order conflict pre low before (suc n) [] high rise = tt
 keeps_order conflict pre low before (suc n) (s ∷ log) high rise =
     let same : (before ++ s ∷ []) ++ log ≡ before ++ (s ∷ log) = append_assoc before (s ∷ []) log in
     let front : pre ++ map entry_of (before ++ s ∷ []) ≡ (pre ++ map entry_of before) ++ entry_of s ∷ [] =
-        ap (λ l. pre ++ l) (map-append entry_of before (s ∷ [])) ∙ sym (append_assoc pre (map entry_of before) (entry_of s ∷ []))
-    in
-    (follows conflict low before s log high (pre ++ map entry_of before) rise (all_stand pre before),
-    subst (λ (h : List Entry). KeepsOrder conflict (before ++ s ∷ log) h (map entry_of (take n log))) front
-        (subst (λ (l : List Sealed). KeepsOrder conflict l (pre ++ map entry_of (before ++ s ∷ [])) (map entry_of (take n log))) same
-            (keeps_order conflict pre low (before ++ s ∷ []) n log high (subst (λ (l : List Sealed). RiseBetween low l high) (sym same) rise))))
+    ap (λ l. pre ++ l) (map-append entry_of before (s ∷ [])) ∙ sym (append_assoc pre (map entry_of before) (entry_of s ∷ []))
+    in (
+      follows conflict low before s log high (pre ++ map entry_of before) rise (all_stand pre before),
+      subst (λ (h : List Entry). KeepsOrder conflict (before ++ s ∷ log) h (map entry_of (take n log))) front
+          (subst (λ (l : List Sealed). KeepsOrder conflict l (pre ++ map entry_of (before ++ s ∷ [])) (map entry_of (take n log))) same
+          (keeps_order conflict pre low (before ++ s ∷ []) n log high (subst (λ (l : List Sealed). RiseBetween low l high) (sym same) rise))),
+    )
 
 order_behind_definitions : (conflict : Sealed → Sealed → Bool) (log : List Sealed) (front : List Entry) (defs : List TableDef) (h : List Entry)
     → KeepsOrder conflict log (front ++ definition_entries defs) h → KeepsOrder conflict log front (definition_entries defs ++ h)
 order_behind_definitions conflict log front [] h p = subst (λ (f : List Entry). KeepsOrder conflict log f h) (append_nil front) p
 order_behind_definitions conflict log front (def ∷ defs) h p =
     order_behind_definitions conflict log (front ++ Definition def ∷ []) defs h
-        (subst (λ (f : List Entry). KeepsOrder conflict log f h) (sym (append_assoc front (Definition def ∷ []) (definition_entries defs))) p)
+    (subst (λ (f : List Entry). KeepsOrder conflict log f h) (sym (append_assoc front (Definition def ∷ []) (definition_entries defs))) p)
 
 -- definitions and a front of a rising log are legal over it
 legal_front : (conflict : Sealed → Sealed → Bool) (defs : List TableDef) (low n : ℕ) (log : List Sealed) (high : ℕ) → RiseBetween low log high
@@ -107,7 +110,7 @@ legal_front conflict defs low n log high rise = record {
   ops = ops_behind_definitions log defs (map entry_of (take n log)) (has_ops low [] n log high rise);
   order = order_behind_definitions conflict log [] defs (map entry_of (take n log))
       (subst (λ (f : List Entry). KeepsOrder conflict log f (map entry_of (take n log))) (append_nil (definition_entries defs))
-          (keeps_order conflict (definition_entries defs) low [] n log high rise))
+      (keeps_order conflict (definition_entries defs) low [] n log high rise));
 }
 
 -- what a tier stands for is legal
@@ -128,6 +131,6 @@ others log (def ∷ defs) h = ap (λ l. Definition def ∷ l) (others log defs h
 pub ordered_whole : (defs : List TableDef) (log : List Sealed) → in_commit_order (definition_entries defs ++ map entry_of log) log ≡ state_of (definition_entries defs ++ map entry_of log)
 ordered_whole defs log =
     let alone : filter (is_other log) (definition_entries defs ++ map entry_of log) ≡ definition_entries defs =
-        others log defs (map entry_of log) ∙ ap (λ l. definition_entries defs ++ l) (none_other log log (all_stand [] log)) ∙ append_nil (definition_entries defs)
+    others log defs (map entry_of log) ∙ ap (λ l. definition_entries defs ++ l) (none_other log log (all_stand [] log)) ∙ append_nil (definition_entries defs)
     in
     ap (λ l. state_of (l ++ map entry_of log)) alone

@@ -64,8 +64,8 @@ clean_values : (t : TierState) (s : SessionState) (g : GroupState) (o : Option (
 clean_values t s g None state = clean_refused t
 clean_values t s g (Some row) state =
     by_if (not (fits_columns g.def.columns row)) _ _ (clean_refused t)
-        (by_if (not (nat_lt (length s.own) (greatest limit.Operations))) _ _ (clean_refused t)
-            (by_if (not (nat_lt (len (table_at state g.table)) (greatest limit.Rows))) _ _ (clean_refused t) (clean_row t s g row (table_at state g.table))))
+    (by_if (not (nat_lt (length s.own) (greatest limit.Operations))) _ _ (clean_refused t)
+    (by_if (not (nat_lt (len (table_at state g.table)) (greatest limit.Rows))) _ _ (clean_refused t) (clean_row t s g row (table_at state g.table))))
 
 clean_select : (t : TierState) (g : GroupState) (state : TableState) → IsClean (select_answer t g state)
 clean_select t g state = by_if (nat_lt (greatest limit.Answer) (len (table_at state g.table))) _ _ (clean_refused t) (λ x. Prim.cc x.last)
@@ -73,8 +73,8 @@ clean_select t g state = by_if (nat_lt (greatest limit.Answer) (len (table_at st
 clean_commit : (t : TierState) (s : SessionState) → IsClean (commit_answer t s)
 clean_commit t s =
     by_if (not (nat_lt 0 (length s.own))) _ _ (clean_done 0)
-        (by_if (not (nat_lt (length t.unsettled) (greatest limit.Pending))) _ _ (clean_refused t)
-            (by_if (not (nat_le t.next (greatest limit.Tickets))) _ _ (clean_refused t) (clean_done t.next)))
+    (by_if (not (nat_lt (length t.unsettled) (greatest limit.Pending))) _ _ (clean_refused t)
+    (by_if (not (nat_le t.next (greatest limit.Tickets))) _ _ (clean_refused t) (clean_done t.next)))
 
 -- a step with such an answer
 by_quiet : (w w' : World) (a : Answer) (reply : Reply) → IsClean a → Quiet w a w' reply → TellsBankFault reply → ⊥
@@ -90,36 +90,38 @@ pub group_tells : (d : CreateGroup) (reply : Reply) (w w' : World) → ForSessio
 group_tells d reply w w' (inr q) = by_memory w w' reply q
 group_tells d reply w w' (inl q) = by_session w.tier.session q
   where
-  by_session : (o : Option SessionState) → ForSession o (statement.CreateGroup d) w w' reply → TellsBankFault reply → ⊥
-  by_session None p = by_quiet w w' (w.tier, refused) reply no_refusal p
-  by_session (Some s) p = by_quiet w w' (group_answer w.tier d w.tier.known) reply (clean_group w.tier d w.tier.known) p
+    by_session : (o : Option SessionState) → ForSession o (statement.CreateGroup d) w w' reply → TellsBankFault reply → ⊥
+    by_session None p = by_quiet w w' (w.tier, refused) reply no_refusal p
+    by_session (Some s) p = by_quiet w w' (group_answer w.tier d w.tier.known) reply (clean_group w.tier d w.tier.known) p
 
 pub commit_tells : (reply : Reply) (w w' : World) → ForSession w.tier.session statement.Commit w w' reply ⊎ WantsMemory w w' reply → TellsBankFault reply → ⊥
 commit_tells reply w w' (inr q) = by_memory w w' reply q
 commit_tells reply w w' (inl q) = by_session w.tier.session q
   where
-  by_session : (o : Option SessionState) → ForSession o statement.Commit w w' reply → TellsBankFault reply → ⊥
-  by_session None p = by_quiet w w' (w.tier, refused) reply no_refusal p
-  by_session (Some s) p = by_quiet w w' (commit_answer w.tier s) reply (clean_commit w.tier s) p
+    by_session : (o : Option SessionState) → ForSession o statement.Commit w w' reply → TellsBankFault reply → ⊥
+    by_session None p = by_quiet w w' (w.tier, refused) reply no_refusal p
+    by_session (Some s) p = by_quiet w w' (commit_answer w.tier s) reply (clean_commit w.tier s) p
 
 pub insert_tells : (i : OneInsert) (reply : Reply) (w w' : World) → ForSession w.tier.session (statement.Insert i) w w' reply ⊎ WantsMemory w w' reply → TellsBankFault reply → ⊥
 insert_tells i reply w w' (inr q) = by_memory w w' reply q
 insert_tells i reply w w' (inl q) = by_session w.tier.session q
   where
-  by_group : (s : SessionState) (o : Option GroupState) → Inserts s o i.values w w' reply → TellsBankFault reply → ⊥
-  by_group s None p = by_quiet w w' (w.tier, refused) reply no_refusal p
-  by_group s (Some g) p = by_quiet w w' (insert_answer w.tier s g i.values p.0) reply (clean_values w.tier s g (values_of i.values) p.0) p.2
-  by_session : (o : Option SessionState) → ForSession o (statement.Insert i) w w' reply → TellsBankFault reply → ⊥
-  by_session None p = by_quiet w w' (w.tier, refused) reply no_refusal p
-  by_session (Some s) p = by_group s (group_of_table w.tier.groups i.table) p
+    by_group : (s : SessionState) (o : Option GroupState) → Inserts s o i.values w w' reply → TellsBankFault reply → ⊥
+    by_group s None p = by_quiet w w' (w.tier, refused) reply no_refusal p
+    by_group s (Some g) p = by_quiet w w' (insert_answer w.tier s g i.values p.0) reply (clean_values w.tier s g (values_of i.values) p.0) p.2
+
+    by_session : (o : Option SessionState) → ForSession o (statement.Insert i) w w' reply → TellsBankFault reply → ⊥
+    by_session None p = by_quiet w w' (w.tier, refused) reply no_refusal p
+    by_session (Some s) p = by_group s (group_of_table w.tier.groups i.table) p
 
 pub select_tells : (i : OneSelect) (reply : Reply) (w w' : World) → ForSession w.tier.session (statement.Select i) w w' reply ⊎ WantsMemory w w' reply → TellsBankFault reply → ⊥
 select_tells i reply w w' (inr q) = by_memory w w' reply q
 select_tells i reply w w' (inl q) = by_session w.tier.session q
   where
-  by_group : (s : SessionState) (o : Option GroupState) → Selects s o w w' reply → TellsBankFault reply → ⊥
-  by_group s None p = by_quiet w w' (w.tier, refused) reply no_refusal p
-  by_group s (Some g) p = by_quiet w w' (select_answer w.tier g p.0) reply (clean_select w.tier g p.0) p.2
-  by_session : (o : Option SessionState) → ForSession o (statement.Select i) w w' reply → TellsBankFault reply → ⊥
-  by_session None p = by_quiet w w' (w.tier, refused) reply no_refusal p
-  by_session (Some s) p = by_group s (group_of_table w.tier.groups i.table) p
+    by_group : (s : SessionState) (o : Option GroupState) → Selects s o w w' reply → TellsBankFault reply → ⊥
+    by_group s None p = by_quiet w w' (w.tier, refused) reply no_refusal p
+    by_group s (Some g) p = by_quiet w w' (select_answer w.tier g p.0) reply (clean_select w.tier g p.0) p.2
+
+    by_session : (o : Option SessionState) → ForSession o (statement.Select i) w w' reply → TellsBankFault reply → ⊥
+    by_session None p = by_quiet w w' (w.tier, refused) reply no_refusal p
+    by_session (Some s) p = by_group s (group_of_table w.tier.groups i.table) p

@@ -177,6 +177,6 @@ first_differs (Some before) None old rest s fault e call is some held tells = ab
 first_differs (Some before) (Some after) old rest s fault e call is some held tells =
     let done : BankCall (Settles s (Err stop.Differs)) before after = subst (λ (f : RoundFault). BankCall (Settles s (Err f)) before after) is call in
     let same : before.history ≡ held.history =
-        sym (append-nil before.history) ∙ sym done.history.1 ∙ ap (λ (o : Option Held). (unwrap_or o after).history) tells
+    sym (append-nil before.history) ∙ sym done.history.1 ∙ ap (λ (o : Option Held). (unwrap_or o after).history) tells
     in
     subst (λ (l : List Sealed). FirstDiffers l held.history) (sym e) (subst (λ (h : List Entry). FirstDiffers (s ∷ rest) h) same done.history.0)

@@ -30,13 +30,15 @@ answered t gs state table e =
     ap (λ (x : Table). if nat_lt (greatest limit.Answer) (len x) then (t, refused) else (t, record { notes = []; rows = rows_bytes (values x); last = Done (len x) })) e
     ∙ by_bool (nat_lt (greatest limit.Answer) (len table))
   where
-  shown : Reply
-  shown = record { notes = []; rows = rows_bytes (values table); last = Done (len table) }
-  pair : Reply → Answer
-  pair r = (t, r)
-  by_bool : (b : Bool) → cond b (pair refused) (pair shown) ≡ pair (cond b refused shown)
-  by_bool true = refl
-  by_bool false = refl
+    shown : Reply
+    shown = record { notes = []; rows = rows_bytes (values table); last = Done (len table) }
+
+    pair : Reply → Answer
+    pair r = (t, r)
+
+    by_bool : (b : Bool) → cond b (pair refused) (pair shown) ≡ pair (cond b refused shown)
+    by_bool true = refl
+    by_bool false = refl
 
 selected_one : (t : Tier) (log : List Sealed) (h : List Entry) (name : List ℕ) (reply : Reply) (g : Group) (s : Session)
     → (stands : StandsFor t log h) → t.groups.items ≡ g ∷ [] → t.session ≡ Some s → is_named g.def.name name ≡ true → KeepsRows (g ∷ []) s.own stands.defs log stands.base
@@ -49,24 +51,25 @@ selected_one t log h name reply g s stands one opened named k told =
     let open_state : st.session ≡ Some ss = ap (option_map session_state) opened in
     let answer : select_answer st (group_state base g) state ≡ (st, select_rows g.rows) = answered st (group_state base g) state g.rows (first_table g k.first) in
     let sees : seen st s.own h ≡ Some state =
-        ap (λ o. seen st (own_in o) h) (sym opened)
-        ∙ sees_rows t log h stands g one (subst (λ (o : Option Session). KeepsRows (g ∷ []) (own_in o) stands.defs log base) (sym opened) k)
+    ap (λ o. seen st (own_in o) h) (sym opened)
+    ∙ sees_rows t log h stands g one (subst (λ (o : Option Session). KeepsRows (g ∷ []) (own_in o) stands.defs log base) (sym opened) k)
     in
     let found : group_of_table st.groups name ≡ Some (group_state base g) =
-        ap (λ (gs : List GroupState). group_of_table gs name) (one_group t log h stands g one) ∙ ap (λ b. cond b (Some (group_state base g)) None) named
+    ap (λ (gs : List GroupState). group_of_table gs name) (one_group t log h stands g one) ∙ ap (λ b. cond b (Some (group_state base g)) None) named
     in
     record {
       log' = log;
       stands = stands;
       made = λ faults moment.
-        let w = world_of t log h faults moment in
-        let sel : Select = record { table = name } in
-        let quiet : Quiet w (select_answer st (group_state base g) state) w reply =
-            (ap (λ (y : TierState). let z : World = record { tier = y; history = h; bank_faults = faults; moment = moment } in z) (sym (ap (λ (a : Answer). a.0) answer)),
-            told ∙ sym (ap (λ (a : Answer). a.1) answer))
-        in
-        subst (λ (o : Option SessionState). ForSession o (statement.Select sel) w w reply) (sym open_state)
-            (subst (λ (o : Option GroupState). Selects ss o w w reply) (sym found) (state, sees, quiet))
+          let w = world_of t log h faults moment in
+          let sel : Select = record { table = name } in
+          let quiet : Quiet w (select_answer st (group_state base g) state) w reply = (
+            ap (λ (y : TierState). let z : World = record { tier = y; history = h; bank_faults = faults; moment = moment } in z) (sym (ap (λ (a : Answer). a.0) answer)),
+            told ∙ sym (ap (λ (a : Answer). a.1) answer),
+          )
+          in
+          subst (λ (o : Option SessionState). ForSession o (statement.Select sel) w w reply) (sym open_state)
+          (subst (λ (o : Option GroupState). Selects ss o w w reply) (sym found) (state, sees, quiet));
     }
 
 selected : (t : Tier) (log : List Sealed) (h : List Entry) (name : List ℕ) (reply : Reply) (place : ℕ) (found : Group) (gs : List Group) (o : Option Session)
@@ -75,12 +78,12 @@ selected : (t : Tier) (log : List Sealed) (h : List Entry) (name : List ℕ) (re
     → Turns t t log h (λ w w'. ForSession w.tier.session (statement.Select (record { table = name })) w w' reply)
 selected t log h name reply place found gs None stands is opened some k p at told = let e : true ≡ false = sym (ap is_none opened) ∙ some in absurd (true_false e)
   where
-  true_false : true ≡ false → ⊥
-  true_false e = Prim.cc
+    true_false : true ≡ false → ⊥
+    true_false e = Prim.cc
 selected t log h name reply place found [] (Some s) stands is opened some k p at told = absurd (none_some p)
   where
-  none_some : ◌≡◌ {A = Option ℕ} None (Some place) → ⊥
-  none_some e = Prim.cc
+    none_some : ◌≡◌ {A = Option ℕ} None (Some place) → ⊥
+    none_some e = Prim.cc
 selected t log h name reply place found (g ∷ []) (Some s) stands is opened some k p at told =
     let here = named_first g name place (is_named g.def.name name) refl p in
     let same : Some g ≡ Some found = sym (ap (λ n. slice_get (g ∷ []) n) here.1) ∙ at in

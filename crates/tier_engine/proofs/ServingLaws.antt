@@ -46,7 +46,7 @@ pub quiet_statement : (before : Option Held) (faults moment : ℕ) (t t' : Tier)
     → ServesPart before before faults faults moment moment t t' reply (λ w w'. ForSession w.tier.session st w w' reply ⊎ WantsMemory w w' reply)
 quiet_statement before faults moment t t' reply st st' e turns clean =
     subst (λ (s : Stmt). ServesPart before before faults faults moment moment t t' reply (λ w w'. ForSession w.tier.session s w w' reply ⊎ WantsMemory w w' reply)) (sym e)
-        (quiet_serves before faults moment t t' reply (λ w w'. ForSession w.tier.session st' w w' reply ⊎ WantsMemory w w' reply) turns clean)
+    (quiet_serves before faults moment t t' reply (λ w w'. ForSession w.tier.session st' w w' reply ⊎ WantsMemory w w' reply) turns clean)
 
 -- The same statement.
 pub statement_as : (before now : Option Held) (f f' m m' : ℕ) (t t' : Tier) (reply : Reply) (st st' : Stmt) → st ≡ st'
@@ -87,7 +87,7 @@ was_asked now f f' m m' t t' log held b stop e x = record {
   tells = x.tells;
   slots = x.slots;
   stands = x.stands;
-  made = subst (λ c. AsksWhere c stop (world_of t log held.history f m) (world_of t' x.log' x.held'.history f' m')) (sym e) x.made
+  made = subst (λ c. AsksWhere c stop (world_of t log held.history f m) (world_of t' x.log' x.held'.history f' m')) (sym e) x.made;
 }
 
 -- The line asks nothing.
@@ -96,14 +96,14 @@ pub plain_part : (line : Line) (before now : Option Held) (f f' m m' : ℕ) (t t
     → ServesPart before now f f' m m' t t' reply (λ w w'. Parts line w w' reply)
 plain_part line before now f f' m m' t t' reply none part =
     part_as before now f f' m m' t t' reply (λ w w'. Does line w w' reply ⊎ WantsMemory w w' reply) (λ w w'. Parts line w w' reply)
-        (λ log h w' p. let w = world_of t log h f m in record {
-          due = w;
-          asked = w;
-          stop = None;
-          is_due = refl;
-          asks_first = subst (λ (b : Bool). MatchBool b ((answer : Result (List TableDef) BankError) × Asked answer w w × (◌≡◌ {A = Option Reply} None (stopped answer))) ((w ≡ w) × (◌≡◌ {A = Option Reply} None None))) (sym (none w.tier)) (refl, refl);
-          through = p
-        }) part
+    (λ log h w' p. let w = world_of t log h f m in record {
+      due = w;
+      asked = w;
+      stop = None;
+      is_due = refl;
+      asks_first = subst (λ (b : Bool). MatchBool b ((answer : Result (List TableDef) BankError) × Asked answer w w × (◌≡◌ {A = Option Reply} None (stopped answer))) ((w ≡ w) × (◌≡◌ {A = Option Reply} None None))) (sym (none w.tier)) (refl, refl);
+      through = p;
+    }) part
 
 -- The question failed, and the line ends with its fault.
 pub stopped_part : (line : Line) (before now : Option Held) (f f' m m' : ℕ) (t t' : Tier) (b : Bool) (fault : Reply)
@@ -119,7 +119,7 @@ stopped_part line before now f f' m m' t t' b fault same ask cause log held told
       tells = x.tells;
       slots = x.slots;
       stands = x.stands;
-      made = (record { due = w; asked = w'; stop = Some fault; is_due = refl; asks_first = subst (λ (c : Bool). AsksWhere c (Some fault) w w') (same log held.history) x.made; through = (refl, refl) }, cause)
+      made = (record { due = w; asked = w'; stop = Some fault; is_due = refl; asks_first = subst (λ (c : Bool). AsksWhere c (Some fault) w w') (same log held.history) x.made; through = (refl, refl) }, cause);
     }
 
 rose_later : (a b c : ℕ) → a ≤ b → Rose b c → Rose a c
@@ -141,7 +141,7 @@ through_part line before between after f f1 f2 m m1 m2 t mid t' b reply same ask
       tells = y.tells;
       slots = y.slots ∙ x.slots;
       stands = y.stands;
-      made = (record { due = w; asked = w1; stop = None; is_due = refl; asks_first = subst (λ (c : Bool). AsksWhere c None w w1) (same log held.history) x.made; through = y.made.0 }, λ z. rose_later f f1 f2 later (y.made.1 z))
+      made = (record { due = w; asked = w1; stop = None; is_due = refl; asks_first = subst (λ (c : Bool). AsksWhere c None w w1) (same log held.history) x.made; through = y.made.0 }, λ z. rose_later f f1 f2 later (y.made.1 z));
     }
 
 -- whether a table is cached is seen in the stored groups
@@ -149,31 +149,33 @@ pub cached_stored : (base : TableState) (gs : List Group) (name : List ℕ) → 
 cached_stored base [] name = refl
 cached_stored base (g ∷ gs) name = by_name (is_named g.def.name name) (cached_stored base gs name)
   where
-  mapped : (o : Option ℕ) → is_some (option_map suc o) ≡ is_some o
-  mapped None = refl
-  mapped (Some n) = refl
-  by_name : (b : Bool) → is_some (place_named gs name) ≡ is_some (group_of_table (map (group_state base) gs) name)
-      → is_some (cond b (Some 0) (option_map suc (place_named gs name))) ≡ is_some (cond b (Some (group_state base g)) (group_of_table (map (group_state base) gs) name))
-  by_name true later = refl
-  by_name false later = mapped (place_named gs name) ∙ later
+    mapped : (o : Option ℕ) → is_some (option_map suc o) ≡ is_some o
+    mapped None = refl
+    mapped (Some n) = refl
+
+    by_name : (b : Bool) → is_some (place_named gs name) ≡ is_some (group_of_table (map (group_state base) gs) name)
+        → is_some (cond b (Some 0) (option_map suc (place_named gs name))) ≡ is_some (cond b (Some (group_state base g)) (group_of_table (map (group_state base) gs) name))
+    by_name true later = refl
+    by_name false later = mapped (place_named gs name) ∙ later
 
 -- the session under its label
 pub session_here : (t : Tier) (log : List Sealed) (h : List Entry) (label : List ℕ) → is_some (session_of (tier_state t log h) label) ≡ true → session_of (tier_state t log h) label ≡ (tier_state t log h).session
 session_here t log h label e = by_session (tier_state t log h).session e
   where
-  by_name : (s : SessionState) (b : Bool) → is_some (cond b (Some s) None) ≡ true → cond b (Some s) None ≡ Some s
-  by_name s true p = refl
-  by_name s false p = Prim.cc
-  by_session : (o : Option SessionState) → is_some (option_and_then (λ s. cond (is_named s.label label) (Some s) None) o) ≡ true → option_and_then (λ s. cond (is_named s.label label) (Some s) None) o ≡ o
-  by_session None p = refl
-  by_session (Some s) p = by_name s (is_named s.label label) p
+    by_name : (s : SessionState) (b : Bool) → is_some (cond b (Some s) None) ≡ true → cond b (Some s) None ≡ Some s
+    by_name s true p = refl
+    by_name s false p = Prim.cc
+
+    by_session : (o : Option SessionState) → is_some (option_and_then (λ s. cond (is_named s.label label) (Some s) None) o) ≡ true → option_and_then (λ s. cond (is_named s.label label) (Some s) None) o ≡ o
+    by_session None p = refl
+    by_session (Some s) p = by_name s (is_named s.label label) p
 
 pub no_session : (t : Tier) (log : List Sealed) (h : List Entry) (label : List ℕ) → is_some (session_of (tier_state t log h) label) ≡ false → session_of (tier_state t log h) label ≡ None
 no_session t log h label e = by_option (session_of (tier_state t log h) label) e
   where
-  by_option : (o : Option SessionState) → is_some o ≡ false → o ≡ None
-  by_option None p = refl
-  by_option (Some s) p = Prim.cc
+    by_option : (o : Option SessionState) → is_some o ≡ false → o ≡ None
+    by_option None p = refl
+    by_option (Some s) p = Prim.cc
 
 -- flags
 pub and_left : (a b c : Bool) → a ≡ true → b ≡ c → b ≡ (a && c)
@@ -192,8 +194,8 @@ pub plain_quiet : (line : Line) (before : Option Held) (faults moment : ℕ) (t 
     → ServesPart before before faults faults moment moment t t' reply (λ w w'. Parts line w w' reply)
 plain_quiet line before faults moment t t' reply none turns clean =
     plain_part line before before faults faults moment moment t t' reply none
-        (part_as before before faults faults moment moment t t' reply (λ w w'. Does line w w' reply) (λ w w'. Does line w w' reply ⊎ WantsMemory w w' reply) (λ log h w' p. inl p)
-            (quiet_serves before faults moment t t' reply (λ w w'. Does line w w' reply) turns clean))
+    (part_as before before faults faults moment moment t t' reply (λ w w'. Does line w w' reply) (λ w w'. Does line w w' reply ⊎ WantsMemory w w' reply) (λ log h w' p. inl p)
+    (quiet_serves before faults moment t t' reply (λ w w'. Does line w w' reply) turns clean))
 
 -- The same line.
 pub parts_as : (before now : Option Held) (f f' m m' : ℕ) (t t' : Tier) (reply : Reply) (line line' : Line) → line ≡ line'
@@ -208,12 +210,12 @@ pub drain_part : (before now : Option Held) (f f' m m' : ℕ) (t t' : Tier) (rep
     → ServesPart before now f f' m m' t t' reply (λ w w'. ForSession w.tier.session (statement.Call call) w w' reply ⊎ WantsMemory w w' reply)
 drain_part before now f f' m m' t t' reply call opened is made cause =
     part_as before now f f' m m' t t' reply (λ w w'. Drains w w' reply) (λ w w'. ForSession w.tier.session (statement.Call call) w w' reply ⊎ WantsMemory w w' reply)
-        (λ log h w' d. inl (by_session (world_of t log h f m) w' t.session opened d))
-        (caused_serves before now f f' m m' t t' reply (λ w w'. Drains w w' reply) made cause)
+    (λ log h w' d. inl (by_session (world_of t log h f m) w' t.session opened d))
+    (caused_serves before now f f' m m' t t' reply (λ w w'. Drains w w' reply) made cause)
   where
-  by_session : (w w' : World) (o : Option Session) → is_none o ≡ false → Drains w w' reply → ForSession (option_map session_state o) (statement.Call call) w w' reply
-  by_session w w' None p d = Prim.cc
-  by_session w w' (Some s) p d = subst (λ b. MatchBool b (Drains w w' reply) (Quiet w (w.tier, refused) w' reply)) (sym is) d
+    by_session : (w w' : World) (o : Option Session) → is_none o ≡ false → Drains w w' reply → ForSession (option_map session_state o) (statement.Call call) w w' reply
+    by_session w w' None p d = Prim.cc
+    by_session w w' (Some s) p d = subst (λ b. MatchBool b (Drains w w' reply) (Quiet w (w.tier, refused) w' reply)) (sym is) d
 
 -- A statement under a label under which no session is open.
 pub closed_part : (before : Option Held) (f m : ℕ) (t : Tier) (reply : Reply) (st : Stmt) (label : List ℕ) → reply ≡ refused
@@ -227,7 +229,7 @@ closed_part before f m t reply st label e closed log held told stands =
       tells = told;
       slots = refl;
       stands = stands;
-      made = (inl (subst (λ (o : Option SessionState). ForSession o st w w reply) (sym (no_session t log held.history label (closed log held.history))) (refl, e)), λ b. absurd (no_refusal (subst TellsBankFault e b)))
+      made = (inl (subst (λ (o : Option SessionState). ForSession o st w w reply) (sym (no_session t log held.history label (closed log held.history))) (refl, e)), λ b. absurd (no_refusal (subst TellsBankFault e b)));
     }
 
 -- A statement under the label of the open session.
@@ -237,7 +239,7 @@ pub opened_part : (before now : Option Held) (f f' m m' : ℕ) (t t' : Tier) (re
     → ServesPart before now f f' m m' t t' reply (λ w w'. ForSession (session_of w.tier label) st w w' reply ⊎ WantsMemory w w' reply)
 opened_part before now f f' m m' t t' reply st label opened part =
     part_as before now f f' m m' t t' reply (λ w w'. ForSession w.tier.session st w w' reply ⊎ WantsMemory w w' reply) (λ w w'. ForSession (session_of w.tier label) st w w' reply ⊎ WantsMemory w w' reply)
-        (λ log h w' p. subst (λ (o : Option SessionState). ForSession o st (world_of t log h f m) w' reply ⊎ WantsMemory (world_of t log h f m) w' reply) (sym (session_here t log h label (opened log h))) p) part
+    (λ log h w' p. subst (λ (o : Option SessionState). ForSession o st (world_of t log h f m) w' reply ⊎ WantsMemory (world_of t log h f m) w' reply) (sym (session_here t log h label (opened log h))) p) part
 
 -- What a line says was served.
 pub heeds_part : (before now : Option Held) (f f' m m' : ℕ) (t t' : Tier) (reply : Reply) (bytes : List ℕ) (line : Line) → Means bytes (Says line)
@@ -275,5 +277,5 @@ line_served before now f f' m m' t t' reply bytes short later part log held told
       tells = x.tells;
       slots = x.slots;
       stands = x.stands;
-      made = (record { later = later; caused = x.made.1 }, subst (λ b. MatchBool b (Quiet w (w.tier, refused) w' reply) (Heeds w bytes w' reply)) (sym short) x.made.0)
+      made = (record { later = later; caused = x.made.1 }, subst (λ b. MatchBool b (Quiet w (w.tier, refused) w' reply) (Heeds w bytes w' reply)) (sym short) x.made.0);
     }

@@ -43,7 +43,7 @@ stands_with t t' log h s known unsettled next rows = record {
   single = s.single;
   base = s.base;
   all = s.all;
-  rows = rows
+  rows = rows;
 }
 
 -- the tier's state with other groups and another session
@@ -56,15 +56,15 @@ state_with t t' log h known unsettled next groups session gs ss = λ i. record {
   session = option_map session_state (ss i);
   log = log;
   unsettled = unsettled i;
-  next = next i
+  next = next i;
 }
 
 -- nothing changed
 pub same_stands : (t t' : Tier) (log : List Sealed) (h : List Entry) → IsSame t t' → StandsFor t log h → StandsFor t' log h
 same_stands t t' log h e s =
     stands_with t t' log h s e.known e.unsettled e.next
-        (subst (λ (gs : List Group). KeepsRows gs (own_in t'.session) s.defs log s.base) (sym e.groups)
-            (subst (λ (o : Option Session). KeepsRows t.groups.items (own_in o) s.defs log s.base) (sym e.session) s.rows))
+    (subst (λ (gs : List Group). KeepsRows gs (own_in t'.session) s.defs log s.base) (sym e.groups)
+    (subst (λ (o : Option Session). KeepsRows t.groups.items (own_in o) s.defs log s.base) (sym e.session) s.rows))
 
 pub same_state : (t t' : Tier) (log : List Sealed) (h : List Entry) → IsSame t t' → tier_state t' log h ≡ tier_state t log h
 same_state t t' log h e = state_with t t' log h e.known e.unsettled e.next t.groups.items t.session e.groups e.session
@@ -75,7 +75,7 @@ pub memory_turns : (t t' : Tier) (log : List Sealed) (h : List Entry) (reply : R
 memory_turns t t' log h reply P told e s = record {
   log' = log;
   stands = same_stands t t' log h e s;
-  made = λ faults moment. inr (ap (λ (x : TierState). let w : World = record { tier = x; history = h; bank_faults = faults; moment = moment } in w) (same_state t t' log h e), told)
+  made = λ faults moment. inr (ap (λ (x : TierState). let w : World = record { tier = x; history = h; bank_faults = faults; moment = moment } in w) (same_state t t' log h e), told);
 }
 
 -- what a session sees of the one table is what is stored
@@ -84,7 +84,7 @@ pub sees_rows : (t : Tier) (log : List Sealed) (h : List Entry) (s : StandsFor t
 sees_rows t log h s g one k =
     let base = virtual_base t log h s in
     let groups : (tier_state t log h).groups ≡ group_state s.base g ∷ [] =
-        ap (λ (gs : List Group). map (group_state (unwrap_or (virtual_state h log) no_tables)) gs) one ∙ ap (λ o. group_state (unwrap_or o no_tables) g ∷ []) base
+    ap (λ (gs : List Group). map (group_state (unwrap_or (virtual_state h log) no_tables)) gs) one ∙ ap (λ o. group_state (unwrap_or o no_tables) g ∷ []) base
     in
     ap (λ (gs : List GroupState). option_and_then (applied_all (own_in t.session)) (option_map (as_shown gs) (virtual_state h log))) groups
     ∙ ap (λ o. option_and_then (applied_all (own_in t.session)) (option_map (as_shown (group_state s.base g ∷ [])) o)) base

@@ -146,7 +146,7 @@ committed t s = record {
   session = Some (record { label = s.label; own = [] });
   log = t.log ++ sealed_own t s.own ∷ [];
   unsettled = t.unsettled ++ sealed_own t s.own ∷ [];
-  next = t.next + 1
+  next = t.next + 1;
 }
 
 -- COMMIT

@@ -49,7 +49,7 @@ tier_state t log history = record {
   session = option_map session_state t.session;
   log = log;
   unsettled = t.unsettled.items;
-  next = t.next
+  next = t.next;
 }
 
 abbrev pub definition_entries : List TableDef → List Entry

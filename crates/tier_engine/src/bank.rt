@@ -46,7 +46,12 @@ impl Tier {
     }
 
     /// CREATE TABLE on the console, where the schema is known.
-    pub fn create_table<P: Site>(&mut self, alloc: Global, site: &mut P, declaration: &TableDeclaration) -> Reply
+    pub fn create_table<P: Site>(
+        &mut self,
+        alloc: Global,
+        site: &mut P,
+        declaration: &TableDeclaration,
+    ) -> Reply
         ensures step { (log : List OneSealed) (held : Held) → P.Disk.held site.old ≡ Some held → StandsFor self.old log held.history → Made (P.Disk.held site.new) (P.bank_faults site.old) (P.bank_faults site.new) (P.Disk.moment site.old) (P.Disk.moment site.new) self.old self.new log held (λ w w'. DoesConsole (console.CreateTable declaration.now) w w' result ⊎ WantsMemory w w' result) }
         ensures later { P.bank_faults site.old ≤ P.bank_faults site.new }
         ensures cause { TellsBankFault result → Rose (P.bank_faults site.old) (P.bank_faults site.new) }
@@ -107,7 +112,11 @@ fn bank_fault(alloc: Global, error: BankError) -> Reply
 }
 
 /// The definition that CREATE TABLE makes; none where it breaks a rule or there is a table already.
-fn defined_by(alloc: Global, declaration: &TableDeclaration, schema: &BackingSchema) -> Result<Option<TableDef>, AllocError>
+fn defined_by(
+    alloc: Global,
+    declaration: &TableDeclaration,
+    schema: &BackingSchema,
+) -> Result<Option<TableDef>, AllocError>
     ensures { IfOk result (λ def. def ≡ defined_by declaration.now schema.now) }
 {
     match TableDef::check(alloc, declaration, schema) {

@@ -16,8 +16,8 @@ use crate::literal::literal_values;
 use crate::reply::Reply;
 use crate::select::select_rows;
 use crate::tier::{Group, Tier};
-use sql_subset::stmt::{Insert, Select};
 use row_types::Value;
+use sql_subset::stmt::{Insert, Select};
 use std::alloc::{AllocError, Global};
 use tier_base::{Code, Name};
 
@@ -48,7 +48,12 @@ impl Tier {
     }
 
     /// Stores a row of these values in the group at the place.
-    fn insert_at(&mut self, alloc: Global, place: usize, values: Option<Vec<Value>>) -> Result<Reply, AllocError>
+    fn insert_at(
+        &mut self,
+        alloc: Global,
+        place: usize,
+        values: Option<Vec<Value>>,
+    ) -> Result<Reply, AllocError>
         requires within { place < length self.old.groups.items }
         requires opened { IsSome self.old.session }
         ensures ok { IfOk result (λ reply. (g : OneGroup) (s : OneSession) → slice_get self.old.groups.items place ≡ Some g → self.old.session ≡ Some s → Stores self.old self.new place (option_map vec_items values) reply g s) }

@@ -37,7 +37,11 @@ impl Tier {
     }
 
     /// The backing table that the declaration of an asynchronous group describes, with its definition.
-    fn find_described(&self, alloc: Global, declaration: &CreateGroup) -> Result<Option<(TableId, TableDef)>, AllocError>
+    fn find_described(
+        &self,
+        alloc: Global,
+        declaration: &CreateGroup,
+    ) -> Result<Option<(TableId, TableDef)>, AllocError>
         ensures { IfOk result (λ found. found ≡ described self.now.known declaration.now) }
     {
         let schema = match &self.known {
@@ -89,7 +93,11 @@ fn is_asynchronous(kind: GroupKind) -> bool
 }
 
 /// Whether the declaration is of this backing table.
-fn describes(alloc: Global, declaration: &TableDeclaration, def: &TableDef) -> Result<bool, AllocError>
+fn describes(
+    alloc: Global,
+    declaration: &TableDeclaration,
+    def: &TableDef,
+) -> Result<bool, AllocError>
     ensures { IfOk result (λ does. does ≡ describes declaration.now def.now) }
 {
     match TableDef::check(alloc, declaration, &Seq::new(alloc)) {
@@ -116,7 +124,9 @@ fn same_columns(a: &[Column], b: &[Column]) -> bool
     match (a.split_first(), b.split_first()) {
         (None, None) => true,
         (Some((first, a)), Some((second, b))) => {
-            first.name.as_bytes() == second.name.as_bytes() && first.ty == second.ty && same_columns(a, b)
+            first.name.as_bytes() == second.name.as_bytes()
+                && first.ty == second.ty
+                && same_columns(a, b)
         }
         _ => false,
     }

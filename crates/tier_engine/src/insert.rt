@@ -19,7 +19,12 @@ use tier_base::{Code, Limit, TableId};
 /// Puts a row of these values into the group and behind the session's writes, where no rule is broken.
 ///
 /// Where memory is wanting both are as before.
-pub fn insert_values(alloc: Global, group: &mut Group, own: &mut Ops, values: Option<Vec<Value>>) -> Result<Reply, AllocError>
+pub fn insert_values(
+    alloc: Global,
+    group: &mut Group,
+    own: &mut Ops,
+    values: Option<Vec<Value>>,
+) -> Result<Reply, AllocError>
     ensures ok { IfOk result (λ reply. (group.new, own.new, reply) ≡ store_values group.old own.old (option_map vec_items values)) }
     ensures group { OnErr result (group.new ≡ group.old) }
     ensures own { OnErr result (own.new ≡ own.old) }
@@ -41,7 +46,12 @@ pub fn insert_values(alloc: Global, group: &mut Group, own: &mut Ops, values: Op
 }
 
 /// Puts a row that fits into the group and behind the session's writes, where its key is new.
-fn insert_row(alloc: Global, group: &mut Group, own: &mut Ops, row: Row) -> Result<Reply, AllocError>
+fn insert_row(
+    alloc: Global,
+    group: &mut Group,
+    own: &mut Ops,
+    row: Row,
+) -> Result<Reply, AllocError>
     ensures ok { IfOk result (λ reply. (group.new, own.new, reply) ≡ store_row group.old own.old row) }
     ensures group { OnErr result (group.new ≡ group.old) }
     ensures own { OnErr result (own.new ≡ own.old) }
@@ -67,7 +77,14 @@ fn key_taken(alloc: Global, def: &TableDef, key: Key) -> Result<Reply, AllocErro
 }
 
 /// Puts a row in at a new key, and its operation behind the others. Where memory is wanting both are as before.
-fn put_row(alloc: Global, rows: &mut Rows, own: &mut Ops, table: TableId, key: Key, row: Row) -> Result<(), AllocError>
+fn put_row(
+    alloc: Global,
+    rows: &mut Rows,
+    own: &mut Ops,
+    table: TableId,
+    key: Key,
+    row: Row,
+) -> Result<(), AllocError>
     requires { contains_key rows.old key ≡ false }
     ensures rows { OnOk result (rows.new ≡ insert rows.old key row) }
     ensures own { OnOk result (own.new ≡ own.old ++ InsertOf table row ∷ []) }

@@ -9,13 +9,13 @@ mod drain;
 mod insert;
 pub mod laws;
 mod literal;
+pub mod reply;
+pub mod request;
+pub mod rounds;
 mod select;
 mod serving;
 mod session;
 mod statement;
-pub mod reply;
-pub mod request;
-pub mod rounds;
 pub mod tier;
 
 pub use laws::{fault_law, legal_law};

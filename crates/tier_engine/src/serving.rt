@@ -46,7 +46,13 @@ impl Tier {
         }
     }
 
-    fn serve_request<P: Site>(&mut self, alloc: Global, site: &mut P, label: Label, request: Request) -> Reply
+    fn serve_request<P: Site>(
+        &mut self,
+        alloc: Global,
+        site: &mut P,
+        label: Label,
+        request: Request,
+    ) -> Reply
         ensures step { ServesPart (P.Disk.held site.old) (P.Disk.held site.new) (P.bank_faults site.old) (P.bank_faults site.new) (P.Disk.moment site.old) (P.Disk.moment site.new) self.old self.new result (λ w w'. Parts (says.Session label request) w w' result) }
         ensures later { P.bank_faults site.old ≤ P.bank_faults site.new }
     {
@@ -57,17 +63,32 @@ impl Tier {
         }
     }
 
-    fn serve_console<P: Site>(&mut self, alloc: Global, site: &mut P, request: ConsoleRequest) -> Reply
+    fn serve_console<P: Site>(
+        &mut self,
+        alloc: Global,
+        site: &mut P,
+        request: ConsoleRequest,
+    ) -> Reply
         ensures step { ServesPart (P.Disk.held site.old) (P.Disk.held site.new) (P.bank_faults site.old) (P.bank_faults site.new) (P.Disk.moment site.old) (P.Disk.moment site.new) self.old self.new result (λ w w'. Parts (says.Console request) w w' result) }
         ensures later { P.bank_faults site.old ≤ P.bank_faults site.new }
     {
         match request {
-            ConsoleRequest::CreateTable(declaration) => self.serve_create(alloc, site, &declaration),
+            ConsoleRequest::CreateTable(declaration) => self.serve_create(
+                alloc,
+                site,
+                &declaration,
+            ),
             ConsoleRequest::Writes(_) => Reply::refused(alloc),
         }
     }
 
-    fn serve_statement<P: Site>(&mut self, alloc: Global, site: &mut P, label: &Label, statement: Stmt) -> Reply
+    fn serve_statement<P: Site>(
+        &mut self,
+        alloc: Global,
+        site: &mut P,
+        label: &Label,
+        statement: Stmt,
+    ) -> Reply
         ensures step { ServesPart (P.Disk.held site.old) (P.Disk.held site.new) (P.bank_faults site.old) (P.bank_faults site.new) (P.Disk.moment site.old) (P.Disk.moment site.new) self.old self.new result (λ w w'. Parts (says.Session label.now (asks_for.Statement statement)) w w' result) }
         ensures later { P.bank_faults site.old ≤ P.bank_faults site.new }
     {
@@ -78,7 +99,12 @@ impl Tier {
         }
     }
 
-    fn serve_create<P: Site>(&mut self, alloc: Global, site: &mut P, declaration: &TableDeclaration) -> Reply
+    fn serve_create<P: Site>(
+        &mut self,
+        alloc: Global,
+        site: &mut P,
+        declaration: &TableDeclaration,
+    ) -> Reply
         ensures step { ServesPart (P.Disk.held site.old) (P.Disk.held site.new) (P.bank_faults site.old) (P.bank_faults site.new) (P.Disk.moment site.old) (P.Disk.moment site.new) self.old self.new result (λ w w'. Parts (says.Console (console.CreateTable declaration.now)) w w' result) }
         ensures later { P.bank_faults site.old ≤ P.bank_faults site.new }
     {

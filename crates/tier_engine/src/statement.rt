@@ -18,7 +18,13 @@ use tier_base::{Label, Name};
 
 impl Tier {
     /// Executes a statement under this label, under which the session may be open.
-    pub fn execute_as<P: Site>(&mut self, alloc: Global, site: &mut P, label: &Label, statement: Stmt) -> Reply
+    pub fn execute_as<P: Site>(
+        &mut self,
+        alloc: Global,
+        site: &mut P,
+        label: &Label,
+        statement: Stmt,
+    ) -> Reply
         ensures step { ServesPart (P.Disk.held site.old) (P.Disk.held site.new) (P.bank_faults site.old) (P.bank_faults site.new) (P.Disk.moment site.old) (P.Disk.moment site.new) self.old self.new result (λ w w'. ForSession (session_of w.tier label.now) statement w w' result ⊎ WantsMemory w w' result) }
         ensures later { P.bank_faults site.old ≤ P.bank_faults site.new }
     {

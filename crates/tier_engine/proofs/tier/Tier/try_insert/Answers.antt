@@ -14,9 +14,9 @@ if_ok P Q f (Err e) p = tt
 pub returns-clause-step : goal.returns-clause-step
 returns-clause-step c =
     if_ok _ _ (λ reply x log history stands.
-        stores_turns c.args.self.now c.insert_at.new.self log history c.args.insert.now.table c.args.insert.now.values reply c.in-Some.place _
-            (ap not (c.is_none.ensures ∙ ap not c.if-is_none.false))
-            (ap (λ (l : List Group). place_named l c.args.insert.now.table) (sym c.as_slice.ensures.value) ∙ sym c.place_of_group.ensures.place ∙ c.in-Some.is)
-            (c.in_ok-values.ensures ∙ ap values_of c.as_slice-2.ensures)
-            x stands)
-        c.insert_at.result c.insert_at.ensures.ok
+    stores_turns c.args.self.now c.insert_at.new.self log history c.args.insert.now.table c.args.insert.now.values reply c.in-Some.place _
+    (ap not (c.is_none.ensures ∙ ap not c.if-is_none.false))
+    (ap (λ (l : List Group). place_named l c.args.insert.now.table) (sym c.as_slice.ensures.value) ∙ sym c.place_of_group.ensures.place ∙ c.in-Some.is)
+    (c.in_ok-values.ensures ∙ ap values_of c.as_slice-2.ensures)
+    x stands)
+    c.insert_at.result c.insert_at.ensures.ok
