@@ -109,6 +109,29 @@ fn a_failed_call_of_the_bank_is_told_once(rt: HostRuntime) -> Result<(), Fail> {
     Ok(())
 }
 
+// The definition fails behind its effect, so the schema is asked for before the group, and that call fails too. It is
+// asked for again before the next line that names the table.
+#[test]
+fn the_schema_is_asked_for_until_it_is_told(rt: HostRuntime) -> Result<(), Fail> {
+    let failed: &[u8] =
+        b"fault 201\nok 0\nfault 201\nno 101 0\nok 0\nno 101 0\nok 0\nok 0\n";
+    let refused: &[u8] =
+        b"fault 201\nok 0\nfault 299\nno 101 0\nok 0\nno 101 0\nok 0\nok 0\n";
+    for when in [When::Before, When::After] {
+        let mut site = MemorySite::new(rt.alloc())?;
+        site.fail(CallKind::Define, 0, When::After)?;
+        site.fail(CallKind::Schema, 0, when)?;
+        let sink = MemorySink::new(rt.alloc(), 65_536, Vec::new(rt.alloc()));
+        expect_replies(&rt, rt.alloc(), &mut site, 65_536, sink, 0, failed)?;
+    }
+    let mut site = MemorySite::new(rt.alloc())?;
+    site.fail(CallKind::Define, 0, When::After)?;
+    site.refuse(CallKind::Schema, 0)?;
+    let sink = MemorySink::new(rt.alloc(), 65_536, Vec::new(rt.alloc()));
+    expect_replies(&rt, rt.alloc(), &mut site, 65_536, sink, 0, refused)?;
+    Ok(())
+}
+
 #[test]
 fn want_of_memory_at_the_bank_changes_nothing(rt: HostRuntime) -> Result<(), Fail> {
     let drained: &[u8] = b"ok 0\nok 0\nok 0\nok 1\nok 1\n= 3|30\nok 1\nfault 299\nok 1\n";
