@@ -139,8 +139,8 @@ impl<V: Grows> TurnLock<V> {
         ensures same_lock { pass_lock pass.new ≡ pass_lock pass.old }
         ensures same_seen { pass_seen pass.new ≡ pass_seen pass.old }
     {
-        let Pass { seat } = other;
-        self.table.shared.join_seat::<Glue>(&mut pass.seat, seat);
+        let Pass { seat: other } = other;
+        self.table.shared.join_seat::<Glue>(&mut pass.seat, other);
     }
 
     /// Splits off what a pass knows, to be told to another pass, perhaps in another thread.
@@ -337,9 +337,7 @@ impl<V: Grows> TurnLock<V> {
         ensures told { AllBegin (pass_told pass) (V.list result) }
         ensures given { (k : ℕ) → occurrences k (pass_given pass) ≡ occurrences k (new_places (V.list (lock_opening self)) (V.list result)) }
     {
-        let Pass { seat } = pass;
-        let TurnLock { table } = self;
-        let mut closed = table.close_with(seat);
+        let mut closed = self.table.close_with(pass.seat);
         let value = closed.take(0).unwrap();
         closed.free();
         value
