@@ -1,7 +1,8 @@
-ghost use Rattle.std.specs.Prelude.{◌≡◌, ◌≤◌};
+ghost use Rattle.std.specs.Prelude.{◌≡◌, ◌<◌, ◌≤◌};
 ghost use Rattle.turn_lock.specs.Passes.{lock_id, pass_lock, pass_parts};
 
 use crate::{Grows, Pass, TurnLock};
+use std::alloc::Global;
 use std::sync::Wait;
 use std::test::Fail;
 use std::thread;
@@ -76,6 +77,16 @@ fn add_with_a_part<R: Threads + Wait + Sync>(
     pass
 }
 
+// Closes a lock with the passes as they came.
+fn open_and_close(alloc: Global, log: Log, seats: usize) -> Log
+    requires { 0 < seats }
+{
+    match TurnLock::new(alloc, log, seats) {
+        Ok((lock, passes)) => lock.close(passes),
+        Err(log) => log,
+    }
+}
+
 // Whether the numbers are those of so many threads, 100 each, and each thread's are in its order.
 fn are_in_order(numbers: &[u32], threads: usize) -> bool {
     let mut next = [0, 1000, 2000, 3000, 4000];
@@ -88,6 +99,18 @@ fn are_in_order(numbers: &[u32], threads: usize) -> bool {
     }
     let last = [100, 1100, 2100, 3100, 4100];
     numbers.len() / 100 == threads && (0..5).all(|i| i >= threads || next[i] == last[i])
+}
+
+#[test]
+fn new_passes_close_a_lock(rt: HostRuntime) -> Result<(), Fail> {
+    let alloc = rt.alloc();
+    for seats in 1..10 {
+        let mut numbers = Vec::new(alloc);
+        numbers.push(7)?;
+        let log = open_and_close(alloc, Log { numbers }, seats);
+        assert!(rt; log.numbers.as_slice() == [7].as_slice());
+    }
+    Ok(())
 }
 
 #[test]
