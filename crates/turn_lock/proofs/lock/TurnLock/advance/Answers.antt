@@ -1,4 +1,4 @@
-use Rattle.std.proofs.Common.{rules, ◌≡◌}
+use Rattle.std.proofs.Common.{rules}
 use Rattle.turn_lock.proofs.Steps.{allows_advance}
 use Rattle.turn_lock.proofs.lock.TurnLock.advance.Goals as goal
 

@@ -2,7 +2,7 @@ use Rattle.std.proofs.Common.{◌≡◌, ℕ, ◌+◌, ◌++◌, ◌∷◌, Some
 use mathlib.Core.List.{IsPrefix}
 use Rattle.std.proofs.lemmas.List.Elements.{All-pop, All-push, All-same}
 use Rattle.turn_lock.specs.Places.{AllBegin, occurrences, total}
-use Rattle.turn_lock.specs.Passes.{lock_id, pass_lock, pass_parts, total_parts, pass_seen, pass_told, pass_given, times_given}
+use Rattle.turn_lock.specs.Passes.{lock_id, pass_lock, pass_parts, pass_seen, pass_told, pass_given}
 use Rattle.turn_lock.specs.declared.held.Pass.{Pass}
 use Rattle.turn_lock.proofs.Counts.{all_split, occurrences-append, total_snoc}
 use Rattle.turn_lock.proofs.lock.TurnLock.join_all.Goals as goal
