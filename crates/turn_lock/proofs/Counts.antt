@@ -1,5 +1,5 @@
 -- Beginnings of lists, places_from, and sums over views.
-use Rattle.std.proofs.Common.{◌≡◌, ◌≢◌, ℕ, zero, suc, ◌+◌, ◌<◌, ◌≤◌, ◌==◌, if◌then◌else◌, List, [], ◌∷◌, ◌++◌, length, drop, set, sym, refl, ap, ◌∙◌, arith, append_assoc, append-nil}
+use Rattle.std.proofs.Common.{All, ◌≡◌, ◌≢◌, ℕ, zero, suc, ◌+◌, ◌<◌, ◌≤◌, ◌==◌, if◌then◌else◌, List, [], ◌∷◌, ◌++◌, length, drop, set, sym, refl, ap, ◌∙◌, arith, append_assoc, append-nil}
 use mathlib.Core.Option.{some, some-injective, some-ne-none}
 use mathlib.Core.List.{IsPrefix}
 use mathlib.Core.Logic.{dite}
@@ -19,6 +19,11 @@ module _ {A : Type 0} where
   pub total_snoc : (f : A → ℕ) (xs : List A) (w : A) → total f (xs ++ w ∷ []) ≡ total f xs + f w
   total_snoc f [] w = omega arith
   total_snoc f (x ∷ xs) w = let e = total_snoc f xs w in omega arith
+
+  -- where each element has one, the sum is the length
+  pub total_each : (f : A → ℕ) (xs : List A) → All (λ x. f x ≡ 1) xs → total f xs ≡ length xs
+  total_each f [] one = refl
+  total_each f (x ∷ xs) one = let here : f x ≡ 1 = one 0 x (omega arith) in let rest = total_each f xs (λ k d less. one (suc k) d (omega arith)) in omega arith
 
   -- no element has more than the sum
   pub total_least : (f : A → ℕ) (xs : List A) (i : ℕ) (v : A) → get_elem? xs i ≡ some v → f v ≤ total f xs

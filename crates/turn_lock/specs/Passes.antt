@@ -22,7 +22,7 @@ module _ {V E : Type 0} where
   abbrev pub lock_opening : TurnLock V E → V
   lock_opening l = l.table.shared.key.value.value
 
-  -- how many passes the lock was made with
+  -- how many passes the lock was made with, and so how many parts it has
   abbrev pub lock_seats : TurnLock V E → ℕ
   lock_seats l = l.table.shared.key.seats
 
@@ -30,6 +30,14 @@ module _ {V E : Type 0} {g : Ghosts V E} where
   -- the lock of a pass
   abbrev pub pass_lock : Pass V E g → LockId
   pass_lock p = p.seat.table_id
+
+  -- for how many parts of the lock a pass stands
+  abbrev pub pass_parts : Pass V E g → ℕ
+  pass_parts p = p.seat.me.0.parts
+
+  -- for how many these passes stand, all together
+  abbrev pub total_parts : List (Pass V E g) → ℕ
+  total_parts ps = total pass_parts ps
 
   -- the list that a pass has seen: the one that it gave last, or else the one that it began with
   abbrev pub pass_seen : Pass V E g → List E
@@ -50,6 +58,10 @@ module _ {V E : Type 0} {g : Ghosts V E} where
   -- the lock of a value that is held
   abbrev pub held_lock : Held V E g → LockId
   held_lock h = h.seat.table_id
+
+  -- for how many parts the holder's pass stands
+  abbrev pub held_parts : Held V E g → ℕ
+  held_parts h = h.seat.me.0.parts
 
   -- the list that the value stored when its turn came
   abbrev pub held_found : Held V E g → List E

@@ -1,12 +1,12 @@
 //! The lock.
-ghost use Rattle.std.specs.Prelude.{◌≡◌, ◌++◌, [], ◌∷◌, Some, ◌+◌, ◌<◌, ◌≤◌, List, vec_capacity, ℕ, All, IfOk, IfErr, length, vec_len};
+ghost use Rattle.std.specs.Prelude.{◌≡◌, ◌++◌, [], ◌∷◌, Some, None, ◌+◌, ◌<◌, ◌≤◌, List, vec_capacity, ℕ, All, IfOk, IfErr, length, vec_len};
 ghost use mathlib.Core.List.{IsPrefix};
 ghost use Rattle.turn_lock.specs.Places.{new_places, occurrences, AllBegin};
-ghost use Rattle.turn_lock.specs.Turns.{opening_view, waiting, holding};
-ghost use Rattle.turn_lock.specs.declared.view.Stage.TheVariants.{Idle, Waits};
+ghost use Rattle.turn_lock.specs.Turns.{waiting, holding, after_giving, found_of, number_of};
+ghost use Rattle.turn_lock.specs.declared.view.Stage.TheVariants.{Idle, Waits, Holds};
 
 use crate::held::{Held, Pass, Seen};
-use crate::plays::{Advance, Deal, Draw, Look, Tell, Unite};
+use crate::plays::{Advance, Cut, Draw, Glue, Look, Tell};
 use crate::view::{Grows, Opening, TurnSeat, TurnTable};
 use atomic_table::{Refused, Table};
 use std::alloc::Global;
@@ -26,7 +26,7 @@ pub struct TurnLock<V: Grows> {
 }
 
 impl<V: Grows> TurnLock<V> {
-    ghost use Rattle.turn_lock.specs.Passes.{lock_id, lock_opening, lock_seats, pass_lock, pass_seen, pass_told, pass_given, times_given, held_lock, held_found, held_told, held_given, seen_lock, seen_list, seen_told};
+    ghost use Rattle.turn_lock.specs.Passes.{lock_id, lock_opening, lock_seats, pass_lock, pass_parts, total_parts, pass_seen, pass_told, pass_given, times_given, held_lock, held_parts, held_found, held_told, held_given, seen_lock, seen_list, seen_told};
 
     /// A lock of a value, and its passes, of which there are `seats`, at least one.
     ///
@@ -38,8 +38,9 @@ impl<V: Grows> TurnLock<V> {
         ensures opening { IfOk result (λ r. lock_opening r.0 ≡ value) }
         ensures seats { IfOk result (λ r. (lock_seats r.0 ≡ seats) × (vec_len r.1 ≡ seats)) }
 
-        // Each pass is of this lock, has seen the value's list, and has given nothing.
+        // Each pass is of this lock, stands for one part, has seen the value's list, and has given nothing.
         ensures lock { IfOk result (λ r. All (λ p. pass_lock p ≡ lock_id r.0) r.1.items) }
+        ensures parts { IfOk result (λ r. All (λ p. pass_parts p ≡ 1) r.1.items) }
         ensures seen { IfOk result (λ r. All (λ p. (pass_seen p ≡ V.list value) × (pass_told p ≡ [])) r.1.items) }
         ensures given { IfOk result (λ r. All (λ p. pass_given p ≡ []) r.1.items) }
         ensures err { IfErr result (λ v. v ≡ value) }
@@ -54,8 +55,8 @@ impl<V: Grows> TurnLock<V> {
             seats,
         };
         match TurnLock::lay(alloc, value, &about) {
-            Ok((lock, seat)) => {
-                lock.deal(seat, &mut passes, seats);
+            Ok((lock, pass)) => {
+                lock.deal(pass, &mut passes, seats);
                 Ok((lock, passes))
             }
             Err(value) => {
@@ -71,6 +72,7 @@ impl<V: Grows> TurnLock<V> {
     pub fn turn<R: Wait>(&self, rt: &R, pass: Pass<V>) -> Held<V>
         requires { pass_lock pass ≡ lock_id self.now }
         ensures lock { held_lock result ≡ pass_lock pass }
+        ensures parts { held_parts result ≡ pass_parts pass }
 
         // The value's list begins with all that the pass has seen.
         ensures found { held_found result ≡ V.list result.value }
@@ -91,22 +93,58 @@ impl<V: Grows> TurnLock<V> {
         requires lock { held_lock held ≡ lock_id self.now }
         requires grows { IsPrefix (held_found held) (V.list held.value) }
         ensures lock { pass_lock result ≡ held_lock held }
+        ensures parts { pass_parts result ≡ held_parts held }
 
         // The pass has seen the list that it gave, and the places that the list gained are its own.
         ensures seen { pass_seen result ≡ V.list held.value }
         ensures given { pass_given result ≡ held_given held ++ new_places (held_found held) (V.list held.value) }
         ensures same { pass_told result ≡ held_told held }
     {
-        let Held { value, mut seat } = held;
-        match self.table.shared.exchange(&mut seat, 0, Some(value)) {
-            None => {}
-            Some(_) => unreachable!(),
-        }
-        self.table.shared.fetch_add::<Advance>(&mut seat, 1, 1);
+        let Held { value, seat } = held;
+        let seat = self.advance(self.put_back(seat, value));
         Pass { seat }
     }
 
+    /// Splits a pass of one part off, which takes turns of its own, perhaps in another thread.
+    /// It takes no memory and doesn't wait.
+    pub fn split(&self, pass: &mut Pass<V>) -> Pass<V>
+        requires lock { pass_lock pass.old ≡ lock_id self.now }
+        requires parts { 2 ≤ pass_parts pass.old }
+        ensures lock { pass_lock result ≡ pass_lock pass.old }
+        ensures parts { (pass_parts result ≡ 1) × (pass_parts pass.new + 1 ≡ pass_parts pass.old) }
+
+        // The new pass knows the same, and has given nothing.
+        ensures seen { (pass_seen result ≡ pass_seen pass.old) × (pass_told result ≡ pass_told pass.old) }
+        ensures given { pass_given result ≡ [] }
+
+        // The old one keeps all but the part.
+        ensures same_lock { pass_lock pass.new ≡ pass_lock pass.old }
+        ensures same_seen { (pass_seen pass.new ≡ pass_seen pass.old) × (pass_told pass.new ≡ pass_told pass.old) }
+        ensures same_given { pass_given pass.new ≡ pass_given pass.old }
+    {
+        let seat = self.table.shared.split_seat::<Cut>(&mut pass.seat);
+        Pass { seat }
+    }
+
+    /// Takes another pass in, with its parts, and with all that it knows and gave.
+    /// It takes no memory and doesn't wait.
+    pub fn join(&self, pass: &mut Pass<V>, other: Pass<V>)
+        requires pass { pass_lock pass.old ≡ lock_id self.now }
+        requires other { pass_lock other ≡ lock_id self.now }
+        ensures parts { pass_parts pass.new ≡ pass_parts pass.old + pass_parts other }
+        ensures told { pass_told pass.new ≡ pass_told pass.old ++ pass_seen other ∷ pass_told other }
+        ensures given { pass_given pass.new ≡ pass_given pass.old ++ pass_given other }
+
+        // The lock and the list seen stay as they were.
+        ensures same_lock { pass_lock pass.new ≡ pass_lock pass.old }
+        ensures same_seen { pass_seen pass.new ≡ pass_seen pass.old }
+    {
+        let Pass { seat: other } = other;
+        self.table.shared.join_seat::<Glue>(&mut pass.seat, other);
+    }
+
     /// Splits off what a pass knows, to be told to another pass, perhaps in another thread.
+    /// The pass keeps all its parts, so one part is enough.
     /// It takes no memory and doesn't wait.
     pub fn split_seen(&self, pass: &mut Pass<V>) -> Seen<V>
         requires { pass_lock pass.old ≡ lock_id self.now }
@@ -115,6 +153,7 @@ impl<V: Grows> TurnLock<V> {
 
         // The pass stays as it was.
         ensures same_lock { pass_lock pass.new ≡ pass_lock pass.old }
+        ensures same_parts { pass_parts pass.new ≡ pass_parts pass.old }
         ensures same_seen { (pass_seen pass.new ≡ pass_seen pass.old) × (pass_told pass.new ≡ pass_told pass.old) }
         ensures same_given { pass_given pass.new ≡ pass_given pass.old }
     {
@@ -131,18 +170,19 @@ impl<V: Grows> TurnLock<V> {
 
         // All else stays as it was.
         ensures same_lock { pass_lock pass.new ≡ pass_lock pass.old }
+        ensures same_parts { pass_parts pass.new ≡ pass_parts pass.old }
         ensures same_seen { pass_seen pass.new ≡ pass_seen pass.old }
         ensures same_given { pass_given pass.new ≡ pass_given pass.old }
     {
         let Seen { seat } = seen;
-        self.table.shared.join_seat::<Unite>(&mut pass.seat, seat);
+        self.table.shared.join_seat::<Glue>(&mut pass.seat, seat);
     }
 
-    /// Ends the lock, and gives the value back. It is handed all passes that `new` gave.
-    /// It takes no memory and doesn't wait.
+    /// Ends the lock, and gives the value back. It is handed passes that have all parts of the lock,
+    /// in whatever way they were split and joined. It takes no memory and doesn't wait.
     pub fn close(self, mut passes: Vec<Pass<V>>) -> V
         requires lock { All (λ p. pass_lock p ≡ lock_id self) passes.items }
-        requires all { vec_len passes ≡ lock_seats self }
+        requires all { total_parts passes.items ≡ lock_seats self }
 
         // The value's list begins with the opening one, and with all that each pass has seen.
         ensures begins { IsPrefix (V.list (lock_opening self)) (V.list result) }
@@ -153,19 +193,20 @@ impl<V: Grows> TurnLock<V> {
         ensures given { (k : ℕ) → times_given k passes.items ≡ occurrences k (new_places (V.list (lock_opening self)) (V.list result)) }
         ensures once { (k : ℕ) → length (V.list (lock_opening self)) ≤ k → k < length (V.list result) → times_given k passes.items ≡ 1 }
     {
-        let Some(first) = passes.pop() else {
+        let Some(mut first) = passes.pop() else {
             unreachable!()
         };
-        let Pass { mut seat } = first;
-        self.join_all(&mut seat, passes);
-        self.finish(seat)
+        self.join_all(&mut first, passes);
+        self.finish(first)
     }
 
-    // The table, with the value at home, and its first seat.
-    fn lay(alloc: Global, value: V, about: &Opening<V>) -> Result<(TurnLock<V>, TurnSeat<V>), V>
+    // The table, with the value at home, and one pass with all parts.
+    fn lay(alloc: Global, value: V, about: &Opening<V>) -> Result<(TurnLock<V>, Pass<V>), V>
         requires value { about.now.value.value ≡ value }
         requires seats { 0 < about.now.seats }
-        ensures ok { IfOk result (λ r. (r.0.table.shared.key ≡ about.now) × (r.1.table_id ≡ r.0.table.shared.table_id) × (r.1.me ≡ (opening_view about.now.seats (V.list value), []))) }
+        ensures about { IfOk result (λ r. r.0.table.shared.key ≡ about.now) }
+        ensures pass { IfOk result (λ r. (pass_lock r.1 ≡ lock_id r.0) × (pass_parts r.1 ≡ about.now.seats)) }
+        ensures seen { IfOk result (λ r. (pass_seen r.1 ≡ V.list value) × (pass_told r.1 ≡ []) × (pass_given r.1 ≡ [])) }
         ensures err { IfErr result (λ v. v ≡ value) }
     {
         let mut slots = Vec::new(alloc);
@@ -175,7 +216,7 @@ impl<V: Grows> TurnLock<V> {
         }
         slots.push_reserved(Some(value));
         match Table::new(alloc, &[0, 0], slots, about) {
-            Ok((table, seat)) => Ok((TurnLock { table }, seat)),
+            Ok((table, seat)) => Ok((TurnLock { table }, Pass { seat })),
             Err(refused) => {
                 let Refused { mut slots } = refused;
                 let value = slots.pop().unwrap().unwrap();
@@ -185,27 +226,29 @@ impl<V: Grows> TurnLock<V> {
         }
     }
 
-    // Splits the first seat into passes of one part each.
-    fn deal(&self, mut seat: TurnSeat<V>, passes: &mut Vec<Pass<V>>, seats: usize)
-        requires seat { (seat.table_id ≡ self.now.table.shared.table_id) × (seat.me ≡ (opening_view seats seat.me.0.seen, [])) }
-        requires seats { 0 < seats }
+    // Splits a pass into passes of one part each.
+    fn deal(&self, mut pass: Pass<V>, passes: &mut Vec<Pass<V>>, seats: usize)
+        requires lock { pass_lock pass ≡ lock_id self.now }
+        requires parts { pass_parts pass ≡ seats }
+        requires given { (pass_told pass ≡ []) × (pass_given pass ≡ []) }
         requires room { (passes.old.items ≡ []) × (seats ≤ vec_capacity passes.old) }
         ensures len { vec_len passes.new ≡ seats }
         ensures lock { All (λ p. pass_lock p ≡ lock_id self.now) passes.new.items }
-        ensures seen { All (λ p. (pass_seen p ≡ seat.me.0.seen) × (pass_told p ≡ [])) passes.new.items }
+        ensures parts { All (λ p. pass_parts p ≡ 1) passes.new.items }
+        ensures seen { All (λ p. (pass_seen p ≡ pass_seen pass) × (pass_told p ≡ [])) passes.new.items }
         ensures given { All (λ p. pass_given p ≡ []) passes.new.items }
     {
         for _ in 1..seats {
-            let other = self.table.shared.split_seat::<Deal>(&mut seat);
-            passes.push_reserved(Pass { seat: other });
+            let other = self.split(&mut pass);
+            passes.push_reserved(other);
         }
-        passes.push_reserved(Pass { seat });
+        passes.push_reserved(pass);
     }
 
     // Draws the next turn. After 2^64 - 1 turns there is none left, and it waits for good.
     fn draw<R: Wait>(&self, rt: &R, seat: &mut TurnSeat<V>) -> u64
         requires seat { seat.old.table_id ≡ self.now.table.shared.table_id }
-        requires idle { (seat.old.me.0.stage ≡ Idle) × (seat.old.me.0.parts ≡ 1) }
+        requires idle { (seat.old.me.0.stage ≡ Idle) × (0 < seat.old.me.0.parts) }
         ensures same { (seat.new.table_id ≡ seat.old.table_id) × (seat.new.me.1 ≡ seat.old.me.1) }
         ensures drawn { seat.new.me.0 ≡ waiting seat.old.me.0 result }
     {
@@ -244,33 +287,57 @@ impl<V: Grows> TurnLock<V> {
         unreachable!()
     }
 
-    // Takes each of the other passes in.
-    fn join_all(&self, seat: &mut TurnSeat<V>, mut passes: Vec<Pass<V>>)
-        requires seat { (seat.old.table_id ≡ self.now.table.shared.table_id) × (seat.old.me.0.stage ≡ Idle) }
-        requires lock { All (λ p. pass_lock p ≡ lock_id self.now) passes.items }
-        ensures same { (seat.new.table_id ≡ seat.old.table_id) × (seat.new.me.0.stage ≡ Idle) × (seat.new.me.0.seen ≡ seat.old.me.0.seen) }
-        ensures parts { seat.new.me.0.parts ≡ seat.old.me.0.parts + vec_len passes }
-        ensures told { (l : List V.Item) → AllBegin seat.new.me.0.told l → AllBegin seat.old.me.0.told l × All (λ p. IsPrefix (pass_seen p) l × AllBegin (pass_told p) l) passes.items }
-        ensures given { (k : ℕ) → occurrences k seat.new.me.0.given ≡ occurrences k seat.old.me.0.given + times_given k passes.items }
+    // Puts the value into the slot, which the seat has.
+    fn put_back(&self, mut seat: TurnSeat<V>, value: V) -> TurnSeat<V>
+        requires lock { seat.table_id ≡ lock_id self.now }
+        requires empty { seat.me.1 ≡ (0, None) ∷ [] }
+        ensures lock { result.table_id ≡ seat.table_id }
+        ensures full { result.me ≡ (seat.me.0, (0, Some value) ∷ []) }
     {
-        while let Some(pass) = passes.pop() {
-            let Pass { seat: other } = pass;
-            self.table.shared.join_seat::<Unite>(seat, other);
+        match self.table.shared.exchange(&mut seat, 0, Some(value)) {
+            None => {}
+            Some(_) => unreachable!(),
         }
-        passes.destroy_empty();
+        seat
     }
 
-    // Ends the table, by a seat with all parts.
-    fn finish(self, seat: TurnSeat<V>) -> V
-        requires seat { (seat.table_id ≡ lock_id self) × (seat.me.0.stage ≡ Idle) }
-        requires all { seat.me.0.parts ≡ lock_seats self }
-        ensures begins { IsPrefix (V.list (lock_opening self)) (V.list result) }
-        ensures seen { IsPrefix seat.me.0.seen (V.list result) }
-        ensures told { AllBegin seat.me.0.told (V.list result) }
-        ensures given { (k : ℕ) → occurrences k seat.me.0.given ≡ occurrences k (new_places (V.list (lock_opening self)) (V.list result)) }
+    // Gives the slot back, with a list that begins with the one found, and serves the next turn.
+    fn advance(&self, mut seat: TurnSeat<V>) -> TurnSeat<V>
+        requires lock { seat.table_id ≡ lock_id self.now }
+        requires served { seat.me.0.stage ≡ Holds (number_of seat.me.0.stage) (found_of seat.me.0.stage) }
+        requires full { (x : V) × (seat.me.1 ≡ (0, Some x) ∷ []) × IsPrefix (found_of seat.me.0.stage) (V.list x) }
+        ensures lock { result.table_id ≡ seat.table_id }
+        ensures given { (x : V) → seat.me.1 ≡ (0, Some x) ∷ [] → result.me ≡ (after_giving seat.me.0 (found_of seat.me.0.stage) (V.list x), []) }
     {
-        let TurnLock { table } = self;
-        let mut closed = table.close_with(seat);
+        self.table.shared.fetch_add::<Advance>(&mut seat, 1, 1);
+        seat
+    }
+
+    // Takes each of the other passes in.
+    fn join_all(&self, pass: &mut Pass<V>, mut others: Vec<Pass<V>>)
+        requires pass { pass_lock pass.old ≡ lock_id self.now }
+        requires others { All (λ p. pass_lock p ≡ lock_id self.now) others.items }
+        ensures same { (pass_lock pass.new ≡ pass_lock pass.old) × (pass_seen pass.new ≡ pass_seen pass.old) }
+        ensures parts { pass_parts pass.new ≡ pass_parts pass.old + total_parts others.items }
+        ensures told { (l : List V.Item) → AllBegin (pass_told pass.new) l → AllBegin (pass_told pass.old) l × All (λ p. IsPrefix (pass_seen p) l × AllBegin (pass_told p) l) others.items }
+        ensures given { (k : ℕ) → occurrences k (pass_given pass.new) ≡ occurrences k (pass_given pass.old) + times_given k others.items }
+    {
+        while let Some(other) = others.pop() {
+            self.join(pass, other);
+        }
+        others.destroy_empty();
+    }
+
+    // Ends the table, by a pass with all parts.
+    fn finish(self, pass: Pass<V>) -> V
+        requires lock { pass_lock pass ≡ lock_id self }
+        requires all { pass_parts pass ≡ lock_seats self }
+        ensures begins { IsPrefix (V.list (lock_opening self)) (V.list result) }
+        ensures seen { IsPrefix (pass_seen pass) (V.list result) }
+        ensures told { AllBegin (pass_told pass) (V.list result) }
+        ensures given { (k : ℕ) → occurrences k (pass_given pass) ≡ occurrences k (new_places (V.list (lock_opening self)) (V.list result)) }
+    {
+        let mut closed = self.table.close_with(pass.seat);
         let value = closed.take(0).unwrap();
         closed.free();
         value

@@ -26,9 +26,9 @@ impl<V: Grows> Play<Option<V>, View<V::Item>> for Advance {
 }
 
 /// Splits one part off, for a new pass.
-pub(crate) struct Deal;
+pub(crate) struct Cut;
 
-impl<E> Split<View<E>> for Deal {
+impl<E> Split<View<E>> for Cut {
     ghost left = { λ v. keeping v 1 };
 
     ghost right = { λ v. portion v 1 };
@@ -44,9 +44,9 @@ impl<E> Split<View<E>> for Tell {
 }
 
 /// Takes another seat in.
-pub(crate) struct Unite;
+pub(crate) struct Glue;
 
-impl<E> Join<View<E>> for Unite {
+impl<E> Join<View<E>> for Glue {
     ghost both = { joined };
 
     ghost spent = { spent_view };

@@ -29,7 +29,7 @@ pub enum Stage<E> {
 
 /// What a seat knows. No value of this type is made: it exists in proofs alone.
 pub struct View<E> {
-    /// For how many passes the seat stands. No part is ever lost.
+    /// For how many parts of the lock the seat stands. None is ever lost.
     pub parts: u64,
     /// Where it stands between its turns.
     pub stage: Stage<E>,
@@ -46,7 +46,7 @@ pub struct View<E> {
 pub struct Opening<V> {
     /// The value, for proofs alone.
     pub value: Snapshot<V>,
-    /// How many passes were handed out.
+    /// How many passes it was made with, and so how many parts it has.
     pub seats: usize,
 }
 

@@ -4,5 +4,5 @@ use Rattle.turn_lock.proofs.lock.TurnLock.split_seen.Goals as goal
 
 pub split_seat-seat-requires : goal.split_seat-seat-requires
 split_seat-seat-requires g c =
-    let one = c.args.pass.now.one in
+    let some = c.args.pass.now.some in
     (c.requires, search rules, allows_split g.V.Grows.list _ _ _ _ _ (omega arith))
