@@ -97,26 +97,6 @@ own_left h ticket ops before after old fresh new q =
 
 -- lists
 
-not_empty : (xs : List Entry) (x : Entry) → [] ≡ xs ++ x ∷ [] → ⊥
-not_empty [] x e = cc
-not_empty (y ∷ xs) x e = cc
-
-pub same_ends : (xs ys : List Entry) (x y : Entry) → xs ++ x ∷ [] ≡ ys ++ y ∷ [] → (xs ≡ ys) × (x ≡ y)
-same_ends [] [] x y e = (refl, cc)
-same_ends [] (b ∷ ys) x y e = let none : [] ≡ ys ++ y ∷ [] = cc in absurd (not_empty ys y none)
-same_ends (a ∷ xs) [] x y e = let none : [] ≡ xs ++ x ∷ [] = cc in absurd (not_empty xs x none)
-same_ends (a ∷ xs) (b ∷ ys) x y e =
-    let head : a ≡ b = cc in
-    let rest : xs ++ x ∷ [] ≡ ys ++ y ∷ [] = cc in
-    let (front, last) = same_ends xs ys x y rest in
-    (cc, last)
-
--- what is new behind one front of a history is new behind each that has it as its last entry
-pub new_at_end : (h : List Entry) (e : Entry) → IsNewIn h e → (front : List Entry) (last : Entry) → h ++ e ∷ [] ≡ front ++ last ∷ [] → IsNewIn front last
-new_at_end h e new front last same =
-    let ends = same_ends h front e last same in
-    subst (λ (p : List Entry). IsNewIn p last) ends.0 (subst (λ (x : Entry). IsNewIn h x) ends.1 new)
-
 pub has_all_push : (tickets : List Ticket) (ticket : Ticket) (h : List Entry) → HasAll tickets h → has_ticket ticket.0 h ≡ true → HasAll (tickets ++ ticket ∷ []) h
 has_all_push [] ticket h all has = (has, tt)
 has_all_push (t ∷ tickets) ticket h all has = (all.0, has_all_push tickets ticket h all.1 has)

@@ -4,6 +4,7 @@ use crate::{CallKind, MemorySite, When};
 use outside::{Applied, BankError, Disk, Site, Slot};
 use row_types::{Column, Key, Row, Ty, Value};
 use std::alloc::{AllocError, Global};
+use std::process::Abort;
 use std::test::Fail;
 use table_state::{Entry, ForeignKey, Op, Sealed, TableDef};
 use tier_base::{Name, Seq, TableId, Ticket};
@@ -53,7 +54,11 @@ fn row(alloc: Global, numbers: &[i64]) -> Result<Row, AllocError> {
 
 // The transaction that inserts one row.
 fn inserting(alloc: Global, ticket: u64, number: i64) -> Result<Sealed, AllocError> {
-    one_op(alloc, ticket, Op::Insert(TableId(0), row(alloc, &[number])?))
+    one_op(
+        alloc,
+        ticket,
+        Op::Insert(TableId(0), row(alloc, &[number])?),
+    )
 }
 
 fn one_op(alloc: Global, ticket: u64, op: Op) -> Result<Sealed, AllocError> {
@@ -91,13 +96,24 @@ fn outcome(answer: Result<Applied, BankError>) -> (&'static str, u64) {
     }
 }
 
+// How the transaction that inserts one number comes out, behind this ticket.
+fn applied(
+    alloc: Global,
+    site: &mut MemorySite,
+    ticket: u64,
+    number: i64,
+    after: &[Ticket],
+) -> Result<(&'static str, u64), AllocError> {
+    let sealed = inserting(alloc, ticket, number)?;
+    Ok(outcome(site.apply_once(&sealed, after)))
+}
+
 #[test]
 fn a_transaction_comes_once(rt: HostRuntime) -> Result<(), Fail> {
     let alloc = rt.alloc();
     let mut site = MemorySite::new(alloc)?;
     assert_eq!(rt; site.define(&numbers(alloc)?), Ok(()));
-    let first = inserting(alloc, 7, 5)?;
-    assert_eq!(rt; outcome(site.apply_once(&first, &[])), ("now", 2));
+    assert_eq!(rt; applied(alloc, &mut site, 7, 5, &[])?, ("now", 2));
     // The ticket, the number that is inserted, the ticket that has to stand before, and what is told.
     for (ticket, number, after, expected) in [
         (7, 5, 8, ("before", 2)),
@@ -107,42 +123,49 @@ fn a_transaction_comes_once(rt: HostRuntime) -> Result<(), Fail> {
         (9, 5, 8, ("other row", 0)),
         (9, 4, 8, ("now", 4)),
     ] {
-        let sealed = inserting(alloc, ticket, number)?;
-        assert_eq!(rt; outcome(site.apply_once(&sealed, &[Ticket(after)])), expected);
+        let found = applied(alloc, &mut site, ticket, number, &[Ticket(after)])?;
+        assert_eq!(rt; found, expected);
     }
     assert_eq!(rt; tickets(alloc, &site)?.as_slice(), [0, 7, 8, 9].as_slice());
     assert_eq!(rt; site.moments(), 4);
     Ok(())
 }
 
-#[test]
-fn planned_calls_fail_before_or_after_their_effect(rt: HostRuntime) -> Result<(), Fail> {
-    let alloc = rt.alloc();
-    let mut site = MemorySite::new(alloc)?;
+fn plan_definitions(site: &mut MemorySite) -> Result<(), AllocError> {
     site.fail(CallKind::Define, 0, When::Before)?;
     site.refuse(CallKind::Define, 1)?;
-    site.fail(CallKind::Define, 2, When::After)?;
-    site.refuse(CallKind::Schema, 0)?;
-    site.fail(CallKind::Schema, 1, When::After)?;
-    site.fail(CallKind::ApplyOnce, 0, When::After)?;
-    site.fail(CallKind::ApplyOnce, 2, When::Before)?;
-    site.refuse(CallKind::ApplyOnce, 3)?;
-    site.fail(CallKind::Len, 1, When::Before)?;
+    site.fail(CallKind::Define, 2, When::After)
+}
+
+#[test]
+fn planned_definitions_fail_before_or_after_their_effect(rt: HostRuntime) -> Result<(), Fail> {
+    let def = numbers(rt.alloc())?;
+    let mut site = MemorySite::new(rt.alloc())?;
+    plan_definitions(&mut site)?;
     for (expected, moments) in [
         (Err(BankError::Failed), 0),
         (Err(BankError::Memory), 0),
         (Err(BankError::Failed), 1),
+        (Ok(()), 2),
     ] {
-        assert_eq!(rt; site.define(&numbers(alloc)?), expected);
+        assert_eq!(rt; site.define(&def), expected);
         assert_eq!(rt; site.moments(), moments);
     }
-    for expected in [Err(BankError::Memory), Err(BankError::Failed), Ok(1)] {
-        let tables = match site.schema() {
-            Ok(schema) => Ok(schema.len()),
-            Err(error) => Err(error),
-        };
-        assert_eq!(rt; tables, expected);
-    }
+    Ok(())
+}
+
+fn plan_transactions(site: &mut MemorySite) -> Result<(), AllocError> {
+    site.fail(CallKind::ApplyOnce, 0, When::After)?;
+    site.fail(CallKind::ApplyOnce, 2, When::Before)?;
+    site.refuse(CallKind::ApplyOnce, 3)
+}
+
+#[test]
+fn planned_transactions_fail_before_or_after_their_effect(rt: HostRuntime) -> Result<(), Fail> {
+    let alloc = rt.alloc();
+    let mut site = MemorySite::new(alloc)?;
+    assert_eq!(rt; site.define(&numbers(alloc)?), Ok(()));
+    plan_transactions(&mut site)?;
     for (ticket, expected, moments) in [
         (1, ("failed", 0), 2),
         (1, ("before", 2), 2),
@@ -150,20 +173,50 @@ fn planned_calls_fail_before_or_after_their_effect(rt: HostRuntime) -> Result<()
         (2, ("memory", 0), 2),
         (2, ("now", 3), 3),
     ] {
-        let sealed = inserting(alloc, ticket, ticket as i64)?;
-        assert_eq!(rt; outcome(site.apply_once(&sealed, &[])), expected);
+        assert_eq!(rt;
+            applied(alloc, &mut site, ticket, ticket as i64, &[])?,
+            expected
+        );
         assert_eq!(rt; site.moments(), moments);
     }
     assert_eq!(rt; tickets(alloc, &site)?.as_slice(), [0, 1, 2].as_slice());
-    assert!(rt; site.len(Slot::First).ok() == Some(1));
-    assert!(rt; site.len(Slot::Second).is_err());
-    assert!(rt; site.len(Slot::Second).ok() == Some(1));
     Ok(())
 }
 
-// Two tables, the second of which refers to the first, with the rows 1, and 11 and 10 that refer to it.
-fn family(alloc: Global) -> Result<MemorySite, AllocError> {
-    let mut site = MemorySite::new(alloc)?;
+fn plan_readings(site: &mut MemorySite) -> Result<(), AllocError> {
+    site.refuse(CallKind::Schema, 0)?;
+    site.fail(CallKind::Schema, 1, When::After)?;
+    site.fail(CallKind::Len, 1, When::Before)
+}
+
+// How many tables the schema has.
+fn table_count(site: &mut MemorySite) -> Result<usize, BankError> {
+    match site.schema() {
+        Ok(schema) => Ok(schema.len()),
+        Err(error) => Err(error),
+    }
+}
+
+#[test]
+fn planned_readings_fail(rt: HostRuntime) -> Result<(), Fail> {
+    let mut site = MemorySite::new(rt.alloc())?;
+    assert_eq!(rt; site.define(&numbers(rt.alloc())?), Ok(()));
+    plan_readings(&mut site)?;
+    for expected in [Err(BankError::Memory), Err(BankError::Failed), Ok(1)] {
+        assert_eq!(rt; table_count(&mut site), expected);
+    }
+    for (slot, expected) in [
+        (Slot::First, Some(1)),
+        (Slot::Second, None),
+        (Slot::Second, Some(1)),
+    ] {
+        assert_eq!(rt; site.len(slot).ok(), expected);
+    }
+    Ok(())
+}
+
+// Two tables, the second of which refers to the first.
+fn define_family(alloc: Global, site: &mut MemorySite) -> Result<bool, AllocError> {
     let mut columns = Seq::new(alloc);
     columns.push(1)?;
     let foreign_key = Some(ForeignKey {
@@ -171,25 +224,32 @@ fn family(alloc: Global) -> Result<MemorySite, AllocError> {
         parent: TableId(0),
         cascade: false,
     });
-    let _ = site.define(&table(alloc, &["p"], None)?);
-    let _ = site.define(&table(alloc, &["c", "parent"], foreign_key)?);
-    let _ = is_applied(alloc, &mut site, 1, Op::Insert(TableId(0), row(alloc, &[1])?))?;
-    let _ = is_applied(alloc, &mut site, 2, Op::Insert(TableId(1), row(alloc, &[11, 1])?))?;
-    let _ = is_applied(alloc, &mut site, 3, Op::Insert(TableId(1), row(alloc, &[10, 1])?))?;
-    Ok(site)
+    let parent = table(alloc, &["p"], None)?;
+    let child = table(alloc, &["c", "parent"], foreign_key)?;
+    Ok(site.define(&parent).is_ok() && site.define(&child).is_ok())
 }
 
-fn is_applied(
+// Inserts a row into one of the tables.
+fn is_inserted(
     alloc: Global,
     site: &mut MemorySite,
     ticket: u64,
-    op: Op,
+    table: u32,
+    numbers: &[i64],
 ) -> Result<bool, AllocError> {
-    let sealed = one_op(alloc, ticket, op)?;
+    let sealed = one_op(alloc, ticket, inserted(alloc, table, numbers)?)?;
     Ok(outcome(site.apply_once(&sealed, &[])).0 == "now")
 }
 
-// Whether this table, key and row are told where the operation doesn't apply.
+fn inserted(alloc: Global, table: u32, numbers: &[i64]) -> Result<Op, AllocError> {
+    Ok(Op::Insert(TableId(table), row(alloc, numbers)?))
+}
+
+fn deleted(alloc: Global, table: u32, numbers: &[i64]) -> Result<Op, AllocError> {
+    Ok(Op::Delete(TableId(table), row(alloc, numbers)?))
+}
+
+// Whether the operation doesn't apply, and this table, key and row are told.
 fn is_told(
     alloc: Global,
     site: &mut MemorySite,
@@ -214,23 +274,31 @@ fn is_row(alloc: Global, found: Option<Row>, expected: &[i64]) -> Result<bool, A
     }
 }
 
+fn expect_differences(
+    rt: &impl Abort,
+    alloc: Global,
+    site: &mut MemorySite,
+) -> Result<(), AllocError> {
+    // The key is taken.
+    assert!(rt; is_told(alloc, site, inserted(alloc, 0, &[1])?, (0, 1, &[1]))?);
+    // The parent is missing.
+    assert!(rt; is_told(alloc, site, inserted(alloc, 1, &[12, 5])?, (0, 5, &[]))?);
+    // A child is there.
+    assert!(rt; is_told(alloc, site, deleted(alloc, 0, &[1])?, (1, 10, &[10, 1]))?);
+    // The row isn't there.
+    assert!(rt; is_told(alloc, site, deleted(alloc, 0, &[9])?, (0, 9, &[]))?);
+    Ok(())
+}
+
 #[test]
 fn the_row_that_differs_is_told(rt: HostRuntime) -> Result<(), Fail> {
     let alloc = rt.alloc();
-    let mut site = family(alloc)?;
-    assert_eq!(rt; site.moments(), 5);
-    // The key is taken.
-    let op = Op::Insert(TableId(0), row(alloc, &[1])?);
-    assert!(rt; is_told(alloc, &mut site, op, (0, 1, &[1]))?);
-    // The parent is missing.
-    let op = Op::Insert(TableId(1), row(alloc, &[12, 5])?);
-    assert!(rt; is_told(alloc, &mut site, op, (0, 5, &[]))?);
-    // A child is there.
-    let op = Op::Delete(TableId(0), row(alloc, &[1])?);
-    assert!(rt; is_told(alloc, &mut site, op, (1, 10, &[10, 1]))?);
-    // The row isn't there.
-    let op = Op::Delete(TableId(0), row(alloc, &[9])?);
-    assert!(rt; is_told(alloc, &mut site, op, (0, 9, &[]))?);
+    let mut site = MemorySite::new(alloc)?;
+    assert!(rt; define_family(alloc, &mut site)?);
+    assert!(rt; is_inserted(alloc, &mut site, 1, 0, &[1])?);
+    assert!(rt; is_inserted(alloc, &mut site, 2, 1, &[11, 1])?);
+    assert!(rt; is_inserted(alloc, &mut site, 3, 1, &[10, 1])?);
+    expect_differences(&rt, alloc, &mut site)?;
     assert_eq!(rt; site.moments(), 5);
     Ok(())
 }
