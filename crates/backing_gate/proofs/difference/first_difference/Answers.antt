@@ -21,4 +21,4 @@ returns-in-Err c =
     let told : TableState → Difference → Type 0 = λ s d. option_map (difference_of c.op-item.result s) (broken_by c.op-item.result s) ≡ Some (d.table, d.key, d.row) in
     let First : Difference → Type 0 = λ d. first_difference c.args.ops.now c.args.tables.now ≡ Some (d.table, d.key, d.row) in
     if_ok (told c.apply.new.self) First c.difference_of.result c.difference_of.ensures (λ d p.
-        difference_here c.args.ops.now c.loop-op.op-index c.op-item.result c.args.tables.now c.loop-op.copy c.loop-op-test.true c.op-item.is c.loop-op.invariant (d.table, d.key, d.row) (subst (λ (s : TableState). told s d) c.in-Err.ensures.unchanged p))
+    difference_here c.args.ops.now c.loop-op.op-index c.op-item.result c.args.tables.now c.loop-op.copy c.loop-op-test.true c.op-item.is c.loop-op.invariant (d.table, d.key, d.row) (subst (λ (s : TableState). told s d) c.in-Err.ensures.unchanged p))
