@@ -1,5 +1,5 @@
 -- Laws of the first operation that doesn't apply.
-use Rattle.std.proofs.Common.{◌≡◌, ℕ, ◌+◌, ◌<◌, Option, Some, None, List, [], ◌∷◌, ◌++◌, length, take, drop, get_or, refl, sym, ap, ◌∙◌}
+use Rattle.std.proofs.Common.{◌≡◌, ℕ, ◌+◌, ◌<◌, Option, Some, None, List, [], ◌∷◌, ◌++◌, length, take, drop, get_or, refl, ap, ◌∙◌}
 use Rattle.std.specs.Option.{option_and_then, option_map, option_or}
 use Rattle.row_types.specs.declared.value.Value.{Value}
 use Rattle.tier_base.specs.declared.number.TableId.{TableId}
@@ -10,9 +10,8 @@ use Rattle.table_state.specs.Tables.{TableState}
 use Rattle.table_state.specs.Operations.{applied, applied_all}
 use Rattle.table_state.specs.Refusals.{broken_by, broken_by_all}
 use Rattle.table_state.proofs.ChangeLaws.{unbroken_where_applied}
-use Rattle.table_state.proofs.HistoryLaws.{applied_all-append, split_here, stops_here}
-use Rattle.backing_gate.specs.declared.difference.Difference.{Difference}
-use Rattle.backing_gate.specs.Differences.{difference_of, first_difference}
+use Rattle.table_state.proofs.HistoryLaws.{applied_all-append, split_here}
+use Rattle.outside.specs.Differences.{Difference, difference_of, first_difference}
 
 -- behind operations that apply
 behind : (xs ys : List Op) (s n : TableState) → applied_all xs s ≡ Some n → first_difference (xs ++ ys) s ≡ first_difference ys n
@@ -33,13 +32,13 @@ difference_here ops i op start now lt is so_far d told =
     ∙ ap (λ f. option_or f (option_and_then (first_difference (drop (i + 1) ops)) (applied op now))) told
 
 -- a row that isn't as it should be
-pub differing_first : (ops : List Op) (s : TableState) (t : TableId) (key : List Value) (row : Option (List Value)) → broken_by_all ops s ≡ Some (error.Differs t key row) → first_difference ops s ≡ Some (record { table = t; key = key; row = row })
+pub differing_first : (ops : List Op) (s : TableState) (t : TableId) (key : List Value) (row : Option (List Value)) → broken_by_all ops s ≡ Some (error.Differs t key row) → first_difference ops s ≡ Some (t, key, row)
 differing_first [] s t key row e = cc
 differing_first (op ∷ ops) s t key row e = by (broken_by op s) (applied op s) e (λ n. differing_first ops n t key row)
   where
     by : (f : Option ApplyError) (o : Option TableState) → option_or f (option_and_then (broken_by_all ops) o) ≡ Some (error.Differs t key row)
-        → ((n : TableState) → broken_by_all ops n ≡ Some (error.Differs t key row) → first_difference ops n ≡ Some (record { table = t; key = key; row = row }))
-        → option_or (option_map (difference_of op s) f) (option_and_then (first_difference ops) o) ≡ Some (record { table = t; key = key; row = row })
+        → ((n : TableState) → broken_by_all ops n ≡ Some (error.Differs t key row) → first_difference ops n ≡ Some (t, key, row))
+        → option_or (option_map (difference_of op s) f) (option_and_then (first_difference ops) o) ≡ Some (t, key, row)
     by (Some x) o h rest = let same : x ≡ error.Differs t key row = cc in ap (λ y. Some (difference_of op s y)) same
     by None None h rest = cc
     by None (Some n) h rest = rest n h

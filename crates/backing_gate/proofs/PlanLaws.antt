@@ -1,14 +1,12 @@
 -- Laws of calls that fail after their effect.
-use Rattle.std.proofs.Common.{◌≡◌, ℕ, zero, suc, ◌<◌, true, false, Option, Some, None, Result, Ok, Err, List, [], ◌∷◌, ◌++◌, length, get_or, inl, subst, refl, sym, ap, ◌∙◌, arith}
-use Rattle.std.specs.List.{Contains}
+use Rattle.std.proofs.Common.{◌≡◌, ℕ, zero, suc, ◌<◌, true, false, Option, Some, None, Ok, Err, List, [], ◌∷◌, ◌++◌, length, get_or, inl, subst, refl, sym, ap, ◌∙◌, arith}
 use Rattle.std.specs.Option.{IsSome}
 use Rattle.tier_base.specs.declared.number.Ticket.{Ticket}
 use Rattle.table_state.specs.declared.history.Entry.{Entry}
 use Rattle.table_state.specs.declared.history.Sealed.{Sealed}
-use Rattle.table_state.specs.Histories.{entry_of, has_ticket, state_of}
+use Rattle.table_state.specs.Histories.{entry_of, has_ticket}
 use Rattle.table_state.specs.Tables.{TableState}
 use Rattle.outside.specs.Bank.{AppliesOnce, CanFollow, HasAll}
-use Rattle.outside.specs.declared.fault.BankError.{BankError}
 use Rattle.outside.specs.declared.fault.BankError.TheVariants.{Failed}
 use Rattle.outside.specs.declared.site.Applied.{Applied}
 use Rattle.outside.specs.declared.site.Applied.TheVariants.{Now, Before, NotReady, Differs}

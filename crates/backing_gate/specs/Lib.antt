@@ -1,4 +1,3 @@
-pub mod Differences
 pub mod Heeding
 pub mod Memory
 pub mod Plans

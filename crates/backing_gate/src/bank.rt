@@ -6,7 +6,6 @@ ghost use Rattle.table_state.specs.Tables.{TableState};
 ghost use Rattle.table_state.specs.Histories.{entry_of, has_ticket, state_of};
 ghost use Rattle.table_state.specs.Refusals.{IsFault, SaysNone, broken_by_all};
 ghost use Rattle.outside.specs.Bank.{AppliesOnce, HasAll};
-ghost use Rattle.backing_gate.specs.Differences.{TellsDifference};
 ghost use Rattle.backing_gate.specs.Tickets.{FirstMissing};
 
 use crate::difference::first_difference;
@@ -87,13 +86,12 @@ impl Bank {
         after: &[Ticket],
     ) -> Result<Applied, AllocError>
         ensures ok { IfOk result (λ applied. AppliesOnce sealed.now after.now (Ok applied) self.old self.new) }
-        ensures differs { IfOk result (λ applied. TellsDifference applied sealed.now.ops self.old) }
         ensures err { OnErr result (self.new ≡ self.old) }
     {
-        if let Some(front) = self.ledger.front_with(sealed.ticket) {
+        if let Some(position) = self.ledger.position_of(sealed.ticket) {
             return Ok(Applied::Before(Receipt {
                 ticket: sealed.ticket,
-                position: Position(front),
+                position: Position(position),
             }));
         }
         if let Some(ticket) = self.first_missing(after) {
@@ -107,7 +105,7 @@ impl Bank {
         ensures { FirstMissing result tickets.now self.now }
     {
         for ticket in tickets {
-            if self.ledger.front_with(*ticket).is_none() {
+            if self.ledger.position_of(*ticket).is_none() {
                 return Some(*ticket);
             }
         }
@@ -124,7 +122,6 @@ impl Bank {
         requires fresh { has_ticket sealed.now.ticket.0 self.old ≡ false }
         requires waited { HasAll after.now self.old }
         ensures ok { IfOk result (λ applied. AppliesOnce sealed.now after.now (Ok applied) self.old self.new) }
-        ensures differs { IfOk result (λ applied. TellsDifference applied sealed.now.ops self.old) }
         ensures err { OnErr result (self.new ≡ self.old) }
     {
         match self.record(alloc, sealed) {

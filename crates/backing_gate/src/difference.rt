@@ -6,7 +6,7 @@ ghost use Rattle.std.specs.Option.{option_map};
 ghost use Rattle.table_state.specs.Operations.{applied_all};
 ghost use Rattle.table_state.specs.Refusals.{IsFault, broken_by};
 ghost use Rattle.table_state.specs.Tables.{table_at};
-ghost use Rattle.backing_gate.specs.Differences.{difference_of, first_difference, own_key, place_of, row_of};
+ghost use Rattle.outside.specs.Differences.{difference_of, first_difference, own_key, place_of, row_of};
 
 use row_types::{Detail, Key, Row};
 use std::alloc::{AllocError, Global};
@@ -15,7 +15,7 @@ use tier_base::TableId;
 
 /// A row that isn't as an operation wants it: its table, its key, and the row that is there.
 #[derive(Drop)]
-pub struct Difference {
+pub(crate) struct Difference {
     /// The table.
     pub table: TableId,
     /// The key.
@@ -32,7 +32,7 @@ pub(crate) fn first_difference(
     ops: &[Op],
 ) -> Result<Difference, AllocError>
     requires { applied_all ops.now tables.now ≡ None }
-    ensures { IfOk result (λ difference. first_difference ops.now tables.now ≡ Some difference) }
+    ensures { IfOk result (λ difference. first_difference ops.now tables.now ≡ Some (difference.table, difference.key, difference.row)) }
 {
     let mut copy = tables.copied(alloc)?;
     for op in ops {
@@ -52,7 +52,7 @@ fn difference_of(
     error: ApplyError,
 ) -> Result<Difference, AllocError>
     requires { IsFault (broken_by op.now tables.now) error }
-    ensures { IfOk result (λ difference. option_map (difference_of op.now tables.now) (broken_by op.now tables.now) ≡ Some difference) }
+    ensures { IfOk result (λ difference. option_map (difference_of op.now tables.now) (broken_by op.now tables.now) ≡ Some (difference.table, difference.key, difference.row)) }
 {
     match error {
         ApplyError::Memory => return Err(AllocError),

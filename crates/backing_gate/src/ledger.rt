@@ -2,8 +2,8 @@
 
 ghost use Rattle.std.specs.Prelude.{◌≡◌, [], ◌∷◌, ◌++◌, false, length, List, OnErr, OnOk};
 ghost use Rattle.table_state.specs.declared.history.Entry.{Entry};
-ghost use Rattle.table_state.specs.Histories.{has_ticket};
-ghost use Rattle.backing_gate.specs.Tickets.{IsNewIn, front_with};
+ghost use Rattle.table_state.specs.Histories.{has_ticket, position_of};
+ghost use Rattle.backing_gate.specs.Tickets.{IsNewIn};
 
 use std::alloc::{AllocError, Global};
 use std::collections::BTreeMap;
@@ -15,8 +15,8 @@ use tier_base::{Seq, Ticket};
 #[derive(Drop)]
 pub(crate) struct Ledger {
     entries: History,
-    // By ticket, the length of the shortest front of the history that has it.
-    fronts: BTreeMap<u64, u64>,
+    // The position of each ticket.
+    positions: BTreeMap<u64, u64>,
 }
 
 impl Model for Ledger {
@@ -24,13 +24,13 @@ impl Model for Ledger {
     ghost use Rattle.std.specs.BTreeMap.{get};
     ghost use Rattle.std.specs.Ordering.{nat_cmp};
     ghost use Rattle.table_state.specs.declared.history.Entry.{Entry};
-    ghost use Rattle.backing_gate.specs.Tickets.{front_with};
+    ghost use Rattle.table_state.specs.Histories.{position_of};
 
     ghost Value = { List Entry };
 
     ghost view = { λ l. l.entries };
 
-    ghost invariant = { λ l. (ticket : ℕ) → get nat_cmp l.fronts ticket ≡ front_with ticket l.entries };
+    ghost invariant = { λ l. (ticket : ℕ) → get nat_cmp l.positions ticket ≡ position_of ticket l.entries };
 }
 
 impl Ledger {
@@ -40,7 +40,7 @@ impl Ledger {
     {
         Ledger {
             entries: Seq::new(alloc),
-            fronts: BTreeMap::new(alloc),
+            positions: BTreeMap::new(alloc),
         }
     }
 
@@ -51,11 +51,11 @@ impl Ledger {
         &self.entries
     }
 
-    /// The length of the shortest front of the history that has the ticket, where one has.
-    pub(crate) fn front_with(&self, ticket: Ticket) -> Option<u64>
-        ensures { result ≡ front_with ticket.0 self.now }
+    /// The position behind the entry with the ticket, where one has it.
+    pub(crate) fn position_of(&self, ticket: Ticket) -> Option<u64>
+        ensures { result ≡ position_of ticket.0 self.now }
     {
-        self.fronts.get(&ticket.0).copied()
+        self.positions.get(&ticket.0).copied()
     }
 
     /// Puts a definition behind the history. For want of memory it stays.
@@ -74,7 +74,7 @@ impl Ledger {
         ensures err { OnErr result (self.new ≡ self.old) }
     {
         self.entries.push(Entry::Own(ticket, ops))?;
-        match self.fronts.insert(ticket.0, self.entries.len() as u64) {
+        match self.positions.insert(ticket.0, self.entries.len() as u64) {
             Ok(_) => Ok(()),
             Err(failed) => {
                 let _ = self.entries.pop();
@@ -93,7 +93,7 @@ impl Ledger {
             Some(Entry::Definition(_)) => {}
             Some(Entry::Foreign(_)) => {}
             Some(Entry::Own(ticket, _)) => {
-                let _ = self.fronts.remove(&ticket.0);
+                let _ = self.positions.remove(&ticket.0);
             }
         }
     }

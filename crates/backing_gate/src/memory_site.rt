@@ -7,7 +7,6 @@ ghost use Rattle.table_state.specs.Histories.{entry_of};
 ghost use Rattle.outside.specs.Bank.{AppliesOnce, CanFollow, Defines, TellsSchema};
 ghost use Rattle.outside.specs.Calls.{BankCall, GoesOn, HasLength, MayApply, Stays, Told};
 ghost use Rattle.outside.specs.Faults.{BankHasCause, HasCause};
-ghost use Rattle.backing_gate.specs.Differences.{TellsDifference};
 ghost use Rattle.backing_gate.specs.Heeding.{Heeds};
 ghost use Rattle.backing_gate.specs.Memory.{moment_of, possible_of, told_of, unused};
 ghost use Rattle.backing_gate.specs.Plans.{after_call, no_plans, planned_next, with_plan};
@@ -208,7 +207,6 @@ impl Site for MemorySite {
         ensures cause { BankHasCause self.old.bank_faults self.new.bank_faults result }
         ensures planned { Heeds (planned_next CallKind.ApplyOnce self.old.planned) self.old self.new result (CanFollow sealed.now after.now self.old.history → self.new.history ≡ self.old.history ++ entry_of sealed.now ∷ []) }
         ensures counted { self.new.planned ≡ after_call CallKind.ApplyOnce self.old.planned }
-        ensures differs { IfOk result (λ applied. TellsDifference applied sealed.now.ops self.old.history) }
     {
         match self.plans.next(CallKind::ApplyOnce) {
             Some(Outcome::Failed(When::Before)) => {

@@ -1,8 +1,7 @@
 -- Laws of bytes that are taken and written in pieces.
-use Rattle.std.proofs.Common.{◌≡◌, ℕ, zero, suc, min, ◌+◌, ◌-◌, ◌≤◌, ◌<◌, List, [], ◌∷◌, ◌++◌, length, take, drop, refl, sym, ◌∙◌, ap, arith, zero-add, append_assoc, Option, Some, None, Result, Ok, Err}
+use Rattle.std.proofs.Common.{◌≡◌, ℕ, zero, suc, min, ◌+◌, ◌-◌, ◌<◌, List, [], ◌∷◌, ◌++◌, length, take, drop, refl, sym, ◌∙◌, ap, arith, zero-add, append_assoc, Option, Some, None}
 use Rattle.std.specs.Io.KnownBytes.{Appends}
-use Rattle.std.proofs.lemmas.List.{take_at, take-append-drop, length-take-le, length-drop, drop_all, length-append}
-use Rattle.outside.specs.Writing.{Writes}
+use Rattle.std.proofs.lemmas.List.{take_at, take-append-drop, length-drop, drop_all, length-append}
 
 take_nothing : (n : ℕ) → ◌≡◌ {A = List ℕ} (take n []) []
 take_nothing zero = refl

@@ -1,6 +1,6 @@
 -- What the calls of the backing database do to its history. (This project's model of the backing database.)
 
-use Rattle.std.specs.Prelude.{◌≡◌, ℕ, ◌≤◌, ◌<◌, ◌⊎◌, List, [], ◌∷◌, ◌++◌, length, Bool, true, false, Option, Some, None, Result, Ok, Err}
+use Rattle.std.specs.Prelude.{◌≡◌, ◌⊎◌, List, [], ◌∷◌, ◌++◌, true, false, Some, None, Result, Ok, Err}
 use Rattle.std.specs.Option.{IsSome}
 use Rattle.std.specs.List.{Contains}
 use Rattle.tier_base.specs.declared.number.Ticket.{Ticket}
@@ -9,7 +9,8 @@ use Rattle.table_state.specs.declared.history.Entry.{Entry}
 use Rattle.table_state.specs.declared.history.Entry.TheVariants.{Definition}
 use Rattle.table_state.specs.declared.history.Sealed.{Sealed}
 use Rattle.table_state.specs.Tables.{TableState}
-use Rattle.table_state.specs.Histories.{state_of, has_ticket, entry_of}
+use Rattle.table_state.specs.Histories.{state_of, has_ticket, entry_of, position_of}
+use Rattle.outside.specs.Differences.{IsFirstDifference}
 use Rattle.outside.specs.declared.fault.BankError.{BankError}
 use Rattle.outside.specs.declared.fault.BankError.TheVariants.{Failed, Memory}
 use Rattle.outside.specs.declared.site.Applied.{Applied}
@@ -37,17 +38,18 @@ pub record Comes (s : Sealed) (after : List Ticket) (old new : List Entry) : Typ
   pub can : CanFollow s after old
   pub grows : Grows (entry_of s ∷ []) old new
 
--- the receipt is this transaction's, and its position is at most the length of the history
+-- the receipt is this transaction's, and its position is the one behind its entry
 pub record IsReceipt (s : Sealed) (receipt : Receipt) (new : List Entry) : Type 0 where
   pub ticket : receipt.ticket ≡ s.ticket
-  pub position : receipt.position.0 ≤ length new
+  pub position : position_of s.ticket.0 new ≡ Some receipt.position.0
 
--- one transaction is applied and recorded at once, or was, or has to wait, or can't be
+-- One transaction is applied and recorded at once, or was, or has to wait, or can't be; then the first difference is
+-- told.
 abbrev pub AppliesOnce : Sealed → List Ticket → Result Applied BankError → List Entry → List Entry → Type 0
-AppliesOnce s after (Ok (Now receipt)) old new = Comes s after old new × IsReceipt s receipt new × (length old < receipt.position.0)
+AppliesOnce s after (Ok (Now receipt)) old new = Comes s after old new × IsReceipt s receipt new
 AppliesOnce s after (Ok (Before receipt)) old new = (has_ticket s.ticket.0 old ≡ true) × Grows [] old new × IsReceipt s receipt new
 AppliesOnce s after (Ok (NotReady ticket)) old new = (has_ticket s.ticket.0 old ≡ false) × Contains after ticket × (has_ticket ticket.0 old ≡ false) × Grows [] old new
-AppliesOnce s after (Ok (Differs table key row)) old new = (has_ticket s.ticket.0 old ≡ false) × HasAll after old × (state_of (old ++ entry_of s ∷ []) ≡ None) × Grows [] old new
+AppliesOnce s after (Ok (Differs table key row)) old new = (has_ticket s.ticket.0 old ≡ false) × HasAll after old × (state_of (old ++ entry_of s ∷ []) ≡ None) × Grows [] old new × IsFirstDifference (table, key, row) s.ops old
 AppliesOnce s after (Err Memory) old new = Grows [] old new
 AppliesOnce s after (Err Failed) old new = Grows [] old new ⊎ Comes s after old new
 

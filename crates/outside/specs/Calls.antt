@@ -1,6 +1,6 @@
 -- What one call, or several, may do to a site that holds something. (This project's model of disk and crash.)
 
-use Rattle.std.specs.Prelude.{◌≡◌, ℕ, ◌≤◌, ◌<◌, ◌⊎◌, Option, Some, None, List, Result, length}
+use Rattle.std.specs.Prelude.{◌≡◌, ℕ, ◌≤◌, ◌<◌, Option, Some, None, List, Result, length}
 use Rattle.std.specs.Result.{IfOk}
 use Rattle.table_state.specs.declared.history.Entry.{Entry}
 use Rattle.outside.specs.declared.disk.Slot.{Slot}

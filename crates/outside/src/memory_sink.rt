@@ -6,8 +6,7 @@ use crate::fault::Failed;
 use crate::sink::Sink;
 use std::alloc::Global;
 
-/// A sink that tells everything: it takes a given number of bytes at a time, and fails at chosen calls. Where its own
-/// growth is refused memory the call fails.
+/// A sink that tells everything: it takes a given number of bytes at a time, and fails at chosen calls.
 #[derive(Drop)]
 pub struct MemorySink {
     bytes: Vec<u8>,
@@ -39,10 +38,6 @@ impl MemorySink {
     {
         self.bytes.as_slice()
     }
-
-    fn fault(&mut self) {
-        self.faults = self.faults.saturating_add(1);
-    }
 }
 
 impl Sink for MemorySink {
@@ -50,6 +45,11 @@ impl Sink for MemorySink {
 
     ghost faults = { λ sink. sink.faults };
 
+    /// Takes as many of the bytes as a piece has, or all where there are fewer.
+    ///
+    /// `Failed`, with nothing taken and the count of faults raised, in three cases: the call is one of those chosen, a
+    /// piece has no bytes, or memory for the bytes is wanting. The third is told as a fault since a sink has no other
+    /// answer for it.
     fn put(&mut self, bytes: &[u8]) -> Result<usize, Failed> {
         let call = self.calls;
         self.calls = self.calls.saturating_add(1);

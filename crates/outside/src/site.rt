@@ -15,7 +15,7 @@ use tier_base::{Position, TableId, Ticket};
 pub struct Receipt {
     /// Its ticket.
     pub ticket: Ticket,
-    /// At most the length of the history then. Where it came now, more than the length before.
+    /// How many entries the history had with its own as the last.
     pub position: Position,
 }
 
@@ -28,8 +28,8 @@ pub enum Applied {
     Before(Receipt),
     /// This ticket, which has to stand before it, isn't recorded.
     NotReady(Ticket),
-    /// An operation doesn't apply: the table, the key of the row that differs, and the row there. No clause ties these
-    /// three to the operation yet.
+    /// An operation doesn't apply. Of the first such: the table, the key of the row that isn't as it should be, and the
+    /// row there. That is the operation's own row, or the parent that is missing, or the least child that is there.
     Differs(TableId, Key, Option<Row>),
 }
 

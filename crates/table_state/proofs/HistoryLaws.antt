@@ -1,5 +1,5 @@
 -- Laws of lists of operations and of histories.
-use Rattle.std.proofs.Common.{◌≡◌, ℕ, ◌+◌, ◌<◌, ◌≤◌, Bool, true, false, ◌||◌, Option, Some, None, List, [], ◌∷◌, ◌++◌, length, take, drop, get_or, refl, sym, ap, ◌∙◌}
+use Rattle.std.proofs.Common.{◌≡◌, ℕ, zero, suc, ◌+◌, ◌<◌, ◌≤◌, Bool, true, false, ◌||◌, Option, Some, None, List, [], ◌∷◌, ◌++◌, length, take, drop, get_or, slice_get, subst, refl, sym, ap, ◌∙◌, arith}
 use Rattle.std.specs.Option.{option_and_then, option_or}
 use Rattle.std.proofs.lemmas.List.{take_all, take_more, drop_more, take-append-drop}
 use Rattle.table_state.specs.declared.operation.Op.{Op}
@@ -9,7 +9,8 @@ use Rattle.table_state.specs.declared.refusal.ApplyError.TheVariants as error
 use Rattle.table_state.specs.Tables.{TableState}
 use Rattle.table_state.specs.Operations.{applied, applied_all}
 use Rattle.table_state.specs.Histories.{after_entry, has_ticket, is_of, no_tables, state_from, state_of}
-use Rattle.table_state.specs.Refusals.{IsFault, SaysNone, broken_by, broken_by_all}
+use Rattle.table_state.specs.declared.history.Entry.TheVariants.{Definition, Foreign, Own}
+use Rattle.table_state.specs.Refusals.{IsFault, SaysNone, StopsAt, broken_by, broken_by_all, broken_by_entry, broken_in}
 use Rattle.table_state.proofs.ChangeLaws.{refuses, unbroken_where_applied}
 
 module _ {S : Type 0} (f g : S → Option S) where
@@ -110,6 +111,60 @@ pub no_state_here : (entries : List Entry) (i : ℕ) (entry : Entry) (start now 
 no_state_here entries i entry start now lt is so_far (error.Rule rule) h = stops_here after_entry state_from (λ s. refl) (λ x xs s. refl) state_from-append entries i entry start now lt is so_far h
 no_state_here entries i entry start now lt is so_far (error.Differs t key row) h = stops_here after_entry state_from (λ s. refl) (λ x xs s. refl) state_from-append entries i entry start now lt is so_far h
 no_state_here entries i entry start now lt is so_far error.Memory h = tt
+
+-- what applies breaks nothing
+unbroken_all : (ops : List Op) (s n : TableState) → applied_all ops s ≡ Some n → broken_by_all ops s ≡ None
+unbroken_all ops s n h = by (broken_by_all ops s) refl
+  where
+    by : (f : Option ApplyError) → broken_by_all ops s ≡ f → f ≡ None
+    by None e = refl
+    by (Some x) e = let none : applied_all ops s ≡ None = none_all ops s x e in cc
+
+unbroken_entry : (entry : Entry) (s n : TableState) → after_entry entry s ≡ Some n → broken_by_entry entry s ≡ None
+unbroken_entry (Definition def) s n h = refl
+unbroken_entry (Foreign ops) s n h = unbroken_all ops s n h
+unbroken_entry (Own ticket ops) s n h = unbroken_all ops s n h
+
+-- faults behind entries that apply
+broken_behind_entries : (xs ys : List Entry) (s n : TableState) → state_from xs s ≡ Some n → broken_in (xs ++ ys) s ≡ broken_in ys n
+broken_behind_entries [] ys s n e = let same : s ≡ n = cc in ap (broken_in ys) same
+broken_behind_entries (x ∷ xs) ys s n e = by (after_entry x s) refl e (λ t. broken_behind_entries xs ys t n)
+  where
+    by : (o : Option TableState) → after_entry x s ≡ o → option_and_then (state_from xs) o ≡ Some n → ((t : TableState) → state_from xs t ≡ Some n → broken_in (xs ++ ys) t ≡ broken_in ys n)
+        → option_or (broken_by_entry x s) (option_and_then (broken_in (xs ++ ys)) (after_entry x s)) ≡ broken_in ys n
+    by None h f rest = cc
+    by (Some t) h f rest = rw (unbroken_entry x s t h, h) (rest t f)
+
+-- the first entry that doesn't apply is the one at a place of the list
+pub entry_fault_here : (entries : List Entry) (i : ℕ) (entry : Entry) (start now : TableState) → i < length entries → entry ≡ get_or entries i entry → state_from (take i entries) start ≡ Some now → (e : ApplyError)
+    → IsFault (broken_by_entry entry now) e → IsFault (broken_in entries start) e
+entry_fault_here entries i entry start now lt is so_far e h = told e h
+  where
+    behind : broken_in entries start ≡ option_or (broken_by_entry entry now) (option_and_then (broken_in (drop (i + 1) entries)) (after_entry entry now))
+    behind =
+        ap (λ l. broken_in l start) (split_here after_entry state_from (λ s. refl) (λ x xs s. refl) state_from-append entries i entry start now lt is so_far)
+        ∙ broken_behind_entries (take i entries) (entry ∷ drop (i + 1) entries) start now so_far
+
+    told : (e : ApplyError) → IsFault (broken_by_entry entry now) e → IsFault (broken_in entries start) e
+    told (error.Rule rule) h = behind ∙ ap (λ f. option_or f (option_and_then (broken_in (drop (i + 1) entries)) (after_entry entry now))) h
+    told (error.Differs t key row) h = behind ∙ ap (λ f. option_or f (option_and_then (broken_in (drop (i + 1) entries)) (after_entry entry now))) h
+    told error.Memory h = tt
+
+-- where the next entry stays out
+pub stops_at : (entries : List Entry) (i : ℕ) (entry : Entry) (start now new : TableState) → i < length entries → entry ≡ get_or entries i entry → state_from (take i entries) start ≡ Some now → new ≡ now → (e : ApplyError)
+    → IsFault (broken_by_entry entry now) e → StopsAt entries start new e
+stops_at entries i entry start now new lt is so_far same e h = record {
+  steps = i;
+  entry = entry;
+  taken = so_far ∙ ap Some (sym same);
+  next = get_there entries i entry lt ∙ ap Some (sym is);
+  refused = subst (λ (s : TableState). IsFault (broken_by_entry entry s) e) (sym same) h;
+}
+  where
+    get_there : (xs : List Entry) (i : ℕ) (d : Entry) → i < length xs → slice_get xs i ≡ Some (get_or xs i d)
+    get_there [] i d lt = absurd (omega arith)
+    get_there (x ∷ xs) zero d lt = refl
+    get_there (x ∷ xs) (suc i) d lt = get_there xs i d (omega arith)
 
 -- the fault of a front is that of the whole
 front_fault : (xs ys : List Op) (s : TableState) (e : ApplyError) → broken_by_all xs s ≡ Some e → broken_by_all (xs ++ ys) s ≡ Some e

@@ -4,4 +4,5 @@ pub mod HistoryLaws
 pub mod IndependenceLaws
 pub mod ListLaws
 pub mod NumberLaws
+pub mod PositionLaws
 pub mod RefusalLaws

@@ -1,7 +1,7 @@
 -- The backing history, and the state at a position of it. (This project's model of the backing database.)
 
-use Rattle.std.specs.Prelude.{ℕ, List, [], ◌∷◌, ◌++◌, Option, Some, Bool, false, ◌||◌, nat_eq, take}
-use Rattle.std.specs.Option.{option_and_then}
+use Rattle.std.specs.Prelude.{ℕ, ◌+◌, List, [], ◌∷◌, ◌++◌, Option, Some, None, Bool, false, ◌||◌, nat_eq, take, if◌then◌else◌}
+use Rattle.std.specs.Option.{option_and_then, option_map}
 use Rattle.std.specs.FinMap.{empty}
 use Rattle.table_state.specs.declared.history.Entry.{Entry}
 use Rattle.table_state.specs.declared.history.Entry.TheVariants.{Definition, Foreign, Own}
@@ -40,6 +40,11 @@ is_of ticket (Own own ops) = nat_eq own.0 ticket
 abbrev pub has_ticket : ℕ → List Entry → Bool
 has_ticket ticket [] = false
 has_ticket ticket (entry ∷ entries) = is_of ticket entry || has_ticket ticket entries
+
+-- the position behind the entry with the ticket, the first where there are several
+abbrev pub position_of : ℕ → List Entry → Option ℕ
+position_of ticket [] = None
+position_of ticket (entry ∷ entries) = if is_of ticket entry then Some 1 else option_map (λ n. n + 1) (position_of ticket entries)
 
 -- the entry of a committed transaction
 abbrev pub entry_of : Sealed → Entry

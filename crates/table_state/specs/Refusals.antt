@@ -1,7 +1,7 @@
 -- Why an operation doesn't apply. (TimesTen SQL Reference, INSERT, UPDATE, DELETE; the codes, their order and what is
 -- told behind them are this project's rule.)
 
-use Rattle.std.specs.Prelude.{◌≡◌, ℕ, List, [], ◌∷◌, Option, Some, None, Bool, false, not, ◌==◌, length, find, Result, Ok, Err, slice_get, unwrap_or, if◌then◌else◌}
+use Rattle.std.specs.Prelude.{◌≡◌, ℕ, List, [], ◌∷◌, Option, Some, None, Bool, false, not, ◌==◌, length, find, take, Result, Ok, Err, slice_get, unwrap_or, if◌then◌else◌}
 use Rattle.std.specs.FinMap.{contains_key, entries, get}
 use Rattle.std.specs.Option.{option_and_then, option_map, option_or}
 use Rattle.std.specs.Ordering.{is_eq}
@@ -18,12 +18,15 @@ use Rattle.row_types.specs.Columns.{fit_of}
 use Rattle.row_types.specs.Order.{order_of}
 use Rattle.table_state.specs.declared.definition.ForeignKey.{ForeignKey}
 use Rattle.table_state.specs.declared.definition.TableDef.{TableDef}
+use Rattle.table_state.specs.declared.history.Entry.{Entry}
+use Rattle.table_state.specs.declared.history.Entry.TheVariants.{Definition, Foreign, Own}
 use Rattle.table_state.specs.declared.operation.Op.{Op}
 use Rattle.table_state.specs.declared.operation.Op.TheVariants.{Insert, Update, Delete}
 use Rattle.table_state.specs.declared.refusal.ApplyError.{ApplyError}
 use Rattle.table_state.specs.declared.refusal.ApplyError.TheVariants as error
 use Rattle.table_state.specs.Tables.{Table, TableState, key_of, has_parent, names_parent, is_there}
 use Rattle.table_state.specs.Operations.{applied}
+use Rattle.table_state.specs.Histories.{after_entry, state_from}
 
 abbrev pub refused : Code → Detail → Option ApplyError
 refused code detail = Some (error.Rule (record { code = code; detail = detail }))
@@ -128,6 +131,17 @@ abbrev pub broken_by_all : List Op → TableState → Option ApplyError
 broken_by_all [] s = None
 broken_by_all (op ∷ ops) s = option_or (broken_by op s) (option_and_then (broken_by_all ops) (applied op s))
 
+-- the same of the operations of an entry of the history
+abbrev pub broken_by_entry : Entry → TableState → Option ApplyError
+broken_by_entry (Definition def) s = None
+broken_by_entry (Foreign ops) s = broken_by_all ops s
+broken_by_entry (Own ticket ops) s = broken_by_all ops s
+
+-- the first rule that one of the entries breaks, behind those before it
+abbrev pub broken_in : List Entry → TableState → Option ApplyError
+broken_in [] s = None
+broken_in (entry ∷ entries) s = option_or (broken_by_entry entry s) (option_and_then (broken_in entries) (after_entry entry s))
+
 -- the error tells this fault; memory may be wanting at any time
 abbrev pub IsFault : Option ApplyError → ApplyError → Type 0
 IsFault fault (error.Rule rule) = fault ≡ Some (error.Rule rule)
@@ -144,3 +158,11 @@ abbrev pub SaysNone : Option TableState → ApplyError → Type 0
 SaysNone state (error.Rule rule) = state ≡ None
 SaysNone state (error.Differs t key row) = state ≡ None
 SaysNone state error.Memory = Unit {0}
+
+-- so many entries made this state, and the next one stays out for this error
+pub record StopsAt (entries : List Entry) (old new : TableState) (error : ApplyError) : Type 0 where
+  pub steps : ℕ
+  pub entry : Entry
+  pub taken : state_from (take steps entries) old ≡ Some new
+  pub next : slice_get entries steps ≡ Some entry
+  pub refused : IsFault (broken_by_entry entry new) error

@@ -1,12 +1,12 @@
 //! Laws of the definitions, each on the contract of a function that does nothing.
 
-ghost use Rattle.std.specs.Prelude.{◌≡◌, ◌++◌, ◌||◌, ℕ, List, None, Some, is_some, true};
-ghost use Rattle.std.specs.Option.{option_and_then};
+ghost use Rattle.std.specs.Prelude.{◌≡◌, ◌+◌, ◌++◌, ◌≤◌, ◌||◌, ℕ, List, None, Some, is_some, length, slice_get, true};
+ghost use Rattle.std.specs.Option.{option_and_then, option_map, option_or};
 ghost use Rattle.table_state.specs.declared.definition.TableDef.{TableDef};
 ghost use Rattle.table_state.specs.declared.history.Entry.{Entry};
 ghost use Rattle.table_state.specs.declared.operation.Op.{Op};
 ghost use Rattle.table_state.specs.declared.refusal.ApplyError.{ApplyError};
-ghost use Rattle.table_state.specs.Histories.{has_ticket, state_from, state_of};
+ghost use Rattle.table_state.specs.Histories.{has_ticket, is_of, position_of, state_from, state_of};
 ghost use Rattle.table_state.specs.Independence.{AreApart, Commute, IsWhole, with_new};
 ghost use Rattle.table_state.specs.Operations.{applied, applied_all, table_of};
 ghost use Rattle.table_state.specs.Refusals.{broken_by, broken_by_all};
@@ -25,6 +25,15 @@ pub fn append_law()
     ensures entries { (xs ys : List Entry) (s : TableState) → state_from (xs ++ ys) s ≡ option_and_then (state_from ys) (state_from xs s) }
     ensures history { (xs ys : List Entry) → state_of (xs ++ ys) ≡ option_and_then (state_from ys) (state_of xs) }
     ensures tickets { (ticket : ℕ) (xs ys : List Entry) → has_ticket ticket (xs ++ ys) ≡ (has_ticket ticket xs || has_ticket ticket ys) }
+{}
+
+/// A ticket has a position where it stands. The entry before the position has it, and the position stays when entries
+/// come behind.
+pub fn position_law()
+    ensures stands { (ticket : ℕ) (h : List Entry) → has_ticket ticket h ≡ is_some (position_of ticket h) }
+    ensures within { (ticket : ℕ) (h : List Entry) (n : ℕ) → position_of ticket h ≡ Some n → n ≤ length h }
+    ensures entry { (ticket : ℕ) (h : List Entry) (n : ℕ) → position_of ticket h ≡ Some n → (k : ℕ) × (entry : Entry) × (n ≡ k + 1) × (slice_get h k ≡ Some entry) × (is_of ticket entry ≡ true) }
+    ensures append { (ticket : ℕ) (xs ys : List Entry) → position_of ticket (xs ++ ys) ≡ option_or (position_of ticket xs) (option_map (λ n. length xs + n) (position_of ticket ys)) }
 {}
 
 /// Operations on different tables, of which none refers to the other, commute.

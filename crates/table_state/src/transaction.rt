@@ -1,9 +1,9 @@
 //! Transactions and histories applied to tables.
 
-ghost use Rattle.std.specs.Prelude.{◌≡◌, [], ◌∷◌, ◌++◌, ℕ, IfErr, IfOk, MatchOption, OnErr, OnOk, Some, take};
+ghost use Rattle.std.specs.Prelude.{◌≡◌, [], ◌∷◌, ◌++◌, IfErr, IfOk, MatchOption, OnErr, OnOk, Some};
 ghost use Rattle.table_state.specs.Operations.{applied, applied_all};
 ghost use Rattle.table_state.specs.Histories.{after_entry, state_from};
-ghost use Rattle.table_state.specs.Refusals.{IsFault, SaysNone, broken_by, broken_by_all};
+ghost use Rattle.table_state.specs.Refusals.{IsFault, SaysNone, StopsAt, broken_by, broken_by_all, broken_by_entry, broken_in};
 ghost use Rattle.table_state.specs.Changes.{taken_back};
 
 use crate::change::Undo;
@@ -116,9 +116,13 @@ impl Tables {
         Ok(())
     }
 
-    /// Takes the step of one entry of the history. After an error the tables are as they were.
+    /// Takes the step of one entry of the history.
+    ///
+    /// A definition fails for want of memory alone, and the error of a transaction is that of `apply_all`. After an
+    /// error the tables are as they were.
     pub fn step(&mut self, alloc: Global, entry: &Entry) -> Result<(), ApplyError>
         ensures ok { OnOk result (after_entry entry.now self.old ≡ Some self.new) }
+        ensures refused { IfErr result (IsFault (broken_by_entry entry.now self.old)) }
         ensures none { IfErr result (SaysNone (after_entry entry.now self.old)) }
         ensures unchanged { OnErr result (self.new ≡ self.old) }
     {
@@ -133,12 +137,14 @@ impl Tables {
         }
     }
 
-    /// Takes the steps of the entries, up to the first that can't be taken. After an error the steps before it
-    /// stand.
+    /// Takes the steps of the entries, up to the first that can't be taken.
+    ///
+    /// The error is that entry's, as `step` tells it. After an error the steps before it stand.
     pub fn run(&mut self, alloc: Global, entries: &[Entry]) -> Result<(), ApplyError>
         ensures ok { OnOk result (state_from entries.now self.old ≡ Some self.new) }
+        ensures refused { IfErr result (IsFault (broken_in entries.now self.old)) }
         ensures none { IfErr result (SaysNone (state_from entries.now self.old)) }
-        ensures stopped { (steps : ℕ) × (state_from (take steps entries.now) self.old ≡ Some self.new) }
+        ensures stopped { IfErr result (StopsAt entries.now self.old self.new) }
     {
         for entry in entries {
             self.step(alloc, entry)?;

@@ -1,12 +1,11 @@
-use Rattle.std.proofs.Common.{◌≡◌, Option, Some, Result, Ok, Err, subst, sym}
+use Rattle.std.proofs.Common.{◌≡◌, Some, Result, Ok, Err, subst}
 use Rattle.std.specs.Option.{option_map}
 use Rattle.std.specs.Result.{IfOk}
-use Rattle.std.specs.declared.alloc.AllocError.{AllocError}
 use Rattle.table_state.specs.Refusals.{broken_by}
 use Rattle.table_state.specs.Tables.{TableState}
 use Rattle.table_state.proofs.HistoryLaws.{one_op_more}
 use Rattle.backing_gate.specs.declared.difference.Difference.{Difference}
-use Rattle.backing_gate.specs.Differences.{difference_of, first_difference}
+use Rattle.outside.specs.Differences.{difference_of, first_difference}
 use Rattle.backing_gate.proofs.DifferenceLaws.{difference_here}
 use Rattle.backing_gate.proofs.difference.first_difference.Goals as goal
 
@@ -19,7 +18,7 @@ if_ok P Q (Err e) p f = tt
 
 pub returns-in-Err : goal.returns-in-Err
 returns-in-Err c =
-    let told : TableState → Difference → Type 0 = λ s d. option_map (difference_of c.op-item.result s) (broken_by c.op-item.result s) ≡ Some d in
-    let First : Difference → Type 0 = λ d. first_difference c.args.ops.now c.args.tables.now ≡ Some d in
+    let told : TableState → Difference → Type 0 = λ s d. option_map (difference_of c.op-item.result s) (broken_by c.op-item.result s) ≡ Some (d.table, d.key, d.row) in
+    let First : Difference → Type 0 = λ d. first_difference c.args.ops.now c.args.tables.now ≡ Some (d.table, d.key, d.row) in
     if_ok (told c.apply.new.self) First c.difference_of.result c.difference_of.ensures (λ d p.
-    difference_here c.args.ops.now c.loop-op.op-index c.op-item.result c.args.tables.now c.loop-op.copy c.loop-op-test.true c.op-item.is c.loop-op.invariant d (subst (λ (s : TableState). told s d) c.in-Err.ensures.unchanged p))
+    difference_here c.args.ops.now c.loop-op.op-index c.op-item.result c.args.tables.now c.loop-op.copy c.loop-op-test.true c.op-item.is c.loop-op.invariant (d.table, d.key, d.row) (subst (λ (s : TableState). told s d) c.in-Err.ensures.unchanged p))

@@ -1,4 +1,4 @@
-use Rattle.std.proofs.Common.{Option, Some, unwrap_or, sym, ap, ◌∙◌}
+use Rattle.std.proofs.Common.{Option, unwrap_or, sym, ap, ◌∙◌}
 use Rattle.std.specs.FinMap.{empty, get, get-empty}
 use Rattle.row_types.specs.Order.{key_order}
 use Rattle.table_state.specs.Tables.{Table}

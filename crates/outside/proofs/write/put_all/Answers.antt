@@ -1,4 +1,4 @@
-use Rattle.std.proofs.Common.{arith, ◌≡◌, ◌++◌, ◌+◌, ◌∙◌, ◌-◌, ◌≤◌, ap, subst, take, drop, length, List, ℕ}
+use Rattle.std.proofs.Common.{arith, ◌≡◌, ◌++◌, ◌+◌, ◌∙◌, ◌-◌, ap, subst, take, drop, length, List, ℕ}
 use Rattle.std.specs.Io.KnownBytes.{Appends}
 use Rattle.std.proofs.lemmas.List.{take_rest, length-drop}
 use Rattle.outside.proofs.Bytes.{appends_twice, take_more}

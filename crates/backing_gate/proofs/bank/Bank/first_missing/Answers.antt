@@ -2,8 +2,9 @@ use Rattle.std.proofs.Common.{List, not, is_some, take, get_or, subst, sym, ap, 
 use Rattle.std.proofs.lemmas.List.{take_all, take_more}
 use Rattle.tier_base.specs.declared.number.Ticket.{Ticket}
 use Rattle.outside.specs.Bank.{HasAll}
-use Rattle.backing_gate.proofs.TicketLaws.{has_all_push, has_front, same_place}
-use Rattle.backing_gate.specs.Tickets.{front_with}
+use Rattle.table_state.proofs.PositionLaws.{has_position}
+use Rattle.backing_gate.proofs.TicketLaws.{has_all_push, same_place}
+use Rattle.table_state.specs.Histories.{position_of}
 use Rattle.backing_gate.proofs.bank.Bank.first_missing.Goals as goal
 
 pub loop-ticket-init : goal.loop-ticket-init
@@ -13,7 +14,7 @@ pub returns-then-is_none : goal.returns-then-is_none
 returns-then-is_none c =
     let ticket : Ticket = get_or c.args.tickets.now c.loop-ticket.ticket-index (record { 0 = 0 }) in (
       (c.loop-ticket.ticket-index, c.loop-ticket-test.true, same_place c.args.tickets.now c.loop-ticket.ticket-index (record { 0 = 0 })),
-      has_front ticket.0 c.args.self.now ∙ ap is_some (ap (front_with ticket.0) (sym c.self.view_is) ∙ sym c.front_with.ensures) ∙ c.is_none.ensures ∙ ap not c.if-is_none.true,
+      has_position ticket.0 c.args.self.now ∙ ap is_some (ap (position_of ticket.0) (sym c.self.view_is) ∙ sym c.position_of.ensures) ∙ c.is_none.ensures ∙ ap not c.if-is_none.true,
     )
 
 pub loop-ticket-preserved : goal.loop-ticket-preserved
@@ -22,7 +23,7 @@ loop-ticket-preserved c =
     let ticket : Ticket = get_or c.args.tickets.now c.loop-ticket.ticket-index (record { 0 = 0 }) in
     subst Has (sym (take_more c.args.tickets.now c.loop-ticket.ticket-index (record { 0 = 0 }) c.loop-ticket-test.true))
     (has_all_push (take c.loop-ticket.ticket-index c.args.tickets.now) ticket c.args.self.now c.loop-ticket.invariant
-    (has_front ticket.0 c.args.self.now ∙ ap is_some (ap (front_with ticket.0) (sym c.self.view_is) ∙ sym c.front_with.ensures) ∙ c.is_none.ensures ∙ ap not c.if-is_none.false))
+    (has_position ticket.0 c.args.self.now ∙ ap is_some (ap (position_of ticket.0) (sym c.self.view_is) ∙ sym c.position_of.ensures) ∙ c.is_none.ensures ∙ ap not c.if-is_none.false))
 
 pub returns : goal.returns
 returns c =

@@ -1,8 +1,7 @@
-use Rattle.std.proofs.Common.{◌≡◌, Option, Some, Ok, List, ◌∷◌, [], ◌++◌, subst, sym, ap, ◌∙◌}
+use Rattle.std.proofs.Common.{◌≡◌, Some, Ok, List, ◌∷◌, [], ◌++◌, subst, sym, ap, ◌∙◌}
 use Rattle.table_state.specs.declared.history.Entry.{Entry}
 use Rattle.table_state.specs.Histories.{entry_of}
 use Rattle.outside.specs.Bank.{AppliesOnce, CanFollow}
-use Rattle.outside.specs.declared.site.Applied.{Applied}
 use Rattle.backing_gate.specs.declared.plan.CallKind.TheVariants.{ApplyOnce}
 use Rattle.backing_gate.specs.declared.plan.Outcome.TheVariants as outcome
 use Rattle.backing_gate.specs.Memory.{MemoryState}

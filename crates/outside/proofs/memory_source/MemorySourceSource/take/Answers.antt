@@ -1,5 +1,5 @@
 use Rattle.std.proofs.Common.{arith, ◌≡◌, ◌≤◌, ◌<◌, ◌∙◌, ap, drop, take, length, min}
-use Rattle.std.proofs.lemmas.List.{length-take-le, length-drop}
+use Rattle.std.proofs.lemmas.List.{length-take-le}
 use Rattle.outside.proofs.Bytes.{gave, ended}
 use Rattle.outside.proofs.memory_source.MemorySourceSource.take.Goals as goal
 

@@ -1,4 +1,4 @@
--- The row at which a transaction doesn't apply. (This project's rule.)
+-- What the backing database tells of a transaction that doesn't apply. (This project's rule.)
 
 use Rattle.std.specs.Prelude.{◌≡◌, List, [], ◌∷◌, Option, Some, None, slice_get, unwrap_or}
 use Rattle.std.specs.FinMap.{get}
@@ -18,9 +18,6 @@ use Rattle.table_state.specs.Names.{place_of_table}
 use Rattle.table_state.specs.Operations.{applied, table_of}
 use Rattle.table_state.specs.Refusals.{broken_by}
 use Rattle.table_state.specs.Tables.{TableState, key_of, table_at}
-use Rattle.outside.specs.declared.site.Applied.{Applied}
-use Rattle.outside.specs.declared.site.Applied.TheVariants.{Now, Before, NotReady, Differs}
-use Rattle.backing_gate.specs.declared.difference.Difference.{Difference}
 
 -- the row that an operation puts in, changes or takes out
 abbrev pub row_of : Op → List Value
@@ -46,13 +43,17 @@ abbrev pub place_of : Op → TableState → Detail → Place
 place_of op s (detail.Row name key) = (unwrap_or (place_of_table s.schema name) (table_of op), key)
 place_of op s other = (table_of op, own_key op s)
 
+-- a row that isn't as an operation wants it: its table, its key, and the row that is there
+abbrev pub Difference : Type 0
+Difference = TableId × List Value × Option (List Value)
+
 abbrev pub difference_at : Place → TableState → Difference
-difference_at place s = record { table = place.0; key = place.1; row = get (table_at s place.0) place.1 }
+difference_at place s = (place.0, place.1, get (table_at s place.0) place.1)
 
 -- what is told of an operation that doesn't apply
 abbrev pub difference_of : Op → TableState → ApplyError → Difference
 difference_of op s (error.Rule rule) = difference_at (place_of op s rule.detail) s
-difference_of op s (error.Differs t key row) = record { table = t; key = key; row = row }
+difference_of op s (error.Differs t key row) = (t, key, row)
 difference_of op s error.Memory = difference_at (table_of op, own_key op s) s
 
 -- of the first operation that doesn't apply behind those before it
@@ -60,9 +61,6 @@ abbrev pub first_difference : List Op → TableState → Option Difference
 first_difference [] s = None
 first_difference (op ∷ ops) s = option_or (option_map (difference_of op s) (broken_by op s)) (option_and_then (first_difference ops) (applied op s))
 
--- an answer that tells a difference tells the first one
-abbrev pub TellsDifference : Applied → List Op → List Entry → Type 0
-TellsDifference (Differs table key row) ops history = (s : TableState) → state_of history ≡ Some s → first_difference ops s ≡ Some (record { table = table; key = key; row = row })
-TellsDifference (Now receipt) ops history = Unit {0}
-TellsDifference (Before receipt) ops history = Unit {0}
-TellsDifference (NotReady ticket) ops history = Unit {0}
+-- this is the first difference between the operations and the tables that the history leaves
+abbrev pub IsFirstDifference : Difference → List Op → List Entry → Type 0
+IsFirstDifference difference ops history = (s : TableState) → state_of history ≡ Some s → first_difference ops s ≡ Some difference
