@@ -1,5 +1,5 @@
 -- Words with spaces between, and their tokens.
-use Rattle.std.proofs.Common.{◌≡◌, ℕ, suc, ◌<◌, Bool, true, false, cond, ◌&&◌, eqb, List, [], ◌∷◌, ◌++◌, length, codes, refl, sym, ap, ◌∙◌, arith, append_assoc, append-nil}
+use Rattle.std.proofs.Common.{◌≡◌, ℕ, suc, ◌<◌, Bool, true, false, cond, ◌&&◌, eqb, ltb, List, [], ◌∷◌, ◌++◌, length, codes, refl, sym, ap, ◌∙◌, arith, append_assoc, append-nil}
 use Rattle.std.proofs.lemmas.Bool.Decides.{nat_tests}
 use Rattle.std.specs.List.{list_all, flat_map}
 use Rattle.tier_base.specs.Names.{is_word_byte}
@@ -83,3 +83,7 @@ lexes_text t i ws = in_text i (suc i) (39 ∷ []) t ws
 pub lexes_minus : (w : Word) → list_all is_word_byte w ≡ true → 0 < length w → (i : ℕ) (ws : List Word)
     → (j : ℕ) × (lexed_from Blank i ((45 ∷ w) ++ spaced ws) ≡ lexeme Minus i (45 ∷ []) ∷ lexeme (word_kind w) (suc i) w ∷ lexed_from Blank j (spaced ws))
 lexes_minus w h l i ws = let q = lexes_word w h l (suc i) ws in (q.0, ap (λ (x : List Lexeme). lexeme Minus i (45 ∷ []) ∷ x) q.1)
+
+-- the same, of a word that is written out
+pub lexes : (w : Word) → list_all is_word_byte w && ltb 0 (length w) ≡ true → Lexes (word_kind w) w
+lexes w h = lexes_word w (and_left (list_all is_word_byte w) (ltb 0 (length w)) h) (grind (arith, nat_tests, and_right (list_all is_word_byte w) (ltb 0 (length w)) h))

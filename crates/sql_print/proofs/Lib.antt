@@ -1,6 +1,9 @@
 pub mod Columns
 pub mod Lexed
+pub mod Literals
+pub mod Names
 pub mod NormalLaws
 pub mod Puts
 pub mod Rest
+pub mod Tables
 pub mod WordKinds

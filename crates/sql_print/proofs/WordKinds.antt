@@ -5,7 +5,7 @@ use Rattle.std.specs.List.{list_all}
 use Rattle.std.specs.Char.{is_ascii_digit}
 use Rattle.tier_base.specs.Names.{is_word_byte, is_identifier, begins_with_letter, is_among, reserved, is_reserved_word, spells}
 use Rattle.sql_tokens.specs.declared.kind.Kind.{Kind}
-use Rattle.sql_tokens.specs.declared.kind.Kind.TheVariants.{Identifier, Zero, One, Two, Three, Integer, Text, Null, Minus}
+use Rattle.sql_tokens.specs.declared.kind.Kind.TheVariants.{Identifier, Zero, One, Two, Three, Integer, Text, Null, Minus, Primary}
 use Rattle.sql_tokens.specs.Kinds.{is_kind}
 use Rattle.sql_tokens.specs.Words.{word_kind, named, keywords, number_kind, digit_kind}
 use Rattle.sql_grammar.specs.declared.test.Test.TheVariants.{Name, Whole}
@@ -70,6 +70,10 @@ identifier_word w h = by (begins_with_letter w) (list_all is_word_byte w) (leb (
     by true true false d p q r s t = absurd (cc)
     by true false c d p q r s t = absurd (cc)
     by false b c d p q r s t = absurd (cc)
+
+-- a name is no reserved word
+pub name_no_primary : (k : Kind) → passes Name k ≡ true → is_kind k Primary ≡ false
+name_no_primary k h = grind (arith, nat_tests)
 
 -- what the kind of a number is, and is not
 pub record IsNumberKind (k : Kind) : Type 0 where
