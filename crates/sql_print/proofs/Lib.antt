@@ -1,9 +1,11 @@
 pub mod Columns
+pub mod Groups
 pub mod Lexed
 pub mod Literals
 pub mod Names
 pub mod NormalLaws
 pub mod Puts
 pub mod Rest
+pub mod Statements
 pub mod Tables
 pub mod WordKinds

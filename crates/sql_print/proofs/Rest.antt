@@ -51,3 +51,15 @@ Never k Q = (ls : List Lexeme) → Q ls → begins k ls ≡ false
 
 pub front_never : (j k : Kind) (w : Word) (Q : List Lexeme → Type 0) → is_kind k j ≡ false → Never j (Front k w Q)
 front_never j k w Q h ls (p, rest, e, q) = rw e h
+
+-- what the parts read is so
+pub known_by : (ps : Parts) (ws : List Word) (P Q : List Lexeme → Type 0) → ((ls : List Lexeme) → Reads rule 32 ps (kinds_in ls) → P ls → Q ls) → Rest ps ws P → Rest ps ws Q
+known_by ps ws P Q f r i = let (d, q) = r i in (d, f (lexed_from Blank i (spaced ws)) d q)
+
+-- the first word
+pub begun_by : (k : Kind) (w : Word) (ps qs : Parts) (ws : List Word) (Q : List Lexeme → Type 0) → Lexes k w → Takes k ps qs → Rest ps ws Q
+    → Reads rule 32 qs (kinds_in (lexed_from Blank 0 (w ++ spaced ws))) × Front k w Q (lexed_from Blank 0 (w ++ spaced ws))
+begun_by k w ps qs ws Q l f r =
+    let (j, e) = l 0 ws in
+    let (d, q) = r j in
+    (subst (λ ls. Reads rule 32 qs (kinds_in ls)) (sym e) (f (kinds_in (lexed_from Blank j (spaced ws))) d), (0, lexed_from Blank j (spaced ws), e, q))

@@ -1,0 +1,115 @@
+-- Statements that are put are read back.
+use Rattle.std.proofs.Common.{◌≡◌, ℕ, suc, eqb, Bool, true, false, List, [], ◌∷◌, ◌++◌, length, drop, codes, Option, Some, None, refl, sym, ap, ◌∙◌, subst, arith, append_assoc, append-nil}
+use Rattle.std.proofs.lemmas.Bool.Decides.{nat_tests}
+use Rattle.sql_tokens.specs.declared.kind.Kind.{Kind}
+use Rattle.sql_tokens.specs.declared.kind.Kind.TheVariants as k
+use Rattle.sql_tokens.specs.Kinds.{code}
+use Rattle.sql_tokens.specs.Lexing.{Lexeme, lexeme, lexed, Blank, lexed_from}
+use Rattle.sql_grammar.specs.declared.rule.Rule.TheVariants as rules
+use Rattle.sql_grammar.specs.declared.start.Start.TheVariants as starts
+use Rattle.sql_grammar.specs.declared.test.Test.TheVariants.{Only}
+use Rattle.sql_grammar.specs.Tests.{passes}
+use Rattle.sql_grammar.specs.Grammar.{Grammar, Parts, Over, Part, Reads, Empty, Named, Token, token, both, this, that, empty, enough, over, named}
+use Rattle.sql_grammar.specs.Notation.{optional, choice, repeated, the, ◌▸◌}
+use Rattle.sql_grammar.specs.Sql.{rule, arguments, create_group, grammar_of, insert, literal, literals, load, select, table_name}
+use Rattle.sql_grammar.specs.Verdict.{IsSpelt}
+use Rattle.sql_subset.specs.declared.stmt.Literal.{Literal}
+use Rattle.sql_subset.specs.declared.stmt.Insert as inserts
+use Rattle.sql_subset.specs.declared.stmt.Call as calls
+use Rattle.sql_subset.specs.declared.stmt.CreateGroup as groups
+use Rattle.sql_subset.specs.declared.stmt.Stmt.{Stmt}
+use Rattle.sql_subset.specs.declared.stmt.Stmt.TheVariants as v
+use Rattle.sql_subset.specs.Lines.{kinds_in}
+use Rattle.sql_subset.specs.Reading.{begins, name_of, literal_of, literals_of}
+use Rattle.sql_subset.specs.Groups.{group_of}
+use Rattle.sql_subset.specs.Statements.{call_named, call_with, inserted, insert_named, insert_of, statement_of}
+use Rattle.sql_subset.proofs.Shrinking.{literal_shrinks}
+use Rattle.sql_print.specs.Words.{Word, argument_words, enclosed, group_words, listed, literal_words, more, name_words, rest_words, statement_words}
+use Rattle.sql_print.specs.Printed.{joined, spaced}
+use Rattle.sql_print.proofs.Lexed.{Lexes, lexes}
+use Rattle.sql_print.proofs.Rest.{Front, Gives, Never, Rest, begun_by, front_never, known, known_by, moved, taken}
+use Rattle.sql_print.proofs.Names.{IsName, put_name}
+use Rattle.sql_print.proofs.Literals.{AllGood, IsLiteral, put_list, put_literal}
+use Rattle.sql_print.proofs.Groups.{IsGroup, put_group}
+
+-- one literal or more
+abbrev pub AreLiterals : List Literal → Type 0
+AreLiterals [] = ⊥
+AreLiterals (x ∷ xs) = IsLiteral x × AllGood IsLiteral xs
+
+-- the parts of the statement are such as a line can have
+abbrev pub IsStatement : Stmt → Type 0
+IsStatement (v.Select x) = IsName x.table
+IsStatement (v.Insert x) = IsName x.table × AreLiterals x.values
+IsStatement (v.CreateGroup x) = IsGroup x
+IsStatement (v.Load x) = IsName x.group
+IsStatement (v.Call x) = IsName x.procedure × AllGood IsLiteral x.arguments
+IsStatement v.Commit = Unit {0}
+IsStatement v.Rollback = Unit {0}
+
+-- behind a statement
+abbrev end : Parts
+end = Part 0 (optional k.Semicolon Empty) Over
+
+abbrev Ends : List Lexeme → Type 0
+Ends ls = ls ≡ []
+
+at_end : Rest end [] Ends
+at_end i = (that (empty over), refl)
+
+ends_never : (j : Kind) → eqb (code k.Bad) (code j) ≡ false → Never j Ends
+ends_never j h ls e = rw e h
+
+-- where a statement is to be read
+abbrev start : Parts
+start = Part 0 (Named rules.Statement) end
+
+-- the bytes are spelt and read as this statement
+abbrev Says : List ℕ → Stmt → Type 0
+Says bytes s = Reads rule 32 start (kinds_in (lexed 0 bytes)) × (statement_of (lexed 0 bytes) ≡ s)
+
+closing : Lexes k.CloseParen (codes ")")
+closing i us = (suc i, refl)
+
+opening : Lexes k.OpenParen (codes "(")
+opening i us = (suc i, refl)
+
+says_commit : Says (joined (statement_words v.Commit)) v.Commit
+says_commit = (named (that (that (that (that (that (this refl (empty (that (empty over))))))))), refl)
+
+says_rollback : Says (joined (statement_words v.Rollback)) v.Rollback
+says_rollback = (named (that (that (that (that (that (that (token refl (that (empty over))))))))), refl)
+
+select_says : (n : List ℕ) (ls : List Lexeme) → Front k.Select (codes "SELECT") (Front k.Star (codes "*") (Front k.From (codes "FROM") (Gives name_of n Ends))) ls → statement_of ls ≡ v.Select (record { table = n })
+select_says n ls (p1, r1, e1, (p2, r2, e2, (p3, r3, e3, (r4, e4, q)))) = rw (e1, e2, e3) (ap (λ (x : List ℕ × List Lexeme). v.Select (record { table = x.0 })) e4)
+
+says_select : (n : List ℕ) → IsName n → Says (joined (statement_words (v.Select (record { table = n })))) (v.Select (record { table = n }))
+says_select n h =
+    let r1 = put_name n h end [] Ends (ends_never k.Dot refl) at_end in
+    let r2 = taken k.From (codes "FROM") (Part 0 table_name end) (Part 0 (the k.From ▸ table_name) end) (name_words n ++ []) (Gives name_of n Ends) (lexes (codes "FROM") refl) (λ j d. both (token refl d)) r1 in
+    let r3 = taken k.Star (codes "*") (Part 0 (the k.From ▸ table_name) end) (Part 0 select end) (codes "FROM" ∷ (name_words n ++ [])) (Front k.From (codes "FROM") (Gives name_of n Ends)) (λ i us. (suc i, refl)) (λ j d. both (token refl d)) r2 in
+    let (d, f) = begun_by k.Select (codes "SELECT") (Part 0 select end) start (codes "*" ∷ codes "FROM" ∷ (name_words n ++ [])) (Front k.Star (codes "*") (Front k.From (codes "FROM") (Gives name_of n Ends))) (lexes (codes "SELECT") refl) (λ j x. named (this refl x)) r3 in
+    let whole : Says (codes "SELECT" ++ spaced (codes "*" ∷ codes "FROM" ∷ (name_words n ++ []))) (v.Select (record { table = n })) = (d, select_says n _ f) in
+    subst (λ us. Says (codes "SELECT" ++ spaced (codes "*" ∷ codes "FROM" ∷ us)) (v.Select (record { table = n }))) (append-nil (name_words n)) whole
+
+load_says : (n : List ℕ) (ls : List Lexeme) → Front k.Load (codes "LOAD") (Front k.Cache (codes "CACHE") (Front k.Group (codes "GROUP") (Gives name_of n Ends))) ls → statement_of ls ≡ v.Load (record { group = n })
+load_says n ls (p1, r1, e1, (p2, r2, e2, (p3, r3, e3, (r4, e4, q)))) = rw (e1, e2, e3) (ap (λ (x : List ℕ × List Lexeme). v.Load (record { group = x.0 })) e4)
+
+says_load : (n : List ℕ) → IsName n → Says (joined (statement_words (v.Load (record { group = n })))) (v.Load (record { group = n }))
+says_load n h =
+    let r1 = put_name n h end [] Ends (ends_never k.Dot refl) at_end in
+    let r2 = taken k.Group (codes "GROUP") (Part 0 table_name end) (Part 0 (the k.Group ▸ table_name) end) (name_words n ++ []) (Gives name_of n Ends) (lexes (codes "GROUP") refl) (λ j d. both (token refl d)) r1 in
+    let r3 = taken k.Cache (codes "CACHE") (Part 0 (the k.Group ▸ table_name) end) (Part 0 load end) (codes "GROUP" ∷ (name_words n ++ [])) (Front k.Group (codes "GROUP") (Gives name_of n Ends)) (lexes (codes "CACHE") refl) (λ j d. both (token refl d)) r2 in
+    let (d, f) = begun_by k.Load (codes "LOAD") (Part 0 load end) start (codes "CACHE" ∷ codes "GROUP" ∷ (name_words n ++ [])) (Front k.Cache (codes "CACHE") (Front k.Group (codes "GROUP") (Gives name_of n Ends))) (lexes (codes "LOAD") refl) (λ j x. named (that (that (that (this refl x))))) r3 in
+    let whole : Says (codes "LOAD" ++ spaced (codes "CACHE" ∷ codes "GROUP" ∷ (name_words n ++ []))) (v.Load (record { group = n })) = (d, load_says n _ f) in
+    subst (λ us. Says (codes "LOAD" ++ spaced (codes "CACHE" ∷ codes "GROUP" ∷ us)) (v.Load (record { group = n }))) (append-nil (name_words n)) whole
+
+create_says : (g : groups.CreateGroup) (ls : List Lexeme) → Front k.Create (codes "CREATE") (Gives group_of g Ends) ls → statement_of ls ≡ v.CreateGroup g
+create_says g ls (p1, r1, e1, (r2, e2, q)) = rw e1 (ap (λ (x : groups.CreateGroup × List Lexeme). v.CreateGroup x.0) e2)
+
+says_create : (g : groups.CreateGroup) → IsGroup g → Says (joined (statement_words (v.CreateGroup g))) (v.CreateGroup g)
+says_create g h =
+    let r1 = put_group g h end [] Ends at_end in
+    let (d, f) = begun_by k.Create (codes "CREATE") (Part 0 create_group end) start (group_words g ++ []) (Gives group_of g Ends) (lexes (codes "CREATE") refl) (λ j x. named (that (that (this refl x)))) r1 in
+    let whole : Says (codes "CREATE" ++ spaced (group_words g ++ [])) (v.CreateGroup g) = (d, create_says g _ f) in
+    subst (λ us. Says (codes "CREATE" ++ spaced us) (v.CreateGroup g)) (append-nil (group_words g)) whole
