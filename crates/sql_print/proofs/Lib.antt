@@ -1,4 +1,6 @@
 pub mod Columns
+pub mod Fine
+pub mod FineWords
 pub mod Groups
 pub mod Lexed
 pub mod Literals

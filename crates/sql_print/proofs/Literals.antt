@@ -20,6 +20,7 @@ use Rattle.sql_subset.specs.Lines.{kinds_in}
 use Rattle.sql_subset.specs.Reading.{at_comma, with_last, as_list, chained, literal_of, halved, unquoted}
 use Rattle.sql_print.specs.Words.{Word, integer_word, literal_word, literal_words, listed, more}
 use Rattle.sql_print.specs.Printed.{spaced}
+use Rattle.sql_print.proofs.Fine.{IsFineText}
 use Rattle.sql_print.proofs.Lexed.{lexes_word, lexes, lexes_text, lexes_minus}
 use Rattle.sql_print.proofs.WordKinds.{IsNumberKind, digits_kind, digits_bytes}
 use Rattle.sql_print.proofs.Rest.{Rest, Front, Gives, Never, taken, known, moved}
@@ -29,11 +30,11 @@ pub record IsDigits (w : List ℕ) : Type 0 where
   pub digits : list_all is_ascii_digit w ≡ true
   pub some : 0 < length w
 
--- what is written of an integer is digits
+-- what is written of an integer is digits, and of a text no bad byte
 abbrev pub IsLiteral : Literal → Type 0
 IsLiteral literals.Null = Unit {0}
 IsLiteral (literals.Integer x) = IsDigits x.digits
-IsLiteral (literals.Text t) = Unit {0}
+IsLiteral (literals.Text t) = IsFineText (quoted t)
 
 -- doubled quotes as one
 halved_doubled : (t : List ℕ) → halved false (flat_map doubled_quote t ++ 39 ∷ []) ≡ t

@@ -1,9 +1,14 @@
 -- The normal form is its own.
-use Rattle.std.proofs.Common.{◌≡◌, ℕ, Bool, true, false, ◌||◌, List, [], ◌∷◌, map, Option, Some, None, refl, ap, ◌∙◌}
+use Rattle.std.proofs.Common.{◌≡◌, ℕ, Bool, true, false, cond, ◌||◌, List, [], ◌∷◌, map, Option, Some, None, refl, ap, ◌∙◌}
 use Rattle.row_types.specs.declared.declaration.ColumnDeclaration.{ColumnDeclaration}
 use Rattle.row_types.specs.declared.declaration.TableDeclaration.{TableDeclaration}
 use Rattle.sql_subset.specs.declared.stmt.Stmt.{Stmt}
 use Rattle.sql_subset.specs.declared.stmt.Stmt.TheVariants as v
+use Rattle.std.specs.List.{filter}
+use Rattle.sql_print.proofs.Names.{IsIdentifier}
+use Rattle.sql_print.proofs.Literals.{AllGood}
+use Rattle.sql_print.proofs.Tables.{IsColumn, IsKey, IsTable}
+use Rattle.sql_print.proofs.Statements.{IsStatement}
 use Rattle.sql_print.specs.Normal.{is_in, marked, single_key, keyed_column, with_key, normal_table, normal}
 
 marked_none : (names : List (List ℕ)) (cs : List ColumnDeclaration) → marked (map (keyed_column (Some names)) cs) ≡ []
@@ -38,3 +43,54 @@ normal_again (v.Load x) = refl
 normal_again (v.Call x) = refl
 normal_again v.Commit = refl
 normal_again v.Rollback = refl
+
+-- the columns that are marked are columns
+marked_are : (cs : List ColumnDeclaration) → AllGood IsColumn cs → AllGood IsIdentifier (marked cs)
+marked_are [] h = tt
+marked_are (c ∷ cs) (h, t) = by c.primary_key (marked_are cs t)
+  where
+    by : (b : Bool) → AllGood IsIdentifier (marked cs) → AllGood IsIdentifier (map (λ d. d.name) (cond b (c ∷ filter (λ d. d.primary_key) cs) (filter (λ d. d.primary_key) cs)))
+    by true m = (h.name, m)
+    by false m = m
+
+single_is : (key : Option (List (List ℕ))) (names : List (List ℕ)) → IsKey key → AllGood IsIdentifier names → IsKey (single_key key names)
+single_is None [] h t = tt
+single_is None (x ∷ []) h t = t
+single_is None (x ∷ y ∷ xs) h t = tt
+single_is (Some []) names h t = absurd h
+single_is (Some (y ∷ ys)) [] h t = h
+single_is (Some (y ∷ ys)) (x ∷ xs) h t = tt
+
+keyed_are : (names : List (List ℕ)) (cs : List ColumnDeclaration) → AllGood IsColumn cs → AllGood IsColumn (map (keyed_column (Some names)) cs)
+keyed_are names [] h = tt
+keyed_are names (c ∷ cs) (h, t) = (record { name = h.name; ty = h.ty }, keyed_are names cs t)
+
+keyed_table : (key : Option (List (List ℕ))) (t : TableDeclaration) → IsKey key → IsTable t → IsTable (with_key key t)
+keyed_table None t k h = h
+keyed_table (Some names) t k h = record {
+  name = h.name;
+  first = keyed_column (Some names) h.first;
+  others = map (keyed_column (Some names)) h.others;
+  columns = ap (λ (cs : List ColumnDeclaration). map (keyed_column (Some names)) cs) h.columns;
+  is_first = record { name = h.is_first.name; ty = h.is_first.ty };
+  are_others = keyed_are names h.others h.are_others;
+  key = k;
+  no_foreign = h.no_foreign;
+}
+
+-- the normal form of what a line can say is such too
+pub is_normal : (s : Stmt) → IsStatement s → IsStatement (normal s)
+is_normal (v.Select x) h = h
+is_normal (v.Insert x) h = h
+is_normal (v.CreateGroup x) h =
+    let t = h.table in
+    let columns : AllGood IsColumn x.table.columns = rw t.columns (t.is_first, t.are_others) in
+    record {
+      name = h.name;
+      refresh = h.refresh;
+      table = keyed_table (single_key x.table.primary_key (marked x.table.columns)) x.table (single_is x.table.primary_key (marked x.table.columns) t.key (marked_are x.table.columns columns)) t;
+    }
+is_normal (v.Load x) h = h
+is_normal (v.Call x) h = h
+is_normal v.Commit h = h
+is_normal v.Rollback h = h
