@@ -1,6 +1,8 @@
 pub mod Columns
 pub mod Fine
 pub mod FineWords
+pub mod Fits
+pub mod Folded
 pub mod Groups
 pub mod Lexed
 pub mod Literals
@@ -8,6 +10,9 @@ pub mod Names
 pub mod NormalLaws
 pub mod Puts
 pub mod Rest
+pub mod Read
+pub mod Round
+pub mod Spoilt
 pub mod Statements
 pub mod Tables
 pub mod WordKinds

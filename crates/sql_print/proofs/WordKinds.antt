@@ -23,7 +23,7 @@ named_past (e ∷ es) fs w h = by (spells w e.0) (is_among (map (λ e. e.0) es) 
     by false false p q r f = rw p (f q)
 
 -- what each keyword of a list has, a word by the list has
-named_has : (test : Kind → Bool) (es : List (List ℕ × Kind)) (w : List ℕ) → test Identifier ≡ true → list_all (λ e. test e.1) es ≡ true → test (named es w) ≡ true
+pub named_has : (test : Kind → Bool) (es : List (List ℕ × Kind)) (w : List ℕ) → test Identifier ≡ true → list_all (λ e. test e.1) es ≡ true → test (named es w) ≡ true
 named_has test [] w h l = h
 named_has test (e ∷ es) w h l =
     by (spells w e.0) refl (and_left (test e.1) (list_all (λ e. test e.1) es) l) (named_has test es w h (and_right (test e.1) (list_all (λ e. test e.1) es) l))
@@ -89,7 +89,7 @@ digit_number false false true d = record { whole = refl; no_text = refl; no_null
 digit_number false false false true = record { whole = refl; no_text = refl; no_null = refl; no_minus = refl }
 digit_number false false false false = record { whole = refl; no_text = refl; no_null = refl; no_minus = refl }
 
-number_is : (w : List ℕ) → IsNumberKind (number_kind w)
+pub number_is : (w : List ℕ) → IsNumberKind (number_kind w)
 number_is [] = record { whole = refl; no_text = refl; no_null = refl; no_minus = refl }
 number_is (b ∷ []) = digit_number (eqb b 48) (eqb b 49) (eqb b 50) (eqb b 51)
 number_is (b ∷ c ∷ bs) = record { whole = refl; no_text = refl; no_null = refl; no_minus = refl }
