@@ -11,10 +11,10 @@ use Rattle.sql_tokens.specs.declared.kind.Kind.TheVariants as k
 use Rattle.sql_tokens.specs.Kinds.{code, is_kind}
 use Rattle.sql_tokens.specs.Lexing.{Lexeme, lexed}
 use Rattle.sql_grammar.specs.declared.rule.Rule.TheVariants as rules
-use Rattle.sql_grammar.specs.declared.test.Test.TheVariants.{Only, Whole}
+use Rattle.sql_grammar.specs.declared.test.Test.TheVariants.{Name, Only, Whole}
 use Rattle.sql_grammar.specs.Tests.{passes}
 use Rattle.sql_grammar.specs.Grammar.{Parts, Over, Part, Reads, Empty, Named, Token, token, both, this, that, empty, again, enough, over, named}
-use Rattle.sql_grammar.specs.Notation.{optional, repeated, the, ◌▸◌}
+use Rattle.sql_grammar.specs.Notation.{choice, optional, repeated, the, ◌▸◌}
 use Rattle.sql_grammar.specs.Sql.{rule, arguments, insert, literal, literals, table_name}
 use Rattle.sql_subset.specs.declared.tables.Element.{Element}
 use Rattle.sql_subset.specs.declared.tables.Element.TheVariants as elements
@@ -35,7 +35,7 @@ use Rattle.sql_print.proofs.Fine.{IsFineText}
 use Rattle.sql_print.proofs.Fits.{Fits, all_fit}
 use Rattle.sql_print.proofs.Folded.{identifier_read, name_read}
 use Rattle.sql_print.proofs.Groups.{IsGroup, IsRefresh}
-use Rattle.sql_print.proofs.Literals.{AllGood, IsLiteral, unquoted_quoted}
+use Rattle.sql_print.proofs.Literals.{AllGood, IsDigits, IsLiteral, unquoted_quoted}
 use Rattle.sql_print.proofs.Names.{IsIdentifier, IsName}
 use Rattle.sql_print.proofs.Spoilt.{fine_bytes}
 use Rattle.sql_print.proofs.Statements.{AreLiterals, IsStatement}
@@ -211,3 +211,185 @@ group_good us h =
     let g = name_fit vs (drop_fit 2 kind.1 f) in
     let r = refresh_good kind.0 (name_of vs).1 g in
     record { name = name_good vs; refresh = r.0; table = table_good (drop 1 (refresh_of kind.0 (name_of vs).1).1) (drop_fit 1 (refresh_of kind.0 (name_of vs).1).1 r.1) }
+
+-- what a test of one kind says
+only : (j n : Kind) → passes (Only j) n ≡ true → is_kind n j ≡ true
+only j n h = grind (arith, nat_tests)
+
+not_only : (i j n : Kind) → is_kind i j ≡ false → passes (Only i) n ≡ true → is_kind n j ≡ false
+not_only i j n h p = grind (arith, nat_tests)
+
+number_no_text : (n : Kind) → passes Whole n ≡ true → is_kind n k.Text ≡ false
+number_no_text n p = grind (arith, nat_tests)
+
+number_no_null : (n : Kind) → passes Whole n ≡ true → is_kind n k.Null ≡ false
+number_no_null n p = grind (arith, nat_tests)
+
+number_no_minus : (n : Kind) → passes Whole n ≡ true → is_kind n k.Minus ≡ false
+number_no_minus n p = grind (arith, nat_tests)
+
+-- a literal was read, and then these parts are
+record LiteralRead (ps : Parts) (x : Literal × List Lexeme) : Type 0 where
+  pub good : IsLiteral x.0
+  pub rest : Reads rule 32 ps (kinds_in x.1)
+  pub fit : AllFit x.1
+
+text_good : (bytes : List ℕ) → (t : List ℕ) × (bytes ≡ quoted t) × IsFineText (quoted t) → IsFineText (quoted (unquoted bytes))
+text_good bytes (t, e, f) = rw (e, unquoted_quoted t) f
+
+digits_read : (ps : Parts) (us : List Lexeme) → AllFit us → Reads rule 32 (Part 0 (Token Whole) ps) (kinds_in us) → IsDigits (first_text us) × Reads rule 32 ps (kinds_in (drop 1 us)) × AllFit (drop 1 us)
+digits_read ps [] t d = elim d [ ]
+digits_read ps (l ∷ us) (h, t) (token p d) = (h.digits p, d, t)
+
+literal_read : (ps : Parts) (us : List Lexeme) → AllFit us → Reads rule 32 (Part 0 literal ps) (kinds_in us) → LiteralRead ps (literal_of us)
+literal_read ps [] t (that (that (that (both d)))) = elim d [ ]
+literal_read ps (l ∷ us) (h, t) (this p (empty d)) =
+    rw (number_no_text l.kind p, number_no_null l.kind p, number_no_minus l.kind p) (record { good = h.digits p; rest = d; fit = t })
+literal_read ps (l ∷ us) (h, t) (that (this p (empty d))) =
+    rw (only k.Text l.kind p) (record { good = text_good l.text (h.text (only k.Text l.kind p)); rest = d; fit = t })
+literal_read ps (l ∷ us) (h, t) (that (that (this p (empty d)))) =
+    rw (not_only k.Null k.Text l.kind refl p, only k.Null l.kind p) (record { good = tt; rest = d; fit = t })
+literal_read ps (l ∷ us) (h, t) (that (that (that (both (token p d))))) =
+    let (g, r, f) = digits_read ps us t d in
+    rw (not_only k.Minus k.Text l.kind refl p, not_only k.Minus k.Null l.kind refl p, only k.Minus l.kind p) (record { good = g; rest = r; fit = f })
+
+-- the parts don't begin with this kind of token
+abbrev NotFirst : Kind → Parts → Type 0
+NotFirst j ps = (us : List Lexeme) → Reads rule 32 ps (kinds_in us) → begins j us ≡ false
+
+literals_more : (xs : List Literal) (x : Literal) → AreLiterals xs → IsLiteral x → AreLiterals (with_last xs x)
+literals_more [] x h t = absurd h
+literals_more (y ∷ ys) x (h, r) t = (h, one_more IsLiteral ys x r t)
+
+more_read : (ps : Parts) → NotFirst k.Comma ps → (n : ℕ) (xs : List Literal) (us : List Lexeme) → AreLiterals xs → AllFit us → Reads rule 32 (Part 0 (repeated k.Comma literal) ps) (kinds_in us) → AreLiterals (chained at_comma with_last literal_of n (xs, us)).0
+more_read ps f zero xs us h t d = h
+more_read ps f (suc n) xs [] h t (enough d) = h
+more_read ps f (suc n) xs (l ∷ us) h (g, t) (enough d) = rw (f (l ∷ us) d) h
+more_read ps f (suc n) xs (l ∷ us) h (g, t) (again p d) =
+    let r = literal_read (Part 0 (repeated k.Comma literal) ps) us t d in
+    rw (only k.Comma l.kind p) (more_read ps f n (with_last xs (literal_of us).0) (literal_of us).1 (literals_more xs (literal_of us).0 h r.good) r.fit r.rest)
+
+literals_read : (ps : Parts) → NotFirst k.Comma ps → (us : List Lexeme) → AllFit us → Reads rule 32 (Part 0 literals ps) (kinds_in us) → AreLiterals (literals_of us).0
+literals_read ps f us t (both d) =
+    let r = literal_read (Part 0 (repeated k.Comma literal) ps) us t d in
+    more_read ps f (length us) ((literal_of us).0 ∷ []) (literal_of us).1 (r.good, tt) r.fit r.rest
+
+-- behind a name
+ident_read : (ps : Parts) (us : List Lexeme) → Reads rule 32 (Part 0 (Token Name) ps) (kinds_in us) → Reads rule 32 ps (kinds_in (drop 1 us))
+ident_read ps [] d = elim d [ ]
+ident_read ps (l ∷ us) (token p d) = d
+
+dotted_read : (ps : Parts) → NotFirst k.Dot ps → (m n : List ℕ) (us : List Lexeme) → Reads rule 32 (Part 0 (optional k.Dot (Token Name)) ps) (kinds_in us) → Reads rule 32 ps (kinds_in (cond {A = List ℕ × List Lexeme} (begins k.Dot us) (m, drop 2 us) (n, us)).1)
+dotted_read ps f m n [] (that (empty d)) = d
+dotted_read ps f m n (l ∷ us) (that (empty d)) = rw (f (l ∷ us) d) d
+dotted_read ps f m n (l ∷ us) (this p d) = rw (only k.Dot l.kind p) (ident_read ps us d)
+
+name_read_by : (ps : Parts) → NotFirst k.Dot ps → (us : List Lexeme) → Reads rule 32 (Part 0 table_name ps) (kinds_in us) → Reads rule 32 ps (kinds_in (name_of us).1)
+name_read_by ps f [] (both d) = elim d [ ]
+name_read_by ps f (l ∷ us) (both (token p d)) = dotted_read ps f (name_from (l.text ++ 46 ∷ first_text (drop 1 us))) (name_from l.text) us d
+
+abbrev end : Parts
+end = Part 0 (optional k.Semicolon Empty) Over
+
+abbrev close : Parts
+close = Part 0 (the k.CloseParen) end
+
+close_first : NotFirst k.Comma close
+close_first [] d = elim d [ ]
+close_first (l ∷ us) (token p d) = not_only k.CloseParen k.Comma l.kind refl p
+
+abbrev values : Parts
+values = Part 0 (the k.Values ▸ the k.OpenParen ▸ literals ▸ the k.CloseParen) end
+
+values_first : NotFirst k.Dot values
+values_first [] (both d) = elim d [ ]
+values_first (l ∷ us) (both (token p d)) = not_only k.Values k.Dot l.kind refl p
+
+values_read : (us : List Lexeme) → AllFit us → Reads rule 32 values (kinds_in us) → AreLiterals (literals_of (drop 2 us)).0
+values_read [] t (both d) = elim d [ ]
+values_read (l ∷ []) t (both (token p (both d))) = elim d [ ]
+values_read (l ∷ m ∷ us) (h, (g, t)) (both (token p (both (token q (both d))))) = literals_read close close_first us t d
+
+insert_read : (us : List Lexeme) → AllFit us → Reads rule 32 (Part 0 insert end) (kinds_in us) → IsName (insert_of us).0.table × AreLiterals (insert_of us).0.values
+insert_read [] t (both d) = elim d [ ]
+insert_read (l ∷ us) (h, t) (both (token p (both d))) = (name_good us, values_read (name_of us).1 (name_fit us t) (name_read_by values values_first us d))
+
+abbrev behind_call : Parts
+behind_call = Part 0 arguments end
+
+end_first : (j : Kind) → is_kind k.Bad j ≡ false → is_kind k.Semicolon j ≡ false → NotFirst j end
+end_first j b s [] d = b
+end_first j b s (l ∷ us) (that (empty d)) = elim d [ ]
+end_first j b s (l ∷ us) (this p d) = not_only k.Semicolon j l.kind s p
+
+call_first : NotFirst k.Dot behind_call
+call_first [] (that (empty d)) = end_first k.Dot refl refl [] d
+call_first (l ∷ us) (that (empty d)) = end_first k.Dot refl refl (l ∷ us) d
+call_first (l ∷ us) (this p d) = not_only k.OpenParen k.Dot l.kind refl p
+
+listed_good : (xs : List Literal) → AreLiterals xs → AllGood IsLiteral xs
+listed_good [] g = absurd g
+listed_good (x ∷ xs) g = g
+
+either : (b : Bool) (n : List ℕ) (us : List Lexeme) → IsName n → AllGood IsLiteral (literals_of us).0 → IsStatement (cond b (v.Call (record { procedure = n; arguments = [] })) (v.Call (record { procedure = n; arguments = (literals_of us).0 })))
+either true n us h g = (h, tt)
+either false n us h g = (h, g)
+
+call_inside : (n : List ℕ) (us : List Lexeme) → IsName n → AllFit us → Reads rule 32 (Part 0 (choice k.CloseParen Empty (literals ▸ the k.CloseParen)) end) (kinds_in us)
+    → IsStatement (cond (begins k.CloseParen us) (v.Call (record { procedure = n; arguments = [] })) (v.Call (record { procedure = n; arguments = (literals_of us).0 })))
+call_inside n [] h t (that (both d)) = (h, listed_good (literals_of []).0 (literals_read close close_first [] t d))
+call_inside n (l ∷ us) h t (this p d) = rw (only k.CloseParen l.kind p) (h, tt)
+call_inside n (l ∷ us) h t (that (both d)) = either (begins k.CloseParen (l ∷ us)) n (l ∷ us) h (listed_good (literals_of (l ∷ us)).0 (literals_read close close_first (l ∷ us) t d))
+
+call_read : (n : List ℕ) (us : List Lexeme) → IsName n → AllFit us → Reads rule 32 behind_call (kinds_in us) → IsStatement (call_with n us)
+call_read n [] h t (that (empty d)) = (h, tt)
+call_read n (l ∷ us) h t (that (empty d)) = rw (end_first k.OpenParen refl refl (l ∷ us) d) (h, tt)
+call_read n (l ∷ us) h (a, t) (this p d) = rw (only k.OpenParen l.kind p) (call_inside n us h t d)
+
+-- a statement that begins with INSERT, or with CALL
+abbrev start : Parts
+start = Part 0 (Named rules.Statement) end
+
+differ : (i j : Kind) (n : Kind) → is_kind i j ≡ false → passes (Only i) n ≡ true → is_kind n j ≡ true → ⊥
+differ i j n e p h = absurd (grind (arith, nat_tests))
+
+insert_start : (us : List Lexeme) → begins k.Insert us ≡ true → Reads rule 32 start (kinds_in us) → Reads rule 32 (Part 0 insert end) (kinds_in (drop 1 us))
+insert_start [] b d = absurd (cc)
+insert_start (l ∷ us) b (named (this p d)) = absurd (differ k.Select k.Insert l.kind refl p b)
+insert_start (l ∷ us) b (named (that (this p d))) = d
+insert_start (l ∷ us) b (named (that (that (this p d)))) = absurd (differ k.Create k.Insert l.kind refl p b)
+insert_start (l ∷ us) b (named (that (that (that (this p d))))) = absurd (differ k.Load k.Insert l.kind refl p b)
+insert_start (l ∷ us) b (named (that (that (that (that (this p d)))))) = absurd (differ k.Call k.Insert l.kind refl p b)
+insert_start (l ∷ us) b (named (that (that (that (that (that (this p d))))))) = absurd (differ k.Commit k.Insert l.kind refl p b)
+insert_start (l ∷ us) b (named (that (that (that (that (that (that (token p d)))))))) = absurd (differ k.Rollback k.Insert l.kind refl p b)
+
+call_start : (us : List Lexeme) → begins k.Call us ≡ true → Reads rule 32 start (kinds_in us) → Reads rule 32 (Part 0 table_name behind_call) (kinds_in (drop 1 us))
+call_start [] b d = absurd (cc)
+call_start (l ∷ us) b (named (this p d)) = absurd (differ k.Select k.Call l.kind refl p b)
+call_start (l ∷ us) b (named (that (this p d))) = absurd (differ k.Insert k.Call l.kind refl p b)
+call_start (l ∷ us) b (named (that (that (this p d)))) = absurd (differ k.Create k.Call l.kind refl p b)
+call_start (l ∷ us) b (named (that (that (that (this p d))))) = absurd (differ k.Load k.Call l.kind refl p b)
+call_start (l ∷ us) b (named (that (that (that (that (this p (both d))))))) = d
+call_start (l ∷ us) b (named (that (that (that (that (that (this p d))))))) = absurd (differ k.Commit k.Call l.kind refl p b)
+call_start (l ∷ us) b (named (that (that (that (that (that (that (token p d)))))))) = absurd (differ k.Rollback k.Call l.kind refl p b)
+
+statement_read : (us : List Lexeme) → AllFit us → Reads rule 32 start (kinds_in us) → IsStatement (statement_of us)
+statement_read us t d = by (begins k.Select us) (begins k.Insert us) (begins k.Create us) (begins k.Load us) (begins k.Call us) (begins k.Commit us) refl refl
+  where
+    rest : List Lexeme
+    rest = drop 1 us
+
+    by : (a b c e f g : Bool) → begins k.Insert us ≡ b → begins k.Call us ≡ f
+        → IsStatement (cond a (v.Select (record { table = (name_of (drop 3 us)).0 })) (cond b (v.Insert (insert_of rest).0) (cond c (v.CreateGroup (group_of rest).0) (cond e (v.Load (record { group = (name_of (drop 3 us)).0 })) (cond f (call_named (name_of rest)) (cond g v.Commit v.Rollback))))))
+    by true b c e f g i j = name_good (drop 3 us)
+    by false true c e f g i j = insert_read rest (drop_fit 1 us t) (insert_start us i d)
+    by false false true e f g i j = group_good rest (drop_fit 1 us t)
+    by false false false true f g i j = name_good (drop 3 us)
+    by false false false false true g i j =
+        call_read (name_of rest).0 (name_of rest).1 (name_good rest) (name_fit rest (drop_fit 1 us t)) (name_read_by behind_call call_first rest (call_start us j d))
+    by false false false false false true i j = tt
+    by false false false false false false i j = tt
+
+-- what bytes spell is such a statement
+pub is_statement : (bytes : List ℕ) (s : Stmt) → Spells bytes s → IsStatement s
+is_statement bytes s (h, both d, e) = subst (λ x. IsStatement x) (sym e) (statement_read (lexed 0 bytes) (all_fit bytes (fine_bytes bytes h)) d)

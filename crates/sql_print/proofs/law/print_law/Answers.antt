@@ -1,5 +1,5 @@
 use Rattle.sql_print.proofs.Round.{printed_spells}
-use Rattle.sql_print.proofs.Lines.{is_statement}
+use Rattle.sql_print.proofs.Read.{is_statement}
 use Rattle.sql_print.proofs.law.print_law.Goals as goal
 
 pub returns : goal.returns
