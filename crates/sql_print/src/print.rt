@@ -188,3 +188,6 @@ pub fn print(alloc: Global, s: &Stmt) -> Result<Text, AllocError>
     put_rest(alloc, &mut out, s)?;
     Ok(Text::from_vec(out))
 }
+
+#[cfg(test)]
+mod tests;
