@@ -92,7 +92,7 @@ fine_key (Some (x ∷ xs)) (h, t) =
     fine_append (codes "," ∷ codes "PRIMARY" ∷ codes "KEY" ∷ []) (enclosed (listed identifier_words (x ∷ xs))) (fine (codes "," ∷ codes "PRIMARY" ∷ codes "KEY" ∷ []) refl)
     (fine_enclosed (listed identifier_words (x ∷ xs)) (fine_listed identifier_words IsIdentifier fine_column_name x xs h t))
 
-fine_table : (t : TableDeclaration) → IsTable t → IsFine (table_words t)
+pub fine_table : (t : TableDeclaration) → IsTable t → IsFine (table_words t)
 fine_table t h =
     let columns : List Word = listed column_words (h.first ∷ h.others) in
     let elements : List Word = columns ++ key_words t.primary_key ++ [] in

@@ -1,7 +1,7 @@
 -- The tokens of bytes without a bad one fit their kinds.
 use Rattle.std.proofs.Common.{◌≡◌, ℕ, suc, ◌+◌, ◌-◌, ◌<◌, ◌≤◌, Bool, true, false, not, ◌&&◌, cond, eqb, leb, List, [], ◌∷◌, ◌++◌, length, take, drop, get_or, Option, Some, None, refl, sym, ap, ◌∙◌, subst, arith, append_assoc, append-nil, ◌⊎◌, inl, inr}
 use Rattle.std.proofs.lemmas.Bool.Decides.{nat_tests}
-use Rattle.std.proofs.lemmas.List.{length-append}
+use Rattle.std.proofs.lemmas.List.{length-append, take-append-drop}
 use Rattle.std.proofs.lemmas.List.Folds.{list_all-append}
 use Rattle.std.proofs.lemmas.Str.{IsCharBoundary-after_ascii, IsCharBoundary-before_ascii, IsUtf8-between}
 use Rattle.std.proofs.Math.Seq.{take-append_seam, get_or-append_seam, drop-append_seam}
@@ -224,3 +224,7 @@ fits_from st i (b ∷ bs) before h v =
 -- the tokens of bytes without a bad one
 pub all_fit : (bytes : List ℕ) → IsFineText bytes → AllGood Fits (lexed 0 bytes)
 all_fit bytes h = fits_from Blank 0 bytes [] h tt
+
+-- the same of those behind a place
+pub all_fit_from : (n : ℕ) (bytes : List ℕ) → IsFineText bytes → AllGood Fits (lexed n bytes)
+all_fit_from n bytes h = fits_from Blank n (drop n bytes) (take n bytes) (subst (λ xs. IsFineText xs) (sym (take-append-drop n bytes)) h) tt

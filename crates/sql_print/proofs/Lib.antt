@@ -1,4 +1,5 @@
 pub mod Columns
+pub mod Definitions
 pub mod Fine
 pub mod FineWords
 pub mod Fits

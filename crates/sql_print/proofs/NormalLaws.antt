@@ -78,18 +78,16 @@ keyed_table (Some names) t k h = record {
   no_foreign = h.no_foreign;
 }
 
+pub normal_table_is : (t : TableDeclaration) → IsTable t → IsTable (normal_table t)
+normal_table_is t h =
+    let columns : AllGood IsColumn t.columns = rw h.columns (h.is_first, h.are_others) in
+    keyed_table (single_key t.primary_key (marked t.columns)) t (single_is t.primary_key (marked t.columns) h.key (marked_are t.columns columns)) h
+
 -- the normal form of what a line can say is such too
 pub is_normal : (s : Stmt) → IsStatement s → IsStatement (normal s)
 is_normal (v.Select x) h = h
 is_normal (v.Insert x) h = h
-is_normal (v.CreateGroup x) h =
-    let t = h.table in
-    let columns : AllGood IsColumn x.table.columns = rw t.columns (t.is_first, t.are_others) in
-    record {
-      name = h.name;
-      refresh = h.refresh;
-      table = keyed_table (single_key x.table.primary_key (marked x.table.columns)) x.table (single_is x.table.primary_key (marked x.table.columns) t.key (marked_are x.table.columns columns)) t;
-    }
+is_normal (v.CreateGroup x) h = record { name = h.name; refresh = h.refresh; table = normal_table_is x.table h.table }
 is_normal (v.Load x) h = h
 is_normal (v.Call x) h = h
 is_normal v.Commit h = h

@@ -44,7 +44,7 @@ use Rattle.sql_print.proofs.Tables.{IsColumn, IsKey, IsRead, IsTable}
 abbrev AllFit : List Lexeme → Type 0
 AllFit ls = AllGood Fits ls
 
-drop_fit : (n : ℕ) (ls : List Lexeme) → AllFit ls → AllFit (drop n ls)
+pub drop_fit : (n : ℕ) (ls : List Lexeme) → AllFit ls → AllFit (drop n ls)
 drop_fit zero ls h = h
 drop_fit (suc n) [] h = tt
 drop_fit (suc n) (l ∷ ls) (h, t) = drop_fit n ls t
@@ -156,7 +156,7 @@ with_good t (elements.Key names) h g = record {
 first_good : (n : List ℕ) (c : ColumnDeclaration) → IsName n → IsColumn c → IsTable (record { name = n; columns = c ∷ []; primary_key = None; foreign_key = None })
 first_good n c h g = record { name = h; first = c; others = []; columns = refl; is_first = g; are_others = tt; key = tt; no_foreign = refl }
 
-table_good : (us : List Lexeme) → AllFit us → IsTable (table_of us).0
+pub table_good : (us : List Lexeme) → AllFit us → IsTable (table_of us).0
 unfolding table_of
 table_good us h =
     let vs : List Lexeme = drop 1 (name_of us).1 in

@@ -1,9 +1,10 @@
 -- What is printed of a statement.
-use Rattle.std.specs.Prelude.{ℕ, List, ◌∷◌, drop}
+use Rattle.std.specs.Prelude.{ℕ, List, ◌∷◌, codes, drop}
 use Rattle.std.specs.List.{flat_map}
 use Rattle.sql_subset.specs.declared.stmt.Stmt.{Stmt}
-use Rattle.sql_print.specs.Words.{Word, statement_words}
-use Rattle.sql_print.specs.Normal.{normal}
+use Rattle.row_types.specs.declared.declaration.TableDeclaration.{TableDeclaration}
+use Rattle.sql_print.specs.Words.{Word, statement_words, table_words}
+use Rattle.sql_print.specs.Normal.{normal, normal_table}
 
 -- the words, each with a space in front
 abbrev pub spaced : List Word → List ℕ
@@ -16,3 +17,7 @@ joined words = drop 1 (spaced words)
 -- The words of the statement's normal form (this project's rule).
 abbrev pub printed : Stmt → List ℕ
 printed s = joined (statement_words (normal s))
+
+-- The console's definition of a table, by its normal form (this project's rule).
+abbrev pub printed_table : TableDeclaration → List ℕ
+printed_table table = joined (codes "CREATE" ∷ codes "TABLE" ∷ table_words (normal_table table))

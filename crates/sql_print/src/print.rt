@@ -2,13 +2,13 @@
 ghost use Rattle.std.specs.Prelude.{◌≡◌, ◌++◌, ◌∷◌, IfOk, OnOk, Some};
 ghost use Rattle.row_types.specs.Printing.{quoted};
 ghost use Rattle.sql_print.specs.Normal.{normal, normal_group};
-ghost use Rattle.sql_print.specs.Printed.{joined, printed, spaced};
+ghost use Rattle.sql_print.specs.Printed.{joined, printed, printed_table, spaced};
 ghost use Rattle.sql_print.specs.Words.{argument_words, enclosed, group_words, integer_word, interval_words, kind_words, literal_word, literal_words, listed, mode_word, more, refresh_words, rest_words, statement_words, state_word};
 
 use crate::table::put_table;
 use crate::word::{put, put_name};
 use itoa::Buffer;
-use row_types::Text;
+use row_types::{TableDeclaration, Text};
 use sql_subset::stmt::{
     Autorefresh, CreateGroup, GroupKind, IntegerLiteral, Literal, RefreshMode, RefreshState, Stmt,
 };
@@ -186,6 +186,15 @@ pub fn print(alloc: Global, s: &Stmt) -> Result<Text, AllocError>
 {
     let mut out = Vec::from_slice(alloc, first_words(s))?;
     put_rest(alloc, &mut out, s)?;
+    Ok(Text::from_vec(out))
+}
+
+/// The console's definition of the table as text, in its normal form: `CREATE TABLE` and the table.
+pub fn print_table(alloc: Global, table: &TableDeclaration) -> Result<Text, AllocError>
+    ensures { IfOk result (λ text. text ≡ printed_table table.now) }
+{
+    let mut out = Vec::from_slice(alloc, b"CREATE TABLE")?;
+    put_table(alloc, &mut out, table)?;
     Ok(Text::from_vec(out))
 }
 
