@@ -2,9 +2,8 @@
 use Rattle.std.proofs.Common.{◌≡◌, ℕ, List, [], ◌∷◌, ◌++◌, map, Option, Some, None, refl, ap}
 use Rattle.std.specs.Option.{option_or}
 use Rattle.std.proofs.lemmas.List.Folds.{flat_map-map}
-use Rattle.row_types.specs.declared.declaration.ColumnDeclaration.{ColumnDeclaration}
 use Rattle.row_types.specs.declared.declaration.TableDeclaration.{TableDeclaration}
-use Rattle.sql_print.specs.Words.{Word, listed, more, column_words, key_words, foreign_words, element_words}
+use Rattle.sql_print.specs.Words.{Word, listed, column_words, key_words, foreign_words, element_words}
 use Rattle.sql_print.specs.Normal.{keyed_column, with_key}
 
 listed_map : {A : Type 0} (f : A → List Word) (g : A → A) (xs : List A) → listed f (map g xs) ≡ listed (λ x. f (g x)) xs

@@ -1,23 +1,20 @@
 -- Tables that the console defines are printed and read back.
-use Rattle.std.proofs.Common.{◌≡◌, ℕ, zero, suc, ◌≤◌, Bool, true, false, not, cond, eqb, ltb, min, List, [], ◌∷◌, ◌++◌, length, take, drop, slice_range, codes, bytes_eq, Option, Some, None, refl, sym, ap, ◌∙◌, subst, arith, append-nil}
+use Rattle.std.proofs.Common.{◌≡◌, ℕ, Bool, true, false, not, cond, ltb, List, [], ◌∷◌, ◌++◌, length, drop, codes, Option, Some, None, refl, sym, ap, subst, arith, append-nil}
 use Rattle.std.proofs.lemmas.Bool.Decides.{nat_tests}
-use Rattle.std.proofs.lemmas.List.{take-append-drop}
-use Rattle.std.specs.List.{position, position_or_len}
+use Rattle.std.specs.List.{position_or_len}
 use Rattle.row_types.specs.declared.declaration.TableDeclaration.{TableDeclaration}
 use Rattle.tier_base.specs.Names.{is_word_byte}
-use Rattle.tier_base.specs.Labels.{is_label}
 use Rattle.sql_tokens.specs.declared.kind.Kind.TheVariants as k
-use Rattle.sql_tokens.specs.Lexing.{Blank, Lexeme, is_blank, lexed, lexed_from, lexeme}
-use Rattle.sql_tokens.specs.Heads.{good_length, head_end, head_of, head_start, place_or_end}
+use Rattle.sql_tokens.specs.Lexing.{Blank, Lexeme, is_blank, lexed, lexed_from}
+use Rattle.sql_tokens.specs.Heads.{head_end, head_of, head_start, place_or_end}
 use Rattle.sql_grammar.specs.declared.start.Start.{Start}
 use Rattle.sql_grammar.specs.declared.start.Start.TheVariants as starts
 use Rattle.sql_grammar.specs.Grammar.{Grammar, Named, Over, Part, Parts, Reads, Empty, both, empty, over, that, this, token}
 use Rattle.sql_grammar.specs.Notation.{choice, optional, the, ◌▸◌}
-use Rattle.sql_grammar.specs.Sql.{rule, delete, grammar_of, insert, table, update}
+use Rattle.sql_grammar.specs.Sql.{rule, delete, insert, table, update}
 use Rattle.sql_grammar.specs.declared.rule.Rule.TheVariants as rules
 use Rattle.sql_subset.specs.declared.request.ConsoleRequest.{ConsoleRequest}
 use Rattle.sql_subset.specs.declared.request.ConsoleRequest.TheVariants.{CreateTable, Writes}
-use Rattle.sql_subset.specs.declared.request.Line.{Line}
 use Rattle.sql_subset.specs.declared.request.Line.TheVariants.{Console}
 use Rattle.sql_subset.specs.Lines.{Checked, Headed, Heard, Means, Says, Spoken, is_silent, is_spoilt, kinds_in, start_of}
 use Rattle.sql_subset.specs.Reading.{begins}
@@ -25,8 +22,8 @@ use Rattle.sql_subset.specs.Tables.{table_of}
 use Rattle.sql_subset.specs.Statements.{console_of, writes_of}
 use Rattle.sql_print.specs.Words.{Word, table_words}
 use Rattle.sql_print.specs.Normal.{normal_table}
-use Rattle.sql_print.specs.Printed.{joined, printed_table, spaced}
-use Rattle.sql_print.proofs.Fine.{IsFine, IsFineText, fine, fine_append, fine_both, fine_joined, fine_text, not_spoilt}
+use Rattle.sql_print.specs.Printed.{printed_table, spaced}
+use Rattle.sql_print.proofs.Fine.{IsFineText, fine, fine_append, fine_both, fine_text, not_spoilt}
 use Rattle.sql_print.proofs.FineWords.{fine_table}
 use Rattle.sql_print.proofs.Fits.{Fits, all_fit_from}
 use Rattle.sql_print.proofs.Lexed.{lexes}

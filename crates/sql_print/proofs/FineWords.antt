@@ -24,8 +24,8 @@ use Rattle.sql_subset.specs.declared.stmt.Literal.TheVariants as literals
 use Rattle.sql_subset.specs.declared.stmt.Stmt.{Stmt}
 use Rattle.sql_subset.specs.declared.stmt.Stmt.TheVariants as v
 use Rattle.sql_print.specs.Words.{Word, argument_words, column_words, enclosed, group_words, identifier_words, interval_words, key_words, kind_words, listed, literal_words, mark_words, mode_word, more, name_words, name_words_at, refresh_words, state_word, statement_words, table_words, type_words}
-use Rattle.sql_print.proofs.WordKinds.{IsNameWord, digits_bytes, identifier_word}
-use Rattle.sql_print.proofs.Fine.{IsFine, IsFineText, fine, fine_append, fine_cons, fine_minus, fine_one, fine_word}
+use Rattle.sql_print.proofs.WordKinds.{digits_bytes, identifier_word}
+use Rattle.sql_print.proofs.Fine.{IsFine, fine, fine_append, fine_cons, fine_minus, fine_one, fine_word}
 use Rattle.sql_print.proofs.Names.{IsIdentifier, IsName}
 use Rattle.sql_print.proofs.Literals.{AllGood, IsLiteral}
 use Rattle.sql_print.proofs.Tables.{IsColumn, IsKey, IsRead, IsTable}

@@ -1,5 +1,5 @@
 -- The tokens of bytes without a bad one fit their kinds.
-use Rattle.std.proofs.Common.{◌≡◌, ℕ, suc, ◌+◌, ◌-◌, ◌<◌, ◌≤◌, Bool, true, false, not, ◌&&◌, cond, eqb, leb, List, [], ◌∷◌, ◌++◌, length, take, drop, get_or, Option, Some, None, refl, sym, ap, ◌∙◌, subst, arith, append_assoc, append-nil, ◌⊎◌, inl, inr}
+use Rattle.std.proofs.Common.{◌≡◌, ℕ, suc, ◌+◌, ◌-◌, ◌<◌, Bool, true, false, not, ◌&&◌, cond, eqb, leb, List, [], ◌∷◌, ◌++◌, length, take, drop, get_or, Option, Some, None, refl, sym, ap, ◌∙◌, subst, arith, append_assoc, append-nil}
 use Rattle.std.proofs.lemmas.Bool.Decides.{nat_tests}
 use Rattle.std.proofs.lemmas.List.{length-append, take-append-drop}
 use Rattle.std.proofs.lemmas.List.Folds.{list_all-append}
@@ -21,7 +21,7 @@ use Rattle.sql_grammar.specs.declared.test.Test.TheVariants.{Whole}
 use Rattle.sql_grammar.specs.Tests.{passes}
 use Rattle.sql_grammar.proofs.Lists.{and_left, and_right}
 use Rattle.sql_print.proofs.Fine.{IsFineText}
-use Rattle.sql_print.proofs.WordKinds.{IsNumberKind, named_has, number_is}
+use Rattle.sql_print.proofs.WordKinds.{named_has, number_is}
 use Rattle.sql_print.proofs.Literals.{AllGood, IsDigits}
 
 -- the bytes of a token fit its kind

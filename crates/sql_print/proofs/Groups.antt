@@ -1,5 +1,5 @@
 -- Cache groups that are put are read back.
-use Rattle.std.proofs.Common.{◌≡◌, ℕ, zero, suc, ◌+◌, ◌*◌, ◌-◌, ◌^◌, ◌<◌, ◌≤◌, min, eqb, Bool, true, false, List, [], ◌∷◌, ◌++◌, length, drop, codes, Option, Some, None, refl, sym, ap, ◌∙◌, subst, arith, append_assoc}
+use Rattle.std.proofs.Common.{◌≡◌, ℕ, ◌+◌, ◌*◌, ◌-◌, ◌^◌, ◌<◌, ◌≤◌, eqb, true, false, List, [], ◌∷◌, ◌++◌, drop, codes, Option, Some, None, refl, ap, ◌∙◌, subst, arith, append_assoc}
 use Rattle.std.proofs.lemmas.Bool.Decides.{nat_tests}
 use Rattle.std.proofs.lemmas.Fmt.{digits_decimal, digits_value-decimal, decimal_nonempty}
 use Rattle.std.specs.Fmt.{decimal}
@@ -11,7 +11,7 @@ use Rattle.row_types.specs.declared.declaration.TableDeclaration.{TableDeclarati
 use Rattle.sql_tokens.specs.declared.kind.Kind.{Kind}
 use Rattle.sql_tokens.specs.declared.kind.Kind.TheVariants as k
 use Rattle.sql_tokens.specs.Words.{word_kind}
-use Rattle.sql_tokens.specs.Lexing.{Lexeme, lexeme}
+use Rattle.sql_tokens.specs.Lexing.{Lexeme}
 use Rattle.sql_grammar.specs.declared.test.Test.TheVariants.{Only, Manner, Whole, IntervalUnit}
 use Rattle.sql_grammar.specs.Grammar.{Grammar, Parts, Part, Reads, Token, token, both, this, that, empty}
 use Rattle.sql_grammar.specs.Notation.{optional, the, ◌▸◌}
@@ -32,7 +32,7 @@ use Rattle.sql_grammar.specs.Tests.{passes}
 use Rattle.sql_subset.specs.Groups.{capped, group_kinded, group_named, group_of, group_refreshed, grouped, interval_of, kind_of, mode_of, number_with, refresh_of, state_of}
 use Rattle.sql_subset.specs.Tables.{table_of}
 use Rattle.sql_print.specs.Words.{Word, group_words, interval_words, kind_words, mode_word, name_words, refresh_words, state_word, table_words}
-use Rattle.sql_print.proofs.Lexed.{Lexes, lexes, lexes_word}
+use Rattle.sql_print.proofs.Lexed.{lexes, lexes_word}
 use Rattle.sql_print.proofs.WordKinds.{digits_bytes, digits_kind}
 use Rattle.sql_print.proofs.Rest.{Front, Gives, Never, Rest, front_never, known, known_by, moved, taken}
 use Rattle.sql_print.proofs.Names.{IsName, put_name}

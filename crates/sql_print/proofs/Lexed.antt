@@ -1,5 +1,5 @@
 -- Words with spaces between, and their tokens.
-use Rattle.std.proofs.Common.{◌≡◌, ℕ, suc, ◌<◌, Bool, true, false, cond, ◌&&◌, eqb, ltb, List, [], ◌∷◌, ◌++◌, length, codes, refl, sym, ap, ◌∙◌, arith, append_assoc, append-nil}
+use Rattle.std.proofs.Common.{◌≡◌, ℕ, suc, ◌<◌, Bool, true, false, cond, ◌&&◌, eqb, ltb, List, [], ◌∷◌, ◌++◌, length, refl, sym, ap, ◌∙◌, arith, append_assoc, append-nil}
 use Rattle.std.proofs.lemmas.Bool.Decides.{nat_tests}
 use Rattle.std.specs.List.{list_all, flat_map}
 use Rattle.tier_base.specs.Names.{is_word_byte}
@@ -7,8 +7,8 @@ use Rattle.row_types.specs.Printing.{doubled_quote, quoted}
 use Rattle.sql_tokens.specs.declared.kind.Kind.{Kind}
 use Rattle.sql_tokens.specs.declared.kind.Kind.TheVariants.{Text, Minus}
 use Rattle.sql_tokens.specs.Words.{word_kind}
-use Rattle.sql_tokens.specs.Lexing.{Lexeme, lexeme, Scan, Scanned, Blank, InWord, InText, Quoted, is_blank, begun, on, lexed_from}
-use Rattle.sql_tokens.proofs.Bytes.{begun-word, on-word, on-text, on-text_quote, on-quoted_quote}
+use Rattle.sql_tokens.specs.Lexing.{Lexeme, lexeme, Scan, Scanned, Blank, InWord, InText, Quoted, is_blank, on, lexed_from}
+use Rattle.sql_tokens.proofs.Bytes.{begun-word, on-word, on-text}
 use Rattle.sql_grammar.proofs.Lists.{and_left, and_right}
 use Rattle.sql_print.specs.Words.{Word}
 use Rattle.sql_print.specs.Printed.{spaced}

@@ -1,16 +1,14 @@
 -- Literals that are put, and lists of them, are read back.
-use Rattle.std.proofs.Common.{◌≡◌, ℕ, zero, suc, ◌<◌, ◌≤◌, Bool, true, false, cond, eqb, List, [], ◌∷◌, ◌++◌, length, drop, codes, refl, sym, ap, ◌∙◌, subst, arith, append_assoc, append-nil}
+use Rattle.std.proofs.Common.{◌≡◌, ℕ, zero, suc, ◌<◌, ◌≤◌, Bool, true, false, cond, eqb, List, [], ◌∷◌, ◌++◌, length, codes, refl, sym, ap, ◌∙◌, subst, arith, append_assoc, append-nil}
 use Rattle.std.proofs.lemmas.Bool.Decides.{nat_tests}
 use Rattle.std.specs.List.{list_all, flat_map}
 use Rattle.std.specs.Char.{is_ascii_digit}
 use Rattle.tier_base.specs.Names.{is_word_byte}
 use Rattle.row_types.specs.Printing.{quoted, doubled_quote}
-use Rattle.sql_tokens.specs.declared.kind.Kind.{Kind}
 use Rattle.sql_tokens.specs.declared.kind.Kind.TheVariants.{Comma, Minus, Null, Text}
 use Rattle.sql_tokens.specs.Words.{word_kind}
 use Rattle.sql_tokens.specs.Lexing.{Lexeme, lexeme, Blank, lexed_from}
-use Rattle.sql_grammar.specs.declared.test.Test.TheVariants.{Whole}
-use Rattle.sql_grammar.specs.Grammar.{Grammar, Parts, Part, Reads, Token, token, both, this, that, empty, again, enough}
+use Rattle.sql_grammar.specs.Grammar.{Grammar, Parts, Part, Reads, token, both, this, that, empty, again, enough}
 use Rattle.sql_grammar.specs.Notation.{repeated, ◌▸◌}
 use Rattle.sql_grammar.specs.Sql.{rule, literal}
 use Rattle.sql_subset.specs.declared.stmt.IntegerLiteral.{IntegerLiteral}
@@ -18,7 +16,7 @@ use Rattle.sql_subset.specs.declared.stmt.Literal.{Literal}
 use Rattle.sql_subset.specs.declared.stmt.Literal.TheVariants as literals
 use Rattle.sql_subset.specs.Lines.{kinds_in}
 use Rattle.sql_subset.specs.Reading.{at_comma, with_last, as_list, chained, literal_of, halved, unquoted}
-use Rattle.sql_print.specs.Words.{Word, integer_word, literal_word, literal_words, listed, more}
+use Rattle.sql_print.specs.Words.{Word, literal_words, listed, more}
 use Rattle.sql_print.specs.Printed.{spaced}
 use Rattle.sql_print.proofs.Fine.{IsFineText}
 use Rattle.sql_print.proofs.Lexed.{lexes_word, lexes, lexes_text, lexes_minus}
@@ -75,8 +73,7 @@ put_literal (literals.Integer x) h ps ws Q r = by x.negative refl
         (taken (word_kind x.digits) x.digits ps (Part 0 literal ps) ws Q (lexes_word x.digits bytes h.some) (λ k d. this kind.whole (empty d)) r)
     by true e =
         λ i. let (j, f) = lexes_minus x.digits bytes h.some (suc i) ws in
-        let (d, q) = r j in
-        (
+        let (d, q) = r j in (
           subst (λ ls. Reads rule 32 (Part 0 literal ps) (kinds_in ls)) (sym f) (that (that (that (both (token refl (token kind.whole d)))))),
           (lexed_from Blank j (spaced ws), negative_says x e (suc i) (suc (suc i)) _ (lexed_from Blank j (spaced ws)) f, q),
         )
@@ -88,9 +85,8 @@ AllGood good (x ∷ xs) = good x × AllGood good xs
 
 -- lists with commas between
 module _ {A : Type 0} (f : A → List Word) (read : List Lexeme → A × List Lexeme) (g : Grammar) (Good : A → Type 0)
-  (put : (x : A) → Good x → (ps : Parts) (ws : List Word) (Q : List Lexeme → Type 0) → Rest ps ws Q → Rest (Part 0 g ps) (f x ++ ws) (Gives read x Q))
-  (shrinks : (ls : List Lexeme) → length (read ls).1 ≤ length ls) where
-
+    (put : (x : A) → Good x → (ps : Parts) (ws : List Word) (Q : List Lexeme → Type 0) → Rest ps ws Q → Rest (Part 0 g ps) (f x ++ ws) (Gives read x Q))
+    (shrinks : (ls : List Lexeme) → length (read ls).1 ≤ length ls) where
   -- the tokens are read as these parts, each behind a comma
   abbrev pub Chained : List A → (List Lexeme → Type 0) → List Lexeme → Type 0
   Chained xs Q ls = (rest : List Lexeme) × ((n : ℕ) (acc : List A) → length ls ≤ n → chained at_comma with_last read n (acc, ls) ≡ (acc ++ xs, rest)) × Q rest

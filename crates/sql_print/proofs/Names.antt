@@ -1,11 +1,10 @@
 -- Names that are put are read back.
-use Rattle.std.proofs.Common.{◌≡◌, ℕ, suc, ◌+◌, ◌<◌, Bool, true, false, cond, ltb, eqb, List, [], ◌∷◌, ◌++◌, length, take, drop, get_or, codes, Option, Some, None, refl, sym, ap, ◌∙◌, arith, add-one, drop-cons}
+use Rattle.std.proofs.Common.{◌≡◌, ℕ, suc, ◌+◌, ◌<◌, Bool, true, false, cond, ltb, eqb, List, ◌∷◌, ◌++◌, length, take, drop, get_or, codes, Option, Some, None, refl, sym, ap, ◌∙◌, arith, add-one, drop-cons}
 use Rattle.std.proofs.lemmas.Bool.Decides.{nat_tests}
 use Rattle.std.proofs.lemmas.List.{take-append-drop}
 use Rattle.std.proofs.lemmas.List.Sums.{passes_at_first}
 use Rattle.std.specs.List.{position, position_or_len}
 use Rattle.tier_base.specs.Names.{is_identifier, is_name, is_name_at, folded}
-use Rattle.sql_tokens.specs.declared.kind.Kind.{Kind}
 use Rattle.sql_tokens.specs.declared.kind.Kind.TheVariants.{Dot}
 use Rattle.sql_tokens.specs.Words.{word_kind}
 use Rattle.sql_tokens.specs.Lexing.{Lexeme}
@@ -16,8 +15,8 @@ use Rattle.sql_grammar.specs.Sql.{table_name}
 use Rattle.sql_grammar.proofs.Lists.{and_left, and_right}
 use Rattle.sql_subset.specs.Reading.{name_from, name_of, identifier_of}
 use Rattle.sql_print.specs.Words.{Word, name_words, name_words_at}
-use Rattle.sql_print.proofs.Lexed.{lexes_word, lexes}
-use Rattle.sql_print.proofs.WordKinds.{IsNameWord, identifier_word}
+use Rattle.sql_print.proofs.Lexed.{lexes_word}
+use Rattle.sql_print.proofs.WordKinds.{identifier_word}
 use Rattle.sql_print.proofs.Rest.{Rest, Front, Gives, Never, taken, known}
 
 -- a name in upper case

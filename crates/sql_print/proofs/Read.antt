@@ -1,35 +1,32 @@
 -- What is read off the tokens of bytes without a bad one.
-use Rattle.std.proofs.Common.{◌≡◌, ℕ, zero, suc, ◌*◌, ◌≤◌, min, Bool, true, false, ◌&&◌, cond, eqb, leb, List, [], ◌∷◌, ◌++◌, drop, length, Option, Some, None, refl, sym, ap, ◌∙◌, subst, arith, append_assoc}
+use Rattle.std.proofs.Common.{◌≡◌, ℕ, zero, suc, ◌*◌, ◌≤◌, min, Bool, true, false, cond, List, [], ◌∷◌, ◌++◌, drop, length, Some, None, refl, sym, ap, subst, arith}
 use Rattle.std.proofs.lemmas.Bool.Decides.{nat_tests}
 use Rattle.row_types.specs.Printing.{quoted}
-use Rattle.row_types.specs.declared.declaration.TypeDeclaration.{TypeDeclaration}
 use Rattle.row_types.specs.declared.declaration.TypeDeclaration.TheVariants as types
 use Rattle.row_types.specs.declared.declaration.ColumnDeclaration.{ColumnDeclaration}
 use Rattle.row_types.specs.declared.declaration.TableDeclaration.{TableDeclaration}
 use Rattle.sql_tokens.specs.declared.kind.Kind.{Kind}
 use Rattle.sql_tokens.specs.declared.kind.Kind.TheVariants as k
-use Rattle.sql_tokens.specs.Kinds.{code, is_kind}
+use Rattle.sql_tokens.specs.Kinds.{is_kind}
 use Rattle.sql_tokens.specs.Lexing.{Lexeme, lexed}
 use Rattle.sql_grammar.specs.declared.rule.Rule.TheVariants as rules
 use Rattle.sql_grammar.specs.declared.test.Test.TheVariants.{Name, Only, Whole}
 use Rattle.sql_grammar.specs.Tests.{passes}
-use Rattle.sql_grammar.specs.Grammar.{Parts, Over, Part, Reads, Empty, Named, Token, token, both, this, that, empty, again, enough, over, named}
+use Rattle.sql_grammar.specs.Grammar.{Parts, Over, Part, Reads, Empty, Named, Token, token, both, this, that, empty, again, enough, named}
 use Rattle.sql_grammar.specs.Notation.{choice, optional, repeated, the, ◌▸◌}
 use Rattle.sql_grammar.specs.Sql.{rule, arguments, insert, literal, literals, table_name}
 use Rattle.sql_subset.specs.declared.tables.Element.{Element}
 use Rattle.sql_subset.specs.declared.tables.Element.TheVariants as elements
 use Rattle.sql_subset.specs.declared.stmt.Autorefresh as autorefreshes
-use Rattle.sql_subset.specs.declared.stmt.CreateGroup as groups
 use Rattle.sql_subset.specs.declared.stmt.GroupKind.{GroupKind}
 use Rattle.sql_subset.specs.declared.stmt.GroupKind.TheVariants.{ReadOnly, AsynchronousWritethrough}
 use Rattle.sql_subset.specs.declared.stmt.Literal.{Literal}
-use Rattle.sql_subset.specs.declared.stmt.Literal.TheVariants as ls
 use Rattle.sql_subset.specs.declared.stmt.Stmt.{Stmt}
 use Rattle.sql_subset.specs.declared.stmt.Stmt.TheVariants as v
 use Rattle.sql_subset.specs.Lines.{Spells, kinds_in}
-use Rattle.sql_subset.specs.Reading.{as_list, as_literal, at_comma, begins, chained, first_kind, first_text, identifier_of, identifiers_of, integer_of, literal_of, literals_of, name_from, name_of, unquoted, with_last}
-use Rattle.sql_subset.specs.Tables.{as_column, as_key, column_of, element_of, elements_of, past_one, past_two, table_named, table_of, table_with, type_of, with_element}
-use Rattle.sql_subset.specs.Groups.{unwritten, default_refresh, group_of, interval_of, kind_of, milliseconds_of, number_with, refresh_of, with_interval, with_mode, with_state, written}
+use Rattle.sql_subset.specs.Reading.{as_list, at_comma, begins, chained, first_kind, first_text, identifier_of, identifiers_of, literal_of, literals_of, name_from, name_of, unquoted, with_last}
+use Rattle.sql_subset.specs.Tables.{as_column, as_key, column_of, element_of, past_two, table_of, table_with, type_of, with_element}
+use Rattle.sql_subset.specs.Groups.{unwritten, default_refresh, group_of, kind_of, milliseconds_of, number_with, refresh_of, with_interval, with_mode, with_state, written}
 use Rattle.sql_subset.specs.Statements.{call_named, call_with, insert_of, statement_of}
 use Rattle.sql_print.proofs.Fine.{IsFineText}
 use Rattle.sql_print.proofs.Fits.{Fits, all_fit}
@@ -70,8 +67,7 @@ identifier_good (l ∷ us) (h, t) = identifier_read l.text h.word
 
 -- lists
 module _ {A B : Type 0} (g : List Lexeme → Bool) (f : A → B → A) (p : List Lexeme → B × List Lexeme) (Good : A → Type 0)
-  (step : (a : A) (us : List Lexeme) → Good a → AllFit us → Good (f a (p us).0) × AllFit (p us).1) where
-
+    (step : (a : A) (us : List Lexeme) → Good a → AllFit us → Good (f a (p us).0) × AllFit (p us).1) where
   keeps : (n : ℕ) (x : A × List Lexeme) → Good x.0 → AllFit x.1 → Good (chained g f p n x).0 × AllFit (chained g f p n x).1
   keeps zero x h t = (h, t)
   keeps (suc n) x h t =

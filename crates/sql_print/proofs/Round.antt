@@ -1,5 +1,5 @@
 -- What is printed of a statement spells its normal form.
-use Rattle.std.proofs.Common.{◌≡◌, ℕ, List, [], ◌∷◌, ◌++◌, codes, sym}
+use Rattle.std.proofs.Common.{[], ◌∷◌, codes, sym}
 use Rattle.sql_grammar.specs.Grammar.{both}
 use Rattle.sql_subset.specs.declared.stmt.Stmt.{Stmt}
 use Rattle.sql_subset.specs.declared.stmt.Stmt.TheVariants as v

@@ -1,11 +1,11 @@
 -- Bytes that are not spoilt have no bad byte.
-use Rattle.std.proofs.Common.{◌≡◌, ℕ, zero, suc, ◌<◌, ◌≤◌, Bool, true, false, not, ◌&&◌, ◌+◌, cond, ltb, min, List, [], ◌∷◌, length, take, Option, Some, None, refl, sym, ap, ◌∙◌, subst, arith}
+use Rattle.std.proofs.Common.{◌≡◌, ℕ, zero, suc, ◌≤◌, Bool, true, false, not, ◌&&◌, ◌+◌, cond, ltb, List, [], ◌∷◌, length, take, Some, None, refl, subst, arith}
 use Rattle.std.proofs.lemmas.Bool.Decides.{nat_tests}
-use Rattle.std.proofs.lemmas.Str.{IsUtf8-nil, IsUtf8-from_is_utf8, utf8_valid_len_le}
+use Rattle.std.proofs.lemmas.Str.{IsUtf8-nil, IsUtf8-from_is_utf8}
 use Rattle.std.proofs.Math.Seq.{take-length}
 use Rattle.std.specs.Str.{IsUtf8, is_utf8}
 use Rattle.std.specs.Str.Lossy.{utf8_valid_len, valid_len_up_to}
-use Rattle.std.specs.List.{list_all, position, position_or_len}
+use Rattle.std.specs.List.{list_all, position_or_len}
 use Rattle.sql_tokens.specs.Heads.{good_length, is_control, or_end, place_or_end}
 use Rattle.sql_subset.specs.Lines.{is_spoilt}
 use Rattle.sql_print.proofs.Fine.{IsFineText}

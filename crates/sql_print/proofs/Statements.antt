@@ -1,33 +1,29 @@
 -- Statements that are put are read back.
-use Rattle.std.proofs.Common.{◌≡◌, ℕ, suc, eqb, Bool, true, false, List, [], ◌∷◌, ◌++◌, length, drop, codes, Option, Some, None, refl, sym, ap, ◌∙◌, subst, arith, append_assoc, append-nil}
+use Rattle.std.proofs.Common.{◌≡◌, ℕ, suc, eqb, true, false, List, [], ◌∷◌, ◌++◌, drop, codes, refl, ap, ◌∙◌, subst, arith, append-nil}
 use Rattle.std.proofs.lemmas.Bool.Decides.{nat_tests}
 use Rattle.sql_tokens.specs.declared.kind.Kind.{Kind}
 use Rattle.sql_tokens.specs.declared.kind.Kind.TheVariants as k
 use Rattle.sql_tokens.specs.Kinds.{code}
-use Rattle.sql_tokens.specs.Lexing.{Lexeme, lexeme, lexed, Blank, lexed_from}
+use Rattle.sql_tokens.specs.Lexing.{Lexeme, lexed}
 use Rattle.sql_grammar.specs.declared.rule.Rule.TheVariants as rules
-use Rattle.sql_grammar.specs.declared.start.Start.TheVariants as starts
 use Rattle.sql_grammar.specs.declared.test.Test.TheVariants.{Only, Whole}
 use Rattle.sql_grammar.specs.Tests.{passes}
-use Rattle.sql_grammar.specs.Grammar.{Grammar, Parts, Over, Part, Reads, Empty, Named, Token, token, both, this, that, empty, enough, over, named}
-use Rattle.sql_grammar.specs.Notation.{optional, choice, repeated, the, ◌▸◌}
-use Rattle.sql_grammar.specs.Sql.{rule, arguments, create_group, grammar_of, insert, literal, literals, load, select, table_name}
-use Rattle.sql_grammar.specs.Verdict.{IsSpelt}
+use Rattle.sql_grammar.specs.Grammar.{Grammar, Parts, Over, Part, Reads, Empty, Named, token, both, this, that, empty, over, named}
+use Rattle.sql_grammar.specs.Notation.{optional, the, ◌▸◌}
+use Rattle.sql_grammar.specs.Sql.{rule, arguments, create_group, insert, literal, literals, load, select, table_name}
 use Rattle.sql_subset.specs.declared.stmt.Literal.{Literal}
-use Rattle.sql_subset.specs.declared.stmt.Insert as inserts
-use Rattle.sql_subset.specs.declared.stmt.Call as calls
 use Rattle.sql_subset.specs.declared.stmt.CreateGroup as groups
 use Rattle.sql_subset.specs.declared.stmt.Stmt.{Stmt}
 use Rattle.sql_subset.specs.declared.stmt.Stmt.TheVariants as v
 use Rattle.sql_subset.specs.Lines.{kinds_in}
 use Rattle.sql_subset.specs.Reading.{begins, name_of, literal_of, literals_of}
 use Rattle.sql_subset.specs.Groups.{group_of}
-use Rattle.sql_subset.specs.Statements.{call_named, call_with, inserted, insert_named, insert_of, statement_of}
+use Rattle.sql_subset.specs.Statements.{call_named, call_with, inserted, insert_named, statement_of}
 use Rattle.sql_subset.proofs.Shrinking.{literal_shrinks}
-use Rattle.sql_print.specs.Words.{Word, argument_words, enclosed, group_words, listed, literal_words, more, name_words, rest_words, statement_words}
+use Rattle.sql_print.specs.Words.{Word, group_words, listed, literal_words, name_words, statement_words}
 use Rattle.sql_print.specs.Printed.{joined, spaced}
 use Rattle.sql_print.proofs.Lexed.{Lexes, lexes}
-use Rattle.sql_print.proofs.Rest.{Front, Gives, Never, Rest, begun_by, front_never, known, known_by, moved, taken}
+use Rattle.sql_print.proofs.Rest.{Front, Gives, Never, Rest, begun_by, front_never, known_by, moved, taken}
 use Rattle.sql_print.proofs.Names.{IsName, put_name}
 use Rattle.sql_print.proofs.Literals.{AllGood, IsLiteral, put_list, put_literal}
 use Rattle.sql_print.proofs.Groups.{IsGroup, put_group}

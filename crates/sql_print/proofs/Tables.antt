@@ -1,26 +1,24 @@
 -- Tables that are put are read back.
-use Rattle.std.proofs.Common.{◌≡◌, ℕ, zero, suc, ◌<◌, ◌≤◌, Bool, true, false, cond, List, [], ◌∷◌, ◌++◌, length, drop, codes, Option, Some, None, refl, sym, ap, ◌∙◌, subst, arith, append_assoc, append-nil}
+use Rattle.std.proofs.Common.{◌≡◌, ℕ, zero, suc, ◌≤◌, Bool, true, false, List, [], ◌∷◌, ◌++◌, length, drop, codes, Option, Some, None, refl, sym, ap, ◌∙◌, subst, arith, append_assoc, append-nil}
 use Rattle.std.specs.Option.{option_or}
 use Rattle.row_types.specs.declared.declaration.TypeDeclaration.{TypeDeclaration}
 use Rattle.row_types.specs.declared.declaration.TypeDeclaration.TheVariants as types
 use Rattle.row_types.specs.declared.declaration.ColumnDeclaration.{ColumnDeclaration}
 use Rattle.row_types.specs.declared.declaration.TableDeclaration.{TableDeclaration}
-use Rattle.sql_tokens.specs.declared.kind.Kind.{Kind}
 use Rattle.sql_tokens.specs.declared.kind.Kind.TheVariants.{CloseParen, Comma, Dot, Key, Not, Null, OpenParen, Primary, TtBigint, TtInteger}
-use Rattle.sql_tokens.specs.Kinds.{is_kind}
 use Rattle.sql_tokens.specs.Words.{word_kind}
 use Rattle.sql_tokens.specs.Lexing.{Lexeme, lexeme}
 use Rattle.sql_grammar.specs.declared.rule.Rule.TheVariants as rules
 use Rattle.sql_grammar.specs.declared.test.Test.TheVariants.{Name}
-use Rattle.sql_grammar.specs.Grammar.{Grammar, Parts, Part, Reads, Empty, Named, Token, token, both, this, that, empty, again, enough, named}
-use Rattle.sql_grammar.specs.Notation.{repeated, optional, choice, the, ◌▸◌}
-use Rattle.sql_grammar.specs.Sql.{rule, table_name, idents, column_rest, columns, table}
+use Rattle.sql_grammar.specs.Grammar.{Grammar, Parts, Part, Empty, Named, Token, token, both, this, that, empty, named}
+use Rattle.sql_grammar.specs.Notation.{optional, choice, the, ◌▸◌}
+use Rattle.sql_grammar.specs.Sql.{table_name, idents, column_rest, table}
 use Rattle.sql_subset.specs.declared.tables.Element.{Element}
 use Rattle.sql_subset.specs.declared.tables.Element.TheVariants as elements
 use Rattle.sql_subset.specs.Reading.{at_comma, begins, chained, identifier_of, identifiers_of, name_of}
-use Rattle.sql_subset.specs.Tables.{as_column, as_key, column_named, column_with, column_of, element_of, elements_of, past_one, past_two, table_named, table_of, table_with, type_of, with_element}
-use Rattle.sql_subset.proofs.Shrinking.{column_shrinks, element_shrinks, identifier_shrinks}
-use Rattle.sql_print.specs.Words.{Word, column_words, element_words, enclosed, identifier_words, key_words, name_words, listed, mark_words, more, table_words, type_words, where_so}
+use Rattle.sql_subset.specs.Tables.{as_column, as_key, column_named, column_with, column_of, element_of, elements_of, past_one, past_two, table_named, table_of, type_of, with_element}
+use Rattle.sql_subset.proofs.Shrinking.{element_shrinks, identifier_shrinks}
+use Rattle.sql_print.specs.Words.{Word, column_words, identifier_words, key_words, name_words, listed, mark_words, more, table_words, type_words}
 use Rattle.sql_print.proofs.Lexed.{Lexes, lexes, lexes_word}
 use Rattle.sql_print.proofs.WordKinds.{identifier_word, name_no_primary}
 use Rattle.sql_print.proofs.Rest.{Rest, Front, Gives, Moves, Never, front_never, known, moved, taken}
@@ -37,7 +35,6 @@ IsRead types.Timestamp = ⊥
 pub record IsColumn (c : ColumnDeclaration) : Type 0 where
   pub name : IsIdentifier c.name
   pub ty : IsRead c.ty
-
 
 -- where the tokens begin with what is behind the type
 pub record Marks (n p : Bool) (Q : List Lexeme → Type 0) (ls : List Lexeme) : Type 0 where
@@ -187,7 +184,7 @@ key_says : (names : List (List ℕ)) (Q : List Lexeme → Type 0) (ls : List Lex
 key_says names Q ls (p, ls1, e, (p1, r1, e1, (p2, r2, e2, (p3, r3, e3, (r4, f, (p4, r5, e4, (p5, r6, e5, q))))))) = record {
   rest = r5;
   reads = table_goes (elements.Key names) [] (Some names) ls ls1 r5 r5 p e (element_key names ls1 r1 r2 r3 r4 r5 p1 p2 p3 p4 e1 e2 e3 f e4)
-    (λ n t l. table_stops n (with_element t (elements.Key names)) r5 (rw e5 refl) ∙ ap (λ (y : TableDeclaration). let z : TableDeclaration × List Lexeme = (y, r5) in z) (keyed t names));
+      (λ n t l. table_stops n (with_element t (elements.Key names)) r5 (rw e5 refl) ∙ ap (λ (y : TableDeclaration). let z : TableDeclaration × List Lexeme = (y, r5) in z) (keyed t names));
   behind = (p5, r6, e5, q);
   no_not = rw e refl;
   no_primary = rw e refl;
@@ -197,7 +194,7 @@ column_goes : (c : ColumnDeclaration) (cs : List ColumnDeclaration) (key : Optio
 column_goes c cs key Q ls (p, ls1, e, x) = record {
   rest = x.behind.rest;
   reads = table_goes (elements.Column c) (c ∷ cs) key ls ls1 x.rest x.behind.rest p e (rw x.no_primary (ap (λ (y : ColumnDeclaration × List Lexeme). as_column y) x.reads))
-    (λ n t l. x.behind.reads n (with_element t (elements.Column c)) l ∙ ap (λ (ds : List ColumnDeclaration). let y : TableDeclaration = record t { columns = ds; primary_key = option_or key t.primary_key } in let z : TableDeclaration × List Lexeme = (y, x.behind.rest) in z) (append_assoc t.columns (c ∷ []) cs));
+      (λ n t l. x.behind.reads n (with_element t (elements.Column c)) l ∙ ap (λ (ds : List ColumnDeclaration). let y : TableDeclaration = record t { columns = ds; primary_key = option_or key t.primary_key } in let z : TableDeclaration × List Lexeme = (y, x.behind.rest) in z) (append_assoc t.columns (c ∷ []) cs));
   behind = x.behind.behind;
   no_not = rw e refl;
   no_primary = rw e refl;

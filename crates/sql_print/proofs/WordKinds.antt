@@ -1,13 +1,13 @@
 -- What kinds of tokens names and digits are.
-use Rattle.std.proofs.Common.{◌≡◌, ℕ, ◌<◌, Bool, true, false, not, ◌&&◌, ◌||◌, cond, eqb, leb, List, [], ◌∷◌, ◌++◌, length, take, drop, map, refl, sym, ap, ◌∙◌, arith}
+use Rattle.std.proofs.Common.{◌≡◌, ℕ, ◌<◌, Bool, true, false, not, ◌&&◌, ◌||◌, cond, eqb, leb, List, [], ◌∷◌, ◌++◌, length, take, drop, map, refl, arith}
 use Rattle.std.proofs.lemmas.Bool.Decides.{nat_tests}
 use Rattle.std.specs.List.{list_all}
 use Rattle.std.specs.Char.{is_ascii_digit}
-use Rattle.tier_base.specs.Names.{is_word_byte, is_identifier, begins_with_letter, is_among, reserved, is_reserved_word, spells}
+use Rattle.tier_base.specs.Names.{is_word_byte, is_identifier, begins_with_letter, is_among, is_reserved_word, spells}
 use Rattle.sql_tokens.specs.declared.kind.Kind.{Kind}
 use Rattle.sql_tokens.specs.declared.kind.Kind.TheVariants.{Identifier, Zero, One, Two, Three, Integer, Text, Null, Minus, Primary}
 use Rattle.sql_tokens.specs.Kinds.{is_kind}
-use Rattle.sql_tokens.specs.Words.{word_kind, named, keywords, number_kind, digit_kind}
+use Rattle.sql_tokens.specs.Words.{word_kind, named, keywords, number_kind}
 use Rattle.sql_grammar.specs.declared.test.Test.TheVariants.{Name, Whole}
 use Rattle.sql_grammar.specs.Tests.{passes}
 use Rattle.sql_grammar.proofs.Lists.{and_left, and_right}

@@ -1,6 +1,6 @@
 //! Statements as text.
 ghost use Rattle.std.specs.Prelude.{◌≡◌, ◌++◌, ◌∷◌, IfOk, OnOk, Some};
-ghost use Rattle.row_types.specs.Printing.{quoted};
+ghost use Rattle.row_types.specs.Printing.{doubled_quote, quoted};
 ghost use Rattle.sql_print.specs.Normal.{normal, normal_group};
 ghost use Rattle.sql_print.specs.Printed.{joined, printed, printed_table, spaced};
 ghost use Rattle.sql_print.specs.Words.{argument_words, enclosed, group_words, integer_word, interval_words, kind_words, literal_word, literal_words, listed, mode_word, more, refresh_words, rest_words, statement_words, state_word};
@@ -24,16 +24,24 @@ fn put_integer(out: &mut Vec<u8>, integer: &IntegerLiteral) -> Result<(), AllocE
     out.extend_from_slice(integer.digits.as_bytes())
 }
 
+/// Puts a byte of a text, a quote twice.
+fn put_byte(out: &mut Vec<u8>, byte: u8) -> Result<(), AllocError>
+    ensures { OnOk result (out.new.items ≡ out.old.items ++ doubled_quote byte) }
+{
+    if byte == b'\'' {
+        out.push(b'\'')?;
+    }
+    out.push(byte)?;
+    Ok(())
+}
+
 /// Puts a space and the text between quotes, with each quote in it twice.
 fn put_text(out: &mut Vec<u8>, text: &[u8]) -> Result<(), AllocError>
     ensures { OnOk result (out.new.items ≡ out.old.items ++ 32 ∷ quoted text.now) }
 {
     out.extend_from_slice(b" '")?;
     for byte in text {
-        if *byte == b'\'' {
-            out.push(b'\'')?;
-        }
-        out.push(*byte)?;
+        put_byte(out, *byte)?;
     }
     out.push(b'\'')?;
     Ok(())

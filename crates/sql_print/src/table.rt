@@ -185,10 +185,7 @@ fn put_reference(out: &mut Vec<u8>, key: &ForeignKeyDeclaration) -> Result<(), A
     put_cascade(out, key.cascade)
 }
 
-fn put_foreign_key(
-    out: &mut Vec<u8>,
-    key: &Option<ForeignKeyDeclaration>,
-) -> Result<(), AllocError>
+fn put_foreign_key(out: &mut Vec<u8>, key: &Option<ForeignKeyDeclaration>) -> Result<(), AllocError>
     ensures { OnOk result (out.new.items ≡ out.old.items ++ spaced (foreign_words key.now)) }
 {
     match key {

@@ -1,8 +1,11 @@
 //! Statements and what is printed of them, worked out by hand from the rules.
 
-use super::print;
-use row_types::{ColumnDeclaration, ForeignKeyDeclaration, TableDeclaration, Text, TypeDeclaration};
-use sql_subset::line::parse;
+use super::{print, print_table};
+use row_types::{
+    ColumnDeclaration, ForeignKeyDeclaration, TableDeclaration, Text, TypeDeclaration,
+};
+use sql_subset::line::{parse, parse_line};
+use sql_subset::request::{ConsoleRequest, Line};
 use sql_subset::stmt::{CreateGroup, GroupKind, Stmt};
 use std::alloc::{AllocError, Global};
 use std::test::Fail;
@@ -147,6 +150,51 @@ fn groups_print_with_their_defaults(rt: HostRuntime) -> Result<(), Fail> {
     Ok(())
 }
 
+static TABLES: [Case; 5] = [
+    (
+        b"backing: create table a (id tt_integer primary key, n tt_bigint)",
+        b"CREATE TABLE A ( ID TT_INTEGER NOT NULL , N TT_BIGINT , PRIMARY KEY ( ID ) )",
+    ),
+    (
+        b"backing:CREATE TABLE own.a(ID TT_INTEGER,N TT_INTEGER NOT NULL,PRIMARY KEY(n,id));",
+        b"CREATE TABLE OWN . A ( ID TT_INTEGER NOT NULL , N TT_INTEGER NOT NULL , PRIMARY KEY ( N , ID ) )",
+    ),
+    (
+        b"  backing : CREATE TABLE A (ID TT_BIGINT)",
+        b"CREATE TABLE A ( ID TT_BIGINT )",
+    ),
+    (
+        b"backing: CREATE TABLE A (ID TT_BIGINT PRIMARY KEY, PRIMARY KEY (ID))",
+        b"CREATE TABLE A ( ID TT_BIGINT PRIMARY KEY , PRIMARY KEY ( ID ) )",
+    ),
+    (
+        b"backing: CREATE TABLE OPEN (CLOSE TT_BIGINT NOT NULL)",
+        b"CREATE TABLE OPEN ( CLOSE TT_BIGINT NOT NULL )",
+    ),
+];
+
+/// Whether this is printed of the table that the line defines.
+fn defines(alloc: Global, line: &[u8], printed: &[u8]) -> Result<bool, AllocError> {
+    match parse_line(alloc, line) {
+        Ok(Some(Line::Console(ConsoleRequest::CreateTable(table)))) => {
+            Ok(print_table(alloc, &table)?.as_bytes() == printed)
+        }
+        _ => Ok(false),
+    }
+}
+
+#[test]
+fn definitions_print_as_words(rt: HostRuntime) -> Result<(), Fail> {
+    let alloc = rt.alloc();
+    for (line, printed) in &TABLES {
+        assert!(rt; defines(alloc, line, printed)?);
+        let mut again = Vec::from_slice(alloc, b"backing: ")?;
+        again.extend_from_slice(printed)?;
+        assert!(rt; defines(alloc, &again, printed)?);
+    }
+    Ok(())
+}
+
 fn name(alloc: Global, bytes: &[u8]) -> Result<Name, AllocError> {
     match Name::new(alloc, bytes) {
         Ok(name) => Ok(name),
@@ -160,7 +208,11 @@ fn names(alloc: Global, bytes: &[u8]) -> Result<Seq<Name>, AllocError> {
     Ok(Seq::from_vec(names))
 }
 
-fn column(alloc: Global, bytes: &[u8], ty: TypeDeclaration) -> Result<ColumnDeclaration, AllocError> {
+fn column(
+    alloc: Global,
+    bytes: &[u8],
+    ty: TypeDeclaration,
+) -> Result<ColumnDeclaration, AllocError> {
     Ok(ColumnDeclaration {
         name: name(alloc, bytes)?,
         ty,
@@ -200,6 +252,9 @@ fn types_and_foreign_keys_print_too(rt: HostRuntime) -> Result<(), Fail> {
         table: child(alloc)?,
     });
     let printed = print(alloc, &group)?;
-    assert!(rt; printed.as_bytes() == b"CREATE ASYNCHRONOUS WRITETHROUGH CACHE GROUP W FROM D ( T VARCHAR2 ( 20 ) NOT NULL , W TIMESTAMP , Z VARCHAR2 ( 0 ) , PRIMARY KEY ( T ) , FOREIGN KEY ( W ) REFERENCES OWN . A ( ID ) ON DELETE CASCADE )".as_slice());
+    assert!(rt;
+        printed.as_bytes()
+            == b"CREATE ASYNCHRONOUS WRITETHROUGH CACHE GROUP W FROM D ( T VARCHAR2 ( 20 ) NOT NULL , W TIMESTAMP , Z VARCHAR2 ( 0 ) , PRIMARY KEY ( T ) , FOREIGN KEY ( W ) REFERENCES OWN . A ( ID ) ON DELETE CASCADE )".as_slice()
+    );
     Ok(())
 }

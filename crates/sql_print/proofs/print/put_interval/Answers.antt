@@ -1,4 +1,4 @@
-use Rattle.std.proofs.Common.{[], ◌∷◌, codes, refl, ◌∙◌}
+use Rattle.std.proofs.Common.{[], ◌∷◌, codes, ◌∙◌}
 use Rattle.std.specs.Fmt.{decimal}
 use Rattle.sql_print.proofs.Puts.{one, two, two_ok}
 use Rattle.sql_print.proofs.print.put_interval.Goals as goal

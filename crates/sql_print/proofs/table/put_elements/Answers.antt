@@ -1,4 +1,4 @@
-use Rattle.std.proofs.Common.{[], ◌∷◌, ◌++◌, sym}
+use Rattle.std.proofs.Common.{◌++◌, sym}
 use Rattle.std.specs.Option.{option_or}
 use Rattle.sql_print.specs.Normal.{keyed_column}
 use Rattle.sql_print.specs.Words.{listed, column_words, key_words, foreign_words}

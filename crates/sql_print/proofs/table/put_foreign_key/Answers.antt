@@ -1,4 +1,4 @@
-use Rattle.std.proofs.Common.{[], ◌∷◌, ◌++◌, codes, append_assoc}
+use Rattle.std.proofs.Common.{[], ◌∷◌, ◌++◌, codes}
 use Rattle.sql_print.specs.Words.{enclosed, listed, identifier_words, reference_words}
 use Rattle.sql_print.proofs.Puts.{two, two_ok}
 use Rattle.sql_print.proofs.table.put_foreign_key.Goals as goal
