@@ -45,9 +45,7 @@ static D_WORDS: [(&'static [u8], Kind); 7] = [
     (b"DAYS", Kind::Day),
 ];
 
-static E_WORDS: [(&'static [u8], Kind); 1] = [
-    (b"EVERY", Kind::Every),
-];
+static E_WORDS: [(&'static [u8], Kind); 1] = [(b"EVERY", Kind::Every)];
 
 static F_WORDS: [(&'static [u8], Kind); 4] = [
     (b"FROM", Kind::From),
@@ -56,14 +54,9 @@ static F_WORDS: [(&'static [u8], Kind); 4] = [
     (b"FULL", Kind::Full),
 ];
 
-static G_WORDS: [(&'static [u8], Kind); 1] = [
-    (b"GROUP", Kind::Group),
-];
+static G_WORDS: [(&'static [u8], Kind); 1] = [(b"GROUP", Kind::Group)];
 
-static H_WORDS: [(&'static [u8], Kind); 2] = [
-    (b"HOUR", Kind::Hour),
-    (b"HOURS", Kind::Hour),
-];
+static H_WORDS: [(&'static [u8], Kind); 2] = [(b"HOUR", Kind::Hour), (b"HOURS", Kind::Hour)];
 
 static I_WORDS: [(&'static [u8], Kind); 8] = [
     (b"IS", Kind::Is),
@@ -76,9 +69,7 @@ static I_WORDS: [(&'static [u8], Kind); 8] = [
     (b"ID", Kind::Id),
 ];
 
-static K_WORDS: [(&'static [u8], Kind); 1] = [
-    (b"KEY", Kind::Key),
-];
+static K_WORDS: [(&'static [u8], Kind); 1] = [(b"KEY", Kind::Key)];
 
 static L_WORDS: [(&'static [u8], Kind); 3] = [
     (b"LOAD", Kind::Load),

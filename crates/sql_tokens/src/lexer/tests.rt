@@ -2,7 +2,7 @@
 
 use super::lex;
 use crate::kind::Kind;
-use crate::token::Token;
+use crate::token::{Token, is_kind};
 use std::alloc::{AllocError, Global};
 use std::test::Fail;
 
@@ -111,19 +111,22 @@ static SIGNS: [Case; 11] = [
 ];
 
 /// Each word that is a kind of its own, in the order of their kinds.
-static KEYWORDS: &[u8] = b"SELECT FROM WHERE AND OR NOT NULL IS IN BETWEEN ORDER BY ASC DESC INSERT INTO VALUES UPDATE SET DELETE CREATE ALTER DROP TABLE CACHE GROUP PRIMARY FOREIGN KEY REFERENCES ON CASCADE TIMESTAMP COUNT SUM MIN MAX CALL COMMIT ROLLBACK LOAD REFRESH UNLOAD FLUSH AGING READONLY PROPAGATE TT_INTEGER TT_BIGINT VARCHAR2 BYTE NUMBER OPEN CLOSE PASSTHROUGH DURABLE ASYNCHRONOUS SYNCHRONOUS WRITETHROUGH DYNAMIC USERMANAGED INDEX AUTOREFRESH MODE INCREMENTAL FULL INTERVAL MILLISECOND SECOND MINUTE HOUR DAY STATE OFF PAUSED LRU USE LIFETIME CYCLE WITH ID EVERY ROWS PARALLEL";
+static KEYWORDS: &[u8] =
+    b"SELECT FROM WHERE AND OR NOT NULL IS IN BETWEEN ORDER BY ASC DESC INSERT INTO VALUES UPDATE SET DELETE CREATE ALTER DROP TABLE CACHE GROUP PRIMARY FOREIGN KEY REFERENCES ON CASCADE TIMESTAMP COUNT SUM MIN MAX CALL COMMIT ROLLBACK LOAD REFRESH UNLOAD FLUSH AGING READONLY PROPAGATE TT_INTEGER TT_BIGINT VARCHAR2 BYTE NUMBER OPEN CLOSE PASSTHROUGH DURABLE ASYNCHRONOUS SYNCHRONOUS WRITETHROUGH DYNAMIC USERMANAGED INDEX AUTOREFRESH MODE INCREMENTAL FULL INTERVAL MILLISECOND SECOND MINUTE HOUR DAY STATE OFF PAUSED LRU USE LIFETIME CYCLE WITH ID EVERY ROWS PARALLEL";
 
 fn is_same(token: &Token, wanted: &(Kind, usize, usize)) -> bool {
-    token.kind == wanted.0 && token.start == wanted.1 && token.end == wanted.2
+    is_kind(token.kind, wanted.0) && token.start == wanted.1 && token.end == wanted.2
 }
 
 fn has_tokens(alloc: Global, case: &Case) -> Result<bool, AllocError> {
     let tokens = lex(alloc, case.0, 0)?;
-    Ok(tokens.len() == case.1.len()
-        && tokens
-            .iter()
-            .zip(case.1.iter())
-            .all(|(token, wanted)| is_same(token, wanted)))
+    Ok(
+        tokens.len() == case.1.len()
+            && tokens
+                .iter()
+                .zip(case.1.iter())
+                .all(|(token, wanted)| is_same(token, wanted)),
+    )
 }
 
 /// The place of the first line that has other tokens.
