@@ -1,4 +1,4 @@
--- What the tokens at the front say: cache groups.
+-- What the tokens at the front say: cache groups. (TimesTen SQL Reference, "CREATE CACHE GROUP".)
 use Rattle.std.specs.Prelude.{ℕ, ◌+◌, ◌-◌, ◌*◌, min, List, [], ◌∷◌, drop, Option, Some, None, if◌then◌else◌}
 use Rattle.sql_tokens.specs.declared.kind.Kind.{Kind}
 use Rattle.sql_tokens.specs.declared.kind.Kind.TheVariants.{Autorefresh, Full, Interval, Millisecond, Mode, Off, On, Readonly, Second, State}

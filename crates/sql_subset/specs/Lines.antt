@@ -16,12 +16,12 @@ use Rattle.sql_subset.specs.declared.request.ParseError.{ParseError}
 use Rattle.sql_subset.specs.declared.request.ParseError.TheVariants as e
 use Rattle.sql_subset.specs.Statements.{statement_of, request_of, console_of}
 
--- The line is empty or a comment: it has no reply.
+-- The line is empty or a comment: it has no reply (this project's rule).
 abbrev pub is_silent : List ℕ → Bool
 is_silent [] = true
 is_silent (b ∷ bytes) = nat_eq b 35
 
--- who speaks: a session, or the console
+-- who speaks: a session, or the console (this project's rule)
 abbrev pub start_of : List ℕ → Option Start
 start_of head =
     if bytes_eq head (codes "backing") then Some starts.Console

@@ -1,5 +1,6 @@
--- What the tokens at the front say: names, literals, and lists of them. On tokens that no statement has these functions
--- give some value, which no line says.
+-- What the tokens at the front say: names, literals, and lists of them. (TimesTen SQL Reference, "Names, namespace and
+-- parameters" and "Constants".) On tokens that no statement has these functions give some value, which no line says
+-- (this project's rule).
 use Rattle.std.specs.Prelude.{ℕ, zero, suc, Bool, true, false, nat_eq, List, [], ◌∷◌, ◌++◌, length, drop, codes, if◌then◌else◌}
 use Rattle.tier_base.specs.Names.{folded, is_name}
 use Rattle.sql_tokens.specs.declared.kind.Kind.{Kind}
@@ -25,7 +26,8 @@ first_text (l ∷ ls) = l.text
 abbrev pub begins : Kind → List Lexeme → Bool
 begins k ls = is_kind (first_kind ls) k
 
--- the bytes as a name, folded
+-- the bytes as a name, folded; NONAME where they are none, which no spelt line has: its grammar lets only names pass
+-- where one is read
 abbrev pub name_from : List ℕ → List ℕ
 name_from bytes = if is_name bytes then folded bytes else codes "NONAME"
 

@@ -1,4 +1,5 @@
--- What the tokens say: statements and requests.
+-- What the tokens say: statements and requests. (TimesTen SQL Reference, "SQL statements": CALL, COMMIT, DELETE, INSERT,
+-- LOAD CACHE GROUP, ROLLBACK, SELECT, UPDATE; the lines of sessions and of the console are this project's rule.)
 use Rattle.std.specs.Prelude.{ℕ, Bool, ◌&&◌, ◌||◌, List, [], length, drop, Option, Some, None, if◌then◌else◌}
 use Rattle.sql_tokens.specs.declared.kind.Kind.{Kind}
 use Rattle.sql_tokens.specs.declared.kind.Kind.TheVariants as k

@@ -1,4 +1,4 @@
--- What the tokens at the front say: tables.
+-- What the tokens at the front say: tables. (TimesTen SQL Reference, "CREATE TABLE" and "Type specifications".)
 use Rattle.std.specs.Prelude.{ℕ, List, [], ◌∷◌, ◌++◌, length, drop, Some, None, if◌then◌else◌}
 use Rattle.sql_tokens.specs.declared.kind.Kind.{Kind}
 use Rattle.sql_tokens.specs.declared.kind.Kind.TheVariants.{Not, Primary, TtInteger}

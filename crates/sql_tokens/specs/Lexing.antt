@@ -1,4 +1,6 @@
--- From bytes to tokens.
+-- From bytes to tokens. (TimesTen SQL Reference, "Names, namespace and parameters" for identifiers, "Constants" for
+-- integers and texts, "Comparison predicate" for the signs; what is no token, and the byte at which a token stands, are
+-- this project's rules.)
 use Rattle.std.specs.Prelude.{ℕ, suc, Bool, ◌||◌, List, [], ◌∷◌, ◌++◌, map, drop, nat_eq, Option, Some, None, slice_range, if◌then◌else◌}
 use Rattle.tier_base.specs.Names.{is_word_byte}
 use Rattle.sql_tokens.specs.declared.kind.Kind.{Kind}

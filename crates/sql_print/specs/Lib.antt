@@ -1,0 +1,3 @@
+pub mod Words
+pub mod Normal
+pub mod Printed
