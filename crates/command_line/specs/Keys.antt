@@ -67,6 +67,10 @@ pub record Sets (members : Members) (s : Settings) : Type 0 where
 abbrev pub IsSetBy : List ℕ → Settings → Type 0
 IsSetBy bytes settings = (members : Members) × IsTable bytes members × Sets members settings
 
+-- a settings file with these bytes sets no settings
+abbrev pub AreBad : List ℕ → Type 0
+AreBad bytes = (settings : Settings) → ¬ (IsSetBy bytes settings)
+
 -- the settings of an empty file: every default
 abbrev pub defaults : Settings
 defaults = record {

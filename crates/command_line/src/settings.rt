@@ -5,7 +5,7 @@ ghost use Rattle.std.specs.List.{list_all};
 ghost use Rattle.std.specs.Map.{keys_of};
 ghost use Rattle.toml.specs.Data.{get_member};
 ghost use Rattle.toml.specs.View.{table_view, view};
-ghost use Rattle.command_line.specs.Keys.{ClockOr, IsClock, IsNumber, IsSetBy, Sets, SetsNumber, are_known, defaults, is_known};
+ghost use Rattle.command_line.specs.Keys.{AreBad, ClockOr, IsClock, IsNumber, IsSetBy, Sets, SetsNumber, are_known, defaults, is_known};
 
 use std::alloc::Global;
 use thiserror::Error;
@@ -61,7 +61,7 @@ pub enum SettingsError {
 /// range.
 pub fn read_settings(alloc: Global, bytes: &[u8]) -> Result<Settings, SettingsError>
     ensures set { IfOk result (IsSetBy bytes.now) }
-    ensures bad { result ≡ Err SettingsError.Bad → (s : Settings) → ¬ (IsSetBy bytes.now s) }
+    ensures bad { result ≡ Err SettingsError.Bad → AreBad bytes.now }
 {
     let table = match toml::table_from_slice(alloc, bytes) {
         Ok(table) => table,
