@@ -31,7 +31,7 @@ abbrev pub world : TierState → List Entry → ℕ → ℕ → World
 world tier history faults moment = record { tier = tier; history = history; bank_faults = faults; moment = moment }
 
 -- at the beginning
-pub taking_new : (input : List ℕ) (source : Option (List ℕ)) → source ≡ Some input → Taking input 4294967296 source
+unfoldable pub taking_new : (input : List ℕ) (source : Option (List ℕ)) → source ≡ Some input → Taking input 4294967296 source
 taking_new input source is = record { given = []; left = input; tells = is; parts = refl; total = refl }
 
 pub serving_new : (session : Session) (start : List ℕ) (held : Held) (sink : Option (List ℕ)) (site : Option Held) (faults moment : ℕ) → IsNew session → sink ≡ Some start → site ≡ Some held → held.history ≡ []
@@ -79,7 +79,7 @@ ended_unstarted input start held source sink site faults moment is_source is_sin
   };
 }
 
-kept_told : (a b : Option (List ℕ)) (x : List ℕ) → a ≡ Some x → Keeps a b → b ≡ Some x
+pub kept_told : (a b : Option (List ℕ)) (x : List ℕ) → a ≡ Some x → Keeps a b → b ≡ Some x
 kept_told None b x is k = cc
 kept_told (Some a) None x is k = absurd k
 kept_told (Some a) (Some b) x is k = cc
@@ -95,13 +95,13 @@ pub record Took (old : List ℕ) (new : Option (List ℕ)) (bytes room : List �
 abbrev pub TakeOf : Option (List ℕ) → Option (List ℕ) → ℕ → List ℕ → Type 0
 TakeOf a b n buf = Consumes a b (take n buf) × (n ≡ 0 → 0 < length buf → IsAtEnd b)
 
-took : (a b : Option (List ℕ)) (old buf : List ℕ) (n : ℕ) → a ≡ Some old → TakeOf a b n buf → Took old b (take n buf) buf n
+pub took : (a b : Option (List ℕ)) (old buf : List ℕ) (n : ℕ) → a ≡ Some old → TakeOf a b n buf → Took old b (take n buf) buf n
 took None b old buf n is p = cc
 took (Some a) None old buf n is p = absurd p.0
 took (Some a) (Some b) old buf n is p = record { left = b; tells = refl; parts = let e : a ≡ old = cc in sym e ∙ p.0; ended = p.1 }
 
 -- the source failed
-pub taken_failed : (input : List ℕ) (room : ℕ) (source source' : Option (List ℕ)) → 0 < room → Keeps source source' → Taking input room source → Taken SourceFailed input source'
+unfoldable pub taken_failed : (input : List ℕ) (room : ℕ) (source source' : Option (List ℕ)) → 0 < room → Keeps source source' → Taking input room source → Taken SourceFailed input source'
 taken_failed input room source source' some kept t = record {
   given = t.given;
   left = t.left;
@@ -111,11 +111,11 @@ taken_failed input room source source' some kept t = record {
 }
 
 -- too many bytes were given
-pub taken_long : (input : List ℕ) (room : ℕ) (source : Option (List ℕ)) → room ≤ 0 → Taking input room source → Taken InputTooLong input source
+unfoldable pub taken_long : (input : List ℕ) (room : ℕ) (source : Option (List ℕ)) → room ≤ 0 → Taking input room source → Taken InputTooLong input source
 taken_long input room source full t = record { given = t.given; left = t.left; tells = t.tells; parts = t.parts; gives = omega (arith, t.total) }
 
 -- the source is at its end
-pub taken_all : (input : List ℕ) (room : ℕ) (source source' : Option (List ℕ)) (buf : List ℕ) (n : ℕ) → n ≡ 0 → 0 < room → 0 < length buf → TakeOf source source' n buf → Taking input room source → Taken Finished input source'
+unfoldable pub taken_all : (input : List ℕ) (room : ℕ) (source source' : Option (List ℕ)) (buf : List ℕ) (n : ℕ) → n ≡ 0 → 0 < room → 0 < length buf → TakeOf source source' n buf → Taking input room source → Taken Finished input source'
 taken_all input room source source' buf n none some space p t =
     let k = took source source' t.left buf n t.tells p in
     record {
@@ -127,7 +127,7 @@ taken_all input room source source' buf n none some space p t =
     }
 
 -- and the sink failed
-pub taken_unwritten : (input : List ℕ) (room : ℕ) (source source' : Option (List ℕ)) (buf : List ℕ) (n : ℕ) → n ≡ 0 → TakeOf source source' n buf → Taking input room source → Taken SinkFailed input source'
+unfoldable pub taken_unwritten : (input : List ℕ) (room : ℕ) (source source' : Option (List ℕ)) (buf : List ℕ) (n : ℕ) → n ≡ 0 → TakeOf source source' n buf → Taking input room source → Taken SinkFailed input source'
 taken_unwritten input room source source' buf n none p t =
     let k = took source source' t.left buf n t.tells p in
     record {
@@ -139,7 +139,7 @@ taken_unwritten input room source source' buf n none p t =
     }
 
 -- a piece more was given
-pub taking_on : (input : List ℕ) (room room' : ℕ) (source source' : Option (List ℕ)) (buf bytes : List ℕ) (n : ℕ) → bytes ≡ take n buf → length bytes ≡ n → n ≤ room → room' ≡ room - n → TakeOf source source' n buf
+unfoldable pub taking_on : (input : List ℕ) (room room' : ℕ) (source source' : Option (List ℕ)) (buf bytes : List ℕ) (n : ℕ) → bytes ≡ take n buf → length bytes ≡ n → n ≤ room → room' ≡ room - n → TakeOf source source' n buf
     → Taking input room source → Taking input room' source'
 taking_on input room room' source source' buf bytes n are len within less p t =
     let k = took source source' t.left buf n t.tells p in
@@ -152,7 +152,7 @@ taking_on input room room' source source' buf bytes n are len within less p t =
     }
 
 -- and the sink failed in it
-pub taken_in_piece : (input : List ℕ) (room : ℕ) (source : Option (List ℕ)) → Taking input room source → Taken SinkFailed input source
+unfoldable pub taken_in_piece : (input : List ℕ) (room : ℕ) (source : Option (List ℕ)) → Taking input room source → Taken SinkFailed input source
 taken_in_piece input room source t = record { given = t.given; left = t.left; tells = t.tells; parts = t.parts; gives = omega (arith, t.total) }
 
 pub ended_source : (o : Origin) (input : List ℕ) (room : ℕ) (source source' sink : Option (List ℕ)) (site : Option Held) (faults moment : ℕ) (session : Session) → session.output ≡ [] → 0 < room → Keeps source source'
@@ -220,3 +220,7 @@ fits_room buf piece want room n is len le = omega (arith, length-take want piece
 -- the buffer keeps its length
 pub keeps_length : (buf piece : List ℕ) (want : ℕ) → length buf ≡ length (take want piece) → length (buf ++ drop want piece) ≡ length piece
 keeps_length buf piece want len = omega (arith, length-append buf (drop want piece), length-take want piece, length-drop want piece)
+
+-- nothing was taken
+pub taken_unstarted : (input : List ℕ) (source : Option (List ℕ)) → source ≡ Some input → Taken NoMemory input source
+taken_unstarted input source is = record { given = []; left = input; tells = is; parts = refl; gives = refl }

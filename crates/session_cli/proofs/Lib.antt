@@ -3,3 +3,5 @@ pub mod OutputLaws
 pub mod FlatMaps
 pub mod ServingLaws
 pub mod EndsLaws
+pub mod CheckLaws
+pub mod TopLaws

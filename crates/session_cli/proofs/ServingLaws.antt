@@ -143,7 +143,7 @@ answered_here o given sink site faults moment session s = record {
   legal = s.legal;
 }
 
-take_whole : (xs : List ℕ) → take (length xs) xs ≡ xs
+pub take_whole : (xs : List ℕ) → take (length xs) xs ≡ xs
 take_whole [] = refl
 take_whole (x ∷ xs) = ap (λ l. x ∷ l) (take_whole xs)
 
@@ -200,7 +200,7 @@ pub closes_failed : {E F : Type 0} (e : E) (r : Result (Unit {0}) F) (o : Origin
 closes_failed e (Ok done) o given sink site faults moment waiting is c = cc
 closes_failed e (Err f) o given sink site faults moment waiting is c = c
 
-take_rest : (n : ℕ) (xs : List ℕ) → drop n xs ≡ [] → take n xs ≡ xs
+pub take_rest : (n : ℕ) (xs : List ℕ) → drop n xs ≡ [] → take n xs ≡ xs
 take_rest zero [] none = refl
 take_rest zero (x ∷ xs) none = cc
 take_rest (suc n) [] none = refl

@@ -1,11 +1,12 @@
 -- What a run of the program means.
 
-use Rattle.std.specs.Prelude.{◌≡◌, ℕ, ◌^◌, ◌<◌, ◌≤◌, ◌⊎◌, nat_eq, Bool, false, List, [], ◌∷◌, ◌++◌, Option, Some, length, codes}
-use Rattle.std.specs.Borrow.{Bor}
-use Rattle.std.specs.Cmp.Lexicographic.{pointwise}
+use Rattle.std.specs.Prelude.{◌≡◌, ℕ, ◌^◌, ◌<◌, ◌≤◌, ◌⊎◌, List, [], ◌++◌, Option, Some, length}
 use Rattle.outside.specs.Holding.{Held}
+use Rattle.command_line.specs.declared.command.Command.{Command}
+use Rattle.command_line.specs.Keys.{AreBad}
+use Rattle.command_line.specs.Words.{Asks, Refuses}
 use Rattle.session_cli.specs.declared.serving.Status.{Status}
-use Rattle.session_cli.specs.declared.serving.Status.TheVariants.{Finished, SourceFailed, SinkFailed, NoMemory, InputTooLong}
+use Rattle.session_cli.specs.declared.serving.Status.TheVariants.{Finished, SourceFailed, SinkFailed, NoMemory, LineUnchecked, InputTooLong}
 use Rattle.session_cli.specs.Cutting.{ended_lines, all_lines}
 use Rattle.session_cli.specs.Serving.{Origin, Whole, CutShort, begins}
 
@@ -27,6 +28,7 @@ Gives SourceFailed given left = length given < input_limit
 Gives InputTooLong given left = length given ≡ input_limit
 Gives SinkFailed given left = length given ≤ input_limit
 Gives NoMemory given left = given ≡ []
+Gives LineUnchecked given left = length given ≤ input_limit
 
 -- The source gave a front of its bytes.
 pub record Taken (status : Status) (input : List ℕ) (source : Option (List ℕ)) : Type 0 where
@@ -49,6 +51,8 @@ Outcome SourceFailed o given sink site faults moment = Whole o (ended_lines give
 Outcome InputTooLong o given sink site faults moment = Whole o (ended_lines given) sink site faults moment
 -- a front of the replies is written
 Outcome SinkFailed o given sink site faults moment = Stops o given sink site faults moment
+-- a run that answers lines doesn't end so
+Outcome LineUnchecked o given sink site faults moment = ⊥
 -- no line is answered
 Outcome NoMemory o given sink site faults moment = Whole o [] sink site faults moment
 
@@ -64,10 +68,9 @@ Runs status source sink site faults moment source' sink' site' faults' moment' =
     (input start : List ℕ) (held : Held) → source ≡ Some input → sink ≡ Some start → site ≡ Some held → held.history ≡ [] →
     Ended status (begins held.slots start faults moment) input source' sink' site' faults' moment'
 
--- the words are the program's name and the command `run`
-abbrev pub is_run : List (Bor (List ℕ)) → Bool
-is_run (name ∷ command ∷ []) = pointwise nat_eq command.now (codes "run")
-is_run words = false
+-- Why a run doesn't begin: `clap` refuses the words, or it takes them and the settings are bad, or memory was wanting.
+abbrev pub Unstarted : List (List ℕ) → List ℕ → ℕ → Type 0
+Unstarted words settings status = ((status ≡ 1) × Refuses words) ⊎ (((status ≡ 2) × ((command : Command) × Asks words command) × AreBad settings) ⊎ (status ≡ 7))
 
 -- the statuses with which a run ends
 abbrev pub number_of : Status → ℕ
@@ -75,4 +78,5 @@ number_of Finished = 0
 number_of SourceFailed = 3
 number_of SinkFailed = 4
 number_of NoMemory = 7
+number_of LineUnchecked = 7
 number_of InputTooLong = 10

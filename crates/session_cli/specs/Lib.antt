@@ -1,3 +1,4 @@
+pub mod Checking
 pub mod Cutting
 pub mod Ends
 pub mod Output

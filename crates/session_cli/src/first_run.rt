@@ -113,10 +113,8 @@ fn a_failed_call_of_the_bank_is_told_once(rt: HostRuntime) -> Result<(), Fail> {
 // asked for again before the next line that names the table.
 #[test]
 fn the_schema_is_asked_for_until_it_is_told(rt: HostRuntime) -> Result<(), Fail> {
-    let failed: &[u8] =
-        b"fault 201\nok 0\nfault 201\nno 101 0\nok 0\nno 101 0\nok 0\nok 0\n";
-    let refused: &[u8] =
-        b"fault 201\nok 0\nfault 299\nno 101 0\nok 0\nno 101 0\nok 0\nok 0\n";
+    let failed: &[u8] = b"fault 201\nok 0\nfault 201\nno 101 0\nok 0\nno 101 0\nok 0\nok 0\n";
+    let refused: &[u8] = b"fault 201\nok 0\nfault 299\nno 101 0\nok 0\nno 101 0\nok 0\nok 0\n";
     for when in [When::Before, When::After] {
         let mut site = MemorySite::new(rt.alloc())?;
         site.fail(CallKind::Define, 0, When::After)?;

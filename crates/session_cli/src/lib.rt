@@ -2,6 +2,8 @@
 #![tactic(auto)]
 
 pub mod answering;
+pub mod checker;
+pub mod checking;
 pub mod line;
 pub mod output;
 pub mod program;
@@ -11,6 +13,8 @@ pub mod session;
 pub mod values;
 
 pub use answering::respond;
+pub use checker::{CheckFault, Checker, check_law, check_line};
+pub use checking::check;
 pub use line::LineBuffer;
 pub use output::Output;
 pub use program::top;

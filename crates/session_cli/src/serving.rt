@@ -26,6 +26,8 @@ pub enum Status {
     SinkFailed,
     /// Memory was wanting before the first request.
     NoMemory,
+    /// Memory was wanting while a line was checked.
+    LineUnchecked,
     /// 2^32 bytes were taken without an end.
     InputTooLong,
 }
@@ -43,6 +45,7 @@ impl Status {
             Status::SourceFailed => 3,
             Status::SinkFailed => 4,
             Status::NoMemory => 7,
+            Status::LineUnchecked => 7,
             Status::InputTooLong => 10,
         }
     }

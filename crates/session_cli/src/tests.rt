@@ -108,22 +108,146 @@ fn empty_lines_and_comments_have_no_replies(rt: HostRuntime) -> Result<(), Fail>
 
 #[test]
 fn other_words_and_settings_end_at_once(rt: HostRuntime) -> Result<(), Fail> {
-    let rows: [(&[&str], &[u8], u8); 6] = [
+    let rows: [(&[&str], &[u8], u8); 11] = [
         (&[], b"", 1),
         (&["ttcache"], b"", 1),
+        (&["ttcache", "fly"], b"", 1),
         (&["ttcache", "Run"], b"", 1),
+        (&["ttcache", "--help"], b"", 1),
         (&["ttcache", "run", "run"], b"x = 1", 1),
         (&["ttcache", "run"], b"x = 1", 2),
-        (&["other", "run"], b"", 0),
+        (&["ttcache", "run"], b"workers = 0", 2),
+        (&["ttcache", "check"], b"\xff", 2),
+        (&["ttcache", "run"], b"workers = 16", 0),
+        (&["other", "check"], b"", 0),
     ];
     for (words, settings, status) in rows {
         let Ran {
             status: ended,
             sink,
         } = run_program(rt.alloc(), words, settings, b"#\n", &WHOLE)?;
-        assert_eq!(rt; ended, status);
-        assert!(rt; sink.bytes().is_empty());
+        assert_eq!(&rt; ended, status);
+        assert!(&rt; sink.bytes().is_empty());
     }
+    Ok(())
+}
+
+// A line of each kind: taken, wrong at a byte, without a label, silent.
+const LINES: &[u8] = b"s1: OPEN
+s9: COMMIT
+s1: SELEC * FROM A
+s1: SELECT * FROM
+
+# SELEC
+s1 COMMIT
+s1:
+COMMIT
+backing: INSERT INTO A VALUES (1, 2);\r
+backing: COMMIT
+s1: COMMIT";
+
+const CHECKED: &[u8] = b"ok 0
+ok 0
+no 101 4
+no 101 17
+no 101 3
+no 101 3
+no 101 0
+ok 0
+no 101 9
+ok 0
+";
+
+// The replies without that to the last line.
+const ENDED: &[u8] = b"ok 0
+ok 0
+no 101 4
+no 101 17
+no 101 3
+no 101 3
+no 101 0
+ok 0
+no 101 9
+";
+
+// Checks the input, and compares the status and what the sink holds.
+fn expect_check(
+    rt: &impl Abort,
+    alloc: Global,
+    input: &[u8],
+    streams: &Streams,
+    status: u8,
+    written: &[u8],
+) -> Result<(), AllocError> {
+    let Ran {
+        status: ended,
+        sink,
+    } = run_program(alloc, &["ttcache", "check"], b"", input, streams)?;
+    assert_eq!(rt; ended, status);
+    assert!(rt; sink.bytes() == written);
+    Ok(())
+}
+
+#[test]
+fn each_line_is_checked(rt: HostRuntime) -> Result<(), Fail> {
+    expect_check(&rt, rt.alloc(), LINES, &WHOLE, 0, CHECKED)?;
+    expect_check(&rt, rt.alloc(), b"", &WHOLE, 0, b"")?;
+    Ok(())
+}
+
+#[test]
+fn pieces_of_any_size_are_checked_alike(rt: HostRuntime) -> Result<(), Fail> {
+    for size in [1, 2, 7] {
+        let streams = Streams {
+            given: size,
+            ..WHOLE
+        };
+        expect_check(&rt, rt.alloc(), LINES, &streams, 0, CHECKED)?;
+    }
+    Ok(())
+}
+
+#[test]
+fn a_sink_may_take_one_byte_of_a_check_at_a_time(rt: HostRuntime) -> Result<(), Fail> {
+    let slow = Streams {
+        written: 1,
+        ..WHOLE
+    };
+    expect_check(&rt, rt.alloc(), LINES, &slow, 0, CHECKED)?;
+    Ok(())
+}
+
+#[test]
+fn a_line_past_the_limit_is_checked_and_the_next_one_too(rt: HostRuntime) -> Result<(), Fail> {
+    let mut input = long_line(rt.alloc(), b'#', 65_536)?;
+    input.extend_from_slice(long_line(rt.alloc(), b'#', 65_537)?.as_slice())?;
+    input.extend_from_slice(b"s1: OPEN\n")?;
+    expect_check(
+        &rt,
+        rt.alloc(),
+        input.as_slice(),
+        &WHOLE,
+        0,
+        b"no 119 line\nok 0\n",
+    )?;
+    Ok(())
+}
+
+#[test]
+fn a_check_breaks_off_where_source_or_sink_fails(rt: HostRuntime) -> Result<(), Fail> {
+    let broken = Streams {
+        written: 1,
+        sink_fails: &[13],
+        ..WHOLE
+    };
+    expect_check(&rt, rt.alloc(), LINES, &broken, 4, b"ok 0\nok 0\nno ")?;
+
+    // The last line doesn't end with a line feed, and the end isn't told.
+    let streams = Streams {
+        source_fails: &[1],
+        ..WHOLE
+    };
+    expect_check(&rt, rt.alloc(), LINES, &streams, 3, ENDED)?;
     Ok(())
 }
 

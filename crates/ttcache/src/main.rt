@@ -1,7 +1,8 @@
 //! `ttcache`: a relational cache in front of a backing database.
 //!
-//! `ttcache run` reads request lines from standard input and writes replies to standard output. It ends with the status
-//! that `session_cli::top` answers, or with 11 where the settings can't be read.
+//! `ttcache run` reads request lines from standard input and writes replies to standard output; `ttcache check` says of
+//! each line whether it is spelt right. It ends with the status that `session_cli::top` answers, or with 11 where the
+//! settings can't be read.
 #![tactic(auto)]
 
 mod streams;
@@ -39,7 +40,7 @@ fn status(rt: &HostRuntime) -> u8 {
     };
     let status = run(rt, settings.as_slice());
     if status == WRONG_WORDS {
-        let _ = eprintln!(rt; "usage: ttcache run");
+        let _ = eprintln!(rt; "usage: ttcache run | check");
     }
     status
 }

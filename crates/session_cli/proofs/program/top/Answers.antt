@@ -1,0 +1,53 @@
+use Rattle.std.proofs.Common.{refl, inl, inr}
+use Rattle.command_line.specs.declared.command.Command.TheVariants as command
+use Rattle.command_line.specs.Words.{texts}
+use Rattle.session_cli.specs.declared.serving.Status.TheVariants.{NoMemory}
+use Rattle.session_cli.proofs.EndsLaws.{ended_unstarted, taken_unstarted}
+use Rattle.session_cli.proofs.CheckLaws.{check_unstarted}
+use Rattle.session_cli.proofs.TopLaws.{words_of, refused_of, settings_of, bad_of, none_left, no_other}
+use Rattle.session_cli.proofs.program.top.Goals as goal
+
+pub returns-in-Err-clause-words : goal.returns-in-Err-clause-words
+returns-in-Err-clause-words g c = words_of (texts c.args.words.now) c.args.settings.now c.in-Err.status c.in-Err.ensures
+
+pub returns-in-Err-clause-refused : goal.returns-in-Err-clause-refused
+returns-in-Err-clause-refused g c = refused_of (texts c.args.words.now) c.args.settings.now c.in-Err.status c.in-Err.ensures
+
+pub returns-in-Err-clause-settings : goal.returns-in-Err-clause-settings
+returns-in-Err-clause-settings g c = settings_of (texts c.args.words.now) c.args.settings.now c.in-Err.status c.in-Err.ensures
+
+pub returns-in-Err-clause-bad : goal.returns-in-Err-clause-bad
+returns-in-Err-clause-bad g c = λ task asks bad. bad_of (texts c.args.words.now) c.args.settings.now c.in-Err.status c.in-Err.ensures task asks
+
+pub returns-in-Err-clause-runs : goal.returns-in-Err-clause-runs
+returns-in-Err-clause-runs g c = λ asks s set. (NoMemory, none_left (texts c.args.words.now) c.args.settings.now c.in-Err.status c.in-Err.ensures command.Run asks s set, λ input start held source sink site none. ended_unstarted input start held _ _ _ _ _ source sink site none)
+
+pub returns-in-Err-clause-checks : goal.returns-in-Err-clause-checks
+returns-in-Err-clause-checks g c = λ asks s set. (NoMemory, none_left (texts c.args.words.now) c.args.settings.now c.in-Err.status c.in-Err.ensures command.Check asks s set, λ input start source sink. check_unstarted input start _ _ source sink)
+
+pub returns-in-Err-clause-takes : goal.returns-in-Err-clause-takes
+returns-in-Err-clause-takes g c = λ task asks s set. (NoMemory, none_left (texts c.args.words.now) c.args.settings.now c.in-Err.status c.in-Err.ensures task asks s set, λ input source. taken_unstarted input _ source)
+
+pub returns-in-Err-clause-read : goal.returns-in-Err-clause-read
+returns-in-Err-clause-read g c = λ three. absurd (no_other (texts c.args.words.now) c.args.settings.now c.in-Err.status 3 c.in-Err.ensures (inl refl) three)
+
+pub returns-in-Err-clause-write : goal.returns-in-Err-clause-write
+returns-in-Err-clause-write g c = λ four. absurd (no_other (texts c.args.words.now) c.args.settings.now c.in-Err.status 4 c.in-Err.ensures (inr refl) four)
+
+pub returns-in-Run-clause-bad : goal.returns-in-Run-clause-bad
+returns-in-Run-clause-bad g c = λ task asks bad. absurd (bad c.in-Ok.ensures.1.0 c.in-Ok.ensures.1.1)
+
+pub returns-in-Check-clause-bad : goal.returns-in-Check-clause-bad
+returns-in-Check-clause-bad g c = λ task asks bad. absurd (bad c.in-Ok.ensures.1.0 c.in-Ok.ensures.1.1)
+
+pub returns-in-Run-clause-unread : goal.returns-in-Run-clause-unread
+returns-in-Run-clause-unread g c = λ auto. elim auto [
+  | inl refuses ↦ absurd (refuses c.in-Ok.ensures.0.0)
+  | inr bad ↦ absurd (bad c.in-Ok.ensures.1.0 c.in-Ok.ensures.1.1)
+]
+
+pub returns-in-Check-clause-unread : goal.returns-in-Check-clause-unread
+returns-in-Check-clause-unread g c = λ auto. elim auto [
+  | inl refuses ↦ absurd (refuses c.in-Ok.ensures.0.0)
+  | inr bad ↦ absurd (bad c.in-Ok.ensures.1.0 c.in-Ok.ensures.1.1)
+]
