@@ -8,7 +8,7 @@ use Rattle.outside.specs.Faults.{Rose}
 use Rattle.tier_engine.specs.declared.reply.Reply.{Reply}
 use Rattle.tier_engine.specs.declared.reply.Last.{Last}
 use Rattle.tier_engine.specs.declared.reply.Last.TheVariants.{Done, No, Fault}
-use Rattle.tier_engine.specs.Steps.{World, LineStep, Run, TellsBankFault, Counts, AreCaused, is_bank_fault, faults_told}
+use Rattle.tier_engine.specs.Steps.{World, LineStep, Run, TellsBankFault, AreCaused, is_bank_fault, faults_told}
 
 by_number : (c : Code) → nat_eq (number_of c) (number_of code.BackingFault) ≡ true → c ≡ code.BackingFault
 by_number code.Syntax is = cc
