@@ -1,0 +1,170 @@
+//! Deletions with ON DELETE CASCADE.
+
+ghost use Rattle.std.specs.Prelude.{◌≡◌, IfOk, OnOk, option_copied, option_to_list};
+ghost use Rattle.row_types.specs.Order.{order_of};
+ghost use Rattle.std.specs.Ordering.{is_eq};
+ghost use Rattle.table_state.specs.Declarations.{foreign_places};
+ghost use Rattle.table_state.specs.Names.{table_id};
+ghost use Rattle.table_state.specs.Refusals.{value_at};
+ghost use Rattle.table_state.specs.declared.operation.Op.TheVariants as op;
+ghost use Rattle.table_scan.specs.Keyed.{has_key};
+ghost use Rattle.evaluator.specs.Capping.{extended, put};
+ghost use Rattle.evaluator.specs.Cascades.{cascades_from, child_at, children_from, deleted, key_in, refers_to};
+
+use crate::capped::Capped;
+use row_types::{Key, Row, Value, order};
+use std::alloc::{AllocError, Global};
+use table_scan::Scan;
+use table_state::{ForeignKey, Op, TableDef, key_of_row};
+use tier_base::TableId;
+
+/// Puts the deletion of a row behind `out`, and before it those of the rows that leave with it by ON DELETE CASCADE.
+/// It goes at most `depth` tables deep.
+pub fn delete_row<S: Scan>(
+    alloc: Global,
+    depth: usize,
+    scan: &S,
+    table: TableId,
+    row: &Row,
+    out: &mut Capped<Op>,
+) -> Result<(), AllocError>
+    ensures { OnOk result (out.new ≡ extended out.old (deleted depth (S.state scan.now) table row.now)) }
+{
+    if depth == 0 {
+        return Ok(());
+    }
+    let schema = scan.schema();
+    let key = key_in(alloc, schema.get(table.0 as usize), row)?;
+    let children = children_of(alloc, schema.as_slice(), table)?;
+    for child in children.as_slice() {
+        let def = schema.get(child.0 as usize);
+        for place in 0..scan.len(*child) {
+            match scan.row(*child, place) {
+                None => {}
+                Some(below) => {
+                    if refers_to(&key, def, below) {
+                        delete_row(alloc, depth - 1, scan, *child, below, out)?;
+                    }
+                }
+            }
+        }
+    }
+    push_deletion(alloc, table, row, out)
+}
+
+fn push_deletion(
+    alloc: Global,
+    table: TableId,
+    row: &Row,
+    out: &mut Capped<Op>,
+) -> Result<(), AllocError>
+    ensures { OnOk result (out.new ≡ put out.old (op.Delete table row.now)) }
+{
+    if out.has_room() {
+        let row = row.copied(alloc)?;
+        out.push(Op::Delete(table, row))
+    } else {
+        out.skip();
+        Ok(())
+    }
+}
+
+// The key of a row of this table.
+fn key_in(alloc: Global, def: Option<&TableDef>, row: &Row) -> Result<Key, AllocError>
+    ensures { IfOk result (λ key. key ≡ key_in (option_copied def.entry) row.now) }
+{
+    match def {
+        None => Ok(Key::from_vec(Vec::new(alloc))),
+        Some(def) => key_of_row(alloc, def, row),
+    }
+}
+
+// The tables whose rows leave with those of this one.
+fn children_of(
+    alloc: Global,
+    defs: &[TableDef],
+    parent: TableId,
+) -> Result<Vec<TableId>, AllocError>
+    ensures { IfOk result (λ children. children.items ≡ children_from parent 0 defs.now) }
+{
+    let mut children = Vec::new(alloc);
+    let mut place: usize = 0;
+    for def in defs {
+        if let Some(child) = child_at(parent, place, def) {
+            children.push(child)?;
+        }
+        place += 1;
+    }
+    Ok(children)
+}
+
+fn child_at(parent: TableId, place: usize, def: &TableDef) -> Option<TableId>
+    ensures { option_to_list result ≡ child_at parent place def.now }
+{
+    if cascades_from(parent, &def.foreign_key) {
+        table_id(place)
+    } else {
+        None
+    }
+}
+
+fn table_id(place: usize) -> Option<TableId>
+    ensures { result ≡ table_id place }
+{
+    if place < 4_294_967_296 {
+        Some(TableId(place as u32))
+    } else {
+        None
+    }
+}
+
+fn cascades_from(parent: TableId, foreign_key: &Option<ForeignKey>) -> bool
+    ensures { result ≡ cascades_from parent foreign_key.now }
+{
+    match foreign_key {
+        None => false,
+        Some(foreign) => foreign.cascade && foreign.parent.0 == parent.0,
+    }
+}
+
+// Whether a row of this table refers to the key.
+fn refers_to(key: &Key, def: Option<&TableDef>, row: &Row) -> bool
+    ensures { result ≡ refers_to key.now (option_copied def.entry) row.now }
+{
+    match def {
+        None => false,
+        Some(def) => has_key(foreign_places(&def.foreign_key), key.values(), row.values()),
+    }
+}
+
+fn foreign_places(foreign_key: &Option<ForeignKey>) -> &[usize]
+    ensures { result.now ≡ foreign_places foreign_key.now }
+{
+    match foreign_key {
+        None => &[],
+        Some(foreign) => foreign.columns.as_slice(),
+    }
+}
+
+/// Whether the row has this key at these places.
+pub fn has_key(places: &[usize], key: &[Value], row: &[Value]) -> bool
+    ensures { result ≡ has_key places.now key.now row.now }
+{
+    match (places.split_first(), key.split_first()) {
+        (None, None) => true,
+        (Some((place, places)), Some((value, key))) => {
+            has_value(row, *place, value) && has_key(places, key, row)
+        }
+        _ => false,
+    }
+}
+
+fn has_value(row: &[Value], place: usize, value: &Value) -> bool
+    ensures { result ≡ is_eq (order_of (value_at row.now place) value.now) }
+{
+    let found = match row.get(place) {
+        None => order(&Value::Null, value),
+        Some(found) => order(found, value),
+    };
+    found.is_eq()
+}

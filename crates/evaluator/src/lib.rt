@@ -1,0 +1,22 @@
+//! What queries answer and what writes do, over any tables that can be scanned.
+#![tactic(auto)]
+
+pub mod accumulator;
+pub mod beside;
+pub mod building;
+pub mod capped;
+pub mod cascade;
+pub mod change;
+pub mod key_path;
+pub mod looking;
+pub mod ordering;
+pub mod plan;
+pub mod refusing;
+pub mod selecting;
+pub mod writing;
+
+pub use capped::Capped;
+pub use change::{Action, Change};
+pub use plan::{Found, Plan};
+pub use selecting::select;
+pub use writing::effects;

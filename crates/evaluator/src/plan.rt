@@ -1,0 +1,29 @@
+//! Queries with places in place of names.
+
+use expressions::{Cond, Expr};
+use row_types::Row;
+use tier_base::{Seq, TableId};
+
+/// A query with places in place of names. A place is one in the rows of the FROM tables side by side.
+#[derive(Drop)]
+pub struct Plan {
+    /// The tables in FROM, at most four.
+    pub tables: Seq<TableId>,
+    /// The WHERE condition.
+    pub filter: Option<Cond>,
+    /// The select list.
+    pub listed: Seq<Expr>,
+    /// The places in ORDER BY.
+    pub order: Seq<usize>,
+    /// Which of them are descending.
+    pub descending: Seq<bool>,
+}
+
+/// What a selected combination of rows gives.
+#[derive(Drop)]
+pub struct Found {
+    /// The values to order by.
+    pub order: Row,
+    /// The values of the select list.
+    pub listed: Row,
+}

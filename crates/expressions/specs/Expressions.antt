@@ -1,0 +1,58 @@
+-- The values of expressions: none where a number leaves 64 signed bits in any part. (TimesTen SQL Reference,
+-- "Expressions" and "Null values"; numbers of 64 signed bits without rounding are this project's rule.)
+
+use Rattle.std.specs.Prelude.{◌≡◌, ℤ, ◌+ℤ◌, ◌-ℤ◌, ◌*ℤ◌, List, Option, Some, None, if◌then◌else◌, slice_get, unwrap_or}
+use Rattle.tier_base.specs.declared.code.Code.TheVariants as code
+use Rattle.row_types.specs.Columns.{holds}
+use Rattle.row_types.specs.declared.column.Ty.TheVariants.{TtBigint}
+use Rattle.row_types.specs.declared.rule.Detail.TheVariants as detail
+use Rattle.row_types.specs.declared.rule.Refused.{Refused}
+use Rattle.row_types.specs.declared.rule.Refused.TheVariants.{Rule, Memory}
+use Rattle.row_types.specs.declared.value.Value.{Value}
+use Rattle.row_types.specs.declared.value.Value.TheVariants.{Null, Integer, Text, Time}
+use Rattle.expressions.specs.declared.expression.Arithmetic.{Arithmetic}
+use Rattle.expressions.specs.declared.expression.Arithmetic.TheVariants.{Plus, Minus, Times}
+use Rattle.expressions.specs.declared.expression.Expr.{Expr}
+use Rattle.expressions.specs.declared.expression.Expr.TheVariants.{Literal, Column, Binary'}
+
+-- both sides are there
+abbrev pub with_both : {A B C : Type 0} → (A → B → Option C) → Option A → Option B → Option C
+with_both f (Some x) (Some y) = f x y
+with_both f (Some x) None = None
+with_both f None y = None
+
+-- the operation on all whole numbers
+abbrev pub exact : Arithmetic → ℤ → ℤ → ℤ
+exact Plus x y = x +ℤ y
+exact Minus x y = x -ℤ y
+exact Times x y = x *ℤ y
+
+-- the number, where it has 64 signed bits
+abbrev pub number : ℤ → Option Value
+number n = if holds TtBigint (Integer n) then Some (Integer n) else None
+
+abbrev pub number_in : Value → Option ℤ
+number_in Null = None
+number_in (Integer n) = Some n
+number_in (Text bytes) = None
+number_in (Time seconds) = None
+
+-- NULL where a side is no number
+abbrev pub calculated_with : Arithmetic → Option ℤ → Option ℤ → Option Value
+calculated_with o (Some x) (Some y) = number (exact o x y)
+calculated_with o (Some x) None = Some Null
+calculated_with o None y = Some Null
+
+abbrev pub calculated : Arithmetic → Value → Value → Option Value
+calculated o a b = calculated_with o (number_in a) (number_in b)
+
+-- the value of an expression on a row
+abbrev pub eval : Expr → List Value → Option Value
+eval (Literal value) row = Some value
+eval (Column place) row = Some (unwrap_or (slice_get row place) Null)
+eval (Binary' o p a q b) row = with_both (calculated o) (eval a row) (eval b row)
+
+-- the refusal is 120 and there is no value, or memory was wanting
+abbrev pub IsOverflow : {A : Type 0} → Option A → Refused → Type 0
+IsOverflow value (Rule rule) = (value ≡ None) × (rule ≡ record { code = code.Overflow; detail = detail.Nothing })
+IsOverflow value Memory = Unit {0}

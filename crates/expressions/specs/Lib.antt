@@ -1,0 +1,4 @@
+pub mod Conditions
+pub mod Expressions
+pub mod Operands
+pub mod Types

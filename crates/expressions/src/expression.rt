@@ -1,0 +1,126 @@
+//! Expressions and their values.
+
+ghost use Rattle.std.specs.Prelude.{◌≡◌, Some, None, IfErr, IfOk, MatchResult, option_copied, unwrap_or, ℤ};
+ghost use Rattle.std.specs.Option.{option_map};
+ghost use Rattle.row_types.specs.declared.value.Value.TheVariants as one;
+ghost use Rattle.expressions.specs.Expressions.{IsOverflow, calculated, eval, exact, number, number_in};
+ghost use Rattle.expressions.specs.Operands.{shown};
+
+use crate::columns::Columns;
+use crate::operand::Operand;
+use row_types::{Detail, Refused, Row, Rule, Value};
+use std::alloc::Global;
+use tier_base::Code;
+
+/// An operation of arithmetic.
+#[derive(Clone, Copy, Debug, PartialEq, Eq)]
+pub enum Arithmetic {
+    /// `+`
+    Plus,
+    /// `-`
+    Minus,
+    /// `*`
+    Times,
+}
+
+/// An expression over the columns of a row.
+#[derive(Drop)]
+pub enum Expr {
+    /// A literal's value.
+    Literal(Value),
+    /// The column at a place, from 0. It is NULL where the row has no such place.
+    Column(usize),
+    /// An operation on two expressions.
+    Binary(Arithmetic, Box<Expr>, Box<Expr>),
+}
+
+/// What the expression is on these columns. None where a number leaves 64 signed bits in any part of it.
+///
+/// Arithmetic with NULL is NULL, and so is arithmetic on a text or a time, which the rule of types refuses
+/// beforehand. (TimesTen SQL Reference, "Expressions"; exact numbers of 64 signed bits are this project's rule.)
+pub fn value_of<'a, C: Columns>(expr: &'a Expr, columns: &'a C) -> Option<Operand<'a>>
+    ensures { option_map shown result ≡ eval expr.now (C.values columns.now) }
+{
+    match expr {
+        Expr::Literal(value) => Some(Operand::Stored(value)),
+        Expr::Column(place) => Some(stored_or_null(columns.at(*place))),
+        Expr::Binary(operation, left, right) => {
+            let left = value_of(left, columns)?;
+            let right = value_of(right, columns)?;
+            calculated(*operation, left, right)
+        }
+    }
+}
+
+/// What the expression is on a row.
+///
+/// `Refused::Rule` is 120 exactly where a number leaves 64 signed bits in any part of it. `Refused::Memory` comes
+/// where memory is wanting for the copy.
+pub fn eval(alloc: Global, expr: &Expr, row: &Row) -> Result<Value, Refused>
+    ensures value { IfOk result (λ value. eval expr.now row.now ≡ Some value) }
+    ensures refused { IfErr result (IsOverflow (eval expr.now row.now)) }
+{
+    match value_of(expr, row) {
+        None => Err(Refused::Rule(Rule {
+            code: Code::Overflow,
+            detail: Detail::Nothing,
+        })),
+        Some(operand) => {
+            let value = operand.copied(alloc)?;
+            Ok(value)
+        }
+    }
+}
+
+fn stored_or_null<'a>(value: Option<&'a Value>) -> Operand<'a>
+    ensures { shown result ≡ unwrap_or (option_copied value.entry) one.Null }
+{
+    match value {
+        None => Operand::Null,
+        Some(value) => Operand::Stored(value),
+    }
+}
+
+fn calculated<'a>(
+    operation: Arithmetic,
+    left: Operand<'a>,
+    right: Operand<'a>,
+) -> Option<Operand<'a>>
+    ensures { option_map shown result ≡ calculated operation (shown left.entry) (shown right.entry) }
+{
+    match (number_in(left), number_in(right)) {
+        (Some(x), Some(y)) => number(exact(operation, x, y)),
+        _ => Some(Operand::Null),
+    }
+}
+
+fn number_in(operand: Operand<'_>) -> Option<i64>
+    ensures { result ≡ number_in (shown operand.entry) }
+{
+    match operand {
+        Operand::Integer(number) => Some(number),
+        Operand::Stored(Value::Integer(number)) => Some(*number),
+        _ => None,
+    }
+}
+
+fn exact(operation: Arithmetic, x: i64, y: i64) -> i128
+    ensures { result ≡ exact operation x y }
+{
+    let (x, y) = (i128::from(x), i128::from(y));
+    match operation {
+        Arithmetic::Plus => x + y,
+        Arithmetic::Minus => x - y,
+        Arithmetic::Times => x * y,
+    }
+}
+
+fn number<'a>(n: i128) -> Option<Operand<'a>>
+    ensures { option_map shown result ≡ number n }
+{
+    if n < -9_223_372_036_854_775_808 || n > 9_223_372_036_854_775_807 {
+        None
+    } else {
+        Some(Operand::Integer(n as i64))
+    }
+}

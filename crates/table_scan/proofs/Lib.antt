@@ -1,0 +1,3 @@
+pub mod EmptyTables
+pub mod KeyLaws
+pub mod KeyedLaws
