@@ -1,0 +1,4 @@
+pub mod Literals
+pub mod TreeCodes
+pub mod Trees
+pub mod Views

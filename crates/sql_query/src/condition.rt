@@ -1,0 +1,131 @@
+//! Conditions with the names of columns.
+
+ghost use Rattle.std.specs.Prelude.{◌≡◌, IfOk};
+ghost use Rattle.sql_query.specs.Trees.{All, Among, Any, Between, Compared, Missing, Not};
+
+use crate::expression::Expression;
+use expressions::Comparator;
+use std::alloc::{AllocError, Global};
+use std::marker::Model;
+use tier_base::Seq;
+
+/// A condition with the names of columns. Clauses see a tree without boxes, a `ConditionTree`.
+#[cycle(condition)]
+#[derive(Drop)]
+pub struct Condition {
+    /// What stands at the top of it.
+    pub node: ConditionNode,
+}
+
+/// What stands at the top of a condition. A `bool` tells whether NOT is written inside of it, as in IS NOT NULL.
+#[cycle(condition)]
+#[derive(Drop)]
+pub enum ConditionNode {
+    /// A comparison.
+    Compared(Comparator, Expression, Expression),
+    /// IS NULL, IS NOT NULL.
+    Missing(bool, Expression),
+    /// BETWEEN, NOT BETWEEN: the expression, the low end, the high end.
+    Between(bool, Expression, Expression, Expression),
+    /// IN, NOT IN.
+    Among(bool, Expression, Seq<Expression>),
+    /// NOT before a condition.
+    Not(Box<Condition>),
+    /// AND.
+    All(Box<Condition>, Box<Condition>),
+    /// OR.
+    Any(Box<Condition>, Box<Condition>),
+}
+
+impl Model for Condition {
+    ghost use Rattle.sql_query.specs.Trees.{ConditionTree, nodes_of_condition};
+    ghost use Rattle.sql_query.specs.TreeCodes.{condition_code};
+
+    ghost Value = { ConditionTree };
+
+    ghost coded = { condition_code };
+
+    ghost use Rattle.sql_query.specs.Views.{condition_of};
+    ghost use Rattle.std.proofs.Common.{arith};
+
+    ghost view = { λ c. condition_of c.node };
+
+    ghost size = { nodes_of_condition };
+
+    ghost size_decreases = { λ a h. Prim.grind (arith) };
+}
+
+impl Condition {
+    /// A comparison.
+    pub fn compared(comparator: Comparator, left: Expression, right: Expression) -> Condition
+        ensures { result ≡ Compared comparator left right }
+    {
+        Condition {
+            node: ConditionNode::Compared(comparator, left, right),
+        }
+    }
+
+    /// IS NULL; where negated, IS NOT NULL.
+    pub fn missing(negated: bool, expression: Expression) -> Condition
+        ensures { result ≡ Missing negated expression }
+    {
+        Condition {
+            node: ConditionNode::Missing(negated, expression),
+        }
+    }
+
+    /// BETWEEN; where negated, NOT BETWEEN.
+    pub fn between(
+        negated: bool,
+        expression: Expression,
+        low: Expression,
+        high: Expression,
+    ) -> Condition
+        ensures { result ≡ Between negated expression low high }
+    {
+        Condition {
+            node: ConditionNode::Between(negated, expression, low, high),
+        }
+    }
+
+    /// IN; where negated, NOT IN.
+    pub fn among(negated: bool, expression: Expression, list: Seq<Expression>) -> Condition
+        ensures { result ≡ Among negated expression list }
+    {
+        Condition {
+            node: ConditionNode::Among(negated, expression, list),
+        }
+    }
+
+    /// NOT before a condition.
+    pub fn not(alloc: Global, condition: Condition) -> Result<Condition, AllocError>
+        ensures { IfOk result (λ c. c ≡ Not condition) }
+    {
+        let condition = Box::new(alloc, condition)?;
+        Ok(Condition {
+            node: ConditionNode::Not(condition),
+        })
+    }
+
+    /// AND.
+    pub fn all(alloc: Global, left: Condition, right: Condition) -> Result<Condition, AllocError>
+        ensures { IfOk result (λ c. c ≡ All left right) }
+    {
+        let left = Box::new(alloc, left)?;
+        let right = Box::new(alloc, right)?;
+        Ok(Condition {
+            node: ConditionNode::All(left, right),
+        })
+    }
+
+    /// OR.
+    pub fn any(alloc: Global, left: Condition, right: Condition) -> Result<Condition, AllocError>
+        ensures { IfOk result (λ c. c ≡ Any left right) }
+    {
+        let left = Box::new(alloc, left)?;
+        let right = Box::new(alloc, right)?;
+        Ok(Condition {
+            node: ConditionNode::Any(left, right),
+        })
+    }
+}

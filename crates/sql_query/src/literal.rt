@@ -1,0 +1,68 @@
+//! Literals as they are written.
+
+ghost use Rattle.std.specs.Prelude.{◌≡◌, IfOk};
+ghost use Rattle.std.specs.Option.{option_map};
+ghost use Rattle.row_types.specs.Literals.{integer_value};
+ghost use Rattle.row_types.specs.declared.value.Value.TheVariants.{Integer as IntegerOf};
+ghost use Rattle.sql_query.specs.Literals.{signed_digits, value_of};
+
+use row_types::{Text, Time, Value, held_text, parse_integer};
+use std::alloc::{AllocError, Global};
+
+/// An integer as it is written. Blanks between its sign and its digits don't count.
+#[derive(Drop)]
+pub struct IntegerLiteral {
+    /// Whether a `-` stands before it.
+    pub negative: bool,
+    /// Its digits, leading zeros too.
+    pub digits: Text,
+}
+
+/// A literal as it is written.
+#[derive(Drop)]
+pub enum Literal {
+    /// NULL.
+    Null,
+    /// An integer.
+    Integer(IntegerLiteral),
+    /// A text: its bytes without the quotes around it, `''` in it being one quote.
+    Text(Text),
+    /// TIMESTAMP: the text behind it, without its quotes.
+    Time(Text),
+}
+
+impl Literal {
+    /// The value of the literal. It is NULL of the text without bytes.
+    ///
+    /// None exactly where no type holds it: an integer past 64 signed bits, a text of more than 4,000 bytes, and a
+    /// TIMESTAMP of anything else than `YYYY-MM-DD HH:MM:SS` with a date of the years 0001 to 9999 and a time of day.
+    /// The error is want of memory. (TimesTen SQL Reference, "Constants", "Datetime literals"; the ranges are this
+    /// project's.)
+    pub fn value(&self, alloc: Global) -> Result<Option<Value>, AllocError>
+        ensures { IfOk result (λ value. value ≡ value_of self.now) }
+    {
+        match self {
+            Literal::Null => Ok(Some(Value::Null)),
+            Literal::Integer(integer) => {
+                let number = number_of(alloc, integer)?;
+                Ok(number.map(Value::Integer))
+            }
+            Literal::Text(text) => held_text(alloc, text.as_bytes()),
+            Literal::Time(text) => Ok(Time::from_text(text.as_bytes()).map(Value::Time)),
+        }
+    }
+}
+
+/// The number of an integer literal; none past 64 signed bits.
+fn number_of(alloc: Global, literal: &IntegerLiteral) -> Result<Option<i64>, AllocError>
+    ensures { IfOk result (λ number. option_map IntegerOf number ≡ integer_value (signed_digits literal.now)) }
+{
+    let digits = literal.digits.as_bytes();
+    if !literal.negative {
+        return Ok(parse_integer(digits));
+    }
+    let mut signed = Vec::with_capacity(alloc, 1)?;
+    signed.push(b'-')?;
+    signed.extend_from_slice(digits)?;
+    Ok(parse_integer(signed.as_slice()))
+}
