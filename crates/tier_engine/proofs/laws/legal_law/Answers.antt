@@ -1,3 +1,4 @@
+use Rattle.tier_engine.proofs.OpenSteps.{rollback_turns}
 use Rattle.tier_engine.proofs.LegalLaws.{legal_standing}
 use Rattle.tier_engine.proofs.laws.legal_law.Goals as goal
 

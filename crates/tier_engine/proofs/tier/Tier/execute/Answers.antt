@@ -1,12 +1,12 @@
 use Rattle.tier_engine.proofs.ServingLaws.{quiet_statement, statement_as}
-use Rattle.tier_engine.proofs.ReplyLaws.{select_tells, insert_tells, group_tells, commit_tells}
+use Rattle.tier_engine.proofs.ReplyLaws.{select_tells, group_tells, commit_tells}
 use Rattle.tier_engine.proofs.tier.Tier.execute.Goals as goal
 
 pub returns-in-Select-clause-step : goal.returns-in-Select-clause-step
 returns-in-Select-clause-step g c = quiet_statement _ _ _ _ _ _ _ _ c.in-Select.is c.select.ensures.step (select_tells c.in-Select.select c.select.result)
 
 pub returns-in-Insert-clause-step : goal.returns-in-Insert-clause-step
-returns-in-Insert-clause-step g c = quiet_statement _ _ _ _ _ _ _ _ c.in-Insert.is c.insert.ensures.step (insert_tells c.in-Insert.insert c.insert.result)
+returns-in-Insert-clause-step g c = statement_as _ _ _ _ _ _ _ _ _ _ _ c.in-Insert.is c.insert.ensures.step
 
 pub returns-in-CreateGroup-clause-step : goal.returns-in-CreateGroup-clause-step
 returns-in-CreateGroup-clause-step g c = quiet_statement _ _ _ _ _ _ _ _ c.in-CreateGroup.is c.create_group.ensures.step (group_tells c.in-CreateGroup.declaration c.create_group.result)
