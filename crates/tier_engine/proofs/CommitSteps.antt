@@ -5,11 +5,13 @@ use Rattle.std.specs.List.{filter, list_all, list_any, flat_map, slice_get}
 use Rattle.std.specs.Option.{option_map, option_and_then, option_or, is_some, IfSome, IsSome}
 use Rattle.std.specs.FinMap.{contains_key, get}
 use Rattle.std.specs.FinSet as set
-use Rattle.std.proofs.lemmas.Bool.{lt-ltb, le-leb}
+use Rattle.std.proofs.lemmas.Bool.{lt-ltb, lt-leb, le-leb}
 use Rattle.std.proofs.lemmas.List.{take-append-le, drop-append-le}
 use Rattle.std.proofs.lemmas.List.Elements.{filter-append}
 use Rattle.std.proofs.lemmas.List.Folds.{list_all-append, list_any-append}
 use Rattle.std.proofs.lemmas.Grind.{flat_map-append}
+use Rattle.tier_base.specs.declared.limit.Limit.TheVariants as limit
+use Rattle.tier_base.specs.Limits.{greatest}
 use Rattle.row_types.specs.declared.value.Value.{Value}
 use Rattle.row_types.proofs.OrderLaws.{key_total, key_exact}
 use Rattle.table_state.specs.declared.definition.TableDef.{TableDef}
@@ -28,7 +30,7 @@ use Rattle.tier_engine.specs.declared.tier.Session.{Session}
 use Rattle.tier_engine.specs.Commits.{RiseBetween, pending, virtual_state, applied_sealed, own_entries, in_commit_order}
 use Rattle.tier_engine.specs.TierStates.{TierState, GroupState, SessionState, keys_after}
 use Rattle.row_types.specs.declared.rule.Rule.{Rule}
-use Rattle.tier_engine.specs.Refusals.{commit_fault}
+use Rattle.tier_engine.specs.Refusals.{at_limit, commit_fault, past}
 use Rattle.tier_engine.specs.Answers.{Answer, only, committed, commit_answer, commit_of, group_after, refuses, unless}
 use Rattle.tier_engine.specs.Steps.{World, Quiet, InSession, WantsMemory}
 use Rattle.tier_engine.specs.Storing.{Seals, SealsOr, emptied}
@@ -134,6 +136,22 @@ commit_states top log own (g ∷ groups) are all = λ i. commit_state own g are 
 by_fault : (t : TierState) (s : SessionState) (own : List Op) (o : Option Rule) → 0 < length own → commit_fault t ≡ o → commit_of t s own ≡ unless t o (committed t s, only (Done t.next))
 by_fault t s [] o some e = absurd (Prim.omega arith)
 by_fault t s (op ∷ own) o some e = ap (λ x. unless t x (committed t s, only (Done t.next))) e
+
+-- why a commit of writes is refused, or that it isn't
+fault_is : (t : Tier) (log : List Sealed) (n : ℕ) (pending tickets : Option Rule) → n ≡ length t.unsettled.items → pending ≡ at_limit limit.Pending n → tickets ≡ cond (nat_le t.next (greatest limit.Tickets)) None (past limit.Tickets)
+    → commit_fault (tier_state t log) ≡ option_or pending tickets
+fault_is t log n pending tickets e p q = λ i. option_or (sym (p ∙ ap (at_limit limit.Pending) e) i) (sym q i)
+
+pub pending_full : (t : Tier) (log : List Sealed) (n : ℕ) (rule : Rule) → n ≡ length t.unsettled.items → Some rule ≡ at_limit limit.Pending n → commit_fault (tier_state t log) ≡ Some rule
+pending_full t log n rule e told = fault_is t log n (Some rule) (cond (nat_le t.next (greatest limit.Tickets)) None (past limit.Tickets)) e told refl
+
+pub tickets_used : (t : Tier) (log : List Sealed) (n : ℕ) (rule : Rule) → n ≡ length t.unsettled.items → None ≡ at_limit limit.Pending n → greatest limit.Tickets < t.next → Some rule ≡ past limit.Tickets
+    → commit_fault (tier_state t log) ≡ Some rule
+tickets_used t log n rule e free over told =
+    fault_is t log n None (Some rule) e free (told ∙ sym (ap (λ b. cond b None (past limit.Tickets)) (lt-leb t.next (greatest limit.Tickets) over)))
+
+pub not_refused : (t : Tier) (log : List Sealed) (n : ℕ) → n ≡ length t.unsettled.items → None ≡ at_limit limit.Pending n → t.next ≤ greatest limit.Tickets → commit_fault (tier_state t log) ≡ None
+not_refused t log n e free within = fault_is t log n None None e free (sym (ap (λ b. cond b None (past limit.Tickets)) (le-leb t.next (greatest limit.Tickets) within)))
 
 -- a commit that is refused
 pub refused_turns : (t : Tier) (log : List Sealed) (h : List Entry) (reply : Reply) (rule : Rule) (o : IsOpen t) → 0 < length o.session.own → commit_fault (tier_state t log) ≡ Some rule → reply ≡ only (No rule) → StandsFor t log h

@@ -56,7 +56,7 @@ same_names : (own : List Op) (groups : List Group) (name : List ℕ) → has_nam
 same_names own [] name = refl
 same_names own (g ∷ groups) name = ap (λ b. is_named g.name name || b) (same_names own groups name)
 
-same_tables : (own : List Op) (groups : List Group) (table : TableId) → has_table groups table ≡ is_grouped (map (group_state own) groups) table
+pub same_tables : (own : List Op) (groups : List Group) (table : TableId) → has_table groups table ≡ is_grouped (map (group_state own) groups) table
 same_tables own [] table = refl
 same_tables own (g ∷ groups) table = ap (λ b. nat_eq g.table.0 table.0 || b) (same_tables own groups table)
 
@@ -71,11 +71,11 @@ same_fault own groups d table def schema = λ i.
     (option_or (same_open own i)
     (option_or (type_fault d.table.columns) (option_or (letter_fault (same_tables own groups table i) d table def schema) (at_limit limit.Groups (sym (length-map groups (group_state own)) i))))))
 
-none_first : {X : Type 0} (a b : Option X) → option_or a b ≡ None → a ≡ None
+pub none_first : {X : Type 0} (a b : Option X) → option_or a b ≡ None → a ≡ None
 none_first None b e = refl
 none_first (Some x) b e = Prim.cc
 
-none_second : {X : Type 0} (a b : Option X) → option_or a b ≡ None → b ≡ None
+pub none_second : {X : Type 0} (a b : Option X) → option_or a b ≡ None → b ≡ None
 none_second None b e = e
 none_second (Some x) b e = Prim.cc
 

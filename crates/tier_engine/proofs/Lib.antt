@@ -1,4 +1,7 @@
 pub mod BackSteps
+pub mod BeginSteps
+pub mod CreateSteps
+pub mod GroupTurns
 pub mod BankSteps
 pub mod CommitLaws
 pub mod CommitSteps

@@ -1,7 +1,7 @@
 -- What one request line does, and what a list of them does.
 
 use Rattle.std.specs.Prelude.{◌≡◌, ℕ, ◌+◌, ◌-◌, ◌^◌, ◌≤◌, ◌⊎◌, min, nat_eq, nat_lt, if◌then◌else◌, List, [], ◌∷◌, ◌++◌, Bool, true, false, ◌&&◌, not, Option, Some, None, length, codes, is_none, is_some, Result, Ok, Err}
-use Rattle.std.specs.Option.{option_map}
+use Rattle.std.specs.Option.{option_map, unwrap_or}
 use Rattle.std.specs.FinMap.{contains_key}
 use Rattle.std.specs.Bool.{MatchBool}
 use Rattle.std.specs.Result.{IsErrOf, OnOk}
@@ -28,7 +28,7 @@ use Rattle.sql_subset.specs.Lines.{Saying, Silent, Says, WrongAt, TooDeep, Means
 use Rattle.table_state.specs.declared.definition.TableDef.{TableDef}
 use Rattle.table_state.specs.declared.history.Entry.{Entry}
 use Rattle.table_state.specs.declared.history.Sealed.{Sealed}
-use Rattle.table_state.specs.Declarations.{broken, fault_of, resolved}
+use Rattle.table_state.specs.Declarations.{broken, broken_at, resolved, wrong_name}
 use Rattle.table_state.specs.Tables.{Table, TableState, table_at, key_of}
 use Rattle.table_state.specs.Histories.{state_of}
 use Rattle.outside.specs.Bank.{Defines, TellsSchema, TellsRow}
@@ -139,13 +139,12 @@ abbrev pub CreatesTable : TableDef → Option Rule → World → World → Reply
 CreatesTable def (Some rule) w w' reply = Quiet w (refuses w.tier rule) w' reply
 CreatesTable def None w w' reply = Creates def w w' reply
 
--- what is refused of a table whose name is that of a group's table, where the schema isn't known
-abbrev pub cached_fault : TableDeclaration → Option GroupState → Option Rule
-cached_fault d None = None
-cached_fault d (Some g) = fault_of d (g.def ∷ [])
+-- a table whose name is that of a group's table, where the schema isn't known: 103 of a name in its declaration, else 113
+abbrev pub cached_fault : TableDeclaration → Rule
+cached_fault d = unwrap_or (broken_at code.UnknownColumn (wrong_name d)) (record { code = code.NameInUse; detail = detail.Name d.name })
 
 abbrev pub DoesDefine : TableDeclaration → Option (List TableDef) → World → World → Reply → Type 0
-DoesDefine d None w w' reply = Quiet w (unless w.tier (cached_fault d (group_of_table w.tier.groups d.name)) (refuses w.tier not_yet)) w' reply
+DoesDefine d None w w' reply = Quiet w (refuses w.tier (cached_fault d)) w' reply
 DoesDefine d (Some schema) w w' reply = CreatesTable (resolved d schema) (table_fault w.tier.groups d schema) w w' reply
 
 -- how a round's end is answered

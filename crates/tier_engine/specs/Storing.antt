@@ -3,7 +3,7 @@
 use Rattle.std.specs.Prelude.{◌≡◌, ℕ, List, [], ◌∷◌, ◌++◌, Option, Some, None, Bool, true, false, not, nat_lt, nat_eq, if◌then◌else◌, length, suc, slice_set, slice_get, ◌+◌, ◌≤◌, ◌⊎◌, map, Result, Ok, Err}
 use Rattle.std.specs.Option.{option_map, option_and_then, option_or}
 use Rattle.std.specs.List.{list_any}
-use Rattle.std.specs.Result.{IsErrOf}
+use Rattle.std.specs.Result.{IfOk, IsErrOf}
 use Rattle.outside.specs.Bank.{Defines, TellsRow}
 use Rattle.outside.specs.Calls.{BankCall, Told}
 use Rattle.outside.specs.Faults.{Rose}
@@ -35,10 +35,10 @@ use Rattle.tier_engine.specs.declared.tier.Tier.{Tier}
 use Rattle.tier_engine.specs.declared.insert.Asked.{Asked}
 use Rattle.row_types.specs.declared.rule.Refused.{Refused}
 use Rattle.row_types.specs.declared.rule.Refused.TheVariants as refused
-use Rattle.tier_engine.specs.Refusals.{key_taken, letter_fault, at_limit, past, not_yet}
+use Rattle.tier_engine.specs.Refusals.{key_taken, letter_fault, at_limit, past}
 use Rattle.tier_engine.specs.TierStates.{is_named}
 use Rattle.tier_engine.specs.Answers.{only, faulty}
-use Rattle.tier_engine.specs.Steps.{bank_fault, define_reply}
+use Rattle.tier_engine.specs.Steps.{bank_fault, cached_fault, define_reply}
 use Rattle.tier_engine.specs.Standing.{own_in, bare, AreApart, HasOwnKeys}
 
 -- the place of the group that has the table of this name
@@ -208,18 +208,11 @@ judged_parent groups d def = judged_foreign groups d def.foreign_key
 abbrev pub judged_table : List Group → TableDeclaration → List TableDef → Option Rule
 judged_table groups d schema = option_or (fault_of d schema) (option_or (judged_parent groups d (resolved d schema)) (option_and_then past (limit_of (resolved d schema) schema)))
 
-abbrev pub cached_rule : TableDeclaration → Option Group → Option Rule
-cached_rule d None = None
-cached_rule d (Some g) = fault_of d (g.def ∷ [])
-
-abbrev pub group_there : List Group → Option ℕ → Option Group
-group_there groups None = None
-group_there groups (Some place) = slice_get groups place
-
--- it is refused in any case
-abbrev pub JudgesCached : List Group → TableDeclaration → Result TableDef Refused → Type 0
-JudgesCached groups d (Ok def) = ⊥
-JudgesCached groups d (Err e) = IsRefusedBy (option_or (cached_rule d (group_there groups (place_named groups d.name))) (Some not_yet)) e
+-- what refuses a table beside these groups, behind this schema; where none is known, the table is that of a group
+abbrev pub JudgesTable : List Group → TableDeclaration → Option (List TableDef) → Result TableDef Refused → Type 0
+JudgesTable groups d None (Ok def) = ⊥
+JudgesTable groups d None (Err e) = IsRefusedBy (Some (cached_fault d)) e
+JudgesTable groups d (Some schema) result = Tells result (judged_table groups d schema) × IfOk result (λ def. def ≡ resolved d schema)
 
 -- what the tier knows after a definition at the bank
 abbrev pub KnowsAfter : Tier → Tier → TableDef → Result (Unit {0}) BankError → Type 0
@@ -239,8 +232,8 @@ pub record MakesTable (before after : Option Held) (old new : Tier) (def : Table
   pub answer : reply ≡ define_reply result
   pub cause : IsErrOf result Failed → Rose faults faults'
 
--- or it wasn't tried: the schema isn't known, or memory was wanting
+-- or it wasn't tried, since memory was wanting
 pub record Makes (told told' : Option Held) (faults faults' moment moment' : ℕ) (old new : Tier) (def : TableDef) (reply : Reply) : Type 0 where
-  pub made : MakesTable told told' old new def reply faults faults' ⊎ (IsSame old new × (told' ≡ told) × (faults' ≡ faults) × (moment' ≡ moment) × ((reply ≡ faulty code.Memory) ⊎ (old.known ≡ None)))
+  pub made : MakesTable told told' old new def reply faults faults' ⊎ (IsSame old new × (told' ≡ told) × (faults' ≡ faults) × (moment' ≡ moment) × (reply ≡ faulty code.Memory))
   pub later : faults ≤ faults'
   pub on : moment ≤ moment'

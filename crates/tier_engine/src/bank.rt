@@ -1,19 +1,18 @@
 //! Statements that define tables at the backing database, and the question for its schema.
 
-ghost use Rattle.std.specs.Prelude.{◌≡◌, ◌≤◌, ◌⊎◌, ◌++◌, [], ◌∷◌, List, IfOk, IfSome, OnErr, OnOk, Some, Result};
+ghost use Rattle.std.specs.Prelude.{◌≡◌, ◌≤◌, ◌⊎◌, ◌++◌, [], ◌∷◌, List, IfOk, IfSome, IsSome, OnErr, OnOk, Some, Result};
 ghost use Rattle.outside.specs.Faults.{Rose};
 ghost use Rattle.outside.specs.Holding.{Held};
 ghost use Rattle.outside.specs.declared.fault.BankError.{BankError as OneBankError};
 ghost use Rattle.table_state.specs.declared.definition.TableDef.{TableDef as OneDef};
 ghost use Rattle.table_state.specs.declared.history.Sealed.{Sealed as OneSealed};
-ghost use Rattle.table_state.specs.Declarations.{Tells, resolved};
+ghost use Rattle.row_types.specs.declared.rule.Detail.TheVariants as detail;
+ghost use Rattle.table_state.specs.Declarations.{IsRefusedBy, Tells, broken, resolved};
 ghost use Rattle.sql_subset.specs.declared.request.ConsoleRequest.TheVariants as console;
-ghost use Rattle.tier_engine.specs.Refusals.{not_yet};
 ghost use Rattle.tier_engine.specs.Standing.{AskServes, Made, StandsFor};
-ghost use Rattle.tier_engine.specs.Steps.{Asked, DoesConsole, TellsBankFault, WantsMemory, bank_fault, stopped};
-ghost use Rattle.tier_engine.specs.Storing.{JudgesCached, Makes, judged_parent, judged_table};
+ghost use Rattle.tier_engine.specs.Steps.{Asked, DoesConsole, TellsBankFault, WantsMemory, bank_fault, cached_fault, stopped};
+ghost use Rattle.tier_engine.specs.Storing.{JudgesTable, Makes, judged_parent, judged_table};
 
-use crate::cached::place_of_group;
 use crate::insert::past;
 use crate::judge_group::has_table;
 use crate::reply::Reply;
@@ -21,8 +20,9 @@ use crate::tier::{Group, Tier};
 use outside::{BankError, Site};
 use row_types::{Detail, Refused, Rule, TableDeclaration};
 use std::alloc::{AllocError, Global};
-use table_state::{BackingSchema, TableDef};
-use tier_base::{Code, Seq};
+use table_state::laws::later_table_law;
+use table_state::{BackingSchema, TableDef, wrong_name};
+use tier_base::{Code, Name};
 
 impl Tier {
     /// Asks the backing database for its schema. A reply is the fault of the question.
@@ -57,23 +57,31 @@ impl Tier {
         ensures later { P.bank_faults site.old ≤ P.bank_faults site.new }
         ensures cause { TellsBankFault result → Rose (P.bank_faults site.old) (P.bank_faults site.new) }
     {
-        let judged = match &self.known {
-            None => judge_cached(alloc, self.groups.as_slice(), declaration),
-            Some(schema) => judge_table(alloc, self.groups.as_slice(), declaration, schema),
-        };
-        match judged {
+        later_table_law();
+        match self.judge_create(alloc, declaration) {
             Err(Refused::Rule(rule)) => Reply::refuses(alloc, rule),
             Err(Refused::Memory) => Reply::faulty(alloc, Code::Memory),
             Ok(def) => self.define(alloc, site, def),
         }
     }
 
+    /// The definition that the declaration makes, where nothing refuses it.
+    fn judge_create(&self, alloc: Global, declaration: &TableDeclaration) -> Result<TableDef, Refused>
+        ensures { JudgesTable self.now.groups.items declaration.now self.now.known result }
+    {
+        match &self.known {
+            None => Err(taken_name(alloc, declaration)),
+            Some(schema) => judge_table(alloc, self.groups.as_slice(), declaration, schema),
+        }
+    }
+
     /// Makes a table. All memory is taken before the call of the bank.
     fn define<P: Site>(&mut self, alloc: Global, site: &mut P, def: TableDef) -> Reply
+        requires { IsSome self.old.known }
         ensures { Makes (P.Disk.held site.old) (P.Disk.held site.new) (P.bank_faults site.old) (P.bank_faults site.new) (P.Disk.moment site.old) (P.Disk.moment site.new) self.old self.new def result }
     {
         let Some(known) = &mut self.known else {
-            return Reply::not_yet(alloc);
+            unreachable!()
         };
         if know_also(alloc, known, &def).is_err() {
             return Reply::faulty(alloc, Code::Memory);
@@ -124,21 +132,28 @@ fn judge_table(
     }
 }
 
-/// What refuses a table with the name of a group's table, where the schema isn't known.
-fn judge_cached(
-    alloc: Global,
-    groups: &[Group],
-    declaration: &TableDeclaration,
-) -> Result<TableDef, Refused>
-    ensures { JudgesCached groups.now declaration.now result }
+/// What refuses a table with the name of a group's table, where the schema isn't known: 103 of a name in its declaration,
+/// else 113.
+fn taken_name(alloc: Global, declaration: &TableDeclaration) -> Refused
+    ensures { IsRefusedBy (Some (cached_fault declaration.now)) result }
 {
-    let Some(place) = place_of_group(groups, &declaration.name) else {
-        return Err(not_yet());
-    };
-    let mut schema = Seq::new(alloc);
-    know_also(alloc, &mut schema, &groups[place].def)?;
-    let _ = TableDef::check(alloc, declaration, &schema)?;
-    Err(not_yet())
+    match wrong_name(declaration) {
+        Some(name) => named(alloc, Code::UnknownColumn, name),
+        None => named(alloc, Code::NameInUse, &declaration.name),
+    }
+}
+
+/// A rule that this name breaks.
+fn named(alloc: Global, code: Code, name: &Name) -> Refused
+    ensures { IsRefusedBy (broken code (detail.Name name.now)) result }
+{
+    match name.copied(alloc) {
+        Ok(name) => Refused::Rule(Rule {
+            code,
+            detail: Detail::Name(name),
+        }),
+        Err(_) => Refused::Memory,
+    }
 }
 
 /// 121: the foreign key refers to a table of a group.
@@ -160,15 +175,6 @@ fn writethrough_parent(
         }
         _ => Ok(None),
     }
-}
-
-fn not_yet() -> Refused
-    ensures { result ≡ Refused.Rule not_yet }
-{
-    Refused::Rule(Rule {
-        code: Code::Syntax,
-        detail: Detail::Byte(0),
-    })
 }
 
 /// The reply of a failed call of the bank, or of its want of memory.

@@ -4,7 +4,7 @@ ghost use Rattle.std.specs.Prelude.{◌≡◌, ◌+◌, ◌<◌, ◌≤◌, ◌�
 ghost use Rattle.table_state.specs.declared.history.Entry.{Entry};
 ghost use Rattle.table_state.specs.declared.history.Sealed.{Sealed as OneSealed};
 ghost use Rattle.sql_subset.specs.declared.stmt.Stmt.TheVariants as statement;
-ghost use Rattle.tier_engine.specs.Standing.{InOpen, StandsFor, Turns};
+ghost use Rattle.tier_engine.specs.Standing.{InOpen, StandsFor, Turns, own_in};
 ghost use Rattle.tier_engine.specs.Steps.{WantsMemory};
 ghost use Rattle.tier_engine.specs.Storing.{SealsOr};
 ghost use Rattle.tier_engine.specs.declared.tier.Session.{Session as OneSession};
@@ -25,11 +25,7 @@ impl Tier {
         requires { IsSome self.old.session }
         ensures step { (log : List OneSealed) (history : List Entry) → StandsFor self.old log history → Turns self.old self.new log history (λ w w'. InOpen w.tier.session statement.Commit w w' result ⊎ WantsMemory w w' result) }
     {
-        let writes = match &self.session {
-            None => 0,
-            Some(session) => session.own.len(),
-        };
-        if writes == 0 {
+        if self.written() == 0 {
             return Reply::done(alloc, 0);
         }
         if let Some(rule) = at_limit(Limit::Pending, self.unsettled.len()) {
@@ -39,6 +35,16 @@ impl Tier {
             return Reply::refuses(alloc, past(Limit::Tickets));
         }
         self.seal(alloc)
+    }
+
+    /// How many uncommitted writes the session has; none where no session is open.
+    pub fn written(&self) -> usize
+        ensures { result ≡ length (own_in self.now.session) }
+    {
+        match &self.session {
+            None => 0,
+            Some(session) => session.own.len(),
+        }
     }
 
     /// Puts the session's writes behind the unsettled transactions.

@@ -70,13 +70,10 @@ impl Tier {
     fn judge(&self, alloc: Global, declaration: &CreateGroup, table: TableId, def: &TableDef) -> Result<(), Refused>
         ensures { JudgesGroup self.now declaration.now table def.now result }
     {
-        let own = match &self.session {
-            None => 0,
-            Some(session) => session.own.len(),
-        };
+        let written = self.written();
         match &self.known {
-            None => judge_group(alloc, self.groups.as_slice(), own, declaration, table, def, &Seq::new(alloc)),
-            Some(schema) => judge_group(alloc, self.groups.as_slice(), own, declaration, table, def, schema),
+            None => judge_group(alloc, self.groups.as_slice(), written, declaration, table, def, &Seq::new(alloc)),
+            Some(schema) => judge_group(alloc, self.groups.as_slice(), written, declaration, table, def, schema),
         }
     }
 

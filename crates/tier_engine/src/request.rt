@@ -15,6 +15,7 @@ use crate::tier::Tier;
 use outside::{BankError, Site};
 use std::alloc::Global;
 use std::collections::VecDeque;
+use table_state::laws::later_table_law;
 use tier_base::Limit;
 
 /// The greatest number of bytes of a line.
@@ -29,6 +30,7 @@ impl Tier {
         ensures cause { BankHasCause (P.bank_faults site.old) (P.bank_faults site.new) result }
         ensures moment { P.Disk.moment site.old ≤ P.Disk.moment site.new }
     {
+        later_table_law();
         let schema = site.schema()?;
         Ok(Tier {
             known: Some(schema),

@@ -1,4 +1,3 @@
-use Rattle.tier_engine.proofs.OpenSteps.{rollback_turns}
 use Rattle.tier_engine.proofs.LegalLaws.{legal_standing}
 use Rattle.tier_engine.proofs.laws.legal_law.Goals as goal
 
