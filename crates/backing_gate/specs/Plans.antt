@@ -3,7 +3,7 @@
 use Rattle.std.specs.Prelude.{ℕ, ◌+◌, ◌-◌, ◌^◌, List, [], ◌∷◌, ◌++◌, Option, Bool, true, false, ◌&&◌, ◌==◌, min, find}
 use Rattle.std.specs.Option.{option_map}
 use Rattle.backing_gate.specs.declared.plan.CallKind.{CallKind}
-use Rattle.backing_gate.specs.declared.plan.CallKind.TheVariants.{Schema, Define, ApplyOnce, Len}
+use Rattle.backing_gate.specs.declared.plan.CallKind.TheVariants.{Schema, Define, ApplyOnce, Find, Len}
 use Rattle.backing_gate.specs.declared.plan.CallCounts.{CallCounts}
 use Rattle.backing_gate.specs.declared.plan.Outcome.{Outcome}
 use Rattle.backing_gate.specs.declared.plan.Plan.{Plan}
@@ -14,12 +14,13 @@ pub record Planned : Type 0 where
   pub calls : CallCounts
 
 abbrev pub no_plans : Planned
-no_plans = record { plans = []; calls = record { schema = 0; define = 0; apply_once = 0; len = 0 } }
+no_plans = record { plans = []; calls = record { schema = 0; define = 0; apply_once = 0; find = 0; len = 0 } }
 
 abbrev pub number_of : CallKind → CallCounts → ℕ
 number_of Schema calls = calls.schema
 number_of Define calls = calls.define
 number_of ApplyOnce calls = calls.apply_once
+number_of Find calls = calls.find
 number_of Len calls = calls.len
 
 -- one more, up to the last value of a count
@@ -30,12 +31,14 @@ abbrev pub counted : CallKind → CallCounts → CallCounts
 counted Schema calls = record calls { schema = one_more calls.schema }
 counted Define calls = record calls { define = one_more calls.define }
 counted ApplyOnce calls = record calls { apply_once = one_more calls.apply_once }
+counted Find calls = record calls { find = one_more calls.find }
 counted Len calls = record calls { len = one_more calls.len }
 
 abbrev pub same_kind : CallKind → CallKind → Bool
 same_kind Schema Schema = true
 same_kind Define Define = true
 same_kind ApplyOnce ApplyOnce = true
+same_kind Find Find = true
 same_kind Len Len = true
 same_kind a b = false
 

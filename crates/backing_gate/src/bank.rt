@@ -1,20 +1,22 @@
 //! Tables with the history that they come of.
 
 ghost use Rattle.std.specs.Prelude.{◌≡◌, [], ◌∷◌, ◌++◌, false, IfErr, IfOk, IsSome, Ok, OnErr, OnOk, Some};
+ghost use Rattle.std.specs.FinMap.{get};
 ghost use Rattle.table_state.specs.declared.history.Entry.{Entry};
-ghost use Rattle.table_state.specs.Tables.{TableState};
+ghost use Rattle.table_state.specs.Tables.{TableState, table_at};
 ghost use Rattle.table_state.specs.Histories.{entry_of, has_ticket, state_of};
 ghost use Rattle.table_state.specs.Refusals.{IsFault, SaysNone, broken_by_all};
 ghost use Rattle.outside.specs.Bank.{AppliesOnce, HasAll};
 ghost use Rattle.backing_gate.specs.Tickets.{FirstMissing};
 
-use crate::difference::first_difference;
+use crate::difference::{first_difference, row_at};
 use crate::ledger::Ledger;
 use outside::{Applied, Receipt};
+use row_types::{Key, Row};
 use std::alloc::{AllocError, Global};
 use std::marker::Model;
-use table_state::{ApplyError, BackingSchema, History, Sealed, TableDef, Tables, copied_ops};
-use tier_base::{Position, Ticket};
+use table_state::{ApplyError, BackingSchema, History, Op, Sealed, TableDef, Tables, copied_ops};
+use tier_base::{Position, TableId, Ticket};
 
 /// The backing tables, with the history that left them. Clauses see the history.
 #[derive(Drop)]
@@ -60,6 +62,18 @@ impl Bank {
         self.tables.schema()
     }
 
+    /// The row at the key of the table, none where there is none. It fails for want of memory alone.
+    pub(crate) fn find(
+        &self,
+        alloc: Global,
+        table: TableId,
+        key: &Key,
+    ) -> Result<Option<Row>, AllocError>
+        ensures { IfOk result (λ row. (s : TableState) → state_of self.now ≡ Some s → row ≡ get (table_at s table) key.now) }
+    {
+        row_at(alloc, &self.tables, table, key)
+    }
+
     /// Makes a table. For want of memory nothing changes.
     pub(crate) fn define(&mut self, alloc: Global, def: &TableDef) -> Result<(), AllocError>
         ensures ok { OnOk result (self.new ≡ self.old ++ Entry.Definition def.now ∷ []) }
@@ -73,6 +87,24 @@ impl Bank {
             Err(failed) => {
                 self.ledger.take_back();
                 Err(failed)
+            }
+        }
+    }
+
+    /// Applies a transaction that isn't the tier's and puts it behind the history, where it applies. After an error
+    /// nothing changes.
+    pub(crate) fn add_foreign(&mut self, alloc: Global, ops: &[Op]) -> Result<(), ApplyError>
+        ensures ok { OnOk result (self.new ≡ self.old ++ Entry.Foreign ops.now ∷ []) }
+        ensures none { IfErr result (SaysNone (state_of (self.old ++ Entry.Foreign ops.now ∷ []))) }
+        ensures unchanged { OnErr result (self.new ≡ self.old) }
+    {
+        let kept = copied_ops(alloc, ops)?;
+        self.ledger.push_foreign(kept)?;
+        match self.tables.apply_all(alloc, ops) {
+            Ok(()) => Ok(()),
+            Err(error) => {
+                self.ledger.take_back();
+                Err(error)
             }
         }
     }

@@ -95,7 +95,8 @@ fn own_key(alloc: Global, tables: &Tables, op: &Op) -> Result<Key, AllocError>
     }
 }
 
-fn row_at(
+/// A copy of the row at the key of the table, none where there is none. It fails for want of memory alone.
+pub(crate) fn row_at(
     alloc: Global,
     tables: &Tables,
     table: TableId,

@@ -67,6 +67,15 @@ impl Ledger {
         Ok(())
     }
 
+    /// Puts a transaction of others behind the history. For want of memory it stays.
+    pub(crate) fn push_foreign(&mut self, ops: Ops) -> Result<(), AllocError>
+        ensures ok { OnOk result (self.new ≡ self.old ++ Entry.Foreign ops ∷ []) }
+        ensures err { OnErr result (self.new ≡ self.old) }
+    {
+        self.entries.push(Entry::Foreign(ops))?;
+        Ok(())
+    }
+
     /// Puts a transaction of the tier, whose ticket is new, behind the history. For want of memory it stays.
     pub(crate) fn push_own(&mut self, ticket: Ticket, ops: Ops) -> Result<(), AllocError>
         requires { has_ticket ticket.0 self.old ≡ false }

@@ -1,10 +1,11 @@
 //! The site in memory.
 
-ghost use Rattle.std.specs.Prelude.{◌≡◌, ◌↔◌, [], ◌∷◌, ◌++◌, IfOk, IsSome, OnErr, OnOk, Some, option_map};
+ghost use Rattle.std.specs.Prelude.{◌≡◌, ◌↔◌, [], ◌∷◌, ◌++◌, IfErr, IfOk, IsSome, OnErr, OnOk, Some, option_map};
 ghost use Rattle.std.specs.Result.{IsErr};
 ghost use Rattle.table_state.specs.declared.history.Entry.{Entry};
-ghost use Rattle.table_state.specs.Histories.{entry_of};
-ghost use Rattle.outside.specs.Bank.{AppliesOnce, CanFollow, Defines, TellsSchema};
+ghost use Rattle.table_state.specs.Histories.{entry_of, state_of};
+ghost use Rattle.table_state.specs.Refusals.{SaysNone};
+ghost use Rattle.outside.specs.Bank.{AppliesOnce, CanFollow, Defines, TellsRow, TellsSchema};
 ghost use Rattle.outside.specs.Calls.{BankCall, GoesOn, HasLength, MayApply, Stays, Told};
 ghost use Rattle.outside.specs.Faults.{BankHasCause, HasCause};
 ghost use Rattle.backing_gate.specs.Heeding.{Heeds};
@@ -16,10 +17,11 @@ ghost use Rattle.backing_gate.specs.SiteLaws.{certain_law, possible_law};
 use crate::bank::Bank;
 use crate::plan::{CallKind, Outcome, Plan, Plans, When};
 use outside::{Applied, BankError, Disk, DiskFault, Site, Slot};
+use row_types::{Key, Row};
 use std::alloc::{AllocError, Global};
 use std::marker::Model;
-use table_state::{BackingSchema, History, Sealed, TableDef, copied_schema};
-use tier_base::Ticket;
+use table_state::{ApplyError, BackingSchema, History, Op, Sealed, TableDef, copied_schema};
+use tier_base::{TableId, Ticket};
 
 /// A site in memory, which tells everything: two slots, and a bank whose tables are what its history leaves. Calls
 /// fail as planned, each plan names its call by kind and number. Each bank call that changes the history is a moment.
@@ -95,6 +97,18 @@ impl MemorySite {
             number,
             outcome: Outcome::Refused,
         })
+    }
+
+    /// Lets a transaction of others come: it is applied to the tables and put behind the history. It is no call of the
+    /// site, so no plan is for it.
+    ///
+    /// The error tells why it doesn't apply, or want of memory. Nothing changes then.
+    pub fn add_foreign(&mut self, ops: &[Op]) -> Result<(), ApplyError>
+        ensures ok { OnOk result (self.new ≡ record self.old { history = self.old.history ++ Entry.Foreign ops.now ∷ [] }) }
+        ensures none { IfErr result (SaysNone (state_of (self.old.history ++ Entry.Foreign ops.now ∷ []))) }
+        ensures unchanged { OnErr result (self.new ≡ self.old) }
+    {
+        self.bank.add_foreign(self.alloc, ops)
     }
 
     /// The history.
@@ -226,6 +240,26 @@ impl Site for MemorySite {
             None => match self.bank.apply_once(self.alloc, sealed, after) {
                 Ok(applied) => return Ok(applied),
                 Err(_) => return Err(BankError::Memory),
+            },
+        }
+    }
+
+    fn find(&mut self, table: TableId, key: &Key) -> Result<Option<Row>, BankError>
+        ensures told { Told (told_of self.old) (told_of self.new) (BankCall (TellsRow table key.now result)) }
+        ensures crash { GoesOn moment_of possible_of self.old self.new (MayApply (told_of self.old) (TellsRow table key.now result)) }
+        ensures cause { BankHasCause self.old.bank_faults self.new.bank_faults result }
+        ensures planned { Heeds (planned_next CallKind.Find self.old.planned) self.old self.new result (self.new.history ≡ self.old.history) }
+        ensures counted { self.new.planned ≡ after_call CallKind.Find self.old.planned }
+    {
+        match self.plans.next(CallKind::Find) {
+            Some(Outcome::Failed(_)) => {
+                self.bank_faults = self.bank_faults.saturating_add(1);
+                Err(BankError::Failed)
+            }
+            Some(Outcome::Refused) => Err(BankError::Memory),
+            None => match self.bank.find(self.alloc, table, key) {
+                Ok(row) => Ok(row),
+                Err(_) => Err(BankError::Memory),
             },
         }
     }

@@ -15,6 +15,8 @@ pub enum CallKind {
     Define,
     /// `apply_once`.
     ApplyOnce,
+    /// `find`.
+    Find,
     /// `len`.
     Len,
 }
@@ -57,6 +59,8 @@ pub struct CallCounts {
     pub define: u64,
     /// Of `apply_once`.
     pub apply_once: u64,
+    /// Of `find`.
+    pub find: u64,
     /// Of `len`.
     pub len: u64,
 }
@@ -70,6 +74,7 @@ impl CallCounts {
             CallKind::Schema => self.schema,
             CallKind::Define => self.define,
             CallKind::ApplyOnce => self.apply_once,
+            CallKind::Find => self.find,
             CallKind::Len => self.len,
         }
     }
@@ -82,6 +87,7 @@ impl CallCounts {
             CallKind::Schema => self.schema = self.schema.saturating_add(1),
             CallKind::Define => self.define = self.define.saturating_add(1),
             CallKind::ApplyOnce => self.apply_once = self.apply_once.saturating_add(1),
+            CallKind::Find => self.find = self.find.saturating_add(1),
             CallKind::Len => self.len = self.len.saturating_add(1),
         }
     }
@@ -113,6 +119,7 @@ impl Plans {
                 schema: 0,
                 define: 0,
                 apply_once: 0,
+                find: 0,
                 len: 0,
             },
         }

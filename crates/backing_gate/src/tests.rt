@@ -6,7 +6,7 @@ use row_types::{Column, Key, Row, Ty, Value};
 use std::alloc::{AllocError, Global};
 use std::process::Abort;
 use std::test::Fail;
-use table_state::{Entry, ForeignKey, Op, Sealed, TableDef};
+use table_state::{ApplyError, Entry, ForeignKey, Op, Sealed, TableDef};
 use tier_base::{Name, Seq, TableId, Ticket};
 
 fn name(alloc: Global, bytes: &[u8]) -> Result<Name, AllocError> {
@@ -300,5 +300,68 @@ fn the_row_that_differs_is_told(rt: HostRuntime) -> Result<(), Fail> {
     assert!(rt; is_inserted(alloc, &mut site, 3, 1, &[10, 1])?);
     expect_differences(&rt, alloc, &mut site)?;
     assert_eq!(rt; site.moments(), 5);
+    Ok(())
+}
+
+fn plan_questions(site: &mut MemorySite) -> Result<(), AllocError> {
+    site.fail(CallKind::Find, 0, When::Before)?;
+    site.refuse(CallKind::Find, 1)?;
+    site.fail(CallKind::Find, 2, When::After)
+}
+
+// The second number of the row at the key.
+fn number_at(site: &mut MemorySite, key: i64) -> Result<Option<i64>, BankError> {
+    let Some(row) = site.find(TableId(0), &Key::one(Value::Integer(key)))? else {
+        return Ok(None);
+    };
+    match row.values() {
+        [_, Value::Integer(number)] => Ok(Some(*number)),
+        _ => Ok(None),
+    }
+}
+
+#[test]
+fn a_row_is_found_at_its_key_or_the_question_fails(rt: HostRuntime) -> Result<(), Fail> {
+    let alloc = rt.alloc();
+    let mut site = MemorySite::new(alloc)?;
+    assert_eq!(rt; site.define(&table(alloc, &["k", "n"], None)?), Ok(()));
+    assert!(rt; is_inserted(alloc, &mut site, 1, 0, &[1, 10])?);
+    assert!(rt; is_inserted(alloc, &mut site, 2, 0, &[2, 20])?);
+    plan_questions(&mut site)?;
+    for (key, expected) in [
+        (1, Err(BankError::Failed)),
+        (1, Err(BankError::Memory)),
+        (1, Err(BankError::Failed)),
+        (1, Ok(Some(10))),
+        (2, Ok(Some(20))),
+        (3, Ok(None)),
+    ] {
+        assert_eq!(rt; number_at(&mut site, key), expected);
+    }
+    assert_eq!(rt; site.moments(), 3);
+    Ok(())
+}
+
+// Whether others can insert the number.
+fn is_foreign(alloc: Global, site: &mut MemorySite, number: i64) -> Result<bool, AllocError> {
+    let mut ops = Vec::new(alloc);
+    ops.push(inserted(alloc, 0, &[number])?)?;
+    match site.add_foreign(ops.as_slice()) {
+        Ok(()) => Ok(true),
+        Err(ApplyError::Memory) => Err(AllocError),
+        Err(_) => Ok(false),
+    }
+}
+
+#[test]
+fn a_transaction_of_others_comes_where_it_applies(rt: HostRuntime) -> Result<(), Fail> {
+    let alloc = rt.alloc();
+    let mut site = MemorySite::new(alloc)?;
+    assert_eq!(rt; site.define(&numbers(alloc)?), Ok(()));
+    assert!(rt; is_foreign(alloc, &mut site, 5)?);
+    assert!(rt; !is_foreign(alloc, &mut site, 5)?);
+    assert_eq!(rt; applied(alloc, &mut site, 1, 5, &[])?, ("other row", 0));
+    assert_eq!(rt; applied(alloc, &mut site, 1, 6, &[])?, ("now", 3));
+    assert_eq!(rt; tickets(alloc, &site)?.as_slice(), [0, u64::MAX, 1].as_slice());
     Ok(())
 }

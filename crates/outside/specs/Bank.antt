@@ -1,14 +1,17 @@
 -- What the calls of the backing database do to its history. (This project's model of the backing database.)
 
-use Rattle.std.specs.Prelude.{◌≡◌, ◌⊎◌, List, [], ◌∷◌, ◌++◌, true, false, Some, None, Result, Ok, Err}
+use Rattle.std.specs.Prelude.{◌≡◌, ◌⊎◌, List, [], ◌∷◌, ◌++◌, true, false, Option, Some, None, Result, Ok, Err}
 use Rattle.std.specs.Option.{IsSome}
 use Rattle.std.specs.List.{Contains}
+use Rattle.std.specs.FinMap.{get}
+use Rattle.row_types.specs.declared.value.Value.{Value}
+use Rattle.tier_base.specs.declared.number.TableId.{TableId}
 use Rattle.tier_base.specs.declared.number.Ticket.{Ticket}
 use Rattle.table_state.specs.declared.definition.TableDef.{TableDef}
 use Rattle.table_state.specs.declared.history.Entry.{Entry}
 use Rattle.table_state.specs.declared.history.Entry.TheVariants.{Definition}
 use Rattle.table_state.specs.declared.history.Sealed.{Sealed}
-use Rattle.table_state.specs.Tables.{TableState}
+use Rattle.table_state.specs.Tables.{TableState, table_at}
 use Rattle.table_state.specs.Histories.{state_of, has_ticket, entry_of, position_of}
 use Rattle.outside.specs.Differences.{IsFirstDifference}
 use Rattle.outside.specs.declared.fault.BankError.{BankError}
@@ -63,3 +66,8 @@ Defines def (Err Failed) old new = Grows [] old new ⊎ Grows (Definition def �
 abbrev pub TellsSchema : Result (List TableDef) BankError → List Entry → List Entry → Type 0
 TellsSchema (Ok schema) old new = Grows [] old new × ((s : TableState) → state_of new ≡ Some s → schema ≡ s.schema)
 TellsSchema (Err e) old new = Grows [] old new
+
+-- the row at the key in the table of the state that the history leaves
+abbrev pub TellsRow : TableId → List Value → Result (Option (List Value)) BankError → List Entry → List Entry → Type 0
+TellsRow table key (Ok row) old new = Grows [] old new × ((s : TableState) → state_of new ≡ Some s → row ≡ get (table_at s table) key)
+TellsRow table key (Err e) old new = Grows [] old new

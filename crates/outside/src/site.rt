@@ -1,6 +1,6 @@
 //! The backing database, with the journal's disk beside it.
 
-ghost use Rattle.outside.specs.Bank.{AppliesOnce, Defines, TellsSchema};
+ghost use Rattle.outside.specs.Bank.{AppliesOnce, Defines, TellsRow, TellsSchema};
 ghost use Rattle.outside.specs.Calls.{BankCall, GoesOn, MayApply, Told};
 ghost use Rattle.outside.specs.Faults.{BankHasCause};
 
@@ -61,5 +61,11 @@ pub trait Site: Disk {
     fn apply_once(&mut self, sealed: &Sealed, after: &[Ticket]) -> Result<Applied, BankError>
         ensures told { Told (Self.held self.old) (Self.held self.new) (BankCall (AppliesOnce sealed.now after.now result)) }
         ensures crash { GoesOn Self.moment Self.possible self.old self.new (MayApply (Self.held self.old) (AppliesOnce sealed.now after.now result)) }
+        ensures cause { BankHasCause (bank_faults self.old) (bank_faults self.new) result };
+
+    /// The row at the key of the table, none where there is none.
+    fn find(&mut self, table: TableId, key: &Key) -> Result<Option<Row>, BankError>
+        ensures told { Told (Self.held self.old) (Self.held self.new) (BankCall (TellsRow table key.now result)) }
+        ensures crash { GoesOn Self.moment Self.possible self.old self.new (MayApply (Self.held self.old) (TellsRow table key.now result)) }
         ensures cause { BankHasCause (bank_faults self.old) (bank_faults self.new) result };
 }

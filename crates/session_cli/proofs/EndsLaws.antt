@@ -1,16 +1,21 @@
 -- The pieces of the input, from the first to the last.
-use Rattle.std.proofs.Common.{◌≡◌, ap₂, ℕ, min, ◌+◌, ◌-◌, ◌≤◌, ◌<◌, List, [], ◌++◌, length, take, drop, Option, Some, None, refl, sym, ◌∙◌, ap, append-nil, append_assoc, inl, inr, arith, lit≤, take-append-drop}
+use Rattle.std.proofs.Common.{◌≡◌, ap₂, ℕ, min, ◌+◌, ◌-◌, ◌≤◌, ◌<◌, List, [], ◌++◌, length, take, drop, Option, Some, None, Result, Ok, Err, refl, sym, ◌∙◌, ap, append-nil, append_assoc, inl, inr, arith, lit≤, take-append-drop}
 use Rattle.std.specs.Io.KnownBytes.{Consumes, IsAtEnd, Keeps}
 use Rattle.std.proofs.lemmas.List.{length-append, length-take, length-drop}
-use Rattle.outside.specs.Holding.{Held}
+use Rattle.outside.specs.Holding.{Held, Slots}
 use Rattle.tier_engine.specs.Steps.{World}
 use Rattle.table_state.specs.declared.history.Entry.{Entry}
-use Rattle.tier_engine.specs.TierStates.{TierState, fresh}
+use Rattle.table_state.specs.declared.definition.TableDef.{TableDef}
+use Rattle.table_state.specs.Tables.{TableState}
+use Rattle.outside.specs.Calls.{BankCall, Told}
+use Rattle.outside.specs.declared.fault.BankError.{BankError}
+use Rattle.tier_engine.specs.TierStates.{TierState, opened}
 use Rattle.session_cli.specs.declared.session.Session.{Session}
-use Rattle.session_cli.specs.declared.serving.Status.TheVariants.{Finished, SourceFailed, SinkFailed, NoMemory, InputTooLong}
+use Rattle.session_cli.specs.declared.serving.Status.{Status}
+use Rattle.session_cli.specs.declared.serving.Status.TheVariants.{Finished, SourceFailed, SinkFailed, SchemaFailed, NoMemory, LineUnchecked, InputTooLong}
 use Rattle.session_cli.specs.Cutting.{ended_lines, all_lines}
-use Rattle.session_cli.specs.Serving.{Origin, Serving, Whole, CutShort, IsNew, begins}
-use Rattle.session_cli.specs.Ends.{Ended, Taken}
+use Rattle.session_cli.specs.Serving.{Origin, Serving, Whole, CutShort, HasNoTickets, IsNew, Opens, begins}
+use Rattle.session_cli.specs.Ends.{Ended, Gives, OpenedAndEnded, Serves, Taken, Untouched}
 use Rattle.session_cli.proofs.CuttingLaws.{front_short}
 use Rattle.session_cli.proofs.ServingLaws.{serving_whole}
 
@@ -34,50 +39,120 @@ world tier history faults moment = record { tier = tier; history = history; bank
 unfoldable pub taking_new : (input : List ℕ) (source : Option (List ℕ)) → source ≡ Some input → Taking input 4294967296 source
 taking_new input source is = record { given = []; left = input; tells = is; parts = refl; total = refl }
 
-pub serving_new : (session : Session) (start : List ℕ) (held : Held) (sink : Option (List ℕ)) (site : Option Held) (faults moment : ℕ) → IsNew session → sink ≡ Some start → site ≡ Some held → held.history ≡ []
-    → Serving (begins held.slots start faults moment) [] sink site faults moment session
-serving_new session start held sink site faults moment n is_sink is_site none = record {
+pub serving_new : (session : Session) (start : List ℕ) (held : Held) (schema : List TableDef) (sink : Option (List ℕ)) (site : Option Held) (faults moment : ℕ) → IsNew session held.history schema → sink ≡ Some start → site ≡ Some held
+    → Serving (begins held schema start faults moment) [] sink site faults moment session
+serving_new session start held schema sink site faults moment n is_sink is_site = record {
   log = [];
   held = held;
   replies = [];
   tells = is_site;
   slots = refl;
-  stands = rw none n.stands;
-  legal = rw none n.legal;
-  run = ap₂ (λ t h. world t h faults moment) (rw none n.tier) none;
+  stands = n.stands;
+  legal = n.legal;
+  run = ap (λ t. world t held.history faults moment) n.tier;
   line = n.line ∙ sym (front_short [] (lit≤ tt));
   passed = record { count = 0; written = rw is_sink (sym (append-nil start)); waits = n.output };
 }
 
-pub going_new : (session : Session) (input start : List ℕ) (held : Held) (source sink : Option (List ℕ)) (site : Option Held) (faults moment : ℕ) → IsNew session → source ≡ Some input → sink ≡ Some start → site ≡ Some held → held.history ≡ []
-    → Going (begins held.slots start faults moment) input 4294967296 source sink site faults moment session
+pub going_new : (session : Session) (input start : List ℕ) (held : Held) (schema : List TableDef) (source sink : Option (List ℕ)) (site : Option Held) (faults moment : ℕ) → IsNew session held.history schema → source ≡ Some input → sink ≡ Some start → site ≡ Some held
+    → Going (begins held schema start faults moment) input 4294967296 source sink site faults moment session
 unfolding taking_new
-going_new session input start held source sink site faults moment n is_source is_sink is_site none = record {
+going_new session input start held schema source sink site faults moment n is_source is_sink is_site = record {
   taking = taking_new input source is_source;
-  serving = serving_new session start held sink site faults moment n is_sink is_site none;
+  serving = serving_new session start held schema sink site faults moment n is_sink is_site;
 }
 
--- memory was wanting before the first request
-pub ended_unstarted : (input start : List ℕ) (held : Held) (source sink : Option (List ℕ)) (site : Option Held) (faults moment : ℕ) → source ≡ Some input → sink ≡ Some start → site ≡ Some held → held.history ≡ []
-    → Ended NoMemory (begins held.slots start faults moment) input source sink site faults moment
-ended_unstarted input start held source sink site faults moment is_source is_sink is_site none = record {
-  taken = record { given = []; left = input; tells = is_source; parts = refl; gives = refl };
-  outcome = record {
-    replies = [];
-    answered = record {
-      last = world fresh [] faults moment;
-      run = refl;
-      held = held;
-      tells = is_site;
-      slots = refl;
-      history = none;
-      counted = refl;
-      now = refl;
-      legal = λ conflict. record { once = tt; ops = tt; order = tt };
-    };
-    tells = is_sink ∙ ap (λ l. Some l) (sym (append-nil start));
+-- memory was wanting before the opening
+pub ended_unopened : (input start : List ℕ) (held : Held) (s : TableState) (source sink : Option (List ℕ)) (site : Option Held) (faults moment : ℕ) → source ≡ Some input → sink ≡ Some start → site ≡ Some held
+    → OpenedAndEnded NoMemory held s start input faults moment source sink site faults moment
+ended_unopened input start held s source sink site faults moment is_source is_sink is_site = record {
+  faults_then = faults;
+  moment_then = moment;
+  later = omega arith;
+  goes_on = omega arith;
+  ended = record {
+    taken = record { given = []; left = input; tells = is_source; parts = refl; gives = refl };
+    outcome = record { unwritten = is_sink; held = held; tells = is_site; slots = refl; history = refl };
   };
 }
+
+-- what the opening of a session leaves of the site and makes of the session
+pub record Opened (session : Session) (held : Held) (s : TableState) (site : Option Held) : Type 0 where
+  pub now : Held
+  pub tells : site ≡ Some now
+  pub slots : now.slots ≡ held.slots
+  pub history : now.history ≡ held.history
+  pub new : IsNew session now.history s.schema
+
+pub session_opened : (session : Session) (held : Held) (s : TableState) (before site : Option Held) → Told before site (BankCall (Opens (Ok session))) → before ≡ Some held → HasNoTickets held.history s → Opened session held s site
+session_opened session held s None site told is none = cc
+session_opened session held s (Some b) None told is none = absurd told
+session_opened session held s (Some b) (Some now) told is none =
+    let same : b ≡ held = cc in
+    let stays : now.history ≡ held.history = told.history.0 ∙ append-nil b.history ∙ ap (λ h. h.history) same in
+    record {
+      now = now;
+      tells = refl;
+      slots = told.slots ∙ ap (λ h. h.slots) same;
+      history = stays;
+      new = told.history.1 s (subst (λ (h : List Entry). HasNoTickets h s) (sym stays) none);
+    }
+
+-- the origin of a run is that of what the site held before the opening
+pub same_origin : (held now : Held) (schema : List TableDef) (start : List ℕ) (faults moment : ℕ) → now.slots ≡ held.slots → now.history ≡ held.history → begins now schema start faults moment ≡ begins held schema start faults moment
+same_origin held now schema start faults moment slots history = ap₂ (λ (a : Slots) (h : List Entry). begins (record { slots = a; history = h }) schema start faults moment) slots history
+
+-- after the opening the lines are served
+pub ended_opened : (session : Session) (status : Status) (held : Held) (s : TableState) (start input : List ℕ) (faults faults_then moment moment_then : ℕ) (before mid : Option Held) (source sink source' sink' : Option (List ℕ)) (site : Option Held) (faults' moment' : ℕ)
+    → Told before mid (BankCall (Opens (Ok session))) → faults ≤ faults_then → moment ≤ moment_then → Serves session status source sink mid faults_then moment_then source' sink' site faults' moment'
+    → source ≡ Some input → sink ≡ Some start → before ≡ Some held → HasNoTickets held.history s → OpenedAndEnded status held s start input faults moment source' sink' site faults' moment'
+ended_opened session status held s start input faults faults_then moment moment_then before mid source sink source' sink' site faults' moment' told later goes_on serves is_source is_sink is_site none =
+    let o = session_opened session held s before mid told is_site none in
+    record {
+      faults_then = faults_then;
+      moment_then = moment_then;
+      later = later;
+      goes_on = goes_on;
+      ended = subst (λ (x : Origin). Ended status x input source' sink' site faults' moment') (same_origin held o.now s.schema start faults_then moment_then o.slots o.history)
+          (serves input start o.now s.schema is_source is_sink o.tells o.new);
+    }
+
+-- the opening gave no session
+pub ended_refused : (status : Status) (e : BankError) (held : Held) (s : TableState) (start input : List ℕ) (faults faults' moment moment' : ℕ) (before site : Option Held) (source sink : Option (List ℕ))
+    → (status ≡ SchemaFailed) ⊎ (status ≡ NoMemory) → Told before site (BankCall (Opens (Err e))) → faults ≤ faults' → moment ≤ moment'
+    → source ≡ Some input → sink ≡ Some start → before ≡ Some held → OpenedAndEnded status held s start input faults moment source sink site faults' moment'
+ended_refused status e held s start input faults faults' moment moment' None site source sink is told later goes_on is_source is_sink is_site = cc
+ended_refused status e held s start input faults faults' moment moment' (Some b) None source sink is told later goes_on is_source is_sink is_site = absurd told
+ended_refused status e held s start input faults faults' moment moment' (Some b) (Some now) source sink is told later goes_on is_source is_sink is_site =
+    let same : b ≡ held = cc in
+    let alone : Untouched (begins held s.schema start faults' moment') sink (Some now) = record {
+      unwritten = is_sink;
+      held = now;
+      tells = refl;
+      slots = told.slots ∙ ap (λ h. h.slots) same;
+      history = told.history ∙ append-nil b.history ∙ ap (λ h. h.history) same;
+    } in
+    record {
+      faults_then = faults';
+      moment_then = moment';
+      later = later;
+      goes_on = goes_on;
+      ended = by status is alone;
+    }
+  where
+    by : (status : Status) → (status ≡ SchemaFailed) ⊎ (status ≡ NoMemory) → Untouched (begins held s.schema start faults' moment') sink (Some now) → Ended status (begins held s.schema start faults' moment') input source sink (Some now) faults' moment'
+    by SchemaFailed is alone = record { taken = record { given = []; left = input; tells = is_source; parts = refl; gives = refl }; outcome = alone }
+    by NoMemory is alone = record { taken = record { given = []; left = input; tells = is_source; parts = refl; gives = refl }; outcome = alone }
+    by Finished (inl e) alone = cc
+    by Finished (inr e) alone = cc
+    by SourceFailed (inl e) alone = cc
+    by SourceFailed (inr e) alone = cc
+    by SinkFailed (inl e) alone = cc
+    by SinkFailed (inr e) alone = cc
+    by LineUnchecked (inl e) alone = cc
+    by LineUnchecked (inr e) alone = cc
+    by InputTooLong (inl e) alone = cc
+    by InputTooLong (inr e) alone = cc
 
 pub kept_told : (a b : Option (List ℕ)) (x : List ℕ) → a ≡ Some x → Keeps a b → b ≡ Some x
 kept_told None b x is k = cc
@@ -224,3 +299,20 @@ keeps_length buf piece want len = omega (arith, length-append buf (drop want pie
 -- nothing was taken
 pub taken_unstarted : (input : List ℕ) (source : Option (List ℕ)) → source ≡ Some input → Taken NoMemory input source
 taken_unstarted input source is = record { given = []; left = input; tells = is; parts = refl; gives = refl }
+
+pub taken_unopened : (input : List ℕ) (source : Option (List ℕ)) (status : Status) → (status ≡ SchemaFailed) ⊎ (status ≡ NoMemory) → source ≡ Some input → Taken status input source
+taken_unopened input source status which is = record { given = []; left = input; tells = is; parts = refl; gives = by status which }
+  where
+    by : (status : Status) → (status ≡ SchemaFailed) ⊎ (status ≡ NoMemory) → Gives status [] input
+    by SchemaFailed which = refl
+    by NoMemory which = refl
+    by Finished (inl e) = cc
+    by Finished (inr e) = cc
+    by SourceFailed (inl e) = cc
+    by SourceFailed (inr e) = cc
+    by SinkFailed (inl e) = cc
+    by SinkFailed (inr e) = cc
+    by LineUnchecked (inl e) = cc
+    by LineUnchecked (inr e) = cc
+    by InputTooLong (inl e) = cc
+    by InputTooLong (inr e) = cc

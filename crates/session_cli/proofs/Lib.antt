@@ -1,4 +1,5 @@
 pub mod CuttingLaws
+pub mod OpeningLaws
 pub mod OutputLaws
 pub mod FlatMaps
 pub mod ServingLaws

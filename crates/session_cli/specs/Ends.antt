@@ -1,14 +1,17 @@
 -- What a run of the program means.
 
 use Rattle.std.specs.Prelude.{◌≡◌, ℕ, ◌^◌, ◌<◌, ◌≤◌, ◌⊎◌, List, [], ◌++◌, Option, Some, length}
+use Rattle.table_state.specs.declared.definition.TableDef.{TableDef}
+use Rattle.table_state.specs.Tables.{TableState}
 use Rattle.outside.specs.Holding.{Held}
 use Rattle.command_line.specs.declared.command.Command.{Command}
 use Rattle.command_line.specs.Keys.{AreBad}
 use Rattle.command_line.specs.Words.{Asks, Refuses}
 use Rattle.session_cli.specs.declared.serving.Status.{Status}
-use Rattle.session_cli.specs.declared.serving.Status.TheVariants.{Finished, SourceFailed, SinkFailed, NoMemory, LineUnchecked, InputTooLong}
+use Rattle.session_cli.specs.declared.session.Session.{Session}
+use Rattle.session_cli.specs.declared.serving.Status.TheVariants.{Finished, SourceFailed, SinkFailed, SchemaFailed, NoMemory, LineUnchecked, InputTooLong}
 use Rattle.session_cli.specs.Cutting.{ended_lines, all_lines}
-use Rattle.session_cli.specs.Serving.{Origin, Whole, CutShort, begins}
+use Rattle.session_cli.specs.Serving.{Origin, Whole, CutShort, HasNoTickets, IsNew, begins}
 
 -- at most this many bytes are taken without an end
 abbrev pub input_limit : ℕ
@@ -21,12 +24,22 @@ pub record Stops (o : Origin) (given : List ℕ) (sink : Option (List ℕ)) (sit
   pub parts : given ≡ front ++ behind
   pub answered : CutShort o (ended_lines front) sink site faults moment ⊎ CutShort o (all_lines front) sink site faults moment
 
+-- No line is answered: nothing is written, and the site holds what it held. Only its count of faults and its moment may
+-- have risen.
+pub record Untouched (o : Origin) (sink : Option (List ℕ)) (site : Option Held) : Type 0 where
+  pub unwritten : sink ≡ Some o.written
+  pub held : Held
+  pub tells : site ≡ Some held
+  pub slots : held.slots ≡ o.slots
+  pub history : held.history ≡ o.world.history
+
 -- what a run takes of its input, by how it ended: these bytes were given, and those are left
 abbrev pub Gives : Status → List ℕ → List ℕ → Type 0
 Gives Finished given left = (left ≡ []) × (length given < input_limit)
 Gives SourceFailed given left = length given < input_limit
 Gives InputTooLong given left = length given ≡ input_limit
 Gives SinkFailed given left = length given ≤ input_limit
+Gives SchemaFailed given left = given ≡ []
 Gives NoMemory given left = given ≡ []
 Gives LineUnchecked given left = length given ≤ input_limit
 
@@ -54,19 +67,35 @@ Outcome SinkFailed o given sink site faults moment = Stops o given sink site fau
 -- a run that answers lines doesn't end so
 Outcome LineUnchecked o given sink site faults moment = ⊥
 -- no line is answered
-Outcome NoMemory o given sink site faults moment = Whole o [] sink site faults moment
+Outcome SchemaFailed o given sink site faults moment = Untouched o sink site
+Outcome NoMemory o given sink site faults moment = Untouched o sink site
 
 -- The source gave a front of its bytes, and so the run ended.
 pub record Ended (status : Status) (o : Origin) (input : List ℕ) (source sink : Option (List ℕ)) (site : Option Held) (faults moment : ℕ) : Type 0 where
   pub taken : Taken status input source
   pub outcome : Outcome status o taken.given sink site faults moment
 
--- Where source, sink and site tell what they hold, and the site's history has no entries, they tell it afterwards too,
+-- Where source, sink and site tell what they hold, and the session is new over the site's history, they tell it afterwards
+-- too, and this is what the run did.
+abbrev pub Serves : Session → Status → Option (List ℕ) → Option (List ℕ) → Option Held → ℕ → ℕ → Option (List ℕ) → Option (List ℕ) → Option Held → ℕ → ℕ → Type 0
+Serves session status source sink site faults moment source' sink' site' faults' moment' =
+    (input start : List ℕ) (held : Held) (schema : List TableDef) → source ≡ Some input → sink ≡ Some start → site ≡ Some held → IsNew session held.history schema →
+    Ended status (begins held schema start faults moment) input source' sink' site' faults' moment'
+
+-- Before the first line the tier is opened, which may raise the site's count of faults and its moment. Then the run ends.
+pub record OpenedAndEnded (status : Status) (held : Held) (s : TableState) (start input : List ℕ) (faults moment : ℕ) (source sink : Option (List ℕ)) (site : Option Held) (faults' moment' : ℕ) : Type 0 where
+  pub faults_then : ℕ
+  pub moment_then : ℕ
+  pub later : faults ≤ faults_then
+  pub goes_on : moment ≤ moment_then
+  pub ended : Ended status (begins held s.schema start faults_then moment_then) input source sink site faults' moment'
+
+-- Where source, sink and site tell what they hold, and no tickets stand in the site's history, they tell it afterwards too,
 -- and this is what the run did.
 abbrev pub Runs : Status → Option (List ℕ) → Option (List ℕ) → Option Held → ℕ → ℕ → Option (List ℕ) → Option (List ℕ) → Option Held → ℕ → ℕ → Type 0
 Runs status source sink site faults moment source' sink' site' faults' moment' =
-    (input start : List ℕ) (held : Held) → source ≡ Some input → sink ≡ Some start → site ≡ Some held → held.history ≡ [] →
-    Ended status (begins held.slots start faults moment) input source' sink' site' faults' moment'
+    (input start : List ℕ) (held : Held) (s : TableState) → source ≡ Some input → sink ≡ Some start → site ≡ Some held → HasNoTickets held.history s →
+    OpenedAndEnded status held s start input faults moment source' sink' site' faults' moment'
 
 -- Why a run doesn't begin: `clap` refuses the words, or it takes them and the settings are bad, or memory was wanting.
 abbrev pub Unstarted : List (List ℕ) → List ℕ → ℕ → Type 0
@@ -77,6 +106,7 @@ abbrev pub number_of : Status → ℕ
 number_of Finished = 0
 number_of SourceFailed = 3
 number_of SinkFailed = 4
+number_of SchemaFailed = 6
 number_of NoMemory = 7
 number_of LineUnchecked = 7
 number_of InputTooLong = 10

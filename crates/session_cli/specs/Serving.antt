@@ -1,16 +1,21 @@
 -- A run in the middle and at its end.
 
 use Rattle.std.specs.Prelude.{◌≡◌, ℕ, Bool, List, [], ◌++◌, Option, Some, Result, Ok, Err, take}
+use Rattle.table_state.specs.declared.definition.TableDef.{TableDef}
 use Rattle.table_state.specs.declared.history.Entry.{Entry}
 use Rattle.table_state.specs.declared.history.Sealed.{Sealed}
+use Rattle.table_state.specs.Histories.{state_of}
+use Rattle.table_state.specs.Tables.{TableState}
+use Rattle.outside.specs.Bank.{Grows}
 use Rattle.outside.specs.Holding.{Held, Slots}
+use Rattle.outside.specs.declared.fault.BankError.{BankError}
 use Rattle.tier_engine.specs.declared.tier.Tier.{Tier}
 use Rattle.tier_engine.specs.declared.reply.Reply.{Reply}
 use Rattle.tier_engine.specs.Replying.{reply_bytes, replies_bytes}
 use Rattle.tier_engine.specs.Standing.{StandsFor, Serves, tier_state, world_of}
-use Rattle.tier_engine.specs.Commits.{IsLegal}
+use Rattle.tier_engine.specs.Commits.{IsLegal, own_entries}
 use Rattle.tier_engine.specs.Steps.{World, Run}
-use Rattle.tier_engine.specs.TierStates.{fresh}
+use Rattle.tier_engine.specs.TierStates.{opened}
 use Rattle.session_cli.specs.declared.session.Session.{Session}
 use Rattle.session_cli.specs.Cutting.{cut, front_of, ended_lines, all_lines}
 use Rattle.session_cli.specs.Output.{Splits, Passes}
@@ -21,11 +26,16 @@ pub record Origin : Type 0 where
   pub slots : Slots
   pub written : List ℕ
 
--- the run of a fresh tier over a site whose history has no entries
-abbrev pub begins : Slots → List ℕ → ℕ → ℕ → Origin
-begins slots written faults moment = record {
-  world = record { tier = fresh; history = []; bank_faults = faults; moment = moment };
-  slots = slots;
+-- The history leaves this state, and no transaction of a tier stands in it: definitions and transactions of others may.
+pub record HasNoTickets (history : List Entry) (s : TableState) : Type 0 where
+  pub leaves : state_of history ≡ Some s
+  pub none : own_entries history ≡ []
+
+-- the run of a tier that was opened over a site that holds this, whose tables have this schema
+abbrev pub begins : Held → List TableDef → List ℕ → ℕ → ℕ → Origin
+begins held schema written faults moment = record {
+  world = record { tier = opened schema; history = held.history; bank_faults = faults; moment = moment };
+  slots = held.slots;
   written = written;
 }
 
@@ -100,10 +110,15 @@ abbrev pub Finishes : {E : Type 0} → Result (Unit {0}) E → Origin → List �
 Finishes (Ok done) o given sink site faults moment = Whole o (all_lines given) sink site faults moment
 Finishes (Err e) o given sink site faults moment = CutShort o (all_lines given) sink site faults moment
 
--- A session that has been given nothing, over a fresh tier.
-pub record IsNew (session : Session) : Type 0 where
-  pub stands : StandsFor session.tier [] []
-  pub legal : AreLegal [] []
-  pub tier : tier_state session.tier [] [] ≡ fresh
+-- A session that has been given nothing, over a tier that was opened over this history, whose tables have this schema.
+pub record IsNew (session : Session) (history : List Entry) (schema : List TableDef) : Type 0 where
+  pub stands : StandsFor session.tier [] history
+  pub legal : AreLegal history []
+  pub tier : tier_state session.tier [] ≡ opened schema
   pub line : session.line ≡ []
   pub output : session.output ≡ []
+
+-- A session was opened: the history stays, and over one without tickets it is new.
+abbrev pub Opens : Result Session BankError → List Entry → List Entry → Type 0
+Opens (Ok session) old new = Grows [] old new × ((s : TableState) → HasNoTickets new s → IsNew session new s.schema)
+Opens (Err e) old new = Grows [] old new

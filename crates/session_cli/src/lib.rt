@@ -24,6 +24,4 @@ pub use session::Session;
 pub use values::{write_key, write_number};
 
 #[cfg(test)]
-mod first_run;
-#[cfg(test)]
 mod tests;

@@ -36,13 +36,15 @@ const NO_MEMORY: u8 = 7;
 ///   table, or a key isn't known, or a value is of the wrong type or out of its range. Nothing else is looked at.
 /// - 3: the source failed in this call. All lines that ended before are answered.
 /// - 4: the sink failed in this call, or took nothing of something. A front of the replies is written.
-/// - 7: want of memory before the first request, the words' and the settings' included; nothing is then touched. In
-///   `check` also want of memory for a line. A front of the replies is then written.
+/// - 6: in `run`, the site failed in this call as the tier asked it for its schema at the opening. No line is answered,
+///   and neither source nor sink is touched.
+/// - 7: want of memory before the first request, the words', the settings' and the opening's included; neither source nor
+///   sink is then touched. In `check` also want of memory for a line. A front of the replies is then written.
 /// - 10: exactly where 2^32 bytes were taken from the source without an end, and the sink took all replies. All lines
 ///   that ended in them are answered.
 ///
-/// `run` lets a tier answer each line, and `check` says of each line whether it is spelt right. For now no setting
-/// acts, and the clock isn't asked. `check` doesn't call the site.
+/// `run` opens a tier over the site and lets it answer each line, and `check` says of each line whether it is spelt right.
+/// For now no setting acts, and the clock isn't asked. `check` doesn't call the site.
 pub fn top<'a, S: Source, K: Sink, P: Site, C: Clock>(
     alloc: Global,
     words: &'a [&'a str],
@@ -65,6 +67,8 @@ pub fn top<'a, S: Source, K: Sink, P: Site, C: Clock>(
     ensures takes { (task : Task) → Asks (texts words.entry.now) task → (s : Settings) → IsSetBy settings.now s → ((status : Status) × (result ≡ number_of status) × Takes status (S.left source.old) (S.left source.new)) }
     ensures read { result ≡ 3 → Rose (S.faults source.old) (S.faults source.new) }
     ensures write { result ≡ 4 → Rose (K.faults sink.old) (K.faults sink.new) }
+    ensures unopened { result ≡ 6 → (source.new ≡ source.old) × (sink.new ≡ sink.old) }
+    ensures schema { result ≡ 6 → Rose (P.bank_faults site.old) (P.bank_faults site.new) }
     // In the run that the clause `runs` speaks of, each fault of the bank that is told has a failed call of its own.
     ensures caused { (w w' : World) (lines : List (List ℕ)) (replies : List (Option Reply)) → Run w lines replies w' → AreCaused w replies w' }
     // What `check` replies is a function of the lines.

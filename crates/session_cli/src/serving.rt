@@ -1,12 +1,11 @@
 //! A run over a whole input.
 
-ghost use Rattle.std.specs.Prelude.{◌≡◌, ◌<◌, length};
+ghost use Rattle.std.specs.Prelude.{◌≡◌, ◌<◌, ◌⊎◌, [], length};
 ghost use Rattle.outside.specs.Faults.{Rose};
-ghost use Rattle.session_cli.specs.Ends.{Runs, Takes};
-ghost use Rattle.session_cli.specs.Serving.{IsNew};
+ghost use Rattle.session_cli.specs.Ends.{Runs, Serves, Takes};
 
 use crate::session::Session;
-use outside::{Sink, Site, Source};
+use outside::{BankError, Sink, Site, Source};
 use std::alloc::Global;
 
 /// At most so many bytes are taken without an end.
@@ -24,6 +23,8 @@ pub enum Status {
     SourceFailed,
     /// The sink failed, or took nothing of something.
     SinkFailed,
+    /// The backing database failed at the opening, where it was asked for its schema.
+    SchemaFailed,
     /// Memory was wanting before the first request.
     NoMemory,
     /// Memory was wanting while a line was checked.
@@ -44,6 +45,7 @@ impl Status {
             Status::Finished => 0,
             Status::SourceFailed => 3,
             Status::SinkFailed => 4,
+            Status::SchemaFailed => 6,
             Status::NoMemory => 7,
             Status::LineUnchecked => 7,
             Status::InputTooLong => 10,
@@ -51,10 +53,10 @@ impl Status {
     }
 }
 
-/// Lets a fresh tier answer each request line of the source, and writes the replies into the sink.
+/// Opens a tier over the site, lets it answer each request line of the source, and writes the replies into the sink.
 ///
-/// One pass over the input, in pieces. All memory of its own is taken before the first request. Replies are written
-/// before more of the input is asked for.
+/// One pass over the input, in pieces. All memory of its own is taken before the tier is opened, which asks the site for
+/// its schema. Replies are written before more of the input is asked for.
 pub fn serve<S: Source, K: Sink, P: Site>(
     alloc: Global,
     source: &mut S,
@@ -65,24 +67,23 @@ pub fn serve<S: Source, K: Sink, P: Site>(
     ensures takes { Takes result (S.left source.old) (S.left source.new) }
     ensures read { result ≡ Status.SourceFailed → Rose (S.faults source.old) (S.faults source.new) }
     ensures write { result ≡ Status.SinkFailed → Rose (K.faults sink.old) (K.faults sink.new) }
+    ensures unopened { (result ≡ Status.SchemaFailed) ⊎ (result ≡ Status.NoMemory) → (source.new ≡ source.old) × (sink.new ≡ sink.old) }
+    ensures schema { result ≡ Status.SchemaFailed → Rose (P.bank_faults site.old) (P.bank_faults site.new) }
 {
-    let Ok(mut session) = Session::new(alloc) else {
-        return Status::NoMemory;
-    };
     let Ok(mut piece) = vec![in alloc; 0u8; PIECE_BYTES] else {
         return Status::NoMemory;
     };
-    serve_pieces(
-        alloc,
-        &mut session,
-        piece.as_mut_slice(),
-        source,
-        sink,
-        site,
-    )
+    match Session::open(alloc, site) {
+        Ok(mut session) => {
+            let piece = piece.as_mut_slice();
+            serve_pieces(alloc, &mut session, piece, source, sink, site)
+        }
+        Err(BankError::Failed) => Status::SchemaFailed,
+        Err(BankError::Memory) => Status::NoMemory,
+    }
 }
 
-// The same with a new session and a buffer for pieces.
+// The same with a new session, which has been given nothing, and a buffer for pieces.
 fn serve_pieces<S: Source, K: Sink, P: Site>(
     alloc: Global,
     session: &mut Session,
@@ -91,12 +92,13 @@ fn serve_pieces<S: Source, K: Sink, P: Site>(
     sink: &mut K,
     site: &mut P,
 ) -> Status
-    requires new { IsNew session.old }
+    requires empty { session.old.output ≡ [] }
     requires room { 0 < length piece.old }
-    ensures runs { Runs result (S.left source.old) (K.written sink.old) (P.Disk.held site.old) (P.bank_faults site.old) (P.Disk.moment site.old) (S.left source.new) (K.written sink.new) (P.Disk.held site.new) (P.bank_faults site.new) (P.Disk.moment site.new) }
+    ensures serves { Serves session.old result (S.left source.old) (K.written sink.old) (P.Disk.held site.old) (P.bank_faults site.old) (P.Disk.moment site.old) (S.left source.new) (K.written sink.new) (P.Disk.held site.new) (P.bank_faults site.new) (P.Disk.moment site.new) }
     ensures takes { Takes result (S.left source.old) (S.left source.new) }
     ensures read { result ≡ Status.SourceFailed → Rose (S.faults source.old) (S.faults source.new) }
     ensures write { result ≡ Status.SinkFailed → Rose (K.faults sink.old) (K.faults sink.new) }
+    ensures opened { (result ≡ Status.SchemaFailed) ⊎ (result ≡ Status.NoMemory) → ⊥ }
 {
     let mut room = INPUT_BYTES;
     while room > 0 {

@@ -3,8 +3,8 @@
 use crate::answering::respond;
 use crate::line::LineBuffer;
 use crate::output::Output;
-use outside::{Failed, Sink, Site};
-use std::alloc::{AllocError, Global};
+use outside::{BankError, Failed, Sink, Site};
+use std::alloc::Global;
 use tier_engine::{Tier, legal_law};
 
 /// What is kept between the pieces of the input.
@@ -20,19 +20,31 @@ pub struct Session {
 
 impl Session {
     ghost use Rattle.std.specs.Prelude.{◌≡◌, ◌∷◌, [], List, ℕ, OnOk, IfOk};
-    ghost use Rattle.outside.specs.Faults.{HasCause};
-    ghost use Rattle.session_cli.specs.Serving.{Closes, Feeds, Finishes, IsNew, Origin, Serving};
+    ghost use Rattle.std.specs.Prelude.{◌≤◌};
+    ghost use Rattle.outside.specs.Calls.{BankCall, Told};
+    ghost use Rattle.outside.specs.Faults.{BankHasCause, HasCause};
+    ghost use Rattle.session_cli.specs.Serving.{Closes, Feeds, Finishes, Opens, Origin, Serving};
 
-    /// A session over a backing database without entries. All memory of its buffers is taken here.
-    pub fn new(alloc: Global) -> Result<Session, AllocError>
-        ensures { IfOk result IsNew }
+    /// A session over a tier that is opened over the site. All memory of its buffers is taken before.
+    ///
+    /// `Failed` only where the site failed as it was asked for its schema.
+    pub fn open<P: Site>(alloc: Global, site: &mut P) -> Result<Session, BankError>
+        ensures told { Told (P.Disk.held site.old) (P.Disk.held site.new) (BankCall (Opens result)) }
+        ensures empty { IfOk result (λ session. session.output ≡ []) }
+        ensures cause { BankHasCause (P.bank_faults site.old) (P.bank_faults site.new) result }
+        ensures moment { P.Disk.moment site.old ≤ P.Disk.moment site.new }
     {
         legal_law();
-        Ok(Session {
-            tier: Tier::new(alloc),
-            line: LineBuffer::new(alloc)?,
-            output: Output::new(alloc)?,
-        })
+        let Ok(line) = LineBuffer::new(alloc) else {
+            return Err(BankError::Memory);
+        };
+        let Ok(output) = Output::new(alloc) else {
+            return Err(BankError::Memory);
+        };
+        match Tier::open(alloc, site) {
+            Ok(tier) => Ok(Session { tier, line, output }),
+            Err(error) => Err(error),
+        }
     }
 
     /// Takes in a piece of the input: the lines that end in it are answered, and their replies written.

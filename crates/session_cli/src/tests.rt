@@ -268,7 +268,7 @@ fn a_line_is_too_long_with_65_537_bytes(rt: HostRuntime) -> Result<(), Fail> {
             given: size,
             ..WHOLE
         };
-        expect_run(&rt, rt.alloc(), past.as_slice(), &streams, 0, b"no 101 0\n")?;
+        expect_run(&rt, rt.alloc(), past.as_slice(), &streams, 0, b"no 119 line\n")?;
     }
     Ok(())
 }
@@ -285,7 +285,7 @@ fn the_end_of_the_input_ends_a_line_and_a_fault_of_the_source_does_not(
         input.as_slice(),
         &WHOLE,
         0,
-        b"no 101 0\nno 101 0\n",
+        b"no 119 line\nno 119 line\n",
     )?;
 
     // The fourth call fails, behind all bytes and before the end is told.
@@ -299,7 +299,7 @@ fn the_end_of_the_input_ends_a_line_and_a_fault_of_the_source_does_not(
         input.as_slice(),
         &streams,
         3,
-        b"no 101 0\n",
+        b"no 119 line\n",
     )?;
     Ok(())
 }
@@ -318,7 +318,7 @@ fn a_sink_may_take_one_byte_at_a_time_or_fail(rt: HostRuntime) -> Result<(), Fai
         input.as_slice(),
         &slow,
         0,
-        b"no 101 0\nno 101 0\n",
+        b"no 119 line\nno 119 line\n",
     )?;
 
     // The twelfth byte doesn't get through.
@@ -333,7 +333,7 @@ fn a_sink_may_take_one_byte_at_a_time_or_fail(rt: HostRuntime) -> Result<(), Fai
         input.as_slice(),
         &broken,
         4,
-        b"no 101 0\nno",
+        b"no 119 line",
     )?;
 
     let full = Streams {

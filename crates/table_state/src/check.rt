@@ -147,6 +147,22 @@ fn resolved_column(
     }
 }
 
+/// Refuses a column of a type that there isn't: 105 of a VARCHAR2 whose number isn't from 1 to 4000.
+pub fn refuse_types(columns: &[ColumnDeclaration]) -> Result<(), Refused>
+    ensures { Tells result (type_fault columns.now) }
+{
+    match columns.split_first() {
+        None => Ok(()),
+        Some((column, columns)) => match type_of(&column.ty) {
+            Some(_) => refuse_types(columns),
+            None => Err(Refused::Rule(Rule {
+                code: Code::OutOfRange,
+                detail: Detail::NoType,
+            })),
+        },
+    }
+}
+
 // Whether the column is declared so, or is one of a key.
 fn refuses_null(declaration: &TableDeclaration, column: &ColumnDeclaration) -> bool
     ensures { result ≡ refuses_null declaration.now column.now }
@@ -157,8 +173,9 @@ fn refuses_null(declaration: &TableDeclaration, column: &ColumnDeclaration) -> b
         || is_listed(foreign_names(declaration), &column.name)
 }
 
-// The places of the primary key's columns.
-fn key_places(alloc: Global, declaration: &TableDeclaration) -> Result<Seq<usize>, AllocError>
+/// The places of the primary key's columns: the clause's, or else that of the column with PRIMARY KEY behind it. It fails for
+/// want of memory alone.
+pub fn key_places(alloc: Global, declaration: &TableDeclaration) -> Result<Seq<usize>, AllocError>
     ensures { IfOk result (λ places. places ≡ key_places declaration.now) }
 {
     let columns = declaration.columns.as_slice();

@@ -47,7 +47,7 @@ pub(crate) fn missing_parent<'a>(
 }
 
 /// The first name that is no column's where it has to be, or stands twice, in the order of the text.
-pub(crate) fn wrong_name(declaration: &TableDeclaration) -> Option<&Name>
+pub fn wrong_name(declaration: &TableDeclaration) -> Option<&Name>
     ensures { option_copied result ≡ wrong_name declaration.now }
 {
     let columns = declaration.columns.as_slice();
@@ -102,7 +102,7 @@ pub(crate) fn taken_name<'a>(schema: &BackingSchema, name: &'a Name) -> Option<&
 }
 
 /// Whether there is exactly one primary key.
-pub(crate) fn has_one_key(declaration: &TableDeclaration) -> bool
+pub fn has_one_key(declaration: &TableDeclaration) -> bool
     ensures { result ≡ (key_count declaration.now == 1) }
 {
     let own = own_keys(declaration.columns.as_slice());

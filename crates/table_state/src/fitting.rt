@@ -22,7 +22,14 @@ pub(crate) fn broken(code: Code, detail: Detail) -> ApplyError
     ApplyError::Rule(Rule { code, detail })
 }
 
-/// Refuses a row that doesn't fit the columns.
+/// Refuses a row that doesn't fit the columns: 104 of another number of values, 105 of the first column that can't hold
+/// its value, 106 of the first that refuses NULL.
+pub fn check_row(alloc: Global, columns: &[Column], row: &Row) -> Result<(), ApplyError>
+    ensures { Judges result (misfit columns.now row.now) }
+{
+    check_fit(alloc, columns, row)
+}
+
 pub(crate) fn check_fit(alloc: Global, columns: &[Column], row: &Row) -> Result<(), ApplyError>
     ensures { Judges result (misfit columns.now row.now) }
 {

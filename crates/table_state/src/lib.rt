@@ -20,13 +20,17 @@ mod transaction;
 mod types;
 
 pub use copy::copied_schema;
+pub use check::{key_places, refuse_types};
 pub use definition::{BackingSchema, ForeignKey, TableDef};
 pub use footprint::{Footprint, RowKey, conflicts};
+pub use faults::{has_one_key, wrong_name};
+pub use fitting::check_row;
 pub use history::{Entry, History, Sealed};
 pub use lookup::{find_table, key_at, key_of_row};
 pub use operation::{Op, Ops, copied_ops, same_ops};
 pub use refusal::ApplyError;
 pub use tables::Tables;
+pub use types::has_type;
 
 #[cfg(test)]
 mod tests;

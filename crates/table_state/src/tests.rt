@@ -1,11 +1,12 @@
 // Declared tables, and operations on a parent and a child table.
 
 use crate::{
-    ApplyError, Entry, Footprint, Op, Ops, Sealed, TableDef, Tables, conflicts, copied_ops,
-    copied_schema, find_table, key_at, key_of_row, same_ops,
+    ApplyError, Entry, Footprint, Op, Ops, Sealed, TableDef, Tables, check_row, conflicts,
+    copied_ops, copied_schema, find_table, has_one_key, has_type, key_at, key_of_row, key_places,
+    refuse_types, same_ops, wrong_name,
 };
 use row_types::{
-    ColumnDeclaration, ForeignKeyDeclaration, Refused, Row, TableDeclaration, Text,
+    ColumnDeclaration, ForeignKeyDeclaration, Refused, Row, TableDeclaration, Text, Ty,
     TypeDeclaration, Value,
 };
 use std::alloc::{AllocError, Global};
@@ -226,6 +227,42 @@ fn a_declaration_tells_the_first_rule_that_it_breaks(rt: HostRuntime) -> Result<
         checked(alloc, &two_keys(alloc)?, &tables),
     ];
     assert_eq!(rt; numbers, [113, 0, 103, 104, 104]);
+    Ok(())
+}
+
+#[test]
+fn the_parts_of_a_declaration_are_judged_alone(rt: HostRuntime) -> Result<(), Fail> {
+    let alloc = rt.alloc();
+    let declaration = parent(alloc, b"20")?;
+    let columns = declaration.columns.as_slice();
+    assert!(rt; wrong_name(&declaration).is_none());
+    assert!(rt; has_one_key(&declaration));
+    assert_eq!(rt; key_places(alloc, &declaration)?.as_slice(), [0].as_slice());
+    assert!(rt; has_type(columns.first(), Ty::TtInteger));
+    assert!(rt; !has_type(columns.get(1), Ty::Varchar2(21)));
+    assert!(rt; refuse_types(columns).is_ok());
+    let other = parent(alloc, b"4001")?;
+    assert!(rt; refuse_types(other.columns.as_slice()).is_err());
+    Ok(())
+}
+
+#[test]
+fn a_row_is_judged_alone(rt: HostRuntime) -> Result<(), Fail> {
+    let alloc = rt.alloc();
+    let tables = family(alloc)?;
+    let Some(def) = tables.schema().get(1) else {
+        return Err(Fail::from(AllocError));
+    };
+    let columns = def.columns.as_slice();
+    for (id, owner, expected) in [
+        (1, Some(2), 0),
+        (1, None, 106),
+        (2_147_483_648, None, 105),
+        (1, Some(-2_147_483_649), 105),
+    ] {
+        let row = row(alloc, id, owner)?;
+        assert_eq!(rt; outcome(check_row(alloc, columns, &row)), expected);
+    }
     Ok(())
 }
 

@@ -60,7 +60,7 @@ fn number_up_to(digits: &[u8]) -> u16
 }
 
 /// Whether the declared column has the type. None has none.
-pub(crate) fn has_type(column: Option<&ColumnDeclaration>, ty: Ty) -> bool
+pub fn has_type(column: Option<&ColumnDeclaration>, ty: Ty) -> bool
     ensures { result ≡ has_type (option_copied column.entry) ty }
 {
     match column {

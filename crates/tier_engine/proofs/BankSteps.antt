@@ -1,45 +1,56 @@
--- Calls of the bank as steps of the tier.
-use Rattle.std.proofs.Common.{◌≡◌, ℕ, zero, suc, ◌≤◌, ◌⊎◌, List, [], ◌∷◌, ◌++◌, length, map, take, drop, Option, Some, None, Result, Ok, Err, Bool, true, false, ◌&&◌, cond, nat_eq, is_none, refl, sym, ◌∙◌, ap, subst, unwrap_or, inl, inr, arith, append_assoc}
-use Rattle.std.specs.Option.{option_map, option_and_then, IfSome}
-use Rattle.std.specs.List.{slice_get, slice_set}
-use Rattle.std.specs.FinMap.{empty}
-use Rattle.std.proofs.lemmas.List.{take-append-drop, map-append}
-use Rattle.std.proofs.lemmas.Bool.{eqb-true}
+-- Definitions at the bank and the question for its schema are steps of the tier.
+use Rattle.std.proofs.Common.{◌≡◌, ℕ, zero, suc, ◌+◌, ◌≤◌, ◌<◌, ◌⊎◌, List, [], ◌∷◌, ◌++◌, map, take, drop, length, Option, Some, None, Bool, true, false, ◌&&◌, ◌||◌, not, cond, nat_eq, refl, sym, ◌∙◌, ap, subst, inl, inr, arith, append_assoc, length-append}
+use Rattle.std.specs.Prelude.{◌^◌, Result, Ok, Err}
+use Rattle.std.specs.List.{filter, list_all, list_any, slice_get}
+use Rattle.std.specs.Option.{option_map, option_and_then, option_or, is_some, IfSome}
+use Rattle.std.specs.Result.{IsErrOf}
+use Rattle.std.specs.FinMap.{get, empty, contains_key}
+use Rattle.std.proofs.lemmas.List.{map-append, take-append-drop}
+use Rattle.std.proofs.lemmas.List.Elements.{filter-append}
+use Rattle.std.proofs.lemmas.List.Folds.{list_any-append}
+use Rattle.std.proofs.lemmas.Option.{slice_get_within}
+use Rattle.tier_base.specs.declared.code.Code.TheVariants as code
+use Rattle.tier_base.specs.declared.number.TableId.{TableId}
+use Rattle.row_types.specs.declared.value.Value.{Value}
+use Rattle.row_types.specs.declared.rule.Rule.{Rule}
 use Rattle.row_types.specs.declared.declaration.TableDeclaration.{TableDeclaration}
-use Rattle.table_state.specs.Declarations.{fault_of, resolved, limit_of}
+use Rattle.table_state.specs.declared.definition.ForeignKey.{ForeignKey}
 use Rattle.table_state.specs.declared.definition.TableDef.{TableDef}
 use Rattle.table_state.specs.declared.operation.Op.{Op}
-use Rattle.table_state.specs.declared.operation.Op.TheVariants.{Insert, Update, Delete}
 use Rattle.table_state.specs.declared.history.Entry.{Entry}
 use Rattle.table_state.specs.declared.history.Entry.TheVariants.{Definition}
 use Rattle.table_state.specs.declared.history.Sealed.{Sealed}
-use Rattle.table_state.specs.Tables.{Table, TableState}
-use Rattle.table_state.specs.Operations.{applied, applied_all, with_row, with_change, without_row}
-use Rattle.table_state.specs.Histories.{state_of, state_from, no_tables, entry_of}
-use Rattle.outside.specs.Holding.{Held}
+use Rattle.table_state.specs.Tables.{Table, TableState, table_at}
+use Rattle.table_state.specs.Operations.{applied_all}
+use Rattle.table_state.specs.Independence.{IsWhole, with_new}
+use Rattle.table_state.specs.Histories.{state_of, state_from, entry_of, no_tables, has_ticket}
+use Rattle.outside.specs.Bank.{Defines, TellsSchema, Grows}
 use Rattle.outside.specs.Calls.{Told, BankCall}
-use Rattle.outside.specs.Bank.{TellsSchema, Defines}
+use Rattle.outside.specs.Holding.{Held}
 use Rattle.outside.specs.declared.fault.BankError.{BankError}
-use Rattle.outside.specs.declared.fault.BankError.TheVariants.{Failed}
+use Rattle.outside.specs.declared.fault.BankError.TheVariants.{Failed, Memory}
 use Rattle.tier_engine.specs.declared.reply.Reply.{Reply}
 use Rattle.tier_engine.specs.declared.tier.Tier.{Tier}
 use Rattle.tier_engine.specs.declared.tier.Group.{Group}
 use Rattle.tier_engine.specs.declared.tier.Session.{Session}
-use Rattle.tier_engine.specs.Commits.{RiseBetween, virtual_state}
+use Rattle.tier_engine.specs.Commits.{RiseBetween, virtual_state, pending, applied_sealed, own_entries, is_own, is_other, in_commit_order}
 use Rattle.tier_engine.specs.TierStates.{TierState}
-use Rattle.tier_engine.specs.Steps.{World, WantsMemory, Asked, Creates, CreatesTable, DoesDefine, told, stopped, known_after, define_reply}
-use Rattle.tier_engine.specs.Answers.{defined_by}
-use Rattle.tier_engine.specs.Standing.{StandsFor, KeepsRows, Made, tier_state, group_state, session_state, own_in, world_of, definition_entries, one_table}
-use Rattle.tier_engine.proofs.CommitLaws.{state_from-append}
+use Rattle.tier_engine.specs.Refusals.{is_joined, refers}
+use Rattle.tier_engine.specs.Answers.{faulty}
+use Rattle.tier_engine.specs.Steps.{World, Asked, Creates, WantsMemory, define_reply, known_after, stopped, told}
+use Rattle.tier_engine.specs.Storing.{KnowsAfter, MakesTable, IsSame}
+use Rattle.tier_engine.specs.Standing.{StandsFor, Shows, ShowAll, AreApart, HasOwnKeys, Made, group_state, is_insert, is_stored, ops_of, own_in, session_in, tier_state, world_of}
+use Rattle.tier_engine.proofs.CommitLaws.{state_from-append, applied_sealed-state_from, by_option}
+use Rattle.tier_engine.proofs.OpLaws.{inserts_schema}
+use Rattle.tier_engine.proofs.StandingLaws.{are_inserts, and_left, and_right}
 
--- what a told call did
 pub record WasTold (now : Option Held) (old : Held) (step : List Entry → List Entry → Type 0) : Type 0 where
   pub held : Held
   pub tells : now ≡ Some held
   pub slots : held.slots ≡ old.slots
   pub history : step old.history held.history
 
-was_told : (before now : Option Held) (old : Held) (step : List Entry → List Entry → Type 0) → before ≡ Some old → Told before now (BankCall step) → WasTold now old step
+pub was_told : (before now : Option Held) (old : Held) (step : List Entry → List Entry → Type 0) → before ≡ Some old → Told before now (BankCall step) → WasTold now old step
 was_told before now old step e t = by_now now (subst (λ (o : Option Held). Told o now (BankCall step)) e t)
   where
     by_now : (n : Option Held) → Told (Some old) n (BankCall step) → WasTold n old step
@@ -50,68 +61,47 @@ append_nil : {X : Type 0} (xs : List X) → xs ++ [] ≡ xs
 append_nil [] = refl
 append_nil (x ∷ xs) = ap (λ l. x ∷ l) (append_nil xs)
 
--- operations keep the schema
-same_schema : (s : TableState) (o : Option Table) (n : ℕ) (s' : TableState) → option_map (λ new. let r : TableState = record { schema = s.schema; tables = slice_set s.tables n new } in r) o ≡ Some s' → s'.schema ≡ s.schema
-same_schema s None n s' e = Prim.cc
-same_schema s (Some new) n s' e = sym (ap (λ o. option_schema o) e)
+-- the log's transactions keep the schema
+log_schema : (groups : List Group) (log : List Sealed) (s s' : TableState) → list_all (is_stored groups) (ops_of log) ≡ true → applied_sealed log s ≡ Some s' → s'.schema ≡ s.schema
+log_schema groups [] s s' all e = let p : ◌≡◌ {A = Option TableState} (Some s) (Some s') = e in ap (λ (x : TableState). x.schema) (let q : s ≡ s' = Prim.cc in sym q)
+log_schema groups (x ∷ log) s s' all e = by_state (λ y q. log_schema groups log y s' later q) (applied_all x.ops s) refl e
   where
-    option_schema : Option TableState → List TableDef
-    option_schema None = s.schema
-    option_schema (Some x) = x.schema
+  parted : (list_all (is_stored groups) x.ops && list_all (is_stored groups) (ops_of log)) ≡ true
+  parted = sym (Rattle.std.proofs.lemmas.List.Folds.list_all-append (is_stored groups) x.ops (ops_of log)) ∙ all
+  later : list_all (is_stored groups) (ops_of log) ≡ true
+  later = and_right (list_all (is_stored groups) x.ops) (list_all (is_stored groups) (ops_of log)) parted
+  by_state : ((y : TableState) → applied_sealed log y ≡ Some s' → s'.schema ≡ y.schema) → (o : Option TableState) → applied_all x.ops s ≡ o → option_and_then (applied_sealed log) o ≡ Some s' → s'.schema ≡ s.schema
+  by_state more None p q = Prim.cc
+  by_state more (Some y) p q =
+      more y q ∙ inserts_schema x.ops s y (are_inserts groups x.ops (and_left (list_all (is_stored groups) x.ops) (list_all (is_stored groups) (ops_of log)) parted)) p
 
-on_schema : (s : TableState) (n : ℕ) (f : TableDef → Table → Option Table) (od : Option TableDef) (ot : Option Table) (s' : TableState)
-    → option_and_then (λ def. option_and_then (λ table. option_map (λ new. let r : TableState = record { schema = s.schema; tables = slice_set s.tables n new } in r) (f def table)) ot) od ≡ Some s' → s'.schema ≡ s.schema
-on_schema s n f None ot s' e = Prim.cc
-on_schema s n f (Some def) None s' e = Prim.cc
-on_schema s n f (Some def) (Some table) s' e = same_schema s (f def table) n s' e
-
-applied_schema : (op : Op) (s s' : TableState) → applied op s ≡ Some s' → s'.schema ≡ s.schema
-applied_schema (Insert t row) s s' e = on_schema s t.0 (with_row s row) (slice_get s.schema t.0) (slice_get s.tables t.0) s' e
-applied_schema (Update t old new) s s' e = on_schema s t.0 (with_change s old new) (slice_get s.schema t.0) (slice_get s.tables t.0) s' e
-applied_schema (Delete t old) s s' e = on_schema s t.0 (without_row s t old) (slice_get s.schema t.0) (slice_get s.tables t.0) s' e
-
--- by what came of the first part
-by_first : {A : Type 0} (o : Option TableState) (f : TableState → Option TableState) (s' : TableState) (P : A) (Q : TableState → Type 0) → o ≡ o → option_and_then f o ≡ Some s'
-    → ((s : TableState) → o ≡ Some s → f s ≡ Some s' → Q s') → Q s'
-by_first None f s' P Q same e go = absurd (let p : ◌≡◌ {A = Option TableState} None (Some s') = e in Prim.cc)
-by_first (Some s) f s' P Q same e go = go s refl e
-
-schema_after_all : (ops : List Op) (s s' : TableState) → applied_all ops s ≡ Some s' → s'.schema ≡ s.schema
-schema_after_all [] s s' e = sym (ap (λ o. unwrap_or (option_map (λ (x : TableState). x.schema) o) []) e)
-schema_after_all (op ∷ ops) s s' e =
-    by_first {A = Unit {0}} (applied op s) (applied_all ops) s' tt (λ x. x.schema ≡ s.schema) refl e (λ m p q. schema_after_all ops m s' q ∙ applied_schema op s m p)
-
-schema_after_log : (log : List Sealed) (s s' : TableState) → state_from (map entry_of log) s ≡ Some s' → s'.schema ≡ s.schema
-schema_after_log [] s s' e = sym (ap (λ o. unwrap_or (option_map (λ (x : TableState). x.schema) o) []) e)
-schema_after_log (x ∷ log) s s' e =
-    by_first {A = Unit {0}} (applied_all x.ops s) (state_from (map entry_of log)) s' tt (λ y. y.schema ≡ s.schema) refl e (λ m p q. schema_after_log log m s' q ∙ schema_after_all x.ops s m p)
-
-schema_after : (defs : List TableDef) (log : List Sealed) (s s' : TableState) → state_from (definition_entries defs ++ map entry_of log) s ≡ Some s' → s'.schema ≡ s.schema ++ defs
-schema_after [] log s s' e = schema_after_log log s s' e ∙ sym (append_nil s.schema)
-schema_after (def ∷ defs) log s s' e =
-    schema_after defs log (record { schema = s.schema ++ def ∷ []; tables = s.tables ++ empty ∷ [] }) s' e ∙ append_assoc s.schema (def ∷ []) defs
-
--- the history leaves a state, whose schema is the definitions
-pub defined_front : (t : Tier) (log : List Sealed) (h : List Entry) (stands : StandsFor t log h) → (s : TableState) × (state_of h ≡ Some s) × (s.schema ≡ stands.defs)
-defined_front t log h stands = by_state (state_of h) refl
+pub all_pending : (groups : List Group) (h : List Entry) (log : List Sealed) → list_all (is_stored groups) (ops_of log) ≡ true → list_all (is_stored groups) (ops_of (pending h log)) ≡ true
+all_pending groups h [] all = refl
+all_pending groups h (x ∷ log) all = by_ticket (all_pending groups h log) (has_ticket x.ticket.0 h)
   where
-    parted : state_of (definition_entries stands.defs ++ map entry_of log) ≡ option_and_then (state_from (map entry_of (drop stands.came log))) (state_of h)
-    parted =
-        ap (λ (l : List Sealed). state_of (definition_entries stands.defs ++ map entry_of l)) (sym (take-append-drop stands.came log))
-        ∙ ap (λ (l : List Entry). state_of (definition_entries stands.defs ++ l)) (map-append entry_of (take stands.came log) (drop stands.came log))
-        ∙ ap state_of (sym (append_assoc (definition_entries stands.defs) (map entry_of (take stands.came log)) (map entry_of (drop stands.came log))))
-        ∙ state_from-append (definition_entries stands.defs ++ map entry_of (take stands.came log)) (map entry_of (drop stands.came log)) no_tables
-        ∙ ap (λ (x : List Entry). option_and_then (state_from (map entry_of (drop stands.came log))) (state_of x)) (sym stands.is)
+  parted : (list_all (is_stored groups) x.ops && list_all (is_stored groups) (ops_of log)) ≡ true
+  parted = sym (Rattle.std.proofs.lemmas.List.Folds.list_all-append (is_stored groups) x.ops (ops_of log)) ∙ all
+  rest : list_all (is_stored groups) (ops_of log) ≡ true
+  rest = and_right (list_all (is_stored groups) x.ops) (list_all (is_stored groups) (ops_of log)) parted
+  by_ticket : (list_all (is_stored groups) (ops_of log) ≡ true → list_all (is_stored groups) (ops_of (pending h log)) ≡ true) → (b : Bool)
+      → list_all (is_stored groups) (ops_of (cond (not b) (x ∷ pending h log) (pending h log))) ≡ true
+  by_ticket more true = more rest
+  by_ticket more false =
+      Rattle.std.proofs.lemmas.List.Folds.list_all-append (is_stored groups) x.ops (ops_of (pending h log))
+      ∙ Rattle.tier_engine.proofs.StandingLaws.and_true _ _ (and_left (list_all (is_stored groups) x.ops) (list_all (is_stored groups) (ops_of log)) parted) (more rest)
 
-    by_state : (o : Option TableState) → state_of h ≡ o → (s : TableState) × (state_of h ≡ Some s) × (s.schema ≡ stands.defs)
-    by_state None e =
-        let p : ◌≡◌ {A = Option TableState} None (Some stands.base) =
-        sym (ap (option_and_then (state_from (map entry_of (drop stands.came log)))) e) ∙ sym parted ∙ stands.all in
-        absurd (none_some p)
-      where
-        none_some : ◌≡◌ {A = Option TableState} None (Some stands.base) → ⊥
-        none_some x = Prim.cc
-    by_state (Some s) e = (s, e, schema_after stands.defs (take stands.came log) no_tables s (ap state_of (sym stands.is) ∙ e))
+-- The history leaves a state, whose schema is that of the virtual state.
+pub record LeavesState (h : List Entry) (base : TableState) : Type 0 where
+  pub state : TableState
+  pub is : state_of h ≡ Some state
+  pub schema : base.schema ≡ state.schema
+
+pub leaves_state : (t : Tier) (log : List Sealed) (h : List Entry) (s : StandsFor t log h) → LeavesState h s.base
+leaves_state t log h s = by_state (state_of h) refl s.virtual
+  where
+  by_state : (o : Option TableState) → state_of h ≡ o → option_and_then (applied_sealed (pending h log)) o ≡ Some s.base → LeavesState h s.base
+  by_state None p q = Prim.cc
+  by_state (Some x) p q = record { state = x; is = p; schema = log_schema t.groups.items (pending h log) x s.base (all_pending t.groups.items h log s.logged) q }
 
 -- only what is known of the schema changed
 pub record OnlyKnown (old new : Tier) : Type 0 where
@@ -120,24 +110,40 @@ pub record OnlyKnown (old new : Tier) : Type 0 where
   pub unsettled : new.unsettled.items ≡ old.unsettled.items
   pub next : new.next ≡ old.next
 
-stands_known : (t t' : Tier) (log : List Sealed) (h : List Entry) (s : StandsFor t log h) → OnlyKnown t t' → IfSome t'.known (λ schema. schema ≡ s.defs) → StandsFor t' log h
+stands_known : (t t' : Tier) (log : List Sealed) (h : List Entry) (s : StandsFor t log h) → OnlyKnown t t' → IfSome t'.known (λ schema. schema ≡ s.base.schema) → StandsFor t' log h
 stands_known t t' log h s x knows = record {
   rise = subst (λ n. RiseBetween 1 log n) (sym x.next) s.rise;
-  last = subst (λ n. n ≤ 9223372036854775808) (sym x.next) s.last;
-  defs = s.defs;
+  last = subst (λ n. n ≤ 2 ^ 63) (sym x.next) s.last;
   came = s.came;
   received = s.received;
-  is = s.is;
+  owns = s.owns;
   within = s.within;
   at_least = s.at_least;
   at_most = s.at_most;
   rest = x.unsettled ∙ s.rest;
-  knows = knows;
-  single = s.single;
+  ordered = s.ordered;
   base = s.base;
-  all = s.all;
-  rows = subst (λ (gs : List Group). KeepsRows gs (own_in t'.session) s.defs log s.base) (sym x.groups)
-      (subst (λ (o : Option Session). KeepsRows t.groups.items (own_in o) s.defs log s.base) (sym x.session) s.rows);
+  virtual = s.virtual;
+  whole = s.whole;
+  knows = knows;
+  top = s.top;
+  over = ap (λ o. applied_all (own_in o) s.base) x.session ∙ s.over;
+  logged = ap (λ gs. list_all (is_stored gs) (ops_of log)) x.groups ∙ s.logged;
+  writing = ap (λ o. list_all (is_stored t'.groups.items) (own_in o)) x.session ∙ ap (λ gs. list_all (is_stored gs) (own_in t.session)) x.groups ∙ s.writing;
+  shows = subst (λ (o : Option Session). ShowAll s.top (ops_of log) (own_in o) t'.groups.items) (sym x.session)
+      (subst (λ (gs : List Group). ShowAll s.top (ops_of log) (own_in t.session) gs) (sym x.groups) s.shows);
+  apart = subst AreApart (sym x.groups) s.apart;
+  keys = subst (λ (o : Option Session). HasOwnKeys t'.groups.items o) (sym x.session) (subst (λ (gs : List Group). HasOwnKeys gs t.session) (sym x.groups) s.keys);
+}
+
+state_known : (t t' : Tier) (log : List Sealed) (known : Option (List TableDef)) → t'.known ≡ known → OnlyKnown t t' → tier_state t' log ≡ record (tier_state t log) { known = known }
+state_known t t' log known e x = λ i. record {
+  known = e i;
+  groups = map (group_state (own_in (x.session i))) (x.groups i);
+  session = session_in (x.session i);
+  log = log;
+  unsettled = x.unsettled i;
+  next = x.next i;
 }
 
 -- the question was answered
@@ -147,20 +153,10 @@ pub asks_made : (t t' : Tier) (log : List Sealed) (held : Held) (schema : List T
 asks_made t t' log held schema before now faults faults' moment moment' e told_now more later known x stands =
     let c = was_told before now held (TellsSchema (Ok schema)) e told_now in
     let same : c.held.history ≡ held.history = c.history.0 ∙ append_nil held.history in
-    let front = defined_front t log held.history stands in
-    let defs : schema ≡ stands.defs = c.history.1 front.0 (ap state_of same ∙ front.1) ∙ front.2 in
+    let left = leaves_state t log held.history stands in
+    let defs : schema ≡ stands.base.schema = c.history.1 left.state (ap state_of same ∙ left.is) ∙ sym left.schema in
     let here : StandsFor t' log held.history =
-    stands_known t t' log held.history stands x (subst (λ (o : Option (List TableDef)). IfSome o (λ y. y ≡ stands.defs)) (sym known) defs)
-    in
-    let state : tier_state t' log c.held.history ≡ told (Ok schema) (tier_state t log held.history) =
-    λ i. record {
-      known = known i;
-      groups = map (group_state (unwrap_or (virtual_state (same i) log) no_tables)) (x.groups i);
-      session = option_map session_state (x.session i);
-      log = log;
-      unsettled = x.unsettled i;
-      next = x.next i;
-    }
+    stands_known t t' log held.history stands x (subst (λ (o : Option (List TableDef)). IfSome o (λ y. y ≡ stands.base.schema)) (sym known) defs)
     in
     record {
       log' = log;
@@ -168,148 +164,201 @@ asks_made t t' log held schema before now faults faults' moment moment' e told_n
       tells = c.tells;
       slots = c.slots;
       stands = subst (λ (h : List Entry). StandsFor t' log h) (sym same) here;
-      made = (Ok schema, record { tier = state; history = c.history; on = record { faults = more; moment = later } }, refl);
+      made = (Ok schema, record { tier = state_known t t' log (Some schema) known x; history = c.history; on = record { faults = more; moment = later } }, refl);
     }
 
-take_none : (n : ℕ) (log : List Sealed) → log ≡ [] → map entry_of (take n log) ≡ []
-take_none n log e = ap (λ l. map entry_of (take n l)) e ∙ none n
+-- the laws of a later table, as table_state states them
+abbrev pub LaterLaw : Type 0
+LaterLaw = (ops : List Op) (def : TableDef) (s n : TableState) → IsWhole s → applied_all ops s ≡ Some n → applied_all ops (with_new def s) ≡ Some (with_new def n)
+
+abbrev pub WholeLaw : Type 0
+WholeLaw = (entries : List Entry) (s n : TableState) → state_from entries s ≡ Some n → IsWhole s → IsWhole n
+
+-- transactions do the same with a table behind the others
+sealed_later : LaterLaw → WholeLaw → (def : TableDef) (log : List Sealed) (s n : TableState) → IsWhole s → applied_sealed log s ≡ Some n → applied_sealed log (with_new def s) ≡ Some (with_new def n)
+sealed_later law whole_law def [] s n whole e = ap (λ o. option_map (with_new def) o) e
+sealed_later law whole_law def (x ∷ log) s n whole e = by_state (λ y w q. sealed_later law whole_law def log y n w q) (applied_all x.ops s) refl e
   where
-    none : (n : ℕ) → map entry_of (take n []) ≡ []
-    none zero = refl
-    none (suc n) = refl
+  one : (o : Option TableState) → option_and_then (state_from []) o ≡ o
+  one None = refl
+  one (Some y) = refl
+  by_state : ((y : TableState) → IsWhole y → applied_sealed log y ≡ Some n → applied_sealed log (with_new def y) ≡ Some (with_new def n)) → (o : Option TableState) → applied_all x.ops s ≡ o
+      → option_and_then (applied_sealed log) o ≡ Some n → option_and_then (applied_sealed log) (applied_all x.ops (with_new def s)) ≡ Some (with_new def n)
+  by_state more None p q = Prim.cc
+  by_state more (Some y) p q =
+      ap (option_and_then (applied_sealed log)) (law x.ops def s y whole p)
+      ∙ more y (whole_law (entry_of x ∷ []) s y (one (applied_all x.ops s) ∙ p) whole) q
 
--- there is no table yet, so there is no group
-no_group : (gs : List Group) (own : List Op) (defs : List TableDef) (log : List Sealed) (base : TableState) → defs ≡ [] → KeepsRows gs own defs log base → (gs ≡ []) × (own ≡ []) × (log ≡ [])
-no_group [] own defs log base e k = (refl, k.0, k.1)
-no_group (g ∷ []) own defs log base e k = let p : ◌≡◌ {A = List TableDef} [] (g.def ∷ []) = sym e ∙ k.defined in Prim.cc
-no_group (g ∷ f ∷ gs) own defs log base e k = absurd k
+-- what a history leaves has the rows of each table
+pub history_whole : WholeLaw → (h : List Entry) (s : TableState) → state_of h ≡ Some s → IsWhole s
+history_whole law h s e = law h no_tables s e refl
 
--- the first table came
-stands_defined : (t t' : Tier) (log : List Sealed) (h : List Entry) (def : TableDef) (s : StandsFor t log h) → t.known ≡ Some [] → OnlyKnown t t' → IfSome t'.known (λ schema. schema ≡ def ∷ [])
-    → StandsFor t' log (h ++ Definition def ∷ [])
-stands_defined t t' log h def s unknown x knows =
-    let none : s.defs ≡ [] = sym (subst (λ (o : Option (List TableDef)). IfSome o (λ schema. schema ≡ s.defs)) unknown s.knows) in
-    let bare = no_group t.groups.items (own_in t.session) s.defs log s.base none s.rows in
-    let nothing : h ≡ [] = s.is ∙ ap (λ (d : List TableDef). definition_entries d ++ map entry_of (take s.came log)) none ∙ take_none s.came log bare.2 in
-    let after : definition_entries (def ∷ []) ++ map entry_of (take s.came log) ≡ Definition def ∷ [] = ap (λ (l : List Entry). Definition def ∷ l) (take_none s.came log bare.2) in
+state_defined : (h : List Entry) (def : TableDef) (s : TableState) → state_of h ≡ Some s → state_of (h ++ Definition def ∷ []) ≡ Some (with_new def s)
+state_defined h def s e = state_from-append h (Definition def ∷ []) no_tables ∙ ap (option_and_then (state_from (Definition def ∷ []))) e
+
+same_others : (log : List Sealed) (h : List Entry) (def : TableDef) → filter (is_other log) (h ++ Definition def ∷ []) ≡ filter (is_other log) h ++ Definition def ∷ []
+same_others log h def = filter-append (is_other log) h (Definition def ∷ [])
+
+-- in commit order the same comes of a history with one definition more
+ordered_defined : LaterLaw → WholeLaw → (h : List Entry) (log : List Sealed) (def : TableDef) (s : TableState) → state_of h ≡ Some s → in_commit_order h log ≡ state_of h
+    → in_commit_order (h ++ Definition def ∷ []) log ≡ state_of (h ++ Definition def ∷ [])
+ordered_defined law whole_law h log def s is ordered =
+    let others = filter (is_other log) h in
+    let parted : option_and_then (state_from (map entry_of log)) (state_of others) ≡ Some s = sym (state_from-append others (map entry_of log) no_tables) ∙ ordered ∙ is in
+    ap (λ l. state_of (l ++ map entry_of log)) (same_others log h def)
+    ∙ ap state_of (append_assoc others (Definition def ∷ []) (map entry_of log))
+    ∙ state_from-append others (Definition def ∷ map entry_of log) no_tables
+    ∙ by_state (state_of others) refl parted
+    ∙ sym (state_defined h def s is)
+  where
+  by_entries : (o : Option TableState) → option_and_then (applied_sealed log) o ≡ option_and_then (state_from (map entry_of log)) o
+  by_entries o = by_option (applied_sealed log) (state_from (map entry_of log)) (λ x. applied_sealed-state_from log x) o
+  by_state : (o : Option TableState) → state_of (filter (is_other log) h) ≡ o → option_and_then (state_from (map entry_of log)) o ≡ Some s
+      → option_and_then (state_from (Definition def ∷ map entry_of log)) o ≡ Some (with_new def s)
+  by_state None p q = Prim.cc
+  by_state (Some x) p q =
+      sym (applied_sealed-state_from log (with_new def x))
+      ∙ sealed_later law whole_law def log x s (history_whole whole_law (filter (is_other log) h) x p) (applied_sealed-state_from log x ∙ q)
+
+own_defined : (h : List Entry) (def : TableDef) → own_entries (h ++ Definition def ∷ []) ≡ own_entries h
+own_defined h def = filter-append is_own h (Definition def ∷ []) ∙ append_nil (own_entries h)
+
+ticket_defined : (t : ℕ) (h : List Entry) (def : TableDef) → has_ticket t (h ++ Definition def ∷ []) ≡ has_ticket t h
+ticket_defined t [] def = refl
+ticket_defined t (x ∷ h) def = ap (λ b. Rattle.table_state.specs.Histories.is_of t x || b) (ticket_defined t h def)
+
+virtual_defined : LaterLaw → WholeLaw → (h : List Entry) (log : List Sealed) (def : TableDef) (s base : TableState) → state_of h ≡ Some s → virtual_state h log ≡ Some base
+    → virtual_state (h ++ Definition def ∷ []) log ≡ Some (with_new def base)
+virtual_defined law whole_law h log def s base is e =
+    ap (λ l. option_and_then (applied_sealed l) (state_of (h ++ Definition def ∷ []))) (Rattle.tier_engine.proofs.OwnLaws.same_pending (h ++ Definition def ∷ []) h log (λ t. ticket_defined t h def))
+    ∙ ap (option_and_then (applied_sealed (pending h log))) (state_defined h def s is)
+    ∙ sealed_later law whole_law def (pending h log) s base (history_whole whole_law h s is) (sym (ap (option_and_then (applied_sealed (pending h log))) is) ∙ e)
+
+-- a place that is there stays
+pub front_get : {X : Type 0} (xs : List X) (y : X) (n : ℕ) (x : X) → slice_get xs n ≡ Some x → slice_get (xs ++ y ∷ []) n ≡ Some x
+front_get [] y n x e = Prim.cc
+front_get (z ∷ xs) y zero x e = e
+front_get (z ∷ xs) y (suc n) x e = front_get xs y n x e
+
+-- the table of a group in a state with one table more
+later_table : (s : TableState) (def : TableDef) (t : TableId) (own : TableDef) → IsWhole s → slice_get s.schema t.0 ≡ Some own → table_at (with_new def s) t ≡ table_at s t
+later_table s def t own whole e = by_table (slice_get s.tables t.0) refl
+  where
+  within : t.0 < length s.tables
+  within = let l : t.0 < length s.schema = slice_get_within s.schema t.0 own e in Prim.omega (arith, l, whole)
+  by_table : (o : Option Table) → slice_get s.tables t.0 ≡ o → table_at (with_new def s) t ≡ table_at s t
+  by_table None p = absurd (past s.tables t.0 within p)
+    where
+    past : (xs : List Table) (n : ℕ) → n < length xs → slice_get xs n ≡ None → ⊥
+    past [] n lt q = Prim.omega (arith, lt)
+    past (x ∷ xs) zero lt q = Prim.cc
+    past (x ∷ xs) (suc n) lt q = past xs n (Prim.omega (arith, lt)) q
+  by_table (Some table) p = ap (λ (o : Option Table). Rattle.std.proofs.Common.unwrap_or o empty) (front_get s.tables empty t.0 table p ∙ sym p)
+
+-- the new table refers to no table of these groups
+abbrev pub RefersToNone : TableDef → List Group → Type 0
+RefersToNone def [] = Unit {0}
+RefersToNone def (g ∷ groups) = (refers g.table def.foreign_key ≡ false) × RefersToNone def groups
+
+defined_shows : (s : TableState) (def : TableDef) (log own : List Op) (g : Group) → IsWhole s → refers g.table def.foreign_key ≡ false → Shows s log own g → Shows (with_new def s) log own g
+defined_shows s def log own g whole none x = record {
+  defined = front_get s.schema def g.table.0 g.def x.defined;
+  alone =
+      ap (λ b. is_some g.def.foreign_key || b) (list_any-append (λ (other : TableDef). refers g.table other.foreign_key) s.schema (def ∷ []))
+      ∙ ap (λ b. is_some g.def.foreign_key || (list_any (λ (other : TableDef). refers g.table other.foreign_key) s.schema || (b || false))) none
+      ∙ ap (λ b. is_some g.def.foreign_key || b) (or_false (list_any (λ (other : TableDef). refers g.table other.foreign_key) s.schema))
+      ∙ x.alone;
+  rows = λ key row there. ap (λ (T : Table). get T key) (later_table s def g.table g.def whole x.defined) ∙ x.rows key row there;
+  writes = x.writes;
+  committed = x.committed;
+}
+  where
+  or_false : (b : Bool) → (b || false) ≡ b
+  or_false true = refl
+  or_false false = refl
+
+defined_all : (s : TableState) (def : TableDef) (log own : List Op) (groups : List Group) → IsWhole s → RefersToNone def groups → ShowAll s log own groups → ShowAll (with_new def s) log own groups
+defined_all s def log own [] whole none all = tt
+defined_all s def log own (g ∷ groups) whole none all = (defined_shows s def log own g whole none.0 all.0, defined_all s def log own groups whole none.1 all.1)
+
+-- the table came
+stands_defined : LaterLaw → WholeLaw → (t t' : Tier) (log : List Sealed) (h : List Entry) (def : TableDef) (s : StandsFor t log h) → OnlyKnown t t' → RefersToNone def t.groups.items
+    → IfSome t'.known (λ schema. schema ≡ s.base.schema ++ def ∷ []) → StandsFor t' log (h ++ Definition def ∷ [])
+stands_defined law whole_law t t' log h def s x none knows =
+    let left = leaves_state t log h s in
+    let own = own_in t.session in
+    let top_whole : IsWhole s.top = Rattle.tier_engine.proofs.OpLaws.inserts_whole own s.base s.top (are_inserts t.groups.items own s.writing) s.over s.whole in
     record {
       rise = subst (λ n. RiseBetween 1 log n) (sym x.next) s.rise;
-      last = subst (λ n. n ≤ 9223372036854775808) (sym x.next) s.last;
-      defs = def ∷ [];
+      last = subst (λ n. n ≤ 2 ^ 63) (sym x.next) s.last;
       came = s.came;
       received = s.received;
-      is = ap (λ (l : List Entry). l ++ Definition def ∷ []) nothing ∙ sym after;
+      owns = own_defined h def ∙ s.owns;
       within = s.within;
       at_least = s.at_least;
       at_most = s.at_most;
       rest = x.unsettled ∙ s.rest;
+      ordered = ordered_defined law whole_law h (take s.came log) def left.state left.is s.ordered;
+      base = with_new def s.base;
+      virtual = virtual_defined law whole_law h log def left.state s.base left.is s.virtual;
+      whole = length-append s.base.tables (empty ∷ []) ∙ ap (λ n. n + 1) s.whole ∙ sym (length-append s.base.schema (def ∷ []));
       knows = knows;
-      single = Prim.omega arith;
-      base = one_table def empty;
-      all = ap (λ (l : List Sealed). state_of (definition_entries (def ∷ []) ++ map entry_of l)) bare.2;
-      rows = subst (λ (gs : List Group). KeepsRows gs (own_in t'.session) (def ∷ []) log (one_table def empty)) (sym (x.groups ∙ bare.0)) (ap own_in x.session ∙ bare.1, bare.2);
+      top = with_new def s.top;
+      over = ap (λ o. applied_all (own_in o) (with_new def s.base)) x.session ∙ law own def s.base s.top s.whole s.over;
+      logged = ap (λ gs. list_all (is_stored gs) (ops_of log)) x.groups ∙ s.logged;
+      writing = ap (λ o. list_all (is_stored t'.groups.items) (own_in o)) x.session ∙ ap (λ gs. list_all (is_stored gs) (own_in t.session)) x.groups ∙ s.writing;
+      shows = subst (λ (o : Option Session). ShowAll (with_new def s.top) (ops_of log) (own_in o) t'.groups.items) (sym x.session)
+          (subst (λ (gs : List Group). ShowAll (with_new def s.top) (ops_of log) own gs) (sym x.groups) (defined_all s.top def (ops_of log) own t.groups.items top_whole none s.shows));
+      apart = subst AreApart (sym x.groups) s.apart;
+      keys = subst (λ (o : Option Session). HasOwnKeys t'.groups.items o) (sym x.session) (subst (λ (gs : List Group). HasOwnKeys gs t.session) (sym x.groups) s.keys);
     }
 
--- without a group the state doesn't depend on the history
-state_bare : (t t' : Tier) (log : List Sealed) (h h' : List Entry) → t.groups.items ≡ [] → OnlyKnown t t' → (known : Option (List TableDef)) → t'.known ≡ known
-    → tier_state t' log h' ≡ record (tier_state t log h) { known = known }
-state_bare t t' log h h' none x known e =
-    let groups : (tier_state t' log h').groups ≡ (tier_state t log h).groups =
-    ap (λ (gs : List Group). map (group_state (unwrap_or (virtual_state h' log) no_tables)) gs) (x.groups ∙ none)
-    ∙ sym (ap (λ (gs : List Group). map (group_state (unwrap_or (virtual_state h log) no_tables)) gs) none)
-    in
-    λ i. record { known = e i; groups = groups i; session = option_map session_state (x.session i); log = log; unsettled = x.unsettled i; next = x.next i }
+knows_after : (t t' : Tier) (def : TableDef) (schema : List TableDef) → IfSome t.known (λ k. k ≡ schema) → t'.known ≡ option_map (λ k. k ++ def ∷ []) t.known → IfSome t'.known (λ k. k ≡ schema ++ def ∷ [])
+knows_after t t' def schema knows e = subst (λ (o : Option (List TableDef)). IfSome o (λ k. k ≡ schema ++ def ∷ [])) (sym e) (by_known t.known knows)
+  where
+  by_known : (o : Option (List TableDef)) → IfSome o (λ k. k ≡ schema) → IfSome (option_map (λ k. k ++ def ∷ []) o) (λ k. k ≡ schema ++ def ∷ [])
+  by_known None p = tt
+  by_known (Some k) p = ap (λ l. l ++ def ∷ []) p
 
-bare_groups : (t : Tier) (log : List Sealed) (h : List Entry) (s : StandsFor t log h) → t.known ≡ Some [] → t.groups.items ≡ []
-bare_groups t log h s unknown =
-    let none : s.defs ≡ [] = sym (subst (λ (o : Option (List TableDef)). IfSome o (λ schema. schema ≡ s.defs)) unknown s.knows) in
-    (no_group t.groups.items (own_in t.session) s.defs log s.base none s.rows).0
+knows_nothing : (t' : Tier) (schema : List TableDef) → t'.known ≡ None → IfSome t'.known (λ k. k ≡ schema)
+knows_nothing t' schema e = subst (λ (o : Option (List TableDef)). IfSome o (λ k. k ≡ schema)) (sym e) tt
 
--- beside another way
-or_memory : (P Q : World → World → Type 0) {now : Option Held} {faults faults' moment moment' : ℕ} {t t' : Tier} {log : List Sealed} {held : Held} → Made now faults faults' moment moment' t t' log held P
-    → Made now faults faults' moment moment' t t' log held (λ w w'. P w w' ⊎ Q w w')
-or_memory P Q m = record { log' = m.log'; held' = m.held'; tells = m.tells; slots = m.slots; stands = m.stands; made = inl m.made }
+-- what stands behind the call, by how it ended
+pub defines_stands : LaterLaw → WholeLaw → (t t' : Tier) (log : List Sealed) (h : List Entry) (def : TableDef) (result : Result (Unit {0}) BankError) → StandsFor t log h → RefersToNone def t.groups.items
+    → OnlyKnown t t' → KnowsAfter t t' def result → (h' : List Entry) → Defines def result h h' → StandsFor t' log h'
+defines_stands law whole_law t t' log h def (Ok done) s none x knows h' grows =
+    subst (λ (y : List Entry). StandsFor t' log y) (sym grows) (stands_defined law whole_law t t' log h def s x none (knows_after t t' def s.base.schema s.knows knows))
+defines_stands law whole_law t t' log h def (Err Failed) s none x knows h' grows =
+    elim grows [
+      | inl same ↦ subst (λ (y : List Entry). StandsFor t' log y) (sym (same ∙ append_nil h)) (stands_known t t' log h s x (knows_nothing t' s.base.schema knows))
+      | inr more ↦ subst (λ (y : List Entry). StandsFor t' log y) (sym more) (stands_defined law whole_law t t' log h def s x none (knows_nothing t' (s.base.schema ++ def ∷ []) knows))
+    ]
+defines_stands law whole_law t t' log h def (Err Memory) s none x knows h' same =
+    subst (λ (y : List Entry). StandsFor t' log y) (sym (same ∙ append_nil h)) (stands_known t t' log h s x (subst (λ (o : Option (List TableDef)). IfSome o (λ k. k ≡ s.base.schema)) (sym knows) s.knows))
 
--- the table came, or the call failed and it came or didn't come
-pub creates_made : (t t' : Tier) (log : List Sealed) (held : Held) (def : TableDef) (reply : Reply) (result : Result (Unit {0}) BankError) (known : Option (List TableDef)) (before now : Option Held) (faults faults' moment moment' : ℕ)
-    → before ≡ Some held → Told before now (BankCall (Defines def result)) → faults ≤ faults' → moment ≤ moment' → t.known ≡ Some [] → t'.known ≡ known → OnlyKnown t t'
-    → (tier_state t log held.history).known ≡ t.known → (record (tier_state t log held.history) { known = known }) ≡ known_after def result (tier_state t log held.history)
-    → ((h : List Entry) → Defines def result held.history h → StandsFor t' log h) → reply ≡ define_reply result → StandsFor t log held.history
+known_state : (t t' : Tier) (log : List Sealed) (def : TableDef) (result : Result (Unit {0}) BankError) → OnlyKnown t t' → KnowsAfter t t' def result → tier_state t' log ≡ known_after def result (tier_state t log)
+known_state t t' log def (Ok done) x e = state_known t t' log (option_map (λ k. k ++ def ∷ []) t.known) e x
+known_state t t' log def (Err Failed) x e = state_known t t' log None e x
+known_state t t' log def (Err Memory) x e = state_known t t' log t.known e x
+
+-- the definition at the bank is a step
+pub creates_made : LaterLaw → WholeLaw → (t t' : Tier) (log : List Sealed) (held : Held) (def : TableDef) (reply : Reply) (before now : Option Held) (faults faults' moment moment' : ℕ)
+    → before ≡ Some held → StandsFor t log held.history → RefersToNone def t.groups.items → faults ≤ faults' → moment ≤ moment' → MakesTable before now t t' def reply faults faults'
     → Made now faults faults' moment moment' t t' log held (λ w w'. Creates def w w' reply)
-creates_made t t' log held def reply result known before now faults faults' moment moment' e told_now more later unknown is_known x same after here answer stands =
-    let c = was_told before now held (Defines def result) e told_now in
+creates_made law whole_law t t' log held def reply before now faults faults' moment moment' e stands none more later m =
+    let c = was_told before now held (Defines def m.result) e m.call in
+    let x : OnlyKnown t t' = record { groups = m.groups; session = m.session; unsettled = m.unsettled; next = m.next } in
     record {
       log' = log;
       held' = c.held;
       tells = c.tells;
       slots = c.slots;
-      stands = here c.held.history c.history;
+      stands = defines_stands law whole_law t t' log held.history def m.result stands none x m.known c.held.history c.history;
       made = record {
-        result = result;
-        tier = state_bare t t' log held.history c.held.history (bare_groups t log held.history stands unknown) x known is_known ∙ after;
+        result = m.result;
+        tier = known_state t t' log def m.result x m.known;
         history = c.history;
         on = record { faults = more; moment = later };
-        answer = answer;
+        answer = m.answer;
       };
     }
-
-pub came_stands : (t t' : Tier) (log : List Sealed) (h : List Entry) (def : TableDef) → t.known ≡ Some [] → OnlyKnown t t' → IfSome t'.known (λ schema. schema ≡ def ∷ []) → StandsFor t log h
-    → (h' : List Entry) → Defines def (Ok tt) h h' → StandsFor t' log h'
-came_stands t t' log h def unknown x knows s h' grows = subst (λ (y : List Entry). StandsFor t' log y) (sym grows) (stands_defined t t' log h def s unknown x knows)
-
-pub failed_stands : (t t' : Tier) (log : List Sealed) (h : List Entry) (def : TableDef) → t.known ≡ Some [] → OnlyKnown t t' → t'.known ≡ None → StandsFor t log h
-    → (h' : List Entry) → Defines def (Err Failed) h h' → StandsFor t' log h'
-failed_stands t t' log h def unknown x none s h' grows =
-    let knows : (d : List TableDef) → IfSome t'.known (λ schema. schema ≡ d) = λ d. subst (λ (o : Option (List TableDef)). IfSome o (λ schema. schema ≡ d)) (sym none) tt in
-    elim grows [
-      | inl same ↦ subst (λ (y : List Entry). StandsFor t' log y) (sym (same ∙ append_nil h)) (stands_known t t' log h s x (knows s.defs))
-      | inr more ↦ subst (λ (y : List Entry). StandsFor t' log y) (sym more) (stands_defined t t' log h def s unknown x (knows (def ∷ [])))
-    ]
-
--- the table came
-pub came_made : (t t' : Tier) (log : List Sealed) (held : Held) (def : TableDef) (schema : List TableDef) (reply : Reply) (before now : Option Held) (faults faults' moment moment' : ℕ)
-    → before ≡ Some held → Told before now (BankCall (Defines def (Ok tt))) → faults ≤ faults' → moment ≤ moment' → t.known ≡ Some [] → t'.known ≡ Some schema → schema ≡ def ∷ [] → OnlyKnown t t'
-    → reply ≡ define_reply (Ok tt) → StandsFor t log held.history
-    → Made now faults faults' moment moment' t t' log held (λ w w'. Creates def w w' reply ⊎ WantsMemory w w' reply)
-came_made t t' log held def schema reply before now faults faults' moment moment' e told_now more later unknown known one x answer stands =
-    let after : ◌≡◌ {A = TierState} (record (tier_state t log held.history) { known = Some schema }) (known_after def (Ok tt) (tier_state t log held.history)) =
-    ap (λ (o : Option (List TableDef)). let y : TierState = record (tier_state t log held.history) { known = o } in y) (ap Some one ∙ sym (ap (option_map (λ (l : List TableDef). l ++ def ∷ [])) unknown))
-    in
-    or_memory _ _ (creates_made t t' log held def reply (Ok tt) (Some schema) before now faults faults' moment moment' e told_now more later unknown known x refl after
-    (came_stands t t' log held.history def unknown x (subst (λ (o : Option (List TableDef)). IfSome o (λ y. y ≡ def ∷ [])) (sym known) one) stands) answer stands)
-
--- the call failed
-pub failed_made : (t t' : Tier) (log : List Sealed) (held : Held) (def : TableDef) (reply : Reply) (before now : Option Held) (faults faults' moment moment' : ℕ)
-    → before ≡ Some held → Told before now (BankCall (Defines def (Err Failed))) → faults ≤ faults' → moment ≤ moment' → t.known ≡ Some [] → t'.known ≡ None → OnlyKnown t t'
-    → reply ≡ define_reply (Err Failed) → StandsFor t log held.history
-    → Made now faults faults' moment moment' t t' log held (λ w w'. Creates def w w' reply ⊎ WantsMemory w w' reply)
-failed_made t t' log held def reply before now faults faults' moment moment' e told_now more later unknown none x answer stands =
-    or_memory _ _ (creates_made t t' log held def reply (Err Failed) None before now faults faults' moment moment' e told_now more later unknown none x refl refl
-    (failed_stands t t' log held.history def unknown x none stands) answer stands)
-
--- a table is made only where there is none
-pub defined_first : (d : TableDeclaration) (schema : List TableDef) (def : TableDef) → defined_by d schema ≡ Some def → schema ≡ []
-defined_first d schema def e = by_length schema (by_bool (is_none (fault_of d schema) && is_none (limit_of (resolved d schema) schema)) (nat_eq (length schema) 0) e)
-  where
-    by_bool : (a b : Bool) → cond {A = Option TableDef} (a && b) (Some (resolved d schema)) None ≡ Some def → b ≡ true
-    by_bool true true p = refl
-    by_bool true false p = Prim.cc
-    by_bool false true p = refl
-    by_bool false false p = Prim.cc
-
-    by_length : (l : List TableDef) → nat_eq (length l) 0 ≡ true → l ≡ []
-    by_length [] p = refl
-    by_length (x ∷ l) p = let q : suc (length l) ≡ 0 = eqb-true (suc (length l)) 0 p in absurd (Prim.omega (arith, q))
-
--- CREATE TABLE of a definition that may be made
-pub does_made : (t t' : Tier) (log : List Sealed) (held : Held) (d : TableDeclaration) (schema : List TableDef) (def : TableDef) (reply : Reply) (now : Option Held) (faults faults' moment moment' : ℕ)
-    → t.known ≡ Some schema → defined_by d schema ≡ Some def
-    → Made now faults faults' moment moment' t t' log held (λ w w'. Creates def w w' reply ⊎ WantsMemory w w' reply)
-    → Made now faults faults' moment moment' t t' log held (λ w w'. DoesDefine d w.tier.known w w' reply ⊎ WantsMemory w w' reply)
-does_made t t' log held d schema def reply now faults faults' moment moment' known may m =
-    let w = world_of t log held.history faults moment in
-    let w' = world_of t' m.log' m.held'.history faults' moment' in
-    let does : Creates def w w' reply → DoesDefine d t.known w w' reply =
-    λ c. subst (λ (o : Option (List TableDef)). DoesDefine d o w w' reply) (sym known) (subst (λ (o : Option TableDef). CreatesTable o w w' reply) (sym may) c)
-    in
-    record { log' = m.log'; held' = m.held'; tells = m.tells; slots = m.slots; stands = m.stands; made = elim m.made [ inl c ↦ inl (does c) | inr x ↦ inr x ] }

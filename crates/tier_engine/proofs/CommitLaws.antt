@@ -3,14 +3,12 @@ use Rattle.std.proofs.Common.{◌≡◌, ℕ, zero, suc, ◌+◌, ◌≤◌, ◌
 use Rattle.std.specs.Option.{option_and_then}
 use Rattle.std.proofs.lemmas.Bool.{eqb-true, eq-eqb}
 use Rattle.std.proofs.lemmas.List.{map-append, take-append-drop}
-use Rattle.table_state.specs.declared.definition.TableDef.{TableDef}
 use Rattle.table_state.specs.declared.history.Entry.{Entry}
 use Rattle.table_state.specs.declared.history.Sealed.{Sealed}
 use Rattle.table_state.specs.Tables.{TableState}
 use Rattle.table_state.specs.Operations.{applied_all}
 use Rattle.table_state.specs.Histories.{has_ticket, is_of, entry_of, state_from, state_of, after_entry, no_tables}
 use Rattle.tier_engine.specs.Commits.{RiseBetween, pending, applied_sealed, virtual_state, Once}
-use Rattle.tier_engine.specs.Standing.{definition_entries}
 
 or_assoc : (a b c : Bool) → (a || (b || c)) ≡ ((a || b) || c)
 or_assoc true b c = refl
@@ -27,10 +25,6 @@ or_true false = refl
 pub has_ticket-append : (t : ℕ) (xs ys : List Entry) → has_ticket t (xs ++ ys) ≡ (has_ticket t xs || has_ticket t ys)
 has_ticket-append t [] ys = refl
 has_ticket-append t (x ∷ xs) ys = ap (λ b. is_of t x || b) (has_ticket-append t xs ys) ∙ or_assoc (is_of t x) (has_ticket t xs) (has_ticket t ys)
-
-pub has_definitions : (t : ℕ) (defs : List TableDef) → has_ticket t (definition_entries defs) ≡ false
-has_definitions t [] = refl
-has_definitions t (def ∷ defs) = has_definitions t defs
 
 pub nat_eq_other : (a b : ℕ) → (a ≡ b → ⊥) → nat_eq a b ≡ false
 nat_eq_other a b differ = by_test (nat_eq a b) refl
@@ -107,24 +101,9 @@ state_from-append (x ∷ xs) ys s =
     by_option (state_from (xs ++ ys)) (λ s'. option_and_then (state_from ys) (state_from xs s')) (λ s'. state_from-append xs ys s') (after_entry x s)
     ∙ nested (state_from xs) (state_from ys) (after_entry x s)
 
-applied_sealed-state_from : (log : List Sealed) (s : TableState) → applied_sealed log s ≡ state_from (map entry_of log) s
+pub applied_sealed-state_from : (log : List Sealed) (s : TableState) → applied_sealed log s ≡ state_from (map entry_of log) s
 applied_sealed-state_from [] s = refl
 applied_sealed-state_from (x ∷ log) s = by_option (applied_sealed log) (state_from (map entry_of log)) (λ s'. applied_sealed-state_from log s') (applied_all x.ops s)
-
--- over definitions and a front of the log, the virtual state is that of definitions and the whole log
-pub virtual_whole : (defs : List TableDef) (low n : ℕ) (log : List Sealed) (high : ℕ) → RiseBetween low log high
-    → virtual_state (definition_entries defs ++ map entry_of (take n log)) log ≡ state_of (definition_entries defs ++ map entry_of log)
-virtual_whole defs low n log high rise =
-    let front = definition_entries defs ++ map entry_of (take n log) in
-    let waiting : pending front log ≡ drop n log = pending_front (definition_entries defs) low n log high (λ t l. has_definitions t defs) rise in
-    let parted : map entry_of (take n log) ++ map entry_of (drop n log) ≡ map entry_of log =
-    sym (map-append entry_of (take n log) (drop n log)) ∙ ap (map entry_of) (take-append-drop n log)
-    in
-    ap (λ l. option_and_then (applied_sealed l) (state_of front)) waiting
-    ∙ by_option (applied_sealed (drop n log)) (state_from (map entry_of (drop n log))) (λ s. applied_sealed-state_from (drop n log) s) (state_of front)
-    ∙ sym (state_from-append front (map entry_of (drop n log)) no_tables)
-    ∙ ap state_of (append_assoc (definition_entries defs) (map entry_of (take n log)) (map entry_of (drop n log)))
-    ∙ ap (λ l. state_of (definition_entries defs ++ l)) parted
 
 -- one transaction more behind the log
 pub state_push : (front : List Entry) (log : List Sealed) (s : Sealed) → state_of (front ++ map entry_of (log ++ s ∷ [])) ≡ option_and_then (applied_all s.ops) (state_of (front ++ map entry_of log))
@@ -138,14 +117,20 @@ state_push front log s =
     once_more None = refl
     once_more (Some x) = refl
 
+-- one transaction more behind the history
+pub state_one : (h : List Entry) (s : Sealed) → state_of (h ++ entry_of s ∷ []) ≡ option_and_then (applied_all s.ops) (state_of h)
+state_one h s =
+    state_from-append h (entry_of s ∷ []) no_tables
+    ∙ by_option (state_from (entry_of s ∷ [])) (applied_all s.ops) (λ x. once_more (applied_all s.ops x)) (state_of h)
+  where
+  once_more : (o : Option TableState) → option_and_then (state_from []) o ≡ o
+  once_more None = refl
+  once_more (Some x) = refl
+
 -- tickets of a rising log stand in its history once
 pub once_rising : (low : ℕ) (log : List Sealed) (high : ℕ) → RiseBetween low log high → Once (map entry_of log)
 once_rising low [] high rise = tt
 once_rising low (s ∷ log) high rise = (none_below s.ticket.0 (s.ticket.0 + 1) log high rise.1 (Prim.omega arith), once_rising (s.ticket.0 + 1) log high rise.1)
-
-pub once_definitions : (defs : List TableDef) (h : List Entry) → Once h → Once (definition_entries defs ++ h)
-once_definitions [] h o = o
-once_definitions (def ∷ defs) h o = once_definitions defs h o
 
 -- the front of a rising log rises
 pub rise_take : (n low : ℕ) (log : List Sealed) (high : ℕ) → RiseBetween low log high → RiseBetween low (take n log) high

@@ -1,211 +1,253 @@
 -- A COMMIT is a step of the tier.
-use Rattle.std.proofs.Common.{◌≡◌, ℕ, zero, suc, ◌+◌, ◌≤◌, ◌<◌, ◌⊎◌, List, [], ◌∷◌, ◌++◌, length, map, take, Option, Some, None, Bool, true, false, ◌||◌, not, cond, nat_eq, nat_lt, nat_le, refl, sym, ◌∙◌, ap, subst, unwrap_or, inl, inr, arith, length-append}
-use Rattle.std.specs.List.{slice_get, slice_set}
-use Rattle.std.specs.Option.{option_map, option_and_then, is_some, IfSome}
-use Rattle.std.specs.Ordering.{eq_by_cmp}
-use Rattle.std.specs.FinMap.{insert, empty, get, get-insert}
+use Rattle.std.proofs.Common.{◌≡◌, ℕ, zero, suc, ◌+◌, ◌≤◌, ◌<◌, ◌⊎◌, List, [], ◌∷◌, ◌++◌, length, map, take, drop, Option, Some, None, Bool, true, false, ◌||◌, not, cond, nat_eq, nat_lt, nat_le, refl, sym, ◌∙◌, ap, subst, inl, inr, arith, length-append, append-nil}
+use Rattle.std.specs.Prelude.{◌^◌}
+use Rattle.std.specs.List.{filter, list_all, list_any, flat_map, slice_get}
+use Rattle.std.specs.Option.{option_map, option_and_then, option_or, is_some, IfSome, IsSome}
+use Rattle.std.specs.FinMap.{contains_key, get}
 use Rattle.std.specs.FinSet as set
-use Rattle.std.proofs.lemmas.Bool.{lt-ltb, le-leb}
+use Rattle.std.proofs.lemmas.Bool.{lt-ltb, lt-leb, le-leb}
 use Rattle.std.proofs.lemmas.List.{take-append-le, drop-append-le}
-use Rattle.row_types.specs.declared.value.Value.{Value}
-use Rattle.row_types.specs.Order.{key_order}
-use Rattle.row_types.proofs.OrderLaws.{key_total, key_exact}
-use Rattle.tier_base.specs.declared.number.TableId.{TableId}
+use Rattle.std.proofs.lemmas.List.Elements.{filter-append}
+use Rattle.std.proofs.lemmas.List.Folds.{list_all-append, list_any-append}
+use Rattle.std.proofs.lemmas.Grind.{flat_map-append}
 use Rattle.tier_base.specs.declared.limit.Limit.TheVariants as limit
 use Rattle.tier_base.specs.Limits.{greatest}
+use Rattle.row_types.specs.declared.value.Value.{Value}
+use Rattle.row_types.proofs.OrderLaws.{key_total, key_exact}
 use Rattle.table_state.specs.declared.definition.TableDef.{TableDef}
 use Rattle.table_state.specs.declared.operation.Op.{Op}
-use Rattle.table_state.specs.declared.operation.Op.TheVariants.{Insert, Update, Delete}
 use Rattle.table_state.specs.declared.history.Entry.{Entry}
 use Rattle.table_state.specs.declared.history.Sealed.{Sealed}
-use Rattle.table_state.specs.Tables.{Table, TableState, table_at, key_of}
-use Rattle.table_state.specs.Operations.{applied, applied_all, with_row, only_if}
-use Rattle.table_state.specs.Histories.{state_of, entry_of}
+use Rattle.table_state.specs.Tables.{Table, TableState}
+use Rattle.table_state.specs.Operations.{applied_all}
+use Rattle.table_state.specs.Histories.{has_ticket, state_of, entry_of}
 use Rattle.sql_subset.specs.declared.stmt.Stmt.TheVariants as statement
 use Rattle.tier_engine.specs.declared.reply.Reply.{Reply}
-use Rattle.tier_engine.specs.declared.reply.Last.TheVariants.{Done}
+use Rattle.tier_engine.specs.declared.reply.Last.TheVariants.{Done, No}
 use Rattle.tier_engine.specs.declared.tier.Tier.{Tier}
 use Rattle.tier_engine.specs.declared.tier.Group.{Group}
 use Rattle.tier_engine.specs.declared.tier.Session.{Session}
-use Rattle.tier_engine.specs.Commits.{RiseBetween}
-use Rattle.tier_engine.specs.TierStates.{TierState, GroupState, SessionState}
-use Rattle.tier_engine.specs.Answers.{Answer, only, refused, committed, commit_answer, keys_after, group_after}
-use Rattle.tier_engine.specs.Steps.{World, Quiet, ForSession, WantsMemory}
-use Rattle.tier_engine.specs.Storing.{Seals, SealsOr}
-use Rattle.tier_engine.specs.Standing.{StandsFor, KeepsRows, KeepsOne, AreInserts, one_table, Turns, tier_state, group_state, session_state, own_in, world_of, key_set, definition_entries}
-use Rattle.tier_engine.proofs.CommitLaws.{state_push}
-use Rattle.tier_engine.proofs.ShownLaws.{has_key_set}
-use Rattle.tier_engine.proofs.InsertSteps.{turns_first, one_group, first_table}
-use Rattle.tier_engine.proofs.StandingLaws.{memory_turns}
+use Rattle.tier_engine.specs.Commits.{RiseBetween, pending, virtual_state, applied_sealed, own_entries, in_commit_order}
+use Rattle.tier_engine.specs.TierStates.{TierState, GroupState, SessionState, keys_after}
+use Rattle.row_types.specs.declared.rule.Rule.{Rule}
+use Rattle.tier_engine.specs.Refusals.{at_limit, commit_fault, past}
+use Rattle.tier_engine.specs.Answers.{Answer, only, committed, commit_answer, commit_of, group_after, refuses, unless}
+use Rattle.tier_engine.specs.Steps.{World, Quiet, InSession, WantsMemory}
+use Rattle.tier_engine.specs.Storing.{Seals, SealsOr, emptied}
+use Rattle.tier_engine.specs.Standing.{StandsFor, InOpen, Turns, Shows, ShowAll, AreIn, committed_rows, group_state, inserts_at, is_insert, is_stored, key_set, ops_of, own_in, session_state, session_in, tier_state, world_of, HasOwnKeys}
+use Rattle.tier_engine.proofs.CommitLaws.{none_below}
+use Rattle.tier_engine.proofs.OwnLaws.{front_tickets}
+use Rattle.tier_engine.proofs.OpLaws.{inserts_schema, inserts_whole}
+use Rattle.tier_engine.proofs.SelectSteps.{IsOpen, opened_step, quiet_same}
+use Rattle.tier_engine.proofs.ShownLaws.{get_before, has_key_set, keys_are}
+use Rattle.tier_engine.proofs.StandingLaws.{and_true, are_inserts, memory_turns, same_world, turns_first}
 
 -- one transaction more with the next ticket
 rise_push : (low : ℕ) (log : List Sealed) (s : Sealed) (high : ℕ) → RiseBetween low log high → s.ticket.0 ≡ high → RiseBetween low (log ++ s ∷ []) (high + 1)
 rise_push low [] s high rise e = let first : low ≤ high = rise in let here : low ≤ s.ticket.0 = Prim.omega arith in let more : s.ticket.0 + 1 ≤ high + 1 = Prim.omega arith in (here, more)
 rise_push low (x ∷ log) s high rise e = (rise.0, rise_push (x.ticket.0 + 1) log s high rise.1 e)
 
--- the keys of a table with one row more
-key_set_insert : (table : Table) (k row : List Value) → set.insert (key_set table) k ≡ key_set (insert table k row)
-key_set_insert table k row = set.same_set key_total key_exact (set.insert (key_set table) k) (key_set (insert table k row))
-    (λ q. set.contains-insert key_total (key_set table) k q ∙ ap (λ b. eq_by_cmp key_order q k || b) (has_key_set table q)
-    ∙ sym (has_key_set (insert table k row) q ∙ ap is_some (get-insert key_total table k row q) ∙ by_bool (eq_by_cmp key_order q k) (get table q)))
+-- the next ticket isn't in the log, nor in a front of it
+none_next : (low : ℕ) (log : List Sealed) (high n : ℕ) → RiseBetween low log high → has_ticket high (map entry_of (take n log)) ≡ false
+none_next low log high zero rise = refl
+none_next low [] high (suc n) rise = refl
+none_next low (s ∷ log) high (suc n) rise =
+    let below : s.ticket.0 + 1 ≤ high = least (s.ticket.0 + 1) log high rise.1 in
+    ap (λ b. b || has_ticket high (map entry_of (take n log))) (other s.ticket.0 high (λ e. Prim.omega arith)) ∙ none_next (s.ticket.0 + 1) log high n rise.1
   where
-    by_bool : (b : Bool) (o : Option (List Value)) → is_some (cond b (Some row) o) ≡ (b || is_some o)
-    by_bool true o = refl
-    by_bool false o = refl
+  least : (low : ℕ) (log : List Sealed) (high : ℕ) → RiseBetween low log high → low ≤ high
+  least low [] high rise = rise
+  least low (s ∷ log) high rise = let more : s.ticket.0 + 1 ≤ high = least (s.ticket.0 + 1) log high rise.1 in let first : low ≤ s.ticket.0 = rise.0 in Prim.omega arith
+  other : (a b : ℕ) → (a ≡ b → ⊥) → nat_eq a b ≡ false
+  other a b differ = by_test (nat_eq a b) refl
+    where
+    by_test : (r : Bool) → nat_eq a b ≡ r → nat_eq a b ≡ false
+    by_test true e = absurd (differ (Rattle.std.proofs.lemmas.Bool.eqb-true a b e))
+    by_test false e = e
 
-some_same : {X : Type 0} {a b : X} → Some a ≡ Some b → a ≡ b
-some_same {X} {a} {b} e = ap (λ o. unwrap_or o a) e
-
-abbrev table_in : Table → List Table → Table
-table_in d [] = d
-table_in d (t ∷ tables) = t
-
--- what an insert at the n-th table makes of a state of one table
-abbrev at_place : TableDef → Table → List Value → ℕ → Option TableState
-at_place def x row n =
-    option_and_then (λ d. option_and_then (λ table. option_map (λ new. let s : TableState = record { schema = def ∷ []; tables = slice_set (x ∷ []) n new } in s) (with_row (one_table def x) row d table)) (slice_get (x ∷ []) n)) (slice_get (def ∷ []) n)
-
-inserted_at : (def : TableDef) (x : Table) (row : List Value) (n : ℕ) (s : TableState) → at_place def x row n ≡ Some s → (n ≡ 0) × (s ≡ one_table def (insert x (key_of def.primary_key row) row))
-inserted_at def x row zero s e = (refl, by_test _ e)
+applied_push : (log : List Sealed) (s : Sealed) (x : TableState) → applied_sealed (log ++ s ∷ []) x ≡ option_and_then (applied_all s.ops) (applied_sealed log x)
+applied_push [] s x = once (applied_all s.ops x)
   where
-    new : Table
-    new = insert x (key_of def.primary_key row) row
-
-    as_state : Table → TableState
-    as_state t = record { schema = def ∷ []; tables = t ∷ [] }
-
-    by_test : (b : Bool) → option_map as_state (only_if b new) ≡ Some s → s ≡ as_state new
-    by_test true p = Prim.cc
-    by_test false p = Prim.cc
-inserted_at def x row (suc n) s e = Prim.cc
-
-inserted_one : (def : TableDef) (x : Table) (table : TableId) (row : List Value) (s : TableState) → applied (Insert table row) (one_table def x) ≡ Some s
-    → (table.0 ≡ 0) × (s ≡ one_table def (insert x (key_of def.primary_key row) row))
-inserted_one def x table row s e = inserted_at def x row table.0 s e
-
-by_state : (g : GroupState) (first : g.table.0 ≡ 0) (table : TableId) (row : List Value) (own : List Op) (x rows : Table)
-    → ((x' : Table) → applied_all own (one_table g.def x') ≡ Some (one_table g.def rows) → keys_after g own (key_set x') ≡ key_set rows)
-    → (o : Option TableState) → applied (Insert table row) (one_table g.def x) ≡ o → option_and_then (applied_all own) o ≡ Some (one_table g.def rows) → keys_after g (Insert table row ∷ own) (key_set x) ≡ key_set rows
-by_state g first table row own x rows more None p q = Prim.cc
-by_state g first table row own x rows more (Some s) p q =
-    let k = key_of g.def.primary_key row in
-    let one = inserted_one g.def x table row s p in
-    let same : nat_eq table.0 g.table.0 ≡ true = ap (λ n. nat_eq n g.table.0) one.0 ∙ ap (λ n. nat_eq 0 n) first in
-    ap (λ b. keys_after g own (cond b (set.insert (key_set x) k) (key_set x))) same
-    ∙ ap (keys_after g own) (key_set_insert x k row)
-    ∙ more (insert x k row) (ap (applied_all own) (sym one.1) ∙ q)
-
--- the keys that the writes insert are those of the rows that they make
-keys_follow : (g : GroupState) (first : g.table.0 ≡ 0) (own : List Op) (x : Table) (rows : Table) → AreInserts own → applied_all own (one_table g.def x) ≡ Some (one_table g.def rows)
-    → keys_after g own (key_set x) ≡ key_set rows
-keys_follow g first [] x rows are e = ap key_set same
+  once : (o : Option TableState) → option_and_then (applied_sealed []) o ≡ o
+  once None = refl
+  once (Some y) = refl
+applied_push (l ∷ log) s x = by_state (applied_push log s) (applied_all l.ops x)
   where
-    same : x ≡ rows
-    same = let p : ◌≡◌ {A = Option TableState} (Some (one_table g.def x)) (Some (one_table g.def rows)) = e in let q : x ∷ [] ≡ rows ∷ [] = ap (λ (s : TableState). s.tables) (some_same p) in ap (table_in x) q
-keys_follow g first (Insert table row ∷ own) x rows are e =
-    by_state g first table row own x rows (λ x' p. keys_follow g first own x' rows are p) (applied (Insert table row) (one_table g.def x)) refl e
-keys_follow g first (Update table old new ∷ own) x rows are e = absurd are
-keys_follow g first (Delete table old ∷ own) x rows are e = absurd are
+  by_state : ((y : TableState) → applied_sealed (log ++ s ∷ []) y ≡ option_and_then (applied_all s.ops) (applied_sealed log y)) → (o : Option TableState)
+      → option_and_then (applied_sealed (log ++ s ∷ [])) o ≡ option_and_then (applied_all s.ops) (option_and_then (applied_sealed log) o)
+  by_state more None = refl
+  by_state more (Some y) = more y
 
--- the committed transaction
-sealed_by : Tier → Session → Sealed
-sealed_by t s = record { ticket = record { 0 = t.next }; ops = s.own }
+-- the virtual state with one transaction more, whose ticket the history hasn't
+pub virtual_push : (h : List Entry) (log : List Sealed) (s : Sealed) → has_ticket s.ticket.0 h ≡ false → virtual_state h (log ++ s ∷ []) ≡ option_and_then (applied_all s.ops) (virtual_state h log)
+virtual_push h log s fresh =
+    let more : pending h (log ++ s ∷ []) ≡ pending h log ++ s ∷ [] =
+        filter-append (λ (x : Sealed). not (has_ticket x.ticket.0 h)) log (s ∷ []) ∙ ap (λ b. pending h log ++ cond (not b) (s ∷ []) []) fresh
+    in
+    ap (λ l. option_and_then (applied_sealed l) (state_of h)) more ∙ by_state (state_of h)
+  where
+  by_state : (o : Option TableState) → option_and_then (applied_sealed (pending h log ++ s ∷ [])) o ≡ option_and_then (applied_all s.ops) (option_and_then (applied_sealed (pending h log)) o)
+  by_state None = refl
+  by_state (Some x) = applied_push (pending h log) s x
 
-append_take : (n : ℕ) (xs ys : List Sealed) → n ≤ length xs → take n (xs ++ ys) ≡ take n xs
-append_take n xs ys h = take-append-le n xs ys h
+ops_push : (log : List Sealed) (s : Sealed) → ops_of (log ++ s ∷ []) ≡ ops_of log ++ s.ops
+ops_push log s = flat_map-append (λ (x : Sealed). x.ops) log (s ∷ []) ∙ ap (λ l. ops_of log ++ l) (append-nil s.ops)
 
--- a commit that nothing refuses
-commits : (t : TierState) (s : SessionState) → 0 < length s.own → length t.unsettled < 4096 → t.next ≤ 9223372036854775807 → commit_answer t s ≡ (committed t s, only (Done t.next))
-commits t s some room ticket =
-    let done : Answer = (committed t s, only (Done t.next)) in
-    ap (λ b. cond (not b) (t, only (Done 0)) (cond (not (nat_lt (length t.unsettled) (greatest limit.Pending))) (t, refused) (cond (not (nat_le t.next (greatest limit.Tickets))) (t, refused) done))) (lt-ltb 0 (length s.own) some)
-    ∙ ap (λ b. cond (not b) (t, refused) (cond (not (nat_le t.next (greatest limit.Tickets))) (t, refused) done)) (lt-ltb (length t.unsettled) 4096 room)
-    ∙ ap (λ b. cond (not b) (t, refused) done) (le-leb t.next 9223372036854775807 ticket)
+-- a group behind the commit of the session's writes
+commit_shows : (top : TableState) (log own : List Op) (g : Group) → Shows top log own g → Shows top (log ++ own) [] g
+commit_shows top log own g x = record {
+  defined = x.defined;
+  alone = x.alone;
+  rows = x.rows;
+  writes = λ key none. Prim.cc;
+  committed = λ key any. by_log key (list_any (inserts_at g.table g.def.primary_key key) log) refl any;
+}
+  where
+  still : (key : List Value) → contains_key (committed_rows own g) key ≡ true → contains_key g.rows key ≡ true
+  still key there = by_own (list_any (inserts_at g.table g.def.primary_key key) own) (sym (ap is_some (get_before g.table g.def.primary_key own g.rows key)) ∙ there)
+    where
+    by_own : (b : Bool) → is_some (cond b None (get g.rows key)) ≡ true → contains_key g.rows key ≡ true
+    by_own true e = Prim.cc
+    by_own false e = e
+  by_log : (key : List Value) (b : Bool) → list_any (inserts_at g.table g.def.primary_key key) log ≡ b → list_any (inserts_at g.table g.def.primary_key key) (log ++ own) ≡ true → contains_key g.rows key ≡ true
+  by_log key true e any = still key (x.committed key e)
+  by_log key false e any =
+      let mine : list_any (inserts_at g.table g.def.primary_key key) own ≡ true =
+          ap (λ b. b || list_any (inserts_at g.table g.def.primary_key key) own) (sym e) ∙ sym (list_any-append (inserts_at g.table g.def.primary_key key) log own) ∙ any
+      in
+      x.writes key mine
 
--- one group and an open session
-sealed_one : (t t' : Tier) (log : List Sealed) (h : List Entry) (reply : Reply) (g : Group) (s : Session) (stands : StandsFor t log h) → t.groups.items ≡ g ∷ [] → t.session ≡ Some s
-    → KeepsOne g s.own stands.defs stands.base → 0 < length s.own → length t.unsettled.items < 4096 → t.next ≤ 9223372036854775807 → Seals t t' s reply
-    → Turns t t' log h (λ w w'. ForSession w.tier.session statement.Commit w w' reply)
-sealed_one t t' log h reply g s stands one opened k some room ticket x =
+commit_all : (top : TableState) (log own : List Op) (groups : List Group) → ShowAll top log own groups → ShowAll top (log ++ own) [] groups
+commit_all top log own [] all = tt
+commit_all top log own (g ∷ groups) all = (commit_shows top log own g all.0, commit_all top log own groups all.1)
+
+-- its list of keys
+commit_state : (own : List Op) (g : Group) → list_all is_insert own ≡ true → AreIn g.table g.def.primary_key g.rows own → group_state [] g ≡ group_after own (group_state own g)
+commit_state own g are writes =
+    let same : key_set g.rows ≡ keys_after (group_state own g) own (group_state own g).keys =
+        set.same_set key_total key_exact (key_set g.rows) (keys_after (group_state own g) own (group_state own g).keys) (λ q. has_key_set g.rows q ∙ sym (keys_are own g q are writes))
+    in
+    λ i. record { name = g.name; table = g.table; def = g.def; keys = same i }
+
+commit_states : (top : TableState) (log own : List Op) (groups : List Group) → list_all is_insert own ≡ true → ShowAll top log own groups → map (group_state []) groups ≡ map (group_after own) (map (group_state own) groups)
+commit_states top log own [] are all = refl
+commit_states top log own (g ∷ groups) are all = λ i. commit_state own g are all.0.writes i ∷ commit_states top log own groups are all.1 i
+
+by_fault : (t : TierState) (s : SessionState) (own : List Op) (o : Option Rule) → 0 < length own → commit_fault t ≡ o → commit_of t s own ≡ unless t o (committed t s, only (Done t.next))
+by_fault t s [] o some e = absurd (Prim.omega arith)
+by_fault t s (op ∷ own) o some e = ap (λ x. unless t x (committed t s, only (Done t.next))) e
+
+-- why a commit of writes is refused, or that it isn't
+fault_is : (t : Tier) (log : List Sealed) (n : ℕ) (pending tickets : Option Rule) → n ≡ length t.unsettled.items → pending ≡ at_limit limit.Pending n → tickets ≡ cond (nat_le t.next (greatest limit.Tickets)) None (past limit.Tickets)
+    → commit_fault (tier_state t log) ≡ option_or pending tickets
+fault_is t log n pending tickets e p q = λ i. option_or (sym (p ∙ ap (at_limit limit.Pending) e) i) (sym q i)
+
+pub pending_full : (t : Tier) (log : List Sealed) (n : ℕ) (rule : Rule) → n ≡ length t.unsettled.items → Some rule ≡ at_limit limit.Pending n → commit_fault (tier_state t log) ≡ Some rule
+pending_full t log n rule e told = fault_is t log n (Some rule) (cond (nat_le t.next (greatest limit.Tickets)) None (past limit.Tickets)) e told refl
+
+pub tickets_used : (t : Tier) (log : List Sealed) (n : ℕ) (rule : Rule) → n ≡ length t.unsettled.items → None ≡ at_limit limit.Pending n → greatest limit.Tickets < t.next → Some rule ≡ past limit.Tickets
+    → commit_fault (tier_state t log) ≡ Some rule
+tickets_used t log n rule e free over told =
+    fault_is t log n None (Some rule) e free (told ∙ sym (ap (λ b. cond b None (past limit.Tickets)) (lt-leb t.next (greatest limit.Tickets) over)))
+
+pub not_refused : (t : Tier) (log : List Sealed) (n : ℕ) → n ≡ length t.unsettled.items → None ≡ at_limit limit.Pending n → t.next ≤ greatest limit.Tickets → commit_fault (tier_state t log) ≡ None
+not_refused t log n e free within = fault_is t log n None None e free (sym (ap (λ b. cond b None (past limit.Tickets)) (le-leb t.next (greatest limit.Tickets) within)))
+
+-- a commit that is refused
+pub refused_turns : (t : Tier) (log : List Sealed) (h : List Entry) (reply : Reply) (rule : Rule) (o : IsOpen t) → 0 < length o.session.own → commit_fault (tier_state t log) ≡ Some rule → reply ≡ only (No rule) → StandsFor t log h
+    → Turns t t log h (λ w w'. InOpen w.tier.session statement.Commit w w' reply ⊎ WantsMemory w w' reply)
+refused_turns t log h reply rule o some fault told stands = quiet_same t log h _ stands (λ faults moment.
+    let w = world_of t log h faults moment in
+    let st = tier_state t log in
+    let ss = session_state o.session in
+    let answer : commit_answer st ss ≡ refuses st rule = by_fault st ss o.session.own (Some rule) some fault in
+    let quiet : Quiet w (commit_answer st ss) w reply = (same_world st _ h faults moment (sym (ap (λ (a : Answer). a.0) answer)), told ∙ sym (ap (λ (a : Answer). a.1) answer)) in
+    inl (opened_step t statement.Commit w w reply o quiet))
+
+-- a commit of nothing
+pub empty_turns : (t : Tier) (log : List Sealed) (h : List Entry) (reply : Reply) (o : IsOpen t) → length o.session.own ≡ 0 → reply ≡ only (Done 0) → StandsFor t log h
+    → Turns t t log h (λ w w'. InOpen w.tier.session statement.Commit w w' reply ⊎ WantsMemory w w' reply)
+empty_turns t log h reply o none told stands = quiet_same t log h _ stands (λ faults moment.
+    let w = world_of t log h faults moment in
+    let st = tier_state t log in
+    let ss = session_state o.session in
+    let answer : commit_answer st ss ≡ (st, only (Done 0)) = nothing st ss o.session.own none in
+    let quiet : Quiet w (commit_answer st ss) w reply = (same_world st _ h faults moment (sym (ap (λ (a : Answer). a.0) answer)), told ∙ sym (ap (λ (a : Answer). a.1) answer)) in
+    inl (opened_step t statement.Commit w w reply o quiet))
+  where
+  nothing : (t : TierState) (s : SessionState) (own : List Op) → length own ≡ 0 → commit_of t s own ≡ (t, only (Done 0))
+  nothing t s [] e = refl
+  nothing t s (op ∷ own) e = Prim.cc
+
+pub seals_step : (t t' : Tier) (log : List Sealed) (h : List Entry) (reply : Reply) (o : IsOpen t) (stands : StandsFor t log h) → 0 < length o.session.own → commit_fault (tier_state t log) ≡ None → t.next ≤ 9223372036854775807
+    → Seals t t' o.session reply → Turns t t' log h (λ w w'. InOpen w.tier.session statement.Commit w w' reply)
+seals_step t t' log h reply o stands some room ticket x =
+    let s = o.session in
     let new : Sealed = record { ticket = record { 0 = t.next }; ops = s.own } in
     let log' = log ++ new ∷ [] in
-    let base' = one_table g.def g.rows in
-    let st = tier_state t log h in
-    let ss = session_state s in
+    let mine : own_in t.session ≡ s.own = ap own_in o.is in
+    let none : own_in t'.session ≡ [] = ap own_in x.session in
     let longer : length log' ≡ length log + 1 = length-append log (new ∷ []) in
-    let all' : state_of (definition_entries stands.defs ++ map entry_of log') ≡ Some base' =
-    state_push (definition_entries stands.defs) log new ∙ ap (option_and_then (applied_all s.own)) stands.all ∙ k.over
-    in
-    let groups' : t'.groups.items ≡ g ∷ [] = x.groups ∙ one in
-    let keeps : KeepsOne g [] stands.defs base' = record { first = k.first; alone = k.alone; defined = k.defined; inserts = tt; committed = g.rows; below = refl; over = refl } in
-    let within' : stands.came ≤ length log' = let w : stands.came ≤ length log = stands.within in Prim.omega arith in
+    let w : stands.came ≤ length log = stands.within in
+    let front : take stands.came log' ≡ take stands.came log = take-append-le stands.came log (new ∷ []) w in
+    let fresh : has_ticket t.next h ≡ false = front_tickets h log stands.came stands.owns t.next ∙ none_next 1 log t.next stands.came stands.rise in
+    let are : list_all is_insert s.own ≡ true = are_inserts t.groups.items s.own (ap (list_all (is_stored t.groups.items)) (sym mine) ∙ stands.writing) in
+    let over : applied_all s.own stands.base ≡ Some stands.top = ap (λ l. applied_all l stands.base) (sym mine) ∙ stands.over in
+    let all : ShowAll stands.top (ops_of log) s.own t.groups.items = subst (λ (l : List Op). ShowAll stands.top (ops_of log) l t.groups.items) mine stands.shows in
+    let schema : stands.top.schema ≡ stands.base.schema = inserts_schema s.own stands.base stands.top are over in
     let stands' : StandsFor t' log' h = record {
-      rise = subst (λ n. RiseBetween 1 log' n) (sym x.next) (rise_push 1 log new t.next stands.rise refl);
-      last = let n : t'.next ≡ t.next + 1 = x.next in Prim.omega arith;
-      defs = stands.defs;
-      came = stands.came;
-      received = stands.received;
-      is = stands.is ∙ ap (λ l. definition_entries stands.defs ++ map entry_of l) (sym (append_take stands.came log (new ∷ []) stands.within));
-      within = within';
-      at_least = stands.at_least;
-      at_most = stands.at_most;
-      rest = x.unsettled ∙ ap (λ l. l ++ new ∷ []) stands.rest
-          ∙ sym (drop-append-le stands.received log (new ∷ []) (let a : stands.received ≤ stands.came = stands.at_least in let b : stands.came ≤ length log = stands.within in Prim.omega arith));
-      knows = subst (λ (o : Option (List TableDef)). IfSome o (λ schema. schema ≡ stands.defs)) (sym x.known) stands.knows;
-      single = stands.single;
-      base = base';
-      all = all';
-      rows = subst (λ (gs : List Group). KeepsRows gs (own_in t'.session) stands.defs log' base') (sym groups')
-          (subst (λ (o : Option Session). KeepsRows (g ∷ []) (own_in o) stands.defs log' base') (sym x.session) keeps);
-    }
+          rise = subst (λ n. RiseBetween 1 log' n) (sym x.next) (rise_push 1 log new t.next stands.rise refl);
+          last = let n : t'.next ≡ t.next + 1 = x.next in Prim.omega arith;
+          came = stands.came;
+          received = stands.received;
+          owns = stands.owns ∙ ap (map entry_of) (sym front);
+          within = Prim.omega arith;
+          at_least = stands.at_least;
+          at_most = stands.at_most;
+          rest = x.unsettled ∙ ap (λ l. l ++ new ∷ []) stands.rest ∙ sym (drop-append-le stands.received log (new ∷ []) (let a : stands.received ≤ stands.came = stands.at_least in Prim.omega arith));
+          ordered = ap (in_commit_order h) front ∙ stands.ordered;
+          base = stands.top;
+          virtual = virtual_push h log new fresh ∙ ap (option_and_then (applied_all s.own)) stands.virtual ∙ over;
+          whole = inserts_whole s.own stands.base stands.top are over stands.whole;
+          knows = subst (λ (k : Option (List TableDef)). IfSome k (λ defs. defs ≡ stands.top.schema)) (sym x.known) (subst (λ (d : List TableDef). IfSome t.known (λ defs. defs ≡ d)) (sym schema) stands.knows);
+          top = stands.top;
+          over = ap (λ l. applied_all l stands.top) none;
+          logged = ap (λ gs. list_all (is_stored gs) (ops_of log')) x.groups ∙ ap (list_all (is_stored t.groups.items)) (ops_push log new) ∙ list_all-append (is_stored t.groups.items) (ops_of log) s.own
+              ∙ and_true _ _ stands.logged (ap (list_all (is_stored t.groups.items)) (sym mine) ∙ stands.writing);
+          writing = ap (list_all (is_stored t'.groups.items)) none;
+          shows = subst (λ (l : List Op). ShowAll stands.top (ops_of log') l t'.groups.items) (sym none)
+              (subst (λ (gs : List Group). ShowAll stands.top (ops_of log') [] gs) (sym x.groups)
+                  (subst (λ (l : List Op). ShowAll stands.top l [] t.groups.items) (sym (ops_push log new)) (commit_all stands.top (ops_of log) s.own t.groups.items all)));
+          apart = subst (λ (gs : List Group). Rattle.tier_engine.specs.Standing.AreApart gs) (sym x.groups) stands.apart;
+          keys = subst (λ (k : Option Session). HasOwnKeys t'.groups.items k) (sym x.session) tt;
+        }
     in
-    let base_state : (tier_state t log h).groups ≡ group_state stands.base g ∷ [] = one_group t log h stands g one in
-    let rows_state : (tier_state t' log' h).groups ≡ group_state base' g ∷ [] = one_group t' log' h stands' g groups' in
-    let below_rows : table_at stands.base g.table ≡ k.committed = ap (λ (y : TableState). table_at y g.table) k.below ∙ ap (λ n. unwrap_or {T = Table} (slice_get {X = Table} (k.committed ∷ []) n) empty) k.first in
-    let over_rows : table_at base' g.table ≡ g.rows = first_table g k.first in
-    let over : applied_all s.own (one_table g.def k.committed) ≡ Some (one_table g.def g.rows) = ap (applied_all s.own) (sym k.below) ∙ k.over in
-    let follow : keys_after (group_state stands.base g) s.own (key_set (table_at stands.base g.table)) ≡ key_set (table_at base' g.table) =
-    ap (λ y. keys_after (group_state stands.base g) s.own (key_set y)) below_rows
-    ∙ keys_follow (group_state stands.base g) k.first s.own k.committed g.rows k.inserts over
-    ∙ ap key_set (sym over_rows)
+    let st = tier_state t log in
+    let ss = session_state s in
+    let groups_after : (tier_state t' log').groups ≡ map (group_after s.own) st.groups =
+        ap (λ l. map (group_state l) t'.groups.items) none ∙ ap (map (group_state [])) x.groups ∙ commit_states stands.top (ops_of log) s.own t.groups.items are all
+        ∙ ap (λ l. map (group_after s.own) (map (group_state l) t.groups.items)) (sym mine)
     in
-    let groups_after : (tier_state t' log' h).groups ≡ map (group_after s.own) st.groups =
-    rows_state
-    ∙ ap (λ ks. let y : GroupState = record { name = g.name; table = g.table; def = g.def; keys = ks } in y ∷ []) (sym follow)
-    ∙ sym (ap (map (group_after s.own)) base_state)
+    let after : tier_state t' log' ≡ committed st ss =
+        λ i. record { known = x.known i; groups = groups_after i; session = session_in (x.session i); log = log'; unsettled = x.unsettled i; next = x.next i }
     in
-    let after : tier_state t' log' h ≡ committed st ss =
-    λ i. record { known = x.known i; groups = groups_after i; session = option_map session_state (x.session i); log = log'; unsettled = x.unsettled i; next = x.next i }
-    in
-    let open_state : st.session ≡ Some ss = ap (option_map session_state) opened in
-    let answer : commit_answer st ss ≡ (committed st ss, only (Done t.next)) = commits st ss some room ticket in
+    let answer : commit_answer st ss ≡ (committed st ss, only (Done t.next)) = by_fault st ss s.own None some room in
     record {
       log' = log';
       stands = stands';
       made = λ faults moment.
-          let w = world_of t log h faults moment in
-          let w' = world_of t' log' h faults moment in
-          let quiet : Quiet w (commit_answer st ss) w' reply = (
-            ap (λ (y : TierState). let z : World = record { tier = y; history = h; bank_faults = faults; moment = moment } in z) (after ∙ sym (ap (λ (a : Answer). a.0) answer)),
-            x.told ∙ sym (ap (λ (a : Answer). a.1) answer),
-          )
-          in
-          subst (λ (o : Option SessionState). ForSession o statement.Commit w w' reply) (sym open_state) quiet;
+        let w = world_of t log h faults moment in
+        let w' = world_of t' log' h faults moment in
+        let quiet : Quiet w (commit_answer st ss) w' reply =
+            (same_world (tier_state t' log') _ h faults moment (after ∙ sym (ap (λ (a : Answer). a.0) answer)), x.told ∙ sym (ap (λ (a : Answer). a.1) answer))
+        in
+        opened_step t statement.Commit w w' reply o quiet
     }
 
--- by the groups that there are
-sealed : (t t' : Tier) (log : List Sealed) (h : List Entry) (reply : Reply) (gs : List Group) (s : Session) (stands : StandsFor t log h) → t.groups.items ≡ gs → t.session ≡ Some s
-    → KeepsRows gs s.own stands.defs log stands.base → 0 < length s.own → length t.unsettled.items < 4096 → t.next ≤ 9223372036854775807 → Seals t t' s reply
-    → Turns t t' log h (λ w w'. ForSession w.tier.session statement.Commit w w' reply)
-sealed t t' log h reply [] s stands is opened k some room ticket x = let e : length s.own ≡ 0 = ap length k.0 in absurd (Prim.omega arith)
-sealed t t' log h reply (g ∷ []) s stands is opened k some room ticket x = sealed_one t t' log h reply g s stands is opened k some room ticket x
-sealed t t' log h reply (g ∷ f ∷ gs) s stands is opened k some room ticket x = absurd k
-
-pub seals_turns : (t t' : Tier) (log : List Sealed) (h : List Entry) (reply : Reply) (s : Session) → t.session ≡ Some s → 0 < length s.own → length t.unsettled.items < 4096 → t.next ≤ 9223372036854775807
-    → SealsOr t t' s reply → StandsFor t log h → Turns t t' log h (λ w w'. ForSession w.tier.session statement.Commit w w' reply ⊎ WantsMemory w w' reply)
-seals_turns t t' log h reply s opened some room ticket x stands =
+pub seals_turns : (t t' : Tier) (log : List Sealed) (h : List Entry) (reply : Reply) (o : IsOpen t) → 0 < length o.session.own → commit_fault (tier_state t log) ≡ None → t.next ≤ 9223372036854775807
+    → SealsOr t t' o.session reply → StandsFor t log h → Turns t t' log h (λ w w'. InOpen w.tier.session statement.Commit w w' reply ⊎ WantsMemory w w' reply)
+seals_turns t t' log h reply o some room ticket x stands =
     elim x [
-      | inl y ↦ turns_first t t' log h _ _ (sealed t t' log h reply t.groups.items s stands refl opened
-          (subst (λ (o : Option Session). KeepsRows t.groups.items (own_in o) stands.defs log stands.base) opened stands.rows) some room ticket y)
+      | inl y ↦ turns_first t t' log h _ _ (seals_step t t' log h reply o stands some room ticket y)
       | inr y ↦ memory_turns t t' log h reply _ y.1 y.0 stands
     ]

@@ -1,204 +1,299 @@
--- CREATE CACHE GROUP is a step of the tier.
-use Rattle.std.proofs.Common.{◌≡◌, ℕ, zero, suc, ◌≤◌, ◌⊎◌, List, [], ◌∷◌, ◌++◌, length, map, Option, Some, None, Bool, true, false, ◌&&◌, cond, nat_eq, refl, sym, ◌∙◌, ap, subst, unwrap_or, inl, inr, arith, is_none}
-use Rattle.std.proofs.lemmas.List.{length-map}
-use Rattle.std.specs.List.{slice_get}
-use Rattle.std.specs.Option.{option_map, IfSome, is_some}
-use Rattle.std.specs.FinMap.{empty, get-empty}
+-- A CREATE CACHE GROUP is a step of the tier.
+use Rattle.std.proofs.Common.{◌≡◌, ◌≤◌, ◌⊎◌, ℕ, zero, suc, List, [], ◌∷◌, ◌++◌, length, map, Option, Some, None, Bool, true, false, ◌&&◌, ◌||◌, not, cond, nat_eq, nat_lt, refl, sym, ◌∙◌, ap, subst, inl, inr, arith, unwrap_or}
+use Rattle.std.specs.Prelude.{◌^◌}
+use Rattle.std.specs.List.{list_all, list_any, slice_get}
+use Rattle.std.specs.Option.{option_map, option_or, is_some, IfSome, IsSome}
+use Rattle.std.specs.FinMap.{empty, get, get-empty, contains_key}
 use Rattle.std.specs.FinSet as set
+use Rattle.std.proofs.lemmas.Bool.{eqb-true, eq-eqb, lt-ltb}
+use Rattle.std.proofs.lemmas.List.{length-map, map-append}
+use Rattle.std.proofs.lemmas.List.Folds.{list_any-append}
+use Rattle.row_types.specs.declared.value.Value.{Value}
+use Rattle.row_types.specs.declared.rule.Rule.{Rule}
+use Rattle.row_types.specs.declared.rule.Detail.TheVariants as detail
 use Rattle.row_types.specs.Order.{key_order}
 use Rattle.row_types.proofs.OrderLaws.{key_total, key_exact}
+use Rattle.tier_base.specs.declared.code.Code.TheVariants as code
+use Rattle.tier_base.specs.declared.limit.Limit.TheVariants as limit
 use Rattle.tier_base.specs.declared.number.TableId.{TableId}
+use Rattle.table_state.specs.Declarations.{broken, broken_at, type_fault, wrong_name}
+use Rattle.table_state.specs.Names.{place_of_table}
 use Rattle.table_state.specs.declared.definition.TableDef.{TableDef}
-use Rattle.table_state.specs.declared.definition.ForeignKey.{ForeignKey}
 use Rattle.table_state.specs.declared.operation.Op.{Op}
+use Rattle.table_state.specs.declared.operation.Op.TheVariants.{Insert, Update, Delete}
 use Rattle.table_state.specs.declared.history.Entry.{Entry}
 use Rattle.table_state.specs.declared.history.Sealed.{Sealed}
-use Rattle.std.specs.Cmp.Lexicographic.{pointwise}
-use Rattle.table_state.specs.Declarations.{fault_of, resolved}
-use Rattle.table_state.specs.Names.{place_of_table}
-use Rattle.table_state.specs.Tables.{Table, TableState, table_at}
-use Rattle.table_state.specs.Histories.{state_of, no_tables, entry_of}
+use Rattle.table_state.specs.Tables.{Table, TableState, table_at, key_of, is_same}
+use Rattle.table_state.specs.Operations.{applied_all, table_of}
 use Rattle.sql_subset.specs.declared.stmt.CreateGroup.{CreateGroup}
 use Rattle.sql_subset.specs.declared.stmt.Stmt.TheVariants as statement
 use Rattle.tier_engine.specs.declared.reply.Reply.{Reply}
-use Rattle.tier_engine.specs.declared.reply.Last.TheVariants.{Done}
+use Rattle.tier_engine.specs.declared.reply.Last.TheVariants.{Done, No}
 use Rattle.tier_engine.specs.declared.tier.Tier.{Tier}
 use Rattle.tier_engine.specs.declared.tier.Group.{Group}
+use Rattle.tier_engine.specs.declared.tier.OwnKey.{OwnKey}
 use Rattle.tier_engine.specs.declared.tier.Session.{Session}
-use Rattle.tier_engine.specs.Commits.{virtual_state}
-use Rattle.tier_engine.specs.TierStates.{TierState, GroupState, SessionState}
-use Rattle.tier_engine.specs.Answers.{Answer, only, refused, group_answer, group_in, group_over, describes, same_table, same_columns, is_asynchronous}
-use Rattle.tier_engine.specs.Steps.{World, Quiet, ForSession, WantsMemory}
-use Rattle.tier_engine.specs.Storing.{Groups, GroupsOrNot, described, described_in, described_by}
-use Rattle.tier_engine.specs.Standing.{StandsFor, KeepsRows, KeepsOne, one_table, Turns, tier_state, group_state, session_state, own_in, world_of, key_set, definition_entries}
+use Rattle.tier_engine.specs.Commits.{RiseBetween}
+use Rattle.tier_engine.specs.TierStates.{TierState, GroupState, SessionState, is_named, group_of_table}
+use Rattle.tier_engine.specs.Refusals.{not_yet, unknown_table, group_fault, letter_fault, lettered, has_same_key, same_columns, is_joined, is_grouped, taken_group, open_writes, at_limit}
+use Rattle.tier_engine.specs.Answers.{Answer, only, refuses, unless, new_group, group_over, group_in, group_known, group_cached, group_answer, is_asynchronous}
+use Rattle.tier_engine.specs.Steps.{World, Quiet, InSession, WantsMemory}
+use Rattle.tier_engine.specs.Storing.{IsSame, Groups, GroupsOrNot, has_name, has_table, judged_group, judged_letter, known_or_none, located, located_by, located_in, located_group, place_named}
+use Rattle.tier_engine.specs.Standing.{StandsFor, Shows, ShowAll, AreApart, AreIn, HasOwnKeys, OwnKeys, IsOwnKey, IsKeyOf, InOpen, Turns, committed_rows, group_state, inserts_at, is_insert, is_in_group, is_stored, key_set, ops_of, own_in, session_in, session_state, tier_state, world_of}
+use Rattle.tier_engine.proofs.BankSteps.{front_get}
+use Rattle.tier_engine.proofs.OpLaws.{inserts_schema}
+use Rattle.tier_engine.proofs.SelectSteps.{IsOpen, is_open, opened_step, quiet_same}
 use Rattle.tier_engine.proofs.ShownLaws.{has_key_set}
-use Rattle.tier_engine.proofs.InsertSteps.{turns_first}
-use Rattle.tier_engine.proofs.StandingLaws.{virtual_base, stands_with, memory_turns}
+use Rattle.tier_engine.proofs.StandingLaws.{IsFound, and_left, and_right, are_inserts, is_found, memory_turns, not_found, same_world, shows_at, turns_first}
 
 -- a table without rows has no keys
 no_keys : key_set empty ≡ set.empty
 no_keys = set.same_set key_total key_exact (key_set empty) set.empty
     (λ q. has_key_set empty q ∙ ap is_some (get-empty key_order q) ∙ sym (set.contains-empty key_order q))
 
--- the tier with the group that is described
-abbrev with_found : TierState → List ℕ → Option (TableId × TableDef) → Answer
-with_found t name None = (t, refused)
-with_found t name (Some found) = (record t { groups = t.groups ++ record { name = name; table = found.0; def = found.1; keys = set.empty } ∷ [] }, only (Done 0))
+-- the stored groups are judged as the tier's
+same_names : (own : List Op) (groups : List Group) (name : List ℕ) → has_name groups name ≡ list_any (λ (g : GroupState). is_named g.name name) (map (group_state own) groups)
+same_names own [] name = refl
+same_names own (g ∷ groups) name = ap (λ b. is_named g.name name || b) (same_names own groups name)
 
-by_test : (t : TierState) (name : List ℕ) (table : TableId) (def : TableDef) (b : Bool)
-    → cond b (let a : Answer = (record t { groups = t.groups ++ record { name = name; table = table; def = def; keys = set.empty } ∷ [] }, only (Done 0)) in a) (t, refused)
-    ≡ with_found t name (cond b (Some (table, def)) None)
-by_test t name table def true = refl
-by_test t name table def false = refl
+pub same_tables : (own : List Op) (groups : List Group) (table : TableId) → has_table groups table ≡ is_grouped (map (group_state own) groups) table
+same_tables own [] table = refl
+same_tables own (g ∷ groups) table = ap (λ b. nat_eq g.table.0 table.0 || b) (same_tables own groups table)
 
-by_def : (t : TierState) (d : CreateGroup) (table : TableId) (o : Option TableDef) → group_over t d table o ≡ with_found t d.name (described_by d table o)
-by_def t d table None = refl
-by_def t d table (Some def) = by_test t d.name table def (is_asynchronous d.kind && is_none d.autorefresh && describes d.table def)
+same_open : (own : List Op) → (cond (nat_lt 0 (length own)) (broken code.TransactionOpen detail.Nothing) None) ≡ open_writes own
+same_open [] = refl
+same_open (op ∷ own) = ap (λ b. cond b (broken code.TransactionOpen detail.Nothing) None) (lt-ltb 0 (length (op ∷ own)) (Prim.omega arith))
 
-by_table : (t : TierState) (d : CreateGroup) (schema : List TableDef) (o : Option TableId) → group_in t d schema o ≡ with_found t d.name (described_in d schema o)
-by_table t d schema None = refl
-by_table t d schema (Some table) = by_def t d table (slice_get schema table.0)
+pub same_fault : (own : List Op) (groups : List Group) (d : CreateGroup) (table : TableId) (def : TableDef) (schema : List TableDef) → judged_group groups (length own) d table def schema ≡ group_fault (map (group_state own) groups) own d table def schema
+same_fault own groups d table def schema = λ i.
+    option_or (broken_at code.UnknownColumn (wrong_name d.table))
+    (option_or (cond (same_names own groups d.name i) (broken code.NameInUse (detail.Name d.name)) None)
+    (option_or (same_open own i)
+    (option_or (type_fault d.table.columns) (option_or (letter_fault (same_tables own groups table i) d table def schema) (at_limit limit.Groups (sym (length-map groups (group_state own)) i))))))
 
-answers : (t : TierState) (d : CreateGroup) (known : Option (List TableDef)) → length t.groups ≡ 0 → group_answer t d known ≡ with_found t d.name (described known d)
-answers t d None none = refl
-answers t d (Some schema) none =
-    ap (λ n. cond (nat_eq n 0) (group_in t d schema (place_of_table schema d.table.name)) (t, refused)) none ∙ by_table t d schema (place_of_table schema d.table.name)
+pub none_first : {X : Type 0} (a b : Option X) → option_or a b ≡ None → a ≡ None
+none_first None b e = refl
+none_first (Some x) b e = Prim.cc
 
--- what is found is in the schema, and has no foreign key
-and_last : (a b : Bool) → (a && b) ≡ true → b ≡ true
-and_last true b e = e
-and_last false b e = Prim.cc
+pub none_second : {X : Type 0} (a b : Option X) → option_or a b ≡ None → b ≡ None
+none_second None b e = e
+none_second (Some x) b e = Prim.cc
 
-is_none_is : (o : Option ForeignKey) → is_none o ≡ true → o ≡ None
-is_none_is None e = refl
-is_none_is (Some f) e = Prim.cc
+not_lettered : (l : _) (b : Bool) → lettered l b ≡ None → b ≡ false
+not_lettered l true e = Prim.cc
+not_lettered l false e = refl
 
-pub record IsFound (known : Option (List TableDef)) (table : TableId) (def : TableDef) : Type 0 where
-  pub schema : List TableDef
-  pub knows : known ≡ Some schema
-  pub there : slice_get schema table.0 ≡ Some def
-  pub alone : def.foreign_key ≡ None
+-- What a group keeps that nothing refuses.
+pub record IsAccepted (own : List Op) (groups : List Group) (table : TableId) (def : TableDef) (schema : List TableDef) : Type 0 where
+  pub nothing : own ≡ []
+  pub apart : has_table groups table ≡ false
+  pub alone : is_joined table def schema ≡ false
 
-no_key : (d : CreateGroup) (x : TableDef) → describes d.table x ≡ true → x.foreign_key ≡ None
-no_key d x e =
-    is_none_is x.foreign_key
-    (and_last (same_columns (resolved d.table []).columns x.columns && pointwise nat_eq (resolved d.table []).primary_key x.primary_key && is_none (resolved d.table []).foreign_key) (is_none x.foreign_key)
-    (and_last (is_none (fault_of d.table [])) (same_table (resolved d.table []) x) e))
-
-found_if : (d : CreateGroup) (schema : List TableDef) (t : TableId) (x : TableDef) (table : TableId) (def : TableDef) → slice_get schema t.0 ≡ Some x
-    → (b : Bool) → (is_asynchronous d.kind && is_none d.autorefresh && describes d.table x) ≡ b → cond {A = Option (TableId × TableDef)} b (Some (t, x)) None ≡ Some (table, def) → IsFound (Some schema) table def
-found_if d schema t x table def there true is p =
-    let whole : describes d.table x ≡ true = and_last (is_asynchronous d.kind && is_none d.autorefresh) (describes d.table x) is in
-    let same_def : x ≡ def = ap (λ o. unwrap_or (option_map (λ (y : TableId × TableDef). y.1) o) x) p in
-    let same_table : t ≡ table = ap (λ o. unwrap_or (option_map (λ (y : TableId × TableDef). y.0) o) t) p in
+pub accepted : (own : List Op) (groups : List Group) (d : CreateGroup) (table : TableId) (def : TableDef) (schema : List TableDef) → judged_group groups (length own) d table def schema ≡ None → IsAccepted own groups table def schema
+accepted own groups d table def schema e =
+    let a = none_second (broken_at code.UnknownColumn (wrong_name d.table)) _ e in
+    let b = none_second (cond (has_name groups d.name) (broken code.NameInUse (detail.Name d.name)) None) _ a in
+    let c = none_second (cond (nat_lt 0 (length own)) (broken code.TransactionOpen detail.Nothing) None) _ b in
+    let letters : judged_letter groups d table def schema ≡ None = none_first (judged_letter groups d table def schema) (at_limit limit.Groups (length groups)) (none_second (type_fault d.table.columns) _ c) in
+    let l1 = none_second (lettered _ (not (has_same_key d.table def))) _ letters in
+    let l2 = none_second (lettered _ (has_table groups table)) _ l1 in
+    let l3 = none_second (lettered _ (not (same_columns d.table.columns def.columns))) _ l2 in
+    let l4 = none_second (lettered _ (is_some d.autorefresh)) _ l3 in
     record {
-      schema = schema;
-      knows = refl;
-      there = ap (λ (y : TableId). slice_get schema y.0) (sym same_table) ∙ there ∙ ap Some same_def;
-      alone = ap (λ (y : TableDef). y.foreign_key) (sym same_def) ∙ no_key d x whole;
+      nothing = no_writes own (none_first (cond (nat_lt 0 (length own)) (broken code.TransactionOpen detail.Nothing) None) _ b);
+      apart = not_lettered _ (has_table groups table) (none_first (lettered _ (has_table groups table)) _ l1);
+      alone = not_lettered _ (is_joined table def schema) l4;
     }
-found_if d schema t x table def there false is p = Prim.cc
-
-found_by : (d : CreateGroup) (schema : List TableDef) (t : TableId) (o : Option TableDef) (table : TableId) (def : TableDef) → slice_get schema t.0 ≡ o → described_by d t o ≡ Some (table, def)
-    → IsFound (Some schema) table def
-found_by d schema t None table def there e = Prim.cc
-found_by d schema t (Some x) table def there e = found_if d schema t x table def there (is_asynchronous d.kind && is_none d.autorefresh && describes d.table x) refl e
-
-found_in : (d : CreateGroup) (schema : List TableDef) (o : Option TableId) (table : TableId) (def : TableDef) → described_in d schema o ≡ Some (table, def) → IsFound (Some schema) table def
-found_in d schema None table def e = Prim.cc
-found_in d schema (Some t) table def e = found_by d schema t (slice_get schema t.0) table def refl e
-
-found : (known : Option (List TableDef)) (d : CreateGroup) (table : TableId) (def : TableDef) → described known d ≡ Some (table, def) → IsFound known table def
-found None d table def e = Prim.cc
-found (Some schema) d table def e = found_in d schema (place_of_table schema d.table.name) table def e
-
--- of at most one definition
-one_def : (defs : List TableDef) (n : ℕ) (def : TableDef) → length defs ≤ 1 → slice_get defs n ≡ Some def → (n ≡ 0) × (defs ≡ def ∷ [])
-one_def [] n def few e = Prim.cc
-one_def (x ∷ []) zero def few e = (refl, ap (λ y. y ∷ []) (ap (λ o. unwrap_or o x) e))
-one_def (x ∷ []) (suc n) def few e = Prim.cc
-one_def (x ∷ y ∷ defs) n def few e = absurd (Prim.omega (arith, few))
-
--- the group over the one table
-added_one : (t t' : Tier) (log : List Sealed) (h : List Entry) (d : CreateGroup) (table : TableId) (def : TableDef) (reply : Reply) (o : Option Session) (stands : StandsFor t log h)
-    → t.groups.items ≡ [] → t.session ≡ o → is_none t.session ≡ false → KeepsRows [] (own_in t.session) stands.defs log stands.base → described t.known d ≡ Some (table, def)
-    → Groups t t' d.name table def reply
-    → Turns t t' log h (λ w w'. ForSession w.tier.session (statement.CreateGroup d) w w' reply)
-added_one t t' log h d table def reply None stands none opened some k e x = let p : true ≡ false = sym (ap is_none opened) ∙ some in Prim.cc
-added_one t t' log h d table def reply (Some s) stands none opened some k e x =
-    let f = found t.known d table def e in
-    let st = tier_state t log h in
-    let ss = session_state s in
-    let g : Group = record { name = d.name; table = table; def = def; rows = empty } in
-    let schema : f.schema ≡ stands.defs = subst (λ (y : Option (List TableDef)). IfSome y (λ z. z ≡ stands.defs)) f.knows stands.knows in
-    let one = one_def stands.defs table.0 def stands.single (ap (λ (l : List TableDef). slice_get l table.0) (sym schema) ∙ f.there) in
-    let groups' : t'.groups.items ≡ g ∷ [] = x.groups ∙ ap (λ (l : List Group). l ++ g ∷ []) none in
-    let fresh : state_of (definition_entries stands.defs ++ map entry_of log) ≡ Some (one_table def empty) =
-    ap (λ (l : List Sealed). state_of (definition_entries stands.defs ++ map entry_of l)) k.1 ∙ ap (λ (l : List TableDef). state_of (definition_entries l ++ [])) one.1
-    in
-    let below : stands.base ≡ one_table def empty = ap (λ o. unwrap_or o stands.base) (sym stands.all ∙ fresh) in
-    let keeps : KeepsOne g (own_in t'.session) stands.defs stands.base = subst (λ (own : List Op). KeepsOne g own stands.defs stands.base) (sym (ap own_in x.session ∙ k.0))
-    (record { first = one.0; alone = f.alone; defined = one.1; inserts = tt; committed = empty; below = below; over = ap Some below })
-    in
-    let stands' : StandsFor t' log h =
-    stands_with t t' log h stands x.known x.unsettled x.next (subst (λ (gs : List Group). KeepsRows gs (own_in t'.session) stands.defs log stands.base) (sym groups') keeps)
-    in
-    let no_groups : st.groups ≡ [] = ap (λ (gs : List Group). map (group_state (unwrap_or (virtual_state h log) no_tables)) gs) none in
-    let table_empty : table_at stands.base table ≡ empty =
-    ap (λ (y : TableState). table_at y table) below ∙ ap (λ n. unwrap_or {T = Table} (slice_get {X = Table} (empty ∷ []) n) empty) one.0
-    in
-    let groups_after : (tier_state t' log h).groups ≡ st.groups ++ record { name = d.name; table = table; def = def; keys = set.empty } ∷ [] =
-    ap (λ (gs : List Group). map (group_state (unwrap_or (virtual_state h log) no_tables)) gs) groups'
-    ∙ ap (λ o. group_state (unwrap_or o no_tables) g ∷ []) (virtual_base t log h stands)
-    ∙ ap (λ ks. let y : GroupState = record { name = d.name; table = table; def = def; keys = ks } in y ∷ []) (ap key_set table_empty ∙ no_keys)
-    ∙ sym (ap (λ (l : List GroupState). l ++ record { name = d.name; table = table; def = def; keys = set.empty } ∷ []) no_groups)
-    in
-    let after : tier_state t' log h ≡ record st { groups = st.groups ++ record { name = d.name; table = table; def = def; keys = set.empty } ∷ [] } =
-    λ i. record { known = x.known i; groups = groups_after i; session = option_map session_state (x.session i); log = log; unsettled = x.unsettled i; next = x.next i }
-    in
-    let open_state : st.session ≡ Some ss = ap (option_map session_state) opened in
-    let answer : group_answer st d st.known ≡ with_found st d.name (Some (table, def)) = answers st d st.known (ap length no_groups) ∙ ap (with_found st d.name) e in
-    record {
-      log' = log;
-      stands = stands';
-      made = λ faults moment.
-          let w = world_of t log h faults moment in
-          let w' = world_of t' log h faults moment in
-          let quiet : Quiet w (group_answer st d st.known) w' reply = (
-            ap (λ (y : TierState). let z : World = record { tier = y; history = h; bank_faults = faults; moment = moment } in z) (after ∙ sym (ap (λ (a : Answer). a.0) answer)),
-            x.told ∙ sym (ap (λ (a : Answer). a.1) answer),
-          )
-          in
-          subst (λ (o : Option SessionState). ForSession o (statement.CreateGroup d) w w' reply) (sym open_state) quiet;
-    }
-
-pub adds_turns : (t t' : Tier) (log : List Sealed) (h : List Entry) (d : CreateGroup) (table : TableId) (def : TableDef) (reply : Reply)
-    → length t.groups.items ≡ 0 → is_none t.session ≡ false → described t.known d ≡ Some (table, def) → GroupsOrNot t t' d.name table def reply → StandsFor t log h
-    → Turns t t' log h (λ w w'. ForSession w.tier.session (statement.CreateGroup d) w w' reply ⊎ WantsMemory w w' reply)
-adds_turns t t' log h d table def reply none some e x stands =
-    let empty_groups : t.groups.items ≡ [] = no_length t.groups.items none in
-    elim x [
-      | inl y ↦ turns_first t t' log h _ _ (added_one t t' log h d table def reply t.session stands empty_groups refl some
-          (subst (λ (gs : List Group). KeepsRows gs (own_in t.session) stands.defs log stands.base) empty_groups stands.rows) e y)
-      | inr y ↦ memory_turns t t' log h reply _ y.1 y.0 stands
-    ]
   where
-    no_length : (gs : List Group) → length gs ≡ 0 → gs ≡ []
-    no_length [] e = refl
-    no_length (g ∷ gs) e = absurd (Prim.omega (arith, e))
+  no_writes : (own : List Op) → cond (nat_lt 0 (length own)) (broken code.TransactionOpen detail.Nothing) None ≡ None → own ≡ []
+  no_writes [] e = refl
+  no_writes (op ∷ own) e = let p : ◌≡◌ {A = Option Rule} (broken code.TransactionOpen detail.Nothing) None = sym (ap (λ b. cond b (broken code.TransactionOpen detail.Nothing) None) (lt-ltb 0 (length (op ∷ own)) (Prim.omega arith))) ∙ e in Prim.cc
 
--- nothing is described
-refused_by : (t : Tier) (log : List Sealed) (h : List Entry) (d : CreateGroup) (reply : Reply) (o : Option Session) → length t.groups.items ≡ 0 → t.session ≡ o → described t.known d ≡ None → reply ≡ refused
-    → (faults moment : ℕ) → ForSession (option_map session_state o) (statement.CreateGroup d) (world_of t log h faults moment) (world_of t log h faults moment) reply
-refused_by t log h d reply None none opened e told faults moment = (refl, told)
-refused_by t log h d reply (Some s) none opened e told faults moment =
-    let st = tier_state t log h in
-    let no_groups : length st.groups ≡ 0 = length-map t.groups.items (group_state (unwrap_or (virtual_state h log) no_tables)) ∙ none in
-    let answer : group_answer st d st.known ≡ (st, refused) = answers st d st.known no_groups ∙ ap (with_found st d.name) e in (
-      ap (λ (y : TierState). let z : World = record { tier = y; history = h; bank_faults = faults; moment = moment } in z) (sym (ap (λ (a : Answer). a.0) answer)),
-      told ∙ sym (ap (λ (a : Answer). a.1) answer),
-    )
+or_left : (a b : Bool) → (a || b) ≡ false → a ≡ false
+or_left true b e = e
+or_left false b e = refl
 
-pub undescribed_turns : (t : Tier) (log : List Sealed) (h : List Entry) (d : CreateGroup) (reply : Reply) → length t.groups.items ≡ 0 → described t.known d ≡ None → reply ≡ refused → StandsFor t log h
-    → Turns t t log h (λ w w'. ForSession w.tier.session (statement.CreateGroup d) w w' reply ⊎ WantsMemory w w' reply)
-undescribed_turns t log h d reply none e told stands = record { log' = log; stands = stands; made = λ faults moment. inl (refused_by t log h d reply t.session none refl e told faults moment) }
+or_right : (a b : Bool) → (a || b) ≡ false → b ≡ false
+or_right true b e = Prim.cc
+or_right false b e = e
+
+or_true : (b : Bool) → (b || true) ≡ true
+or_true true = refl
+or_true false = refl
+
+-- no group's table is this one
+not_of : (groups : List Group) (table : TableId) (op : Op) → has_table groups table ≡ false → is_in_group groups op ≡ true → nat_eq (table_of op).0 table.0 ≡ false
+not_of groups table op none there = by_test (nat_eq (table_of op).0 table.0) refl
+  where
+  swapped : (gs : List Group) → list_any (λ (g : Group). nat_eq table.0 g.table.0) gs ≡ list_any (λ (g : Group). nat_eq g.table.0 table.0) gs
+  swapped [] = refl
+  swapped (g ∷ gs) = λ i. swap table.0 g.table.0 i || swapped gs i
+    where
+    swap : (a b : ℕ) → nat_eq a b ≡ nat_eq b a
+    swap a b = by_both (nat_eq a b) (nat_eq b a) refl refl
+      where
+      by_both : (c d : Bool) → nat_eq a b ≡ c → nat_eq b a ≡ d → nat_eq a b ≡ nat_eq b a
+      by_both true d p q = p ∙ sym (eq-eqb b a (sym (eqb-true a b p)))
+      by_both false true p q = let r : nat_eq a b ≡ true = eq-eqb a b (sym (eqb-true b a q)) in Prim.cc
+      by_both false false p q = p ∙ sym q
+  by_test : (b : Bool) → nat_eq (table_of op).0 table.0 ≡ b → nat_eq (table_of op).0 table.0 ≡ false
+  by_test true e =
+      let here : list_any (λ (g : Group). nat_eq table.0 g.table.0) groups ≡ true = ap (λ n. list_any (λ (g : Group). nat_eq n g.table.0) groups) (sym (eqb-true (table_of op).0 table.0 e)) ∙ there in
+      let bad : true ≡ false = sym here ∙ swapped groups ∙ none in
+      Prim.cc
+  by_test false e = e
+
+no_insert : (groups : List Group) (table : TableId) (places : List ℕ) (ops : List Op) (q : List Value) → has_table groups table ≡ false → list_all (is_stored groups) ops ≡ true → list_any (inserts_at table places q) ops ≡ false
+no_insert groups table places [] q none all = refl
+no_insert groups table places (op ∷ ops) q none all =
+    ap (λ b. b || list_any (inserts_at table places q) ops) (one op (and_left (is_stored groups op) (list_all (is_stored groups) ops) all))
+    ∙ no_insert groups table places ops q none (and_right (is_stored groups op) (list_all (is_stored groups) ops) all)
+  where
+  one : (op : Op) → is_stored groups op ≡ true → inserts_at table places q op ≡ false
+  one (Insert u row) e = ap (λ b. b && is_same q (key_of places row)) (not_of groups table (Insert u row) none (and_right true (is_in_group groups (Insert u row)) e))
+  one (Update u old new) e = refl
+  one (Delete u old) e = refl
+
+in_more : (groups : List Group) (x : Group) (op : Op) → is_in_group groups op ≡ true → is_in_group (groups ++ x ∷ []) op ≡ true
+in_more groups x op e = list_any-append (λ (g : Group). nat_eq (table_of op).0 g.table.0) groups (x ∷ []) ∙ ap (λ b. b || is_in_group (x ∷ []) op) e
+
+stored_more : (groups : List Group) (x : Group) (ops : List Op) → list_all (is_stored groups) ops ≡ true → list_all (is_stored (groups ++ x ∷ [])) ops ≡ true
+stored_more groups x [] all = refl
+stored_more groups x (op ∷ ops) all =
+    let mine = and_left (is_stored groups op) (list_all (is_stored groups) ops) all in
+    ap (λ b. (b && is_in_group (groups ++ x ∷ []) op) && list_all (is_stored (groups ++ x ∷ [])) ops) (and_left (is_insert op) (is_in_group groups op) mine)
+    ∙ ap (λ b. b && list_all (is_stored (groups ++ x ∷ [])) ops) (in_more groups x op (and_right (is_insert op) (is_in_group groups op) mine))
+    ∙ stored_more groups x ops (and_right (is_stored groups op) (list_all (is_stored groups) ops) all)
+
+apart_more : (groups : List Group) (x : Group) → AreApart groups → has_table groups x.table ≡ false → AreApart (groups ++ x ∷ [])
+apart_more [] x apart none = (refl, tt)
+apart_more (g ∷ groups) x apart none =
+    (list_any-append (λ (h : Group). nat_eq g.table.0 h.table.0) groups (x ∷ []) ∙ ap (λ b. b || (nat_eq g.table.0 x.table.0 || false)) apart.0
+        ∙ ap (λ b. b || false) (or_left (nat_eq g.table.0 x.table.0) (has_table groups x.table) none),
+    apart_more groups x apart.1 (or_right (nat_eq g.table.0 x.table.0) (has_table groups x.table) none))
+
+shows_more : (s : TableState) (log own : List Op) (groups : List Group) (x : Group) → ShowAll s log own groups → Shows s log own x → ShowAll s log own (groups ++ x ∷ [])
+shows_more s log own [] x all one = (one, tt)
+shows_more s log own (g ∷ groups) x all one = (all.0, shows_more s log own groups x all.1 one)
+
+keys_more : (groups : List Group) (x : Group) (o : Option Session) → HasOwnKeys groups o → HasOwnKeys (groups ++ x ∷ []) o
+keys_more groups x None all = tt
+keys_more groups x (Some s) all = each s.own s.keys all
+  where
+  one : (op : Op) (k : OwnKey) → IsOwnKey groups op k → IsOwnKey (groups ++ x ∷ []) op k
+  one (Insert t row) k y = record { group = y.group; there = front_get groups x k.group y.group y.there; same = y.same; key = y.key }
+  one (Update t old new) k y = absurd y
+  one (Delete t old) k y = absurd y
+  each : (own : List Op) (keys : List OwnKey) → OwnKeys groups own keys → OwnKeys (groups ++ x ∷ []) own keys
+  each [] [] y = tt
+  each [] (k ∷ keys) y = absurd y
+  each (op ∷ own) [] y = absurd y
+  each (op ∷ own) (k ∷ keys) y = (one op k y.0, each own keys y.1)
+
+-- the tier with one group more
+pub stands_more : (t t' : Tier) (log : List Sealed) (h : List Entry) (name : List ℕ) (table : TableId) (def : TableDef) (reply : Reply) → (s : StandsFor t log h) → Groups t t' name table def reply
+    → slice_get s.top.schema table.0 ≡ Some def → is_joined table def s.top.schema ≡ false → has_table t.groups.items table ≡ false → own_in t.session ≡ [] → StandsFor t' log h
+stands_more t t' log h name table def reply s x known alone apart nothing =
+    let g : Group = record { name = name; table = table; def = def; rows = empty } in
+    let own = own_in t.session in
+    let absent : (q : List Value) → list_any (inserts_at table def.primary_key q) own ≡ false = λ q. ap (list_any (inserts_at table def.primary_key q)) nothing in
+    let one : Shows s.top (ops_of log) own g = record {
+          defined = known;
+          alone = alone;
+          rows = λ key row there. let p : ◌≡◌ {A = Option (List Value)} None (Some row) = sym (get-empty key_order key) ∙ there in Prim.cc;
+          writes = λ key any. let p : true ≡ false = sym any ∙ absent key in Prim.cc;
+          committed = λ key any. let p : true ≡ false = sym any ∙ no_insert t.groups.items table def.primary_key (ops_of log) key apart s.logged in Prim.cc;
+        }
+    in
+    record {
+      rise = subst (λ n. RiseBetween 1 log n) (sym x.next) s.rise;
+      last = subst (λ n. n ≤ 2 ^ 63) (sym x.next) s.last;
+      came = s.came;
+      received = s.received;
+      owns = s.owns;
+      within = s.within;
+      at_least = s.at_least;
+      at_most = s.at_most;
+      rest = x.unsettled ∙ s.rest;
+      ordered = s.ordered;
+      base = s.base;
+      virtual = s.virtual;
+      whole = s.whole;
+      knows = subst (λ (o : Option (List TableDef)). IfSome o (λ schema. schema ≡ s.base.schema)) (sym x.known) s.knows;
+      top = s.top;
+      over = ap (λ o. applied_all (own_in o) s.base) x.session ∙ s.over;
+      logged = ap (λ gs. list_all (is_stored gs) (ops_of log)) x.groups ∙ stored_more t.groups.items g (ops_of log) s.logged;
+      writing = ap (λ o. list_all (is_stored t'.groups.items) (own_in o)) x.session ∙ ap (λ gs. list_all (is_stored gs) own) x.groups ∙ stored_more t.groups.items g own s.writing;
+      shows = subst (λ (o : Option Session). ShowAll s.top (ops_of log) (own_in o) t'.groups.items) (sym x.session)
+          (subst (λ (gs : List Group). ShowAll s.top (ops_of log) own gs) (sym x.groups) (shows_more s.top (ops_of log) own t.groups.items g s.shows one));
+      apart = subst AreApart (sym x.groups) (apart_more t.groups.items g s.apart apart);
+      keys = subst (λ (o : Option Session). HasOwnKeys t'.groups.items o) (sym x.session) (subst (λ (gs : List Group). HasOwnKeys gs t.session) (sym x.groups) (keys_more t.groups.items g t.session s.keys));
+    }
+
+pub state_more : (t t' : Tier) (log : List Sealed) (name : List ℕ) (table : TableId) (def : TableDef) (reply : Reply) → Groups t t' name table def reply → own_in t.session ≡ []
+    → tier_state t' log ≡ record (tier_state t log) { groups = (tier_state t log).groups ++ new_group name table def ∷ [] }
+state_more t t' log name table def reply x nothing =
+    let g : Group = record { name = name; table = table; def = def; rows = empty } in
+    let own = own_in t.session in
+    let keys : key_set (committed_rows own g) ≡ set.empty = ap (λ l. key_set (committed_rows l g)) nothing ∙ no_keys in
+    let one : group_state own g ≡ new_group name table def = λ i. record { name = name; table = table; def = def; keys = keys i } in
+    let groups : map (group_state (own_in t'.session)) t'.groups.items ≡ map (group_state own) t.groups.items ++ new_group name table def ∷ [] =
+        ap (λ o. map (group_state (own_in o)) t'.groups.items) x.session ∙ ap (map (group_state own)) x.groups ∙ map-append (group_state own) t.groups.items (g ∷ [])
+        ∙ ap (λ (y : GroupState). map (group_state own) t.groups.items ++ y ∷ []) one
+    in
+    λ i. record { known = x.known i; groups = groups i; session = session_in (x.session i); log = log; unsettled = x.unsettled i; next = x.next i }
+
+-- What the tier has for the name of a table: its definition is that of the state, and no other than what is judged.
+pub record IsLocated (t : Tier) (log : List Sealed) (s : TableState) (name : List ℕ) (table : TableId) (def : TableDef) : Type 0 where
+  pub defined : slice_get s.schema table.0 ≡ Some def
+  pub answers : (ss : SessionState) (d : CreateGroup) → d.table.name ≡ name → group_known (tier_state t log) ss d t.known ≡ group_over (tier_state t log) ss d table (known_or_none t.known) (Some def)
+  pub joined : is_joined table def (known_or_none t.known) ≡ false → is_joined table def s.schema ≡ false
+
+some_pair : (a : TableId) (b : TableDef) (c : TableId) (e : TableDef) → ◌≡◌ {A = Option (TableId × TableDef)} (Some (a, b)) (Some (c, e)) → (a ≡ c) × (b ≡ e)
+some_pair a b c e p =
+    let q : ◌≡◌ {A = TableId × TableDef} (a, b) (c, e) = ap (λ (o : Option (TableId × TableDef)). unwrap_or o (a, b)) p in
+    (ap (λ (x : TableId × TableDef). x.0) q, ap (λ (x : TableId × TableDef). x.1) q)
+
+pub is_located : (t : Tier) (log : List Sealed) (h : List Entry) (s : StandsFor t log h) (name : List ℕ) (table : TableId) (def : TableDef) → located t name ≡ Some (table, def) → IsLocated t log s.top name table def
+is_located t log h s name table def e = by_known t.known refl s.knows e
+  where
+  own : List Op
+  own = own_in t.session
+  schema : s.top.schema ≡ s.base.schema
+  schema = inserts_schema own s.base s.top (are_inserts t.groups.items own s.writing) s.over
+  by_place : (k : List TableDef) → k ≡ s.base.schema → t.known ≡ Some k → (o : Option TableId) → place_of_table k name ≡ o → located_in k o ≡ Some (table, def) → IsLocated t log s.top name table def
+  by_place k is known None p q = Prim.cc
+  by_place k is known (Some x) p q = by_def (slice_get k x.0) refl q
+    where
+    by_def : (o : Option TableDef) → slice_get k x.0 ≡ o → option_map {U = TableId × TableDef} (λ y. (x, y)) o ≡ Some (table, def) → IsLocated t log s.top name table def
+    by_def None r u = Prim.cc
+    by_def (Some y) r u =
+        let same = some_pair x y table def u in
+        let there : slice_get k table.0 ≡ Some def = ap (λ (z : TableId). slice_get k z.0) (sym same.0) ∙ r ∙ ap (λ z. Some z) same.1 in
+        record {
+          defined = ap (λ defs. slice_get defs table.0) (schema ∙ sym is) ∙ there;
+          answers = λ ss d named.
+              ap (λ o. group_known (tier_state t log) ss d o) known
+              ∙ ap (group_in (tier_state t log) ss d k) (ap (place_of_table k) named ∙ p ∙ ap (λ z. Some z) same.0)
+              ∙ ap (group_over (tier_state t log) ss d table k) there
+              ∙ ap (λ o. group_over (tier_state t log) ss d table (known_or_none o) (Some def)) (sym known);
+          joined = λ none. ap (is_joined table def) (schema ∙ sym is) ∙ ap (λ o. is_joined table def (known_or_none o)) (sym known) ∙ none;
+        }
+  by_group : t.known ≡ None → (o : Option ℕ) → place_named t.groups.items name ≡ o → located_group t.groups.items o ≡ Some (table, def) → IsLocated t log s.top name table def
+  by_group known None p q = Prim.cc
+  by_group known (Some place) p q =
+      let f = is_found own t.groups.items name place p in
+      let same = some_pair f.group.table f.group.def table def (sym (ap (λ o. option_map {U = TableId × TableDef} (λ (g : Group). (g.table, g.def)) o) f.there) ∙ q) in
+      let x = shows_at s.top (ops_of log) own t.groups.items place f.group s.shows f.there in
+      record {
+        defined = ap (λ (z : TableId). slice_get s.top.schema z.0) (sym same.0) ∙ x.defined ∙ ap (λ z. Some z) same.1;
+        answers = λ ss d named.
+            ap (λ o. group_known (tier_state t log) ss d o) known
+            ∙ ap (group_cached (tier_state t log) ss d) (ap (group_of_table (tier_state t log).groups) named ∙ f.found)
+            ∙ (λ i. group_over (tier_state t log) ss d (same.0 i) [] (Some (same.1 i)))
+            ∙ ap (λ o. group_over (tier_state t log) ss d table (known_or_none o) (Some def)) (sym known);
+        joined = λ none. sym (λ i. is_joined (same.0 i) (same.1 i) s.top.schema) ∙ x.alone;
+      }
+  by_known : (o : Option (List TableDef)) → t.known ≡ o → IfSome o (λ k. k ≡ s.base.schema) → located_by t.groups.items name o ≡ Some (table, def) → IsLocated t log s.top name table def
+  by_known None known is p = by_group known (place_named t.groups.items name) refl p
+  by_known (Some k) known is p = by_place k is known (place_of_table k name) refl p

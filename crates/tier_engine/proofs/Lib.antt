@@ -1,11 +1,18 @@
+pub mod BackSteps
+pub mod BeginSteps
+pub mod CreateSteps
+pub mod GroupTurns
 pub mod BankSteps
 pub mod CommitLaws
 pub mod CommitSteps
 pub mod DrainSteps
 pub mod FaultLaws
 pub mod GroupSteps
-pub mod InsertLaws
+pub mod PutLaws
 pub mod InsertSteps
+pub mod OpLaws
+pub mod OpenSteps
+pub mod OwnLaws
 pub mod LegalLaws
 pub mod ReplyLaws
 pub mod RoundLaws
@@ -13,5 +20,7 @@ pub mod RoundSteps
 pub mod RowLaws
 pub mod SelectSteps
 pub mod ServingLaws
+pub mod SessionSteps
+pub mod SettleSteps
 pub mod ShownLaws
 pub mod StandingLaws

@@ -1,9 +1,8 @@
 -- What one call of the bank does for a round of propagation.
-use Rattle.std.proofs.Common.{◌≡◌, ℕ, zero, suc, ◌+◌, ◌≤◌, ◌<◌, ◌⊎◌, List, [], ◌∷◌, ◌++◌, Bool, true, false, drop, length, Option, Some, None, refl, sym, ◌∙◌, ap, subst, arith, inl, inr, get_or, unwrap_or}
+use Rattle.std.proofs.Common.{◌≡◌, ℕ, zero, suc, ◌+◌, ◌≤◌, ◌<◌, ◌⊎◌, List, [], ◌∷◌, ◌++◌, Bool, true, false, map, take, drop, length, Option, Some, None, refl, sym, ◌∙◌, ap, subst, arith, inl, inr, get_or, unwrap_or}
 use Rattle.std.specs.Prelude.{Ok, Err}
 use Rattle.std.specs.Option.{IsSome}
 use Rattle.std.proofs.lemmas.List.{append-nil}
-use Rattle.table_state.specs.declared.definition.TableDef.{TableDef}
 use Rattle.table_state.specs.declared.history.Entry.{Entry}
 use Rattle.table_state.specs.declared.history.Sealed.{Sealed}
 use Rattle.table_state.specs.Histories.{has_ticket, entry_of}
@@ -12,10 +11,10 @@ use Rattle.outside.specs.Calls.{Told, BankCall}
 use Rattle.outside.specs.Holding.{Held, Slots}
 use Rattle.tier_engine.specs.declared.rounds.RoundFault.{RoundFault}
 use Rattle.tier_engine.specs.declared.rounds.RoundFault.TheVariants as stop
-use Rattle.tier_engine.specs.Commits.{RiseBetween}
+use Rattle.tier_engine.specs.Commits.{RiseBetween, own_entries}
 use Rattle.tier_engine.specs.Rounds.{FirstDiffers}
 use Rattle.tier_engine.specs.RoundStates.{Settles, RoundAt, GoesFrom, RoundGoes}
-use Rattle.tier_engine.proofs.RoundLaws.{front_of, drop_next, next_within, front_grows, next_fresh, next_there}
+use Rattle.tier_engine.proofs.RoundLaws.{grown, grown_owns, drop_next, next_within, front_grows, next_fresh, next_there}
 
 -- what a call that was told does to what the site holds
 record Called (told' : Option Held) (held : Held) (step : Held → Held → Type 0) : Type 0 where
@@ -40,26 +39,26 @@ differ : {b : Bool} → b ≡ true → b ≡ false → ⊥
 differ {b} t f = let e : true ≡ false = sym t ∙ f in Prim.cc
 
 pub goes_same : (told : Option Held) (unsettled : List Sealed) → RoundGoes told told unsettled unsettled
-goes_same told unsettled log defs slots came received low high rise at =
-    record { came' = came; received' = received; more_came = Prim.omega arith; more_received = Prim.omega arith; at = at }
+goes_same told unsettled log front slots began added received low high rise owns at =
+    record { added' = added; received' = received; more_added = Prim.omega arith; more_received = Prim.omega arith; at = at }
 
 pub goes_on : (a b c : Option Held) (x y z : List Sealed) → RoundGoes a b x y → RoundGoes b c y z → RoundGoes a c x z
-goes_on a b c x y z first second log defs slots came received low high rise at =
-    let f = first log defs slots came received low high rise at in
-    let s = second log defs slots f.came' f.received' low high rise f.at in
-    let c1 : came ≤ f.came' = f.more_came in
-    let c2 : f.came' ≤ s.came' = s.more_came in
+goes_on a b c x y z first second log front slots began added received low high rise owns at =
+    let f = first log front slots began added received low high rise owns at in
+    let s = second log front slots began f.added' f.received' low high rise owns f.at in
+    let c1 : added ≤ f.added' = f.more_added in
+    let c2 : f.added' ≤ s.added' = s.more_added in
     let r1 : received ≤ f.received' = f.more_received in
     let r2 : f.received' ≤ s.received' = s.more_received in
-    record { came' = s.came'; received' = s.received'; more_came = Prim.omega arith; more_received = Prim.omega arith; at = s.at }
+    record { added' = s.added'; received' = s.received'; more_added = Prim.omega arith; more_received = Prim.omega arith; at = s.at }
 
 -- nothing came
-stays : (told' : Option Held) (old log : List Sealed) (defs : List TableDef) (slots : Slots) (came received : ℕ) (told : Option Held) (at : RoundAt told old log defs slots came received)
-    (held' : Held) → told' ≡ Some held' → held'.slots ≡ at.held.slots → held'.history ≡ at.held.history ++ [] → GoesFrom told' old log defs slots came received
-stays told' old log defs slots came received told at held' tells same grows = record {
-  came' = came;
+stays : (told' : Option Held) (old log : List Sealed) (front : List Entry) (slots : Slots) (began added received : ℕ) (told : Option Held) (at : RoundAt told old log front slots began added received)
+    (held' : Held) → told' ≡ Some held' → held'.slots ≡ at.held.slots → held'.history ≡ at.held.history ++ [] → GoesFrom told' old log front slots began added received
+stays told' old log front slots began added received told at held' tells same grows = record {
+  added' = added;
   received' = received;
-  more_came = Prim.omega arith;
+  more_added = Prim.omega arith;
   more_received = Prim.omega arith;
   at = record {
     held = held';
@@ -73,52 +72,59 @@ stays told' old log defs slots came received told at held' tells same grows = re
   };
 }
 
+-- the history of a round that stands so
+owned : (told : Option Held) (old log : List Sealed) (front : List Entry) (slots : Slots) (began added received : ℕ) (at : RoundAt told old log front slots began added received)
+    → own_entries front ≡ map entry_of (take began log) → own_entries at.held.history ≡ map entry_of (take (began + added) log)
+owned told old log front slots began added received at owns = ap own_entries at.is ∙ grown_owns front began added log owns
+
 -- The next one came: it wasn't there before, so all before it have their receipts. Its own receipt is there or not.
-comes : (n : ℕ) (told told' : Option Held) (old new log : List Sealed) (defs : List TableDef) (slots : Slots) (came received low high : ℕ) (s : Sealed) (rest : List Sealed) → n ≤ 1 → RiseBetween low log high
-    → (at : RoundAt told old log defs slots came received) → drop received log ≡ s ∷ rest → new ≡ drop (received + n) log
-    → (held' : Held) → told' ≡ Some held' → held'.slots ≡ at.held.slots → Comes s [] at.held.history held'.history → GoesFrom told' new log defs slots came received
-comes n told told' old new log defs slots came received low high s rest few rise at here left held' tells same c =
-    let a : received ≤ came = at.at_least in
-    let b : came ≤ received + 1 = at.at_most in
-    elim (by_place came received a b) [
+comes : (n : ℕ) (told told' : Option Held) (old new log : List Sealed) (front : List Entry) (slots : Slots) (began added received low high : ℕ) (s : Sealed) (rest : List Sealed) → n ≤ 1 → RiseBetween low log high
+    → own_entries front ≡ map entry_of (take began log) → (at : RoundAt told old log front slots began added received) → drop received log ≡ s ∷ rest → new ≡ drop (received + n) log
+    → (held' : Held) → told' ≡ Some held' → held'.slots ≡ at.held.slots → Comes s [] at.held.history held'.history → GoesFrom told' new log front slots began added received
+comes n told told' old new log front slots began added received low high s rest few rise owns at here left held' tells same c =
+    let a : received ≤ began + added = at.at_least in
+    let b : began + added ≤ received + 1 = at.at_most in
+    let mine = owned told old log front slots began added received at owns in
+    elim (by_place (began + added) received a b) [
       | inl e ↦
-          let grown : held'.history ≡ front_of defs log (received + 1) =
-          c.grows ∙ ap (λ h. h ++ entry_of s ∷ []) (at.is ∙ ap (front_of defs log) e) ∙ front_grows defs received log s rest here
-          in
+          let next : drop (began + added) log ≡ s ∷ rest = ap (λ m. drop m log) e ∙ here in
+          let grows : held'.history ≡ grown front began log (added + 1) = c.grows ∙ ap (λ h. h ++ entry_of s ∷ []) at.is ∙ front_grows front began added log s rest next in
+          let within : (began + added) + 1 ≤ length log = next_within (began + added) log s rest next in
           record {
-            came' = received + 1;
+            added' = added + 1;
             received' = received + n;
-            more_came = Prim.omega arith;
+            more_added = Prim.omega arith;
             more_received = Prim.omega arith;
             at = record {
               held = held';
               tells = tells;
               same_slots = same ∙ at.same_slots;
-              is = grown;
-              within = next_within received log s rest here;
+              is = grows;
+              within = Prim.omega arith;
               at_least = Prim.omega arith;
               at_most = Prim.omega arith;
               rest = left;
             };
           }
-      | inr e ↦ absurd (differ (ap (has_ticket s.ticket.0) (at.is ∙ ap (front_of defs log) e) ∙ next_there defs received log s rest here) c.can.fresh)
+      | inr e ↦ absurd (differ (next_there at.held.history received log s rest (mine ∙ ap (λ m. map entry_of (take m log)) e) here) c.can.fresh)
     ]
 
 -- the next one came before
-came_before : (told told' : Option Held) (old log : List Sealed) (defs : List TableDef) (slots : Slots) (came received low high : ℕ) (s : Sealed) (rest : List Sealed) → RiseBetween low log high
-    → (at : RoundAt told old log defs slots came received) → drop received log ≡ s ∷ rest
+came_before : (told told' : Option Held) (old log : List Sealed) (front : List Entry) (slots : Slots) (began added received low high : ℕ) (s : Sealed) (rest : List Sealed) → RiseBetween low log high
+    → own_entries front ≡ map entry_of (take began log) → (at : RoundAt told old log front slots began added received) → drop received log ≡ s ∷ rest
     → (held' : Held) → told' ≡ Some held' → held'.slots ≡ at.held.slots → has_ticket s.ticket.0 at.held.history ≡ true → held'.history ≡ at.held.history ++ []
-    → GoesFrom told' rest log defs slots came received
-came_before told told' old log defs slots came received low high s rest rise at here held' tells same there grows =
-    let a : received ≤ came = at.at_least in
-    let b : came ≤ received + 1 = at.at_most in
-    elim (by_place came received a b) [
-      | inl e ↦ absurd (differ there (ap (has_ticket s.ticket.0) (at.is ∙ ap (front_of defs log) e) ∙ next_fresh defs low received log high s rest rise here))
+    → GoesFrom told' rest log front slots began added received
+came_before told told' old log front slots began added received low high s rest rise owns at here held' tells same there grows =
+    let a : received ≤ began + added = at.at_least in
+    let b : began + added ≤ received + 1 = at.at_most in
+    let mine = owned told old log front slots began added received at owns in
+    elim (by_place (began + added) received a b) [
+      | inl e ↦ absurd (differ there (next_fresh at.held.history low received log high s rest (mine ∙ ap (λ m. map entry_of (take m log)) e) rise here))
       | inr e ↦
           record {
-            came' = came;
+            added' = added;
             received' = received + 1;
-            more_came = Prim.omega arith;
+            more_added = Prim.omega arith;
             more_received = Prim.omega arith;
             at = record {
               held = held';
@@ -135,30 +141,30 @@ came_before told told' old log defs slots came received low high s rest rise at 
 
 -- one that got its receipt leaves
 pub settled_goes : (told told' : Option Held) (old rest : List Sealed) (s : Sealed) (done : Unit {0}) → old ≡ s ∷ rest → Told told told' (BankCall (Settles s (Ok done))) → RoundGoes told told' old rest
-settled_goes told told' old rest s done e call log defs slots came received low high rise at =
+settled_goes told told' old rest s done e call log front slots began added received low high rise owns at =
     let x = called told told' at.held (BankCall (Settles s (Ok done))) at.tells call in
     let here : drop received log ≡ s ∷ rest = sym at.rest ∙ e in
     elim x.is.history [
-      | inl c ↦ comes 1 told told' old rest log defs slots came received low high s rest (Prim.omega arith) rise at here (sym (drop_next received log s rest here)) x.held' x.tells x.is.slots c
-      | inr p ↦ came_before told told' old log defs slots came received low high s rest rise at here x.held' x.tells x.is.slots p.0 p.1
+      | inl c ↦ comes 1 told told' old rest log front slots began added received low high s rest (Prim.omega arith) rise owns at here (sym (drop_next received log s rest here)) x.held' x.tells x.is.slots c
+      | inr p ↦ came_before told told' old log front slots began added received low high s rest rise owns at here x.held' x.tells x.is.slots p.0 p.1
     ]
 
 -- at a fault nothing leaves
 pub stopped_goes : (told told' : Option Held) (old rest : List Sealed) (s : Sealed) (fault : RoundFault) → old ≡ s ∷ rest → Told told told' (BankCall (Settles s (Err fault))) → RoundGoes told told' old old
-stopped_goes told told' old rest s stop.Failed e call log defs slots came received low high rise at =
+stopped_goes told told' old rest s stop.Failed e call log front slots began added received low high rise owns at =
     let x = called told told' at.held (BankCall (Settles s (Err stop.Failed))) at.tells call in
     let here : drop received log ≡ s ∷ rest = sym at.rest ∙ e in
     let same : received ≡ received + 0 = Prim.omega arith in
     elim x.is.history [
-      | inl grows ↦ stays told' old log defs slots came received told at x.held' x.tells x.is.slots grows
-      | inr c ↦ comes 0 told told' old old log defs slots came received low high s rest (Prim.omega arith) rise at here (at.rest ∙ ap (λ n. drop n log) same) x.held' x.tells x.is.slots c
+      | inl grows ↦ stays told' old log front slots began added received told at x.held' x.tells x.is.slots grows
+      | inr c ↦ comes 0 told told' old old log front slots began added received low high s rest (Prim.omega arith) rise owns at here (at.rest ∙ ap (λ n. drop n log) same) x.held' x.tells x.is.slots c
     ]
-stopped_goes told told' old rest s stop.Memory e call log defs slots came received low high rise at =
+stopped_goes told told' old rest s stop.Memory e call log front slots began added received low high rise owns at =
     let x = called told told' at.held (BankCall (Settles s (Err stop.Memory))) at.tells call in
-    stays told' old log defs slots came received told at x.held' x.tells x.is.slots x.is.history
-stopped_goes told told' old rest s stop.Differs e call log defs slots came received low high rise at =
+    stays told' old log front slots began added received told at x.held' x.tells x.is.slots x.is.history
+stopped_goes told told' old rest s stop.Differs e call log front slots began added received low high rise owns at =
     let x = called told told' at.held (BankCall (Settles s (Err stop.Differs))) at.tells call in
-    stays told' old log defs slots came received told at x.held' x.tells x.is.slots x.is.history.1
+    stays told' old log front slots began added received told at x.held' x.tells x.is.slots x.is.history.1
 
 pub first_leaves : (xs : List Sealed) (s : Sealed) → 0 < length xs → s ≡ get_or xs 0 s → xs ≡ s ∷ drop 1 xs
 first_leaves [] s some e = absurd (Prim.omega arith)

@@ -1,97 +1,77 @@
 -- A SELECT is a step of the tier.
-use Rattle.std.proofs.Common.{◌≡◌, ℕ, List, [], ◌∷◌, Option, Some, None, Bool, true, false, cond, refl, sym, ◌∙◌, ap, subst, is_none, if◌then◌else◌, nat_lt}
+use Rattle.std.proofs.Common.{◌≡◌, List, map, Option, Some, None, refl, sym, ◌∙◌, ap, subst, inl, ◌⊎◌}
 use Rattle.std.specs.List.{slice_get}
-use Rattle.std.specs.Option.{option_map}
-use Rattle.std.specs.FinMap.{len, values}
+use Rattle.std.specs.Option.{option_map, IsSome}
 use Rattle.table_state.specs.declared.history.Entry.{Entry}
 use Rattle.table_state.specs.declared.history.Sealed.{Sealed}
-use Rattle.table_state.specs.Tables.{Table, TableState, table_at}
-use Rattle.sql_subset.specs.declared.stmt.Select.{Select}
+use Rattle.table_state.specs.Tables.{Table}
+use Rattle.sql_subset.specs.declared.stmt.Select.{Select as OneSelect}
+use Rattle.sql_subset.specs.declared.stmt.Stmt.{Stmt}
 use Rattle.sql_subset.specs.declared.stmt.Stmt.TheVariants as statement
-use Rattle.tier_base.specs.declared.limit.Limit.TheVariants as limit
-use Rattle.tier_base.specs.Limits.{greatest}
+use Rattle.row_types.specs.declared.rule.Rule.{Rule}
 use Rattle.tier_engine.specs.declared.reply.Reply.{Reply}
-use Rattle.tier_engine.specs.declared.reply.Last.TheVariants.{Done}
+use Rattle.tier_engine.specs.declared.reply.Last.TheVariants.{No}
 use Rattle.tier_engine.specs.declared.tier.Tier.{Tier}
 use Rattle.tier_engine.specs.declared.tier.Group.{Group}
 use Rattle.tier_engine.specs.declared.tier.Session.{Session}
-use Rattle.tier_engine.specs.TierStates.{TierState, GroupState, SessionState, seen, is_named, group_of_table}
-use Rattle.tier_engine.specs.Answers.{Answer, select_answer, refused}
-use Rattle.tier_engine.specs.Replying.{rows_bytes}
-use Rattle.tier_engine.specs.Steps.{World, Quiet, ForSession, Selects}
-use Rattle.tier_engine.specs.Storing.{select_rows, place_named}
-use Rattle.tier_engine.specs.Standing.{StandsFor, KeepsRows, one_table, Turns, tier_state, group_state, session_state, own_in, world_of}
-use Rattle.tier_engine.proofs.InsertSteps.{one_group, first_table, named_first}
-use Rattle.tier_engine.proofs.StandingLaws.{sees_rows}
+use Rattle.tier_engine.specs.TierStates.{TierState, GroupState, SessionState, group_of_table, seen_rows}
+use Rattle.tier_engine.specs.Refusals.{unknown_table}
+use Rattle.tier_engine.specs.Answers.{Answer, only, select_answer, refuses}
+use Rattle.tier_engine.specs.Steps.{World, Quiet, InSession, Selects, WantsMemory}
+use Rattle.tier_engine.specs.Storing.{place_named}
+use Rattle.tier_engine.specs.Standing.{StandsFor, InOpen, Turns, group_state, own_in, session_state, session_in, tier_state, world_of}
+use Rattle.tier_engine.proofs.ShownLaws.{shows_stored}
+use Rattle.tier_engine.proofs.StandingLaws.{IsFound, are_inserts, is_found, not_found, same_world, sees_top, shows_at}
 
--- the answer is the stored one
-answered : (t : TierState) (gs : GroupState) (state : TableState) (table : Table) → table_at state gs.table ≡ table → select_answer t gs state ≡ (t, select_rows table)
-answered t gs state table e =
-    ap (λ (x : Table). if nat_lt (greatest limit.Answer) (len x) then (t, refused) else (t, record { notes = []; rows = rows_bytes (values x); last = Done (len x) })) e
-    ∙ by_bool (nat_lt (greatest limit.Answer) (len table))
+-- the open session
+pub record IsOpen (t : Tier) : Type 0 where
+  pub session : Session
+  pub is : t.session ≡ Some session
+
+pub is_open : (t : Tier) → IsSome t.session → IsOpen t
+is_open t some = by_session t.session refl some
   where
-    shown : Reply
-    shown = record { notes = []; rows = rows_bytes (values table); last = Done (len table) }
+  by_session : (o : Option Session) → t.session ≡ o → IsSome o → IsOpen t
+  by_session None e some = Prim.cc
+  by_session (Some s) e some = record { session = s; is = e }
 
-    pair : Reply → Answer
-    pair r = (t, r)
+-- a statement of the session that is open
+pub opened_step : (t : Tier) (st : Stmt) (w w' : World) (reply : Reply) (o : IsOpen t) → InSession (session_state o.session) st w w' reply → InOpen (session_in t.session) st w w' reply
+opened_step t st w w' reply o p = subst (λ (x : Option Session). InOpen (session_in x) st w w' reply) (sym o.is) p
 
-    by_bool : (b : Bool) → cond b (pair refused) (pair shown) ≡ pair (cond b refused shown)
-    by_bool true = refl
-    by_bool false = refl
+-- nothing but the reply
+pub quiet_same : (t : Tier) (log : List Sealed) (h : List Entry) (P : World → World → Type 0) → StandsFor t log h → ((faults moment : _) → P (world_of t log h faults moment) (world_of t log h faults moment)) → Turns t t log h P
+quiet_same t log h P s made = record { log' = log; stands = s; made = made }
 
-selected_one : (t : Tier) (log : List Sealed) (h : List Entry) (name : List ℕ) (reply : Reply) (g : Group) (s : Session)
-    → (stands : StandsFor t log h) → t.groups.items ≡ g ∷ [] → t.session ≡ Some s → is_named g.def.name name ≡ true → KeepsRows (g ∷ []) s.own stands.defs log stands.base
-    → reply ≡ select_rows g.rows → Turns t t log h (λ w w'. ForSession w.tier.session (statement.Select (record { table = name })) w w' reply)
-selected_one t log h name reply g s stands one opened named k told =
-    let st = tier_state t log h in
-    let ss = session_state s in
-    let base = stands.base in
-    let state = one_table g.def g.rows in
-    let open_state : st.session ≡ Some ss = ap (option_map session_state) opened in
-    let answer : select_answer st (group_state base g) state ≡ (st, select_rows g.rows) = answered st (group_state base g) state g.rows (first_table g k.first) in
-    let sees : seen st s.own h ≡ Some state =
-    ap (λ o. seen st (own_in o) h) (sym opened)
-    ∙ sees_rows t log h stands g one (subst (λ (o : Option Session). KeepsRows (g ∷ []) (own_in o) stands.defs log base) (sym opened) k)
-    in
-    let found : group_of_table st.groups name ≡ Some (group_state base g) =
-    ap (λ (gs : List GroupState). group_of_table gs name) (one_group t log h stands g one) ∙ ap (λ b. cond b (Some (group_state base g)) None) named
-    in
-    record {
-      log' = log;
-      stands = stands;
-      made = λ faults moment.
-          let w = world_of t log h faults moment in
-          let sel : Select = record { table = name } in
-          let quiet : Quiet w (select_answer st (group_state base g) state) w reply = (
-            ap (λ (y : TierState). let z : World = record { tier = y; history = h; bank_faults = faults; moment = moment } in z) (sym (ap (λ (a : Answer). a.0) answer)),
-            told ∙ sym (ap (λ (a : Answer). a.1) answer),
-          )
-          in
-          subst (λ (o : Option SessionState). ForSession o (statement.Select sel) w w reply) (sym open_state)
-          (subst (λ (o : Option GroupState). Selects ss o w w reply) (sym found) (state, sees, quiet));
-    }
+pub refuses_quiet : (w : World) (rule : Rule) (reply : Reply) → reply ≡ only (No rule) → Quiet w (refuses w.tier rule) w reply
+refuses_quiet w rule reply e = (refl, e)
 
-selected : (t : Tier) (log : List Sealed) (h : List Entry) (name : List ℕ) (reply : Reply) (place : ℕ) (found : Group) (gs : List Group) (o : Option Session)
-    → (stands : StandsFor t log h) → t.groups.items ≡ gs → t.session ≡ o → is_none t.session ≡ false → KeepsRows gs (own_in o) stands.defs log stands.base → place_named gs name ≡ Some place
-    → slice_get gs place ≡ Some found → reply ≡ select_rows found.rows
-    → Turns t t log h (λ w w'. ForSession w.tier.session (statement.Select (record { table = name })) w w' reply)
-selected t log h name reply place found gs None stands is opened some k p at told = let e : true ≡ false = sym (ap is_none opened) ∙ some in absurd (true_false e)
-  where
-    true_false : true ≡ false → ⊥
-    true_false e = Prim.cc
-selected t log h name reply place found [] (Some s) stands is opened some k p at told = absurd (none_some p)
-  where
-    none_some : ◌≡◌ {A = Option ℕ} None (Some place) → ⊥
-    none_some e = Prim.cc
-selected t log h name reply place found (g ∷ []) (Some s) stands is opened some k p at told =
-    let here = named_first g name place (is_named g.def.name name) refl p in
-    let same : Some g ≡ Some found = sym (ap (λ n. slice_get (g ∷ []) n) here.1) ∙ at in
-    let same_group : g ≡ found = Prim.cc in
-    selected_one t log h name reply g s stands is opened here.0 k (told ∙ ap (λ (x : Group). select_rows x.rows) (sym same_group))
-selected t log h name reply place found (g ∷ f ∷ gs) (Some s) stands is opened some k p at told = absurd k
+-- the table isn't cached
+pub select_unknown : (t : Tier) (log : List Sealed) (h : List Entry) (i : OneSelect) (reply : Reply) → IsSome t.session → place_named t.groups.items i.table ≡ None → reply ≡ only (No (unknown_table i.table)) → StandsFor t log h
+    → Turns t t log h (λ w w'. InOpen w.tier.session (statement.Select i) w w' reply ⊎ WantsMemory w w' reply)
+select_unknown t log h i reply some none told s =
+    let o = is_open t some in
+    quiet_same t log h _ s (λ faults moment.
+      let w = world_of t log h faults moment in
+      inl (opened_step t (statement.Select i) w w reply o
+          (subst (λ (g : Option GroupState). Selects (session_state o.session) g i w w reply) (sym (not_found (own_in t.session) t.groups.items i.table none)) (refuses_quiet w (unknown_table i.table) reply told))))
 
-pub selects_turns : (t : Tier) (log : List Sealed) (h : List Entry) (name : List ℕ) (reply : Reply) (place : ℕ) (found : Group)
-    → is_none t.session ≡ false → place_named t.groups.items name ≡ Some place → slice_get t.groups.items place ≡ Some found → reply ≡ select_rows found.rows
-    → StandsFor t log h → Turns t t log h (λ w w'. ForSession w.tier.session (statement.Select (record { table = name })) w w' reply)
-selects_turns t log h name reply place found some p at told stands = selected t log h name reply place found t.groups.items t.session stands refl refl some stands.rows p at told
+-- the rows of a group
+pub select_rows_step : (t : Tier) (log : List Sealed) (h : List Entry) (i : OneSelect) (reply : Reply) (place : _) (rows : Table) → IsSome t.session → place_named t.groups.items i.table ≡ Some place
+    → ((g : Group) → slice_get t.groups.items place ≡ Some g → rows ≡ g.rows) → ((x : TierState) → select_answer x rows ≡ (x, reply)) → StandsFor t log h
+    → Turns t t log h (λ w w'. InOpen w.tier.session (statement.Select i) w w' reply ⊎ WantsMemory w w' reply)
+select_rows_step t log h i reply place rows some there are answer s =
+    let o = is_open t some in
+    let own = own_in t.session in
+    let f = is_found own t.groups.items i.table place there in
+    let g = f.group in
+    let x = shows_at s.top _ own t.groups.items place g s.shows f.there in
+    let stored : seen_rows (group_state own g) own s.top ≡ rows = shows_stored own g s.top (are_inserts t.groups.items own s.writing) x.writes x.rows ∙ sym (are g f.there) in
+    let mine : own ≡ o.session.own = ap own_in o.is in
+    quiet_same t log h _ s (λ faults moment.
+      let w = world_of t log h faults moment in
+      let a : select_answer w.tier (seen_rows (group_state own g) own s.top) ≡ (w.tier, reply) = ap (select_answer w.tier) stored ∙ answer w.tier in
+      let quiet : Quiet w (select_answer w.tier (seen_rows (group_state own g) own s.top)) w reply = (ap (λ (y : Answer). let z : World = record w { tier = y.0 } in z) (sym a), ap (λ (y : Answer). y.1) (sym a)) in
+      inl (opened_step t (statement.Select i) w w reply o
+          (subst (λ (y : Option GroupState). Selects (session_state o.session) y i w w reply) (sym f.found)
+              (subst (λ (l : List _). Selects (session_state (record o.session { own = l })) (Some (group_state own g)) i w w reply) mine (s.top, sees_top t log h s, quiet)))))

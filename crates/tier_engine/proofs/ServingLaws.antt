@@ -1,7 +1,7 @@
 -- Parts of a request line, one behind the other.
-use Rattle.std.proofs.Common.{◌≡◌, ℕ, suc, ◌≤◌, ◌⊎◌, List, [], ◌∷◌, map, Option, Some, None, Result, Bool, true, false, ◌&&◌, not, cond, is_some, is_none, refl, sym, ◌∙◌, ap, subst, inl, arith}
+use Rattle.std.proofs.Common.{◌≡◌, ℕ, suc, ◌≤◌, ◌⊎◌, List, [], ◌∷◌, map, Option, Some, None, Result, Bool, true, false, ◌&&◌, not, cond, is_some, is_none, refl, sym, ◌∙◌, ap, subst, inl, inr, arith}
 use Rattle.std.specs.Bool.{MatchBool}
-use Rattle.std.specs.Option.{option_map, option_and_then}
+use Rattle.std.specs.Option.{option_map, option_and_then, IsSome}
 use Rattle.tier_base.specs.declared.code.Code.TheVariants as code
 use Rattle.table_state.specs.declared.definition.TableDef.{TableDef}
 use Rattle.table_state.specs.declared.history.Entry.{Entry}
@@ -18,16 +18,21 @@ use Rattle.tier_engine.specs.declared.tier.Tier.{Tier}
 use Rattle.tier_engine.specs.declared.tier.Group.{Group}
 use Rattle.tier_engine.specs.declared.tier.Session.{Session}
 use Rattle.tier_engine.specs.TierStates.{TierState, SessionState, session_of, group_of_table, is_named}
-use Rattle.tier_engine.specs.Answers.{refused, faulty}
+use Rattle.row_types.specs.declared.rule.Rule.{Rule}
+use Rattle.sql_subset.specs.declared.stmt.Load.{Load}
+use Rattle.table_state.specs.declared.operation.Op.{Op}
+use Rattle.tier_engine.specs.declared.reply.Last.TheVariants.{No}
+use Rattle.tier_engine.specs.Refusals.{not_yet, too_long, unknown_session}
+use Rattle.tier_engine.specs.Answers.{only, faulty, refuses}
 use Rattle.sql_subset.specs.declared.stmt.Call.{Call}
 use Rattle.sql_subset.specs.declared.stmt.Stmt.TheVariants as statement
-use Rattle.tier_engine.specs.Steps.{World, Quiet, is_long, Drains, Heeds, is_drain, Asked, Does, ForSession, Parts, TellsBankFault, WantsMemory, asks, stopped}
+use Rattle.tier_engine.specs.Steps.{World, Quiet, Calls, call_fault, is_long, Drains, Heeds, Asked, Does, ForSession, Parts, TellsBankFault, WantsMemory, asks, stopped}
 use Rattle.tier_engine.specs.Storing.{place_named}
-use Rattle.tier_engine.specs.Standing.{StandsFor, Made, Turns, Serves, ServesPart, AskServes, AsksWhere, tier_state, group_state, session_state, world_of}
+use Rattle.tier_engine.specs.Standing.{StandsFor, InOpen, Made, Turns, Serves, ServesPart, AskServes, AsksWhere, tier_state, group_state, session_in, world_of}
 
 -- a refusal and want of memory tell no fault of the bank
-pub no_refusal : TellsBankFault refused → ⊥
-no_refusal x = Prim.cc x.last
+pub no_refusal : (rule : Rule) → TellsBankFault (only (No rule)) → ⊥
+no_refusal rule x = Prim.cc x.last
 
 pub no_memory : TellsBankFault (faulty code.Memory) → ⊥
 no_memory x = Prim.cc (x.last, x.fault)
@@ -41,19 +46,19 @@ quiet_serves before faults moment t t' reply P turns clean log held told stands 
 
 -- Such a statement.
 pub quiet_statement : (before : Option Held) (faults moment : ℕ) (t t' : Tier) (reply : Reply) (st st' : Stmt) → st ≡ st'
-    → ((log : List Sealed) (h : List Entry) → StandsFor t log h → Turns t t' log h (λ w w'. ForSession w.tier.session st' w w' reply ⊎ WantsMemory w w' reply))
-    → ((w w' : World) → ForSession w.tier.session st' w w' reply ⊎ WantsMemory w w' reply → TellsBankFault reply → ⊥)
-    → ServesPart before before faults faults moment moment t t' reply (λ w w'. ForSession w.tier.session st w w' reply ⊎ WantsMemory w w' reply)
+    → ((log : List Sealed) (h : List Entry) → StandsFor t log h → Turns t t' log h (λ w w'. InOpen w.tier.session st' w w' reply ⊎ WantsMemory w w' reply))
+    → ((w w' : World) → InOpen w.tier.session st' w w' reply ⊎ WantsMemory w w' reply → TellsBankFault reply → ⊥)
+    → ServesPart before before faults faults moment moment t t' reply (λ w w'. InOpen w.tier.session st w w' reply ⊎ WantsMemory w w' reply)
 quiet_statement before faults moment t t' reply st st' e turns clean =
-    subst (λ (s : Stmt). ServesPart before before faults faults moment moment t t' reply (λ w w'. ForSession w.tier.session s w w' reply ⊎ WantsMemory w w' reply)) (sym e)
-    (quiet_serves before faults moment t t' reply (λ w w'. ForSession w.tier.session st' w w' reply ⊎ WantsMemory w w' reply) turns clean)
+    subst (λ (s : Stmt). ServesPart before before faults faults moment moment t t' reply (λ w w'. InOpen w.tier.session s w w' reply ⊎ WantsMemory w w' reply)) (sym e)
+    (quiet_serves before faults moment t t' reply (λ w w'. InOpen w.tier.session st' w w' reply ⊎ WantsMemory w w' reply) turns clean)
 
 -- The same statement.
 pub statement_as : (before now : Option Held) (f f' m m' : ℕ) (t t' : Tier) (reply : Reply) (st st' : Stmt) → st ≡ st'
-    → ServesPart before now f f' m m' t t' reply (λ w w'. ForSession w.tier.session st' w w' reply ⊎ WantsMemory w w' reply)
-    → ServesPart before now f f' m m' t t' reply (λ w w'. ForSession w.tier.session st w w' reply ⊎ WantsMemory w w' reply)
+    → ServesPart before now f f' m m' t t' reply (λ w w'. InOpen w.tier.session st' w w' reply ⊎ WantsMemory w w' reply)
+    → ServesPart before now f f' m m' t t' reply (λ w w'. InOpen w.tier.session st w w' reply ⊎ WantsMemory w w' reply)
 statement_as before now f f' m m' t t' reply st st' e part =
-    subst (λ (s : Stmt). ServesPart before now f f' m m' t t' reply (λ w w'. ForSession w.tier.session s w w' reply ⊎ WantsMemory w w' reply)) (sym e) part
+    subst (λ (s : Stmt). ServesPart before now f f' m m' t t' reply (λ w w'. InOpen w.tier.session s w w' reply ⊎ WantsMemory w w' reply)) (sym e) part
 
 -- Nothing is done.
 pub idle_serves : (before : Option Held) (faults moment : ℕ) (t : Tier) (reply : Reply) (P : World → World → Type 0) → ((w : World) → P w w) → (TellsBankFault reply → ⊥)
@@ -107,7 +112,7 @@ plain_part line before now f f' m m' t t' reply none part =
 
 -- The question failed, and the line ends with its fault.
 pub stopped_part : (line : Line) (before now : Option Held) (f f' m m' : ℕ) (t t' : Tier) (b : Bool) (fault : Reply)
-    → ((log : List Sealed) (h : List Entry) → b ≡ asks (tier_state t log h) line) → AskServes before now f f' m m' t t' b (Some fault) → (TellsBankFault fault → Rose f f')
+    → ((log : List Sealed) → b ≡ asks (tier_state t log) line) → AskServes before now f f' m m' t t' b (Some fault) → (TellsBankFault fault → Rose f f')
     → ServesPart before now f f' m m' t t' fault (λ w w'. Parts line w w' fault)
 stopped_part line before now f f' m m' t t' b fault same ask cause log held told stands =
     let x = ask log held told stands in
@@ -119,7 +124,7 @@ stopped_part line before now f f' m m' t t' b fault same ask cause log held told
       tells = x.tells;
       slots = x.slots;
       stands = x.stands;
-      made = (record { due = w; asked = w'; stop = Some fault; is_due = refl; asks_first = subst (λ (c : Bool). AsksWhere c (Some fault) w w') (same log held.history) x.made; through = (refl, refl) }, cause);
+      made = (record { due = w; asked = w'; stop = Some fault; is_due = refl; asks_first = subst (λ (c : Bool). AsksWhere c (Some fault) w w') (same log) x.made; through = (refl, refl) }, cause);
     }
 
 rose_later : (a b c : ℕ) → a ≤ b → Rose b c → Rose a c
@@ -127,7 +132,7 @@ rose_later a b c p q = Prim.omega (arith, p, q)
 
 -- The question was answered, or not asked, and the statement follows.
 pub through_part : (line : Line) (before between after : Option Held) (f f1 f2 m m1 m2 : ℕ) (t mid t' : Tier) (b : Bool) (reply : Reply)
-    → ((log : List Sealed) (h : List Entry) → b ≡ asks (tier_state t log h) line) → AskServes before between f f1 m m1 t mid b None → f ≤ f1
+    → ((log : List Sealed) → b ≡ asks (tier_state t log) line) → AskServes before between f f1 m m1 t mid b None → f ≤ f1
     → ServesPart between after f1 f2 m1 m2 mid t' reply (λ w w'. Does line w w' reply ⊎ WantsMemory w w' reply)
     → ServesPart before after f f2 m m2 t t' reply (λ w w'. Parts line w w' reply)
 through_part line before between after f f1 f2 m m1 m2 t mid t' b reply same ask later part log held told stands =
@@ -141,26 +146,26 @@ through_part line before between after f f1 f2 m m1 m2 t mid t' b reply same ask
       tells = y.tells;
       slots = y.slots ∙ x.slots;
       stands = y.stands;
-      made = (record { due = w; asked = w1; stop = None; is_due = refl; asks_first = subst (λ (c : Bool). AsksWhere c None w w1) (same log held.history) x.made; through = y.made.0 }, λ z. rose_later f f1 f2 later (y.made.1 z));
+      made = (record { due = w; asked = w1; stop = None; is_due = refl; asks_first = subst (λ (c : Bool). AsksWhere c None w w1) (same log) x.made; through = y.made.0 }, λ z. rose_later f f1 f2 later (y.made.1 z));
     }
 
 -- whether a table is cached is seen in the stored groups
-pub cached_stored : (base : TableState) (gs : List Group) (name : List ℕ) → is_some (place_named gs name) ≡ is_some (group_of_table (map (group_state base) gs) name)
-cached_stored base [] name = refl
-cached_stored base (g ∷ gs) name = by_name (is_named g.def.name name) (cached_stored base gs name)
+pub cached_stored : (own : List Op) (gs : List Group) (name : List ℕ) → is_some (place_named gs name) ≡ is_some (group_of_table (map (group_state own) gs) name)
+cached_stored own [] name = refl
+cached_stored own (g ∷ gs) name = by_name (is_named g.def.name name) (cached_stored own gs name)
   where
     mapped : (o : Option ℕ) → is_some (option_map suc o) ≡ is_some o
     mapped None = refl
     mapped (Some n) = refl
 
-    by_name : (b : Bool) → is_some (place_named gs name) ≡ is_some (group_of_table (map (group_state base) gs) name)
-        → is_some (cond b (Some 0) (option_map suc (place_named gs name))) ≡ is_some (cond b (Some (group_state base g)) (group_of_table (map (group_state base) gs) name))
+    by_name : (b : Bool) → is_some (place_named gs name) ≡ is_some (group_of_table (map (group_state own) gs) name)
+        → is_some (cond b (Some 0) (option_map suc (place_named gs name))) ≡ is_some (cond b (Some (group_state own g)) (group_of_table (map (group_state own) gs) name))
     by_name true later = refl
     by_name false later = mapped (place_named gs name) ∙ later
 
 -- the session under its label
-pub session_here : (t : Tier) (log : List Sealed) (h : List Entry) (label : List ℕ) → is_some (session_of (tier_state t log h) label) ≡ true → session_of (tier_state t log h) label ≡ (tier_state t log h).session
-session_here t log h label e = by_session (tier_state t log h).session e
+pub session_here : (t : Tier) (log : List Sealed) (label : List ℕ) → is_some (session_of (tier_state t log) label) ≡ true → session_of (tier_state t log) label ≡ (tier_state t log).session
+session_here t log label e = by_session (tier_state t log).session e
   where
     by_name : (s : SessionState) (b : Bool) → is_some (cond b (Some s) None) ≡ true → cond b (Some s) None ≡ Some s
     by_name s true p = refl
@@ -170,8 +175,8 @@ session_here t log h label e = by_session (tier_state t log h).session e
     by_session None p = refl
     by_session (Some s) p = by_name s (is_named s.label label) p
 
-pub no_session : (t : Tier) (log : List Sealed) (h : List Entry) (label : List ℕ) → is_some (session_of (tier_state t log h) label) ≡ false → session_of (tier_state t log h) label ≡ None
-no_session t log h label e = by_option (session_of (tier_state t log h) label) e
+pub no_session : (t : Tier) (log : List Sealed) (label : List ℕ) → is_some (session_of (tier_state t log) label) ≡ false → session_of (tier_state t log) label ≡ None
+no_session t log label e = by_option (session_of (tier_state t log) label) e
   where
     by_option : (o : Option SessionState) → is_some o ≡ false → o ≡ None
     by_option None p = refl
@@ -203,24 +208,60 @@ pub parts_as : (before now : Option Held) (f f' m m' : ℕ) (t t' : Tier) (reply
 parts_as before now f f' m m' t t' reply line line' e part =
     subst (λ (l : Line). ServesPart before now f f' m m' t t' reply (λ w w'. Parts l w w' reply)) (sym e) part
 
--- ttDrain of an open session.
-pub drain_part : (before now : Option Held) (f f' m m' : ℕ) (t t' : Tier) (reply : Reply) (call : Call) → is_none t.session ≡ false → is_drain call.procedure call.arguments ≡ true
+-- ttDrain of the open session.
+pub drain_part : (before now : Option Held) (f f' m m' : ℕ) (t t' : Tier) (reply : Reply) (call : Call) → IsSome t.session → call_fault call.procedure call.arguments ≡ None
     → ((log : List Sealed) (held : Held) → before ≡ Some held → StandsFor t log held.history → Made now f f' m m' t t' log held (λ w w'. Drains w w' reply))
     → (TellsBankFault reply → Rose f f')
-    → ServesPart before now f f' m m' t t' reply (λ w w'. ForSession w.tier.session (statement.Call call) w w' reply ⊎ WantsMemory w w' reply)
-drain_part before now f f' m m' t t' reply call opened is made cause =
-    part_as before now f f' m m' t t' reply (λ w w'. Drains w w' reply) (λ w w'. ForSession w.tier.session (statement.Call call) w w' reply ⊎ WantsMemory w w' reply)
-    (λ log h w' d. inl (by_session (world_of t log h f m) w' t.session opened d))
+    → ServesPart before now f f' m m' t t' reply (λ w w'. InOpen w.tier.session (statement.Call call) w w' reply ⊎ WantsMemory w w' reply)
+drain_part before now f f' m m' t t' reply call some is made cause =
+    part_as before now f f' m m' t t' reply (λ w w'. Drains w w' reply) (λ w w'. InOpen w.tier.session (statement.Call call) w w' reply ⊎ WantsMemory w w' reply)
+    (λ log h w' d. inl (by_session (world_of t log h f m) w' t.session some d))
     (caused_serves before now f f' m m' t t' reply (λ w w'. Drains w w' reply) made cause)
   where
-    by_session : (w w' : World) (o : Option Session) → is_none o ≡ false → Drains w w' reply → ForSession (option_map session_state o) (statement.Call call) w w' reply
+    by_session : (w w' : World) (o : Option Session) → IsSome o → Drains w w' reply → InOpen (session_in o) (statement.Call call) w w' reply
     by_session w w' None p d = Prim.cc
-    by_session w w' (Some s) p d = subst (λ b. MatchBool b (Drains w w' reply) (Quiet w (w.tier, refused) w' reply)) (sym is) d
+    by_session w w' (Some s) p d = subst (λ o. Calls o w w' reply) (sym is) d
+
+-- a call that is refused
+pub call_refused : (before : Option Held) (f m : ℕ) (t : Tier) (reply : Reply) (call : Call) (rule : Rule) → IsSome t.session → call_fault call.procedure call.arguments ≡ Some rule → reply ≡ only (No rule)
+    → ServesPart before before f f m m t t reply (λ w w'. InOpen w.tier.session (statement.Call call) w w' reply ⊎ WantsMemory w w' reply)
+call_refused before f m t reply call rule some is e log held told stands =
+    let w = world_of t log held.history f m in
+    record {
+      log' = log;
+      held' = held;
+      tells = told;
+      slots = refl;
+      stands = stands;
+      made = (inl (by_session w t.session some), λ b. absurd (no_refusal rule (subst TellsBankFault e b)));
+    }
+  where
+    by_session : (w : World) (o : Option Session) → IsSome o → InOpen (session_in o) (statement.Call call) w w reply
+    by_session w None p = Prim.cc
+    by_session w (Some s) p = subst (λ o. Calls o w w reply) (sym is) (refl, e)
+
+-- a statement of the open session that isn't there yet
+pub load_part : (before : Option Held) (f m : ℕ) (t : Tier) (reply : Reply) (load : Load) → IsSome t.session → reply ≡ only (No not_yet)
+    → ServesPart before before f f m m t t reply (λ w w'. InOpen w.tier.session (statement.Load load) w w' reply ⊎ WantsMemory w w' reply)
+load_part before f m t reply load some e log held told stands =
+    let w = world_of t log held.history f m in
+    record {
+      log' = log;
+      held' = held;
+      tells = told;
+      slots = refl;
+      stands = stands;
+      made = (inl (by_session w t.session some), λ b. absurd (no_refusal not_yet (subst TellsBankFault e b)));
+    }
+  where
+    by_session : (w : World) (o : Option Session) → IsSome o → InOpen (session_in o) (statement.Load load) w w reply
+    by_session w None p = Prim.cc
+    by_session w (Some s) p = (refl, e)
 
 -- A statement under a label under which no session is open.
-pub closed_part : (before : Option Held) (f m : ℕ) (t : Tier) (reply : Reply) (st : Stmt) (label : List ℕ) → reply ≡ refused
-    → ((log : List Sealed) (h : List Entry) → is_some (session_of (tier_state t log h) label) ≡ false)
-    → ServesPart before before f f m m t t reply (λ w w'. ForSession (session_of w.tier label) st w w' reply ⊎ WantsMemory w w' reply)
+pub closed_part : (before : Option Held) (f m : ℕ) (t : Tier) (reply : Reply) (st : Stmt) (label : List ℕ) → reply ≡ only (No (unknown_session label))
+    → ((log : List Sealed) → is_some (session_of (tier_state t log) label) ≡ false)
+    → ServesPart before before f f m m t t reply (λ w w'. ForSession label (session_of w.tier label) st w w' reply ⊎ WantsMemory w w' reply)
 closed_part before f m t reply st label e closed log held told stands =
     let w = world_of t log held.history f m in
     record {
@@ -229,17 +270,25 @@ closed_part before f m t reply st label e closed log held told stands =
       tells = told;
       slots = refl;
       stands = stands;
-      made = (inl (subst (λ (o : Option SessionState). ForSession o st w w reply) (sym (no_session t log held.history label (closed log held.history))) (refl, e)), λ b. absurd (no_refusal (subst TellsBankFault e b)));
+      made = (inl (subst (λ (o : Option SessionState). ForSession label o st w w reply) (sym (no_session t log label (closed log))) (refl, e)), λ b. absurd (no_refusal (unknown_session label) (subst TellsBankFault e b)));
     }
+
+-- what is done of an open session is done under its label
+for_session : (label : List ℕ) (o : Option SessionState) (st : Stmt) (w w' : World) (reply : Reply) → InOpen o st w w' reply → ForSession label o st w w' reply
+for_session label None st w w' reply p = absurd p
+for_session label (Some s) st w w' reply p = p
 
 -- A statement under the label of the open session.
 pub opened_part : (before now : Option Held) (f f' m m' : ℕ) (t t' : Tier) (reply : Reply) (st : Stmt) (label : List ℕ)
-    → ((log : List Sealed) (h : List Entry) → is_some (session_of (tier_state t log h) label) ≡ true)
-    → ServesPart before now f f' m m' t t' reply (λ w w'. ForSession w.tier.session st w w' reply ⊎ WantsMemory w w' reply)
-    → ServesPart before now f f' m m' t t' reply (λ w w'. ForSession (session_of w.tier label) st w w' reply ⊎ WantsMemory w w' reply)
+    → ((log : List Sealed) → is_some (session_of (tier_state t log) label) ≡ true)
+    → ServesPart before now f f' m m' t t' reply (λ w w'. InOpen w.tier.session st w w' reply ⊎ WantsMemory w w' reply)
+    → ServesPart before now f f' m m' t t' reply (λ w w'. ForSession label (session_of w.tier label) st w w' reply ⊎ WantsMemory w w' reply)
 opened_part before now f f' m m' t t' reply st label opened part =
-    part_as before now f f' m m' t t' reply (λ w w'. ForSession w.tier.session st w w' reply ⊎ WantsMemory w w' reply) (λ w w'. ForSession (session_of w.tier label) st w w' reply ⊎ WantsMemory w w' reply)
-    (λ log h w' p. subst (λ (o : Option SessionState). ForSession o st (world_of t log h f m) w' reply ⊎ WantsMemory (world_of t log h f m) w' reply) (sym (session_here t log h label (opened log h))) p) part
+    part_as before now f f' m m' t t' reply (λ w w'. InOpen w.tier.session st w w' reply ⊎ WantsMemory w w' reply) (λ w w'. ForSession label (session_of w.tier label) st w w' reply ⊎ WantsMemory w w' reply)
+    (λ log h w' p. elim p [
+      | inl q ↦ inl (subst (λ (o : Option SessionState). ForSession label o st (world_of t log h f m) w' reply) (sym (session_here t log label (opened log))) (for_session label (session_in t.session) st (world_of t log h f m) w' reply q))
+      | inr q ↦ inr q
+    ]) part
 
 -- What a line says was served.
 pub heeds_part : (before now : Option Held) (f f' m m' : ℕ) (t t' : Tier) (reply : Reply) (bytes : List ℕ) (line : Line) → Means bytes (Says line)
@@ -277,5 +326,5 @@ line_served before now f f' m m' t t' reply bytes short later part log held told
       tells = x.tells;
       slots = x.slots;
       stands = x.stands;
-      made = (record { later = later; caused = x.made.1 }, subst (λ b. MatchBool b (Quiet w (w.tier, refused) w' reply) (Heeds w bytes w' reply)) (sym short) x.made.0);
+      made = (record { later = later; caused = x.made.1 }, subst (λ b. MatchBool b (Quiet w (refuses w.tier too_long) w' reply) (Heeds w bytes w' reply)) (sym short) x.made.0);
     }

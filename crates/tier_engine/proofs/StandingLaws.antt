@@ -1,73 +1,91 @@
 -- How a stored tier keeps standing for a list.
-use Rattle.std.proofs.Common.{◌≡◌, ◌≤◌, ◌⊎◌, List, [], ◌∷◌, map, Option, Some, refl, sym, ◌∙◌, ap, subst, unwrap_or, inr}
+use Rattle.std.proofs.Common.{◌≡◌, ℕ, zero, suc, ◌≤◌, ◌⊎◌, ◌+◌, List, [], ◌∷◌, ◌++◌, Bool, true, false, ◌&&◌, cond, map, Option, Some, None, refl, sym, ◌∙◌, ap, subst, inl, inr}
 use Rattle.std.specs.Prelude.{◌^◌}
-use Rattle.tier_base.specs.declared.code.Code.TheVariants as code
+use Rattle.std.specs.List.{slice_get, list_all}
 use Rattle.std.specs.Option.{option_map, option_and_then, IfSome}
+use Rattle.tier_base.specs.declared.code.Code.TheVariants as code
 use Rattle.table_state.specs.declared.definition.TableDef.{TableDef}
+use Rattle.table_state.specs.declared.operation.Op.{Op}
 use Rattle.table_state.specs.declared.history.Entry.{Entry}
 use Rattle.table_state.specs.declared.history.Sealed.{Sealed}
+use Rattle.table_state.specs.Tables.{TableState}
 use Rattle.table_state.specs.Operations.{applied_all}
-use Rattle.table_state.specs.Histories.{no_tables}
 use Rattle.tier_engine.specs.declared.reply.Reply.{Reply}
 use Rattle.tier_engine.specs.declared.tier.Tier.{Tier}
 use Rattle.tier_engine.specs.declared.tier.Group.{Group}
 use Rattle.tier_engine.specs.declared.tier.Session.{Session}
 use Rattle.tier_engine.specs.Commits.{RiseBetween, virtual_state}
-use Rattle.tier_engine.specs.TierStates.{TierState, GroupState, as_shown, seen}
+use Rattle.tier_engine.specs.TierStates.{TierState, GroupState, SessionState, seen, is_named, group_of_table}
 use Rattle.tier_engine.specs.Answers.{faulty}
 use Rattle.tier_engine.specs.Steps.{World, WantsMemory}
-use Rattle.tier_engine.specs.Storing.{IsSame}
-use Rattle.tier_engine.specs.Standing.{StandsFor, KeepsRows, Turns, tier_state, group_state, session_state, own_in}
-use Rattle.tier_engine.proofs.CommitLaws.{virtual_whole}
-use Rattle.tier_engine.proofs.ShownLaws.{shows_all}
+use Rattle.tier_engine.specs.Storing.{IsSame, place_named}
+use Rattle.tier_engine.specs.Standing.{StandsFor, HasOwnKeys, Shows, ShowAll, AreApart, Turns, group_state, is_insert, is_stored, is_in_group, ops_of, own_in, session_in, tier_state, world_of}
 
--- the virtual state is the base
-pub virtual_base : (t : Tier) (log : List Sealed) (h : List Entry) (s : StandsFor t log h) → virtual_state h log ≡ Some s.base
-virtual_base t log h s = ap (λ x. virtual_state x log) s.is ∙ virtual_whole s.defs 1 s.came log t.next s.rise ∙ s.all
+pub and_left : (a b : Bool) → (a && b) ≡ true → a ≡ true
+and_left true b e = refl
+and_left false b e = Prim.cc
 
--- with other groups and another session
-pub stands_with : (t t' : Tier) (log : List Sealed) (h : List Entry) (s : StandsFor t log h) → t'.known ≡ t.known → t'.unsettled.items ≡ t.unsettled.items → t'.next ≡ t.next
-    → KeepsRows t'.groups.items (own_in t'.session) s.defs log s.base → StandsFor t' log h
-stands_with t t' log h s known unsettled next rows = record {
+pub and_right : (a b : Bool) → (a && b) ≡ true → b ≡ true
+and_right true b e = e
+and_right false b e = Prim.cc
+
+pub and_true : (a b : Bool) → a ≡ true → b ≡ true → (a && b) ≡ true
+and_true a b p q = ap (λ x. x && b) p ∙ q
+
+-- what is stored in groups are inserts
+pub are_inserts : (groups : List Group) (ops : List Op) → list_all (is_stored groups) ops ≡ true → list_all is_insert ops ≡ true
+are_inserts groups [] all = refl
+are_inserts groups (op ∷ ops) all =
+    and_true (is_insert op) (list_all is_insert ops)
+    (and_left (is_insert op) (is_in_group groups op) (and_left (is_stored groups op) (list_all (is_stored groups) ops) all))
+    (are_inserts groups ops (and_right (is_stored groups op) (list_all (is_stored groups) ops) all))
+
+-- the same tier but for its session, which has written the same
+pub stands_beside : (t t' : Tier) (log : List Sealed) (h : List Entry) (s : StandsFor t log h) → t'.known ≡ t.known → t'.unsettled.items ≡ t.unsettled.items → t'.next ≡ t.next → t'.groups.items ≡ t.groups.items
+    → own_in t'.session ≡ own_in t.session → HasOwnKeys t.groups.items t'.session → StandsFor t' log h
+stands_beside t t' log h s known unsettled next groups own keys = record {
   rise = subst (λ n. RiseBetween 1 log n) (sym next) s.rise;
   last = subst (λ n. n ≤ 2 ^ 63) (sym next) s.last;
-  defs = s.defs;
   came = s.came;
   received = s.received;
-  is = s.is;
+  owns = s.owns;
   within = s.within;
   at_least = s.at_least;
   at_most = s.at_most;
   rest = unsettled ∙ s.rest;
-  knows = subst (λ (o : Option (List TableDef)). IfSome o (λ schema. schema ≡ s.defs)) (sym known) s.knows;
-  single = s.single;
+  ordered = s.ordered;
   base = s.base;
-  all = s.all;
-  rows = rows;
-}
-
--- the tier's state with other groups and another session
-pub state_with : (t t' : Tier) (log : List Sealed) (h : List Entry) → t'.known ≡ t.known → t'.unsettled.items ≡ t.unsettled.items → t'.next ≡ t.next
-    → (groups : List Group) (session : Option Session) → t'.groups.items ≡ groups → t'.session ≡ session
-    → tier_state t' log h ≡ record (tier_state t log h) { groups = map (group_state (unwrap_or (virtual_state h log) no_tables)) groups; session = option_map session_state session }
-state_with t t' log h known unsettled next groups session gs ss = λ i. record {
-  known = known i;
-  groups = map (group_state (unwrap_or (virtual_state h log) no_tables)) (gs i);
-  session = option_map session_state (ss i);
-  log = log;
-  unsettled = unsettled i;
-  next = next i;
+  virtual = s.virtual;
+  whole = s.whole;
+  knows = subst (λ (o : Option (List TableDef)). IfSome o (λ schema. schema ≡ s.base.schema)) (sym known) s.knows;
+  top = s.top;
+  over = ap (λ l. applied_all l s.base) own ∙ s.over;
+  logged = ap (λ gs. list_all (is_stored gs) (ops_of log)) groups ∙ s.logged;
+  writing = ap (λ l. list_all (is_stored t'.groups.items) l) own ∙ ap (λ gs. list_all (is_stored gs) (own_in t.session)) groups ∙ s.writing;
+  shows = subst (λ (l : List Op). ShowAll s.top (ops_of log) l t'.groups.items) (sym own) (subst (λ (gs : List Group). ShowAll s.top (ops_of log) (own_in t.session) gs) (sym groups) s.shows);
+  apart = subst AreApart (sym groups) s.apart;
+  keys = subst (λ (gs : List Group). HasOwnKeys gs t'.session) (sym groups) keys;
 }
 
 -- nothing changed
 pub same_stands : (t t' : Tier) (log : List Sealed) (h : List Entry) → IsSame t t' → StandsFor t log h → StandsFor t' log h
 same_stands t t' log h e s =
-    stands_with t t' log h s e.known e.unsettled e.next
-    (subst (λ (gs : List Group). KeepsRows gs (own_in t'.session) s.defs log s.base) (sym e.groups)
-    (subst (λ (o : Option Session). KeepsRows t.groups.items (own_in o) s.defs log s.base) (sym e.session) s.rows))
+    stands_beside t t' log h s e.known e.unsettled e.next e.groups (ap own_in e.session) (subst (λ (o : Option Session). HasOwnKeys t.groups.items o) (sym e.session) s.keys)
 
-pub same_state : (t t' : Tier) (log : List Sealed) (h : List Entry) → IsSame t t' → tier_state t' log h ≡ tier_state t log h
-same_state t t' log h e = state_with t t' log h e.known e.unsettled e.next t.groups.items t.session e.groups e.session
+pub same_state : (t t' : Tier) (log : List Sealed) → IsSame t t' → tier_state t' log ≡ tier_state t log
+same_state t t' log e = λ i. record {
+  known = e.known i;
+  groups = map (group_state (own_in (e.session i))) (e.groups i);
+  session = session_in (e.session i);
+  log = log;
+  unsettled = e.unsettled i;
+  next = e.next i
+}
+
+-- the world of a tier whose state is another's
+pub same_world : (x y : TierState) (h : List Entry) (faults moment : ℕ) → x ≡ y
+    → (let w : World = record { tier = x; history = h; bank_faults = faults; moment = moment } in w) ≡ (let w : World = record { tier = y; history = h; bank_faults = faults; moment = moment } in w)
+same_world x y h faults moment e = λ i. record { tier = e i; history = h; bank_faults = faults; moment = moment }
 
 -- a statement that wanted memory
 pub memory_turns : (t t' : Tier) (log : List Sealed) (h : List Entry) (reply : Reply) (P : World → World → Type 0) → reply ≡ faulty code.Memory → IsSame t t' → StandsFor t log h
@@ -75,18 +93,55 @@ pub memory_turns : (t t' : Tier) (log : List Sealed) (h : List Entry) (reply : R
 memory_turns t t' log h reply P told e s = record {
   log' = log;
   stands = same_stands t t' log h e s;
-  made = λ faults moment. inr (ap (λ (x : TierState). let w : World = record { tier = x; history = h; bank_faults = faults; moment = moment } in w) (same_state t t' log h e), told);
+  made = λ faults moment. inr (same_world (tier_state t' log) (tier_state t log) h faults moment (same_state t t' log e), told)
 }
 
--- what a session sees of the one table is what is stored
-pub sees_rows : (t : Tier) (log : List Sealed) (h : List Entry) (s : StandsFor t log h) (g : Group) → t.groups.items ≡ g ∷ [] → (k : KeepsRows (g ∷ []) (own_in t.session) s.defs log s.base)
-    → seen (tier_state t log h) (own_in t.session) h ≡ Some (record { schema = g.def ∷ []; tables = g.rows ∷ [] })
-sees_rows t log h s g one k =
-    let base = virtual_base t log h s in
-    let groups : (tier_state t log h).groups ≡ group_state s.base g ∷ [] =
-    ap (λ (gs : List Group). map (group_state (unwrap_or (virtual_state h log) no_tables)) gs) one ∙ ap (λ o. group_state (unwrap_or o no_tables) g ∷ []) base
-    in
-    ap (λ (gs : List GroupState). option_and_then (applied_all (own_in t.session)) (option_map (as_shown gs) (virtual_state h log))) groups
-    ∙ ap (λ o. option_and_then (applied_all (own_in t.session)) (option_map (as_shown (group_state s.base g ∷ [])) o)) base
-    ∙ ap (applied_all (own_in t.session)) (shows_all (group_state s.base g) s.base refl)
-    ∙ k.over
+-- a step is one with want of memory beside it
+pub turns_first : (t t' : Tier) (log : List Sealed) (h : List Entry) (P Q : World → World → Type 0) → Turns t t' log h P → Turns t t' log h (λ w w'. P w w' ⊎ Q w w')
+turns_first t t' log h P Q x = record { log' = x.log'; stands = x.stands; made = λ faults moment. inl (x.made faults moment) }
+
+-- what a session sees
+pub sees_top : (t : Tier) (log : List Sealed) (h : List Entry) (s : StandsFor t log h) → seen (tier_state t log) (own_in t.session) h ≡ Some s.top
+sees_top t log h s = ap (option_and_then (applied_all (own_in t.session))) s.virtual ∙ s.over
+
+-- what one of the groups shows
+pub shows_at : (top : TableState) (log own : List Op) (groups : List Group) (place : ℕ) (g : Group) → ShowAll top log own groups → slice_get groups place ≡ Some g → Shows top log own g
+shows_at top log own [] place g all e = Prim.cc
+shows_at top log own (x ∷ groups) zero g all e = subst (Shows top log own) (let p : Some x ≡ Some g = e in Prim.cc) all.0
+shows_at top log own (x ∷ groups) (suc place) g all e = shows_at top log own groups place g all.1 e
+
+-- A named group is found at its place.
+pub record IsFound (own : List Op) (groups : List Group) (name : List ℕ) (place : ℕ) : Type 0 where
+  pub group : Group
+  pub there : slice_get groups place ≡ Some group
+  pub found : group_of_table (map (group_state own) groups) name ≡ Some (group_state own group)
+
+later_place : (o : Option ℕ) (place : ℕ) → option_map suc o ≡ Some place → (n : ℕ) × (o ≡ Some n) × (place ≡ suc n)
+later_place None place e = Prim.cc
+later_place (Some n) place e = (n, refl, let p : Some (suc n) ≡ Some place = e in Prim.cc)
+
+pub is_found : (own : List Op) (groups : List Group) (name : List ℕ) (place : ℕ) → place_named groups name ≡ Some place → IsFound own groups name place
+is_found own [] name place e = Prim.cc
+is_found own (g ∷ groups) name place e = by_name (λ n p. is_found own groups name n p) (is_named g.def.name name) refl e
+  where
+  by_name : ((n : ℕ) → place_named groups name ≡ Some n → IsFound own groups name n) → (b : Bool) → is_named g.def.name name ≡ b → cond b (Some 0) (option_map suc (place_named groups name)) ≡ Some place
+      → IsFound own (g ∷ groups) name place
+  by_name more true is p =
+      let zero_place : place ≡ 0 = let q : Some 0 ≡ Some place = p in Prim.cc in
+      record { group = g; there = ap (slice_get (g ∷ groups)) zero_place; found = ap (λ b. cond b (Some (group_state own g)) (group_of_table (map (group_state own) groups) name)) is }
+  by_name more false is p =
+      let l = later_place (place_named groups name) place p in
+      let f = more l.0 l.1 in
+      record { group = f.group; there = ap (slice_get (g ∷ groups)) l.2 ∙ f.there; found = ap (λ b. cond b (Some (group_state own g)) (group_of_table (map (group_state own) groups) name)) is ∙ f.found }
+
+pub not_found : (own : List Op) (groups : List Group) (name : List ℕ) → place_named groups name ≡ None → group_of_table (map (group_state own) groups) name ≡ None
+not_found own [] name e = refl
+not_found own (g ∷ groups) name e = by_name (not_found own groups name) (is_named g.def.name name) refl e
+  where
+  none : (o : Option ℕ) → option_map suc o ≡ None → o ≡ None
+  none None p = refl
+  none (Some n) p = Prim.cc
+  by_name : (place_named groups name ≡ None → group_of_table (map (group_state own) groups) name ≡ None) → (b : Bool) → is_named g.def.name name ≡ b
+      → cond b (Some 0) (option_map suc (place_named groups name)) ≡ None → group_of_table (map (group_state own) (g ∷ groups)) name ≡ None
+  by_name more true is p = Prim.cc
+  by_name more false is p = ap (λ b. cond b (Some (group_state own g)) (group_of_table (map (group_state own) groups) name)) is ∙ more (none (place_named groups name) p)

@@ -1,44 +1,32 @@
 -- What each statement answers where it makes no call of the backing database, and what the tier keeps then.
 
-use Rattle.std.specs.Prelude.{ℕ, ◌+◌, List, [], ◌∷◌, ◌++◌, Bool, true, false, ◌&&◌, not, nat_eq, nat_lt, nat_le, Option, Some, None, if◌then◌else◌, length, map, codes, slice_get, is_none}
-use Rattle.std.specs.Cmp.Lexicographic.{pointwise}
-use Rattle.std.specs.FinMap.{contains_key, values, len}
+use Rattle.std.specs.Prelude.{ℕ, ◌+◌, Bool, true, false, if◌then◌else◌, List, [], ◌∷◌, ◌++◌, Option, Some, None, map, slice_get}
+use Rattle.std.specs.FinMap.{values, len}
 use Rattle.std.specs.FinSet as set
-use Rattle.row_types.specs.Order.{key_order}
-use Rattle.row_types.specs.declared.value.Value.{Value}
+use Rattle.row_types.specs.declared.rule.Rule.{Rule}
 use Rattle.row_types.specs.declared.rule.Detail.TheVariants as detail
+use Rattle.row_types.specs.declared.value.Value.{Value}
 use Rattle.tier_base.specs.declared.code.Code.{Code}
-use Rattle.tier_base.specs.declared.code.Code.TheVariants as code
-use Rattle.tier_base.specs.declared.limit.Limit.TheVariants as limit
-use Rattle.tier_base.specs.Limits.{greatest}
 use Rattle.tier_base.specs.declared.number.TableId.{TableId}
 use Rattle.table_state.specs.declared.definition.TableDef.{TableDef}
 use Rattle.table_state.specs.declared.operation.Op.{Op}
-use Rattle.table_state.specs.declared.operation.Op.TheVariants.{Insert, Update, Delete}
+use Rattle.table_state.specs.declared.operation.Op.TheVariants.{Insert}
 use Rattle.table_state.specs.declared.history.Sealed.{Sealed}
 use Rattle.table_state.specs.Names.{place_of_table}
-use Rattle.table_state.specs.Declarations.{fault_of, resolved, limit_of, same_type}
-use Rattle.table_state.specs.Tables.{Table, TableState, table_at, key_of, fits_columns}
-use Rattle.row_types.specs.declared.column.Column.{Column}
-use Rattle.row_types.specs.declared.declaration.TableDeclaration.{TableDeclaration}
+use Rattle.table_state.specs.Tables.{Table}
 use Rattle.sql_subset.specs.declared.request.OpenOptions.{OpenOptions}
 use Rattle.sql_subset.specs.declared.stmt.CreateGroup.{CreateGroup}
 use Rattle.sql_subset.specs.declared.stmt.GroupKind.{GroupKind}
 use Rattle.sql_subset.specs.declared.stmt.GroupKind.TheVariants.{ReadOnly, AsynchronousWritethrough}
-use Rattle.sql_subset.specs.declared.stmt.Literal.{Literal}
-use Rattle.tier_engine.specs.LiteralValues.{values_of}
 use Rattle.tier_engine.specs.declared.reply.Reply.{Reply}
 use Rattle.tier_engine.specs.declared.reply.Last.{Last}
 use Rattle.tier_engine.specs.declared.reply.Last.TheVariants.{Done, No, Fault}
 use Rattle.tier_engine.specs.Replying.{rows_bytes}
-use Rattle.tier_engine.specs.TierStates.{TierState, SessionState, GroupState, is_named}
+use Rattle.tier_engine.specs.TierStates.{TierState, SessionState, GroupState, keys_after, group_of_table}
+use Rattle.tier_engine.specs.Refusals.{not_yet, unknown_table, open_fault, group_fault, select_fault, commit_fault}
 
 abbrev pub only : Last → Reply
 only last = record { notes = []; rows = []; last = last }
-
--- No statement is spelt so. For now every refusal but that of a key is this one.
-abbrev pub refused : Reply
-refused = only (No (record { code = code.Syntax; detail = detail.Byte 0 }))
 
 -- a fault, or want of memory
 abbrev pub faulty : Code → Reply
@@ -48,96 +36,70 @@ faulty c = only (Fault (record { code = c; detail = detail.Nothing }))
 abbrev pub Answer : Type 0
 Answer = TierState × Reply
 
+-- a refusal changes nothing
+abbrev pub refuses : TierState → Rule → Answer
+refuses t rule = (t, only (No rule))
+
+-- this answer, unless a rule is broken
+abbrev pub unless : TierState → Option Rule → Answer → Answer
+unless t None answer = answer
+unless t (Some rule) answer = refuses t rule
+
 -- with these uncommitted writes
 abbrev pub with_own : TierState → SessionState → List Op → TierState
 with_own t s own = record t { session = Some (record { label = s.label; own = own }) }
 
--- for now the one session is s1, opened without options
-abbrev pub is_first_session : List ℕ → OpenOptions → Bool
-is_first_session label options = is_named label (codes "s1") && nat_eq options.passthrough 0 && not options.durable
-
--- OPEN: once
+-- OPEN
 abbrev pub open_answer : TierState → List ℕ → OpenOptions → Answer
-open_answer t label options =
-    if is_first_session label options && is_none t.session then (record t { session = Some (record { label = label; own = [] }) }, only (Done 0)) else (t, refused)
+open_answer t label options = unless t (open_fault t.session label options) (record t { session = Some (record { label = label; own = [] }) }, only (Done 0))
 
--- the definition that CREATE TABLE makes; none where it breaks a rule or there is a table already
-abbrev pub defined_by : TableDeclaration → List TableDef → Option TableDef
-defined_by d schema =
-    if is_none (fault_of d schema) && is_none (limit_of (resolved d schema) schema) && nat_eq (length schema) 0 then Some (resolved d schema) else None
+-- CLOSE rolls back
+abbrev pub close_answer : TierState → Answer
+close_answer t = (record t { session = None }, only (Done 0))
 
--- the columns have the same names and types
-abbrev pub same_columns : List Column → List Column → Bool
-same_columns [] [] = true
-same_columns (a ∷ as_declared) (b ∷ columns) = is_named a.name b.name && same_type a.ty b.ty && same_columns as_declared columns
-same_columns [] (b ∷ columns) = false
-same_columns (a ∷ as_declared) [] = false
+-- ROLLBACK
+abbrev pub rollback_answer : TierState → SessionState → Answer
+rollback_answer t s = (with_own t s [], only (Done 0))
 
--- the table of a group is declared as the backing table is defined; NOT NULL isn't compared
-abbrev pub same_table : TableDef → TableDef → Bool
-same_table a b = same_columns a.columns b.columns && pointwise nat_eq a.primary_key b.primary_key && is_none a.foreign_key && is_none b.foreign_key
+abbrev pub new_group : List ℕ → TableId → TableDef → GroupState
+new_group name table def = record { name = name; table = table; def = def; keys = set.empty }
 
-abbrev pub describes : TableDeclaration → TableDef → Bool
-describes d def = is_none (fault_of d []) && same_table (resolved d []) def
+abbrev pub group_over : TierState → SessionState → CreateGroup → TableId → List TableDef → Option TableDef → Answer
+group_over t s d table schema None = refuses t (unknown_table d.table.name)
+group_over t s d table schema (Some def) =
+    unless t (group_fault t.groups s.own d table def schema) (record t { groups = t.groups ++ new_group d.name table def ∷ [] }, only (Done 0))
+
+abbrev pub group_in : TierState → SessionState → CreateGroup → List TableDef → Option TableId → Answer
+group_in t s d schema None = refuses t (unknown_table d.table.name)
+group_in t s d schema (Some table) = group_over t s d table schema (slice_get schema table.0)
+
+-- where the schema isn't known and the table is that of a group: it is refused, at the latest for that
+abbrev pub group_cached : TierState → SessionState → CreateGroup → Option GroupState → Answer
+group_cached t s d None = refuses t (unknown_table d.table.name)
+group_cached t s d (Some g) = group_over t s d g.table [] (Some g.def)
+
+abbrev pub group_known : TierState → SessionState → CreateGroup → Option (List TableDef) → Answer
+group_known t s d None = group_cached t s d (group_of_table t.groups d.table.name)
+group_known t s d (Some schema) = group_in t s d schema (place_of_table schema d.table.name)
 
 abbrev pub is_asynchronous : GroupKind → Bool
 is_asynchronous ReadOnly = false
 is_asynchronous AsynchronousWritethrough = true
 
-abbrev pub group_over : TierState → CreateGroup → TableId → Option TableDef → Answer
-group_over t d table None = (t, refused)
-group_over t d table (Some def) =
-    if is_asynchronous d.kind && is_none d.autorefresh && describes d.table def
-    then (record t { groups = t.groups ++ record { name = d.name; table = table; def = def; keys = set.empty } ∷ [] }, only (Done 0)) else (t, refused)
+-- CREATE CACHE GROUP: an asynchronous one over a backing table. Groups of the other kinds aren't there yet.
+abbrev pub group_answer : TierState → SessionState → CreateGroup → Answer
+group_answer t s d = if is_asynchronous d.kind then group_known t s d t.known else refuses t not_yet
 
-abbrev pub group_in : TierState → CreateGroup → List TableDef → Option TableId → Answer
-group_in t d schema None = (t, refused)
-group_in t d schema (Some table) = group_over t d table (slice_get schema table.0)
-
--- CREATE CACHE GROUP: once, an asynchronous one over a backing table
-abbrev pub group_answer : TierState → CreateGroup → Option (List TableDef) → Answer
-group_answer t d None = (t, refused)
-group_answer t d (Some schema) = if nat_eq (length t.groups) 0 then group_in t d schema (place_of_table schema d.table.name) else (t, refused)
-
--- INSERT of a row that fits: its key has to be new to what the session sees
-abbrev pub insert_row : TierState → SessionState → GroupState → List Value → Table → Answer
-insert_row t s g row table =
-    if contains_key table (key_of g.def.primary_key row) then (t, only (No (record { code = code.KeyExists; detail = detail.Row g.def.name (key_of g.def.primary_key row) })))
-    else (with_own t s (s.own ++ Insert g.table row ∷ []), only (Done 1))
-
-abbrev pub insert_values : TierState → SessionState → GroupState → Option (List Value) → TableState → Answer
-insert_values t s g None state = (t, refused)
-insert_values t s g (Some row) state =
-    if not (fits_columns g.def.columns row) then (t, refused)
-    else (if not (nat_lt (length s.own) (greatest limit.Operations)) then (t, refused)
-    else (if not (nat_lt (len (table_at state g.table)) (greatest limit.Rows)) then (t, refused)
-    else insert_row t s g row (table_at state g.table)))
-
--- INSERT
-abbrev pub insert_answer : TierState → SessionState → GroupState → List Literal → TableState → Answer
-insert_answer t s g literals state = insert_values t s g (values_of literals) state
-
--- SELECT * FROM a cached table
-abbrev pub select_answer : TierState → GroupState → TableState → Answer
-select_answer t g state =
-    if nat_lt (greatest limit.Answer) (len (table_at state g.table)) then (t, refused)
-    else (t, record { notes = []; rows = rows_bytes (values (table_at state g.table)); last = Done (len (table_at state g.table)) })
+-- SELECT * FROM a cached table of which the session sees these rows
+abbrev pub select_answer : TierState → Table → Answer
+select_answer t rows = unless t (select_fault rows) (t, record { notes = []; rows = rows_bytes (values rows); last = Done (len rows) })
 
 -- what the session's uncommitted writes become at their commit
 abbrev pub sealed_own : TierState → List Op → Sealed
 sealed_own t own = record { ticket = record { 0 = t.next }; ops = own }
 
--- the keys of rows that the operations insert enter the group's list, those of rows that they delete leave it
-abbrev pub keys_after : GroupState → List Op → set.FinSet key_order → set.FinSet key_order
-keys_after g [] keys = keys
-keys_after g (Insert table row ∷ ops) keys =
-    keys_after g ops (if nat_eq table.0 g.table.0 then set.insert keys (key_of g.def.primary_key row) else keys)
-keys_after g (Update table old new ∷ ops) keys = keys_after g ops keys
-keys_after g (Delete table old ∷ ops) keys =
-    keys_after g ops (if nat_eq table.0 g.table.0 then set.remove keys (key_of g.def.primary_key old) else keys)
-
 abbrev pub group_after : List Op → GroupState → GroupState
-group_after own g = record { name = g.name; table = g.table; def = g.def; keys = keys_after g own g.keys }
+group_after own g = record g { keys = keys_after g own g.keys }
 
 abbrev pub committed : TierState → SessionState → TierState
 committed t s = record {
@@ -149,10 +111,14 @@ committed t s = record {
   next = t.next + 1;
 }
 
--- COMMIT
+-- COMMIT: without writes it uses no ticket
+abbrev pub commit_of : TierState → SessionState → List Op → Answer
+commit_of t s [] = (t, only (Done 0))
+commit_of t s (op ∷ own) = unless t (commit_fault t) (committed t s, only (Done t.next))
+
 abbrev pub commit_answer : TierState → SessionState → Answer
-commit_answer t s =
-    if not (nat_lt 0 (length s.own)) then (t, only (Done 0))
-    else (if not (nat_lt (length t.unsettled) (greatest limit.Pending)) then (t, refused)
-    else (if not (nat_le t.next (greatest limit.Tickets)) then (t, refused)
-    else (committed t s, only (Done t.next))))
+commit_answer t s = commit_of t s s.own
+
+-- INSERT of a row whose key is new
+abbrev pub inserted : TierState → SessionState → GroupState → List Value → Answer
+inserted t s g row = (with_own t s (s.own ++ Insert g.table row ∷ []), only (Done 1))

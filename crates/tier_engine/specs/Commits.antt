@@ -30,6 +30,15 @@ applied_sealed (x ∷ xs) s = option_and_then (applied_sealed xs) (applied_all x
 abbrev pub virtual_state : List Entry → List Sealed → Option TableState
 virtual_state history log = option_and_then (applied_sealed (pending history log)) (state_of history)
 
+abbrev pub is_own : Entry → Bool
+is_own (Definition def) = false
+is_own (Foreign ops) = false
+is_own (Own ticket ops) = true
+
+-- the transactions of the tier that stand in the history, in its order
+abbrev pub own_entries : List Entry → List Entry
+own_entries history = filter is_own history
+
 -- each ticket stands in the history at most once
 abbrev pub Once : List Entry → Type 0
 Once [] = Unit {0}

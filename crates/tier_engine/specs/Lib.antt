@@ -1,6 +1,7 @@
 pub mod Answers
 pub mod Commits
 pub mod LiteralValues
+pub mod Refusals
 pub mod Storing
 pub mod Replying
 pub mod RoundStates

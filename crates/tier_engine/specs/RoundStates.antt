@@ -1,7 +1,6 @@
 -- How a stored round of propagation stands, and what one call of the bank does for it. (This project's rule.)
 
 use Rattle.std.specs.Prelude.{◌≡◌, ℕ, ◌+◌, ◌≤◌, ◌⊎◌, List, [], ◌∷◌, ◌++◌, true, Option, Some, map, take, drop, length, Result, Ok, Err}
-use Rattle.table_state.specs.declared.definition.TableDef.{TableDef}
 use Rattle.table_state.specs.declared.history.Entry.{Entry}
 use Rattle.table_state.specs.declared.history.Sealed.{Sealed}
 use Rattle.table_state.specs.Histories.{has_ticket, entry_of}
@@ -9,9 +8,8 @@ use Rattle.outside.specs.Bank.{Comes, Grows}
 use Rattle.outside.specs.Holding.{Held, Slots}
 use Rattle.tier_engine.specs.declared.rounds.RoundFault.{RoundFault}
 use Rattle.tier_engine.specs.declared.rounds.RoundFault.TheVariants as stop
-use Rattle.tier_engine.specs.Commits.{RiseBetween}
+use Rattle.tier_engine.specs.Commits.{RiseBetween, own_entries}
 use Rattle.tier_engine.specs.Rounds.{FirstDiffers}
-use Rattle.tier_engine.specs.Standing.{definition_entries}
 
 -- What the bank does for one unsettled transaction: it comes now, or it came before; at a fault it may have come, and for
 -- want of memory, or where a row differs, it doesn't.
@@ -21,28 +19,30 @@ Settles s (Err stop.Failed) old new = Grows [] old new ⊎ Comes s [] old new
 Settles s (Err stop.Memory) old new = Grows [] old new
 Settles s (Err stop.Differs) old new = FirstDiffers (s ∷ []) old × Grows [] old new
 
--- The site tells a history of the definitions and so many of the log's transactions, and beside it these slots; the
--- unsettled ones are those without a receipt, and at most one of them came.
-pub record RoundAt (told : Option Held) (unsettled log : List Sealed) (defs : List TableDef) (slots : Slots) (came received : ℕ) : Type 0 where
+-- The site tells a history that is the one at the round's begin, in which so many of the log's transactions stood, with so
+-- many more of the log's behind it, and beside it these slots. The unsettled ones are those without a receipt, and at
+-- most one of them came.
+pub record RoundAt (told : Option Held) (unsettled log : List Sealed) (front : List Entry) (slots : Slots) (began added received : ℕ) : Type 0 where
   pub held : Held
   pub tells : told ≡ Some held
   pub same_slots : held.slots ≡ slots
-  pub is : held.history ≡ definition_entries defs ++ map entry_of (take came log)
-  pub within : came ≤ length log
-  pub at_least : received ≤ came
-  pub at_most : came ≤ received + 1
+  pub is : held.history ≡ front ++ map entry_of (take added (drop began log))
+  pub within : began + added ≤ length log
+  pub at_least : received ≤ began + added
+  pub at_most : began + added ≤ received + 1
   pub rest : unsettled ≡ drop received log
 
 -- a round that stood so stands somewhere further on
-pub record GoesFrom (told : Option Held) (unsettled log : List Sealed) (defs : List TableDef) (slots : Slots) (came received : ℕ) : Type 0 where
-  pub came' : ℕ
+pub record GoesFrom (told : Option Held) (unsettled log : List Sealed) (front : List Entry) (slots : Slots) (began added received : ℕ) : Type 0 where
+  pub added' : ℕ
   pub received' : ℕ
-  pub more_came : came ≤ came'
+  pub more_added : added ≤ added'
   pub more_received : received ≤ received'
-  pub at : RoundAt told unsettled log defs slots came' received'
+  pub at : RoundAt told unsettled log front slots began added' received'
 
--- A round goes on from wherever it stands, of a log whose tickets rise.
+-- A round goes on from wherever it stands, of a log whose tickets rise, and over a history at whose begin just a front of
+-- the log stood.
 abbrev pub RoundGoes : Option Held → Option Held → List Sealed → List Sealed → Type 0
 RoundGoes told told' old new =
-    (log : List Sealed) (defs : List TableDef) (slots : Slots) (came received low high : ℕ) → RiseBetween low log high → RoundAt told old log defs slots came received
-    → GoesFrom told' new log defs slots came received
+    (log : List Sealed) (front : List Entry) (slots : Slots) (began added received low high : ℕ) → RiseBetween low log high → own_entries front ≡ map entry_of (take began log)
+    → RoundAt told old log front slots began added received → GoesFrom told' new log front slots began added received

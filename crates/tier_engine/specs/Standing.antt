@@ -1,29 +1,36 @@
 -- When the stored tier stands for the abstract one.
 
-use Rattle.std.specs.Prelude.{◌≡◌, ℕ, ◌+◌, ◌≤◌, ◌^◌, List, [], ◌∷◌, ◌++◌, Bool, Option, Some, None, Result, map, take, drop, length, unwrap_or}
+use Rattle.std.specs.Prelude.{◌≡◌, ℕ, ◌+◌, ◌≤◌, ◌^◌, List, [], ◌∷◌, ◌++◌, Bool, true, false, ◌&&◌, nat_eq, Option, Some, None, Result, Ok, Err, if◌then◌else◌, map, take, drop, length, slice_get}
 use Rattle.std.specs.Option.{IfSome, option_map}
 use Rattle.std.specs.Bool.{MatchBool}
-use Rattle.std.specs.FinMap.{keys}
+use Rattle.std.specs.List.{list_all, list_any, flat_map}
+use Rattle.std.specs.FinMap.{keys, get, contains_key, remove}
 use Rattle.std.specs.FinSet.{FinSet, from_list}
 use Rattle.row_types.specs.Order.{key_order}
+use Rattle.row_types.specs.declared.value.Value.{Value}
+use Rattle.tier_base.specs.declared.number.TableId.{TableId}
 use Rattle.table_state.specs.declared.definition.TableDef.{TableDef}
 use Rattle.table_state.specs.declared.operation.Op.{Op}
 use Rattle.table_state.specs.declared.operation.Op.TheVariants.{Insert, Update, Delete}
 use Rattle.table_state.specs.declared.history.Entry.{Entry}
-use Rattle.table_state.specs.declared.history.Entry.TheVariants.{Definition}
 use Rattle.table_state.specs.declared.history.Sealed.{Sealed}
-use Rattle.table_state.specs.Tables.{Table, TableState, table_at}
-use Rattle.table_state.specs.Operations.{applied_all}
-use Rattle.table_state.specs.Histories.{state_of, no_tables, entry_of}
+use Rattle.table_state.specs.Tables.{Table, TableState, table_at, key_of, is_same}
+use Rattle.table_state.specs.Operations.{applied_all, table_of}
+use Rattle.table_state.specs.Independence.{IsWhole}
+use Rattle.table_state.specs.Histories.{state_of, entry_of}
+use Rattle.outside.specs.Bank.{Grows}
 use Rattle.outside.specs.Holding.{Held}
+use Rattle.outside.specs.declared.fault.BankError.{BankError}
 use Rattle.tier_engine.specs.declared.tier.Tier.{Tier}
 use Rattle.tier_engine.specs.declared.tier.Group.{Group}
+use Rattle.tier_engine.specs.declared.tier.OwnKey.{OwnKey}
 use Rattle.tier_engine.specs.declared.tier.Session.{Session}
 use Rattle.tier_engine.specs.declared.reply.Reply.{Reply}
-use Rattle.tier_engine.specs.Commits.{RiseBetween, virtual_state}
-use Rattle.tier_engine.specs.TierStates.{TierState, GroupState, SessionState}
-use Rattle.outside.specs.declared.fault.BankError.{BankError}
-use Rattle.tier_engine.specs.Steps.{World, LineStep, Asked, IsCaused, stopped}
+use Rattle.tier_engine.specs.Commits.{RiseBetween, virtual_state, in_commit_order, own_entries}
+use Rattle.tier_engine.specs.TierStates.{TierState, GroupState, SessionState, opened}
+use Rattle.tier_engine.specs.Refusals.{is_joined}
+use Rattle.sql_subset.specs.declared.stmt.Stmt.{Stmt}
+use Rattle.tier_engine.specs.Steps.{World, LineStep, Asked, InSession, IsCaused, stopped}
 
 -- the keys of a table's rows
 abbrev pub key_set : Table → FinSet key_order
@@ -37,74 +44,145 @@ own_in (Some s) = s.own
 abbrev pub session_state : Session → SessionState
 session_state s = record { label = s.label; own = s.own }
 
--- a group, which for now has every key of its table in the virtual state
-abbrev pub group_state : TableState → Group → GroupState
-group_state base g = record { name = g.name; table = g.table; def = g.def; keys = key_set (table_at base g.table) }
+abbrev pub session_in : Option Session → Option SessionState
+session_in o = option_map session_state o
 
--- the stored tier, with the list of committed transactions that it doesn't store, over the history
-abbrev pub tier_state : Tier → List Sealed → List Entry → TierState
-tier_state t log history = record {
+-- the rows before an operation came, for now an insert
+abbrev pub row_before : TableId → List ℕ → Op → Table → Table
+row_before t places (Insert table row) rows = if nat_eq table.0 t.0 then remove rows (key_of places row) else rows
+row_before t places (Update table old new) rows = rows
+row_before t places (Delete table old) rows = rows
+
+-- the rows before these operations came
+abbrev pub rows_before : TableId → List ℕ → List Op → Table → Table
+rows_before t places [] rows = rows
+rows_before t places (op ∷ ops) rows = row_before t places op (rows_before t places ops rows)
+
+-- the rows of a group without the session's writes
+abbrev pub committed_rows : List Op → Group → Table
+committed_rows own g = rows_before g.table g.def.primary_key own g.rows
+
+-- a group without the session's writes
+abbrev pub bare : List Op → Group → Group
+bare own g = record g { rows = committed_rows own g }
+
+-- a group, of which the stored rows without the session's writes are those with a key of its list
+abbrev pub group_state : List Op → Group → GroupState
+group_state own g = record { name = g.name; table = g.table; def = g.def; keys = key_set (committed_rows own g) }
+
+-- the stored tier, with the list of committed transactions that it doesn't store
+abbrev pub tier_state : Tier → List Sealed → TierState
+tier_state t log = record {
   known = t.known;
-  groups = map (group_state (unwrap_or (virtual_state history log) no_tables)) t.groups.items;
-  session = option_map session_state t.session;
+  groups = map (group_state (own_in t.session)) t.groups.items;
+  session = session_in t.session;
   log = log;
   unsettled = t.unsettled.items;
-  next = t.next;
+  next = t.next
 }
 
-abbrev pub definition_entries : List TableDef → List Entry
-definition_entries defs = map Definition defs
+-- the operation inserts a row at this key into the table
+abbrev pub inserts_at : TableId → List ℕ → List Value → Op → Bool
+inserts_at t places key (Insert table row) = nat_eq table.0 t.0 && is_same key (key_of places row)
+inserts_at t places key (Update table old new) = false
+inserts_at t places key (Delete table old) = false
 
 -- for now a session's writes are inserts
-abbrev pub AreInserts : List Op → Type 0
-AreInserts [] = Unit {0}
-AreInserts (Insert table row ∷ ops) = AreInserts ops
-AreInserts (Update table old new ∷ ops) = ⊥
-AreInserts (Delete table old ∷ ops) = ⊥
+abbrev pub is_insert : Op → Bool
+is_insert (Insert table row) = true
+is_insert (Update table old new) = false
+is_insert (Delete table old) = false
 
--- a state of one table
-abbrev pub one_table : TableDef → Table → TableState
-one_table def rows = record { schema = def ∷ []; tables = rows ∷ [] }
+-- the table of an operation is a group's
+abbrev pub is_in_group : List Group → Op → Bool
+is_in_group groups op = list_any (λ g. nat_eq (table_of op).0 g.table.0) groups
 
--- The one group is over the one table, and its stored rows are those of the table in the virtual state with the session's
--- writes over it.
-pub record KeepsOne (g : Group) (own : List Op) (defs : List TableDef) (base : TableState) : Type 0 where
-  pub first : g.table.0 ≡ 0
-  pub alone : g.def.foreign_key ≡ None
-  pub defined : defs ≡ g.def ∷ []
-  pub inserts : AreInserts own
-  pub committed : Table
-  pub below : base ≡ one_table g.def committed
-  pub over : applied_all own base ≡ Some (one_table g.def g.rows)
+-- an insert into a group's table
+abbrev pub is_stored : List Group → Op → Bool
+is_stored groups op = is_insert op && is_in_group groups op
 
--- for now there is one group, or nothing is committed or written yet
-abbrev pub KeepsRows : List Group → List Op → List TableDef → List Sealed → TableState → Type 0
-KeepsRows [] own defs log base = (own ≡ []) × (log ≡ [])
-KeepsRows (g ∷ []) own defs log base = KeepsOne g own defs base
-KeepsRows (g ∷ h ∷ groups) own defs log base = ⊥
+-- each row that the operations insert into the table has a key of these rows
+abbrev pub AreIn : TableId → List ℕ → Table → List Op → Type 0
+AreIn t places rows ops = (key : List Value) → list_any (inserts_at t places key) ops ≡ true → contains_key rows key ≡ true
 
--- The tier stands for this list of committed transactions over this history: the history is the definitions, and
--- behind them a front of the list, which is at most one longer than what the tier has receipts of.
+-- each of these rows is one of the table's
+abbrev pub IsWithin : Table → Table → Type 0
+IsWithin rows table = (key row : List Value) → get rows key ≡ Some row → get table key ≡ Some row
+
+-- The group is over a table that no foreign key joins with another. Its stored rows are rows of that table in this state,
+-- which has the session's writes in it. They have the keys of all that was inserted through the tier.
+pub record Shows (s : TableState) (log own : List Op) (g : Group) : Type 0 where
+  pub defined : slice_get s.schema g.table.0 ≡ Some g.def
+  pub alone : is_joined g.table g.def s.schema ≡ false
+  pub rows : IsWithin g.rows (table_at s g.table)
+  pub writes : AreIn g.table g.def.primary_key g.rows own
+  pub committed : AreIn g.table g.def.primary_key (committed_rows own g) log
+
+abbrev pub ShowAll : TableState → List Op → List Op → List Group → Type 0
+ShowAll s log own [] = Unit {0}
+ShowAll s log own (g ∷ groups) = Shows s log own g × ShowAll s log own groups
+
+-- no two groups have one table
+abbrev pub AreApart : List Group → Type 0
+AreApart [] = Unit {0}
+AreApart (g ∷ groups) = (list_any (λ h. nat_eq g.table.0 h.table.0) groups ≡ false) × AreApart groups
+
+-- the operations of these transactions
+abbrev pub ops_of : List Sealed → List Op
+ops_of log = flat_map (λ s. s.ops) log
+
+-- the key of an inserted row, and the place of its table's group
+pub record IsKeyOf (groups : List Group) (table : TableId) (row : List Value) (k : OwnKey) : Type 0 where
+  pub group : Group
+  pub there : slice_get groups k.group ≡ Some group
+  pub same : group.table ≡ table
+  pub key : k.key ≡ key_of group.def.primary_key row
+
+abbrev pub IsOwnKey : List Group → Op → OwnKey → Type 0
+IsOwnKey groups (Insert table row) k = IsKeyOf groups table row k
+IsOwnKey groups (Update table old new) k = ⊥
+IsOwnKey groups (Delete table old) k = ⊥
+
+-- the session keeps the places of the groups and the keys of what it inserts
+abbrev pub OwnKeys : List Group → List Op → List OwnKey → Type 0
+OwnKeys groups [] [] = Unit {0}
+OwnKeys groups (op ∷ ops) (k ∷ keys) = IsOwnKey groups op k × OwnKeys groups ops keys
+OwnKeys groups [] (k ∷ keys) = ⊥
+OwnKeys groups (op ∷ ops) [] = ⊥
+
+abbrev pub HasOwnKeys : List Group → Option Session → Type 0
+HasOwnKeys groups None = Unit {0}
+HasOwnKeys groups (Some s) = OwnKeys groups s.own s.keys
+
+-- The tier stands for this list of committed transactions over this history. The history has a front of the list, in its
+-- order, which is at most one longer than what the tier has receipts of, and entries of others between. The virtual
+-- state, and that with the session's writes over it, are defined, and the groups show what they are to show of it.
 pub record StandsFor (t : Tier) (log : List Sealed) (history : List Entry) : Type 0 where
   pub rise : RiseBetween 1 log t.next
   pub last : t.next ≤ 2 ^ 63
-  pub defs : List TableDef
   pub came : ℕ
   pub received : ℕ
-  pub is : history ≡ definition_entries defs ++ map entry_of (take came log)
+  pub owns : own_entries history ≡ map entry_of (take came log)
   pub within : came ≤ length log
   pub at_least : received ≤ came
   pub at_most : came ≤ received + 1
   pub rest : t.unsettled.items ≡ drop received log
-  pub knows : IfSome t.known (λ schema. schema ≡ defs)
-  pub single : length defs ≤ 1
+  pub ordered : in_commit_order history (take came log) ≡ state_of history
   pub base : TableState
-  pub all : state_of (definition_entries defs ++ map entry_of log) ≡ Some base
-  pub rows : KeepsRows t.groups.items (own_in t.session) defs log base
+  pub virtual : virtual_state history log ≡ Some base
+  pub whole : IsWhole base
+  pub knows : IfSome t.known (λ schema. schema ≡ base.schema)
+  pub top : TableState
+  pub over : applied_all (own_in t.session) base ≡ Some top
+  pub logged : list_all (is_stored t.groups.items) (ops_of log) ≡ true
+  pub writing : list_all (is_stored t.groups.items) (own_in t.session) ≡ true
+  pub shows : ShowAll top (ops_of log) (own_in t.session) t.groups.items
+  pub apart : AreApart t.groups.items
+  pub keys : HasOwnKeys t.groups.items t.session
 
 -- the world of the stored tier over a site that holds this
 abbrev pub world_of : Tier → List Sealed → List Entry → ℕ → ℕ → World
-world_of t log history faults moment = record { tier = tier_state t log history; history = history; bank_faults = faults; moment = moment }
+world_of t log history faults moment = record { tier = tier_state t log; history = history; bank_faults = faults; moment = moment }
 
 -- The site tells what it holds, its slots stay, the tier stands for a list again, and the worlds before and after are in
 -- this relation.
@@ -137,8 +215,19 @@ AskServes before told faults faults' moment moment' old new asks stop =
     (log : List Sealed) (held : Held) → before ≡ Some held → StandsFor old log held.history
     → Made told faults faults' moment moment' old new log held (AsksWhere asks stop)
 
+-- a statement of the session, which is open
+abbrev pub InOpen : Option SessionState → Stmt → World → World → Reply → Type 0
+InOpen None st w w' reply = ⊥
+InOpen (Some s) st w w' reply = InSession s st w w' reply
+
 -- Without a call of the site: the tier stands for a list again over the same history, and the worlds are in this relation.
 pub record Turns (old new : Tier) (log : List Sealed) (history : List Entry) (P : World → World → Type 0) : Type 0 where
   pub log' : List Sealed
   pub stands : StandsFor new log' history
   pub made : (faults moment : ℕ) → P (world_of old log history faults moment) (world_of new log' history faults moment)
+
+-- A tier was opened: over a history that leaves a state and has no transaction of a tier, it stands for no transaction,
+-- and is the one over the schema of that state.
+abbrev pub Begins : Result Tier BankError → List Entry → List Entry → Type 0
+Begins (Ok t) old new = Grows [] old new × ((s : TableState) → state_of new ≡ Some s → own_entries new ≡ [] → StandsFor t [] new × (tier_state t [] ≡ opened s.schema))
+Begins (Err e) old new = Grows [] old new

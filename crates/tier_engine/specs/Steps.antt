@@ -1,7 +1,8 @@
 -- What one request line does, and what a list of them does.
 
 use Rattle.std.specs.Prelude.{◌≡◌, ℕ, ◌+◌, ◌-◌, ◌^◌, ◌≤◌, ◌⊎◌, min, nat_eq, nat_lt, if◌then◌else◌, List, [], ◌∷◌, ◌++◌, Bool, true, false, ◌&&◌, not, Option, Some, None, length, codes, is_none, is_some, Result, Ok, Err}
-use Rattle.std.specs.Option.{option_map}
+use Rattle.std.specs.Option.{option_map, unwrap_or}
+use Rattle.std.specs.FinMap.{contains_key}
 use Rattle.std.specs.Bool.{MatchBool}
 use Rattle.std.specs.Result.{IsErrOf, OnOk}
 use Rattle.tier_base.specs.declared.limit.Limit.TheVariants as limit
@@ -9,6 +10,8 @@ use Rattle.tier_base.specs.Limits.{greatest}
 use Rattle.tier_base.specs.declared.code.Code.TheVariants as code
 use Rattle.tier_base.specs.Codes.{number_of}
 use Rattle.row_types.specs.declared.rule.Rule.{Rule}
+use Rattle.row_types.specs.declared.rule.Detail.TheVariants as detail
+use Rattle.row_types.specs.declared.value.Value.{Value}
 use Rattle.row_types.specs.declared.declaration.TableDeclaration.{TableDeclaration}
 use Rattle.sql_subset.specs.declared.request.Line.{Line}
 use Rattle.sql_subset.specs.declared.request.Line.TheVariants as says
@@ -18,14 +21,17 @@ use Rattle.sql_subset.specs.declared.request.ConsoleRequest.{ConsoleRequest}
 use Rattle.sql_subset.specs.declared.request.ConsoleRequest.TheVariants as console
 use Rattle.sql_subset.specs.declared.stmt.Stmt.{Stmt}
 use Rattle.sql_subset.specs.declared.stmt.Stmt.TheVariants as statement
+use Rattle.sql_subset.specs.declared.stmt.Insert.{Insert as OneInsert}
+use Rattle.sql_subset.specs.declared.stmt.Select.{Select as OneSelect}
 use Rattle.sql_subset.specs.declared.stmt.Literal.{Literal}
 use Rattle.sql_subset.specs.Lines.{Saying, Silent, Says, WrongAt, TooDeep, Means, is_silent}
 use Rattle.table_state.specs.declared.definition.TableDef.{TableDef}
 use Rattle.table_state.specs.declared.history.Entry.{Entry}
 use Rattle.table_state.specs.declared.history.Sealed.{Sealed}
-use Rattle.table_state.specs.Tables.{TableState}
+use Rattle.table_state.specs.Declarations.{broken, broken_at, resolved, wrong_name}
+use Rattle.table_state.specs.Tables.{Table, TableState, table_at, key_of}
 use Rattle.table_state.specs.Histories.{state_of}
-use Rattle.outside.specs.Bank.{Defines, TellsSchema}
+use Rattle.outside.specs.Bank.{Defines, TellsSchema, TellsRow}
 use Rattle.outside.specs.Faults.{Rose}
 use Rattle.outside.specs.declared.fault.BankError.{BankError}
 use Rattle.outside.specs.declared.fault.BankError.TheVariants.{Failed, Memory}
@@ -36,8 +42,10 @@ use Rattle.tier_engine.specs.declared.rounds.RoundFault.{RoundFault}
 use Rattle.tier_engine.specs.declared.rounds.RoundFault.TheVariants as stop
 use Rattle.tier_engine.specs.Commits.{pending, in_commit_order}
 use Rattle.tier_engine.specs.Rounds.{Round, FirstDiffers}
-use Rattle.tier_engine.specs.TierStates.{TierState, SessionState, GroupState, session_of, group_of_table, seen, is_named}
-use Rattle.tier_engine.specs.Answers.{Answer, only, refused, faulty, open_answer, defined_by, group_answer, insert_answer, select_answer, commit_answer}
+use Rattle.tier_engine.specs.TierStates.{TierState, SessionState, GroupState, session_of, group_of_table, seen, seen_rows, is_named}
+use Rattle.tier_engine.specs.LiteralValues.{values_of}
+use Rattle.tier_engine.specs.Refusals.{not_yet, wrong_at, too_deep, too_long, unknown_session, unknown_table, key_taken, table_fault, insert_fault}
+use Rattle.tier_engine.specs.Answers.{Answer, only, faulty, refuses, unless, open_answer, close_answer, rollback_answer, group_answer, select_answer, commit_answer, inserted}
 
 -- The tier, the one backing history, how often the bank has failed, and the site's moment.
 pub record World : Type 0 where
@@ -127,13 +135,17 @@ pub record Creates (def : TableDef) (w w' : World) (reply : Reply) : Type 0 wher
   pub on : GoesOn w w'
   pub answer : reply ≡ define_reply result
 
-abbrev pub CreatesTable : Option TableDef → World → World → Reply → Type 0
-CreatesTable None w w' reply = Quiet w (w.tier, refused) w' reply
-CreatesTable (Some def) w w' reply = Creates def w w' reply
+abbrev pub CreatesTable : TableDef → Option Rule → World → World → Reply → Type 0
+CreatesTable def (Some rule) w w' reply = Quiet w (refuses w.tier rule) w' reply
+CreatesTable def None w w' reply = Creates def w w' reply
+
+-- a table whose name is that of a group's table, where the schema isn't known: 103 of a name in its declaration, else 113
+abbrev pub cached_fault : TableDeclaration → Rule
+cached_fault d = unwrap_or (broken_at code.UnknownColumn (wrong_name d)) (record { code = code.NameInUse; detail = detail.Name d.name })
 
 abbrev pub DoesDefine : TableDeclaration → Option (List TableDef) → World → World → Reply → Type 0
-DoesDefine d None w w' reply = Quiet w (w.tier, refused) w' reply
-DoesDefine d (Some schema) w w' reply = CreatesTable (defined_by d schema) w w' reply
+DoesDefine d None w w' reply = Quiet w (refuses w.tier (cached_fault d)) w' reply
+DoesDefine d (Some schema) w w' reply = CreatesTable (resolved d schema) (table_fault w.tier.groups d schema) w w' reply
 
 -- how a round's end is answered
 abbrev pub round_reply : Result ℕ RoundFault → Reply
@@ -158,41 +170,85 @@ pub record Drains (w w' : World) (reply : Reply) : Type 0 where
   pub differs : IsErrOf result stop.Differs → FirstDiffers w'.tier.unsettled w'.history
   pub answer : reply ≡ round_reply result
 
-abbrev pub Inserts : SessionState → Option GroupState → List Literal → World → World → Reply → Type 0
-Inserts s None literals w w' reply = Quiet w (w.tier, refused) w' reply
-Inserts s (Some g) literals w w' reply = (state : TableState) × (seen w.tier s.own w.history ≡ Some state) × Quiet w (insert_answer w.tier s g literals state) w' reply
+-- the answer of the bank to a question for a row, or the fault of the question
+abbrev pub found_answer : Result (Option (List Value)) BankError → TierState → Answer → Answer
+found_answer (Ok row) t answer = answer
+found_answer (Err e) t answer = (t, bank_fault e)
 
-abbrev pub Selects : SessionState → Option GroupState → World → World → Reply → Type 0
-Selects s None w w' reply = Quiet w (w.tier, refused) w' reply
-Selects s (Some g) w w' reply = (state : TableState) × (seen w.tier s.own w.history ≡ Some state) × Quiet w (select_answer w.tier g state) w' reply
+-- how a row whose key isn't shown is answered, by what the session writes on
+abbrev pub put_answer : TierState → SessionState → GroupState → List Value → Table → Answer
+put_answer t s g row table =
+    if contains_key table (key_of g.def.primary_key row) then refuses t (key_taken g.def (key_of g.def.primary_key row)) else inserted t s g row
 
--- the call of ttDrain
-abbrev pub is_drain : List ℕ → List Literal → Bool
-is_drain procedure [] = is_named procedure (codes "TTDRAIN")
-is_drain procedure (argument ∷ arguments) = false
+-- INSERT of a row whose key isn't shown: the bank is asked for the key
+pub record Finds (s : SessionState) (g : GroupState) (row : List Value) (w w' : World) (reply : Reply) : Type 0 where
+  pub result : Result (Option (List Value)) BankError
+  pub history : TellsRow g.table (key_of g.def.primary_key row) result w.history w'.history
+  pub on : GoesOn w w'
+  pub state : TableState
+  pub sees : seen w.tier s.own w'.history ≡ Some state
+  pub answer : (w'.tier, reply) ≡ found_answer result w.tier (put_answer w.tier s g row (table_at state g.table))
+
+-- 107 where the key is shown
+abbrev pub Puts : SessionState → GroupState → List Value → Table → World → World → Reply → Type 0
+Puts s g row rows w w' reply =
+    MatchBool (contains_key rows (key_of g.def.primary_key row)) (Quiet w (refuses w.tier (key_taken g.def (key_of g.def.primary_key row))) w' reply) (Finds s g row w w' reply)
+
+abbrev pub PutsValues : SessionState → GroupState → Option (List Value) → Table → World → World → Reply → Type 0
+PutsValues s g None rows w w' reply = ⊥
+PutsValues s g (Some row) rows w w' reply = Puts s g row rows w w' reply
+
+abbrev pub InsertsUnless : Option Rule → SessionState → GroupState → List Literal → Table → World → World → Reply → Type 0
+InsertsUnless (Some rule) s g literals rows w w' reply = Quiet w (refuses w.tier rule) w' reply
+InsertsUnless None s g literals rows w w' reply = PutsValues s g (values_of literals) rows w w' reply
+
+-- INSERT
+abbrev pub Inserts : SessionState → Option GroupState → OneInsert → World → World → Reply → Type 0
+Inserts s None i w w' reply = Quiet w (refuses w.tier (unknown_table i.table)) w' reply
+Inserts s (Some g) i w w' reply = (state : TableState) × (seen w.tier s.own w.history ≡ Some state)
+    × InsertsUnless (insert_fault g.def s.own i.values (seen_rows g s.own state)) s g i.values (seen_rows g s.own state) w w' reply
+
+-- SELECT
+abbrev pub Selects : SessionState → Option GroupState → OneSelect → World → World → Reply → Type 0
+Selects s None i w w' reply = Quiet w (refuses w.tier (unknown_table i.table)) w' reply
+Selects s (Some g) i w w' reply = (state : TableState) × (seen w.tier s.own w.history ≡ Some state) × Quiet w (select_answer w.tier (seen_rows g s.own state)) w' reply
+
+-- CALL: 103 of a procedure that there isn't, 104 of arguments that it doesn't take
+abbrev pub call_fault : List ℕ → List Literal → Option Rule
+call_fault procedure arguments =
+    if not (is_named procedure (codes "TTDRAIN")) then broken code.UnknownColumn (detail.Name procedure)
+    else (if nat_lt 0 (length arguments) then broken code.TypeMismatch detail.Nothing else None)
+
+abbrev pub Calls : Option Rule → World → World → Reply → Type 0
+Calls (Some rule) w w' reply = Quiet w (refuses w.tier rule) w' reply
+Calls None w w' reply = Drains w w' reply
 
 -- a statement of an open session
 abbrev pub InSession : SessionState → Stmt → World → World → Reply → Type 0
-InSession s (statement.CreateGroup d) w w' reply = Quiet w (group_answer w.tier d w.tier.known) w' reply
-InSession s (statement.Insert insert) w w' reply = Inserts s (group_of_table w.tier.groups insert.table) insert.values w w' reply
-InSession s (statement.Select select) w w' reply = Selects s (group_of_table w.tier.groups select.table) w w' reply
-InSession s (statement.Load load) w w' reply = Quiet w (w.tier, refused) w' reply
-InSession s (statement.Call call) w w' reply = MatchBool (is_drain call.procedure call.arguments) (Drains w w' reply) (Quiet w (w.tier, refused) w' reply)
+InSession s (statement.CreateGroup d) w w' reply = Quiet w (group_answer w.tier s d) w' reply
+InSession s (statement.Insert insert) w w' reply = Inserts s (group_of_table w.tier.groups insert.table) insert w w' reply
+InSession s (statement.Select select) w w' reply = Selects s (group_of_table w.tier.groups select.table) select w w' reply
+InSession s (statement.Load load) w w' reply = Quiet w (refuses w.tier not_yet) w' reply
+InSession s (statement.Call call) w w' reply = Calls (call_fault call.procedure call.arguments) w w' reply
 InSession s statement.Commit w w' reply = Quiet w (commit_answer w.tier s) w' reply
-InSession s statement.Rollback w w' reply = Quiet w (w.tier, refused) w' reply
+InSession s statement.Rollback w w' reply = Quiet w (rollback_answer w.tier s) w' reply
 
-abbrev pub ForSession : Option SessionState → Stmt → World → World → Reply → Type 0
-ForSession None st w w' reply = Quiet w (w.tier, refused) w' reply
-ForSession (Some s) st w w' reply = InSession s st w w' reply
+abbrev pub ForSession : List ℕ → Option SessionState → Stmt → World → World → Reply → Type 0
+ForSession label None st w w' reply = Quiet w (refuses w.tier (unknown_session label)) w' reply
+ForSession label (Some s) st w w' reply = InSession s st w w' reply
+
+abbrev pub Closes : List ℕ → Option SessionState → World → World → Reply → Type 0
+Closes label None w w' reply = Quiet w (refuses w.tier (unknown_session label)) w' reply
+Closes label (Some s) w w' reply = Quiet w (close_answer w.tier) w' reply
 
 abbrev pub DoesRequest : List ℕ → Request → World → World → Reply → Type 0
 DoesRequest label (asks_for.Open options) w w' reply = Quiet w (open_answer w.tier label options) w' reply
-DoesRequest label asks_for.Close w w' reply = Quiet w (w.tier, refused) w' reply
-DoesRequest label (asks_for.Statement s) w w' reply = ForSession (session_of w.tier label) s w w' reply
+DoesRequest label asks_for.Close w w' reply = Closes label (session_of w.tier label) w w' reply
+DoesRequest label (asks_for.Statement s) w w' reply = ForSession label (session_of w.tier label) s w w' reply
 
 abbrev pub DoesConsole : ConsoleRequest → World → World → Reply → Type 0
 DoesConsole (console.CreateTable d) w w' reply = DoesDefine d w.tier.known w w' reply
-DoesConsole (console.Writes writes) w w' reply = Quiet w (w.tier, refused) w' reply
+DoesConsole (console.Writes writes) w w' reply = Quiet w (refuses w.tier not_yet) w' reply
 
 -- what a line does where memory suffices
 abbrev pub Does : Line → World → World → Reply → Type 0
@@ -236,8 +292,8 @@ pub record Counts (w w' : World) (reply : Reply) : Type 0 where
 abbrev pub Answers : Saying → World → World → Reply → Type 0
 Answers Silent w w' reply = ⊥
 Answers (Says line) w w' reply = Parts line w w' reply
-Answers (WrongAt place) w w' reply = Quiet w (w.tier, refused) w' reply
-Answers TooDeep w w' reply = Quiet w (w.tier, refused) w' reply
+Answers (WrongAt place) w w' reply = Quiet w (refuses w.tier (wrong_at place)) w' reply
+Answers TooDeep w w' reply = Quiet w (refuses w.tier too_deep) w' reply
 
 -- a line is answered as what it says, or, unless it is silent, by want of memory
 abbrev pub Heeds : World → List ℕ → World → Reply → Type 0
@@ -250,7 +306,7 @@ is_long bytes = nat_lt (greatest limit.Line) (length bytes)
 -- one line of these bytes; a silent one has no reply and does nothing
 abbrev pub LineStep : World → List ℕ → World → Option Reply → Type 0
 LineStep w bytes w' None = (is_long bytes ≡ false) × (is_silent bytes ≡ true) × (w' ≡ w)
-LineStep w bytes w' (Some reply) = Counts w w' reply × MatchBool (is_long bytes) (Quiet w (w.tier, refused) w' reply) (Heeds w bytes w' reply)
+LineStep w bytes w' (Some reply) = Counts w w' reply × MatchBool (is_long bytes) (Quiet w (refuses w.tier too_long) w' reply) (Heeds w bytes w' reply)
 
 -- one line after another
 abbrev pub Run : World → List (List ℕ) → List (Option Reply) → World → Type 0

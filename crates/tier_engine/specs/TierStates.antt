@@ -1,17 +1,19 @@
 -- What the tier keeps, and what it shows. (TimesTen Cache User's Guide: cache groups, cache instances and writethrough.)
 
-use Rattle.std.specs.Prelude.{ℕ, List, [], ◌∷◌, Bool, nat_eq, Option, Some, None, slice_set, if◌then◌else◌}
-use Rattle.std.specs.Option.{option_and_then, option_map}
+use Rattle.std.specs.Prelude.{ℕ, List, [], ◌∷◌, Bool, nat_eq, Option, Some, None, if◌then◌else◌}
+use Rattle.std.specs.Option.{option_and_then}
 use Rattle.std.specs.Cmp.Lexicographic.{pointwise}
 use Rattle.std.specs.FinMap.{retain_keys}
-use Rattle.std.specs.FinSet.{FinSet, contains}
+use Rattle.std.specs.FinSet.{FinSet}
+use Rattle.std.specs.FinSet as set
 use Rattle.row_types.specs.Order.{key_order}
 use Rattle.tier_base.specs.declared.number.TableId.{TableId}
 use Rattle.table_state.specs.declared.definition.TableDef.{TableDef}
 use Rattle.table_state.specs.declared.operation.Op.{Op}
+use Rattle.table_state.specs.declared.operation.Op.TheVariants.{Insert, Update, Delete}
 use Rattle.table_state.specs.declared.history.Entry.{Entry}
 use Rattle.table_state.specs.declared.history.Sealed.{Sealed}
-use Rattle.table_state.specs.Tables.{Table, TableState, table_at}
+use Rattle.table_state.specs.Tables.{Table, TableState, table_at, key_of}
 use Rattle.table_state.specs.Operations.{applied_all}
 use Rattle.tier_engine.specs.Commits.{virtual_state}
 
@@ -37,9 +39,9 @@ pub record TierState : Type 0 where
   pub unsettled : List Sealed
   pub next : ℕ
 
--- the tier over a history without entries
-abbrev pub fresh : TierState
-fresh = record { known = Some []; groups = []; session = None; log = []; unsettled = []; next = 1 }
+-- the tier over a backing database with this schema, before its first line
+abbrev pub opened : List TableDef → TierState
+opened schema = record { known = Some schema; groups = []; session = None; log = []; unsettled = []; next = 1 }
 
 abbrev pub is_named : List ℕ → List ℕ → Bool
 is_named a b = pointwise nat_eq a b
@@ -53,19 +55,22 @@ abbrev pub group_of_table : List GroupState → List ℕ → Option GroupState
 group_of_table [] name = None
 group_of_table (g ∷ groups) name = if is_named g.def.name name then Some g else group_of_table groups name
 
--- the rows that a group shows: those of its table whose key is one of its instances'
-abbrev pub shown_rows : GroupState → TableState → Table
-shown_rows g s = retain_keys (table_at s g.table) (contains g.keys)
+-- the key of a row enters the list of its table's group where the row is inserted, and leaves it where it is deleted
+abbrev pub keys_behind : GroupState → Op → FinSet key_order → FinSet key_order
+keys_behind g (Insert table row) keys = if nat_eq table.0 g.table.0 then set.insert keys (key_of g.def.primary_key row) else keys
+keys_behind g (Update table old new) keys = keys
+keys_behind g (Delete table old) keys = if nat_eq table.0 g.table.0 then set.remove keys (key_of g.def.primary_key old) else keys
 
--- the state as the groups show it
-abbrev pub as_shown : List GroupState → TableState → TableState
-as_shown [] s = s
-as_shown (g ∷ groups) s = record { schema = s.schema; tables = slice_set (as_shown groups s).tables g.table.0 (shown_rows g s) }
+-- the same of operations from left to right
+abbrev pub keys_after : GroupState → List Op → FinSet key_order → FinSet key_order
+keys_after g [] keys = keys
+keys_after g (op ∷ ops) keys = keys_after g ops (keys_behind g op keys)
 
--- what is shown: the virtual state, of cached tables the instances of their groups
-abbrev pub shown : TierState → List Entry → Option TableState
-shown t history = option_map (as_shown t.groups) (virtual_state history t.log)
-
--- what a session sees: what is shown, with its own writes over it
+-- the state that a session writes on: the virtual state with its own writes over it
 abbrev pub seen : TierState → List Op → List Entry → Option TableState
-seen t own history = option_and_then (applied_all own) (shown t history)
+seen t own history = option_and_then (applied_all own) (virtual_state history t.log)
+
+-- the rows of a group that a session sees: those of its table there whose key is in the group's list, with the session's
+-- own writes counted
+abbrev pub seen_rows : GroupState → List Op → TableState → Table
+seen_rows g own s = retain_keys (table_at s g.table) (set.contains (keys_after g own g.keys))

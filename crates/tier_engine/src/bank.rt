@@ -1,23 +1,28 @@
 //! Statements that define tables at the backing database, and the question for its schema.
 
-ghost use Rattle.std.specs.Prelude.{◌≡◌, ◌≤◌, ◌⊎◌, [], ◌∷◌, List, IfOk, IfSome, IsNone, Some, Result, length};
+ghost use Rattle.std.specs.Prelude.{◌≡◌, ◌≤◌, ◌⊎◌, ◌++◌, [], ◌∷◌, List, IfOk, IfSome, IsSome, OnErr, OnOk, Some, Result};
 ghost use Rattle.outside.specs.Faults.{Rose};
 ghost use Rattle.outside.specs.Holding.{Held};
 ghost use Rattle.outside.specs.declared.fault.BankError.{BankError as OneBankError};
 ghost use Rattle.table_state.specs.declared.definition.TableDef.{TableDef as OneDef};
 ghost use Rattle.table_state.specs.declared.history.Sealed.{Sealed as OneSealed};
+ghost use Rattle.row_types.specs.declared.rule.Detail.TheVariants as detail;
+ghost use Rattle.table_state.specs.Declarations.{IsRefusedBy, Tells, broken, resolved};
 ghost use Rattle.sql_subset.specs.declared.request.ConsoleRequest.TheVariants as console;
-ghost use Rattle.tier_engine.specs.Answers.{defined_by};
 ghost use Rattle.tier_engine.specs.Standing.{AskServes, Made, StandsFor};
-ghost use Rattle.tier_engine.specs.Steps.{Asked, Creates, DoesConsole, TellsBankFault, WantsMemory, bank_fault, stopped};
+ghost use Rattle.tier_engine.specs.Steps.{Asked, DoesConsole, TellsBankFault, WantsMemory, bank_fault, cached_fault, stopped};
+ghost use Rattle.tier_engine.specs.Storing.{JudgesTable, Makes, judged_parent, judged_table};
 
+use crate::insert::past;
+use crate::judge_group::has_table;
 use crate::reply::Reply;
-use crate::tier::Tier;
+use crate::tier::{Group, Tier};
 use outside::{BankError, Site};
-use row_types::{Refused, TableDeclaration};
+use row_types::{Detail, Refused, Rule, TableDeclaration};
 use std::alloc::{AllocError, Global};
-use table_state::{BackingSchema, TableDef};
-use tier_base::{Code, Seq};
+use table_state::laws::later_table_law;
+use table_state::{BackingSchema, TableDef, wrong_name};
+use tier_base::{Code, Name};
 
 impl Tier {
     /// Asks the backing database for its schema. A reply is the fault of the question.
@@ -45,88 +50,139 @@ impl Tier {
         if asks { self.ask(alloc, site) } else { None }
     }
 
-    /// CREATE TABLE on the console, where the schema is known.
-    pub fn create_table<P: Site>(
-        &mut self,
-        alloc: Global,
-        site: &mut P,
-        declaration: &TableDeclaration,
-    ) -> Reply
+    /// CREATE TABLE on the console. 102, 103, 113, 104, 105 as `TableDef::check` says; 121 of a foreign key to a table of a
+    /// group; 119 of tables and columns.
+    pub fn create_table<P: Site>(&mut self, alloc: Global, site: &mut P, declaration: &TableDeclaration) -> Reply
         ensures step { (log : List OneSealed) (held : Held) → P.Disk.held site.old ≡ Some held → StandsFor self.old log held.history → Made (P.Disk.held site.new) (P.bank_faults site.old) (P.bank_faults site.new) (P.Disk.moment site.old) (P.Disk.moment site.new) self.old self.new log held (λ w w'. DoesConsole (console.CreateTable declaration.now) w w' result ⊎ WantsMemory w w' result) }
         ensures later { P.bank_faults site.old ≤ P.bank_faults site.new }
         ensures cause { TellsBankFault result → Rose (P.bank_faults site.old) (P.bank_faults site.new) }
     {
-        let schema = match &self.known {
-            None => return Reply::refused(alloc),
-            Some(schema) => schema,
-        };
-        match defined_by(alloc, declaration, schema) {
-            Ok(None) => Reply::refused(alloc),
-            Ok(Some(def)) => self.define(alloc, site, def),
-            Err(_) => Reply::faulty(alloc, Code::Memory),
+        later_table_law();
+        match self.judge_create(alloc, declaration) {
+            Err(Refused::Rule(rule)) => Reply::refuses(alloc, rule),
+            Err(Refused::Memory) => Reply::faulty(alloc, Code::Memory),
+            Ok(def) => self.define(alloc, site, def),
         }
     }
 
-    /// Makes the first table. All memory is taken before the call of the bank.
-    fn define<P: Site>(&mut self, alloc: Global, site: &mut P, def: TableDef) -> Reply
-        requires { self.old.known ≡ Some [] }
-        ensures step { (log : List OneSealed) (held : Held) → P.Disk.held site.old ≡ Some held → StandsFor self.old log held.history → Made (P.Disk.held site.new) (P.bank_faults site.old) (P.bank_faults site.new) (P.Disk.moment site.old) (P.Disk.moment site.new) self.old self.new log held (λ w w'. Creates def w w' result ⊎ WantsMemory w w' result) }
-        ensures later { P.bank_faults site.old ≤ P.bank_faults site.new }
-        ensures cause { TellsBankFault result → Rose (P.bank_faults site.old) (P.bank_faults site.new) }
+    /// The definition that the declaration makes, where nothing refuses it.
+    fn judge_create(&self, alloc: Global, declaration: &TableDeclaration) -> Result<TableDef, Refused>
+        ensures { JudgesTable self.now.groups.items declaration.now self.now.known result }
     {
-        let schema = match schema_of(alloc, &def) {
-            Ok(schema) => schema,
-            Err(_) => return Reply::faulty(alloc, Code::Memory),
+        match &self.known {
+            None => Err(taken_name(alloc, declaration)),
+            Some(schema) => judge_table(alloc, self.groups.as_slice(), declaration, schema),
+        }
+    }
+
+    /// Makes a table. All memory is taken before the call of the bank.
+    fn define<P: Site>(&mut self, alloc: Global, site: &mut P, def: TableDef) -> Reply
+        requires { IsSome self.old.known }
+        ensures { Makes (P.Disk.held site.old) (P.Disk.held site.new) (P.bank_faults site.old) (P.bank_faults site.new) (P.Disk.moment site.old) (P.Disk.moment site.new) self.old self.new def result }
+    {
+        let Some(known) = &mut self.known else {
+            unreachable!()
         };
+        if know_also(alloc, known, &def).is_err() {
+            return Reply::faulty(alloc, Code::Memory);
+        }
         match site.define(&def) {
-            Ok(()) => {
-                self.known = Some(schema);
-                Reply::done(alloc, 0)
-            }
+            Ok(()) => Reply::done(alloc, 0),
             Err(BankError::Failed) => {
                 self.known = None;
                 Reply::faulty(alloc, Code::BackingFault)
             }
-            Err(BankError::Memory) => Reply::faulty(alloc, Code::Memory),
+            Err(BankError::Memory) => {
+                let _ = known.pop();
+                Reply::faulty(alloc, Code::Memory)
+            }
         }
     }
 }
 
-/// The schema of one table.
-fn schema_of(alloc: Global, def: &TableDef) -> Result<BackingSchema, AllocError>
-    ensures { IfOk result (λ schema. schema ≡ def.now ∷ []) }
+/// Puts a copy of the definition behind the schema. Where memory is wanting the schema is as before.
+fn know_also(alloc: Global, schema: &mut BackingSchema, def: &TableDef) -> Result<(), AllocError>
+    ensures ok { OnOk result (schema.new ≡ schema.old ++ def.now ∷ []) }
+    ensures err { OnErr result (schema.new ≡ schema.old) }
 {
-    let mut schema = Seq::new(alloc);
-    schema.push(def.copied(alloc)?)?;
-    Ok(schema)
+    let copy = def.copied(alloc)?;
+    match schema.push(copy) {
+        Ok(()) => Ok(()),
+        Err(_) => Err(AllocError),
+    }
+}
+
+/// The definition that a declaration makes, where nothing refuses it.
+fn judge_table(
+    alloc: Global,
+    groups: &[Group],
+    declaration: &TableDeclaration,
+    schema: &BackingSchema,
+) -> Result<TableDef, Refused>
+    ensures told { Tells result (judged_table groups.now declaration.now schema.now) }
+    ensures def { IfOk result (λ def. def ≡ resolved declaration.now schema.now) }
+{
+    let def = TableDef::check(alloc, declaration, schema)?;
+    if let Some(rule) = writethrough_parent(alloc, groups, declaration, &def)? {
+        return Err(Refused::Rule(rule));
+    }
+    match def.over_limit(schema) {
+        None => Ok(def),
+        Some(limit) => Err(Refused::Rule(past(limit))),
+    }
+}
+
+/// What refuses a table with the name of a group's table, where the schema isn't known: 103 of a name in its declaration,
+/// else 113.
+fn taken_name(alloc: Global, declaration: &TableDeclaration) -> Refused
+    ensures { IsRefusedBy (Some (cached_fault declaration.now)) result }
+{
+    match wrong_name(declaration) {
+        Some(name) => named(alloc, Code::UnknownColumn, name),
+        None => named(alloc, Code::NameInUse, &declaration.name),
+    }
+}
+
+/// A rule that this name breaks.
+fn named(alloc: Global, code: Code, name: &Name) -> Refused
+    ensures { IsRefusedBy (broken code (detail.Name name.now)) result }
+{
+    match name.copied(alloc) {
+        Ok(name) => Refused::Rule(Rule {
+            code,
+            detail: Detail::Name(name),
+        }),
+        Err(_) => Refused::Memory,
+    }
+}
+
+/// 121: the foreign key refers to a table of a group.
+fn writethrough_parent(
+    alloc: Global,
+    groups: &[Group],
+    declaration: &TableDeclaration,
+    def: &TableDef,
+) -> Result<Option<Rule>, AllocError>
+    ensures { IfOk result (λ rule. rule ≡ judged_parent groups.now declaration.now def.now) }
+{
+    match (&declaration.foreign_key, &def.foreign_key) {
+        (Some(declared), Some(foreign)) if has_table(groups, foreign.parent) => {
+            let name = declared.parent.copied(alloc)?;
+            Ok(Some(Rule {
+                code: Code::WritethroughTable,
+                detail: Detail::Name(name),
+            }))
+        }
+        _ => Ok(None),
+    }
 }
 
 /// The reply of a failed call of the bank, or of its want of memory.
-fn bank_fault(alloc: Global, error: BankError) -> Reply
+pub fn bank_fault(alloc: Global, error: BankError) -> Reply
     ensures { result ≡ bank_fault error }
 {
     match error {
         BankError::Failed => Reply::faulty(alloc, Code::BackingFault),
         BankError::Memory => Reply::faulty(alloc, Code::Memory),
-    }
-}
-
-/// The definition that CREATE TABLE makes; none where it breaks a rule or there is a table already.
-fn defined_by(
-    alloc: Global,
-    declaration: &TableDeclaration,
-    schema: &BackingSchema,
-) -> Result<Option<TableDef>, AllocError>
-    ensures { IfOk result (λ def. def ≡ defined_by declaration.now schema.now) }
-{
-    match TableDef::check(alloc, declaration, schema) {
-        Ok(def) => {
-            if def.over_limit(schema).is_some() || schema.len() > 0 {
-                return Ok(None);
-            }
-            Ok(Some(def))
-        }
-        Err(Refused::Rule(_)) => Ok(None),
-        Err(Refused::Memory) => Err(AllocError),
     }
 }

@@ -1,87 +1,120 @@
 //! Statements on cached tables.
 
-ghost use Rattle.std.specs.Prelude.{◌≡◌, ◌<◌, ◌⊎◌, List, IfOk, IfSome, IsSome, OnErr, Some, length, slice_get, vec_items};
-ghost use Rattle.std.specs.Option.{option_map};
+ghost use Rattle.std.specs.Prelude.{◌≡◌, ◌<◌, ◌≤◌, ◌⊎◌, List, IfErr, IfOk, IfSome, IsSome, Some, length, slice_get};
 ghost use Rattle.table_state.specs.declared.history.Entry.{Entry};
 ghost use Rattle.table_state.specs.declared.history.Sealed.{Sealed as OneSealed};
+ghost use Rattle.table_state.specs.Declarations.{Tells};
 ghost use Rattle.sql_subset.specs.declared.stmt.Stmt.TheVariants as statement;
-ghost use Rattle.tier_engine.specs.Standing.{StandsFor, Turns};
-ghost use Rattle.tier_engine.specs.Steps.{ForSession, WantsMemory};
-ghost use Rattle.tier_engine.specs.Storing.{IsSame, Stores, place_named};
+ghost use Rattle.tier_engine.specs.LiteralValues.{values_of};
+ghost use Rattle.tier_engine.specs.Refusals.{insert_fault, unknown_table};
+ghost use Rattle.tier_engine.specs.Standing.{InOpen, ServesPart, StandsFor, Turns, own_in};
+ghost use Rattle.tier_engine.specs.Steps.{WantsMemory};
+ghost use Rattle.tier_engine.specs.Storing.{Puts, Settles, place_named};
 ghost use Rattle.tier_engine.specs.declared.tier.Group.{Group as OneGroup};
-ghost use Rattle.tier_engine.specs.declared.tier.Session.{Session as OneSession};
 
-use crate::insert::insert_values;
-use crate::literal::literal_values;
+use crate::bank::bank_fault;
+use crate::insert::{Asked, judge_insert, put};
 use crate::reply::Reply;
 use crate::select::select_rows;
 use crate::tier::{Group, Tier};
-use row_types::Value;
-use sql_subset::stmt::{Insert, Select};
-use std::alloc::{AllocError, Global};
-use tier_base::{Code, Name};
+use outside::Site;
+use row_types::{Detail, Refused, Row, Rule};
+use sql_subset::stmt::{Insert, Literal, Select};
+use std::alloc::Global;
+use tier_base::{Code, Name, Seq};
 
 impl Tier {
-    /// INSERT by the session. Where memory is wanting the tier is as before.
-    pub fn insert(&mut self, alloc: Global, insert: Insert) -> Reply
-        ensures step { (log : List OneSealed) (history : List Entry) → StandsFor self.old log history → Turns self.old self.new log history (λ w w'. ForSession w.tier.session (statement.Insert insert) w w' result ⊎ WantsMemory w w' result) }
+    /// INSERT by the session. Where the key isn't shown the backing database is asked for it.
+    ///
+    /// 102 where the table isn't cached; 104, 105, 106 and 119 as `judge_insert` says; 107 where the key has a row in the
+    /// virtual state with the session's writes. After an error the tier is as before.
+    pub fn insert<P: Site>(&mut self, alloc: Global, site: &mut P, insert: Insert) -> Reply
+        requires { IsSome self.old.session }
+        ensures step { ServesPart (P.Disk.held site.old) (P.Disk.held site.new) (P.bank_faults site.old) (P.bank_faults site.new) (P.Disk.moment site.old) (P.Disk.moment site.new) self.old self.new result (λ w w'. InOpen w.tier.session (statement.Insert insert) w w' result ⊎ WantsMemory w w' result) }
+        ensures later { P.bank_faults site.old ≤ P.bank_faults site.new }
     {
-        match self.try_insert(alloc, &insert) {
-            Ok(reply) => reply,
-            Err(_) => Reply::faulty(alloc, Code::Memory),
-        }
-    }
-
-    fn try_insert(&mut self, alloc: Global, insert: &Insert) -> Result<Reply, AllocError>
-        ensures step { IfOk result (λ reply. (log : List OneSealed) (history : List Entry) → StandsFor self.old log history → Turns self.old self.new log history (λ w w'. ForSession w.tier.session (statement.Insert insert.now) w w' reply)) }
-        ensures err { OnErr result (IsSame self.old self.new) }
-    {
-        if self.session.is_none() {
-            return Ok(Reply::refused(alloc));
-        }
-        let place = match place_of_group(self.groups.as_slice(), &insert.table) {
-            None => return Ok(Reply::refused(alloc)),
-            Some(place) => place,
+        let Insert { table, values } = insert;
+        let Some(place) = place_of_group(self.groups.as_slice(), &table) else {
+            return Reply::refuses(alloc, unknown_table(table));
         };
-        let values = literal_values(alloc, insert.values.as_slice())?;
-        self.insert_at(alloc, place, values)
+        match self.judge_insert_at(alloc, place, values.as_slice()) {
+            Err(Refused::Rule(rule)) => Reply::refuses(alloc, rule),
+            Err(Refused::Memory) => Reply::faulty(alloc, Code::Memory),
+            Ok(row) => match self.put_at(alloc, place, row) {
+                Err(Refused::Rule(rule)) => Reply::refuses(alloc, rule),
+                Err(Refused::Memory) => Reply::faulty(alloc, Code::Memory),
+                Ok(asked) => self.settle_put(alloc, site, asked),
+            },
+        }
     }
 
-    /// Stores a row of these values in the group at the place.
-    fn insert_at(
-        &mut self,
-        alloc: Global,
-        place: usize,
-        values: Option<Vec<Value>>,
-    ) -> Result<Reply, AllocError>
+    /// The row of these literals, where nothing but its key refuses it.
+    fn judge_insert_at(&self, alloc: Global, place: usize, literals: &[Literal]) -> Result<Row, Refused>
+        requires within { place < length self.now.groups.items }
+        ensures told { (g : OneGroup) → slice_get self.now.groups.items place ≡ Some g → Tells result (insert_fault g.def (own_in self.now.session) literals.now g.rows) }
+        ensures row { IfOk result (λ row. values_of literals.now ≡ Some row) }
+    {
+        let group = &self.groups[place];
+        match &self.session {
+            None => judge_insert(alloc, group, &Seq::new(alloc), literals),
+            Some(session) => judge_insert(alloc, group, &session.own, literals),
+        }
+    }
+
+    /// Puts the row in, where its key isn't shown.
+    fn put_at(&mut self, alloc: Global, place: usize, row: Row) -> Result<Asked, Refused>
         requires within { place < length self.old.groups.items }
         requires opened { IsSome self.old.session }
-        ensures ok { IfOk result (λ reply. (g : OneGroup) (s : OneSession) → slice_get self.old.groups.items place ≡ Some g → self.old.session ≡ Some s → Stores self.old self.new place (option_map vec_items values) reply g s) }
-        ensures err { OnErr result (IsSame self.old self.new) }
+        ensures { Puts self.old self.new place row result }
     {
         let group = &mut self.groups[place];
         match &mut self.session {
             None => unreachable!(),
-            Some(session) => insert_values(alloc, group, &mut session.own, values),
+            Some(session) => put(alloc, place, group, session, row),
         }
     }
 
-    /// SELECT * FROM a table by the session. It changes nothing.
-    pub fn select(&self, alloc: Global, select: &Select) -> Reply
-        ensures step { (log : List OneSealed) (history : List Entry) → StandsFor self.now log history → Turns self.now self.now log history (λ w w'. ForSession w.tier.session (statement.Select select.now) w w' result ⊎ WantsMemory w w' result) }
+    /// Asks the backing database for the key of the row that was put in last, and takes it back where the key has a row.
+    fn settle_put<P: Site>(&mut self, alloc: Global, site: &mut P, asked: Asked) -> Reply
+        ensures { Settles (P.Disk.held site.old) (P.Disk.held site.new) (P.bank_faults site.old) (P.bank_faults site.new) (P.Disk.moment site.old) (P.Disk.moment site.new) self.old self.new asked result }
     {
-        if self.session.is_none() {
-            return Reply::refused(alloc);
+        match site.find(asked.table, &asked.key) {
+            Ok(None) => Reply::done(alloc, 1),
+            Ok(Some(_)) => {
+                self.take_back_one();
+                Reply::refuses(alloc, asked.taken)
+            }
+            Err(error) => {
+                self.take_back_one();
+                bank_fault(alloc, error)
+            }
         }
-        let place = match place_of_group(self.groups.as_slice(), &select.table) {
-            None => return Reply::refused(alloc),
-            Some(place) => place,
+    }
+
+    /// SELECT * FROM a table by the session. It changes nothing. 102 where the table isn't cached, 119 of its rows.
+    pub fn select(&self, alloc: Global, select: Select) -> Reply
+        requires { IsSome self.now.session }
+        ensures step { (log : List OneSealed) (history : List Entry) → StandsFor self.now log history → Turns self.now self.now log history (λ w w'. InOpen w.tier.session (statement.Select select) w w' result ⊎ WantsMemory w w' result) }
+    {
+        let Select { table } = select;
+        let Some(place) = place_of_group(self.groups.as_slice(), &table) else {
+            return Reply::refuses(alloc, unknown_table(table));
         };
         let group = &self.groups[place];
         match select_rows(alloc, &group.rows) {
             Ok(reply) => reply,
             Err(_) => Reply::faulty(alloc, Code::Memory),
         }
+    }
+}
+
+/// 102: the table isn't there.
+pub fn unknown_table(name: Name) -> Rule
+    ensures { result ≡ unknown_table name }
+{
+    Rule {
+        code: Code::UnknownTable,
+        detail: Detail::Name(name),
     }
 }
 

@@ -4,11 +4,12 @@ ghost use Rattle.std.specs.Prelude.{◌≡◌, ◌+◌, ◌<◌, ◌≤◌, ◌�
 ghost use Rattle.table_state.specs.declared.history.Entry.{Entry};
 ghost use Rattle.table_state.specs.declared.history.Sealed.{Sealed as OneSealed};
 ghost use Rattle.sql_subset.specs.declared.stmt.Stmt.TheVariants as statement;
-ghost use Rattle.tier_engine.specs.Standing.{StandsFor, Turns};
-ghost use Rattle.tier_engine.specs.Steps.{ForSession, WantsMemory};
+ghost use Rattle.tier_engine.specs.Standing.{InOpen, StandsFor, Turns, own_in};
+ghost use Rattle.tier_engine.specs.Steps.{WantsMemory};
 ghost use Rattle.tier_engine.specs.Storing.{SealsOr};
 ghost use Rattle.tier_engine.specs.declared.tier.Session.{Session as OneSession};
 
+use crate::insert::{at_limit, past};
 use crate::reply::Reply;
 use crate::tier::{Session, Tier};
 use std::alloc::Global;
@@ -18,23 +19,32 @@ use tier_base::{Code, Limit, Seq, Ticket};
 impl Tier {
     /// COMMIT by the session: its writes become a committed transaction with the next ticket. Where memory is wanting
     /// the transaction stays open.
+    ///
+    /// `ok 0` where it wrote nothing. 119 of the transactions without a receipt, and of tickets.
     pub fn commit(&mut self, alloc: Global) -> Reply
-        ensures step { (log : List OneSealed) (history : List Entry) → StandsFor self.old log history → Turns self.old self.new log history (λ w w'. ForSession w.tier.session statement.Commit w w' result ⊎ WantsMemory w w' result) }
+        requires { IsSome self.old.session }
+        ensures step { (log : List OneSealed) (history : List Entry) → StandsFor self.old log history → Turns self.old self.new log history (λ w w'. InOpen w.tier.session statement.Commit w w' result ⊎ WantsMemory w w' result) }
     {
-        let writes = match &self.session {
-            None => return Reply::refused(alloc),
-            Some(session) => session.own.len(),
-        };
-        if writes == 0 {
+        if self.written() == 0 {
             return Reply::done(alloc, 0);
         }
-        if self.unsettled.len() as u64 >= Limit::Pending.number() {
-            return Reply::refused(alloc);
+        if let Some(rule) = at_limit(Limit::Pending, self.unsettled.len()) {
+            return Reply::refuses(alloc, rule);
         }
         if self.next > Limit::Tickets.number() {
-            return Reply::refused(alloc);
+            return Reply::refuses(alloc, past(Limit::Tickets));
         }
         self.seal(alloc)
+    }
+
+    /// How many uncommitted writes the session has; none where no session is open.
+    pub fn written(&self) -> usize
+        ensures { result ≡ length (own_in self.now.session) }
+    {
+        match &self.session {
+            None => 0,
+            Some(session) => session.own.len(),
+        }
     }
 
     /// Puts the session's writes behind the unsettled transactions.
@@ -43,7 +53,7 @@ impl Tier {
         requires ticket { self.old.next + 1 < 18446744073709551616 }
         ensures { (s : OneSession) → self.old.session ≡ Some s → SealsOr self.old self.new s result }
     {
-        let Session { label, own } = match self.session.take() {
+        let Session { label, own, keys } = match self.session.take() {
             None => unreachable!(),
             Some(session) => session,
         };
@@ -56,6 +66,7 @@ impl Tier {
                 self.session = Some(Session {
                     label,
                     own: Seq::new(alloc),
+                    keys: Seq::new(alloc),
                 });
                 let ticket = self.next;
                 self.next += 1;
@@ -63,7 +74,11 @@ impl Tier {
             }
             Err(failed) => {
                 let Sealed { ticket: _, ops } = failed.value;
-                self.session = Some(Session { label, own: ops });
+                self.session = Some(Session {
+                    label,
+                    own: ops,
+                    keys,
+                });
                 Reply::faulty(alloc, Code::Memory)
             }
         }

@@ -1,69 +1,80 @@
 //! CREATE CACHE GROUP.
 
-ghost use Rattle.std.specs.Prelude.{◌≡◌, ◌⊎◌, List, IfOk};
+ghost use Rattle.std.specs.Prelude.{◌≡◌, ◌⊎◌, List, IsSome, option_map};
 ghost use Rattle.table_state.specs.declared.history.Entry.{Entry};
 ghost use Rattle.table_state.specs.declared.history.Sealed.{Sealed as OneSealed};
 ghost use Rattle.sql_subset.specs.declared.stmt.Stmt.TheVariants as statement;
-ghost use Rattle.tier_engine.specs.Answers.{describes, is_asynchronous, same_columns, same_table};
-ghost use Rattle.tier_engine.specs.Standing.{StandsFor, Turns};
-ghost use Rattle.tier_engine.specs.Steps.{ForSession, WantsMemory};
-ghost use Rattle.tier_engine.specs.Storing.{GroupsOrNot, described};
+ghost use Rattle.tier_engine.specs.Answers.{is_asynchronous};
+ghost use Rattle.tier_engine.specs.Standing.{InOpen, StandsFor, Turns};
+ghost use Rattle.tier_engine.specs.Steps.{WantsMemory};
+ghost use Rattle.tier_engine.specs.Storing.{GroupsOrNot, JudgesGroup, located};
 
+use crate::cached::{place_of_group, unknown_table};
+use crate::judge_group::judge_group;
 use crate::reply::Reply;
 use crate::tier::{Group, Tier};
 use key_rows::Rows;
-use row_types::{Column, Refused, TableDeclaration};
+use row_types::{Refused, TableDeclaration};
 use sql_subset::stmt::{CreateGroup, GroupKind};
-use std::alloc::{AllocError, Global};
+use std::alloc::Global;
 use table_state::{TableDef, find_table};
 use tier_base::{Code, Name, Seq, TableId};
 
 impl Tier {
     /// CREATE CACHE GROUP by the session. Where memory is wanting the tier is as before.
+    ///
+    /// 102 where the table isn't at the backing database; 103 of a name in its declaration; 113 of the group's name; 122
+    /// where the session has uncommitted writes; 105 of a type; 114 by letter; 119 of the groups.
     pub fn create_group(&mut self, alloc: Global, declaration: CreateGroup) -> Reply
-        ensures step { (log : List OneSealed) (history : List Entry) → StandsFor self.old log history → Turns self.old self.new log history (λ w w'. ForSession w.tier.session (statement.CreateGroup declaration) w w' result ⊎ WantsMemory w w' result) }
+        requires { IsSome self.old.session }
+        ensures step { (log : List OneSealed) (history : List Entry) → StandsFor self.old log history → Turns self.old self.new log history (λ w w'. InOpen w.tier.session (statement.CreateGroup declaration) w w' result ⊎ WantsMemory w w' result) }
     {
-        if self.session.is_none() {
-            return Reply::refused(alloc);
+        if !is_asynchronous(declaration.kind) {
+            return Reply::not_yet(alloc);
         }
-        if self.groups.len() > 0 {
-            return Reply::refused(alloc);
-        }
-        match self.find_described(alloc, &declaration) {
-            Ok(None) => Reply::refused(alloc),
-            Ok(Some((table, def))) => self.add_group(alloc, declaration.name, table, def),
-            Err(_) => Reply::faulty(alloc, Code::Memory),
+        let Some((table, def)) = self.locate(&declaration.table.name) else {
+            return Reply::refuses(alloc, unknown_table(table_name(declaration)));
+        };
+        match self.judge(alloc, &declaration, table, def) {
+            Err(Refused::Rule(rule)) => Reply::refuses(alloc, rule),
+            Err(Refused::Memory) => Reply::faulty(alloc, Code::Memory),
+            Ok(()) => match def.copied(alloc) {
+                Err(_) => Reply::faulty(alloc, Code::Memory),
+                Ok(def) => {
+                    let CreateGroup { name, .. } = declaration;
+                    self.add_group(alloc, name, table, def)
+                }
+            },
         }
     }
 
-    /// The backing table that the declaration of an asynchronous group describes, with its definition.
-    fn find_described(
-        &self,
-        alloc: Global,
-        declaration: &CreateGroup,
-    ) -> Result<Option<(TableId, TableDef)>, AllocError>
-        ensures { IfOk result (λ found. found ≡ described self.now.known declaration.now) }
+    /// The table of this name: that of the schema, or of a group where the schema isn't known.
+    fn locate(&self, name: &Name) -> Option<(TableId, &TableDef)>
+        ensures { (option_map (λ found. (found.0, found.1.now)) result ≡ located self.now name.now) }
     {
-        let schema = match &self.known {
-            None => return Ok(None),
-            Some(schema) => schema,
-        };
-        let table = match find_table(schema, &declaration.table.name) {
-            None => return Ok(None),
-            Some(table) => table,
-        };
-        let def = match schema.get(table.0 as usize) {
-            None => return Ok(None),
-            Some(def) => def,
-        };
-        if !is_asynchronous(declaration.kind) || declaration.autorefresh.is_some() {
-            return Ok(None);
+        match &self.known {
+            Some(schema) => {
+                let table = find_table(schema, name)?;
+                let def = schema.get(table.0 as usize)?;
+                Some((table, def))
+            }
+            None => {
+                let place = place_of_group(self.groups.as_slice(), name)?;
+                let group = &self.groups[place];
+                Some((group.table, &group.def))
+            }
         }
-        if !describes(alloc, &declaration.table, def)? {
-            return Ok(None);
+    }
+
+    /// What refuses the group over this table.
+    fn judge(&self, alloc: Global, declaration: &CreateGroup, table: TableId, def: &TableDef) -> Result<(), Refused>
+        ensures { JudgesGroup self.now declaration.now table def.now result }
+    {
+        let written = self.written();
+        match &self.known {
+            None => judge_group(alloc, self.groups.as_slice(), written, declaration, table, def, &Seq::new(alloc)),
+            Some(schema) => judge_group(alloc, self.groups.as_slice(), written, declaration, table, def, schema),
         }
-        let copy = def.copied(alloc)?;
-        Ok(Some((table, copy)))
     }
 
     /// Adds a group without rows.
@@ -92,42 +103,11 @@ fn is_asynchronous(kind: GroupKind) -> bool
     }
 }
 
-/// Whether the declaration is of this backing table.
-fn describes(
-    alloc: Global,
-    declaration: &TableDeclaration,
-    def: &TableDef,
-) -> Result<bool, AllocError>
-    ensures { IfOk result (λ does. does ≡ describes declaration.now def.now) }
+/// The name of the group's table.
+fn table_name(declaration: CreateGroup) -> Name
+    ensures { result ≡ declaration.table.name }
 {
-    match TableDef::check(alloc, declaration, &Seq::new(alloc)) {
-        Ok(declared) => Ok(same_table(&declared, def)),
-        Err(Refused::Rule(_)) => Ok(false),
-        Err(Refused::Memory) => Err(AllocError),
-    }
-}
-
-/// Whether both have the same columns but for NOT NULL, the same primary key, and no foreign key.
-fn same_table(a: &TableDef, b: &TableDef) -> bool
-    ensures { result ≡ same_table a.now b.now }
-{
-    same_columns(a.columns.as_slice(), b.columns.as_slice())
-        && a.primary_key.as_slice() == b.primary_key.as_slice()
-        && a.foreign_key.is_none()
-        && b.foreign_key.is_none()
-}
-
-/// Whether the columns have the same names and types.
-fn same_columns(a: &[Column], b: &[Column]) -> bool
-    ensures { result ≡ same_columns a.now b.now }
-{
-    match (a.split_first(), b.split_first()) {
-        (None, None) => true,
-        (Some((first, a)), Some((second, b))) => {
-            first.name.as_bytes() == second.name.as_bytes()
-                && first.ty == second.ty
-                && same_columns(a, b)
-        }
-        _ => false,
-    }
+    let CreateGroup { table, .. } = declaration;
+    let TableDeclaration { name, .. } = table;
+    name
 }

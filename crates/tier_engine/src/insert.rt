@@ -1,116 +1,206 @@
 //! INSERT of one row into a stored group.
 
-ghost use Rattle.std.specs.Prelude.{◌≡◌, ◌++◌, ◌∷◌, [], IfOk, OnErr, OnOk, Option, false, vec_items};
-ghost use Rattle.std.specs.FinMap.{contains_key, insert};
-ghost use Rattle.std.specs.Option.{option_map};
-ghost use Rattle.table_state.specs.Tables.{fits_columns, key_of};
+ghost use Rattle.std.specs.Prelude.{◌≡◌, ◌++◌, ◌∷◌, [], IfOk, IfErr, OnErr, OnOk, Option, Some, None, false, true, length, List};
+ghost use Rattle.std.specs.FinMap.{contains_key, insert, len};
+ghost use Rattle.table_state.specs.Declarations.{IsRefusedBy, Tells};
+ghost use Rattle.table_state.specs.Tables.{key_of};
 ghost use Rattle.table_state.specs.declared.operation.Op.TheVariants.{Insert as InsertOf};
-ghost use Rattle.tier_engine.specs.Answers.{only};
-ghost use Rattle.tier_engine.specs.Storing.{key_taken, store_row, store_values};
+ghost use Rattle.tier_engine.specs.LiteralValues.{values_of};
+ghost use Rattle.tier_engine.specs.Refusals.{at_limit, insert_fault, key_taken, past, row_fault, takes, takes_all};
+ghost use Rattle.tier_engine.specs.Storing.{Put};
+ghost use Rattle.table_state.specs.declared.operation.Op.{Op as OneOp};
+ghost use Rattle.tier_engine.specs.declared.tier.OwnKey.{OwnKey as OneKey};
 
-use crate::reply::{Last, Reply};
-use crate::tier::Group;
+use crate::literal::literal_values;
+use crate::tier::{Group, OwnKey, Session};
 use key_rows::Rows;
-use row_types::{Column, Detail, Key, Row, Rule, Value, fits};
+use row_types::{Column, Detail, Key, Refused, Row, Rule, Ty, Value};
+use sql_subset::stmt::Literal;
 use std::alloc::{AllocError, Global};
-use table_state::{Op, Ops, TableDef, key_of_row};
+use table_state::{ApplyError, Op, Ops, TableDef, check_row, key_of_row};
 use tier_base::{Code, Limit, TableId};
 
-/// Puts a row of these values into the group and behind the session's writes, where no rule is broken.
-///
-/// Where memory is wanting both are as before.
-pub fn insert_values(
-    alloc: Global,
-    group: &mut Group,
-    own: &mut Ops,
-    values: Option<Vec<Value>>,
-) -> Result<Reply, AllocError>
-    ensures ok { IfOk result (λ reply. (group.new, own.new, reply) ≡ store_values group.old own.old (option_map vec_items values)) }
-    ensures group { OnErr result (group.new ≡ group.old) }
-    ensures own { OnErr result (own.new ≡ own.old) }
-{
-    let row = match values {
-        None => return Ok(Reply::refused(alloc)),
-        Some(values) => Row::from_vec(values),
-    };
-    if !row_fits(group.def.columns.as_slice(), row.values()) {
-        return Ok(Reply::refused(alloc));
-    }
-    if own.len() as u64 >= Limit::Operations.number() {
-        return Ok(Reply::refused(alloc));
-    }
-    if group.rows.len() as u64 >= Limit::Rows.number() {
-        return Ok(Reply::refused(alloc));
-    }
-    insert_row(alloc, group, own, row)
+/// A row that was put in, for which the backing database is to be asked.
+#[derive(Drop)]
+pub struct Asked {
+    /// Its table.
+    pub table: TableId,
+    /// Its key.
+    pub key: Key,
+    /// The refusal where the key has a row.
+    pub taken: Rule,
 }
 
-/// Puts a row that fits into the group and behind the session's writes, where its key is new.
-fn insert_row(
+/// The row of these literals, where an INSERT of it is refused by nothing but its key.
+///
+/// 104 of their number or kind, 105 of one that no type holds or that its column can't hold, 106 of NULL, 119 of the
+/// session's operations and of the group's rows.
+pub fn judge_insert(
     alloc: Global,
+    group: &Group,
+    own: &Ops,
+    literals: &[Literal],
+) -> Result<Row, Refused>
+    ensures told { Tells result (insert_fault group.now.def own.now literals.now group.now.rows) }
+    ensures row { IfOk result (λ row. values_of literals.now ≡ Some row) }
+{
+    if !takes_all(group.def.columns.as_slice(), literals) {
+        return Err(broken(Code::TypeMismatch, Detail::Nothing));
+    }
+    let Some(values) = literal_values(alloc, literals)? else {
+        return Err(broken(Code::OutOfRange, Detail::NoType));
+    };
+    let row = Row::from_vec(values);
+    judge_row(alloc, group, own, &row)?;
+    Ok(row)
+}
+
+/// What refuses a row, its key aside.
+fn judge_row(alloc: Global, group: &Group, own: &Ops, row: &Row) -> Result<(), Refused>
+    ensures { Tells result (row_fault group.now.def own.now row.now group.now.rows) }
+{
+    match check_row(alloc, group.def.columns.as_slice(), row) {
+        Ok(()) => {}
+        Err(ApplyError::Rule(rule)) => return Err(Refused::Rule(rule)),
+        Err(ApplyError::Differs(_, _, _)) => {}
+        Err(ApplyError::Memory) => return Err(Refused::Memory),
+    }
+    if let Some(rule) = at_limit(Limit::Operations, own.len()) {
+        return Err(Refused::Rule(rule));
+    }
+    match at_limit(Limit::Rows, group.rows.len()) {
+        Some(rule) => Err(Refused::Rule(rule)),
+        None => Ok(()),
+    }
+}
+
+/// Puts a row into the group, and behind the session's writes with its key. 107 where the key is among the group's.
+///
+/// After an error both are as before.
+pub fn put(
+    alloc: Global,
+    place: usize,
     group: &mut Group,
-    own: &mut Ops,
+    session: &mut Session,
     row: Row,
-) -> Result<Reply, AllocError>
-    ensures ok { IfOk result (λ reply. (group.new, own.new, reply) ≡ store_row group.old own.old row) }
-    ensures group { OnErr result (group.new ≡ group.old) }
-    ensures own { OnErr result (own.new ≡ own.old) }
+) -> Result<Asked, Refused>
+    ensures { Put place group.old group.new session.old session.new row result }
 {
     let key = key_of_row(alloc, &group.def, &row)?;
+    let taken = key_taken(alloc, &group.def, key.copied(alloc)?)?;
     if group.rows.contains_key(&key) {
-        return key_taken(alloc, &group.def, key);
+        return Err(Refused::Rule(taken));
     }
-    put_row(alloc, &mut group.rows, own, group.table, key, row)?;
-    Ok(Reply::done(alloc, 1))
+    let own_key = OwnKey {
+        group: place,
+        key: key.copied(alloc)?,
+    };
+    let asked = Asked {
+        table: group.table,
+        key: key.copied(alloc)?,
+        taken,
+    };
+    let operation = Op::Insert(group.table, row.copied(alloc)?);
+    write_behind(session, operation, own_key)?;
+    match group.rows.insert(key, row) {
+        Ok(_) => Ok(asked),
+        Err(_) => {
+            take_off(session);
+            Err(Refused::Memory)
+        }
+    }
 }
 
-/// The refusal of a row whose key is taken.
-fn key_taken(alloc: Global, def: &TableDef, key: Key) -> Result<Reply, AllocError>
-    ensures { IfOk result (λ reply. reply ≡ only (Last.No (record { code = Code.KeyExists; detail = Detail.Row def.now.name key }))) }
+/// Takes the last operation and its key off.
+fn take_off(session: &mut Session)
+    ensures { (own : List OneOp) (op : OneOp) (keys : List OneKey) (key : OneKey) → session.old.own ≡ own ++ op ∷ [] → session.old.keys ≡ keys ++ key ∷ [] → session.new ≡ record session.old { own = own; keys = keys } }
+{
+    let _ = session.own.pop();
+    let _ = session.keys.pop();
+}
+
+/// Puts an operation and its key behind the others. Where memory is wanting the session is as before.
+fn write_behind(session: &mut Session, operation: Op, key: OwnKey) -> Result<(), AllocError>
+    ensures ok { OnOk result (session.new ≡ record session.old { own = session.old.own ++ operation ∷ []; keys = session.old.keys ++ key ∷ [] }) }
+    ensures err { OnErr result (session.new ≡ session.old) }
+{
+    session.own.push(operation)?;
+    match session.keys.push(key) {
+        Ok(()) => Ok(()),
+        Err(_) => {
+            let _ = session.own.pop();
+            Err(AllocError)
+        }
+    }
+}
+
+/// 107: the key has a row.
+fn key_taken(alloc: Global, def: &TableDef, key: Key) -> Result<Rule, AllocError>
+    ensures { IfOk result (λ rule. rule ≡ key_taken def.now key) }
 {
     let name = def.name.copied(alloc)?;
-    let rule = Rule {
+    Ok(Rule {
         code: Code::KeyExists,
         detail: Detail::Row(name, key),
-    };
-    Ok(Reply::only(alloc, Last::No(rule)))
+    })
 }
 
-/// Puts a row in at a new key, and its operation behind the others. Where memory is wanting both are as before.
-fn put_row(
-    alloc: Global,
-    rows: &mut Rows,
-    own: &mut Ops,
-    table: TableId,
-    key: Key,
-    row: Row,
-) -> Result<(), AllocError>
-    requires { contains_key rows.old key ≡ false }
-    ensures rows { OnOk result (rows.new ≡ insert rows.old key row) }
-    ensures own { OnOk result (own.new ≡ own.old ++ InsertOf table row ∷ []) }
-    ensures rows_stay { OnErr result (rows.new ≡ rows.old) }
-    ensures own_stay { OnErr result (own.new ≡ own.old) }
+fn broken(code: Code, detail: Detail) -> Refused
+    ensures { result ≡ Refused.Rule (record { code = code; detail = detail }) }
 {
-    let copy = row.copied(alloc)?;
-    own.push(Op::Insert(table, copy))?;
-    match rows.insert(key, row) {
-        Ok(_) => Ok(()),
-        Err(error) => {
-            let _ = own.pop();
-            Err(error)
-        }
+    Refused::Rule(Rule { code, detail })
+}
+
+/// 119, where so many are at the limit.
+pub fn at_limit(limit: Limit, count: usize) -> Option<Rule>
+    ensures { result ≡ at_limit limit count }
+{
+    if (count as u64) < limit.number() {
+        return None;
+    }
+    Some(past(limit))
+}
+
+/// 119: the limit would be passed.
+pub fn past(limit: Limit) -> Rule
+    ensures { Some result ≡ past limit }
+{
+    Rule {
+        code: Code::Limit,
+        detail: Detail::Limit(limit),
     }
 }
 
-/// Whether there are as many values as columns, and each column takes its value.
-fn row_fits(columns: &[Column], values: &[Value]) -> bool
-    ensures { result ≡ fits_columns columns.now values.now }
+/// Whether there are as many literals as columns, each of a kind that its column takes.
+fn takes_all(columns: &[Column], literals: &[Literal]) -> bool
+    ensures { result ≡ takes_all columns.now literals.now }
 {
-    match (columns.split_first(), values.split_first()) {
+    match (columns.split_first(), literals.split_first()) {
         (None, None) => true,
-        (Some((column, columns)), Some((value, values))) => {
-            fits(value, column).is_ok() && row_fits(columns, values)
+        (Some((column, columns)), Some((literal, literals))) => {
+            takes(column.ty, literal) && takes_all(columns, literals)
         }
         _ => false,
+    }
+}
+
+/// Whether a column of this type takes such a literal: NULL and '' have no type.
+fn takes(ty: Ty, literal: &Literal) -> bool
+    ensures { result ≡ takes ty literal.now }
+{
+    match literal {
+        Literal::Null => true,
+        Literal::Integer(_) => match ty {
+            Ty::TtInteger => true,
+            Ty::TtBigint => true,
+            Ty::Varchar2(_) => false,
+            Ty::Timestamp => false,
+        },
+        Literal::Text(text) => match ty {
+            Ty::TtInteger => text.as_bytes().is_empty(),
+            Ty::TtBigint => text.as_bytes().is_empty(),
+            Ty::Varchar2(_) => true,
+            Ty::Timestamp => text.as_bytes().is_empty(),
+        },
     }
 }

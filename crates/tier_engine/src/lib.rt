@@ -7,6 +7,7 @@ mod commit;
 mod define_group;
 mod drain;
 mod insert;
+mod judge_group;
 pub mod laws;
 mod literal;
 pub mod reply;

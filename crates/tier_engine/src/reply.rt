@@ -41,8 +41,9 @@ pub enum Last {
 
 impl Reply {
     ghost use Rattle.std.specs.Prelude.{◌≡◌};
-    ghost use Rattle.tier_engine.specs.Answers.{faulty, only, refused};
-    ghost use Rattle.tier_engine.specs.declared.reply.Last.TheVariants.{Done};
+    ghost use Rattle.tier_engine.specs.Answers.{faulty, only};
+    ghost use Rattle.tier_engine.specs.Refusals.{not_yet};
+    ghost use Rattle.tier_engine.specs.declared.reply.Last.TheVariants.{Done, No};
 
     /// A reply of its last line alone. It takes no memory.
     pub fn only(alloc: Global, last: Last) -> Reply
@@ -62,17 +63,22 @@ impl Reply {
         Reply::only(alloc, Last::Done(number))
     }
 
-    /// The refusal of a line. It takes no memory.
-    pub fn refused(alloc: Global) -> Reply
-        ensures { result ≡ refused }
+    /// A refusal. It takes no memory.
+    pub fn refuses(alloc: Global, rule: Rule) -> Reply
+        ensures { result ≡ only (No rule) }
     {
-        Reply::only(
-            alloc,
-            Last::No(Rule {
-                code: Code::Syntax,
-                detail: Detail::Byte(0),
-            }),
-        )
+        Reply::only(alloc, Last::No(rule))
+    }
+
+    /// The answer to a statement that isn't there yet. It takes no memory.
+    pub fn not_yet(alloc: Global) -> Reply
+        ensures { result ≡ only (No not_yet) }
+    {
+        let rule = Rule {
+            code: Code::Syntax,
+            detail: Detail::Byte(0),
+        };
+        Reply::refuses(alloc, rule)
     }
 
     /// A fault, or want of memory. It takes no memory.

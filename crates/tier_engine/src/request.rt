@@ -4,33 +4,41 @@ ghost use Rattle.std.specs.Prelude.{◌≡◌, ◌≤◌, List, [], ℕ, Some};
 ghost use Rattle.outside.specs.Holding.{Held};
 ghost use Rattle.table_state.specs.declared.history.Entry.{Entry};
 ghost use Rattle.table_state.specs.declared.history.Sealed.{Sealed as OneSealed};
-ghost use Rattle.tier_engine.specs.Standing.{Serves, StandsFor, tier_state};
-ghost use Rattle.tier_engine.specs.TierStates.{fresh};
+ghost use Rattle.outside.specs.Calls.{BankCall, Told};
+ghost use Rattle.outside.specs.Faults.{BankHasCause};
+ghost use Rattle.tier_engine.specs.Standing.{Begins, Serves, StandsFor};
 ghost use Rattle.sql_subset.specs.Lines.{is_silent};
 
+use crate::insert::past;
 use crate::reply::Reply;
 use crate::tier::Tier;
-use outside::Site;
+use outside::{BankError, Site};
 use std::alloc::Global;
 use std::collections::VecDeque;
-use tier_base::Seq;
+use table_state::laws::later_table_law;
+use tier_base::Limit;
 
 /// The greatest number of bytes of a line.
 const LINE_BYTES: usize = 65_536;
 
 impl Tier {
-    /// The tier over a backing database without entries. It takes no memory.
-    pub fn new(alloc: Global) -> Tier
-        ensures stands { StandsFor result [] [] }
-        ensures fresh { tier_state result [] [] ≡ fresh }
+    /// The tier over a backing database in which no transaction of a tier stands. It asks for the schema.
+    ///
+    /// `Failed` only where the count of bank faults rose in this call; nothing else is known then, as for want of memory.
+    pub fn open<P: Site>(alloc: Global, site: &mut P) -> Result<Tier, BankError>
+        ensures told { Told (P.Disk.held site.old) (P.Disk.held site.new) (BankCall (Begins result)) }
+        ensures cause { BankHasCause (P.bank_faults site.old) (P.bank_faults site.new) result }
+        ensures moment { P.Disk.moment site.old ≤ P.Disk.moment site.new }
     {
-        Tier {
-            known: Some(Seq::new(alloc)),
+        later_table_law();
+        let schema = site.schema()?;
+        Ok(Tier {
+            known: Some(schema),
             groups: Vec::new(alloc),
             session: None,
             unsettled: VecDeque::new(alloc),
             next: 1,
-        }
+        })
     }
 
     /// Answers one request line, without its line end. A line that is empty or a comment has no reply.
@@ -43,7 +51,7 @@ impl Tier {
         ensures later { P.bank_faults site.old ≤ P.bank_faults site.new }
     {
         if line.len() > LINE_BYTES {
-            return Some(Reply::refused(alloc));
+            return Some(Reply::refuses(alloc, past(Limit::Line)));
         }
         if is_silent(line) {
             return None;

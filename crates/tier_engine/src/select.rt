@@ -3,20 +3,22 @@
 ghost use Rattle.std.specs.Prelude.{◌≡◌, ◌++◌, IfOk, OnOk};
 ghost use Rattle.std.specs.FinMap.{values};
 ghost use Rattle.tier_engine.specs.Replying.{row_bytes, rows_bytes};
-ghost use Rattle.tier_engine.specs.Storing.{select_rows};
+ghost use Rattle.tier_engine.specs.Answers.{select_answer};
+ghost use Rattle.tier_engine.specs.TierStates.{TierState};
 
+use crate::insert::past;
 use crate::reply::{Last, Reply};
 use key_rows::Rows;
 use row_types::{Row, print_values_into};
 use std::alloc::{AllocError, Global};
 use tier_base::{Limit, Seq};
 
-/// All rows, in key order. It changes nothing.
+/// All rows, in key order. 119 where they are too many.
 pub fn select_rows(alloc: Global, rows: &Rows) -> Result<Reply, AllocError>
-    ensures { IfOk result (λ reply. reply ≡ select_rows rows.now) }
+    ensures { IfOk result (λ reply. (t : TierState) → select_answer t rows.now ≡ (t, reply)) }
 {
     if rows.len() as u64 > Limit::Answer.number() {
-        return Ok(Reply::refused(alloc));
+        return Ok(Reply::refuses(alloc, past(Limit::Answer)));
     }
     let printed = print_rows(alloc, rows)?;
     Ok(Reply {

@@ -7,18 +7,20 @@ ghost use Rattle.sql_subset.specs.declared.request.ConsoleRequest.TheVariants as
 ghost use Rattle.sql_subset.specs.declared.request.Line.TheVariants as says;
 ghost use Rattle.sql_subset.specs.declared.request.Request.TheVariants as asks_for;
 ghost use Rattle.sql_subset.specs.Lines.{is_silent};
+ghost use Rattle.tier_engine.specs.Refusals.{wrong_at};
 ghost use Rattle.tier_engine.specs.Standing.{ServesPart, tier_state};
 ghost use Rattle.tier_engine.specs.Steps.{Heeds, Parts, console_asks, request_asks};
 
+use crate::insert::past;
 use crate::reply::Reply;
 use crate::tier::Tier;
 use outside::Site;
-use row_types::TableDeclaration;
+use row_types::{Detail, Rule, TableDeclaration};
 use sql_subset::line::parse_line;
 use sql_subset::request::{ConsoleRequest, Line, ParseError, Request};
 use sql_subset::stmt::Stmt;
 use std::alloc::Global;
-use tier_base::{Code, Label};
+use tier_base::{Code, Label, Limit};
 
 impl Tier {
     /// Answers a line that isn't silent.
@@ -30,8 +32,8 @@ impl Tier {
         match parse_line(alloc, line) {
             Ok(None) => unreachable!(),
             Ok(Some(line)) => self.serve_line(alloc, site, line),
-            Err(ParseError::At(_)) => Reply::refused(alloc),
-            Err(ParseError::Depth) => Reply::refused(alloc),
+            Err(ParseError::At(place)) => Reply::refuses(alloc, wrong_at(place)),
+            Err(ParseError::Depth) => Reply::refuses(alloc, past(Limit::Depth)),
             Err(ParseError::Memory) => Reply::faulty(alloc, Code::Memory),
         }
     }
@@ -57,9 +59,9 @@ impl Tier {
         ensures later { P.bank_faults site.old ≤ P.bank_faults site.new }
     {
         match request {
-            Request::Open(options) => self.open(alloc, label, options),
-            Request::Close => Reply::refused(alloc),
-            Request::Statement(statement) => self.serve_statement(alloc, site, &label, statement),
+            Request::Open(options) => self.open_session(alloc, label, options),
+            Request::Close => self.close_session(alloc, label),
+            Request::Statement(statement) => self.serve_statement(alloc, site, label, statement),
         }
     }
 
@@ -78,7 +80,7 @@ impl Tier {
                 site,
                 &declaration,
             ),
-            ConsoleRequest::Writes(_) => Reply::refused(alloc),
+            ConsoleRequest::Writes(_) => Reply::not_yet(alloc),
         }
     }
 
@@ -86,13 +88,13 @@ impl Tier {
         &mut self,
         alloc: Global,
         site: &mut P,
-        label: &Label,
+        label: Label,
         statement: Stmt,
     ) -> Reply
-        ensures step { ServesPart (P.Disk.held site.old) (P.Disk.held site.new) (P.bank_faults site.old) (P.bank_faults site.new) (P.Disk.moment site.old) (P.Disk.moment site.new) self.old self.new result (λ w w'. Parts (says.Session label.now (asks_for.Statement statement)) w w' result) }
+        ensures step { ServesPart (P.Disk.held site.old) (P.Disk.held site.new) (P.bank_faults site.old) (P.bank_faults site.new) (P.Disk.moment site.old) (P.Disk.moment site.new) self.old self.new result (λ w w'. Parts (says.Session label (asks_for.Statement statement)) w w' result) }
         ensures later { P.bank_faults site.old ≤ P.bank_faults site.new }
     {
-        let asks = self.asks_before(label, &statement);
+        let asks = self.asks_before(&label, &statement);
         match self.ask_where(alloc, site, asks) {
             Some(fault) => fault,
             None => self.execute_as(alloc, site, label, statement),
@@ -118,7 +120,7 @@ impl Tier {
     /// Whether the tier asks for the schema before a session's statement: it doesn't know it, and the statement names a
     /// table which isn't cached.
     fn asks_before(&self, label: &Label, statement: &Stmt) -> bool
-        ensures { (log : List OneSealed) (history : List Entry) → result ≡ request_asks (tier_state self.now log history) label.now (asks_for.Statement statement.now) }
+        ensures { (log : List OneSealed) → result ≡ request_asks (tier_state self.now log) label.now (asks_for.Statement statement.now) }
     {
         if self.known.is_some() {
             return false;
@@ -130,8 +132,18 @@ impl Tier {
     }
 
     fn asks_before_create(&self, declaration: &TableDeclaration) -> bool
-        ensures { (log : List OneSealed) (history : List Entry) → result ≡ console_asks (tier_state self.now log history) (console.CreateTable declaration.now) }
+        ensures { (log : List OneSealed) → result ≡ console_asks (tier_state self.now log) (console.CreateTable declaration.now) }
     {
         self.known.is_none() && !self.is_cached(&declaration.name)
+    }
+}
+
+/// 101: the line is wrong at this byte.
+fn wrong_at(place: usize) -> Rule
+    ensures { result ≡ wrong_at place }
+{
+    Rule {
+        code: Code::Syntax,
+        detail: Detail::Byte(place as u64),
     }
 }

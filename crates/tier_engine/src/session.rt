@@ -1,39 +1,133 @@
-//! Statements of a session that make no call of the backing database.
+//! OPEN, CLOSE and ROLLBACK.
 
-ghost use Rattle.std.specs.Prelude.{◌≡◌, ◌++◌, ◌∷◌, ◌+◌, [], List, IfOk, OnErr, None, Some};
+ghost use Rattle.std.specs.Prelude.{◌≡◌, List, IfErr, IfOk, IsSome, None, Some};
+ghost use Rattle.std.specs.Result.{OnOk};
 ghost use Rattle.table_state.specs.declared.history.Entry.{Entry};
 ghost use Rattle.table_state.specs.declared.history.Sealed.{Sealed as OneSealed};
-ghost use Rattle.tier_engine.specs.Answers.{is_first_session, open_answer};
-ghost use Rattle.tier_engine.specs.Standing.{StandsFor, Turns, own_in};
-ghost use Rattle.tier_engine.specs.Steps.{Quiet};
+ghost use Rattle.sql_subset.specs.declared.request.Request.TheVariants as asks_for;
+ghost use Rattle.sql_subset.specs.declared.stmt.Stmt.TheVariants as statement;
+ghost use Rattle.tier_engine.specs.Answers.{open_answer};
+ghost use Rattle.tier_engine.specs.Refusals.{open_fault, unknown_session};
+ghost use Rattle.tier_engine.specs.Standing.{InOpen, StandsFor, Turns, session_in};
+ghost use Rattle.tier_engine.specs.Steps.{DoesRequest, Quiet};
+ghost use Rattle.tier_engine.specs.Storing.{TakesBack, TakesOneBack, TakenOff};
 
 use crate::reply::Reply;
-use crate::tier::{Session, Tier};
+use crate::tier::{OwnKey, Session, Tier};
+use row_types::{Detail, Rule};
 use sql_subset::request::OpenOptions;
 use std::alloc::Global;
-use std::mem::replace;
-use table_state::{Ops, Sealed};
-use tier_base::{Code, Label, Limit, Seq, Ticket};
+use tier_base::{Code, Label, Limit, Seq};
 
 impl Tier {
-    /// Opens the session. It takes no memory.
-    pub fn open(&mut self, alloc: Global, label: Label, options: OpenOptions) -> Reply
+    /// OPEN. 113 where the session is open, 119 where another one is. It takes no memory.
+    pub fn open_session(&mut self, alloc: Global, label: Label, options: OpenOptions) -> Reply
         ensures step { (log : List OneSealed) (history : List Entry) → StandsFor self.old log history → Turns self.old self.new log history (λ w w'. Quiet w (open_answer w.tier label options) w' result) }
     {
-        if !is_first_session(&label, options) || self.session.is_some() {
-            return Reply::refused(alloc);
+        match judge_open(&self.session, label, options) {
+            Err(rule) => Reply::refuses(alloc, rule),
+            Ok(label) => {
+                self.session = Some(Session {
+                    label,
+                    own: Seq::new(alloc),
+                    keys: Seq::new(alloc),
+                });
+                Reply::done(alloc, 0)
+            }
         }
-        self.session = Some(Session {
-            label,
-            own: Seq::new(alloc),
-        });
+    }
+
+    /// CLOSE: rolls back and ends the session. 123 where it isn't open. It takes no memory.
+    pub fn close_session(&mut self, alloc: Global, label: Label) -> Reply
+        ensures step { (log : List OneSealed) (history : List Entry) → StandsFor self.old log history → Turns self.old self.new log history (λ w w'. DoesRequest label asks_for.Close w w' result) }
+    {
+        if !self.is_open(&label) {
+            return Reply::refuses(alloc, unknown_session(label));
+        }
+        self.take_back();
+        self.session = None;
         Reply::done(alloc, 0)
+    }
+
+    /// ROLLBACK of the open session. It takes no memory.
+    pub fn rollback(&mut self, alloc: Global) -> Reply
+        requires { IsSome self.old.session }
+        ensures step { (log : List OneSealed) (history : List Entry) → StandsFor self.old log history → Turns self.old self.new log history (λ w w'. InOpen w.tier.session statement.Rollback w w' result) }
+    {
+        self.take_back();
+        Reply::done(alloc, 0)
+    }
+
+    /// Takes back all that the session wrote. It takes no memory.
+    fn take_back(&mut self)
+        ensures { TakesBack self.old self.new }
+    {
+        while self.take_back_one() {}
+    }
+
+    /// Takes back what the session wrote last, if it wrote something. It takes no memory.
+    pub fn take_back_one(&mut self) -> bool
+        ensures { TakesOneBack self.old self.new result }
+    {
+        let Some(taken) = take_off(&mut self.session) else {
+            return false;
+        };
+        if let Some(group) = self.groups.get_mut(taken.group) {
+            let _ = group.rows.remove(&taken.key);
+        }
+        true
     }
 }
 
-/// Whether this is the one session that there may be for now.
-fn is_first_session(label: &Label, options: OpenOptions) -> bool
-    ensures { result ≡ is_first_session label.now options }
+/// Takes the last write off the session, and gives its key.
+fn take_off(session: &mut Option<Session>) -> Option<OwnKey>
+    ensures { TakenOff session.old session.new result }
 {
-    label.as_bytes() == b"s1".as_slice() && options.passthrough == 0 && !options.durable
+    match session {
+        None => None,
+        Some(session) => match session.keys.pop() {
+            None => None,
+            Some(key) => {
+                let _ = session.own.pop();
+                Some(key)
+            }
+        },
+    }
+}
+
+/// Why OPEN is refused, or else the label.
+fn judge_open(
+    session: &Option<Session>,
+    label: Label,
+    options: OpenOptions,
+) -> Result<Label, Rule>
+    ensures taken { IfOk result (λ same. same ≡ label) }
+    ensures sound { OnOk result (open_fault (session_in session.now) label options ≡ None) }
+    ensures refused { IfErr result (λ rule. open_fault (session_in session.now) label options ≡ Some rule) }
+{
+    match session {
+        None if options.passthrough == 0 && !options.durable => Ok(label),
+        None => Err(Rule {
+            code: Code::Syntax,
+            detail: Detail::Byte(0),
+        }),
+        Some(session) if session.label.as_bytes() == label.as_bytes() => Err(Rule {
+            code: Code::NameInUse,
+            detail: Detail::Label(label),
+        }),
+        Some(_) => Err(Rule {
+            code: Code::Limit,
+            detail: Detail::Limit(Limit::Sessions),
+        }),
+    }
+}
+
+/// 123: no session is open under this label.
+pub fn unknown_session(label: Label) -> Rule
+    ensures { result ≡ unknown_session label }
+{
+    Rule {
+        code: Code::UnknownSession,
+        detail: Detail::Label(label),
+    }
 }

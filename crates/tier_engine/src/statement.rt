@@ -1,68 +1,66 @@
 //! Statements of a session.
 
-ghost use Rattle.std.specs.Prelude.{◌≡◌, ◌≤◌, ◌⊎◌, List, is_some};
+ghost use Rattle.std.specs.Prelude.{◌≡◌, ◌≤◌, ◌⊎◌, List, IfErr, IfOk, IsSome, OnOk, None, Some, is_some};
 ghost use Rattle.table_state.specs.declared.history.Entry.{Entry};
 ghost use Rattle.table_state.specs.declared.history.Sealed.{Sealed as OneSealed};
 ghost use Rattle.sql_subset.specs.declared.stmt.Stmt.TheVariants as statement;
-ghost use Rattle.tier_engine.specs.Standing.{ServesPart, tier_state};
-ghost use Rattle.tier_engine.specs.Steps.{ForSession, WantsMemory, is_cached, is_drain, names_uncached};
+ghost use Rattle.tier_engine.specs.Standing.{InOpen, ServesPart, tier_state};
+ghost use Rattle.tier_engine.specs.Steps.{ForSession, WantsMemory, call_fault, is_cached, names_uncached};
 ghost use Rattle.tier_engine.specs.TierStates.{session_of};
 
 use crate::cached::place_of_group;
 use crate::reply::Reply;
+use crate::session::unknown_session;
 use crate::tier::Tier;
 use outside::Site;
+use row_types::{Detail, Rule};
 use sql_subset::stmt::{Call, Stmt};
 use std::alloc::Global;
-use tier_base::{Label, Name};
+use tier_base::{Code, Label, Name};
 
 impl Tier {
-    /// Executes a statement under this label, under which the session may be open.
-    pub fn execute_as<P: Site>(
-        &mut self,
-        alloc: Global,
-        site: &mut P,
-        label: &Label,
-        statement: Stmt,
-    ) -> Reply
-        ensures step { ServesPart (P.Disk.held site.old) (P.Disk.held site.new) (P.bank_faults site.old) (P.bank_faults site.new) (P.Disk.moment site.old) (P.Disk.moment site.new) self.old self.new result (λ w w'. ForSession (session_of w.tier label.now) statement w w' result ⊎ WantsMemory w w' result) }
+    /// Executes a statement under this label. 123 where no session is open under it.
+    pub fn execute_as<P: Site>(&mut self, alloc: Global, site: &mut P, label: Label, statement: Stmt) -> Reply
+        ensures step { ServesPart (P.Disk.held site.old) (P.Disk.held site.new) (P.bank_faults site.old) (P.bank_faults site.new) (P.Disk.moment site.old) (P.Disk.moment site.new) self.old self.new result (λ w w'. ForSession label (session_of w.tier label) statement w w' result ⊎ WantsMemory w w' result) }
         ensures later { P.bank_faults site.old ≤ P.bank_faults site.new }
     {
-        if !self.is_open(label) {
-            return Reply::refused(alloc);
+        if !self.is_open(&label) {
+            return Reply::refuses(alloc, unknown_session(label));
         }
         self.execute(alloc, site, statement)
     }
 
     fn execute<P: Site>(&mut self, alloc: Global, site: &mut P, statement: Stmt) -> Reply
-        ensures step { ServesPart (P.Disk.held site.old) (P.Disk.held site.new) (P.bank_faults site.old) (P.bank_faults site.new) (P.Disk.moment site.old) (P.Disk.moment site.new) self.old self.new result (λ w w'. ForSession w.tier.session statement w w' result ⊎ WantsMemory w w' result) }
+        requires { IsSome self.old.session }
+        ensures step { ServesPart (P.Disk.held site.old) (P.Disk.held site.new) (P.bank_faults site.old) (P.bank_faults site.new) (P.Disk.moment site.old) (P.Disk.moment site.new) self.old self.new result (λ w w'. InOpen w.tier.session statement w w' result ⊎ WantsMemory w w' result) }
         ensures later { P.bank_faults site.old ≤ P.bank_faults site.new }
     {
         match statement {
-            Stmt::Select(select) => self.select(alloc, &select),
-            Stmt::Insert(insert) => self.insert(alloc, insert),
+            Stmt::Select(select) => self.select(alloc, select),
+            Stmt::Insert(insert) => self.insert(alloc, site, insert),
             Stmt::CreateGroup(declaration) => self.create_group(alloc, declaration),
-            Stmt::Load(_) => Reply::refused(alloc),
-            Stmt::Call(call) => self.call(alloc, site, &call),
+            Stmt::Load(_) => Reply::not_yet(alloc),
+            Stmt::Call(call) => self.call(alloc, site, call),
             Stmt::Commit => self.commit(alloc),
-            Stmt::Rollback => Reply::refused(alloc),
+            Stmt::Rollback => self.rollback(alloc),
         }
     }
 
-    /// CALL of the one procedure that there is for now.
-    fn call<P: Site>(&mut self, alloc: Global, site: &mut P, call: &Call) -> Reply
-        ensures step { ServesPart (P.Disk.held site.old) (P.Disk.held site.new) (P.bank_faults site.old) (P.bank_faults site.new) (P.Disk.moment site.old) (P.Disk.moment site.new) self.old self.new result (λ w w'. ForSession w.tier.session (statement.Call call.now) w w' result ⊎ WantsMemory w w' result) }
+    /// CALL. 103 of a procedure that there isn't, 104 of arguments that it doesn't take.
+    fn call<P: Site>(&mut self, alloc: Global, site: &mut P, call: Call) -> Reply
+        requires { IsSome self.old.session }
+        ensures step { ServesPart (P.Disk.held site.old) (P.Disk.held site.new) (P.bank_faults site.old) (P.bank_faults site.new) (P.Disk.moment site.old) (P.Disk.moment site.new) self.old self.new result (λ w w'. InOpen w.tier.session (statement.Call call) w w' result ⊎ WantsMemory w w' result) }
         ensures later { P.bank_faults site.old ≤ P.bank_faults site.new }
     {
-        if self.session.is_none() || !is_drain(call) {
-            return Reply::refused(alloc);
+        match judge_call(call) {
+            Some(rule) => Reply::refuses(alloc, rule),
+            None => self.drain(alloc, site),
         }
-        self.drain(alloc, site)
     }
 
     /// Whether the session is open under this label.
     pub fn is_open(&self, label: &Label) -> bool
-        ensures { (log : List OneSealed) (history : List Entry) → result ≡ is_some (session_of (tier_state self.now log history) label.now) }
+        ensures { (log : List OneSealed) → result ≡ is_some (session_of (tier_state self.now log) label.now) }
     {
         match &self.session {
             None => false,
@@ -72,14 +70,14 @@ impl Tier {
 
     /// Whether the table is that of some group.
     pub fn is_cached(&self, table: &Name) -> bool
-        ensures { (log : List OneSealed) (history : List Entry) → result ≡ is_cached (tier_state self.now log history) table.now }
+        ensures { (log : List OneSealed) → result ≡ is_cached (tier_state self.now log) table.now }
     {
         place_of_group(self.groups.as_slice(), table).is_some()
     }
 
     /// Whether the statement names a table which isn't cached.
     pub fn names_uncached(&self, statement: &Stmt) -> bool
-        ensures { (log : List OneSealed) (history : List Entry) → result ≡ names_uncached (tier_state self.now log history) statement.now }
+        ensures { (log : List OneSealed) → result ≡ names_uncached (tier_state self.now log) statement.now }
     {
         match statement {
             Stmt::CreateGroup(declaration) => !self.is_cached(&declaration.table.name),
@@ -93,9 +91,22 @@ impl Tier {
     }
 }
 
-/// Whether the call is that of ttDrain, without arguments.
-fn is_drain(call: &Call) -> bool
-    ensures { result ≡ is_drain call.now.procedure call.now.arguments }
+/// What refuses the call of a procedure.
+fn judge_call(call: Call) -> Option<Rule>
+    ensures { result ≡ call_fault call.procedure call.arguments }
 {
-    call.arguments.is_empty() && call.procedure.as_bytes() == b"TTDRAIN".as_slice()
+    let Call { procedure, arguments } = call;
+    if procedure.as_bytes() != b"TTDRAIN".as_slice() {
+        return Some(Rule {
+            code: Code::UnknownColumn,
+            detail: Detail::Name(procedure),
+        });
+    }
+    if arguments.is_empty() {
+        return None;
+    }
+    Some(Rule {
+        code: Code::TypeMismatch,
+        detail: Detail::Nothing,
+    })
 }

@@ -1,11 +1,12 @@
 //! The tier.
 
 use key_rows::Rows;
+use row_types::Key;
 use std::collections::VecDeque;
 use table_state::{BackingSchema, Ops, Sealed, TableDef};
-use tier_base::{Label, Name, TableId};
+use tier_base::{Label, Name, Seq, TableId};
 
-/// An asynchronous writethrough group of one table.
+/// An asynchronous writethrough group of one table, which no foreign key joins with another.
 #[derive(Drop)]
 pub struct Group {
     /// Its name.
@@ -14,8 +15,17 @@ pub struct Group {
     pub table: TableId,
     /// The definition of that table.
     pub def: TableDef,
-    /// The rows that it shows, with the session's uncommitted writes over them.
+    /// The rows that it shows, with the session's uncommitted writes among them.
     pub rows: Rows,
+}
+
+/// Where an uncommitted insert stands, so that it can be taken back without memory.
+#[derive(Drop)]
+pub struct OwnKey {
+    /// The place of the group.
+    pub group: usize,
+    /// The key of the row.
+    pub key: Key,
 }
 
 /// An open session.
@@ -25,6 +35,8 @@ pub struct Session {
     pub label: Label,
     /// Its uncommitted writes, in the order in which statements made them.
     pub own: Ops,
+    /// The key of each of them.
+    pub keys: Seq<OwnKey>,
 }
 
 /// The tier: what it keeps between request lines. It stands for the list of all committed transactions, of which it

@@ -2,7 +2,7 @@ use Rattle.std.proofs.Common.{refl, inl, inr}
 use Rattle.command_line.specs.declared.command.Command.TheVariants as command
 use Rattle.command_line.specs.Words.{texts}
 use Rattle.session_cli.specs.declared.serving.Status.TheVariants.{NoMemory}
-use Rattle.session_cli.proofs.EndsLaws.{ended_unstarted, taken_unstarted}
+use Rattle.session_cli.proofs.EndsLaws.{ended_unopened, taken_unstarted}
 use Rattle.session_cli.proofs.CheckLaws.{check_unstarted}
 use Rattle.session_cli.proofs.TopLaws.{words_of, refused_of, settings_of, bad_of, none_left, no_other}
 use Rattle.session_cli.proofs.program.top.Goals as goal
@@ -20,7 +20,7 @@ pub returns-in-Err-clause-bad : goal.returns-in-Err-clause-bad
 returns-in-Err-clause-bad g c = λ task asks bad. bad_of (texts c.args.words.now) c.args.settings.now c.in-Err.status c.in-Err.ensures task asks
 
 pub returns-in-Err-clause-runs : goal.returns-in-Err-clause-runs
-returns-in-Err-clause-runs g c = λ asks s set. (NoMemory, none_left (texts c.args.words.now) c.args.settings.now c.in-Err.status c.in-Err.ensures command.Run asks s set, λ input start held source sink site none. ended_unstarted input start held _ _ _ _ _ source sink site none)
+returns-in-Err-clause-runs g c = λ asks s set. (NoMemory, none_left (texts c.args.words.now) c.args.settings.now c.in-Err.status c.in-Err.ensures command.Run asks s set, λ input start held s source sink site none. ended_unopened input start held s _ _ _ _ _ source sink site)
 
 pub returns-in-Err-clause-checks : goal.returns-in-Err-clause-checks
 returns-in-Err-clause-checks g c = λ asks s set. (NoMemory, none_left (texts c.args.words.now) c.args.settings.now c.in-Err.status c.in-Err.ensures command.Check asks s set, λ input start source sink. check_unstarted input start _ _ source sink)

@@ -5,25 +5,25 @@ use Rattle.session_cli.proofs.serving.serve_pieces.Goals as goal
 
 pub loop-room-init : goal.loop-room-init
 loop-room-init g c = record {
-  going = λ input start held source sink site none. going_new c.args.session.now input start held _ _ _ _ _ c.requires.new source sink site none;
+  going = λ input start held schema source sink site new. going_new c.args.session.now input start held schema _ _ _ _ _ new source sink site;
   taking = λ input source. taking_new input _ source;
-  empty = c.requires.new.output;
+  empty = c.requires.empty;
   within = lit≤ tt;
   space = c.requires.room;
   read = search rules;
   write = search rules;
 }
 
-pub returns-in_default-clause-runs : goal.returns-in_default-clause-runs
-returns-in_default-clause-runs g c = λ input start held source sink site none.
-    ended_source _ input c.loop-room.room _ _ _ _ _ _ c.loop-room.session c.loop-room.invariant.empty c.loop-room-test.true c.in_default.ensures.bytes (c.loop-room.invariant.going input start held source sink site none)
+pub returns-in_default-clause-serves : goal.returns-in_default-clause-serves
+returns-in_default-clause-serves g c = λ input start held schema source sink site new.
+    ended_source _ input c.loop-room.room _ _ _ _ _ _ c.loop-room.session c.loop-room.invariant.empty c.loop-room-test.true c.in_default.ensures.bytes (c.loop-room.invariant.going input start held schema source sink site new)
 
 pub returns-in_default-clause-takes : goal.returns-in_default-clause-takes
 returns-in_default-clause-takes g c = λ input source. taken_failed input c.loop-room.room _ _ c.loop-room-test.true c.in_default.ensures.bytes (c.loop-room.invariant.taking input source)
 
-pub returns-in-Ok-finish-clause-runs : goal.returns-in-Ok-finish-clause-runs
-returns-in-Ok-finish-clause-runs g c = λ input start held source sink site none.
-    let going = c.loop-room.invariant.going input start held source sink site none in
+pub returns-in-Ok-finish-clause-serves : goal.returns-in-Ok-finish-clause-serves
+returns-in-Ok-finish-clause-serves g c = λ input start held schema source sink site new.
+    let going = c.loop-room.invariant.going input start held schema source sink site new in
     ended_all _ input c.loop-room.room _ _ _ _ _ _ _ _ _ _ c.loop-room.session c.take.new.buf c.in-Ok.count c.if-count-eq0.true c.loop-room-test.true
     (has_room c.take.new.buf c.loop-room.piece c.min-want.result c.loop-room.room c.min-want.ensures c.take.auto.buf c.loop-room-test.true c.loop-room.invariant.space) c.in-Ok.ensures.bytes going
     (c.in-Ok-finish.ensures.serves _ going.taking.given going.serving)
@@ -34,17 +34,17 @@ returns-in-Ok-finish-clause-takes g c = λ input source.
     (has_room c.take.new.buf c.loop-room.piece c.min-want.result c.loop-room.room c.min-want.ensures c.take.auto.buf c.loop-room-test.true c.loop-room.invariant.space) c.in-Ok.ensures.bytes
     (c.loop-room.invariant.taking input source)
 
-pub returns-in-Err-clause-runs : goal.returns-in-Err-clause-runs
-returns-in-Err-clause-runs g c = λ input start held source sink site none.
-    let going = c.loop-room.invariant.going input start held source sink site none in
+pub returns-in-Err-clause-serves : goal.returns-in-Err-clause-serves
+returns-in-Err-clause-serves g c = λ input start held schema source sink site new.
+    let going = c.loop-room.invariant.going input start held schema source sink site new in
     ended_unwritten _ input c.loop-room.room _ _ _ _ _ _ _ _ _ _ c.loop-room.session c.take.new.buf c.in-Ok.count c.if-count-eq0.true c.in-Ok.ensures.bytes going (c.in-Err.ensures.serves _ going.taking.given going.serving)
 
 pub returns-in-Err-clause-takes : goal.returns-in-Err-clause-takes
 returns-in-Err-clause-takes g c = λ input source. taken_unwritten input c.loop-room.room _ _ c.take.new.buf c.in-Ok.count c.if-count-eq0.true c.in-Ok.ensures.bytes (c.loop-room.invariant.taking input source)
 
-pub returns-in_default-feed-clause-runs : goal.returns-in_default-feed-clause-runs
-returns-in_default-feed-clause-runs g c = λ input start held source sink site none.
-    let going = c.loop-room.invariant.going input start held source sink site none in
+pub returns-in_default-feed-clause-serves : goal.returns-in_default-feed-clause-serves
+returns-in_default-feed-clause-serves g c = λ input start held schema source sink site new.
+    let going = c.loop-room.invariant.going input start held schema source sink site new in
     let bytes = take c.in-Ok.count (c.take.new.buf ++ drop c.min-want.result c.loop-room.piece) in
     let are : bytes ≡ take c.in-Ok.count c.take.new.buf = take-append-le c.in-Ok.count c.take.new.buf (drop c.min-want.result c.loop-room.piece) c.in-Ok.ensures.bound in
     ended_in_piece _ input c.loop-room.room _ _ _ _ _ _ _ _ _ _ _ c.loop-room.session c.take.new.buf bytes c.in-Ok.count are (ap length are ∙ length-take-le c.in-Ok.count c.take.new.buf c.in-Ok.ensures.bound)
@@ -65,8 +65,8 @@ loop-room-preserved g c =
     let are : bytes ≡ take c.in-Ok.count c.take.new.buf = take-append-le c.in-Ok.count c.take.new.buf (drop c.min-want.result c.loop-room.piece) c.in-Ok.ensures.bound in
     let within : c.in-Ok.count ≤ c.loop-room.room = fits_room c.take.new.buf c.loop-room.piece c.min-want.result c.loop-room.room c.in-Ok.count c.min-want.ensures c.take.auto.buf c.in-Ok.ensures.bound in
     record {
-      going = λ input start held source sink site none.
-          let going = c.loop-room.invariant.going input start held source sink site none in
+      going = λ input start held schema source sink site new.
+          let going = c.loop-room.invariant.going input start held schema source sink site new in
           going_on _ input c.loop-room.room _ _ _ _ _ _ _ _ _ _ _ c.loop-room.session _ c.take.new.buf bytes c.in-Ok.count are (ap length are ∙ length-take-le c.in-Ok.count c.take.new.buf c.in-Ok.ensures.bound)
           within refl c.in-Ok.ensures.bytes going (c.in-Ok-feed.ensures.serves _ going.taking.given going.serving);
       taking = λ input source.
@@ -79,9 +79,9 @@ loop-room-preserved g c =
       write = search rules;
     }
 
-pub returns-clause-runs : goal.returns-clause-runs
-returns-clause-runs g c = λ input start held source sink site none.
-    ended_long _ input c.loop-room.room _ _ _ _ _ c.loop-room.session c.loop-room.invariant.empty c.loop-room-test.false (c.loop-room.invariant.going input start held source sink site none)
+pub returns-clause-serves : goal.returns-clause-serves
+returns-clause-serves g c = λ input start held schema source sink site new.
+    ended_long _ input c.loop-room.room _ _ _ _ _ c.loop-room.session c.loop-room.invariant.empty c.loop-room-test.false (c.loop-room.invariant.going input start held schema source sink site new)
 
 pub returns-clause-takes : goal.returns-clause-takes
 returns-clause-takes g c = λ input source. taken_long input c.loop-room.room _ c.loop-room-test.false (c.loop-room.invariant.taking input source)

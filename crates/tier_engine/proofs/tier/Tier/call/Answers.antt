@@ -1,6 +1,9 @@
-use Rattle.std.proofs.Common.{sym, ◌∙◌, ap, not}
-use Rattle.tier_engine.proofs.ServingLaws.{drain_part, some_of}
+use Rattle.std.proofs.Common.{sym}
+use Rattle.tier_engine.proofs.ServingLaws.{call_refused, drain_part}
 use Rattle.tier_engine.proofs.tier.Tier.call.Goals as goal
 
-pub returns-clause-step : goal.returns-clause-step
-returns-clause-step g c = drain_part _ _ _ _ _ _ _ _ _ c.args.call.now (some_of _ (c.is_none.ensures ∙ ap not c.if-is_none.false)) (sym c.is_drain.ensures ∙ c.if-not-is_drain.false) c.drain.ensures.step c.drain.ensures.cause
+pub returns-in-Some-clause-step : goal.returns-in-Some-clause-step
+returns-in-Some-clause-step g c = call_refused _ _ _ _ _ c.args.call c.in-Some.rule c.requires (sym c.in-Some.ensures) c.refuses.ensures
+
+pub returns-in-None-clause-step : goal.returns-in-None-clause-step
+returns-in-None-clause-step g c = drain_part _ _ _ _ _ _ _ _ _ c.args.call c.requires (sym c.in-None.ensures) c.drain.ensures.step c.drain.ensures.cause

@@ -1,0 +1,92 @@
+-- What stands when the tier was opened.
+use Rattle.std.proofs.Common.{◌≡◌, ℕ, List, [], ◌∷◌, ◌++◌, Option, Some, None, Bool, true, false, not, cond, refl, sym, ◌∙◌, ap, subst, arith}
+use Rattle.std.specs.Prelude.{◌^◌, Result, Ok, Err}
+use Rattle.std.specs.List.{filter}
+use Rattle.std.specs.Option.{option_and_then, IfSome}
+use Rattle.std.proofs.lemmas.List.{append-nil}
+use Rattle.table_state.specs.declared.definition.TableDef.{TableDef}
+use Rattle.table_state.specs.declared.history.Entry.{Entry}
+use Rattle.table_state.specs.declared.history.Entry.TheVariants.{Definition, Foreign, Own}
+use Rattle.table_state.specs.declared.history.Sealed.{Sealed}
+use Rattle.table_state.specs.Tables.{TableState}
+use Rattle.table_state.specs.Histories.{state_of}
+use Rattle.outside.specs.Bank.{TellsSchema}
+use Rattle.outside.specs.Calls.{Told, BankCall}
+use Rattle.outside.specs.Holding.{Held}
+use Rattle.outside.specs.declared.fault.BankError.{BankError}
+use Rattle.tier_engine.specs.declared.tier.Tier.{Tier}
+use Rattle.tier_engine.specs.declared.tier.Group.{Group}
+use Rattle.tier_engine.specs.declared.tier.Session.{Session}
+use Rattle.tier_engine.specs.Commits.{applied_sealed, in_commit_order, is_other, own_entries, virtual_state}
+use Rattle.tier_engine.specs.TierStates.{opened}
+use Rattle.tier_engine.specs.Standing.{AreApart, Begins, HasOwnKeys, ShowAll, StandsFor, tier_state}
+use Rattle.tier_engine.proofs.BankSteps.{WholeLaw, history_whole}
+
+-- the tier as it is opened
+pub record IsNew (t : Tier) (schema : List TableDef) : Type 0 where
+  pub known : t.known ≡ Some schema
+  pub groups : t.groups.items ≡ []
+  pub session : t.session ≡ None
+  pub unsettled : t.unsettled.items ≡ []
+  pub next : t.next ≡ 1
+
+-- all entries of a history are others for a list without transactions
+all_others : (h : List Entry) → filter (is_other []) h ≡ h
+all_others [] = refl
+all_others (Definition def ∷ h) = ap (λ l. Definition def ∷ l) (all_others h)
+all_others (Foreign ops ∷ h) = ap (λ l. Foreign ops ∷ l) (all_others h)
+all_others (Own ticket ops ∷ h) = ap (λ l. Own ticket ops ∷ l) (all_others h)
+
+stands_new : WholeLaw → (t : Tier) (schema : List TableDef) (h : List Entry) (s : TableState) → IsNew t schema → state_of h ≡ Some s → own_entries h ≡ [] → schema ≡ s.schema → StandsFor t [] h
+stands_new law t schema h s x is owns same =
+    let none : own_entries h ≡ [] = owns in
+    record {
+      rise = let n : t.next ≡ 1 = x.next in Prim.omega arith;
+      last = let n : t.next ≡ 1 = x.next in Prim.omega arith;
+      came = 0;
+      received = 0;
+      owns = none;
+      within = Prim.omega arith;
+      at_least = Prim.omega arith;
+      at_most = Prim.omega arith;
+      rest = x.unsettled;
+      ordered = ap (λ l. state_of (l ++ [])) (all_others h) ∙ ap state_of (append-nil h);
+      base = s;
+      virtual = ap (option_and_then (applied_sealed [])) is;
+      whole = history_whole law h s is;
+      knows = subst (λ (o : Option (List TableDef)). IfSome o (λ defs. defs ≡ s.schema)) (sym x.known) same;
+      top = s;
+      over = ap (λ (o : Option Session). Rattle.table_state.specs.Operations.applied_all (Rattle.tier_engine.specs.Standing.own_in o) s) x.session;
+      logged = refl;
+      writing = ap (λ (o : Option Session). Rattle.std.specs.List.list_all (Rattle.tier_engine.specs.Standing.is_stored t.groups.items) (Rattle.tier_engine.specs.Standing.own_in o)) x.session;
+      shows = subst (λ (gs : List Group). ShowAll s [] (Rattle.tier_engine.specs.Standing.own_in t.session) gs) (sym x.groups) tt;
+      apart = subst AreApart (sym x.groups) tt;
+      keys = subst (λ (o : Option Session). HasOwnKeys t.groups.items o) (sym x.session) tt;
+    }
+
+state_new : (t : Tier) (schema : List TableDef) (s : TableState) → IsNew t schema → schema ≡ s.schema → tier_state t [] ≡ opened s.schema
+state_new t schema s x same =
+    let known : t.known ≡ Some s.schema = x.known ∙ ap (λ l. Some l) same in
+    λ i. record {
+      known = known i;
+      groups = Rattle.std.proofs.Common.map (Rattle.tier_engine.specs.Standing.group_state (Rattle.tier_engine.specs.Standing.own_in t.session)) (x.groups i);
+      session = Rattle.tier_engine.specs.Standing.session_in (x.session i);
+      log = [];
+      unsettled = x.unsettled i;
+      next = x.next i;
+    }
+
+-- The tier was opened.
+pub begins_told : WholeLaw → (before now : Option Held) (t : Tier) (schema : List TableDef) → IsNew t schema → Told before now (BankCall (TellsSchema (Ok schema))) → Told before now (BankCall (Begins (Ok t)))
+begins_told law None now t schema x e = tt
+begins_told law (Some old) None t schema x e = e
+begins_told law (Some old) (Some new) t schema x e = record {
+  slots = e.slots;
+  history = (e.history.0, λ s is owns. let same = e.history.1 s is in (stands_new law t schema new.history s x is owns same, state_new t schema s x same));
+}
+
+-- It wasn't.
+pub begins_failed : (before now : Option Held) (error : BankError) → Told before now (BankCall (TellsSchema (Err error))) → Told before now (BankCall (Begins (Err error)))
+begins_failed None now error e = tt
+begins_failed (Some old) None error e = e
+begins_failed (Some old) (Some new) error e = record { slots = e.slots; history = e.history }

@@ -1,0 +1,42 @@
+-- Which tickets stand in a history, by its own entries alone.
+use Rattle.std.proofs.Common.{◌≡◌, ℕ, zero, suc, ◌+◌, ◌≤◌, ◌<◌, List, [], ◌∷◌, ◌++◌, Bool, true, false, ◌||◌, not, cond, nat_eq, map, take, drop, length, Option, Some, None, refl, sym, ◌∙◌, ap, arith, append_assoc}
+use Rattle.std.specs.List.{filter}
+use Rattle.std.specs.Option.{option_and_then}
+use Rattle.std.proofs.lemmas.List.{map-append, take-append-drop}
+use Rattle.std.proofs.lemmas.List.Elements.{filter-append}
+use Rattle.table_state.specs.declared.history.Entry.{Entry}
+use Rattle.table_state.specs.declared.history.Entry.TheVariants.{Definition, Foreign, Own}
+use Rattle.table_state.specs.declared.history.Sealed.{Sealed}
+use Rattle.table_state.specs.Histories.{has_ticket, entry_of}
+use Rattle.tier_engine.specs.Commits.{RiseBetween, pending, own_entries, is_own}
+use Rattle.tier_engine.proofs.CommitLaws.{pending_front}
+
+-- only own entries have tickets
+pub own_ticket : (t : ℕ) (h : List Entry) → has_ticket t h ≡ has_ticket t (own_entries h)
+own_ticket t [] = refl
+own_ticket t (Definition def ∷ h) = own_ticket t h
+own_ticket t (Foreign ops ∷ h) = own_ticket t h
+own_ticket t (Own ticket ops ∷ h) = ap (λ b. nat_eq ticket.0 t || b) (own_ticket t h)
+
+-- what is pending goes by the tickets alone
+pub same_pending : (h h' : List Entry) (log : List Sealed) → ((t : ℕ) → has_ticket t h ≡ has_ticket t h') → pending h log ≡ pending h' log
+same_pending h h' [] same = refl
+same_pending h h' (s ∷ log) same =
+    ap (λ b. cond (not b) (s ∷ pending h log) (pending h log)) (same s.ticket.0) ∙ ap (λ l. cond (not (has_ticket s.ticket.0 h')) (s ∷ l) l) (same_pending h h' log same)
+
+-- the tickets of a history that has just this front of the log
+pub front_tickets : (h : List Entry) (log : List Sealed) (n : ℕ) → own_entries h ≡ map entry_of (take n log) → (t : ℕ) → has_ticket t h ≡ has_ticket t (map entry_of (take n log))
+front_tickets h log n owns t = own_ticket t h ∙ ap (has_ticket t) owns
+
+-- what is pending of the log is what isn't of the front
+pub front_pending : (h : List Entry) (low n : ℕ) (log : List Sealed) (high : ℕ) → own_entries h ≡ map entry_of (take n log) → RiseBetween low log high → pending h log ≡ drop n log
+front_pending h low n log high owns rise =
+    same_pending h (map entry_of (take n log)) log (front_tickets h log n owns) ∙ pending_front [] low n log high (λ t l. refl) rise
+
+own_all : (log : List Sealed) → own_entries (map entry_of log) ≡ map entry_of log
+own_all [] = refl
+own_all (s ∷ log) = ap (λ l. entry_of s ∷ l) (own_all log)
+
+-- own entries behind a history
+pub own_behind : (h : List Entry) (log : List Sealed) → own_entries (h ++ map entry_of log) ≡ own_entries h ++ map entry_of log
+own_behind h log = filter-append is_own h (map entry_of log) ∙ ap (λ l. own_entries h ++ l) (own_all log)
