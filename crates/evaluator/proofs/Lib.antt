@@ -1,7 +1,9 @@
 pub mod CapLaws
 pub mod CascadeLaws
+pub mod ChildSteps
 pub mod ConditionLaws
 pub mod QueryLaws
 pub mod QueryOrder
 pub mod RuleLaws
+pub mod TallyLaws
 pub mod WriteLaws

@@ -10,10 +10,9 @@ use Rattle.table_state.specs.declared.definition.TableDef.{TableDef}
 use Rattle.table_state.specs.declared.definition.ForeignKey.{ForeignKey}
 use Rattle.table_state.specs.declared.operation.Op.{Op}
 use Rattle.table_state.specs.declared.operation.Op.TheVariants.{Delete}
-use Rattle.table_state.specs.Declarations.{foreign_places}
 use Rattle.table_state.specs.Names.{table_id}
 use Rattle.table_state.specs.Tables.{TableState, key_of, table_at}
-use Rattle.table_scan.specs.Keyed.{has_key}
+use Rattle.table_scan.specs.Children.{refers_to}
 
 -- the foreign key refers to this table, and its rows leave with the parent's
 abbrev pub cascades_from : TableId → Option ForeignKey → Bool
@@ -32,11 +31,6 @@ children_from parent place (def ∷ defs) = child_at parent place def ++ childre
 abbrev pub key_in : Option TableDef → List Value → List Value
 key_in None row = []
 key_in (Some def) row = key_of def.primary_key row
-
--- whether a row of this table refers to the key
-abbrev pub refers_to : List Value → Option TableDef → List Value → Bool
-refers_to key None row = false
-refers_to key (Some def) row = has_key (foreign_places def.foreign_key) key row
 
 -- the rows of a table that refer to the key, in key order
 abbrev pub referring : TableState → List Value → TableId → List (List Value)

@@ -5,3 +5,7 @@ pub mod Rules
 pub mod Walking
 pub mod KeyPaths
 pub mod Cascades
+pub mod Aggregates
+pub mod Summaries
+pub mod Sums
+pub mod Tallies

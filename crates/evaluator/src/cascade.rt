@@ -1,18 +1,14 @@
 //! Deletions with ON DELETE CASCADE.
 
 ghost use Rattle.std.specs.Prelude.{◌≡◌, IfOk, OnOk, option_copied, option_to_list};
-ghost use Rattle.row_types.specs.Order.{order_of};
-ghost use Rattle.std.specs.Ordering.{is_eq};
-ghost use Rattle.table_state.specs.Declarations.{foreign_places};
+ghost use Rattle.std.specs.List.{flat_map};
 ghost use Rattle.table_state.specs.Names.{table_id};
-ghost use Rattle.table_state.specs.Refusals.{value_at};
 ghost use Rattle.table_state.specs.declared.operation.Op.TheVariants as op;
-ghost use Rattle.table_scan.specs.Keyed.{has_key};
 ghost use Rattle.evaluator.specs.Capping.{extended, put};
-ghost use Rattle.evaluator.specs.Cascades.{cascades_from, child_at, children_from, deleted, key_in, refers_to};
+ghost use Rattle.evaluator.specs.Cascades.{cascades_from, child_at, children_from, deleted, key_in, referring};
 
 use crate::capped::Capped;
-use row_types::{Key, Row, Value, order};
+use row_types::{Key, Row};
 use std::alloc::{AllocError, Global};
 use table_scan::Scan;
 use table_state::{ForeignKey, Op, TableDef, key_of_row};
@@ -20,6 +16,7 @@ use tier_base::TableId;
 
 /// Puts the deletion of a row behind `out`, and before it those of the rows that leave with it by ON DELETE CASCADE.
 /// It goes at most `depth` tables deep.
+#[cycle(cascade)]
 pub fn delete_row<S: Scan>(
     alloc: Global,
     depth: usize,
@@ -37,19 +34,38 @@ pub fn delete_row<S: Scan>(
     let key = key_in(alloc, schema.get(table.0 as usize), row)?;
     let children = children_of(alloc, schema.as_slice(), table)?;
     for child in children.as_slice() {
-        let def = schema.get(child.0 as usize);
-        for place in 0..scan.len(*child) {
-            match scan.row(*child, place) {
-                None => {}
-                Some(below) => {
-                    if refers_to(&key, def, below) {
-                        delete_row(alloc, depth - 1, scan, *child, below, out)?;
-                    }
+        delete_children(alloc, depth - 1, scan, *child, &key, out)?;
+    }
+    push_deletion(alloc, table, row, out)
+}
+
+// Puts the deletions of the rows of a table that refer to the key behind `out`.
+#[cycle(cascade)]
+fn delete_children<S: Scan>(
+    alloc: Global,
+    depth: usize,
+    scan: &S,
+    child: TableId,
+    key: &Key,
+    out: &mut Capped<Op>,
+) -> Result<(), AllocError>
+    ensures { OnOk result (out.new ≡ extended out.old (flat_map (deleted depth (S.state scan.now) child) (referring (S.state scan.now) key.now child))) }
+{
+    let mut from: usize = 0;
+    let end = scan.len(child);
+    while from < end {
+        match scan.child(child, key, from) {
+            None => return Ok(()),
+            Some(place) => {
+                match scan.row(child, place) {
+                    None => {}
+                    Some(row) => delete_row(alloc, depth, scan, child, row, out)?,
                 }
+                from = place + 1;
             }
         }
     }
-    push_deletion(alloc, table, row, out)
+    Ok(())
 }
 
 fn push_deletion(
@@ -125,46 +141,4 @@ fn cascades_from(parent: TableId, foreign_key: &Option<ForeignKey>) -> bool
         None => false,
         Some(foreign) => foreign.cascade && foreign.parent.0 == parent.0,
     }
-}
-
-// Whether a row of this table refers to the key.
-fn refers_to(key: &Key, def: Option<&TableDef>, row: &Row) -> bool
-    ensures { result ≡ refers_to key.now (option_copied def.entry) row.now }
-{
-    match def {
-        None => false,
-        Some(def) => has_key(foreign_places(&def.foreign_key), key.values(), row.values()),
-    }
-}
-
-fn foreign_places(foreign_key: &Option<ForeignKey>) -> &[usize]
-    ensures { result.now ≡ foreign_places foreign_key.now }
-{
-    match foreign_key {
-        None => &[],
-        Some(foreign) => foreign.columns.as_slice(),
-    }
-}
-
-/// Whether the row has this key at these places.
-pub fn has_key(places: &[usize], key: &[Value], row: &[Value]) -> bool
-    ensures { result ≡ has_key places.now key.now row.now }
-{
-    match (places.split_first(), key.split_first()) {
-        (None, None) => true,
-        (Some((place, places)), Some((value, key))) => {
-            has_value(row, *place, value) && has_key(places, key, row)
-        }
-        _ => false,
-    }
-}
-
-fn has_value(row: &[Value], place: usize, value: &Value) -> bool
-    ensures { result ≡ is_eq (order_of (value_at row.now place) value.now) }
-{
-    let found = match row.get(place) {
-        None => order(&Value::Null, value),
-        Some(found) => order(found, value),
-    };
-    found.is_eq()
 }

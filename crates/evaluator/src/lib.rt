@@ -2,6 +2,7 @@
 #![tactic(auto)]
 
 pub mod accumulator;
+pub mod aggregate;
 pub mod beside;
 pub mod building;
 pub mod capped;
@@ -13,10 +14,17 @@ pub mod ordering;
 pub mod plan;
 pub mod refusing;
 pub mod selecting;
+pub mod summing;
+pub mod tallies;
 pub mod writing;
 
+pub use aggregate::Aggregate;
 pub use capped::Capped;
 pub use change::{Action, Change};
 pub use plan::{Found, Plan};
 pub use selecting::select;
+pub use summing::summarize;
 pub use writing::effects;
+
+#[cfg(test)]
+mod tests;

@@ -1,3 +1,4 @@
+pub mod ChildLaws
 pub mod EmptyTables
 pub mod KeyLaws
 pub mod KeyedLaws
