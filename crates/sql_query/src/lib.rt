@@ -12,3 +12,6 @@ pub use expression::{Expression, ExpressionNode};
 pub use literal::{IntegerLiteral, Literal};
 pub use query::{Aggregate, FromTable, OrderItem, Query, SelectList};
 pub use write::{Assignment, Delete, Insert, Update, Write};
+
+#[cfg(test)]
+mod tests;
