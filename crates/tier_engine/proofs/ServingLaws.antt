@@ -175,6 +175,13 @@ session_here t log label e = by_session (tier_state t log).session e
     by_session None p = refl
     by_session (Some s) p = by_name s (is_named s.label label) p
 
+pub open_some : (t : Tier) (log : List Sealed) (label : List ℕ) → is_some (session_of (tier_state t log) label) ≡ true → IsSome t.session
+open_some t log label e = by_session t.session e
+  where
+    by_session : (o : Option Session) → is_some (option_and_then (λ s. cond (is_named s.label label) (Some s) None) (session_in o)) ≡ true → IsSome o
+    by_session None p = Prim.cc
+    by_session (Some s) p = refl
+
 pub no_session : (t : Tier) (log : List Sealed) (label : List ℕ) → is_some (session_of (tier_state t log) label) ≡ false → session_of (tier_state t log) label ≡ None
 no_session t log label e = by_option (session_of (tier_state t log) label) e
   where
