@@ -21,6 +21,7 @@ use outside::Site;
 use row_types::{Detail, Refused, Row, Rule};
 use sql_subset::stmt::{Insert, Literal, Select};
 use std::alloc::Global;
+use table_state::laws::refusal_law;
 use tier_base::{Code, Name, Seq};
 
 impl Tier {
@@ -43,7 +44,10 @@ impl Tier {
             Ok(row) => match self.put_at(alloc, place, row) {
                 Err(Refused::Rule(rule)) => Reply::refuses(alloc, rule),
                 Err(Refused::Memory) => Reply::faulty(alloc, Code::Memory),
-                Ok(asked) => self.settle_put(alloc, site, asked),
+                Ok(asked) => {
+                    refusal_law();
+                    self.settle_put(alloc, site, asked)
+                }
             },
         }
     }

@@ -1,0 +1,24 @@
+use Rattle.std.proofs.Common.{◌<◌, ◌≡◌, ◌∙◌, List, Option, Some, length, ap, subst, sym, ℕ}
+use Rattle.std.specs.List.{slice_get}
+use Rattle.std.specs.Option.{IfSome}
+use Rattle.std.proofs.lemmas.Option.{slice_get-get_or}
+use Rattle.row_types.specs.declared.rule.Rule.{Rule}
+use Rattle.tier_engine.specs.Answers.{only}
+use Rattle.tier_engine.specs.Storing.{place_named}
+use Rattle.tier_engine.specs.declared.reply.Last.TheVariants.{No}
+use Rattle.tier_engine.specs.declared.tier.Group.{Group}
+use Rattle.tier_engine.proofs.SelectSteps.{select_rows_step, select_unknown}
+use Rattle.tier_engine.proofs.tier.Tier.select.Goals as goal
+
+pub returns-in-None : goal.returns-in-None
+returns-in-None c = record {
+  step = λ log history stands.
+      select_unknown c.args.self.now log history c.args.select c.refuses.result c.requires ?
+      (c.refuses.ensures ∙ ap (λ (rule : Rule). only (No rule)) c.unknown_table.ensures) stands;
+}
+
+pub returns-in-Ok : goal.returns-in-Ok
+returns-in-Ok c = record {
+  step = λ log history stands.
+      select_rows_step c.args.self.now log history c.args.select c.in-Ok.reply c.in-Some.place c.index-group.result.rows c.requires ? ? c.in-Ok.ensures stands;
+}
