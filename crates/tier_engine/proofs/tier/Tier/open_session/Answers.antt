@@ -9,5 +9,5 @@ pub returns-in-Ok : goal.returns-in-Ok
 returns-in-Ok c = record {
   step = λ log history stands.
       opens_turns c.args.self.now _ log history c.args.label c.args.options c.done.result refl refl refl refl
-      (λ i. Some (record { label = c.in-Ok.ensures.taken i; own = c.new-own.ensures i; keys = c.new-keys.ensures i })) c.in-Ok.ensures.sound c.done.ensures stands;
+      (λ i. Some (record { label = c.in-Ok.ensures.taken i; own = c.new.ensures i; keys = c.new-in-Ok.ensures i })) c.in-Ok.ensures.sound c.done.ensures stands;
 }
