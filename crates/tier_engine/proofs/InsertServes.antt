@@ -1,11 +1,11 @@
 -- An INSERT is refused without a call, or answered as the bank says.
-use Rattle.std.proofs.Common.{◌≡◌, ◌≤◌, ◌⊎◌, ℕ, zero, suc, List, [], ◌∷◌, ◌++◌, map, Option, Some, None, Bool, true, false, cond, refl, sym, ◌∙◌, ap, subst, inl, inr}
+use Rattle.std.proofs.Common.{◌≡◌, ◌⊎◌, ℕ, zero, suc, List, [], ◌∷◌, Option, Some, None, Bool, true, false, cond, refl, sym, ◌∙◌, ap, subst, inl, inr}
 use Rattle.std.specs.Prelude.{Result, Ok, Err}
 use Rattle.std.specs.Bool.{MatchBool}
 use Rattle.std.specs.List.{slice_get, slice_set}
 use Rattle.std.specs.Option.{option_and_then, option_or, IsSome}
 use Rattle.std.specs.Result.{IsErrOf}
-use Rattle.std.specs.FinMap.{contains_key, insert, len}
+use Rattle.std.specs.FinMap.{contains_key, len}
 use Rattle.row_types.specs.declared.value.Value.{Value}
 use Rattle.row_types.specs.declared.rule.Rule.{Rule}
 use Rattle.row_types.specs.declared.rule.Refused.{Refused}
@@ -13,7 +13,6 @@ use Rattle.tier_base.specs.declared.code.Code.TheVariants as code
 use Rattle.tier_base.specs.declared.limit.Limit.TheVariants as limit
 use Rattle.table_state.specs.declared.definition.TableDef.{TableDef}
 use Rattle.table_state.specs.declared.operation.Op.{Op}
-use Rattle.table_state.specs.declared.operation.Op.TheVariants.{Insert}
 use Rattle.table_state.specs.declared.history.Entry.{Entry}
 use Rattle.table_state.specs.declared.history.Sealed.{Sealed}
 use Rattle.table_state.specs.Refusals.{misfit}
@@ -32,14 +31,13 @@ use Rattle.tier_engine.specs.declared.tier.Tier.{Tier}
 use Rattle.tier_engine.specs.declared.tier.Group.{Group}
 use Rattle.tier_engine.specs.declared.tier.Session.{Session}
 use Rattle.tier_engine.specs.LiteralValues.{values_of}
-use Rattle.tier_engine.specs.TierStates.{TierState, SessionState, GroupState, seen_rows}
-use Rattle.tier_engine.specs.Refusals.{at_limit, insert_fault, key_taken, row_fault, rule_in, takes_all, unknown_table, values_fault}
+use Rattle.tier_engine.specs.TierStates.{SessionState, GroupState, seen_rows}
+use Rattle.tier_engine.specs.Refusals.{at_limit, insert_fault, key_taken, rule_in, takes_all, unknown_table, values_fault}
 use Rattle.tier_engine.specs.Answers.{only, faulty, refuses}
-use Rattle.tier_engine.specs.Steps.{World, Finds, Inserts, InsertsUnless, Puts as PutsRow, PutsValues, Quiet, TellsBankFault, WantsMemory, bank_fault}
+use Rattle.tier_engine.specs.Steps.{World, Finds, Inserts, InsertsUnless, PutsValues, Quiet, TellsBankFault, WantsMemory}
 use Rattle.tier_engine.specs.Storing.{IsPut, IsSame, Puts, Settles, SettlesTier, StaysBeside, place_named}
-use Rattle.tier_engine.specs.Standing.{InOpen, Made, ServesPart, StandsFor, group_state, ops_of, own_in, session_in, session_state, tier_state, world_of}
+use Rattle.tier_engine.specs.Standing.{InOpen, ServesPart, StandsFor, group_state, ops_of, own_in, session_in, session_state, tier_state, world_of}
 use Rattle.tier_engine.proofs.InsertSteps.{AppliesLaw, HasPut}
-use Rattle.tier_engine.proofs.PutLaws.{with_rows}
 use Rattle.tier_engine.proofs.SelectSteps.{IsOpen, is_open, opened_step, refuses_quiet}
 use Rattle.tier_engine.proofs.ServingLaws.{no_refusal, no_memory}
 use Rattle.tier_engine.proofs.SettleSteps.{insert_settled}
@@ -78,10 +76,10 @@ pub insert_unknown : (before : Option Held) (f m : ℕ) (t : Tier) (i : OneInser
 insert_unknown before f m t i reply some none told =
     refused_part before f m t t i (unknown_table i.table) reply (record { known = refl; groups = refl; session = refl; unsettled = refl; next = refl }) told
     (λ log h s.
-        let o = is_open t some in
-        let w = world_of t log h f m in
-        opened_step t (statement.Insert i) w w reply o
-        (subst (λ (g : Option GroupState). Inserts (session_state o.session) g i w w reply) (sym (not_found (own_in t.session) t.groups.items i.table none)) (refuses_quiet w (unknown_table i.table) reply told)))
+    let o = is_open t some in
+    let w = world_of t log h f m in
+    opened_step t (statement.Insert i) w w reply o
+    (subst (λ (g : Option GroupState). Inserts (session_state o.session) g i w w reply) (sym (not_found (own_in t.session) t.groups.items i.table none)) (refuses_quiet w (unknown_table i.table) reply told)))
 
 -- memory was wanting
 pub insert_memory : (before : Option Held) (f m : ℕ) (t t' : Tier) (i : OneInsert) (reply : Reply) → IsSame t t' → reply ≡ faulty code.Memory → ServesPart before before f f m m t t' reply (λ w w'. Does i reply w w')
@@ -109,9 +107,11 @@ at_place t log h f m w' s o i place reply there step =
     let mine : own ≡ o.session.own = ap own_in o.is in
     opened_step t (statement.Insert i) w w' reply o
     (subst (λ (y : Option GroupState). Inserts (session_state o.session) y i w w' reply) (sym found.found)
-        (subst (λ (l : List Op). Inserts (session_state (record o.session { own = l })) (Some (group_state own g)) i w w' reply) mine
-            (s.top, sees_top t log h s,
-            subst (λ (T : Table). InsertsUnless (insert_fault g.def own i.values T) (session_state (record o.session { own = own })) (group_state own g) i.values T w w' reply) (sym stored) (step g found.there))))
+    (subst (λ (l : List Op). Inserts (session_state (record o.session { own = l })) (Some (group_state own g)) i w w' reply) mine (
+      s.top,
+      sees_top t log h s,
+      subst (λ (T : Table). InsertsUnless (insert_fault g.def own i.values T) (session_state (record o.session { own = own })) (group_state own g) i.values T w w' reply) (sym stored) (step g found.there),
+    )))
 
 -- the row or the statement is refused
 pub insert_refused : (before : Option Held) (f m : ℕ) (t : Tier) (i : OneInsert) (place : ℕ) (rule : Rule) (reply : Reply) → IsSome t.session → place_named t.groups.items i.table ≡ Some place
@@ -120,10 +120,10 @@ pub insert_refused : (before : Option Held) (f m : ℕ) (t : Tier) (i : OneInser
 insert_refused before f m t i place rule reply some there broken told =
     refused_part before f m t t i rule reply (record { known = refl; groups = refl; session = refl; unsettled = refl; next = refl }) told
     (λ log h s.
-        let o = is_open t some in
-        let w = world_of t log h f m in
-        at_place t log h f m w s o i place reply there
-        (λ g e. subst (λ (x : Option Rule). InsertsUnless x (session_state (record o.session { own = own_in t.session })) (group_state (own_in t.session) g) i.values g.rows w w reply) (sym (broken g e)) (refuses_quiet w rule reply told)))
+    let o = is_open t some in
+    let w = world_of t log h f m in
+    at_place t log h f m w s o i place reply there
+    (λ g e. subst (λ (x : Option Rule). InsertsUnless x (session_state (record o.session { own = own_in t.session })) (group_state (own_in t.session) g) i.values g.rows w w reply) (sym (broken g e)) (refuses_quiet w rule reply told)))
 
 -- what is asked of a row that nothing but its key refuses
 row_step : (t : Tier) (i : OneInsert) (row : List Value) (s : SessionState) (g : Group) (w w' : World) (reply : Reply) (taken : Bool) → insert_fault g.def (own_in t.session) i.values g.rows ≡ None → values_of i.values ≡ Some row
@@ -133,7 +133,7 @@ row_step : (t : Tier) (i : OneInsert) (row : List Value) (s : SessionState) (g :
 row_step t i row s g w w' reply taken sound values key step =
     subst (λ (x : Option Rule). InsertsUnless x s (group_state (own_in t.session) g) i.values g.rows w w' reply) (sym sound)
     (subst (λ (v : Option (List Value)). PutsValues s (group_state (own_in t.session) g) v g.rows w w' reply) (sym values)
-        (subst (λ (b : Bool). MatchBool b (Quiet w (refuses w.tier (key_taken g.def (key_of g.def.primary_key row))) w' reply) (Finds s (group_state (own_in t.session) g) row w w' reply)) (sym key) step))
+    (subst (λ (b : Bool). MatchBool b (Quiet w (refuses w.tier (key_taken g.def (key_of g.def.primary_key row))) w' reply) (Finds s (group_state (own_in t.session) g) row w w' reply)) (sym key) step))
 
 set_same : (groups : List Group) (place : ℕ) (g : Group) → slice_get groups place ≡ Some g → slice_set groups place g ≡ groups
 set_same [] place g e = Prim.cc
@@ -166,16 +166,16 @@ insert_taken before f m t t' i place row rule reply some there sound values puts
     let same : IsSame t t' = put_nothing t t' place at.group p.0 o.session p.1 at.there o.is puts.0 p.2 p.3 p.4.2 p.4.3 in
     refused_part before f m t t' i rule reply same told
     (λ log h s.
-        let w = world_of t log h f m in
-        let w' = world_of t' log h f m in
-        at_place t log h f m w' s o i place reply there
-        (λ g e.
-            let mine : Some at.group ≡ Some g = sym at.there ∙ e in
-            let is : at.group ≡ g = Prim.cc in
-            let key : contains_key g.rows (key_of g.def.primary_key row) ≡ true = subst (λ (x : Group). contains_key x.rows (key_of x.def.primary_key row) ≡ true) is p.4.0 in
-            let rule_is : rule ≡ key_taken g.def (key_of g.def.primary_key row) = p.4.1 ∙ ap (λ (x : Group). key_taken x.def (key_of x.def.primary_key row)) is in
-            row_step t i row (session_state (record o.session { own = own_in t.session })) g w w' reply true (sound g e) values key
-            (still_refuses t t' log h f m (key_taken g.def (key_of g.def.primary_key row)) reply same (told ∙ ap (λ (r : Rule). only (No r)) rule_is))))
+    let w = world_of t log h f m in
+    let w' = world_of t' log h f m in
+    at_place t log h f m w' s o i place reply there
+    (λ g e.
+    let mine : Some at.group ≡ Some g = sym at.there ∙ e in
+    let is : at.group ≡ g = Prim.cc in
+    let key : contains_key g.rows (key_of g.def.primary_key row) ≡ true = subst (λ (x : Group). contains_key x.rows (key_of x.def.primary_key row) ≡ true) is p.4.0 in
+    let rule_is : rule ≡ key_taken g.def (key_of g.def.primary_key row) = p.4.1 ∙ ap (λ (x : Group). key_taken x.def (key_of x.def.primary_key row)) is in
+    row_step t i row (session_state (record o.session { own = own_in t.session })) g w w' reply true (sound g e) values key
+    (still_refuses t t' log h f m (key_taken g.def (key_of g.def.primary_key row)) reply same (told ∙ ap (λ (r : Rule). only (No r)) rule_is))))
 
 -- memory was wanting for the row
 pub put_memory : (t t' : Tier) (i : OneInsert) (place : ℕ) (row : List Value) → IsSome t.session → place_named t.groups.items i.table ≡ Some place
@@ -194,24 +194,25 @@ or_first (Some x) b e = e
 fits : (def : TableDef) (own : List Op) (literals : List Literal) (rows : Table) (row : List Value) → insert_fault def own literals rows ≡ None → values_of literals ≡ Some row → option_and_then rule_in (misfit def.columns row) ≡ None
 fits def own literals rows row sound values = by_kinds (takes_all def.columns literals) sound
   where
-  of_row : values_fault def own (values_of literals) rows ≡ None → option_and_then rule_in (misfit def.columns row) ≡ None
-  of_row e = or_first (option_and_then rule_in (misfit def.columns row)) (option_or (at_limit limit.Operations _) (at_limit limit.Rows (len rows))) (sym (ap (λ (v : Option (List Value)). values_fault def own v rows) values) ∙ e)
-  by_kinds : (b : Bool) → cond b (values_fault def own (values_of literals) rows) (Some (record { code = code.TypeMismatch; detail = Rattle.row_types.specs.declared.rule.Detail.TheVariants.Nothing })) ≡ None → option_and_then rule_in (misfit def.columns row) ≡ None
-  by_kinds true e = of_row e
-  by_kinds false e = Prim.cc
+    of_row : values_fault def own (values_of literals) rows ≡ None → option_and_then rule_in (misfit def.columns row) ≡ None
+    of_row e = or_first (option_and_then rule_in (misfit def.columns row)) (option_or (at_limit limit.Operations _) (at_limit limit.Rows (len rows))) (sym (ap (λ (v : Option (List Value)). values_fault def own v rows) values) ∙ e)
+
+    by_kinds : (b : Bool) → cond b (values_fault def own (values_of literals) rows) (Some (record { code = code.TypeMismatch; detail = Rattle.row_types.specs.declared.rule.Detail.TheVariants.Nothing })) ≡ None → option_and_then rule_in (misfit def.columns row) ≡ None
+    by_kinds true e = of_row e
+    by_kinds false e = Prim.cc
 
 -- a fault of the bank is told where the call failed
 settled_cause : (before now : Option Held) (f f' m m' : ℕ) (t t' : Tier) (asked : Asked) (reply : Reply) → Settles before now f f' m m' t t' asked reply → TellsBankFault reply → Rose f f'
 settled_cause before now f f' m m' t t' asked reply s b = by_result s.result s.cause s.tier
   where
-  by_result : (r : Result (Option (List Value)) BankError) → (IsErrOf r Failed → Rose f f') → SettlesTier t t' asked r reply → Rose f f'
-  by_result (Ok None) cause x = absurd (done (subst TellsBankFault x.1 b))
-    where
-    done : TellsBankFault (only (Done 1)) → ⊥
-    done y = Prim.cc y.last
-  by_result (Ok (Some row)) cause x = absurd (no_refusal asked.taken (subst TellsBankFault x.1 b))
-  by_result (Err Failed) cause x = cause refl
-  by_result (Err Memory) cause x = absurd (no_memory (subst TellsBankFault x.1 b))
+    by_result : (r : Result (Option (List Value)) BankError) → (IsErrOf r Failed → Rose f f') → SettlesTier t t' asked r reply → Rose f f'
+    by_result (Ok None) cause x = absurd (done (subst TellsBankFault x.1 b))
+      where
+        done : TellsBankFault (only (Done 1)) → ⊥
+        done y = Prim.cc y.last
+    by_result (Ok (Some row)) cause x = absurd (no_refusal asked.taken (subst TellsBankFault x.1 b))
+    by_result (Err Failed) cause x = cause refl
+    by_result (Err Memory) cause x = absurd (no_memory (subst TellsBankFault x.1 b))
 
 -- the tier with the row put in
 has_put : (t t1 : Tier) (place : ℕ) (g : Group) (s : Session) (row : List Value) (asked : Asked) → slice_get t.groups.items place ≡ Some g → t.session ≡ Some s → StaysBeside t t1
@@ -250,11 +251,12 @@ insert_asked law before now f f' m m' t t1 t' i place row asked reply some there
       stands = x.stands;
       made = (
         inl (at_place t log held.history f m w' stands o i place reply there
-        (λ h e.
+            (λ h e.
             let same : Some g ≡ Some h = sym at.there ∙ e in
             let is : g ≡ h = Prim.cc in
             subst (λ (y : Group). InsertsUnless (insert_fault y.def own i.values y.rows) (session_state (record o.session { own = own })) (group_state own y) i.values y.rows w w' reply) is
             (row_step t i row (session_state (record o.session { own = own })) g w w' reply false (sound g at.there) values put.new
             (subst (λ (l : List Op). Finds (session_state (record o.session { own = l })) (group_state own g) row w w' reply) (sym mine) x.made)))),
-        settled_cause before now f f' m m' t1 t' asked reply settles);
+        settled_cause before now f f' m m' t1 t' asked reply settles,
+      );
     }

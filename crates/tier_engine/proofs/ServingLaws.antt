@@ -6,7 +6,6 @@ use Rattle.tier_base.specs.declared.code.Code.TheVariants as code
 use Rattle.table_state.specs.declared.definition.TableDef.{TableDef}
 use Rattle.table_state.specs.declared.history.Entry.{Entry}
 use Rattle.table_state.specs.declared.history.Sealed.{Sealed}
-use Rattle.table_state.specs.Tables.{TableState}
 use Rattle.outside.specs.Holding.{Held}
 use Rattle.outside.specs.Faults.{Rose}
 use Rattle.outside.specs.declared.fault.BankError.{BankError}

@@ -53,7 +53,12 @@ impl Tier {
     }
 
     /// The row of these literals, where nothing but its key refuses it.
-    fn judge_insert_at(&self, alloc: Global, place: usize, literals: &[Literal]) -> Result<Row, Refused>
+    fn judge_insert_at(
+        &self,
+        alloc: Global,
+        place: usize,
+        literals: &[Literal],
+    ) -> Result<Row, Refused>
         requires within { place < length self.now.groups.items }
         ensures told { (g : OneGroup) → slice_get self.now.groups.items place ≡ Some g → Tells result (insert_fault g.def (own_in self.now.session) literals.now g.rows) }
         ensures row { IfOk result (λ row. values_of literals.now ≡ Some row) }

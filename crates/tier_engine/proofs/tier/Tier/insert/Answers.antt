@@ -22,8 +22,8 @@ returns-in-Err-Rule-clause-step g c =
     insert_refused _ _ _ c.args.self.now c.args.insert c.in-Some.place c.in-Err-Rule.rule c.refuses-in-Err-Rule.result c.requires
     (ap (λ (l : List Group). place_named l c.args.insert.table) (sym c.as_slice.ensures.value) ∙ sym c.place_of_group.ensures.place ∙ c.in-Some.is)
     (λ h e.
-        ap (λ l. insert_fault h.def (own_in c.args.self.now.session) l h.rows) (sym c.as_slice-2.ensures)
-        ∙ subst (λ (r : Refused). IsRefusedBy (insert_fault h.def (own_in c.args.self.now.session) c.as_slice-2.result.now h.rows) r) c.in-Err-Rule.field-0-is (c.in-Err-Rule.ensures.told h e))
+    ap (λ l. insert_fault h.def (own_in c.args.self.now.session) l h.rows) (sym c.as_slice-2.ensures)
+    ∙ subst (λ (r : Refused). IsRefusedBy (insert_fault h.def (own_in c.args.self.now.session) c.as_slice-2.result.now h.rows) r) c.in-Err-Rule.field-0-is (c.in-Err-Rule.ensures.told h e))
     c.refuses-in-Err-Rule.ensures
 
 pub returns-in-Err-Rule-put_at-clause-step : goal.returns-in-Err-Rule-put_at-clause-step

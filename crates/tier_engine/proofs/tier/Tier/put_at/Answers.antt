@@ -17,8 +17,8 @@ returns c = (
     refl,
     refl,
     subst (λ (x : Group). Put c.args.place x c.put.new.group s c.put.new.session c.args.row c.put.result)
-    (c.index_mut-group.ensures.value ∙ get_or_from_slice_get c.args.self.now.groups.items c.args.place g c.index_mut-group.result.now there)
-    (subst (λ (y : Session). Put c.args.place c.index_mut-group.result.now c.put.new.group y c.put.new.session c.args.row c.put.result)
-    (same_session c.args.self.now.session c.in-Some.session s c.in-Some.is is) c.put.ensures)
-  )
+        (c.index_mut-group.ensures.value ∙ get_or_from_slice_get c.args.self.now.groups.items c.args.place g c.index_mut-group.result.now there)
+        (subst (λ (y : Session). Put c.args.place c.index_mut-group.result.now c.put.new.group y c.put.new.session c.args.row c.put.result)
+        (same_session c.args.self.now.session c.in-Some.session s c.in-Some.is is) c.put.ensures),
+  ),
 )
