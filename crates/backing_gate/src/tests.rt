@@ -362,6 +362,9 @@ fn a_transaction_of_others_comes_where_it_applies(rt: HostRuntime) -> Result<(),
     assert!(rt; !is_foreign(alloc, &mut site, 5)?);
     assert_eq!(rt; applied(alloc, &mut site, 1, 5, &[])?, ("other row", 0));
     assert_eq!(rt; applied(alloc, &mut site, 1, 6, &[])?, ("now", 3));
-    assert_eq!(rt; tickets(alloc, &site)?.as_slice(), [0, u64::MAX, 1].as_slice());
+    assert_eq!(rt;
+        tickets(alloc, &site)?.as_slice(),
+        [0, u64::MAX, 1].as_slice()
+    );
     Ok(())
 }

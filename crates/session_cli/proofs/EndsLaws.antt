@@ -1,5 +1,5 @@
 -- The pieces of the input, from the first to the last.
-use Rattle.std.proofs.Common.{◌≡◌, ap₂, ℕ, min, ◌+◌, ◌-◌, ◌≤◌, ◌<◌, List, [], ◌++◌, length, take, drop, Option, Some, None, Result, Ok, Err, refl, sym, ◌∙◌, ap, append-nil, append_assoc, inl, inr, arith, lit≤, take-append-drop}
+use Rattle.std.proofs.Common.{◌≡◌, ◌⊎◌, subst, ap₂, ℕ, min, ◌+◌, ◌-◌, ◌≤◌, ◌<◌, List, [], ◌++◌, length, take, drop, Option, Some, None, Result, Ok, Err, refl, sym, ◌∙◌, ap, append-nil, append_assoc, inl, inr, arith, lit≤, take-append-drop}
 use Rattle.std.specs.Io.KnownBytes.{Consumes, IsAtEnd, Keeps}
 use Rattle.std.proofs.lemmas.List.{length-append, length-take, length-drop}
 use Rattle.outside.specs.Holding.{Held, Slots}

@@ -3,7 +3,6 @@ use Rattle.std.proofs.Common.{◌≡◌, Bool, List, [], ◌++◌, Option, Some,
 use Rattle.table_state.specs.declared.history.Entry.{Entry}
 use Rattle.table_state.specs.declared.history.Sealed.{Sealed}
 use Rattle.table_state.specs.Tables.{TableState}
-use Rattle.outside.specs.Bank.{Grows}
 use Rattle.outside.specs.Calls.{BankCall, Told}
 use Rattle.outside.specs.Holding.{Held}
 use Rattle.outside.specs.declared.fault.BankError.{BankError}

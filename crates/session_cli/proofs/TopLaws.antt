@@ -1,10 +1,12 @@
 -- A run that doesn't begin.
-use Rattle.std.proofs.Common.{◌≡◌, ◌⊎◌, ℕ, List, sym, ◌∙◌, inl, inr, arith}
+use Rattle.std.proofs.Common.{◌≡◌, ◌⊎◌, ℕ, List, refl, sym, ◌∙◌, inl, inr, arith}
 use Rattle.command_line.specs.declared.command.Command.{Command}
 use Rattle.command_line.specs.declared.settings.Settings.{Settings}
 use Rattle.command_line.specs.Keys.{AreBad, IsSetBy}
 use Rattle.command_line.specs.Words.{Asks, Refuses}
-use Rattle.session_cli.specs.Ends.{Unstarted}
+use Rattle.session_cli.specs.declared.serving.Status.{Status}
+use Rattle.session_cli.specs.declared.serving.Status.TheVariants.{Finished, SourceFailed, SinkFailed, SchemaFailed, NoMemory, LineUnchecked, InputTooLong}
+use Rattle.session_cli.specs.Ends.{Unstarted, number_of}
 
 pub words_of : (words : List (List ℕ)) (settings : List ℕ) (status : ℕ) → Unstarted words settings status → status ≡ 1 → Refuses words
 words_of words settings status (inl (one, refuses)) is = refuses
@@ -38,3 +40,13 @@ no_other words settings status n (inr (inl (two, asked, bad))) (inl three) is = 
 no_other words settings status n (inr (inl (two, asked, bad))) (inr four) is = absurd (omega arith)
 no_other words settings status n (inr (inr seven)) (inl three) is = absurd (omega arith)
 no_other words settings status n (inr (inr seven)) (inr four) is = absurd (omega arith)
+
+-- only one status has the number 6
+pub is_schema : (status : Status) → number_of status ≡ 6 → status ≡ SchemaFailed
+is_schema Finished is = absurd (omega arith)
+is_schema SourceFailed is = absurd (omega arith)
+is_schema SinkFailed is = absurd (omega arith)
+is_schema SchemaFailed is = refl
+is_schema NoMemory is = absurd (omega arith)
+is_schema LineUnchecked is = absurd (omega arith)
+is_schema InputTooLong is = absurd (omega arith)

@@ -24,6 +24,7 @@ pub fn check<S: Source, K: Sink>(alloc: Global, source: &mut S, sink: &mut K) ->
     ensures takes { Takes result (S.left source.old) (S.left source.new) }
     ensures read { result ≡ Status.SourceFailed → Rose (S.faults source.old) (S.faults source.new) }
     ensures write { result ≡ Status.SinkFailed → Rose (K.faults sink.old) (K.faults sink.new) }
+    ensures schema { result ≡ Status.SchemaFailed → ⊥ }
 {
     let Ok(mut checker) = Checker::new(alloc) else {
         return Status::NoMemory;
@@ -48,6 +49,7 @@ fn check_pieces<S: Source, K: Sink>(
     ensures takes { Takes result (S.left source.old) (S.left source.new) }
     ensures read { result ≡ Status.SourceFailed → Rose (S.faults source.old) (S.faults source.new) }
     ensures write { result ≡ Status.SinkFailed → Rose (K.faults sink.old) (K.faults sink.new) }
+    ensures schema { result ≡ Status.SchemaFailed → ⊥ }
 {
     let mut room = INPUT_BYTES;
     while room > 0 {
@@ -71,7 +73,8 @@ fn check_pieces<S: Source, K: Sink>(
 
 /// With which status a run ends at a fault.
 fn status_of(fault: CheckFault) -> Status
-    ensures { result ≡ status_of fault }
+    ensures status { result ≡ status_of fault }
+    ensures schema { result ≡ Status.SchemaFailed → ⊥ }
 {
     match fault {
         CheckFault::Sink => Status::SinkFailed,

@@ -268,7 +268,14 @@ fn a_line_is_too_long_with_65_537_bytes(rt: HostRuntime) -> Result<(), Fail> {
             given: size,
             ..WHOLE
         };
-        expect_run(&rt, rt.alloc(), past.as_slice(), &streams, 0, b"no 119 line\n")?;
+        expect_run(
+            &rt,
+            rt.alloc(),
+            past.as_slice(),
+            &streams,
+            0,
+            b"no 119 line\n",
+        )?;
     }
     Ok(())
 }

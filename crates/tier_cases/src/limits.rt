@@ -21,7 +21,10 @@ impl Case {
         };
         case.push("backing: CREATE TABLE A (ID TT_BIGINT PRIMARY KEY)", "ok 0")?;
         case.push("s1: OPEN", "ok 0")?;
-        case.push("s1: CREATE ASYNCHRONOUS WRITETHROUGH CACHE GROUP GA FROM A (ID TT_BIGINT PRIMARY KEY)", "ok 0")?;
+        case.push(
+            "s1: CREATE ASYNCHRONOUS WRITETHROUGH CACHE GROUP GA FROM A (ID TT_BIGINT PRIMARY KEY)",
+            "ok 0",
+        )?;
         Ok(case)
     }
 
@@ -40,7 +43,13 @@ impl Case {
     }
 
     // The same, and a COMMIT with this ticket.
-    fn commit(&mut self, alloc: Global, from: u64, below: u64, ticket: u64) -> Result<(), AllocError> {
+    fn commit(
+        &mut self,
+        alloc: Global,
+        from: u64,
+        below: u64,
+        ticket: u64,
+    ) -> Result<(), AllocError> {
         self.insert(alloc, from, below)?;
         let reply = format!(in alloc; "ok {ticket}")?;
         self.push("s1: COMMIT", &reply)
@@ -49,7 +58,9 @@ impl Case {
     // Tables with numbers from one on and below another.
     fn define(&mut self, alloc: Global, from: u64, below: u64) -> Result<(), AllocError> {
         for number in from..below {
-            let line = format!(in alloc; "backing: CREATE TABLE T{number} (ID TT_BIGINT PRIMARY KEY)")?;
+            let line = format!(in alloc;
+                "backing: CREATE TABLE T{number} (ID TT_BIGINT PRIMARY KEY)"
+            )?;
             self.push(&line, "ok 0")?;
         }
         Ok(())
@@ -57,13 +68,17 @@ impl Case {
 
     // A group of the table with this number.
     fn group(&mut self, alloc: Global, number: u64, reply: &str) -> Result<(), AllocError> {
-        let line = format!(in alloc; "s1: CREATE ASYNCHRONOUS WRITETHROUGH CACHE GROUP G{number} FROM T{number} (ID TT_BIGINT PRIMARY KEY)")?;
+        let line = format!(in alloc;
+            "s1: CREATE ASYNCHRONOUS WRITETHROUGH CACHE GROUP G{number} FROM T{number} (ID TT_BIGINT PRIMARY KEY)"
+        )?;
         self.push(&line, reply)
     }
 
     // A table of so many columns.
     fn widen(&mut self, alloc: Global, count: u64, reply: &str) -> Result<(), AllocError> {
-        let mut line = format!(in alloc; "backing: CREATE TABLE W{count} (C0 TT_INTEGER PRIMARY KEY")?;
+        let mut line = format!(in alloc;
+            "backing: CREATE TABLE W{count} (C0 TT_INTEGER PRIMARY KEY"
+        )?;
         for number in 1..count {
             let column = format!(in alloc; ", C{number} TT_INTEGER")?;
             line.push_str(&column)?;
@@ -138,7 +153,10 @@ fn there_are_64_groups(rt: HostRuntime) -> Result<(), Fail> {
     case.group(alloc, 64, "no 119 groups")?;
     // 113 and 114 come before it.
     case.group(alloc, 63, "no 113 G63")?;
-    case.push("s1: CREATE ASYNCHRONOUS WRITETHROUGH CACHE GROUP G FROM A (ID TT_BIGINT PRIMARY KEY)", "no 114 d")?;
+    case.push(
+        "s1: CREATE ASYNCHRONOUS WRITETHROUGH CACHE GROUP G FROM A (ID TT_BIGINT PRIMARY KEY)",
+        "no 114 d",
+    )?;
     let mut site = MemorySite::new(alloc)?;
     expect_replies(&rt, alloc, &mut site, case.input, case.replies.as_slice())?;
     Ok(())

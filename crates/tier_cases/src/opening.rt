@@ -60,7 +60,12 @@ fn define_tables(rt: &impl Abort, alloc: Global, site: &mut MemorySite) -> Resul
     let second = column(alloc, "PID", Ty::TtInteger, true)?;
     let child = table(alloc, "C", second, Some(to_first(alloc)?))?;
     assert!(rt; site.define(&child).is_ok());
-    let texts = table(alloc, "V", column(alloc, "X", Ty::Varchar2(3), false)?, None)?;
+    let texts = table(
+        alloc,
+        "V",
+        column(alloc, "X", Ty::Varchar2(3), false)?,
+        None,
+    )?;
     assert!(rt; site.define(&texts).is_ok());
     let last = table(alloc, "T", column(alloc, "N", Ty::TtInteger, false)?, None)?;
     assert!(rt; site.define(&last).is_ok());
@@ -93,13 +98,31 @@ fn the_tables_of_the_history_are_known(rt: HostRuntime) -> Result<(), Fail> {
         &mut site,
         &[
             ("s1: OPEN", "ok 0"),
-            ("backing: CREATE TABLE P (ID TT_INTEGER PRIMARY KEY)", "no 113 P"),
+            (
+                "backing: CREATE TABLE P (ID TT_INTEGER PRIMARY KEY)",
+                "no 113 P",
+            ),
             // 114 j: a foreign key to P, and one from C. e and g come before it.
-            ("s1: CREATE ASYNCHRONOUS WRITETHROUGH CACHE GROUP G FROM P (ID TT_INTEGER PRIMARY KEY, N TT_INTEGER)", "no 114 j"),
-            ("s1: CREATE ASYNCHRONOUS WRITETHROUGH CACHE GROUP G FROM C (ID TT_INTEGER PRIMARY KEY, PID TT_INTEGER)", "no 114 j"),
-            ("s1: CREATE ASYNCHRONOUS WRITETHROUGH CACHE GROUP G FROM P (ID TT_BIGINT PRIMARY KEY, N TT_INTEGER)", "no 114 e"),
-            ("s1: CREATE ASYNCHRONOUS WRITETHROUGH CACHE GROUP G AUTOREFRESH FROM P (ID TT_INTEGER PRIMARY KEY, N TT_INTEGER)", "no 114 g"),
-            ("s1: CREATE ASYNCHRONOUS WRITETHROUGH CACHE GROUP G FROM V (ID TT_INTEGER PRIMARY KEY, X TT_INTEGER)", "no 114 e"),
+            (
+                "s1: CREATE ASYNCHRONOUS WRITETHROUGH CACHE GROUP G FROM P (ID TT_INTEGER PRIMARY KEY, N TT_INTEGER)",
+                "no 114 j",
+            ),
+            (
+                "s1: CREATE ASYNCHRONOUS WRITETHROUGH CACHE GROUP G FROM C (ID TT_INTEGER PRIMARY KEY, PID TT_INTEGER)",
+                "no 114 j",
+            ),
+            (
+                "s1: CREATE ASYNCHRONOUS WRITETHROUGH CACHE GROUP G FROM P (ID TT_BIGINT PRIMARY KEY, N TT_INTEGER)",
+                "no 114 e",
+            ),
+            (
+                "s1: CREATE ASYNCHRONOUS WRITETHROUGH CACHE GROUP G AUTOREFRESH FROM P (ID TT_INTEGER PRIMARY KEY, N TT_INTEGER)",
+                "no 114 g",
+            ),
+            (
+                "s1: CREATE ASYNCHRONOUS WRITETHROUGH CACHE GROUP G FROM V (ID TT_INTEGER PRIMARY KEY, X TT_INTEGER)",
+                "no 114 e",
+            ),
         ],
     )?;
     Ok(())
@@ -118,7 +141,10 @@ fn the_rows_of_others_are_found_and_not_shown(rt: HostRuntime) -> Result<(), Fai
         &[
             ("s1: OPEN", "ok 0"),
             // NOT NULL isn't compared: the backing table's counts.
-            ("s1: CREATE ASYNCHRONOUS WRITETHROUGH CACHE GROUP G FROM T (ID TT_INTEGER PRIMARY KEY, N TT_INTEGER NOT NULL)", "ok 0"),
+            (
+                "s1: CREATE ASYNCHRONOUS WRITETHROUGH CACHE GROUP G FROM T (ID TT_INTEGER PRIMARY KEY, N TT_INTEGER NOT NULL)",
+                "ok 0",
+            ),
             ("s1: SELECT * FROM T", "ok 0"),
             ("s1: INSERT INTO T VALUES (5, 1)", "no 107 T 5"),
             ("s1: INSERT INTO T VALUES (6, NULL)", "ok 1"),

@@ -9,12 +9,12 @@ use std::test::Fail;
 use table_state::Op;
 use tier_base::TableId;
 
-const TABLE_A: &str =
-    "backing: CREATE TABLE A (ID TT_INTEGER, N TT_INTEGER, PRIMARY KEY (ID))";
+const TABLE_A: &str = "backing: CREATE TABLE A (ID TT_INTEGER, N TT_INTEGER, PRIMARY KEY (ID))";
 
 const TABLE_B: &str = "backing: CREATE TABLE B (ID TT_BIGINT PRIMARY KEY)";
 
-const GROUP_A: &str = "s1: CREATE ASYNCHRONOUS WRITETHROUGH CACHE GROUP GA FROM A (ID TT_INTEGER, N TT_INTEGER, PRIMARY KEY (ID))";
+const GROUP_A: &str =
+    "s1: CREATE ASYNCHRONOUS WRITETHROUGH CACHE GROUP GA FROM A (ID TT_INTEGER, N TT_INTEGER, PRIMARY KEY (ID))";
 
 #[test]
 fn sessions(rt: HostRuntime) -> Result<(), Fail> {
@@ -50,16 +50,40 @@ fn tables(rt: HostRuntime) -> Result<(), Fail> {
             (TABLE_A, "ok 0"),
             (TABLE_A, "no 113 A"),
             ("backing: CREATE TABLE B (ID TT_INTEGER)", "no 104"),
-            ("backing: CREATE TABLE B (ID TT_INTEGER PRIMARY KEY, N TT_INTEGER, PRIMARY KEY (ID))", "no 104"),
-            ("backing: CREATE TABLE B (ID TT_INTEGER, ID TT_BIGINT, PRIMARY KEY (ID))", "no 103 ID"),
-            ("backing: CREATE TABLE B (ID TT_INTEGER, N TT_INTEGER, PRIMARY KEY (X))", "no 103 X"),
-            ("backing: CREATE TABLE B (ID TT_INTEGER, N TT_INTEGER, PRIMARY KEY (ID, ID))", "no 103 ID"),
-            ("backing: CREATE TABLE B (A TT_INTEGER, B TT_INTEGER, C TT_INTEGER, D TT_INTEGER, E TT_INTEGER, PRIMARY KEY (A, B, C, D, E))", "no 119 columns"),
+            (
+                "backing: CREATE TABLE B (ID TT_INTEGER PRIMARY KEY, N TT_INTEGER, PRIMARY KEY (ID))",
+                "no 104",
+            ),
+            (
+                "backing: CREATE TABLE B (ID TT_INTEGER, ID TT_BIGINT, PRIMARY KEY (ID))",
+                "no 103 ID",
+            ),
+            (
+                "backing: CREATE TABLE B (ID TT_INTEGER, N TT_INTEGER, PRIMARY KEY (X))",
+                "no 103 X",
+            ),
+            (
+                "backing: CREATE TABLE B (ID TT_INTEGER, N TT_INTEGER, PRIMARY KEY (ID, ID))",
+                "no 103 ID",
+            ),
+            (
+                "backing: CREATE TABLE B (A TT_INTEGER, B TT_INTEGER, C TT_INTEGER, D TT_INTEGER, E TT_INTEGER, PRIMARY KEY (A, B, C, D, E))",
+                "no 119 columns",
+            ),
             // Two causes each: the columns before the clause, 103 before 113, 113 before 104, 104 before 119.
-            ("backing: CREATE TABLE B (ID TT_INTEGER, N TT_INTEGER, N TT_INTEGER, PRIMARY KEY (X))", "no 103 N"),
-            ("backing: CREATE TABLE A (ID TT_INTEGER, N TT_INTEGER, PRIMARY KEY (X))", "no 103 X"),
+            (
+                "backing: CREATE TABLE B (ID TT_INTEGER, N TT_INTEGER, N TT_INTEGER, PRIMARY KEY (X))",
+                "no 103 N",
+            ),
+            (
+                "backing: CREATE TABLE A (ID TT_INTEGER, N TT_INTEGER, PRIMARY KEY (X))",
+                "no 103 X",
+            ),
             ("backing: CREATE TABLE A (ID TT_INTEGER)", "no 113 A"),
-            ("backing: CREATE TABLE B (A TT_INTEGER PRIMARY KEY, B TT_INTEGER, C TT_INTEGER, D TT_INTEGER, E TT_INTEGER, PRIMARY KEY (A, B, C, D, E))", "no 104"),
+            (
+                "backing: CREATE TABLE B (A TT_INTEGER PRIMARY KEY, B TT_INTEGER, C TT_INTEGER, D TT_INTEGER, E TT_INTEGER, PRIMARY KEY (A, B, C, D, E))",
+                "no 104",
+            ),
         ],
     )?;
     Ok(())
@@ -73,19 +97,55 @@ fn groups(rt: HostRuntime) -> Result<(), Fail> {
         &[
             (TABLE_A, "ok 0"),
             ("s1: OPEN", "ok 0"),
-            ("s1: CREATE ASYNCHRONOUS WRITETHROUGH CACHE GROUP G FROM X (ID TT_INTEGER PRIMARY KEY)", "no 102 X"),
-            ("s1: CREATE ASYNCHRONOUS WRITETHROUGH CACHE GROUP G FROM A (ID TT_INTEGER, ID TT_INTEGER, PRIMARY KEY (ID))", "no 103 ID"),
-            ("s1: CREATE ASYNCHRONOUS WRITETHROUGH CACHE GROUP G FROM A (ID TT_INTEGER, N TT_INTEGER)", "no 114 a"),
-            ("s1: CREATE ASYNCHRONOUS WRITETHROUGH CACHE GROUP G FROM A (ID TT_INTEGER, N TT_INTEGER, PRIMARY KEY (N))", "no 114 a"),
-            ("s1: CREATE ASYNCHRONOUS WRITETHROUGH CACHE GROUP G FROM A (ID TT_INTEGER PRIMARY KEY, N TT_INTEGER, PRIMARY KEY (ID))", "no 114 a"),
-            ("s1: CREATE ASYNCHRONOUS WRITETHROUGH CACHE GROUP G FROM A (ID TT_INTEGER, N TT_BIGINT, PRIMARY KEY (ID))", "no 114 e"),
-            ("s1: CREATE ASYNCHRONOUS WRITETHROUGH CACHE GROUP G FROM A (ID TT_INTEGER, M TT_INTEGER, PRIMARY KEY (ID))", "no 114 e"),
-            ("s1: CREATE ASYNCHRONOUS WRITETHROUGH CACHE GROUP G FROM A (ID TT_INTEGER PRIMARY KEY)", "no 114 e"),
-            ("s1: CREATE ASYNCHRONOUS WRITETHROUGH CACHE GROUP G AUTOREFRESH FROM A (ID TT_INTEGER PRIMARY KEY, N TT_INTEGER)", "no 114 g"),
+            (
+                "s1: CREATE ASYNCHRONOUS WRITETHROUGH CACHE GROUP G FROM X (ID TT_INTEGER PRIMARY KEY)",
+                "no 102 X",
+            ),
+            (
+                "s1: CREATE ASYNCHRONOUS WRITETHROUGH CACHE GROUP G FROM A (ID TT_INTEGER, ID TT_INTEGER, PRIMARY KEY (ID))",
+                "no 103 ID",
+            ),
+            (
+                "s1: CREATE ASYNCHRONOUS WRITETHROUGH CACHE GROUP G FROM A (ID TT_INTEGER, N TT_INTEGER)",
+                "no 114 a",
+            ),
+            (
+                "s1: CREATE ASYNCHRONOUS WRITETHROUGH CACHE GROUP G FROM A (ID TT_INTEGER, N TT_INTEGER, PRIMARY KEY (N))",
+                "no 114 a",
+            ),
+            (
+                "s1: CREATE ASYNCHRONOUS WRITETHROUGH CACHE GROUP G FROM A (ID TT_INTEGER PRIMARY KEY, N TT_INTEGER, PRIMARY KEY (ID))",
+                "no 114 a",
+            ),
+            (
+                "s1: CREATE ASYNCHRONOUS WRITETHROUGH CACHE GROUP G FROM A (ID TT_INTEGER, N TT_BIGINT, PRIMARY KEY (ID))",
+                "no 114 e",
+            ),
+            (
+                "s1: CREATE ASYNCHRONOUS WRITETHROUGH CACHE GROUP G FROM A (ID TT_INTEGER, M TT_INTEGER, PRIMARY KEY (ID))",
+                "no 114 e",
+            ),
+            (
+                "s1: CREATE ASYNCHRONOUS WRITETHROUGH CACHE GROUP G FROM A (ID TT_INTEGER PRIMARY KEY)",
+                "no 114 e",
+            ),
+            (
+                "s1: CREATE ASYNCHRONOUS WRITETHROUGH CACHE GROUP G AUTOREFRESH FROM A (ID TT_INTEGER PRIMARY KEY, N TT_INTEGER)",
+                "no 114 g",
+            ),
             // Two causes each: 102 before 103, 114 a before e, e before g.
-            ("s1: CREATE ASYNCHRONOUS WRITETHROUGH CACHE GROUP G FROM X (ID TT_INTEGER, ID TT_INTEGER)", "no 102 X"),
-            ("s1: CREATE ASYNCHRONOUS WRITETHROUGH CACHE GROUP G FROM A (ID TT_INTEGER)", "no 114 a"),
-            ("s1: CREATE ASYNCHRONOUS WRITETHROUGH CACHE GROUP G AUTOREFRESH FROM A (ID TT_INTEGER PRIMARY KEY)", "no 114 e"),
+            (
+                "s1: CREATE ASYNCHRONOUS WRITETHROUGH CACHE GROUP G FROM X (ID TT_INTEGER, ID TT_INTEGER)",
+                "no 102 X",
+            ),
+            (
+                "s1: CREATE ASYNCHRONOUS WRITETHROUGH CACHE GROUP G FROM A (ID TT_INTEGER)",
+                "no 114 a",
+            ),
+            (
+                "s1: CREATE ASYNCHRONOUS WRITETHROUGH CACHE GROUP G AUTOREFRESH FROM A (ID TT_INTEGER PRIMARY KEY)",
+                "no 114 e",
+            ),
         ],
     )?;
     Ok(())
@@ -102,19 +162,43 @@ fn a_second_group(rt: HostRuntime) -> Result<(), Fail> {
             ("s1: OPEN", "ok 0"),
             (GROUP_A, "ok 0"),
             (GROUP_A, "no 113 GA"),
-            ("s1: CREATE ASYNCHRONOUS WRITETHROUGH CACHE GROUP G FROM A (ID TT_INTEGER PRIMARY KEY, N TT_INTEGER)", "no 114 d"),
+            (
+                "s1: CREATE ASYNCHRONOUS WRITETHROUGH CACHE GROUP G FROM A (ID TT_INTEGER PRIMARY KEY, N TT_INTEGER)",
+                "no 114 d",
+            ),
             // Two causes each: 102 and 103 before 113, 114 a before d, d before e.
-            ("s1: CREATE ASYNCHRONOUS WRITETHROUGH CACHE GROUP GA FROM X (ID TT_INTEGER PRIMARY KEY)", "no 102 X"),
-            ("s1: CREATE ASYNCHRONOUS WRITETHROUGH CACHE GROUP GA FROM A (ID TT_INTEGER, N TT_INTEGER, PRIMARY KEY (X))", "no 103 X"),
-            ("s1: CREATE ASYNCHRONOUS WRITETHROUGH CACHE GROUP G FROM A (ID TT_INTEGER, N TT_INTEGER)", "no 114 a"),
-            ("s1: CREATE ASYNCHRONOUS WRITETHROUGH CACHE GROUP G FROM A (ID TT_INTEGER PRIMARY KEY)", "no 114 d"),
+            (
+                "s1: CREATE ASYNCHRONOUS WRITETHROUGH CACHE GROUP GA FROM X (ID TT_INTEGER PRIMARY KEY)",
+                "no 102 X",
+            ),
+            (
+                "s1: CREATE ASYNCHRONOUS WRITETHROUGH CACHE GROUP GA FROM A (ID TT_INTEGER, N TT_INTEGER, PRIMARY KEY (X))",
+                "no 103 X",
+            ),
+            (
+                "s1: CREATE ASYNCHRONOUS WRITETHROUGH CACHE GROUP G FROM A (ID TT_INTEGER, N TT_INTEGER)",
+                "no 114 a",
+            ),
+            (
+                "s1: CREATE ASYNCHRONOUS WRITETHROUGH CACHE GROUP G FROM A (ID TT_INTEGER PRIMARY KEY)",
+                "no 114 d",
+            ),
             // With uncommitted writes: 113 before 122, 122 before 114.
             ("s1: INSERT INTO A VALUES (1, 1)", "ok 1"),
             (GROUP_A, "no 113 GA"),
-            ("s1: CREATE ASYNCHRONOUS WRITETHROUGH CACHE GROUP G FROM A (ID TT_INTEGER)", "no 122"),
-            ("s1: CREATE ASYNCHRONOUS WRITETHROUGH CACHE GROUP GB FROM B (ID TT_BIGINT PRIMARY KEY)", "no 122"),
+            (
+                "s1: CREATE ASYNCHRONOUS WRITETHROUGH CACHE GROUP G FROM A (ID TT_INTEGER)",
+                "no 122",
+            ),
+            (
+                "s1: CREATE ASYNCHRONOUS WRITETHROUGH CACHE GROUP GB FROM B (ID TT_BIGINT PRIMARY KEY)",
+                "no 122",
+            ),
             ("s1: ROLLBACK", "ok 0"),
-            ("s1: CREATE ASYNCHRONOUS WRITETHROUGH CACHE GROUP GB FROM B (ID TT_BIGINT PRIMARY KEY)", "ok 0"),
+            (
+                "s1: CREATE ASYNCHRONOUS WRITETHROUGH CACHE GROUP GB FROM B (ID TT_BIGINT PRIMARY KEY)",
+                "ok 0",
+            ),
         ],
     )?;
     Ok(())
@@ -136,7 +220,10 @@ fn inserts(rt: HostRuntime) -> Result<(), Fail> {
             ("s1: INSERT INTO A VALUES (1)", "no 104"),
             ("s1: INSERT INTO A VALUES (1, 2, 3)", "no 104"),
             ("s1: INSERT INTO A VALUES (1, 'x')", "no 104"),
-            ("s1: INSERT INTO A VALUES (9223372036854775808, 1)", "no 105 -"),
+            (
+                "s1: INSERT INTO A VALUES (9223372036854775808, 1)",
+                "no 105 -",
+            ),
             ("s1: INSERT INTO A VALUES (2147483648, 1)", "no 105 ID"),
             ("s1: INSERT INTO A VALUES (1, -2147483649)", "no 105 N"),
             ("s1: INSERT INTO A VALUES (NULL, 1)", "no 106 ID"),
@@ -146,9 +233,18 @@ fn inserts(rt: HostRuntime) -> Result<(), Fail> {
             ("s1: INSERT INTO A VALUES (- 03, -2147483648)", "ok 1"),
             ("s1: INSERT INTO A VALUES (-3, 1)", "no 107 A -3"),
             // Two causes each: 102 before 104, 104 before 105, `-` before a column, 105 before 106 and both before 107.
-            ("s1: INSERT INTO X VALUES (9223372036854775808, 'x')", "no 102 X"),
-            ("s1: INSERT INTO A VALUES (9223372036854775808, 'x')", "no 104"),
-            ("s1: INSERT INTO A VALUES (2147483648, 9223372036854775808)", "no 105 -"),
+            (
+                "s1: INSERT INTO X VALUES (9223372036854775808, 'x')",
+                "no 102 X",
+            ),
+            (
+                "s1: INSERT INTO A VALUES (9223372036854775808, 'x')",
+                "no 104",
+            ),
+            (
+                "s1: INSERT INTO A VALUES (2147483648, 9223372036854775808)",
+                "no 105 -",
+            ),
             ("s1: INSERT INTO A VALUES (NULL, 2147483648)", "no 105 N"),
             ("s1: INSERT INTO A VALUES (3, 2147483648)", "no 105 N"),
         ],
@@ -264,8 +360,14 @@ fn a_key_of_two_columns_is_told_whole(rt: HostRuntime) -> Result<(), Fail> {
         &mut site,
         &[
             ("s1: OPEN", "ok 0"),
-            ("s1: CREATE ASYNCHRONOUS WRITETHROUGH CACHE GROUP G FROM K (A TT_INTEGER, B TT_BIGINT, PRIMARY KEY (A, B))", "no 114 a"),
-            ("s1: CREATE ASYNCHRONOUS WRITETHROUGH CACHE GROUP G FROM K (A TT_INTEGER, B TT_BIGINT, PRIMARY KEY (B, A))", "ok 0"),
+            (
+                "s1: CREATE ASYNCHRONOUS WRITETHROUGH CACHE GROUP G FROM K (A TT_INTEGER, B TT_BIGINT, PRIMARY KEY (A, B))",
+                "no 114 a",
+            ),
+            (
+                "s1: CREATE ASYNCHRONOUS WRITETHROUGH CACHE GROUP G FROM K (A TT_INTEGER, B TT_BIGINT, PRIMARY KEY (B, A))",
+                "ok 0",
+            ),
             ("s1: INSERT INTO K VALUES (1, 2)", "no 107 K 2|1"),
             ("s1: INSERT INTO K VALUES (2, 1)", "ok 1"),
             ("s1: INSERT INTO K VALUES (2, 1)", "no 107 K 1|2"),

@@ -16,15 +16,7 @@ pub(crate) fn run_input(
     let mut sink = MemorySink::new(alloc, 65_536, Vec::new(alloc));
     let mut clock = ScriptClock::new(Vec::new(alloc));
     let words = ["ttcache", "run"];
-    let status = top(
-        alloc,
-        &words,
-        b"",
-        &mut source,
-        &mut sink,
-        site,
-        &mut clock,
-    );
+    let status = top(alloc, &words, b"", &mut source, &mut sink, site, &mut clock);
     Ok((status, sink))
 }
 

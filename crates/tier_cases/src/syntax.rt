@@ -23,7 +23,10 @@ fn a_line_is_wrong_at_its_first_byte_that_does_not_fit(rt: HostRuntime) -> Resul
             ("s1: INSERT INTO A VALUES (1, 'x)", "no 101 29"),
             ("s1: INSERT INTO A VALUES (- , 2)", "no 101 28"),
             ("backing: COMMIT", "no 101 9"),
-            ("backing: CREATE TABLE T (ID VARCHAR2(20) PRIMARY KEY)", "no 101 28"),
+            (
+                "backing: CREATE TABLE T (ID VARCHAR2(20) PRIMARY KEY)",
+                "no 101 28",
+            ),
         ],
     )?;
     Ok(())

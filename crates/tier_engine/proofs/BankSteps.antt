@@ -2,19 +2,13 @@
 use Rattle.std.proofs.Common.{◌≡◌, ℕ, zero, suc, ◌+◌, ◌≤◌, ◌<◌, ◌⊎◌, List, [], ◌∷◌, ◌++◌, map, take, drop, length, Option, Some, None, Bool, true, false, ◌&&◌, ◌||◌, not, cond, nat_eq, refl, sym, ◌∙◌, ap, subst, inl, inr, arith, append_assoc, length-append}
 use Rattle.std.specs.Prelude.{◌^◌, Result, Ok, Err}
 use Rattle.std.specs.List.{filter, list_all, list_any, slice_get}
-use Rattle.std.specs.Option.{option_map, option_and_then, option_or, is_some, IfSome}
-use Rattle.std.specs.Result.{IsErrOf}
-use Rattle.std.specs.FinMap.{get, empty, contains_key}
+use Rattle.std.specs.Option.{option_map, option_and_then, is_some, IfSome}
+use Rattle.std.specs.FinMap.{get, empty}
 use Rattle.std.proofs.lemmas.List.{map-append, take-append-drop}
 use Rattle.std.proofs.lemmas.List.Elements.{filter-append}
 use Rattle.std.proofs.lemmas.List.Folds.{list_any-append}
 use Rattle.std.proofs.lemmas.Option.{slice_get_within}
-use Rattle.tier_base.specs.declared.code.Code.TheVariants as code
 use Rattle.tier_base.specs.declared.number.TableId.{TableId}
-use Rattle.row_types.specs.declared.value.Value.{Value}
-use Rattle.row_types.specs.declared.rule.Rule.{Rule}
-use Rattle.row_types.specs.declared.declaration.TableDeclaration.{TableDeclaration}
-use Rattle.table_state.specs.declared.definition.ForeignKey.{ForeignKey}
 use Rattle.table_state.specs.declared.definition.TableDef.{TableDef}
 use Rattle.table_state.specs.declared.operation.Op.{Op}
 use Rattle.table_state.specs.declared.history.Entry.{Entry}
@@ -24,7 +18,7 @@ use Rattle.table_state.specs.Tables.{Table, TableState, table_at}
 use Rattle.table_state.specs.Operations.{applied_all}
 use Rattle.table_state.specs.Independence.{IsWhole, with_new}
 use Rattle.table_state.specs.Histories.{state_of, state_from, entry_of, no_tables, has_ticket}
-use Rattle.outside.specs.Bank.{Defines, TellsSchema, Grows}
+use Rattle.outside.specs.Bank.{Defines, TellsSchema}
 use Rattle.outside.specs.Calls.{Told, BankCall}
 use Rattle.outside.specs.Holding.{Held}
 use Rattle.outside.specs.declared.fault.BankError.{BankError}
@@ -34,12 +28,10 @@ use Rattle.tier_engine.specs.declared.tier.Tier.{Tier}
 use Rattle.tier_engine.specs.declared.tier.Group.{Group}
 use Rattle.tier_engine.specs.declared.tier.Session.{Session}
 use Rattle.tier_engine.specs.Commits.{RiseBetween, virtual_state, pending, applied_sealed, own_entries, is_own, is_other, in_commit_order}
-use Rattle.tier_engine.specs.TierStates.{TierState}
-use Rattle.tier_engine.specs.Refusals.{is_joined, refers}
-use Rattle.tier_engine.specs.Answers.{faulty}
-use Rattle.tier_engine.specs.Steps.{World, Asked, Creates, WantsMemory, define_reply, known_after, stopped, told}
-use Rattle.tier_engine.specs.Storing.{KnowsAfter, MakesTable, IsSame}
-use Rattle.tier_engine.specs.Standing.{StandsFor, Shows, ShowAll, AreApart, HasOwnKeys, Made, group_state, is_insert, is_stored, ops_of, own_in, session_in, tier_state, world_of}
+use Rattle.tier_engine.specs.Refusals.{refers}
+use Rattle.tier_engine.specs.Steps.{Asked, Creates, known_after, stopped}
+use Rattle.tier_engine.specs.Storing.{KnowsAfter, MakesTable}
+use Rattle.tier_engine.specs.Standing.{StandsFor, Shows, ShowAll, AreApart, HasOwnKeys, Made, group_state, is_stored, ops_of, own_in, session_in, tier_state}
 use Rattle.tier_engine.proofs.CommitLaws.{state_from-append, applied_sealed-state_from, by_option}
 use Rattle.tier_engine.proofs.OpLaws.{inserts_schema}
 use Rattle.tier_engine.proofs.StandingLaws.{are_inserts, and_left, and_right}
@@ -66,29 +58,33 @@ log_schema : (groups : List Group) (log : List Sealed) (s s' : TableState) → l
 log_schema groups [] s s' all e = let p : ◌≡◌ {A = Option TableState} (Some s) (Some s') = e in ap (λ (x : TableState). x.schema) (let q : s ≡ s' = Prim.cc in sym q)
 log_schema groups (x ∷ log) s s' all e = by_state (λ y q. log_schema groups log y s' later q) (applied_all x.ops s) refl e
   where
-  parted : (list_all (is_stored groups) x.ops && list_all (is_stored groups) (ops_of log)) ≡ true
-  parted = sym (Rattle.std.proofs.lemmas.List.Folds.list_all-append (is_stored groups) x.ops (ops_of log)) ∙ all
-  later : list_all (is_stored groups) (ops_of log) ≡ true
-  later = and_right (list_all (is_stored groups) x.ops) (list_all (is_stored groups) (ops_of log)) parted
-  by_state : ((y : TableState) → applied_sealed log y ≡ Some s' → s'.schema ≡ y.schema) → (o : Option TableState) → applied_all x.ops s ≡ o → option_and_then (applied_sealed log) o ≡ Some s' → s'.schema ≡ s.schema
-  by_state more None p q = Prim.cc
-  by_state more (Some y) p q =
-      more y q ∙ inserts_schema x.ops s y (are_inserts groups x.ops (and_left (list_all (is_stored groups) x.ops) (list_all (is_stored groups) (ops_of log)) parted)) p
+    parted : (list_all (is_stored groups) x.ops && list_all (is_stored groups) (ops_of log)) ≡ true
+    parted = sym (Rattle.std.proofs.lemmas.List.Folds.list_all-append (is_stored groups) x.ops (ops_of log)) ∙ all
+
+    later : list_all (is_stored groups) (ops_of log) ≡ true
+    later = and_right (list_all (is_stored groups) x.ops) (list_all (is_stored groups) (ops_of log)) parted
+
+    by_state : ((y : TableState) → applied_sealed log y ≡ Some s' → s'.schema ≡ y.schema) → (o : Option TableState) → applied_all x.ops s ≡ o → option_and_then (applied_sealed log) o ≡ Some s' → s'.schema ≡ s.schema
+    by_state more None p q = Prim.cc
+    by_state more (Some y) p q =
+        more y q ∙ inserts_schema x.ops s y (are_inserts groups x.ops (and_left (list_all (is_stored groups) x.ops) (list_all (is_stored groups) (ops_of log)) parted)) p
 
 pub all_pending : (groups : List Group) (h : List Entry) (log : List Sealed) → list_all (is_stored groups) (ops_of log) ≡ true → list_all (is_stored groups) (ops_of (pending h log)) ≡ true
 all_pending groups h [] all = refl
 all_pending groups h (x ∷ log) all = by_ticket (all_pending groups h log) (has_ticket x.ticket.0 h)
   where
-  parted : (list_all (is_stored groups) x.ops && list_all (is_stored groups) (ops_of log)) ≡ true
-  parted = sym (Rattle.std.proofs.lemmas.List.Folds.list_all-append (is_stored groups) x.ops (ops_of log)) ∙ all
-  rest : list_all (is_stored groups) (ops_of log) ≡ true
-  rest = and_right (list_all (is_stored groups) x.ops) (list_all (is_stored groups) (ops_of log)) parted
-  by_ticket : (list_all (is_stored groups) (ops_of log) ≡ true → list_all (is_stored groups) (ops_of (pending h log)) ≡ true) → (b : Bool)
-      → list_all (is_stored groups) (ops_of (cond (not b) (x ∷ pending h log) (pending h log))) ≡ true
-  by_ticket more true = more rest
-  by_ticket more false =
-      Rattle.std.proofs.lemmas.List.Folds.list_all-append (is_stored groups) x.ops (ops_of (pending h log))
-      ∙ Rattle.tier_engine.proofs.StandingLaws.and_true _ _ (and_left (list_all (is_stored groups) x.ops) (list_all (is_stored groups) (ops_of log)) parted) (more rest)
+    parted : (list_all (is_stored groups) x.ops && list_all (is_stored groups) (ops_of log)) ≡ true
+    parted = sym (Rattle.std.proofs.lemmas.List.Folds.list_all-append (is_stored groups) x.ops (ops_of log)) ∙ all
+
+    rest : list_all (is_stored groups) (ops_of log) ≡ true
+    rest = and_right (list_all (is_stored groups) x.ops) (list_all (is_stored groups) (ops_of log)) parted
+
+    by_ticket : (list_all (is_stored groups) (ops_of log) ≡ true → list_all (is_stored groups) (ops_of (pending h log)) ≡ true) → (b : Bool)
+        → list_all (is_stored groups) (ops_of (cond (not b) (x ∷ pending h log) (pending h log))) ≡ true
+    by_ticket more true = more rest
+    by_ticket more false =
+        Rattle.std.proofs.lemmas.List.Folds.list_all-append (is_stored groups) x.ops (ops_of (pending h log))
+        ∙ Rattle.tier_engine.proofs.StandingLaws.and_true _ _ (and_left (list_all (is_stored groups) x.ops) (list_all (is_stored groups) (ops_of log)) parted) (more rest)
 
 -- The history leaves a state, whose schema is that of the virtual state.
 pub record LeavesState (h : List Entry) (base : TableState) : Type 0 where
@@ -99,9 +95,9 @@ pub record LeavesState (h : List Entry) (base : TableState) : Type 0 where
 pub leaves_state : (t : Tier) (log : List Sealed) (h : List Entry) (s : StandsFor t log h) → LeavesState h s.base
 leaves_state t log h s = by_state (state_of h) refl s.virtual
   where
-  by_state : (o : Option TableState) → state_of h ≡ o → option_and_then (applied_sealed (pending h log)) o ≡ Some s.base → LeavesState h s.base
-  by_state None p q = Prim.cc
-  by_state (Some x) p q = record { state = x; is = p; schema = log_schema t.groups.items (pending h log) x s.base (all_pending t.groups.items h log s.logged) q }
+    by_state : (o : Option TableState) → state_of h ≡ o → option_and_then (applied_sealed (pending h log)) o ≡ Some s.base → LeavesState h s.base
+    by_state None p q = Prim.cc
+    by_state (Some x) p q = record { state = x; is = p; schema = log_schema t.groups.items (pending h log) x s.base (all_pending t.groups.items h log s.logged) q }
 
 -- only what is known of the schema changed
 pub record OnlyKnown (old new : Tier) : Type 0 where
@@ -179,15 +175,16 @@ sealed_later : LaterLaw → WholeLaw → (def : TableDef) (log : List Sealed) (s
 sealed_later law whole_law def [] s n whole e = ap (λ o. option_map (with_new def) o) e
 sealed_later law whole_law def (x ∷ log) s n whole e = by_state (λ y w q. sealed_later law whole_law def log y n w q) (applied_all x.ops s) refl e
   where
-  one : (o : Option TableState) → option_and_then (state_from []) o ≡ o
-  one None = refl
-  one (Some y) = refl
-  by_state : ((y : TableState) → IsWhole y → applied_sealed log y ≡ Some n → applied_sealed log (with_new def y) ≡ Some (with_new def n)) → (o : Option TableState) → applied_all x.ops s ≡ o
-      → option_and_then (applied_sealed log) o ≡ Some n → option_and_then (applied_sealed log) (applied_all x.ops (with_new def s)) ≡ Some (with_new def n)
-  by_state more None p q = Prim.cc
-  by_state more (Some y) p q =
-      ap (option_and_then (applied_sealed log)) (law x.ops def s y whole p)
-      ∙ more y (whole_law (entry_of x ∷ []) s y (one (applied_all x.ops s) ∙ p) whole) q
+    one : (o : Option TableState) → option_and_then (state_from []) o ≡ o
+    one None = refl
+    one (Some y) = refl
+
+    by_state : ((y : TableState) → IsWhole y → applied_sealed log y ≡ Some n → applied_sealed log (with_new def y) ≡ Some (with_new def n)) → (o : Option TableState) → applied_all x.ops s ≡ o
+        → option_and_then (applied_sealed log) o ≡ Some n → option_and_then (applied_sealed log) (applied_all x.ops (with_new def s)) ≡ Some (with_new def n)
+    by_state more None p q = Prim.cc
+    by_state more (Some y) p q =
+        ap (option_and_then (applied_sealed log)) (law x.ops def s y whole p)
+        ∙ more y (whole_law (entry_of x ∷ []) s y (one (applied_all x.ops s) ∙ p) whole) q
 
 -- what a history leaves has the rows of each table
 pub history_whole : WholeLaw → (h : List Entry) (s : TableState) → state_of h ≡ Some s → IsWhole s
@@ -211,14 +208,15 @@ ordered_defined law whole_law h log def s is ordered =
     ∙ by_state (state_of others) refl parted
     ∙ sym (state_defined h def s is)
   where
-  by_entries : (o : Option TableState) → option_and_then (applied_sealed log) o ≡ option_and_then (state_from (map entry_of log)) o
-  by_entries o = by_option (applied_sealed log) (state_from (map entry_of log)) (λ x. applied_sealed-state_from log x) o
-  by_state : (o : Option TableState) → state_of (filter (is_other log) h) ≡ o → option_and_then (state_from (map entry_of log)) o ≡ Some s
-      → option_and_then (state_from (Definition def ∷ map entry_of log)) o ≡ Some (with_new def s)
-  by_state None p q = Prim.cc
-  by_state (Some x) p q =
-      sym (applied_sealed-state_from log (with_new def x))
-      ∙ sealed_later law whole_law def log x s (history_whole whole_law (filter (is_other log) h) x p) (applied_sealed-state_from log x ∙ q)
+    by_entries : (o : Option TableState) → option_and_then (applied_sealed log) o ≡ option_and_then (state_from (map entry_of log)) o
+    by_entries o = by_option (applied_sealed log) (state_from (map entry_of log)) (λ x. applied_sealed-state_from log x) o
+
+    by_state : (o : Option TableState) → state_of (filter (is_other log) h) ≡ o → option_and_then (state_from (map entry_of log)) o ≡ Some s
+        → option_and_then (state_from (Definition def ∷ map entry_of log)) o ≡ Some (with_new def s)
+    by_state None p q = Prim.cc
+    by_state (Some x) p q =
+        sym (applied_sealed-state_from log (with_new def x))
+        ∙ sealed_later law whole_law def log x s (history_whole whole_law (filter (is_other log) h) x p) (applied_sealed-state_from log x ∙ q)
 
 own_defined : (h : List Entry) (def : TableDef) → own_entries (h ++ Definition def ∷ []) ≡ own_entries h
 own_defined h def = filter-append is_own h (Definition def ∷ []) ∙ append_nil (own_entries h)
@@ -244,16 +242,17 @@ front_get (z ∷ xs) y (suc n) x e = front_get xs y n x e
 later_table : (s : TableState) (def : TableDef) (t : TableId) (own : TableDef) → IsWhole s → slice_get s.schema t.0 ≡ Some own → table_at (with_new def s) t ≡ table_at s t
 later_table s def t own whole e = by_table (slice_get s.tables t.0) refl
   where
-  within : t.0 < length s.tables
-  within = let l : t.0 < length s.schema = slice_get_within s.schema t.0 own e in Prim.omega (arith, l, whole)
-  by_table : (o : Option Table) → slice_get s.tables t.0 ≡ o → table_at (with_new def s) t ≡ table_at s t
-  by_table None p = absurd (past s.tables t.0 within p)
-    where
-    past : (xs : List Table) (n : ℕ) → n < length xs → slice_get xs n ≡ None → ⊥
-    past [] n lt q = Prim.omega (arith, lt)
-    past (x ∷ xs) zero lt q = Prim.cc
-    past (x ∷ xs) (suc n) lt q = past xs n (Prim.omega (arith, lt)) q
-  by_table (Some table) p = ap (λ (o : Option Table). Rattle.std.proofs.Common.unwrap_or o empty) (front_get s.tables empty t.0 table p ∙ sym p)
+    within : t.0 < length s.tables
+    within = let l : t.0 < length s.schema = slice_get_within s.schema t.0 own e in Prim.omega (arith, l, whole)
+
+    by_table : (o : Option Table) → slice_get s.tables t.0 ≡ o → table_at (with_new def s) t ≡ table_at s t
+    by_table None p = absurd (past s.tables t.0 within p)
+      where
+        past : (xs : List Table) (n : ℕ) → n < length xs → slice_get xs n ≡ None → ⊥
+        past [] n lt q = Prim.omega (arith, lt)
+        past (x ∷ xs) zero lt q = Prim.cc
+        past (x ∷ xs) (suc n) lt q = past xs n (Prim.omega (arith, lt)) q
+    by_table (Some table) p = ap (λ (o : Option Table). Rattle.std.proofs.Common.unwrap_or o empty) (front_get s.tables empty t.0 table p ∙ sym p)
 
 -- the new table refers to no table of these groups
 abbrev pub RefersToNone : TableDef → List Group → Type 0
@@ -273,9 +272,9 @@ defined_shows s def log own g whole none x = record {
   committed = x.committed;
 }
   where
-  or_false : (b : Bool) → (b || false) ≡ b
-  or_false true = refl
-  or_false false = refl
+    or_false : (b : Bool) → (b || false) ≡ b
+    or_false true = refl
+    or_false false = refl
 
 defined_all : (s : TableState) (def : TableDef) (log own : List Op) (groups : List Group) → IsWhole s → RefersToNone def groups → ShowAll s log own groups → ShowAll (with_new def s) log own groups
 defined_all s def log own [] whole none all = tt
@@ -316,9 +315,9 @@ stands_defined law whole_law t t' log h def s x none knows =
 knows_after : (t t' : Tier) (def : TableDef) (schema : List TableDef) → IfSome t.known (λ k. k ≡ schema) → t'.known ≡ option_map (λ k. k ++ def ∷ []) t.known → IfSome t'.known (λ k. k ≡ schema ++ def ∷ [])
 knows_after t t' def schema knows e = subst (λ (o : Option (List TableDef)). IfSome o (λ k. k ≡ schema ++ def ∷ [])) (sym e) (by_known t.known knows)
   where
-  by_known : (o : Option (List TableDef)) → IfSome o (λ k. k ≡ schema) → IfSome (option_map (λ k. k ++ def ∷ []) o) (λ k. k ≡ schema ++ def ∷ [])
-  by_known None p = tt
-  by_known (Some k) p = ap (λ l. l ++ def ∷ []) p
+    by_known : (o : Option (List TableDef)) → IfSome o (λ k. k ≡ schema) → IfSome (option_map (λ k. k ++ def ∷ []) o) (λ k. k ≡ schema ++ def ∷ [])
+    by_known None p = tt
+    by_known (Some k) p = ap (λ l. l ++ def ∷ []) p
 
 knows_nothing : (t' : Tier) (schema : List TableDef) → t'.known ≡ None → IfSome t'.known (λ k. k ≡ schema)
 knows_nothing t' schema e = subst (λ (o : Option (List TableDef)). IfSome o (λ k. k ≡ schema)) (sym e) tt

@@ -1,13 +1,12 @@
 -- What stands when the tier was opened.
 use Rattle.std.proofs.Common.{◌≡◌, ℕ, List, [], ◌∷◌, ◌++◌, Option, Some, None, Bool, true, false, not, cond, refl, sym, ◌∙◌, ap, subst, arith}
-use Rattle.std.specs.Prelude.{◌^◌, Result, Ok, Err}
+use Rattle.std.specs.Prelude.{Ok, Err}
 use Rattle.std.specs.List.{filter}
 use Rattle.std.specs.Option.{option_and_then, IfSome}
 use Rattle.std.proofs.lemmas.List.{append-nil}
 use Rattle.table_state.specs.declared.definition.TableDef.{TableDef}
 use Rattle.table_state.specs.declared.history.Entry.{Entry}
 use Rattle.table_state.specs.declared.history.Entry.TheVariants.{Definition, Foreign, Own}
-use Rattle.table_state.specs.declared.history.Sealed.{Sealed}
 use Rattle.table_state.specs.Tables.{TableState}
 use Rattle.table_state.specs.Histories.{state_of}
 use Rattle.outside.specs.Bank.{TellsSchema}
@@ -17,7 +16,7 @@ use Rattle.outside.specs.declared.fault.BankError.{BankError}
 use Rattle.tier_engine.specs.declared.tier.Tier.{Tier}
 use Rattle.tier_engine.specs.declared.tier.Group.{Group}
 use Rattle.tier_engine.specs.declared.tier.Session.{Session}
-use Rattle.tier_engine.specs.Commits.{applied_sealed, in_commit_order, is_other, own_entries, virtual_state}
+use Rattle.tier_engine.specs.Commits.{applied_sealed, is_other, own_entries}
 use Rattle.tier_engine.specs.TierStates.{opened}
 use Rattle.tier_engine.specs.Standing.{AreApart, Begins, HasOwnKeys, ShowAll, StandsFor, tier_state}
 use Rattle.tier_engine.proofs.BankSteps.{WholeLaw, history_whole}

@@ -2,13 +2,13 @@
 use Rattle.std.proofs.Common.{◌≡◌, ℕ, zero, suc, ◌+◌, ◌≤◌, ◌<◌, List, [], ◌∷◌, ◌++◌, Bool, true, false, ◌||◌, not, cond, nat_eq, map, take, drop, Option, Some, None, refl, sym, ◌∙◌, ap, arith, append_assoc}
 use Rattle.std.specs.Option.{option_and_then}
 use Rattle.std.proofs.lemmas.Bool.{eqb-true, eq-eqb}
-use Rattle.std.proofs.lemmas.List.{map-append, take-append-drop}
+use Rattle.std.proofs.lemmas.List.{map-append}
 use Rattle.table_state.specs.declared.history.Entry.{Entry}
 use Rattle.table_state.specs.declared.history.Sealed.{Sealed}
 use Rattle.table_state.specs.Tables.{TableState}
 use Rattle.table_state.specs.Operations.{applied_all}
 use Rattle.table_state.specs.Histories.{has_ticket, is_of, entry_of, state_from, state_of, after_entry, no_tables}
-use Rattle.tier_engine.specs.Commits.{RiseBetween, pending, applied_sealed, virtual_state, Once}
+use Rattle.tier_engine.specs.Commits.{RiseBetween, pending, applied_sealed, Once}
 
 or_assoc : (a b c : Bool) → (a || (b || c)) ≡ ((a || b) || c)
 or_assoc true b c = refl
@@ -123,9 +123,9 @@ state_one h s =
     state_from-append h (entry_of s ∷ []) no_tables
     ∙ by_option (state_from (entry_of s ∷ [])) (applied_all s.ops) (λ x. once_more (applied_all s.ops x)) (state_of h)
   where
-  once_more : (o : Option TableState) → option_and_then (state_from []) o ≡ o
-  once_more None = refl
-  once_more (Some x) = refl
+    once_more : (o : Option TableState) → option_and_then (state_from []) o ≡ o
+    once_more None = refl
+    once_more (Some x) = refl
 
 -- tickets of a rising log stand in its history once
 pub once_rising : (low : ℕ) (log : List Sealed) (high : ℕ) → RiseBetween low log high → Once (map entry_of log)

@@ -1,8 +1,7 @@
 -- A COMMIT is a step of the tier.
-use Rattle.std.proofs.Common.{◌≡◌, ℕ, zero, suc, ◌+◌, ◌≤◌, ◌<◌, ◌⊎◌, List, [], ◌∷◌, ◌++◌, length, map, take, drop, Option, Some, None, Bool, true, false, ◌||◌, not, cond, nat_eq, nat_lt, nat_le, refl, sym, ◌∙◌, ap, subst, inl, inr, arith, length-append, append-nil}
-use Rattle.std.specs.Prelude.{◌^◌}
-use Rattle.std.specs.List.{filter, list_all, list_any, flat_map, slice_get}
-use Rattle.std.specs.Option.{option_map, option_and_then, option_or, is_some, IfSome, IsSome}
+use Rattle.std.proofs.Common.{◌≡◌, ℕ, zero, suc, ◌+◌, ◌≤◌, ◌<◌, ◌⊎◌, List, [], ◌∷◌, ◌++◌, length, map, take, Option, Some, None, Bool, true, false, ◌||◌, not, cond, nat_eq, nat_le, refl, sym, ◌∙◌, ap, subst, inl, inr, arith, length-append, append-nil}
+use Rattle.std.specs.List.{list_all, list_any}
+use Rattle.std.specs.Option.{option_and_then, option_or, is_some, IfSome}
 use Rattle.std.specs.FinMap.{contains_key, get}
 use Rattle.std.specs.FinSet as set
 use Rattle.std.proofs.lemmas.Bool.{lt-ltb, lt-leb, le-leb}
@@ -18,7 +17,7 @@ use Rattle.table_state.specs.declared.definition.TableDef.{TableDef}
 use Rattle.table_state.specs.declared.operation.Op.{Op}
 use Rattle.table_state.specs.declared.history.Entry.{Entry}
 use Rattle.table_state.specs.declared.history.Sealed.{Sealed}
-use Rattle.table_state.specs.Tables.{Table, TableState}
+use Rattle.table_state.specs.Tables.{TableState}
 use Rattle.table_state.specs.Operations.{applied_all}
 use Rattle.table_state.specs.Histories.{has_ticket, state_of, entry_of}
 use Rattle.sql_subset.specs.declared.stmt.Stmt.TheVariants as statement
@@ -27,15 +26,14 @@ use Rattle.tier_engine.specs.declared.reply.Last.TheVariants.{Done, No}
 use Rattle.tier_engine.specs.declared.tier.Tier.{Tier}
 use Rattle.tier_engine.specs.declared.tier.Group.{Group}
 use Rattle.tier_engine.specs.declared.tier.Session.{Session}
-use Rattle.tier_engine.specs.Commits.{RiseBetween, pending, virtual_state, applied_sealed, own_entries, in_commit_order}
-use Rattle.tier_engine.specs.TierStates.{TierState, GroupState, SessionState, keys_after}
+use Rattle.tier_engine.specs.Commits.{RiseBetween, pending, virtual_state, applied_sealed, in_commit_order}
+use Rattle.tier_engine.specs.TierStates.{TierState, SessionState, keys_after}
 use Rattle.row_types.specs.declared.rule.Rule.{Rule}
 use Rattle.tier_engine.specs.Refusals.{at_limit, commit_fault, past}
 use Rattle.tier_engine.specs.Answers.{Answer, only, committed, commit_answer, commit_of, group_after, refuses, unless}
-use Rattle.tier_engine.specs.Steps.{World, Quiet, InSession, WantsMemory}
-use Rattle.tier_engine.specs.Storing.{Seals, SealsOr, emptied}
+use Rattle.tier_engine.specs.Steps.{Quiet, WantsMemory}
+use Rattle.tier_engine.specs.Storing.{Seals, SealsOr}
 use Rattle.tier_engine.specs.Standing.{StandsFor, InOpen, Turns, Shows, ShowAll, AreIn, committed_rows, group_state, inserts_at, is_insert, is_stored, key_set, ops_of, own_in, session_state, session_in, tier_state, world_of, HasOwnKeys}
-use Rattle.tier_engine.proofs.CommitLaws.{none_below}
 use Rattle.tier_engine.proofs.OwnLaws.{front_tickets}
 use Rattle.tier_engine.proofs.OpLaws.{inserts_schema, inserts_whole}
 use Rattle.tier_engine.proofs.SelectSteps.{IsOpen, opened_step, quiet_same}
@@ -55,40 +53,41 @@ none_next low (s ∷ log) high (suc n) rise =
     let below : s.ticket.0 + 1 ≤ high = least (s.ticket.0 + 1) log high rise.1 in
     ap (λ b. b || has_ticket high (map entry_of (take n log))) (other s.ticket.0 high (λ e. Prim.omega arith)) ∙ none_next (s.ticket.0 + 1) log high n rise.1
   where
-  least : (low : ℕ) (log : List Sealed) (high : ℕ) → RiseBetween low log high → low ≤ high
-  least low [] high rise = rise
-  least low (s ∷ log) high rise = let more : s.ticket.0 + 1 ≤ high = least (s.ticket.0 + 1) log high rise.1 in let first : low ≤ s.ticket.0 = rise.0 in Prim.omega arith
-  other : (a b : ℕ) → (a ≡ b → ⊥) → nat_eq a b ≡ false
-  other a b differ = by_test (nat_eq a b) refl
-    where
-    by_test : (r : Bool) → nat_eq a b ≡ r → nat_eq a b ≡ false
-    by_test true e = absurd (differ (Rattle.std.proofs.lemmas.Bool.eqb-true a b e))
-    by_test false e = e
+    least : (low : ℕ) (log : List Sealed) (high : ℕ) → RiseBetween low log high → low ≤ high
+    least low [] high rise = rise
+    least low (s ∷ log) high rise = let more : s.ticket.0 + 1 ≤ high = least (s.ticket.0 + 1) log high rise.1 in let first : low ≤ s.ticket.0 = rise.0 in Prim.omega arith
+
+    other : (a b : ℕ) → (a ≡ b → ⊥) → nat_eq a b ≡ false
+    other a b differ = by_test (nat_eq a b) refl
+      where
+        by_test : (r : Bool) → nat_eq a b ≡ r → nat_eq a b ≡ false
+        by_test true e = absurd (differ (Rattle.std.proofs.lemmas.Bool.eqb-true a b e))
+        by_test false e = e
 
 applied_push : (log : List Sealed) (s : Sealed) (x : TableState) → applied_sealed (log ++ s ∷ []) x ≡ option_and_then (applied_all s.ops) (applied_sealed log x)
 applied_push [] s x = once (applied_all s.ops x)
   where
-  once : (o : Option TableState) → option_and_then (applied_sealed []) o ≡ o
-  once None = refl
-  once (Some y) = refl
+    once : (o : Option TableState) → option_and_then (applied_sealed []) o ≡ o
+    once None = refl
+    once (Some y) = refl
 applied_push (l ∷ log) s x = by_state (applied_push log s) (applied_all l.ops x)
   where
-  by_state : ((y : TableState) → applied_sealed (log ++ s ∷ []) y ≡ option_and_then (applied_all s.ops) (applied_sealed log y)) → (o : Option TableState)
-      → option_and_then (applied_sealed (log ++ s ∷ [])) o ≡ option_and_then (applied_all s.ops) (option_and_then (applied_sealed log) o)
-  by_state more None = refl
-  by_state more (Some y) = more y
+    by_state : ((y : TableState) → applied_sealed (log ++ s ∷ []) y ≡ option_and_then (applied_all s.ops) (applied_sealed log y)) → (o : Option TableState)
+        → option_and_then (applied_sealed (log ++ s ∷ [])) o ≡ option_and_then (applied_all s.ops) (option_and_then (applied_sealed log) o)
+    by_state more None = refl
+    by_state more (Some y) = more y
 
 -- the virtual state with one transaction more, whose ticket the history hasn't
 pub virtual_push : (h : List Entry) (log : List Sealed) (s : Sealed) → has_ticket s.ticket.0 h ≡ false → virtual_state h (log ++ s ∷ []) ≡ option_and_then (applied_all s.ops) (virtual_state h log)
 virtual_push h log s fresh =
     let more : pending h (log ++ s ∷ []) ≡ pending h log ++ s ∷ [] =
-        filter-append (λ (x : Sealed). not (has_ticket x.ticket.0 h)) log (s ∷ []) ∙ ap (λ b. pending h log ++ cond (not b) (s ∷ []) []) fresh
+    filter-append (λ (x : Sealed). not (has_ticket x.ticket.0 h)) log (s ∷ []) ∙ ap (λ b. pending h log ++ cond (not b) (s ∷ []) []) fresh
     in
     ap (λ l. option_and_then (applied_sealed l) (state_of h)) more ∙ by_state (state_of h)
   where
-  by_state : (o : Option TableState) → option_and_then (applied_sealed (pending h log ++ s ∷ [])) o ≡ option_and_then (applied_all s.ops) (option_and_then (applied_sealed (pending h log)) o)
-  by_state None = refl
-  by_state (Some x) = applied_push (pending h log) s x
+    by_state : (o : Option TableState) → option_and_then (applied_sealed (pending h log ++ s ∷ [])) o ≡ option_and_then (applied_all s.ops) (option_and_then (applied_sealed (pending h log)) o)
+    by_state None = refl
+    by_state (Some x) = applied_push (pending h log) s x
 
 ops_push : (log : List Sealed) (s : Sealed) → ops_of (log ++ s ∷ []) ≡ ops_of log ++ s.ops
 ops_push log s = flat_map-append (λ (x : Sealed). x.ops) log (s ∷ []) ∙ ap (λ l. ops_of log ++ l) (append-nil s.ops)
@@ -103,19 +102,20 @@ commit_shows top log own g x = record {
   committed = λ key any. by_log key (list_any (inserts_at g.table g.def.primary_key key) log) refl any;
 }
   where
-  still : (key : List Value) → contains_key (committed_rows own g) key ≡ true → contains_key g.rows key ≡ true
-  still key there = by_own (list_any (inserts_at g.table g.def.primary_key key) own) (sym (ap is_some (get_before g.table g.def.primary_key own g.rows key)) ∙ there)
-    where
-    by_own : (b : Bool) → is_some (cond b None (get g.rows key)) ≡ true → contains_key g.rows key ≡ true
-    by_own true e = Prim.cc
-    by_own false e = e
-  by_log : (key : List Value) (b : Bool) → list_any (inserts_at g.table g.def.primary_key key) log ≡ b → list_any (inserts_at g.table g.def.primary_key key) (log ++ own) ≡ true → contains_key g.rows key ≡ true
-  by_log key true e any = still key (x.committed key e)
-  by_log key false e any =
-      let mine : list_any (inserts_at g.table g.def.primary_key key) own ≡ true =
-          ap (λ b. b || list_any (inserts_at g.table g.def.primary_key key) own) (sym e) ∙ sym (list_any-append (inserts_at g.table g.def.primary_key key) log own) ∙ any
-      in
-      x.writes key mine
+    still : (key : List Value) → contains_key (committed_rows own g) key ≡ true → contains_key g.rows key ≡ true
+    still key there = by_own (list_any (inserts_at g.table g.def.primary_key key) own) (sym (ap is_some (get_before g.table g.def.primary_key own g.rows key)) ∙ there)
+      where
+        by_own : (b : Bool) → is_some (cond b None (get g.rows key)) ≡ true → contains_key g.rows key ≡ true
+        by_own true e = Prim.cc
+        by_own false e = e
+
+    by_log : (key : List Value) (b : Bool) → list_any (inserts_at g.table g.def.primary_key key) log ≡ b → list_any (inserts_at g.table g.def.primary_key key) (log ++ own) ≡ true → contains_key g.rows key ≡ true
+    by_log key true e any = still key (x.committed key e)
+    by_log key false e any =
+        let mine : list_any (inserts_at g.table g.def.primary_key key) own ≡ true =
+        ap (λ b. b || list_any (inserts_at g.table g.def.primary_key key) own) (sym e) ∙ sym (list_any-append (inserts_at g.table g.def.primary_key key) log own) ∙ any
+        in
+        x.writes key mine
 
 commit_all : (top : TableState) (log own : List Op) (groups : List Group) → ShowAll top log own groups → ShowAll top (log ++ own) [] groups
 commit_all top log own [] all = tt
@@ -125,7 +125,7 @@ commit_all top log own (g ∷ groups) all = (commit_shows top log own g all.0, c
 commit_state : (own : List Op) (g : Group) → list_all is_insert own ≡ true → AreIn g.table g.def.primary_key g.rows own → group_state [] g ≡ group_after own (group_state own g)
 commit_state own g are writes =
     let same : key_set g.rows ≡ keys_after (group_state own g) own (group_state own g).keys =
-        set.same_set key_total key_exact (key_set g.rows) (keys_after (group_state own g) own (group_state own g).keys) (λ q. has_key_set g.rows q ∙ sym (keys_are own g q are writes))
+    set.same_set key_total key_exact (key_set g.rows) (keys_after (group_state own g) own (group_state own g).keys) (λ q. has_key_set g.rows q ∙ sym (keys_are own g q are writes))
     in
     λ i. record { name = g.name; table = g.table; def = g.def; keys = same i }
 
@@ -175,9 +175,9 @@ empty_turns t log h reply o none told stands = quiet_same t log h _ stands (λ f
     let quiet : Quiet w (commit_answer st ss) w reply = (same_world st _ h faults moment (sym (ap (λ (a : Answer). a.0) answer)), told ∙ sym (ap (λ (a : Answer). a.1) answer)) in
     inl (opened_step t statement.Commit w w reply o quiet))
   where
-  nothing : (t : TierState) (s : SessionState) (own : List Op) → length own ≡ 0 → commit_of t s own ≡ (t, only (Done 0))
-  nothing t s [] e = refl
-  nothing t s (op ∷ own) e = Prim.cc
+    nothing : (t : TierState) (s : SessionState) (own : List Op) → length own ≡ 0 → commit_of t s own ≡ (t, only (Done 0))
+    nothing t s [] e = refl
+    nothing t s (op ∷ own) e = Prim.cc
 
 pub seals_step : (t t' : Tier) (log : List Sealed) (h : List Entry) (reply : Reply) (o : IsOpen t) (stands : StandsFor t log h) → 0 < length o.session.own → commit_fault (tier_state t log) ≡ None → t.next ≤ 9223372036854775807
     → Seals t t' o.session reply → Turns t t' log h (λ w w'. InOpen w.tier.session statement.Commit w w' reply)
@@ -196,52 +196,52 @@ seals_step t t' log h reply o stands some room ticket x =
     let all : ShowAll stands.top (ops_of log) s.own t.groups.items = subst (λ (l : List Op). ShowAll stands.top (ops_of log) l t.groups.items) mine stands.shows in
     let schema : stands.top.schema ≡ stands.base.schema = inserts_schema s.own stands.base stands.top are over in
     let stands' : StandsFor t' log' h = record {
-          rise = subst (λ n. RiseBetween 1 log' n) (sym x.next) (rise_push 1 log new t.next stands.rise refl);
-          last = let n : t'.next ≡ t.next + 1 = x.next in Prim.omega arith;
-          came = stands.came;
-          received = stands.received;
-          owns = stands.owns ∙ ap (map entry_of) (sym front);
-          within = Prim.omega arith;
-          at_least = stands.at_least;
-          at_most = stands.at_most;
-          rest = x.unsettled ∙ ap (λ l. l ++ new ∷ []) stands.rest ∙ sym (drop-append-le stands.received log (new ∷ []) (let a : stands.received ≤ stands.came = stands.at_least in Prim.omega arith));
-          ordered = ap (in_commit_order h) front ∙ stands.ordered;
-          base = stands.top;
-          virtual = virtual_push h log new fresh ∙ ap (option_and_then (applied_all s.own)) stands.virtual ∙ over;
-          whole = inserts_whole s.own stands.base stands.top are over stands.whole;
-          knows = subst (λ (k : Option (List TableDef)). IfSome k (λ defs. defs ≡ stands.top.schema)) (sym x.known) (subst (λ (d : List TableDef). IfSome t.known (λ defs. defs ≡ d)) (sym schema) stands.knows);
-          top = stands.top;
-          over = ap (λ l. applied_all l stands.top) none;
-          logged = ap (λ gs. list_all (is_stored gs) (ops_of log')) x.groups ∙ ap (list_all (is_stored t.groups.items)) (ops_push log new) ∙ list_all-append (is_stored t.groups.items) (ops_of log) s.own
-              ∙ and_true _ _ stands.logged (ap (list_all (is_stored t.groups.items)) (sym mine) ∙ stands.writing);
-          writing = ap (list_all (is_stored t'.groups.items)) none;
-          shows = subst (λ (l : List Op). ShowAll stands.top (ops_of log') l t'.groups.items) (sym none)
-              (subst (λ (gs : List Group). ShowAll stands.top (ops_of log') [] gs) (sym x.groups)
-                  (subst (λ (l : List Op). ShowAll stands.top l [] t.groups.items) (sym (ops_push log new)) (commit_all stands.top (ops_of log) s.own t.groups.items all)));
-          apart = subst (λ (gs : List Group). Rattle.tier_engine.specs.Standing.AreApart gs) (sym x.groups) stands.apart;
-          keys = subst (λ (k : Option Session). HasOwnKeys t'.groups.items k) (sym x.session) tt;
-        }
+      rise = subst (λ n. RiseBetween 1 log' n) (sym x.next) (rise_push 1 log new t.next stands.rise refl);
+      last = let n : t'.next ≡ t.next + 1 = x.next in Prim.omega arith;
+      came = stands.came;
+      received = stands.received;
+      owns = stands.owns ∙ ap (map entry_of) (sym front);
+      within = Prim.omega arith;
+      at_least = stands.at_least;
+      at_most = stands.at_most;
+      rest = x.unsettled ∙ ap (λ l. l ++ new ∷ []) stands.rest ∙ sym (drop-append-le stands.received log (new ∷ []) (let a : stands.received ≤ stands.came = stands.at_least in Prim.omega arith));
+      ordered = ap (in_commit_order h) front ∙ stands.ordered;
+      base = stands.top;
+      virtual = virtual_push h log new fresh ∙ ap (option_and_then (applied_all s.own)) stands.virtual ∙ over;
+      whole = inserts_whole s.own stands.base stands.top are over stands.whole;
+      knows = subst (λ (k : Option (List TableDef)). IfSome k (λ defs. defs ≡ stands.top.schema)) (sym x.known) (subst (λ (d : List TableDef). IfSome t.known (λ defs. defs ≡ d)) (sym schema) stands.knows);
+      top = stands.top;
+      over = ap (λ l. applied_all l stands.top) none;
+      logged = ap (λ gs. list_all (is_stored gs) (ops_of log')) x.groups ∙ ap (list_all (is_stored t.groups.items)) (ops_push log new) ∙ list_all-append (is_stored t.groups.items) (ops_of log) s.own
+          ∙ and_true _ _ stands.logged (ap (list_all (is_stored t.groups.items)) (sym mine) ∙ stands.writing);
+      writing = ap (list_all (is_stored t'.groups.items)) none;
+      shows = subst (λ (l : List Op). ShowAll stands.top (ops_of log') l t'.groups.items) (sym none)
+          (subst (λ (gs : List Group). ShowAll stands.top (ops_of log') [] gs) (sym x.groups)
+          (subst (λ (l : List Op). ShowAll stands.top l [] t.groups.items) (sym (ops_push log new)) (commit_all stands.top (ops_of log) s.own t.groups.items all)));
+      apart = subst (λ (gs : List Group). Rattle.tier_engine.specs.Standing.AreApart gs) (sym x.groups) stands.apart;
+      keys = subst (λ (k : Option Session). HasOwnKeys t'.groups.items k) (sym x.session) tt;
+    }
     in
     let st = tier_state t log in
     let ss = session_state s in
     let groups_after : (tier_state t' log').groups ≡ map (group_after s.own) st.groups =
-        ap (λ l. map (group_state l) t'.groups.items) none ∙ ap (map (group_state [])) x.groups ∙ commit_states stands.top (ops_of log) s.own t.groups.items are all
-        ∙ ap (λ l. map (group_after s.own) (map (group_state l) t.groups.items)) (sym mine)
+    ap (λ l. map (group_state l) t'.groups.items) none ∙ ap (map (group_state [])) x.groups ∙ commit_states stands.top (ops_of log) s.own t.groups.items are all
+    ∙ ap (λ l. map (group_after s.own) (map (group_state l) t.groups.items)) (sym mine)
     in
     let after : tier_state t' log' ≡ committed st ss =
-        λ i. record { known = x.known i; groups = groups_after i; session = session_in (x.session i); log = log'; unsettled = x.unsettled i; next = x.next i }
+    λ i. record { known = x.known i; groups = groups_after i; session = session_in (x.session i); log = log'; unsettled = x.unsettled i; next = x.next i }
     in
     let answer : commit_answer st ss ≡ (committed st ss, only (Done t.next)) = by_fault st ss s.own None some room in
     record {
       log' = log';
       stands = stands';
       made = λ faults moment.
-        let w = world_of t log h faults moment in
-        let w' = world_of t' log' h faults moment in
-        let quiet : Quiet w (commit_answer st ss) w' reply =
-            (same_world (tier_state t' log') _ h faults moment (after ∙ sym (ap (λ (a : Answer). a.0) answer)), x.told ∙ sym (ap (λ (a : Answer). a.1) answer))
-        in
-        opened_step t statement.Commit w w' reply o quiet
+          let w = world_of t log h faults moment in
+          let w' = world_of t' log' h faults moment in
+          let quiet : Quiet w (commit_answer st ss) w' reply =
+          (same_world (tier_state t' log') _ h faults moment (after ∙ sym (ap (λ (a : Answer). a.0) answer)), x.told ∙ sym (ap (λ (a : Answer). a.1) answer))
+          in
+          opened_step t statement.Commit w w' reply o quiet;
     }
 
 pub seals_turns : (t t' : Tier) (log : List Sealed) (h : List Entry) (reply : Reply) (o : IsOpen t) → 0 < length o.session.own → commit_fault (tier_state t log) ≡ None → t.next ≤ 9223372036854775807

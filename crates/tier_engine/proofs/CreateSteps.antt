@@ -1,11 +1,10 @@
 -- CREATE TABLE on the console is a step of the tier.
-use Rattle.std.proofs.Common.{◌≡◌, ℕ, ◌≤◌, ◌⊎◌, List, [], ◌∷◌, map, Option, Some, None, Bool, true, false, ◌||◌, cond, nat_eq, refl, sym, ◌∙◌, ap, subst, inl, inr}
+use Rattle.std.proofs.Common.{◌≡◌, ℕ, ◌⊎◌, List, [], ◌∷◌, map, Option, Some, None, Bool, true, false, ◌||◌, cond, nat_eq, refl, sym, ◌∙◌, ap, subst, inl, inr}
 use Rattle.std.specs.Prelude.{Result, Ok, Err}
 use Rattle.std.specs.Option.{option_map, option_or, option_and_then, IsSome}
 use Rattle.std.specs.Result.{IsErrOf}
 use Rattle.std.proofs.lemmas.Bool.{eqb-true, eq-eqb}
 use Rattle.tier_base.specs.declared.code.Code.TheVariants as code
-use Rattle.tier_base.specs.declared.number.TableId.{TableId}
 use Rattle.row_types.specs.declared.rule.Rule.{Rule}
 use Rattle.row_types.specs.declared.rule.Refused.TheVariants as refused
 use Rattle.row_types.specs.declared.declaration.TableDeclaration.{TableDeclaration}
@@ -21,26 +20,26 @@ use Rattle.outside.specs.declared.fault.BankError.{BankError}
 use Rattle.outside.specs.declared.fault.BankError.TheVariants.{Failed, Memory}
 use Rattle.sql_subset.specs.declared.request.ConsoleRequest.TheVariants as console
 use Rattle.tier_engine.specs.declared.reply.Reply.{Reply}
-use Rattle.tier_engine.specs.declared.reply.Last.TheVariants.{Done, No}
+use Rattle.tier_engine.specs.declared.reply.Last.TheVariants.{No}
 use Rattle.tier_engine.specs.declared.tier.Tier.{Tier}
 use Rattle.tier_engine.specs.declared.tier.Group.{Group}
-use Rattle.tier_engine.specs.Refusals.{is_grouped, past, refers, refers_to_group, table_fault, writethrough_parent}
-use Rattle.tier_engine.specs.Answers.{faulty, only, refuses}
-use Rattle.tier_engine.specs.Steps.{World, Quiet, Creates, CreatesTable, DoesConsole, DoesDefine, TellsBankFault, WantsMemory, bank_fault, cached_fault, define_reply}
+use Rattle.tier_engine.specs.Refusals.{past, refers, refers_to_group, table_fault, writethrough_parent}
+use Rattle.tier_engine.specs.Answers.{faulty, only}
+use Rattle.tier_engine.specs.Steps.{World, Creates, CreatesTable, DoesConsole, DoesDefine, TellsBankFault, WantsMemory, cached_fault, define_reply}
 use Rattle.tier_engine.specs.Storing.{IsSame, JudgesTable, Makes, MakesTable, has_table, judged_foreign, judged_parent, judged_table}
-use Rattle.tier_engine.specs.Standing.{Made, StandsFor, group_state, own_in, tier_state, world_of}
+use Rattle.tier_engine.specs.Standing.{Made, StandsFor, group_state, own_in, world_of}
 use Rattle.tier_engine.proofs.BankSteps.{LaterLaw, RefersToNone, WholeLaw, creates_made}
 use Rattle.tier_engine.proofs.GroupSteps.{none_first, none_second, same_tables}
 use Rattle.tier_engine.proofs.ServingLaws.{no_memory}
-use Rattle.tier_engine.proofs.StandingLaws.{same_stands, same_state, same_world}
+use Rattle.tier_engine.proofs.StandingLaws.{same_stands, same_state}
 
 -- the stored groups refuse what the tier's do
 same_parent : (own : List Op) (groups : List Group) (d : TableDeclaration) (def : TableDef) → judged_parent groups d def ≡ writethrough_parent (map (group_state own) groups) d def
 same_parent own groups d def = by_key def.foreign_key
   where
-  by_key : (o : Option ForeignKey) → judged_foreign groups d o ≡ cond (refers_to_group (map (group_state own) groups) o) (broken_at code.WritethroughTable (option_map (λ (f : ForeignKeyDeclaration). f.parent) d.foreign_key)) None
-  by_key None = refl
-  by_key (Some foreign) = ap (λ b. cond b (broken_at code.WritethroughTable (option_map (λ (f : ForeignKeyDeclaration). f.parent) d.foreign_key)) None) (same_tables own groups foreign.parent)
+    by_key : (o : Option ForeignKey) → judged_foreign groups d o ≡ cond (refers_to_group (map (group_state own) groups) o) (broken_at code.WritethroughTable (option_map (λ (f : ForeignKeyDeclaration). f.parent) d.foreign_key)) None
+    by_key None = refl
+    by_key (Some foreign) = ap (λ b. cond b (broken_at code.WritethroughTable (option_map (λ (f : ForeignKeyDeclaration). f.parent) d.foreign_key)) None) (same_tables own groups foreign.parent)
 
 same_fault : (own : List Op) (groups : List Group) (d : TableDeclaration) (schema : List TableDef) → judged_table groups d schema ≡ table_fault (map (group_state own) groups) d schema
 same_fault own groups d schema =
@@ -49,10 +48,10 @@ same_fault own groups d schema =
 equal_swap : (a b : ℕ) → nat_eq a b ≡ nat_eq b a
 equal_swap a b = by_both (nat_eq a b) (nat_eq b a) refl refl
   where
-  by_both : (c d : Bool) → nat_eq a b ≡ c → nat_eq b a ≡ d → nat_eq a b ≡ nat_eq b a
-  by_both true d p q = p ∙ sym (eq-eqb b a (sym (eqb-true a b p)))
-  by_both false true p q = let r : nat_eq a b ≡ true = eq-eqb a b (sym (eqb-true b a q)) in Prim.cc
-  by_both false false p q = p ∙ sym q
+    by_both : (c d : Bool) → nat_eq a b ≡ c → nat_eq b a ≡ d → nat_eq a b ≡ nat_eq b a
+    by_both true d p q = p ∙ sym (eq-eqb b a (sym (eqb-true a b p)))
+    by_both false true p q = let r : nat_eq a b ≡ true = eq-eqb a b (sym (eqb-true b a q)) in Prim.cc
+    by_both false false p q = p ∙ sym q
 
 or_left : (a b : Bool) → (a || b) ≡ false → a ≡ false
 or_left true b e = e
@@ -69,29 +68,32 @@ without_key def (g ∷ groups) e = (ap (refers g.table) e, without_key def group
 
 of_others : (def : TableDef) (foreign : ForeignKey) (groups : List Group) → def.foreign_key ≡ Some foreign → has_table groups foreign.parent ≡ false → RefersToNone def groups
 of_others def foreign [] e none = tt
-of_others def foreign (g ∷ groups) e none =
-    (ap (refers g.table) e ∙ equal_swap foreign.parent.0 g.table.0 ∙ or_left (nat_eq g.table.0 foreign.parent.0) (has_table groups foreign.parent) none,
-    of_others def foreign groups e (or_right (nat_eq g.table.0 foreign.parent.0) (has_table groups foreign.parent) none))
+of_others def foreign (g ∷ groups) e none = (
+  ap (refers g.table) e ∙ equal_swap foreign.parent.0 g.table.0 ∙ or_left (nat_eq g.table.0 foreign.parent.0) (has_table groups foreign.parent) none,
+  of_others def foreign groups e (or_right (nat_eq g.table.0 foreign.parent.0) (has_table groups foreign.parent) none),
+)
 
 -- a table that isn't refused refers to none
 refers_none : (groups : List Group) (d : TableDeclaration) (schema : List TableDef) → judged_table groups d schema ≡ None → RefersToNone (resolved d schema) groups
 refers_none groups d schema e = by_key d.foreign_key refl
   where
-  parent : judged_parent groups d (resolved d schema) ≡ None
-  parent = none_first (judged_parent groups d (resolved d schema)) _ (none_second (fault_of d schema) _ e)
-  by_table : (f : ForeignKeyDeclaration) (b : Bool) → cond b (broken_at code.WritethroughTable (Some f.parent)) None ≡ None → b ≡ false
-  by_table f true p = Prim.cc
-  by_table f false p = refl
-  by_key : (o : Option ForeignKeyDeclaration) → d.foreign_key ≡ o → RefersToNone (resolved d schema) groups
-  by_key None p = without_key (resolved d schema) groups (ap (option_map (resolved_reference d schema)) p)
-  by_key (Some f) p =
-      let key = resolved_reference d schema f in
-      let is : (resolved d schema).foreign_key ≡ Some key = ap (option_map (resolved_reference d schema)) p in
-      let told : cond (has_table groups key.parent) (broken_at code.WritethroughTable (Some f.parent)) None ≡ None =
-          ap (λ (o : Option ForeignKeyDeclaration). cond (has_table groups key.parent) (broken_at code.WritethroughTable (option_map (λ (x : ForeignKeyDeclaration). x.parent) o)) None) (sym p)
-          ∙ ap (judged_foreign groups d) (sym is) ∙ parent
-      in
-      of_others (resolved d schema) key groups is (by_table f (has_table groups key.parent) told)
+    parent : judged_parent groups d (resolved d schema) ≡ None
+    parent = none_first (judged_parent groups d (resolved d schema)) _ (none_second (fault_of d schema) _ e)
+
+    by_table : (f : ForeignKeyDeclaration) (b : Bool) → cond b (broken_at code.WritethroughTable (Some f.parent)) None ≡ None → b ≡ false
+    by_table f true p = Prim.cc
+    by_table f false p = refl
+
+    by_key : (o : Option ForeignKeyDeclaration) → d.foreign_key ≡ o → RefersToNone (resolved d schema) groups
+    by_key None p = without_key (resolved d schema) groups (ap (option_map (resolved_reference d schema)) p)
+    by_key (Some f) p =
+        let key = resolved_reference d schema f in
+        let is : (resolved d schema).foreign_key ≡ Some key = ap (option_map (resolved_reference d schema)) p in
+        let told : cond (has_table groups key.parent) (broken_at code.WritethroughTable (Some f.parent)) None ≡ None =
+        ap (λ (o : Option ForeignKeyDeclaration). cond (has_table groups key.parent) (broken_at code.WritethroughTable (option_map (λ (x : ForeignKeyDeclaration). x.parent) o)) None) (sym p)
+        ∙ ap (judged_foreign groups d) (sym is) ∙ parent
+        in
+        of_others (resolved d schema) key groups is (by_table f (has_table groups key.parent) told)
 
 -- CREATE TABLE is refused
 pub create_refused : (t : Tier) (log : List Sealed) (held : Held) (d : TableDeclaration) (rule : Rule) (reply : Reply) (now : Option Held) (faults moment : ℕ) → now ≡ Some held → StandsFor t log held.history
@@ -106,11 +108,12 @@ create_refused t log held d rule reply now faults moment told stands judged answ
   made = inl (by_known t.known judged);
 }
   where
-  w : World
-  w = world_of t log held.history faults moment
-  by_known : (k : Option (List TableDef)) → JudgesTable t.groups.items d k (Err (refused.Rule rule)) → DoesDefine d k w w reply
-  by_known None e = (refl, answer ∙ ap (λ r. only (No r)) (let p : Some (cached_fault d) ≡ Some rule = e in let q : cached_fault d ≡ rule = Prim.cc in sym q))
-  by_known (Some schema) e = subst (λ (o : Option Rule). CreatesTable (resolved d schema) o w w reply) (sym (e.0) ∙ same_fault (own_in t.session) t.groups.items d schema) (refl, answer)
+    w : World
+    w = world_of t log held.history faults moment
+
+    by_known : (k : Option (List TableDef)) → JudgesTable t.groups.items d k (Err (refused.Rule rule)) → DoesDefine d k w w reply
+    by_known None e = (refl, answer ∙ ap (λ r. only (No r)) (let p : Some (cached_fault d) ≡ Some rule = e in let q : cached_fault d ≡ rule = Prim.cc in sym q))
+    by_known (Some schema) e = subst (λ (o : Option Rule). CreatesTable (resolved d schema) o w w reply) (sym (e.0) ∙ same_fault (own_in t.session) t.groups.items d schema) (refl, answer)
 
 -- want of memory before the call
 pub create_wants : (t t' : Tier) (log : List Sealed) (held : Held) (d : TableDeclaration) (reply : Reply) (before now : Option Held) (f f' m m' : ℕ) → before ≡ Some held → now ≡ before → f' ≡ f → m' ≡ m → IsSame t t'
@@ -128,44 +131,44 @@ create_wants t t' log held d reply before now f f' m m' told same faults moment 
 pub table_created : LaterLaw → WholeLaw → (t t' : Tier) (log : List Sealed) (held : Held) (d : TableDeclaration) (def : TableDef) (reply : Reply) (before now : Option Held) (f f' m m' : ℕ) → before ≡ Some held → StandsFor t log held.history
     → JudgesTable t.groups.items d t.known (Ok def) → Makes before now f f' m m' t t' def reply → Made now f f' m m' t t' log held (λ w w'. DoesConsole (console.CreateTable d) w w' reply ⊎ WantsMemory w w' reply)
 table_created later whole t t' log held d def reply before now f f' m m' told stands judged made = elim made.made [
-      | inl x ↦ by_known t.known refl judged x
-      | inr x ↦ create_wants t t' log held d reply before now f f' m m' told x.1 x.2 x.3 x.0 stands x.4
-    ]
+  | inl x ↦ by_known t.known refl judged x
+  | inr x ↦ create_wants t t' log held d reply before now f f' m m' told x.1 x.2 x.3 x.0 stands x.4
+]
   where
-  by_known : (k : Option (List TableDef)) → t.known ≡ k → JudgesTable t.groups.items d k (Ok def) → MakesTable before now t t' def reply f f' → Made now f f' m m' t t' log held (λ w w'. DoesConsole (console.CreateTable d) w w' reply ⊎ WantsMemory w w' reply)
-  by_known None known e x = absurd e
-  by_known (Some schema) known e x =
-      let own = own_in t.session in
-      let is : def ≡ resolved d schema = e.1 in
-      let fault : judged_table t.groups.items d schema ≡ None = e.0 in
-      let none : RefersToNone def t.groups.items = subst (λ (y : TableDef). RefersToNone y t.groups.items) (sym is) (refers_none t.groups.items d schema fault) in
-      let y = creates_made later whole t t' log held def reply before now f f' m m' told stands none made.later made.on x in
-      let w = world_of t log held.history f m in
-      let w' = world_of t' y.log' y.held'.history f' m' in
-      let creates : Creates (resolved d schema) w w' reply = subst (λ (z : TableDef). Creates z w w' reply) is y.made in
-      let step : CreatesTable (resolved d schema) (table_fault (map (group_state own) t.groups.items) d schema) w w' reply =
-          subst (λ (o : Option Rule). CreatesTable (resolved d schema) o w w' reply) (sym fault ∙ same_fault own t.groups.items d schema) creates
-      in
-      record {
-        log' = y.log';
-        held' = y.held';
-        tells = y.tells;
-        slots = y.slots;
-        stands = y.stands;
-        made = inl (subst (λ (k : Option (List TableDef)). DoesDefine d k w w' reply) (sym known) step);
-      }
+    by_known : (k : Option (List TableDef)) → t.known ≡ k → JudgesTable t.groups.items d k (Ok def) → MakesTable before now t t' def reply f f' → Made now f f' m m' t t' log held (λ w w'. DoesConsole (console.CreateTable d) w w' reply ⊎ WantsMemory w w' reply)
+    by_known None known e x = absurd e
+    by_known (Some schema) known e x =
+        let own = own_in t.session in
+        let is : def ≡ resolved d schema = e.1 in
+        let fault : judged_table t.groups.items d schema ≡ None = e.0 in
+        let none : RefersToNone def t.groups.items = subst (λ (y : TableDef). RefersToNone y t.groups.items) (sym is) (refers_none t.groups.items d schema fault) in
+        let y = creates_made later whole t t' log held def reply before now f f' m m' told stands none made.later made.on x in
+        let w = world_of t log held.history f m in
+        let w' = world_of t' y.log' y.held'.history f' m' in
+        let creates : Creates (resolved d schema) w w' reply = subst (λ (z : TableDef). Creates z w w' reply) is y.made in
+        let step : CreatesTable (resolved d schema) (table_fault (map (group_state own) t.groups.items) d schema) w w' reply =
+        subst (λ (o : Option Rule). CreatesTable (resolved d schema) o w w' reply) (sym fault ∙ same_fault own t.groups.items d schema) creates
+        in
+        record {
+          log' = y.log';
+          held' = y.held';
+          tells = y.tells;
+          slots = y.slots;
+          stands = y.stands;
+          made = inl (subst (λ (k : Option (List TableDef)). DoesDefine d k w w' reply) (sym known) step);
+        }
 
 -- a fault of the bank that CREATE TABLE tells
 pub created_cause : (t t' : Tier) (def : TableDef) (reply : Reply) (before now : Option Held) (f f' m m' : ℕ) → Makes before now f f' m m' t t' def reply → TellsBankFault reply → Rose f f'
 created_cause t t' def reply before now f f' m m' made tells = elim made.made [
-      | inl x ↦ by_result x.result x.answer x.cause
-      | inr x ↦ absurd (no_memory (subst TellsBankFault x.4 tells))
-    ]
+  | inl x ↦ by_result x.result x.answer x.cause
+  | inr x ↦ absurd (no_memory (subst TellsBankFault x.4 tells))
+]
   where
-  by_result : (result : Result (Unit {0}) BankError) → reply ≡ define_reply result → (IsErrOf result Failed → Rose f f') → Rose f f'
-  by_result (Ok done) e cause = absurd (let x = subst TellsBankFault e tells in Prim.cc x.last)
-  by_result (Err Failed) e cause = cause refl
-  by_result (Err Memory) e cause = absurd (no_memory (subst TellsBankFault e tells))
+    by_result : (result : Result (Unit {0}) BankError) → reply ≡ define_reply result → (IsErrOf result Failed → Rose f f') → Rose f f'
+    by_result (Ok done) e cause = absurd (let x = subst TellsBankFault e tells in Prim.cc x.last)
+    by_result (Err Failed) e cause = cause refl
+    by_result (Err Memory) e cause = absurd (no_memory (subst TellsBankFault e tells))
 
 -- the schema is known where a table is judged
 pub known_where : (groups : List Group) (d : TableDeclaration) (k : Option (List TableDef)) (def : TableDef) → JudgesTable groups d k (Ok def) → IsSome k

@@ -6,14 +6,12 @@ use Rattle.std.specs.Option.{option_and_then, IfSome, IsSome}
 use Rattle.std.specs.List.{list_all}
 use Rattle.std.proofs.lemmas.List.{take-append-drop, append-nil, drop-drop, map-append}
 use Rattle.std.proofs.Math.ListN.{drop_of_length-le}
-use Rattle.std.proofs.Math.Seq.{take-add}
 use Rattle.table_state.specs.declared.definition.TableDef.{TableDef}
-use Rattle.table_state.specs.declared.operation.Op.{Op}
 use Rattle.table_state.specs.declared.history.Entry.{Entry}
 use Rattle.table_state.specs.declared.history.Sealed.{Sealed}
 use Rattle.table_state.specs.Tables.{TableState}
 use Rattle.table_state.specs.Operations.{applied_all}
-use Rattle.table_state.specs.Histories.{state_of, state_from, entry_of, no_tables, has_ticket}
+use Rattle.table_state.specs.Histories.{state_of, state_from, entry_of, no_tables}
 use Rattle.outside.specs.Holding.{Held, Slots}
 use Rattle.tier_engine.specs.declared.reply.Reply.{Reply}
 use Rattle.tier_engine.specs.declared.rounds.RoundFault.{RoundFault}
@@ -70,28 +68,29 @@ ordered_grown h low began zero log high owns rise ordered =
     ap (λ x. in_commit_order x (take (began + 0) log)) same ∙ ap (λ m. in_commit_order h (take m log)) here ∙ ordered ∙ ap state_of (sym same)
 ordered_grown h low began (suc n) log high owns rise ordered = by_rest (drop (began + n) log) refl (ordered_grown h low began n log high owns rise ordered)
   where
-  one : suc n ≡ n + 1
-  one = Prim.omega arith
-  by_rest : (l : List Sealed) → drop (began + n) log ≡ l → in_commit_order (grown h began log n) (take (began + n) log) ≡ state_of (grown h began log n)
-      → in_commit_order (grown h began log (suc n)) (take (began + suc n) log) ≡ state_of (grown h began log (suc n))
-  by_rest [] e before =
-      let none : drop n (drop began log) ≡ [] = drop-drop n began log ∙ e in
-      let same : grown h began log (suc n) ≡ grown h began log n = ap (λ l. h ++ map entry_of l) (no_more n (drop began log) none) in
-      let taken : take (began + suc n) log ≡ take (began + n) log = ap (λ m. take m log) (let q : began + suc n ≡ suc (began + n) = Prim.omega arith in q) ∙ no_more (began + n) log e in
-      ap (λ x. in_commit_order x (take (began + suc n) log)) same ∙ ap (in_commit_order (grown h began log n)) taken ∙ before ∙ ap state_of (sym same)
-  by_rest (s ∷ rest) e before =
-      let same : grown h began log (suc n) ≡ grown h began log n ++ entry_of s ∷ [] = ap (λ m. grown h began log m) one ∙ sym (front_grows h began n log s rest e) in
-      let taken : take (began + suc n) log ≡ take (began + n) log ++ s ∷ [] = ap (λ m. take m log) (let q : began + suc n ≡ (began + n) + 1 = Prim.omega arith in q) ∙ take_next (began + n) log s rest e in
-      let fresh = next_fresh (grown h began log n) low (began + n) log high s rest (grown_owns h began n log owns) rise e in
-      ap (λ x. in_commit_order x (take (began + suc n) log)) same ∙ ap (in_commit_order (grown h began log n ++ entry_of s ∷ [])) taken
-      ∙ ordered_push (grown h began log n) (take (began + n) log) s fresh before ∙ ap state_of (sym same)
+    one : suc n ≡ n + 1
+    one = Prim.omega arith
+
+    by_rest : (l : List Sealed) → drop (began + n) log ≡ l → in_commit_order (grown h began log n) (take (began + n) log) ≡ state_of (grown h began log n)
+        → in_commit_order (grown h began log (suc n)) (take (began + suc n) log) ≡ state_of (grown h began log (suc n))
+    by_rest [] e before =
+        let none : drop n (drop began log) ≡ [] = drop-drop n began log ∙ e in
+        let same : grown h began log (suc n) ≡ grown h began log n = ap (λ l. h ++ map entry_of l) (no_more n (drop began log) none) in
+        let taken : take (began + suc n) log ≡ take (began + n) log = ap (λ m. take m log) (let q : began + suc n ≡ suc (began + n) = Prim.omega arith in q) ∙ no_more (began + n) log e in
+        ap (λ x. in_commit_order x (take (began + suc n) log)) same ∙ ap (in_commit_order (grown h began log n)) taken ∙ before ∙ ap state_of (sym same)
+    by_rest (s ∷ rest) e before =
+        let same : grown h began log (suc n) ≡ grown h began log n ++ entry_of s ∷ [] = ap (λ m. grown h began log m) one ∙ sym (front_grows h began n log s rest e) in
+        let taken : take (began + suc n) log ≡ take (began + n) log ++ s ∷ [] = ap (λ m. take m log) (let q : began + suc n ≡ (began + n) + 1 = Prim.omega arith in q) ∙ take_next (began + n) log s rest e in
+        let fresh = next_fresh (grown h began log n) low (began + n) log high s rest (grown_owns h began n log owns) rise e in
+        ap (λ x. in_commit_order x (take (began + suc n) log)) same ∙ ap (in_commit_order (grown h began log n ++ entry_of s ∷ [])) taken
+        ∙ ordered_push (grown h began log n) (take (began + n) log) s fresh before ∙ ap state_of (sym same)
 
 -- the virtual state is the same of a history that grew by some more of the log
 virtual_grown : (h : List Entry) (low began n : ℕ) (log : List Sealed) (high : ℕ) → own_entries h ≡ map entry_of (take began log) → RiseBetween low log high → virtual_state (grown h began log n) log ≡ virtual_state h log
 virtual_grown h low began n log high owns rise =
     let rest = drop began log in
     let by_entries : (l : List Sealed) (o : Option TableState) → option_and_then (applied_sealed l) o ≡ option_and_then (state_from (map entry_of l)) o =
-        λ l o. by_option (applied_sealed l) (state_from (map entry_of l)) (λ x. applied_sealed-state_from l x) o
+    λ l o. by_option (applied_sealed l) (state_from (map entry_of l)) (λ x. applied_sealed-state_from l x) o
     in
     ap (λ l. option_and_then (applied_sealed l) (state_of (grown h began log n))) (front_pending (grown h began log n) low (began + n) log high (grown_owns h began n log owns) rise ∙ sym (drop-drop n began log))
     ∙ by_entries (drop n rest) (state_of (grown h began log n))
@@ -157,9 +156,9 @@ round_after h r i r' j log high result old new h' rise owns below more_receipts 
 defined_of : (log : List Sealed) (h : List Entry) (base : TableState) → virtual_state h log ≡ Some base → (s : TableState) × (state_of h ≡ Some s)
 defined_of log h base e = by_state (state_of h) refl e
   where
-  by_state : (o : Option TableState) → state_of h ≡ o → option_and_then (applied_sealed (pending h log)) o ≡ Some base → (s : TableState) × (state_of h ≡ Some s)
-  by_state None p q = Prim.cc
-  by_state (Some s) p q = (s, p)
+    by_state : (o : Option TableState) → state_of h ≡ o → option_and_then (applied_sealed (pending h log)) o ≡ Some base → (s : TableState) × (state_of h ≡ Some s)
+    by_state None p q = Prim.cc
+    by_state (Some s) p q = (s, p)
 
 -- where none is left without a receipt, all of the log came
 is_drained : (t : Tier) (log : List Sealed) (h : List Entry) (s : StandsFor t log h) → t.unsettled.items ≡ [] → IsDrained h log

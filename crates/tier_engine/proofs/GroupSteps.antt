@@ -1,9 +1,9 @@
 -- A CREATE CACHE GROUP is a step of the tier.
-use Rattle.std.proofs.Common.{◌≡◌, ◌≤◌, ◌⊎◌, ℕ, zero, suc, List, [], ◌∷◌, ◌++◌, length, map, Option, Some, None, Bool, true, false, ◌&&◌, ◌||◌, not, cond, nat_eq, nat_lt, refl, sym, ◌∙◌, ap, subst, inl, inr, arith, unwrap_or}
+use Rattle.std.proofs.Common.{◌≡◌, ◌≤◌, ℕ, List, [], ◌∷◌, ◌++◌, length, map, Option, Some, None, Bool, true, false, ◌&&◌, ◌||◌, not, cond, nat_eq, nat_lt, refl, sym, ◌∙◌, ap, subst, arith, unwrap_or}
 use Rattle.std.specs.Prelude.{◌^◌}
 use Rattle.std.specs.List.{list_all, list_any, slice_get}
-use Rattle.std.specs.Option.{option_map, option_or, is_some, IfSome, IsSome}
-use Rattle.std.specs.FinMap.{empty, get, get-empty, contains_key}
+use Rattle.std.specs.Option.{option_map, option_or, is_some, IfSome}
+use Rattle.std.specs.FinMap.{empty, get-empty}
 use Rattle.std.specs.FinSet as set
 use Rattle.std.proofs.lemmas.Bool.{eqb-true, eq-eqb, lt-ltb}
 use Rattle.std.proofs.lemmas.List.{length-map, map-append}
@@ -23,28 +23,24 @@ use Rattle.table_state.specs.declared.operation.Op.{Op}
 use Rattle.table_state.specs.declared.operation.Op.TheVariants.{Insert, Update, Delete}
 use Rattle.table_state.specs.declared.history.Entry.{Entry}
 use Rattle.table_state.specs.declared.history.Sealed.{Sealed}
-use Rattle.table_state.specs.Tables.{Table, TableState, table_at, key_of, is_same}
+use Rattle.table_state.specs.Tables.{TableState, key_of, is_same}
 use Rattle.table_state.specs.Operations.{applied_all, table_of}
 use Rattle.sql_subset.specs.declared.stmt.CreateGroup.{CreateGroup}
-use Rattle.sql_subset.specs.declared.stmt.Stmt.TheVariants as statement
 use Rattle.tier_engine.specs.declared.reply.Reply.{Reply}
-use Rattle.tier_engine.specs.declared.reply.Last.TheVariants.{Done, No}
 use Rattle.tier_engine.specs.declared.tier.Tier.{Tier}
 use Rattle.tier_engine.specs.declared.tier.Group.{Group}
 use Rattle.tier_engine.specs.declared.tier.OwnKey.{OwnKey}
 use Rattle.tier_engine.specs.declared.tier.Session.{Session}
 use Rattle.tier_engine.specs.Commits.{RiseBetween}
-use Rattle.tier_engine.specs.TierStates.{TierState, GroupState, SessionState, is_named, group_of_table}
-use Rattle.tier_engine.specs.Refusals.{not_yet, unknown_table, group_fault, letter_fault, lettered, has_same_key, same_columns, is_joined, is_grouped, taken_group, open_writes, at_limit}
-use Rattle.tier_engine.specs.Answers.{Answer, only, refuses, unless, new_group, group_over, group_in, group_known, group_cached, group_answer, is_asynchronous}
-use Rattle.tier_engine.specs.Steps.{World, Quiet, InSession, WantsMemory}
-use Rattle.tier_engine.specs.Storing.{IsSame, Groups, GroupsOrNot, has_name, has_table, judged_group, judged_letter, known_or_none, located, located_by, located_in, located_group, place_named}
-use Rattle.tier_engine.specs.Standing.{StandsFor, Shows, ShowAll, AreApart, AreIn, HasOwnKeys, OwnKeys, IsOwnKey, IsKeyOf, InOpen, Turns, committed_rows, group_state, inserts_at, is_insert, is_in_group, is_stored, key_set, ops_of, own_in, session_in, session_state, tier_state, world_of}
+use Rattle.tier_engine.specs.TierStates.{GroupState, SessionState, is_named, group_of_table}
+use Rattle.tier_engine.specs.Refusals.{group_fault, letter_fault, lettered, has_same_key, same_columns, is_joined, is_grouped, open_writes, at_limit}
+use Rattle.tier_engine.specs.Answers.{new_group, group_over, group_in, group_known, group_cached}
+use Rattle.tier_engine.specs.Storing.{Groups, has_name, has_table, judged_group, judged_letter, known_or_none, located, located_by, located_in, located_group, place_named}
+use Rattle.tier_engine.specs.Standing.{StandsFor, Shows, ShowAll, AreApart, HasOwnKeys, OwnKeys, IsOwnKey, committed_rows, group_state, inserts_at, is_insert, is_in_group, is_stored, key_set, ops_of, own_in, session_in, tier_state}
 use Rattle.tier_engine.proofs.BankSteps.{front_get}
 use Rattle.tier_engine.proofs.OpLaws.{inserts_schema}
-use Rattle.tier_engine.proofs.SelectSteps.{IsOpen, is_open, opened_step, quiet_same}
 use Rattle.tier_engine.proofs.ShownLaws.{has_key_set}
-use Rattle.tier_engine.proofs.StandingLaws.{IsFound, and_left, and_right, are_inserts, is_found, memory_turns, not_found, same_world, shows_at, turns_first}
+use Rattle.tier_engine.proofs.StandingLaws.{and_left, and_right, are_inserts, is_found, shows_at}
 
 -- a table without rows has no keys
 no_keys : key_set empty ≡ set.empty
@@ -105,9 +101,9 @@ accepted own groups d table def schema e =
       alone = not_lettered _ (is_joined table def schema) l4;
     }
   where
-  no_writes : (own : List Op) → cond (nat_lt 0 (length own)) (broken code.TransactionOpen detail.Nothing) None ≡ None → own ≡ []
-  no_writes [] e = refl
-  no_writes (op ∷ own) e = let p : ◌≡◌ {A = Option Rule} (broken code.TransactionOpen detail.Nothing) None = sym (ap (λ b. cond b (broken code.TransactionOpen detail.Nothing) None) (lt-ltb 0 (length (op ∷ own)) (Prim.omega arith))) ∙ e in Prim.cc
+    no_writes : (own : List Op) → cond (nat_lt 0 (length own)) (broken code.TransactionOpen detail.Nothing) None ≡ None → own ≡ []
+    no_writes [] e = refl
+    no_writes (op ∷ own) e = let p : ◌≡◌ {A = Option Rule} (broken code.TransactionOpen detail.Nothing) None = sym (ap (λ b. cond b (broken code.TransactionOpen detail.Nothing) None) (lt-ltb 0 (length (op ∷ own)) (Prim.omega arith))) ∙ e in Prim.cc
 
 or_left : (a b : Bool) → (a || b) ≡ false → a ≡ false
 or_left true b e = e
@@ -125,23 +121,24 @@ or_true false = refl
 not_of : (groups : List Group) (table : TableId) (op : Op) → has_table groups table ≡ false → is_in_group groups op ≡ true → nat_eq (table_of op).0 table.0 ≡ false
 not_of groups table op none there = by_test (nat_eq (table_of op).0 table.0) refl
   where
-  swapped : (gs : List Group) → list_any (λ (g : Group). nat_eq table.0 g.table.0) gs ≡ list_any (λ (g : Group). nat_eq g.table.0 table.0) gs
-  swapped [] = refl
-  swapped (g ∷ gs) = λ i. swap table.0 g.table.0 i || swapped gs i
-    where
-    swap : (a b : ℕ) → nat_eq a b ≡ nat_eq b a
-    swap a b = by_both (nat_eq a b) (nat_eq b a) refl refl
+    swapped : (gs : List Group) → list_any (λ (g : Group). nat_eq table.0 g.table.0) gs ≡ list_any (λ (g : Group). nat_eq g.table.0 table.0) gs
+    swapped [] = refl
+    swapped (g ∷ gs) = λ i. swap table.0 g.table.0 i || swapped gs i
       where
-      by_both : (c d : Bool) → nat_eq a b ≡ c → nat_eq b a ≡ d → nat_eq a b ≡ nat_eq b a
-      by_both true d p q = p ∙ sym (eq-eqb b a (sym (eqb-true a b p)))
-      by_both false true p q = let r : nat_eq a b ≡ true = eq-eqb a b (sym (eqb-true b a q)) in Prim.cc
-      by_both false false p q = p ∙ sym q
-  by_test : (b : Bool) → nat_eq (table_of op).0 table.0 ≡ b → nat_eq (table_of op).0 table.0 ≡ false
-  by_test true e =
-      let here : list_any (λ (g : Group). nat_eq table.0 g.table.0) groups ≡ true = ap (λ n. list_any (λ (g : Group). nat_eq n g.table.0) groups) (sym (eqb-true (table_of op).0 table.0 e)) ∙ there in
-      let bad : true ≡ false = sym here ∙ swapped groups ∙ none in
-      Prim.cc
-  by_test false e = e
+        swap : (a b : ℕ) → nat_eq a b ≡ nat_eq b a
+        swap a b = by_both (nat_eq a b) (nat_eq b a) refl refl
+          where
+            by_both : (c d : Bool) → nat_eq a b ≡ c → nat_eq b a ≡ d → nat_eq a b ≡ nat_eq b a
+            by_both true d p q = p ∙ sym (eq-eqb b a (sym (eqb-true a b p)))
+            by_both false true p q = let r : nat_eq a b ≡ true = eq-eqb a b (sym (eqb-true b a q)) in Prim.cc
+            by_both false false p q = p ∙ sym q
+
+    by_test : (b : Bool) → nat_eq (table_of op).0 table.0 ≡ b → nat_eq (table_of op).0 table.0 ≡ false
+    by_test true e =
+        let here : list_any (λ (g : Group). nat_eq table.0 g.table.0) groups ≡ true = ap (λ n. list_any (λ (g : Group). nat_eq n g.table.0) groups) (sym (eqb-true (table_of op).0 table.0 e)) ∙ there in
+        let bad : true ≡ false = sym here ∙ swapped groups ∙ none in
+        Prim.cc
+    by_test false e = e
 
 no_insert : (groups : List Group) (table : TableId) (places : List ℕ) (ops : List Op) (q : List Value) → has_table groups table ≡ false → list_all (is_stored groups) ops ≡ true → list_any (inserts_at table places q) ops ≡ false
 no_insert groups table places [] q none all = refl
@@ -149,10 +146,10 @@ no_insert groups table places (op ∷ ops) q none all =
     ap (λ b. b || list_any (inserts_at table places q) ops) (one op (and_left (is_stored groups op) (list_all (is_stored groups) ops) all))
     ∙ no_insert groups table places ops q none (and_right (is_stored groups op) (list_all (is_stored groups) ops) all)
   where
-  one : (op : Op) → is_stored groups op ≡ true → inserts_at table places q op ≡ false
-  one (Insert u row) e = ap (λ b. b && is_same q (key_of places row)) (not_of groups table (Insert u row) none (and_right true (is_in_group groups (Insert u row)) e))
-  one (Update u old new) e = refl
-  one (Delete u old) e = refl
+    one : (op : Op) → is_stored groups op ≡ true → inserts_at table places q op ≡ false
+    one (Insert u row) e = ap (λ b. b && is_same q (key_of places row)) (not_of groups table (Insert u row) none (and_right true (is_in_group groups (Insert u row)) e))
+    one (Update u old new) e = refl
+    one (Delete u old) e = refl
 
 in_more : (groups : List Group) (x : Group) (op : Op) → is_in_group groups op ≡ true → is_in_group (groups ++ x ∷ []) op ≡ true
 in_more groups x op e = list_any-append (λ (g : Group). nat_eq (table_of op).0 g.table.0) groups (x ∷ []) ∙ ap (λ b. b || is_in_group (x ∷ []) op) e
@@ -167,10 +164,11 @@ stored_more groups x (op ∷ ops) all =
 
 apart_more : (groups : List Group) (x : Group) → AreApart groups → has_table groups x.table ≡ false → AreApart (groups ++ x ∷ [])
 apart_more [] x apart none = (refl, tt)
-apart_more (g ∷ groups) x apart none =
-    (list_any-append (λ (h : Group). nat_eq g.table.0 h.table.0) groups (x ∷ []) ∙ ap (λ b. b || (nat_eq g.table.0 x.table.0 || false)) apart.0
-        ∙ ap (λ b. b || false) (or_left (nat_eq g.table.0 x.table.0) (has_table groups x.table) none),
-    apart_more groups x apart.1 (or_right (nat_eq g.table.0 x.table.0) (has_table groups x.table) none))
+apart_more (g ∷ groups) x apart none = (
+  list_any-append (λ (h : Group). nat_eq g.table.0 h.table.0) groups (x ∷ []) ∙ ap (λ b. b || (nat_eq g.table.0 x.table.0 || false)) apart.0
+      ∙ ap (λ b. b || false) (or_left (nat_eq g.table.0 x.table.0) (has_table groups x.table) none),
+  apart_more groups x apart.1 (or_right (nat_eq g.table.0 x.table.0) (has_table groups x.table) none),
+)
 
 shows_more : (s : TableState) (log own : List Op) (groups : List Group) (x : Group) → ShowAll s log own groups → Shows s log own x → ShowAll s log own (groups ++ x ∷ [])
 shows_more s log own [] x all one = (one, tt)
@@ -180,15 +178,16 @@ keys_more : (groups : List Group) (x : Group) (o : Option Session) → HasOwnKey
 keys_more groups x None all = tt
 keys_more groups x (Some s) all = each s.own s.keys all
   where
-  one : (op : Op) (k : OwnKey) → IsOwnKey groups op k → IsOwnKey (groups ++ x ∷ []) op k
-  one (Insert t row) k y = record { group = y.group; there = front_get groups x k.group y.group y.there; same = y.same; key = y.key }
-  one (Update t old new) k y = absurd y
-  one (Delete t old) k y = absurd y
-  each : (own : List Op) (keys : List OwnKey) → OwnKeys groups own keys → OwnKeys (groups ++ x ∷ []) own keys
-  each [] [] y = tt
-  each [] (k ∷ keys) y = absurd y
-  each (op ∷ own) [] y = absurd y
-  each (op ∷ own) (k ∷ keys) y = (one op k y.0, each own keys y.1)
+    one : (op : Op) (k : OwnKey) → IsOwnKey groups op k → IsOwnKey (groups ++ x ∷ []) op k
+    one (Insert t row) k y = record { group = y.group; there = front_get groups x k.group y.group y.there; same = y.same; key = y.key }
+    one (Update t old new) k y = absurd y
+    one (Delete t old) k y = absurd y
+
+    each : (own : List Op) (keys : List OwnKey) → OwnKeys groups own keys → OwnKeys (groups ++ x ∷ []) own keys
+    each [] [] y = tt
+    each [] (k ∷ keys) y = absurd y
+    each (op ∷ own) [] y = absurd y
+    each (op ∷ own) (k ∷ keys) y = (one op k y.0, each own keys y.1)
 
 -- the tier with one group more
 pub stands_more : (t t' : Tier) (log : List Sealed) (h : List Entry) (name : List ℕ) (table : TableId) (def : TableDef) (reply : Reply) → (s : StandsFor t log h) → Groups t t' name table def reply
@@ -198,12 +197,12 @@ stands_more t t' log h name table def reply s x known alone apart nothing =
     let own = own_in t.session in
     let absent : (q : List Value) → list_any (inserts_at table def.primary_key q) own ≡ false = λ q. ap (list_any (inserts_at table def.primary_key q)) nothing in
     let one : Shows s.top (ops_of log) own g = record {
-          defined = known;
-          alone = alone;
-          rows = λ key row there. let p : ◌≡◌ {A = Option (List Value)} None (Some row) = sym (get-empty key_order key) ∙ there in Prim.cc;
-          writes = λ key any. let p : true ≡ false = sym any ∙ absent key in Prim.cc;
-          committed = λ key any. let p : true ≡ false = sym any ∙ no_insert t.groups.items table def.primary_key (ops_of log) key apart s.logged in Prim.cc;
-        }
+      defined = known;
+      alone = alone;
+      rows = λ key row there. let p : ◌≡◌ {A = Option (List Value)} None (Some row) = sym (get-empty key_order key) ∙ there in Prim.cc;
+      writes = λ key any. let p : true ≡ false = sym any ∙ absent key in Prim.cc;
+      committed = λ key any. let p : true ≡ false = sym any ∙ no_insert t.groups.items table def.primary_key (ops_of log) key apart s.logged in Prim.cc;
+    }
     in
     record {
       rise = subst (λ n. RiseBetween 1 log n) (sym x.next) s.rise;
@@ -238,8 +237,8 @@ state_more t t' log name table def reply x nothing =
     let keys : key_set (committed_rows own g) ≡ set.empty = ap (λ l. key_set (committed_rows l g)) nothing ∙ no_keys in
     let one : group_state own g ≡ new_group name table def = λ i. record { name = name; table = table; def = def; keys = keys i } in
     let groups : map (group_state (own_in t'.session)) t'.groups.items ≡ map (group_state own) t.groups.items ++ new_group name table def ∷ [] =
-        ap (λ o. map (group_state (own_in o)) t'.groups.items) x.session ∙ ap (map (group_state own)) x.groups ∙ map-append (group_state own) t.groups.items (g ∷ [])
-        ∙ ap (λ (y : GroupState). map (group_state own) t.groups.items ++ y ∷ []) one
+    ap (λ o. map (group_state (own_in o)) t'.groups.items) x.session ∙ ap (map (group_state own)) x.groups ∙ map-append (group_state own) t.groups.items (g ∷ [])
+    ∙ ap (λ (y : GroupState). map (group_state own) t.groups.items ++ y ∷ []) one
     in
     λ i. record { known = x.known i; groups = groups i; session = session_in (x.session i); log = log; unsettled = x.unsettled i; next = x.next i }
 
@@ -257,43 +256,47 @@ some_pair a b c e p =
 pub is_located : (t : Tier) (log : List Sealed) (h : List Entry) (s : StandsFor t log h) (name : List ℕ) (table : TableId) (def : TableDef) → located t name ≡ Some (table, def) → IsLocated t log s.top name table def
 is_located t log h s name table def e = by_known t.known refl s.knows e
   where
-  own : List Op
-  own = own_in t.session
-  schema : s.top.schema ≡ s.base.schema
-  schema = inserts_schema own s.base s.top (are_inserts t.groups.items own s.writing) s.over
-  by_place : (k : List TableDef) → k ≡ s.base.schema → t.known ≡ Some k → (o : Option TableId) → place_of_table k name ≡ o → located_in k o ≡ Some (table, def) → IsLocated t log s.top name table def
-  by_place k is known None p q = Prim.cc
-  by_place k is known (Some x) p q = by_def (slice_get k x.0) refl q
-    where
-    by_def : (o : Option TableDef) → slice_get k x.0 ≡ o → option_map {U = TableId × TableDef} (λ y. (x, y)) o ≡ Some (table, def) → IsLocated t log s.top name table def
-    by_def None r u = Prim.cc
-    by_def (Some y) r u =
-        let same = some_pair x y table def u in
-        let there : slice_get k table.0 ≡ Some def = ap (λ (z : TableId). slice_get k z.0) (sym same.0) ∙ r ∙ ap (λ z. Some z) same.1 in
+    own : List Op
+    own = own_in t.session
+
+    schema : s.top.schema ≡ s.base.schema
+    schema = inserts_schema own s.base s.top (are_inserts t.groups.items own s.writing) s.over
+
+    by_place : (k : List TableDef) → k ≡ s.base.schema → t.known ≡ Some k → (o : Option TableId) → place_of_table k name ≡ o → located_in k o ≡ Some (table, def) → IsLocated t log s.top name table def
+    by_place k is known None p q = Prim.cc
+    by_place k is known (Some x) p q = by_def (slice_get k x.0) refl q
+      where
+        by_def : (o : Option TableDef) → slice_get k x.0 ≡ o → option_map {U = TableId × TableDef} (λ y. (x, y)) o ≡ Some (table, def) → IsLocated t log s.top name table def
+        by_def None r u = Prim.cc
+        by_def (Some y) r u =
+            let same = some_pair x y table def u in
+            let there : slice_get k table.0 ≡ Some def = ap (λ (z : TableId). slice_get k z.0) (sym same.0) ∙ r ∙ ap (λ z. Some z) same.1 in
+            record {
+              defined = ap (λ defs. slice_get defs table.0) (schema ∙ sym is) ∙ there;
+              answers = λ ss d named.
+                  ap (λ o. group_known (tier_state t log) ss d o) known
+                  ∙ ap (group_in (tier_state t log) ss d k) (ap (place_of_table k) named ∙ p ∙ ap (λ z. Some z) same.0)
+                  ∙ ap (group_over (tier_state t log) ss d table k) there
+                  ∙ ap (λ o. group_over (tier_state t log) ss d table (known_or_none o) (Some def)) (sym known);
+              joined = λ none. ap (is_joined table def) (schema ∙ sym is) ∙ ap (λ o. is_joined table def (known_or_none o)) (sym known) ∙ none;
+            }
+
+    by_group : t.known ≡ None → (o : Option ℕ) → place_named t.groups.items name ≡ o → located_group t.groups.items o ≡ Some (table, def) → IsLocated t log s.top name table def
+    by_group known None p q = Prim.cc
+    by_group known (Some place) p q =
+        let f = is_found own t.groups.items name place p in
+        let same = some_pair f.group.table f.group.def table def (sym (ap (λ o. option_map {U = TableId × TableDef} (λ (g : Group). (g.table, g.def)) o) f.there) ∙ q) in
+        let x = shows_at s.top (ops_of log) own t.groups.items place f.group s.shows f.there in
         record {
-          defined = ap (λ defs. slice_get defs table.0) (schema ∙ sym is) ∙ there;
+          defined = ap (λ (z : TableId). slice_get s.top.schema z.0) (sym same.0) ∙ x.defined ∙ ap (λ z. Some z) same.1;
           answers = λ ss d named.
               ap (λ o. group_known (tier_state t log) ss d o) known
-              ∙ ap (group_in (tier_state t log) ss d k) (ap (place_of_table k) named ∙ p ∙ ap (λ z. Some z) same.0)
-              ∙ ap (group_over (tier_state t log) ss d table k) there
+              ∙ ap (group_cached (tier_state t log) ss d) (ap (group_of_table (tier_state t log).groups) named ∙ f.found)
+              ∙ (λ i. group_over (tier_state t log) ss d (same.0 i) [] (Some (same.1 i)))
               ∙ ap (λ o. group_over (tier_state t log) ss d table (known_or_none o) (Some def)) (sym known);
-          joined = λ none. ap (is_joined table def) (schema ∙ sym is) ∙ ap (λ o. is_joined table def (known_or_none o)) (sym known) ∙ none;
+          joined = λ none. sym (λ i. is_joined (same.0 i) (same.1 i) s.top.schema) ∙ x.alone;
         }
-  by_group : t.known ≡ None → (o : Option ℕ) → place_named t.groups.items name ≡ o → located_group t.groups.items o ≡ Some (table, def) → IsLocated t log s.top name table def
-  by_group known None p q = Prim.cc
-  by_group known (Some place) p q =
-      let f = is_found own t.groups.items name place p in
-      let same = some_pair f.group.table f.group.def table def (sym (ap (λ o. option_map {U = TableId × TableDef} (λ (g : Group). (g.table, g.def)) o) f.there) ∙ q) in
-      let x = shows_at s.top (ops_of log) own t.groups.items place f.group s.shows f.there in
-      record {
-        defined = ap (λ (z : TableId). slice_get s.top.schema z.0) (sym same.0) ∙ x.defined ∙ ap (λ z. Some z) same.1;
-        answers = λ ss d named.
-            ap (λ o. group_known (tier_state t log) ss d o) known
-            ∙ ap (group_cached (tier_state t log) ss d) (ap (group_of_table (tier_state t log).groups) named ∙ f.found)
-            ∙ (λ i. group_over (tier_state t log) ss d (same.0 i) [] (Some (same.1 i)))
-            ∙ ap (λ o. group_over (tier_state t log) ss d table (known_or_none o) (Some def)) (sym known);
-        joined = λ none. sym (λ i. is_joined (same.0 i) (same.1 i) s.top.schema) ∙ x.alone;
-      }
-  by_known : (o : Option (List TableDef)) → t.known ≡ o → IfSome o (λ k. k ≡ s.base.schema) → located_by t.groups.items name o ≡ Some (table, def) → IsLocated t log s.top name table def
-  by_known None known is p = by_group known (place_named t.groups.items name) refl p
-  by_known (Some k) known is p = by_place k is known (place_of_table k name) refl p
+
+    by_known : (o : Option (List TableDef)) → t.known ≡ o → IfSome o (λ k. k ≡ s.base.schema) → located_by t.groups.items name o ≡ Some (table, def) → IsLocated t log s.top name table def
+    by_known None known is p = by_group known (place_named t.groups.items name) refl p
+    by_known (Some k) known is p = by_place k is known (place_of_table k name) refl p

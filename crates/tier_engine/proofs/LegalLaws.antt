@@ -4,7 +4,6 @@ use Rattle.std.specs.List.{filter}
 use Rattle.std.specs.Option.{option_and_then}
 use Rattle.std.proofs.lemmas.List.Elements.{filter-append}
 use Rattle.std.proofs.lemmas.List.{map-append}
-use Rattle.table_state.specs.declared.definition.TableDef.{TableDef}
 use Rattle.table_state.specs.declared.operation.Op.{Op}
 use Rattle.table_state.specs.declared.history.Entry.{Entry}
 use Rattle.table_state.specs.declared.history.Entry.TheVariants.{Definition, Foreign, Own}
@@ -120,17 +119,18 @@ same_behind f g h same t = has_ticket-append t f h ∙ ap (λ b. b || has_ticket
 other_behind : (f g : List Entry) (e : Entry) → ((t : ℕ) → has_ticket t (e ∷ []) ≡ false) → ((t : ℕ) → has_ticket t f ≡ has_ticket t g) → (t : ℕ) → has_ticket t (f ++ e ∷ []) ≡ has_ticket t g
 other_behind f g e none same t = has_ticket-append t f (e ∷ []) ∙ ap (λ b. has_ticket t f || b) (none t) ∙ or_false (has_ticket t f) ∙ same t
   where
-  or_false : (b : Bool) → (b || false) ≡ b
-  or_false true = refl
-  or_false false = refl
+    or_false : (b : Bool) → (b || false) ≡ b
+    or_false true = refl
+    or_false false = refl
 
 order_same : (conflict : Sealed → Sealed → Bool) (log : List Sealed) (f g h : List Entry) → ((t : ℕ) → has_ticket t f ≡ has_ticket t g) → KeepsOrder conflict log g (own_entries h) → KeepsOrder conflict log f h
 order_same conflict log f g [] same keeps = tt
 order_same conflict log f g (Definition def ∷ h) same keeps = order_same conflict log (f ++ Definition def ∷ []) g h (other_behind f g (Definition def) (λ t. refl) same) keeps
 order_same conflict log f g (Foreign ops ∷ h) same keeps = order_same conflict log (f ++ Foreign ops ∷ []) g h (other_behind f g (Foreign ops) (λ t. refl) same) keeps
-order_same conflict log f g (Own ticket ops ∷ h) same keeps =
-    (follows_same conflict log (record { ticket = ticket; ops = ops }) f g same keeps.0,
-    order_same conflict log (f ++ Own ticket ops ∷ []) (g ++ Own ticket ops ∷ []) h (same_behind f g (Own ticket ops ∷ []) same) keeps.1)
+order_same conflict log f g (Own ticket ops ∷ h) same keeps = (
+  follows_same conflict log (record { ticket = ticket; ops = ops }) f g same keeps.0,
+  order_same conflict log (f ++ Own ticket ops ∷ []) (g ++ Own ticket ops ∷ []) h (same_behind f g (Own ticket ops ∷ []) same) keeps.1,
+)
 
 -- a history whose own entries are a front of a rising log is legal over it
 legal_owns : (conflict : Sealed → Sealed → Bool) (h : List Entry) (low n : ℕ) (log : List Sealed) (high : ℕ) → RiseBetween low log high → own_entries h ≡ map entry_of (take n log) → IsLegal conflict h log
@@ -151,9 +151,9 @@ last_ticket t log s =
     ∙ has_ticket-append t (map entry_of log) (entry_of s ∷ [])
     ∙ ap (λ b. has_ticket t (map entry_of log) || b) (or_false (nat_eq s.ticket.0 t))
   where
-  or_false : (b : Bool) → (b || false) ≡ b
-  or_false true = refl
-  or_false false = refl
+    or_false : (b : Bool) → (b || false) ≡ b
+    or_false true = refl
+    or_false false = refl
 
 -- the others of a history stay the others where one comes whose ticket it hasn't
 others_stay : (log : List Sealed) (s : Sealed) (h : List Entry) → has_ticket s.ticket.0 h ≡ false → filter (is_other (log ++ s ∷ [])) h ≡ filter (is_other log) h
@@ -165,32 +165,34 @@ others_stay log s (Own ticket ops ∷ h) fresh =
     let there : has_ticket s.ticket.0 h ≡ false = or_right (nat_eq ticket.0 s.ticket.0) (has_ticket s.ticket.0 h) fresh in
     let differs : nat_eq s.ticket.0 ticket.0 ≡ false = nat_eq_other s.ticket.0 ticket.0 (λ e. Prim.cc (here, nat_eq_same ticket.0, e)) in
     let same : has_ticket ticket.0 (map entry_of (log ++ s ∷ [])) ≡ has_ticket ticket.0 (map entry_of log) =
-        last_ticket ticket.0 log s ∙ ap (λ b. has_ticket ticket.0 (map entry_of log) || b) differs ∙ or_false (has_ticket ticket.0 (map entry_of log))
+    last_ticket ticket.0 log s ∙ ap (λ b. has_ticket ticket.0 (map entry_of log) || b) differs ∙ or_false (has_ticket ticket.0 (map entry_of log))
     in
     ap (λ b. cond (not b) (Own ticket ops ∷ filter (is_other (log ++ s ∷ [])) h) (filter (is_other (log ++ s ∷ [])) h)) same
     ∙ ap (λ l. cond (not (has_ticket ticket.0 (map entry_of log))) (Own ticket ops ∷ l) l) (others_stay log s h there)
   where
-  or_left : (a b : Bool) → (a || b) ≡ false → a ≡ false
-  or_left true b e = e
-  or_left false b e = refl
-  or_right : (a b : Bool) → (a || b) ≡ false → b ≡ false
-  or_right true b e = Prim.cc
-  or_right false b e = e
-  or_false : (b : Bool) → (b || false) ≡ b
-  or_false true = refl
-  or_false false = refl
+    or_left : (a b : Bool) → (a || b) ≡ false → a ≡ false
+    or_left true b e = e
+    or_left false b e = refl
+
+    or_right : (a b : Bool) → (a || b) ≡ false → b ≡ false
+    or_right true b e = Prim.cc
+    or_right false b e = e
+
+    or_false : (b : Bool) → (b || false) ≡ b
+    or_false true = refl
+    or_false false = refl
 
 -- In commit order the same comes of a history and one more transaction.
 pub ordered_push : (h : List Entry) (log : List Sealed) (s : Sealed) → has_ticket s.ticket.0 h ≡ false → in_commit_order h log ≡ state_of h → in_commit_order (h ++ entry_of s ∷ []) (log ++ s ∷ []) ≡ state_of (h ++ entry_of s ∷ [])
 ordered_push h log s fresh ordered =
     let mine : has_ticket s.ticket.0 (map entry_of (log ++ s ∷ [])) ≡ true =
-        last_ticket s.ticket.0 log s ∙ ap (λ b. has_ticket s.ticket.0 (map entry_of log) || b) (nat_eq_same s.ticket.0) ∙ or_true (has_ticket s.ticket.0 (map entry_of log))
+    last_ticket s.ticket.0 log s ∙ ap (λ b. has_ticket s.ticket.0 (map entry_of log) || b) (nat_eq_same s.ticket.0) ∙ or_true (has_ticket s.ticket.0 (map entry_of log))
     in
     let others : filter (is_other (log ++ s ∷ [])) (h ++ entry_of s ∷ []) ≡ filter (is_other log) h =
-        filter-append (is_other (log ++ s ∷ [])) h (entry_of s ∷ [])
-        ∙ ap (λ b. filter (is_other (log ++ s ∷ [])) h ++ cond (not b) (entry_of s ∷ []) []) mine
-        ∙ append_nil (filter (is_other (log ++ s ∷ [])) h)
-        ∙ others_stay log s h fresh
+    filter-append (is_other (log ++ s ∷ [])) h (entry_of s ∷ [])
+    ∙ ap (λ b. filter (is_other (log ++ s ∷ [])) h ++ cond (not b) (entry_of s ∷ []) []) mine
+    ∙ append_nil (filter (is_other (log ++ s ∷ [])) h)
+    ∙ others_stay log s h fresh
     in
     ap (λ l. state_of (l ++ map entry_of (log ++ s ∷ []))) others
     ∙ state_push (filter (is_other log) h) log s

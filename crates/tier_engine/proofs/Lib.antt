@@ -9,6 +9,7 @@ pub mod DrainSteps
 pub mod FaultLaws
 pub mod GroupSteps
 pub mod PutLaws
+pub mod InsertServes
 pub mod InsertSteps
 pub mod OpLaws
 pub mod OpenSteps

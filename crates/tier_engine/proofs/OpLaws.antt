@@ -1,5 +1,5 @@
 -- What inserts make of a state.
-use Rattle.std.proofs.Common.{◌≡◌, ℕ, zero, suc, List, [], ◌∷◌, ◌++◌, length, Option, Some, None, Bool, true, false, ◌&&◌, ◌||◌, not, cond, nat_eq, refl, sym, ◌∙◌, ap, subst, unwrap_or}
+use Rattle.std.proofs.Common.{◌≡◌, ℕ, zero, suc, List, [], ◌∷◌, length, Option, Some, None, Bool, true, false, ◌&&◌, ◌||◌, not, cond, nat_eq, refl, sym, ◌∙◌, ap, subst, unwrap_or}
 use Rattle.std.specs.List.{slice_get, slice_set, list_all, list_any}
 use Rattle.std.specs.Option.{option_and_then, option_map}
 use Rattle.std.specs.Ordering.{eq_by_cmp}
@@ -7,13 +7,13 @@ use Rattle.std.specs.FinMap.{contains_key, insert, get, get-insert, empty}
 use Rattle.std.proofs.lemmas.Bool.{eqb-true, eq-eqb}
 use Rattle.row_types.specs.declared.value.Value.{Value}
 use Rattle.row_types.specs.Order.{key_order}
-use Rattle.row_types.proofs.OrderLaws.{key_total, key_exact}
+use Rattle.row_types.proofs.OrderLaws.{key_total}
 use Rattle.tier_base.specs.declared.number.TableId.{TableId}
 use Rattle.table_state.specs.declared.definition.TableDef.{TableDef}
 use Rattle.table_state.specs.declared.operation.Op.{Op}
 use Rattle.table_state.specs.declared.operation.Op.TheVariants.{Insert, Update, Delete}
 use Rattle.table_state.specs.Tables.{Table, TableState, table_at, key_of, is_same, fits_columns, has_parent}
-use Rattle.table_state.specs.Operations.{applied, applied_all, on_table, with_row, only_if}
+use Rattle.table_state.specs.Operations.{applied, applied_all, with_row, only_if}
 use Rattle.table_state.specs.Independence.{IsWhole}
 use Rattle.tier_engine.specs.Standing.{is_insert, inserts_at}
 
@@ -131,9 +131,9 @@ by_inserts P same on one (Update t old new ∷ ops) s s' are e = Prim.cc
 by_inserts P same on one (Delete t old ∷ ops) s s' are e = Prim.cc
 by_inserts P same on one (Insert t row ∷ ops) s s' are e = next (λ x q. by_inserts P same on one ops x s' are q) (applied (Insert t row) s) refl e
   where
-  next : ((x : TableState) → applied_all ops x ≡ Some s' → P x s') → (o : Option TableState) → applied (Insert t row) s ≡ o → option_and_then (applied_all ops) o ≡ Some s' → P s s'
-  next more None p q = Prim.cc
-  next more (Some x) p q = on s x s' (one t row s x (goes t row s x p)) (more x q)
+    next : ((x : TableState) → applied_all ops x ≡ Some s' → P x s') → (o : Option TableState) → applied (Insert t row) s ≡ o → option_and_then (applied_all ops) o ≡ Some s' → P s s'
+    next more None p q = Prim.cc
+    next more (Some x) p q = on s x s' (one t row s x (goes t row s x p)) (more x q)
 
 pub inserts_schema : (ops : List Op) (s s' : TableState) → list_all is_insert ops ≡ true → applied_all ops s ≡ Some s' → s'.schema ≡ s.schema
 inserts_schema = by_inserts (λ a b. b.schema ≡ a.schema) (λ s. refl) (λ a b c p q. q ∙ p) goes_schema
@@ -146,16 +146,17 @@ get_goes : (t u : TableId) (row q : List Value) (def : TableDef) (s s' : TableSt
     → get (table_at s' t) q ≡ get (table_at s t) q
 get_goes t u row q def s s' g defined none = by_table (nat_eq u.0 t.0) refl none
   where
-  same_def : nat_eq u.0 t.0 ≡ true → g.def ≡ def
-  same_def e = let p : Some g.def ≡ Some def = sym g.defined ∙ ap (slice_get s.schema) (eqb-true u.0 t.0 e) ∙ defined in Prim.cc
-  by_table : (b : Bool) → nat_eq u.0 t.0 ≡ b → (b && is_same q (key_of def.primary_key row)) ≡ false → get (table_at s' t) q ≡ get (table_at s t) q
-  by_table false e f = ap (λ x. get x q) (goes_other u t row s s' g e)
-  by_table true e f =
-      let here : table_at s' t ≡ insert (table_at s t) (key_of g.def.primary_key row) row =
-          ap (λ n. unwrap_or (slice_get s'.tables n) empty) (sym (eqb-true u.0 t.0 e)) ∙ goes_table u row s s' g ∙ ap (λ n. insert (unwrap_or (slice_get s.tables n) empty) (key_of g.def.primary_key row) row) (eqb-true u.0 t.0 e)
-      in
-      let other : eq_by_cmp key_order q (key_of g.def.primary_key row) ≡ false = ap (λ (d : TableDef). eq_by_cmp key_order q (key_of d.primary_key row)) (same_def e) ∙ f in
-      ap (λ x. get x q) here ∙ get-insert key_total (table_at s t) (key_of g.def.primary_key row) row q ∙ ap (λ b. cond b (Some row) (get (table_at s t) q)) other
+    same_def : nat_eq u.0 t.0 ≡ true → g.def ≡ def
+    same_def e = let p : Some g.def ≡ Some def = sym g.defined ∙ ap (slice_get s.schema) (eqb-true u.0 t.0 e) ∙ defined in Prim.cc
+
+    by_table : (b : Bool) → nat_eq u.0 t.0 ≡ b → (b && is_same q (key_of def.primary_key row)) ≡ false → get (table_at s' t) q ≡ get (table_at s t) q
+    by_table false e f = ap (λ x. get x q) (goes_other u t row s s' g e)
+    by_table true e f =
+        let here : table_at s' t ≡ insert (table_at s t) (key_of g.def.primary_key row) row =
+        ap (λ n. unwrap_or (slice_get s'.tables n) empty) (sym (eqb-true u.0 t.0 e)) ∙ goes_table u row s s' g ∙ ap (λ n. insert (unwrap_or (slice_get s.tables n) empty) (key_of g.def.primary_key row) row) (eqb-true u.0 t.0 e)
+        in
+        let other : eq_by_cmp key_order q (key_of g.def.primary_key row) ≡ false = ap (λ (d : TableDef). eq_by_cmp key_order q (key_of d.primary_key row)) (same_def e) ∙ f in
+        ap (λ x. get x q) here ∙ get-insert key_total (table_at s t) (key_of g.def.primary_key row) row q ∙ ap (λ b. cond b (Some row) (get (table_at s t) q)) other
 
 pub get_inserts : (t : TableId) (def : TableDef) (q : List Value) (ops : List Op) (s s' : TableState) → list_all is_insert ops ≡ true → slice_get s.schema t.0 ≡ Some def
     → list_any (inserts_at t def.primary_key q) ops ≡ false → applied_all ops s ≡ Some s' → get (table_at s' t) q ≡ get (table_at s t) q
@@ -165,10 +166,10 @@ get_inserts t def q (Delete u old ∷ ops) s s' are defined none e = Prim.cc
 get_inserts t def q (Insert u row ∷ ops) s s' are defined none e =
     next (λ x known f. get_inserts t def q ops x s' are known (or_right (inserts_at t def.primary_key q (Insert u row)) (list_any (inserts_at t def.primary_key q) ops) none) f) (applied (Insert u row) s) refl e
   where
-  next : ((x : TableState) → slice_get x.schema t.0 ≡ Some def → applied_all ops x ≡ Some s' → get (table_at s' t) q ≡ get (table_at x t) q)
-      → (o : Option TableState) → applied (Insert u row) s ≡ o → option_and_then (applied_all ops) o ≡ Some s' → get (table_at s' t) q ≡ get (table_at s t) q
-  next more None p f = Prim.cc
-  next more (Some x) p f =
-      let g = goes u row s x p in
-      more x (ap (λ defs. slice_get defs t.0) (goes_schema u row s x g) ∙ defined) f
-      ∙ get_goes t u row q def s x g defined (or_left (inserts_at t def.primary_key q (Insert u row)) (list_any (inserts_at t def.primary_key q) ops) none)
+    next : ((x : TableState) → slice_get x.schema t.0 ≡ Some def → applied_all ops x ≡ Some s' → get (table_at s' t) q ≡ get (table_at x t) q)
+        → (o : Option TableState) → applied (Insert u row) s ≡ o → option_and_then (applied_all ops) o ≡ Some s' → get (table_at s' t) q ≡ get (table_at s t) q
+    next more None p f = Prim.cc
+    next more (Some x) p f =
+        let g = goes u row s x p in
+        more x (ap (λ defs. slice_get defs t.0) (goes_schema u row s x g) ∙ defined) f
+        ∙ get_goes t u row q def s x g defined (or_left (inserts_at t def.primary_key q (Insert u row)) (list_any (inserts_at t def.primary_key q) ops) none)

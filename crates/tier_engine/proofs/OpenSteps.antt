@@ -1,5 +1,5 @@
 -- OPEN, CLOSE and ROLLBACK are steps of the tier: what the calls do.
-use Rattle.std.proofs.Common.{◌≡◌, List, [], ◌∷◌, map, Option, Some, None, Bool, true, false, cond, refl, sym, ◌∙◌, ap, subst}
+use Rattle.std.proofs.Common.{◌≡◌, List, [], map, Option, Some, None, Bool, true, false, cond, refl, sym, ◌∙◌, ap, subst}
 use Rattle.std.specs.Option.{option_map, IsSome, is_some}
 use Rattle.sql_subset.specs.declared.request.OpenOptions.{OpenOptions}
 use Rattle.sql_subset.specs.declared.request.Request.TheVariants as asks_for
@@ -13,22 +13,22 @@ use Rattle.tier_engine.specs.declared.tier.Tier.{Tier}
 use Rattle.tier_engine.specs.declared.tier.Session.{Session}
 use Rattle.tier_engine.specs.TierStates.{TierState, SessionState, is_named, session_of}
 use Rattle.tier_engine.specs.Refusals.{open_fault, past, unknown_session}
-use Rattle.tier_engine.specs.Answers.{Answer, only, open_answer, close_answer, refuses, rollback_answer, unless}
+use Rattle.tier_engine.specs.Answers.{Answer, only, open_answer, close_answer, rollback_answer, unless}
 use Rattle.tier_engine.specs.Steps.{World, Quiet, Closes, DoesRequest}
 use Rattle.tier_engine.specs.Standing.{HasOwnKeys, InOpen, StandsFor, Turns, own_in, session_in, session_state, tier_state, world_of}
-use Rattle.tier_engine.specs.Storing.{IsSame, TakesBack, emptied}
+use Rattle.tier_engine.specs.Storing.{TakesBack, emptied}
 use Rattle.tier_engine.proofs.StandingLaws.{same_world, stands_beside}
 use Rattle.tier_engine.proofs.SessionSteps.{stands_bare, state_bare}
-use Rattle.tier_engine.proofs.SelectSteps.{IsOpen, is_open, opened_step, quiet_same, refuses_quiet}
+use Rattle.tier_engine.proofs.SelectSteps.{is_open, opened_step, quiet_same, refuses_quiet}
 
 -- OPEN is refused where a session is open
 no_session : (o : Option Session) (label : List _) (options : OpenOptions) → open_fault (session_in o) label options ≡ None → o ≡ None
 no_session None label options e = refl
 no_session (Some s) label options e = by_name (is_named s.label label) e
   where
-  by_name : (b : Bool) → cond b (Some (record { code = Rattle.tier_base.specs.declared.code.Code.TheVariants.NameInUse; detail = Rattle.row_types.specs.declared.rule.Detail.TheVariants.Label label })) (past Rattle.tier_base.specs.declared.limit.Limit.TheVariants.Sessions) ≡ None → Some s ≡ None
-  by_name true p = Prim.cc
-  by_name false p = Prim.cc
+    by_name : (b : Bool) → cond b (Some (record { code = Rattle.tier_base.specs.declared.code.Code.TheVariants.NameInUse; detail = Rattle.row_types.specs.declared.rule.Detail.TheVariants.Label label })) (past Rattle.tier_base.specs.declared.limit.Limit.TheVariants.Sessions) ≡ None → Some s ≡ None
+    by_name true p = Prim.cc
+    by_name false p = Prim.cc
 
 -- OPEN
 pub opens_turns : (t t' : Tier) (log : List Sealed) (h : List Entry) (label : List _) (options : OpenOptions) (reply : Reply) → t'.known ≡ t.known → t'.groups.items ≡ t.groups.items → t'.unsettled.items ≡ t.unsettled.items → t'.next ≡ t.next
@@ -48,8 +48,12 @@ opens_turns t t' log h label options reply known groups unsettled next session s
       unsettled = unsettled i;
       next = next i;
     } in
-    record { log' = log; stands = stands; made = λ faults moment.
-      (same_world (tier_state t' log) (open_answer (tier_state t log) label options).0 h faults moment (state ∙ sym (ap (λ (a : Answer). a.0) answered)), told ∙ sym (ap (λ (a : Answer). a.1) answered)) }
+    record {
+      log' = log;
+      stands = stands;
+      made = λ faults moment.
+          (same_world (tier_state t' log) (open_answer (tier_state t log) label options).0 h faults moment (state ∙ sym (ap (λ (a : Answer). a.0) answered)), told ∙ sym (ap (λ (a : Answer). a.1) answered));
+    }
 
 pub open_refused : (t : Tier) (log : List Sealed) (h : List Entry) (label : List _) (options : OpenOptions) (reply : Reply) (rule : Rule) → open_fault (session_in t.session) label options ≡ Some rule → reply ≡ only (No rule) → StandsFor t log h
     → Turns t t log h (λ w w'. Quiet w (open_answer w.tier label options) w' reply)
@@ -65,9 +69,9 @@ close_refused t log h label reply closed told s = quiet_same t log h _ s (λ fau
     let w = world_of t log h faults moment in
     by_session w (session_of (tier_state t log) label) closed)
   where
-  by_session : (w : World) (o : Option SessionState) → is_some o ≡ false → Closes label o w w reply
-  by_session w None p = refuses_quiet w (unknown_session label) reply told
-  by_session w (Some x) p = Prim.cc
+    by_session : (w : World) (o : Option SessionState) → is_some o ≡ false → Closes label o w w reply
+    by_session w None p = refuses_quiet w (unknown_session label) reply told
+    by_session w (Some x) p = Prim.cc
 
 -- what a session without writes has written
 own_emptied : (o : Option Session) → own_in (option_map emptied o) ≡ []
@@ -90,13 +94,17 @@ closes_turns t t1 t' log h label reply back known groups unsettled next session 
     let none : own_in t'.session ≡ [] = ap own_in session in
     let stands : StandsFor t' log h = stands_bare t t' log h s known' unsettled' next' (groups ∙ went.1) none (subst (λ (o : Option Session). HasOwnKeys t'.groups.items o) (sym session) tt) in
     let state : tier_state t' log ≡ (close_answer (tier_state t log)).0 =
-        state_bare t t' log known' unsettled' next' (groups ∙ went.1) none ∙ ap (λ (o : Option Session). let x : TierState = record (tier_state t log) { session = session_in o } in x) session in
-    record { log' = log; stands = stands; made = λ faults moment.
-      by_session (world_of t log h faults moment) (world_of t' log h faults moment) (session_of (tier_state t log) label) opened (same_world (tier_state t' log) (close_answer (tier_state t log)).0 h faults moment state, told) }
+    state_bare t t' log known' unsettled' next' (groups ∙ went.1) none ∙ ap (λ (o : Option Session). let x : TierState = record (tier_state t log) { session = session_in o } in x) session in
+    record {
+      log' = log;
+      stands = stands;
+      made = λ faults moment.
+          by_session (world_of t log h faults moment) (world_of t' log h faults moment) (session_of (tier_state t log) label) opened (same_world (tier_state t' log) (close_answer (tier_state t log)).0 h faults moment state, told);
+    }
   where
-  by_session : (w w' : World) (o : Option SessionState) → is_some o ≡ true → Quiet w (close_answer w.tier) w' reply → Closes label o w w' reply
-  by_session w w' None p q = Prim.cc
-  by_session w w' (Some x) p q = q
+    by_session : (w w' : World) (o : Option SessionState) → is_some o ≡ true → Quiet w (close_answer w.tier) w' reply → Closes label o w w' reply
+    by_session w w' None p q = Prim.cc
+    by_session w w' (Some x) p q = q
 
 -- ROLLBACK
 pub rollback_turns : (t t' : Tier) (log : List Sealed) (h : List Entry) (reply : Reply) → IsSome t.session → TakesBack t t' → reply ≡ only (Done 0) → StandsFor t log h
@@ -108,6 +116,10 @@ rollback_turns t t' log h reply some back told s =
     let stands : StandsFor t' log h = stands_bare t t' log h s back.stays.known back.stays.unsettled back.stays.next went.1 none (subst (λ (x : Option Session). HasOwnKeys t'.groups.items x) (sym went.0) (keys_emptied t'.groups.items t.session)) in
     let session : t'.session ≡ Some (emptied o.session) = went.0 ∙ ap (option_map emptied) o.is in
     let state : tier_state t' log ≡ (rollback_answer (tier_state t log) (session_state o.session)).0 =
-        state_bare t t' log back.stays.known back.stays.unsettled back.stays.next went.1 none ∙ ap (λ (x : Option Session). let y : TierState = record (tier_state t log) { session = session_in x } in y) session in
-    record { log' = log; stands = stands; made = λ faults moment.
-      opened_step t statement.Rollback (world_of t log h faults moment) (world_of t' log h faults moment) reply o (same_world (tier_state t' log) (rollback_answer (tier_state t log) (session_state o.session)).0 h faults moment state, told) }
+    state_bare t t' log back.stays.known back.stays.unsettled back.stays.next went.1 none ∙ ap (λ (x : Option Session). let y : TierState = record (tier_state t log) { session = session_in x } in y) session in
+    record {
+      log' = log;
+      stands = stands;
+      made = λ faults moment.
+          opened_step t statement.Rollback (world_of t log h faults moment) (world_of t' log h faults moment) reply o (same_world (tier_state t' log) (rollback_answer (tier_state t log) (session_state o.session)).0 h faults moment state, told);
+    }

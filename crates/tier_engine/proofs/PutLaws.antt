@@ -1,11 +1,11 @@
 -- A row that is put into a group beside others.
-use Rattle.std.proofs.Common.{◌≡◌, ℕ, zero, suc, List, [], ◌∷◌, ◌++◌, length, map, Option, Some, None, Bool, true, false, ◌&&◌, ◌||◌, not, cond, nat_eq, refl, sym, ◌∙◌, ap, subst}
+use Rattle.std.proofs.Common.{◌≡◌, ℕ, zero, suc, List, [], ◌∷◌, ◌++◌, map, Option, Some, None, Bool, true, false, ◌&&◌, ◌||◌, cond, nat_eq, refl, sym, ◌∙◌, ap, subst}
 use Rattle.std.specs.List.{list_all, list_any, slice_get, slice_set}
-use Rattle.std.specs.Option.{option_and_then, option_or, is_some}
+use Rattle.std.specs.Option.{is_some}
 use Rattle.std.specs.Ordering.{eq_by_cmp, is_eq}
 use Rattle.std.specs.declared.cmp.Ordering.{Ordering}
 use Rattle.std.specs.declared.cmp.Ordering.TheVariants.{Less, Equal, Greater}
-use Rattle.std.specs.FinMap.{get, contains_key, insert, remove, get-insert, get-remove, same_map, empty}
+use Rattle.std.specs.FinMap.{get, contains_key, insert, remove, get-insert, get-remove, same_map}
 use Rattle.std.proofs.lemmas.Bool.{eqb-true, eq-eqb}
 use Rattle.std.proofs.lemmas.List.Folds.{list_any-append}
 use Rattle.row_types.specs.declared.value.Value.{Value}
@@ -13,12 +13,12 @@ use Rattle.row_types.specs.Order.{key_order}
 use Rattle.row_types.proofs.OrderLaws.{key_total, key_exact}
 use Rattle.tier_base.specs.declared.number.TableId.{TableId}
 use Rattle.table_state.specs.declared.operation.Op.{Op}
-use Rattle.table_state.specs.declared.operation.Op.TheVariants.{Insert, Update, Delete}
+use Rattle.table_state.specs.declared.operation.Op.TheVariants.{Insert}
 use Rattle.table_state.specs.Tables.{Table, TableState, table_at, key_of, is_same}
-use Rattle.table_state.specs.Operations.{applied, table_of}
+use Rattle.table_state.specs.Operations.{table_of}
 use Rattle.tier_engine.specs.declared.tier.Group.{Group}
 use Rattle.tier_engine.specs.Refusals.{is_joined}
-use Rattle.tier_engine.specs.Standing.{AreApart, AreIn, IsWithin, Shows, ShowAll, committed_rows, group_state, inserts_at, is_in_group, is_insert, is_stored, key_set, row_before, rows_before}
+use Rattle.tier_engine.specs.Standing.{AreApart, AreIn, IsWithin, Shows, ShowAll, committed_rows, inserts_at, is_in_group, is_insert, is_stored, row_before, rows_before}
 use Rattle.tier_engine.proofs.OpLaws.{Goes, goes_other, goes_schema, goes_table}
 
 -- a group with other rows
@@ -34,22 +34,24 @@ pub remove_insert : (rows : Table) (k row : List Value) → contains_key rows k 
 remove_insert rows k row new = same_map key_total key_exact (remove (insert rows k row) k) rows
     (λ q. get-remove key_total (insert rows k row) k q ∙ ap (λ o. cond (eq_by_cmp key_order q k) None o) (get-insert key_total rows k row q) ∙ by_key q (eq_by_cmp key_order q k) refl)
   where
-  absent : get rows k ≡ None
-  absent = by_row (get rows k) new
-    where
-    by_row : (o : Option (List Value)) → is_some o ≡ false → o ≡ None
-    by_row None e = refl
-    by_row (Some r) e = Prim.cc
-  same : (q : List Value) → eq_by_cmp key_order q k ≡ true → q ≡ k
-  same q e = key_exact q k (tie (key_order q k) e)
-    where
-    tie : (x : Ordering) → is_eq x ≡ true → x ≡ Equal
-    tie Less p = Prim.cc
-    tie Equal p = refl
-    tie Greater p = Prim.cc
-  by_key : (q : List Value) (b : Bool) → eq_by_cmp key_order q k ≡ b → cond b None (cond b (Some row) (get rows q)) ≡ get rows q
-  by_key q true e = sym (ap (get rows) (same q e) ∙ absent)
-  by_key q false e = refl
+    absent : get rows k ≡ None
+    absent = by_row (get rows k) new
+      where
+        by_row : (o : Option (List Value)) → is_some o ≡ false → o ≡ None
+        by_row None e = refl
+        by_row (Some r) e = Prim.cc
+
+    same : (q : List Value) → eq_by_cmp key_order q k ≡ true → q ≡ k
+    same q e = key_exact q k (tie (key_order q k) e)
+      where
+        tie : (x : Ordering) → is_eq x ≡ true → x ≡ Equal
+        tie Less p = Prim.cc
+        tie Equal p = refl
+        tie Greater p = Prim.cc
+
+    by_key : (q : List Value) (b : Bool) → eq_by_cmp key_order q k ≡ b → cond b None (cond b (Some row) (get rows q)) ≡ get rows q
+    by_key q true e = sym (ap (get rows) (same q e) ∙ absent)
+    by_key q false e = refl
 
 -- the rows without the session's writes stay
 pub committed_put : (own : List Op) (g : Group) (row : List Value) → contains_key g.rows (key_of g.def.primary_key row) ≡ false
@@ -95,25 +97,29 @@ put_shows s s' log own g row x goes new = record {
   committed = subst (λ (T : Table). AreIn g.table g.def.primary_key T log) (sym (committed_put own g row new)) x.committed;
 }
   where
-  k : List Value
-  k = key_of g.def.primary_key row
-  same_def : goes.def ≡ g.def
-  same_def = let p : Some goes.def ≡ Some g.def = sym goes.defined ∙ x.defined in Prim.cc
-  table : table_at s' g.table ≡ insert (table_at s g.table) k row
-  table = goes_table g.table row s s' goes ∙ ap (λ (d : _). insert (table_at s g.table) (key_of d.primary_key row) row) same_def
-  by_key : (q r : List Value) (b : Bool) → eq_by_cmp key_order q k ≡ b → cond b (Some row) (get g.rows q) ≡ Some r → cond b (Some row) (get (table_at s g.table) q) ≡ Some r
-  by_key q r true e there = there
-  by_key q r false e there = x.rows q r there
-  by_any : (q : List Value) (b : Bool) → eq_by_cmp key_order q k ≡ b → (list_any (inserts_at g.table g.def.primary_key q) own || inserts_at g.table g.def.primary_key q (Insert g.table row)) ≡ true
-      → is_some (cond b (Some row) (get g.rows q)) ≡ true
-  by_any q true e any = refl
-  by_any q false e any =
-      x.writes q (sym (ap (λ c. list_any (inserts_at g.table g.def.primary_key q) own || (nat_eq g.table.0 g.table.0 && c)) e
-      ∙ ap (λ c. list_any (inserts_at g.table g.def.primary_key q) own || c) (and_false (nat_eq g.table.0 g.table.0)) ∙ or_false (list_any (inserts_at g.table g.def.primary_key q) own)) ∙ any)
-    where
-    and_false : (c : Bool) → (c && false) ≡ false
-    and_false true = refl
-    and_false false = refl
+    k : List Value
+    k = key_of g.def.primary_key row
+
+    same_def : goes.def ≡ g.def
+    same_def = let p : Some goes.def ≡ Some g.def = sym goes.defined ∙ x.defined in Prim.cc
+
+    table : table_at s' g.table ≡ insert (table_at s g.table) k row
+    table = goes_table g.table row s s' goes ∙ ap (λ (d : _). insert (table_at s g.table) (key_of d.primary_key row) row) same_def
+
+    by_key : (q r : List Value) (b : Bool) → eq_by_cmp key_order q k ≡ b → cond b (Some row) (get g.rows q) ≡ Some r → cond b (Some row) (get (table_at s g.table) q) ≡ Some r
+    by_key q r true e there = there
+    by_key q r false e there = x.rows q r there
+
+    by_any : (q : List Value) (b : Bool) → eq_by_cmp key_order q k ≡ b → (list_any (inserts_at g.table g.def.primary_key q) own || inserts_at g.table g.def.primary_key q (Insert g.table row)) ≡ true
+        → is_some (cond b (Some row) (get g.rows q)) ≡ true
+    by_any q true e any = refl
+    by_any q false e any =
+        x.writes q (sym (ap (λ c. list_any (inserts_at g.table g.def.primary_key q) own || (nat_eq g.table.0 g.table.0 && c)) e
+        ∙ ap (λ c. list_any (inserts_at g.table g.def.primary_key q) own || c) (and_false (nat_eq g.table.0 g.table.0)) ∙ or_false (list_any (inserts_at g.table g.def.primary_key q) own)) ∙ any)
+      where
+        and_false : (c : Bool) → (c && false) ≡ false
+        and_false true = refl
+        and_false false = refl
 
 or_left : (a b : Bool) → (a || b) ≡ false → a ≡ false
 or_left true b e = e
@@ -126,9 +132,9 @@ or_right false b e = e
 nat_eq_swap : (a b : ℕ) → nat_eq a b ≡ false → nat_eq b a ≡ false
 nat_eq_swap a b e = by_test (nat_eq b a) refl
   where
-  by_test : (c : Bool) → nat_eq b a ≡ c → nat_eq b a ≡ false
-  by_test true p = let q : nat_eq a b ≡ true = eq-eqb a b (sym (eqb-true b a p)) in Prim.cc
-  by_test false p = p
+    by_test : (c : Bool) → nat_eq b a ≡ c → nat_eq b a ≡ false
+    by_test true p = let q : nat_eq a b ≡ true = eq-eqb a b (sym (eqb-true b a p)) in Prim.cc
+    by_test false p = p
 
 -- one of those that aren't
 any_at : (n : ℕ) (groups : List Group) (place : ℕ) (g : Group) → list_any (λ h. nat_eq n h.table.0) groups ≡ false → slice_get groups place ≡ Some g → nat_eq n g.table.0 ≡ false
@@ -143,10 +149,10 @@ set_shows s s' log own own' [] place g rows e apart all others mine = Prim.cc
 set_shows s s' log own own' (x ∷ groups) zero g rows e apart all others mine =
     (mine, rest groups (ap (λ (y : Group). list_any (λ h. nat_eq y.table.0 h.table.0) groups) (let p : Some x ≡ Some g = e in let q : x ≡ g = Prim.cc in sym q) ∙ apart.0) all.1)
   where
-  rest : (hs : List Group) → list_any (λ h. nat_eq g.table.0 h.table.0) hs ≡ false → ShowAll s log own hs → ShowAll s' log own' hs
-  rest [] none a = tt
-  rest (h ∷ hs) none a =
-      (others h (or_left (nat_eq g.table.0 h.table.0) (list_any (λ h. nat_eq g.table.0 h.table.0) hs) none) a.0, rest hs (or_right (nat_eq g.table.0 h.table.0) (list_any (λ h. nat_eq g.table.0 h.table.0) hs) none) a.1)
+    rest : (hs : List Group) → list_any (λ h. nat_eq g.table.0 h.table.0) hs ≡ false → ShowAll s log own hs → ShowAll s' log own' hs
+    rest [] none a = tt
+    rest (h ∷ hs) none a =
+        (others h (or_left (nat_eq g.table.0 h.table.0) (list_any (λ h. nat_eq g.table.0 h.table.0) hs) none) a.0, rest hs (or_right (nat_eq g.table.0 h.table.0) (list_any (λ h. nat_eq g.table.0 h.table.0) hs) none) a.1)
 set_shows s s' log own own' (x ∷ groups) (suc place) g rows e apart all others mine =
     (others x (nat_eq_swap x.table.0 g.table.0 (any_at x.table.0 groups place g apart.0 e)) all.0, set_shows s s' log own own' groups place g rows e apart.1 all.1 others mine)
 
@@ -158,10 +164,10 @@ set_maps f f' (x ∷ groups) zero g rows e apart others mine =
     let same : x ≡ g = let p : Some x ≡ Some g = e in Prim.cc in
     λ i. (mine ∙ ap f (sym same)) i ∷ rest groups (ap (λ (y : Group). list_any (λ h. nat_eq y.table.0 h.table.0) groups) (sym same) ∙ apart.0) i
   where
-  rest : (hs : List Group) → list_any (λ h. nat_eq g.table.0 h.table.0) hs ≡ false → map f' hs ≡ map f hs
-  rest [] none = refl
-  rest (h ∷ hs) none = λ i.
-      others h (or_left (nat_eq g.table.0 h.table.0) (list_any (λ h. nat_eq g.table.0 h.table.0) hs) none) i ∷ rest hs (or_right (nat_eq g.table.0 h.table.0) (list_any (λ h. nat_eq g.table.0 h.table.0) hs) none) i
+    rest : (hs : List Group) → list_any (λ h. nat_eq g.table.0 h.table.0) hs ≡ false → map f' hs ≡ map f hs
+    rest [] none = refl
+    rest (h ∷ hs) none = λ i.
+        others h (or_left (nat_eq g.table.0 h.table.0) (list_any (λ h. nat_eq g.table.0 h.table.0) hs) none) i ∷ rest hs (or_right (nat_eq g.table.0 h.table.0) (list_any (λ h. nat_eq g.table.0 h.table.0) hs) none) i
 set_maps f f' (x ∷ groups) (suc place) g rows e apart others mine =
     λ i. others x (nat_eq_swap x.table.0 g.table.0 (any_at x.table.0 groups place g apart.0 e)) i ∷ set_maps f f' groups place g rows e apart.1 others mine i
 

@@ -1,7 +1,6 @@
 -- Statements that make no call of the bank tell no fault of it.
-use Rattle.std.proofs.Common.{◌≡◌, ℕ, ◌⊎◌, List, [], ◌∷◌, Option, Some, None, Bool, true, false, cond, subst, inl, inr}
+use Rattle.std.proofs.Common.{ℕ, ◌⊎◌, List, [], ◌∷◌, Option, Some, None, Bool, true, false, cond, subst, inl, inr}
 use Rattle.std.specs.List.{slice_get}
-use Rattle.tier_base.specs.declared.code.Code.TheVariants as code
 use Rattle.tier_base.specs.declared.number.TableId.{TableId}
 use Rattle.row_types.specs.declared.rule.Rule.{Rule}
 use Rattle.sql_subset.specs.declared.request.OpenOptions.{OpenOptions}
@@ -14,11 +13,11 @@ use Rattle.table_state.specs.declared.operation.Op.{Op}
 use Rattle.table_state.specs.Names.{place_of_table}
 use Rattle.table_state.specs.Tables.{Table}
 use Rattle.tier_engine.specs.declared.reply.Reply.{Reply}
-use Rattle.tier_engine.specs.declared.reply.Last.TheVariants.{Done, No}
+use Rattle.tier_engine.specs.declared.reply.Last.TheVariants.{Done}
 use Rattle.tier_engine.specs.TierStates.{TierState, SessionState, GroupState, group_of_table, session_of, seen_rows}
 use Rattle.tier_engine.specs.Refusals.{unknown_session, unknown_table, open_fault, group_fault, select_fault, commit_fault}
-use Rattle.tier_engine.specs.Answers.{Answer, only, faulty, refuses, unless, open_answer, close_answer, rollback_answer, group_answer, group_known, group_cached, group_in, group_over, is_asynchronous, select_answer, commit_answer, commit_of}
-use Rattle.tier_engine.specs.Steps.{World, Quiet, DoesRequest, Closes, InSession, Selects, TellsBankFault, WantsMemory}
+use Rattle.tier_engine.specs.Answers.{Answer, only, refuses, unless, open_answer, close_answer, rollback_answer, group_answer, group_known, group_cached, group_in, group_over, is_asynchronous, select_answer, commit_answer, commit_of}
+use Rattle.tier_engine.specs.Steps.{World, Quiet, DoesRequest, Closes, Selects, TellsBankFault, WantsMemory}
 use Rattle.tier_engine.specs.Standing.{InOpen}
 use Rattle.tier_engine.proofs.ServingLaws.{no_refusal, no_memory}
 
@@ -55,9 +54,9 @@ clean_known t s d (Some schema) = clean_in t s d schema (place_of_table schema d
 clean_group : (t : TierState) (s : SessionState) (d : CreateGroup) → IsClean (group_answer t s d)
 clean_group t s d = by_kind (is_asynchronous d.kind)
   where
-  by_kind : (b : Bool) → IsClean (cond b (group_known t s d t.known) (refuses t Rattle.tier_engine.specs.Refusals.not_yet))
-  by_kind true = clean_known t s d t.known
-  by_kind false = clean_refuses t Rattle.tier_engine.specs.Refusals.not_yet
+    by_kind : (b : Bool) → IsClean (cond b (group_known t s d t.known) (refuses t Rattle.tier_engine.specs.Refusals.not_yet))
+    by_kind true = clean_known t s d t.known
+    by_kind false = clean_refuses t Rattle.tier_engine.specs.Refusals.not_yet
 
 clean_select : (t : TierState) (rows : Table) → IsClean (select_answer t rows)
 clean_select t rows = clean_unless t (select_fault rows) _ (λ x. Prim.cc x.last)
@@ -79,41 +78,42 @@ open_tells label options reply w w' q = by_quiet w w' (open_answer w.tier label 
 pub close_tells : (label : List ℕ) (reply : Reply) (w w' : World) → DoesRequest label asks_for.Close w w' reply → TellsBankFault reply → ⊥
 close_tells label reply w w' q = by_session (session_of w.tier label) q
   where
-  by_session : (o : Option SessionState) → Closes label o w w' reply → TellsBankFault reply → ⊥
-  by_session None p = by_quiet w w' (refuses w.tier (unknown_session label)) reply (clean_refuses w.tier (unknown_session label)) p
-  by_session (Some s) p = by_quiet w w' (close_answer w.tier) reply (clean_done 0) p
+    by_session : (o : Option SessionState) → Closes label o w w' reply → TellsBankFault reply → ⊥
+    by_session None p = by_quiet w w' (refuses w.tier (unknown_session label)) reply (clean_refuses w.tier (unknown_session label)) p
+    by_session (Some s) p = by_quiet w w' (close_answer w.tier) reply (clean_done 0) p
 
 pub rollback_tells : (reply : Reply) (w w' : World) → InOpen w.tier.session statement.Rollback w w' reply ⊎ WantsMemory w w' reply → TellsBankFault reply → ⊥
 rollback_tells reply w w' (inr q) = by_memory w w' reply q
 rollback_tells reply w w' (inl q) = by_session w.tier.session q
   where
-  by_session : (o : Option SessionState) → InOpen o statement.Rollback w w' reply → TellsBankFault reply → ⊥
-  by_session None p = absurd p
-  by_session (Some s) p = by_quiet w w' (rollback_answer w.tier s) reply (clean_done 0) p
+    by_session : (o : Option SessionState) → InOpen o statement.Rollback w w' reply → TellsBankFault reply → ⊥
+    by_session None p = absurd p
+    by_session (Some s) p = by_quiet w w' (rollback_answer w.tier s) reply (clean_done 0) p
 
 pub group_tells : (d : CreateGroup) (reply : Reply) (w w' : World) → InOpen w.tier.session (statement.CreateGroup d) w w' reply ⊎ WantsMemory w w' reply → TellsBankFault reply → ⊥
 group_tells d reply w w' (inr q) = by_memory w w' reply q
 group_tells d reply w w' (inl q) = by_session w.tier.session q
   where
-  by_session : (o : Option SessionState) → InOpen o (statement.CreateGroup d) w w' reply → TellsBankFault reply → ⊥
-  by_session None p = absurd p
-  by_session (Some s) p = by_quiet w w' (group_answer w.tier s d) reply (clean_group w.tier s d) p
+    by_session : (o : Option SessionState) → InOpen o (statement.CreateGroup d) w w' reply → TellsBankFault reply → ⊥
+    by_session None p = absurd p
+    by_session (Some s) p = by_quiet w w' (group_answer w.tier s d) reply (clean_group w.tier s d) p
 
 pub commit_tells : (reply : Reply) (w w' : World) → InOpen w.tier.session statement.Commit w w' reply ⊎ WantsMemory w w' reply → TellsBankFault reply → ⊥
 commit_tells reply w w' (inr q) = by_memory w w' reply q
 commit_tells reply w w' (inl q) = by_session w.tier.session q
   where
-  by_session : (o : Option SessionState) → InOpen o statement.Commit w w' reply → TellsBankFault reply → ⊥
-  by_session None p = absurd p
-  by_session (Some s) p = by_quiet w w' (commit_answer w.tier s) reply (clean_commit w.tier s s.own) p
+    by_session : (o : Option SessionState) → InOpen o statement.Commit w w' reply → TellsBankFault reply → ⊥
+    by_session None p = absurd p
+    by_session (Some s) p = by_quiet w w' (commit_answer w.tier s) reply (clean_commit w.tier s s.own) p
 
 pub select_tells : (i : OneSelect) (reply : Reply) (w w' : World) → InOpen w.tier.session (statement.Select i) w w' reply ⊎ WantsMemory w w' reply → TellsBankFault reply → ⊥
 select_tells i reply w w' (inr q) = by_memory w w' reply q
 select_tells i reply w w' (inl q) = by_session w.tier.session q
   where
-  by_group : (s : SessionState) (o : Option GroupState) → Selects s o i w w' reply → TellsBankFault reply → ⊥
-  by_group s None p = by_quiet w w' (refuses w.tier (unknown_table i.table)) reply (clean_refuses w.tier (unknown_table i.table)) p
-  by_group s (Some g) p = by_quiet w w' (select_answer w.tier (seen_rows g s.own p.0)) reply (clean_select w.tier (seen_rows g s.own p.0)) p.2
-  by_session : (o : Option SessionState) → InOpen o (statement.Select i) w w' reply → TellsBankFault reply → ⊥
-  by_session None p = absurd p
-  by_session (Some s) p = by_group s (group_of_table w.tier.groups i.table) p
+    by_group : (s : SessionState) (o : Option GroupState) → Selects s o i w w' reply → TellsBankFault reply → ⊥
+    by_group s None p = by_quiet w w' (refuses w.tier (unknown_table i.table)) reply (clean_refuses w.tier (unknown_table i.table)) p
+    by_group s (Some g) p = by_quiet w w' (select_answer w.tier (seen_rows g s.own p.0)) reply (clean_select w.tier (seen_rows g s.own p.0)) p.2
+
+    by_session : (o : Option SessionState) → InOpen o (statement.Select i) w w' reply → TellsBankFault reply → ⊥
+    by_session None p = absurd p
+    by_session (Some s) p = by_group s (group_of_table w.tier.groups i.table) p

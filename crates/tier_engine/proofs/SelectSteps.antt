@@ -1,7 +1,7 @@
 -- A SELECT is a step of the tier.
-use Rattle.std.proofs.Common.{◌≡◌, List, map, Option, Some, None, refl, sym, ◌∙◌, ap, subst, inl, ◌⊎◌}
+use Rattle.std.proofs.Common.{◌≡◌, List, Option, Some, None, refl, sym, ◌∙◌, ap, subst, inl, ◌⊎◌}
 use Rattle.std.specs.List.{slice_get}
-use Rattle.std.specs.Option.{option_map, IsSome}
+use Rattle.std.specs.Option.{IsSome}
 use Rattle.table_state.specs.declared.history.Entry.{Entry}
 use Rattle.table_state.specs.declared.history.Sealed.{Sealed}
 use Rattle.table_state.specs.Tables.{Table}
@@ -14,14 +14,14 @@ use Rattle.tier_engine.specs.declared.reply.Last.TheVariants.{No}
 use Rattle.tier_engine.specs.declared.tier.Tier.{Tier}
 use Rattle.tier_engine.specs.declared.tier.Group.{Group}
 use Rattle.tier_engine.specs.declared.tier.Session.{Session}
-use Rattle.tier_engine.specs.TierStates.{TierState, GroupState, SessionState, group_of_table, seen_rows}
+use Rattle.tier_engine.specs.TierStates.{TierState, GroupState, seen_rows}
 use Rattle.tier_engine.specs.Refusals.{unknown_table}
 use Rattle.tier_engine.specs.Answers.{Answer, only, select_answer, refuses}
 use Rattle.tier_engine.specs.Steps.{World, Quiet, InSession, Selects, WantsMemory}
 use Rattle.tier_engine.specs.Storing.{place_named}
-use Rattle.tier_engine.specs.Standing.{StandsFor, InOpen, Turns, group_state, own_in, session_state, session_in, tier_state, world_of}
+use Rattle.tier_engine.specs.Standing.{StandsFor, InOpen, Turns, group_state, own_in, session_state, session_in, world_of}
 use Rattle.tier_engine.proofs.ShownLaws.{shows_stored}
-use Rattle.tier_engine.proofs.StandingLaws.{IsFound, are_inserts, is_found, not_found, same_world, sees_top, shows_at}
+use Rattle.tier_engine.proofs.StandingLaws.{are_inserts, is_found, not_found, sees_top, shows_at}
 
 -- the open session
 pub record IsOpen (t : Tier) : Type 0 where
@@ -31,9 +31,9 @@ pub record IsOpen (t : Tier) : Type 0 where
 pub is_open : (t : Tier) → IsSome t.session → IsOpen t
 is_open t some = by_session t.session refl some
   where
-  by_session : (o : Option Session) → t.session ≡ o → IsSome o → IsOpen t
-  by_session None e some = Prim.cc
-  by_session (Some s) e some = record { session = s; is = e }
+    by_session : (o : Option Session) → t.session ≡ o → IsSome o → IsOpen t
+    by_session None e some = Prim.cc
+    by_session (Some s) e some = record { session = s; is = e }
 
 -- a statement of the session that is open
 pub opened_step : (t : Tier) (st : Stmt) (w w' : World) (reply : Reply) (o : IsOpen t) → InSession (session_state o.session) st w w' reply → InOpen (session_in t.session) st w w' reply
@@ -52,9 +52,9 @@ pub select_unknown : (t : Tier) (log : List Sealed) (h : List Entry) (i : OneSel
 select_unknown t log h i reply some none told s =
     let o = is_open t some in
     quiet_same t log h _ s (λ faults moment.
-      let w = world_of t log h faults moment in
-      inl (opened_step t (statement.Select i) w w reply o
-          (subst (λ (g : Option GroupState). Selects (session_state o.session) g i w w reply) (sym (not_found (own_in t.session) t.groups.items i.table none)) (refuses_quiet w (unknown_table i.table) reply told))))
+    let w = world_of t log h faults moment in
+    inl (opened_step t (statement.Select i) w w reply o
+    (subst (λ (g : Option GroupState). Selects (session_state o.session) g i w w reply) (sym (not_found (own_in t.session) t.groups.items i.table none)) (refuses_quiet w (unknown_table i.table) reply told))))
 
 -- the rows of a group
 pub select_rows_step : (t : Tier) (log : List Sealed) (h : List Entry) (i : OneSelect) (reply : Reply) (place : _) (rows : Table) → IsSome t.session → place_named t.groups.items i.table ≡ Some place
@@ -69,9 +69,9 @@ select_rows_step t log h i reply place rows some there are answer s =
     let stored : seen_rows (group_state own g) own s.top ≡ rows = shows_stored own g s.top (are_inserts t.groups.items own s.writing) x.writes x.rows ∙ sym (are g f.there) in
     let mine : own ≡ o.session.own = ap own_in o.is in
     quiet_same t log h _ s (λ faults moment.
-      let w = world_of t log h faults moment in
-      let a : select_answer w.tier (seen_rows (group_state own g) own s.top) ≡ (w.tier, reply) = ap (select_answer w.tier) stored ∙ answer w.tier in
-      let quiet : Quiet w (select_answer w.tier (seen_rows (group_state own g) own s.top)) w reply = (ap (λ (y : Answer). let z : World = record w { tier = y.0 } in z) (sym a), ap (λ (y : Answer). y.1) (sym a)) in
-      inl (opened_step t (statement.Select i) w w reply o
-          (subst (λ (y : Option GroupState). Selects (session_state o.session) y i w w reply) (sym f.found)
-              (subst (λ (l : List _). Selects (session_state (record o.session { own = l })) (Some (group_state own g)) i w w reply) mine (s.top, sees_top t log h s, quiet)))))
+    let w = world_of t log h faults moment in
+    let a : select_answer w.tier (seen_rows (group_state own g) own s.top) ≡ (w.tier, reply) = ap (select_answer w.tier) stored ∙ answer w.tier in
+    let quiet : Quiet w (select_answer w.tier (seen_rows (group_state own g) own s.top)) w reply = (ap (λ (y : Answer). let z : World = record w { tier = y.0 } in z) (sym a), ap (λ (y : Answer). y.1) (sym a)) in
+    inl (opened_step t (statement.Select i) w w reply o
+    (subst (λ (y : Option GroupState). Selects (session_state o.session) y i w w reply) (sym f.found)
+    (subst (λ (l : List _). Selects (session_state (record o.session { own = l })) (Some (group_state own g)) i w w reply) mine (s.top, sees_top t log h s, quiet)))))

@@ -6,7 +6,6 @@ use Rattle.tier_base.specs.declared.code.Code.TheVariants as code
 use Rattle.table_state.specs.declared.definition.TableDef.{TableDef}
 use Rattle.table_state.specs.declared.history.Entry.{Entry}
 use Rattle.table_state.specs.declared.history.Sealed.{Sealed}
-use Rattle.table_state.specs.Tables.{TableState}
 use Rattle.outside.specs.Holding.{Held}
 use Rattle.outside.specs.Faults.{Rose}
 use Rattle.outside.specs.declared.fault.BankError.{BankError}
@@ -174,6 +173,13 @@ session_here t log label e = by_session (tier_state t log).session e
     by_session : (o : Option SessionState) → is_some (option_and_then (λ s. cond (is_named s.label label) (Some s) None) o) ≡ true → option_and_then (λ s. cond (is_named s.label label) (Some s) None) o ≡ o
     by_session None p = refl
     by_session (Some s) p = by_name s (is_named s.label label) p
+
+pub open_some : (t : Tier) (log : List Sealed) (label : List ℕ) → is_some (session_of (tier_state t log) label) ≡ true → IsSome t.session
+open_some t log label e = by_session t.session e
+  where
+    by_session : (o : Option Session) → is_some (option_and_then (λ s. cond (is_named s.label label) (Some s) None) (session_in o)) ≡ true → IsSome o
+    by_session None p = Prim.cc
+    by_session (Some s) p = refl
 
 pub no_session : (t : Tier) (log : List Sealed) (label : List ℕ) → is_some (session_of (tier_state t log) label) ≡ false → session_of (tier_state t log) label ≡ None
 no_session t log label e = by_option (session_of (tier_state t log) label) e

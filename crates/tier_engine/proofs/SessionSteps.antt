@@ -1,30 +1,21 @@
 -- OPEN, CLOSE and ROLLBACK are steps of the tier.
-use Rattle.std.proofs.Common.{◌≡◌, ℕ, zero, suc, ◌≤◌, ◌+◌, List, [], ◌∷◌, ◌++◌, length, map, Option, Some, None, Bool, true, false, ◌&&◌, ◌||◌, cond, nat_eq, refl, sym, ◌∙◌, ap, subst, append_assoc}
+use Rattle.std.proofs.Common.{◌≡◌, ◌≤◌, List, [], ◌∷◌, map, Option, Some, None, Bool, true, false, ◌&&◌, ◌||◌, cond, nat_eq, refl, sym, ◌∙◌, ap, subst}
 use Rattle.std.specs.Prelude.{◌^◌}
-use Rattle.std.specs.List.{list_all, list_any, slice_get, slice_set}
-use Rattle.std.specs.Option.{option_map, IfSome, is_some}
-use Rattle.std.specs.FinMap.{contains_key, get, remove}
-use Rattle.std.proofs.lemmas.List.Folds.{list_all-append}
+use Rattle.std.specs.List.{list_all, list_any, slice_get}
+use Rattle.std.specs.Option.{IfSome}
+use Rattle.std.specs.FinMap.{get}
 use Rattle.row_types.specs.declared.value.Value.{Value}
-use Rattle.tier_base.specs.declared.number.TableId.{TableId}
 use Rattle.table_state.specs.declared.definition.TableDef.{TableDef}
 use Rattle.table_state.specs.declared.operation.Op.{Op}
-use Rattle.table_state.specs.declared.operation.Op.TheVariants.{Insert, Update, Delete}
 use Rattle.table_state.specs.declared.history.Entry.{Entry}
 use Rattle.table_state.specs.declared.history.Sealed.{Sealed}
-use Rattle.table_state.specs.Tables.{Table, TableState, table_at, key_of}
+use Rattle.table_state.specs.Tables.{TableState, table_at}
 use Rattle.table_state.specs.Operations.{applied_all, table_of}
-use Rattle.sql_subset.specs.declared.request.OpenOptions.{OpenOptions}
-use Rattle.tier_engine.specs.declared.reply.Reply.{Reply}
 use Rattle.tier_engine.specs.declared.tier.Tier.{Tier}
 use Rattle.tier_engine.specs.declared.tier.Group.{Group}
-use Rattle.tier_engine.specs.declared.tier.OwnKey.{OwnKey}
-use Rattle.tier_engine.specs.declared.tier.Session.{Session}
 use Rattle.tier_engine.specs.Commits.{RiseBetween}
-use Rattle.tier_engine.specs.TierStates.{TierState, GroupState}
 use Rattle.tier_engine.specs.Refusals.{is_joined}
-use Rattle.tier_engine.specs.Standing.{StandsFor, Shows, ShowAll, AreApart, AreIn, HasOwnKeys, OwnKeys, bare, committed_rows, group_state, inserts_at, is_insert, is_in_group, is_stored, ops_of, own_in, row_before, rows_before, tier_state, session_in}
-use Rattle.tier_engine.specs.Storing.{StaysBeside, TakesBack, emptied}
+use Rattle.tier_engine.specs.Standing.{StandsFor, Shows, ShowAll, AreApart, HasOwnKeys, bare, group_state, inserts_at, is_insert, is_in_group, is_stored, ops_of, own_in, tier_state, session_in}
 use Rattle.tier_engine.proofs.OpLaws.{get_inserts, inserts_schema}
 use Rattle.tier_engine.proofs.ShownLaws.{get_before}
 use Rattle.tier_engine.proofs.StandingLaws.{are_inserts}
@@ -39,13 +30,15 @@ bare_shows base top log own g are over x = record {
   committed = x.committed;
 }
   where
-  schema : top.schema ≡ base.schema
-  schema = inserts_schema own base top are over
-  known : slice_get base.schema g.table.0 ≡ Some g.def
-  known = ap (λ defs. slice_get defs g.table.0) (sym schema) ∙ x.defined
-  by_mine : (key row : List Value) (b : Bool) → list_any (inserts_at g.table g.def.primary_key key) own ≡ b → cond b None (get g.rows key) ≡ Some row → get (table_at base g.table) key ≡ Some row
-  by_mine key row true e there = Prim.cc
-  by_mine key row false e there = sym (get_inserts g.table g.def key own base top are known e over) ∙ x.rows key row there
+    schema : top.schema ≡ base.schema
+    schema = inserts_schema own base top are over
+
+    known : slice_get base.schema g.table.0 ≡ Some g.def
+    known = ap (λ defs. slice_get defs g.table.0) (sym schema) ∙ x.defined
+
+    by_mine : (key row : List Value) (b : Bool) → list_any (inserts_at g.table g.def.primary_key key) own ≡ b → cond b None (get g.rows key) ≡ Some row → get (table_at base g.table) key ≡ Some row
+    by_mine key row true e there = Prim.cc
+    by_mine key row false e there = sym (get_inserts g.table g.def key own base top are known e over) ∙ x.rows key row there
 
 bare_all : (base top : TableState) (log own : List Op) (groups : List Group) → list_all is_insert own ≡ true → applied_all own base ≡ Some top → ShowAll top log own groups → ShowAll base log [] (map (bare own) groups)
 bare_all base top log own [] are over all = tt
@@ -63,9 +56,9 @@ apart_bare : (own : List Op) (groups : List Group) → AreApart groups → AreAp
 apart_bare own [] apart = tt
 apart_bare own (g ∷ groups) apart = (same groups ∙ apart.0, apart_bare own groups apart.1)
   where
-  same : (hs : List Group) → list_any (λ h. nat_eq g.table.0 h.table.0) (map (bare own) hs) ≡ list_any (λ h. nat_eq g.table.0 h.table.0) hs
-  same [] = refl
-  same (h ∷ hs) = ap (λ b. nat_eq g.table.0 h.table.0 || b) (same hs)
+    same : (hs : List Group) → list_any (λ h. nat_eq g.table.0 h.table.0) (map (bare own) hs) ≡ list_any (λ h. nat_eq g.table.0 h.table.0) hs
+    same [] = refl
+    same (h ∷ hs) = ap (λ b. nat_eq g.table.0 h.table.0 || b) (same hs)
 
 pub bare_states : (own : List Op) (groups : List Group) → map (group_state []) (map (bare own) groups) ≡ map (group_state own) groups
 bare_states own [] = refl
@@ -107,6 +100,6 @@ pub state_bare : (t t' : Tier) (log : List Sealed) → t'.known ≡ t.known → 
     → tier_state t' log ≡ record (tier_state t log) { session = session_in t'.session }
 state_bare t t' log known unsettled next groups none =
     let same : map (group_state (own_in t'.session)) t'.groups.items ≡ map (group_state (own_in t.session)) t.groups.items =
-        ap (λ l. map (group_state l) t'.groups.items) none ∙ ap (map (group_state [])) groups ∙ bare_states (own_in t.session) t.groups.items
+    ap (λ l. map (group_state l) t'.groups.items) none ∙ ap (map (group_state [])) groups ∙ bare_states (own_in t.session) t.groups.items
     in
     λ i. record { known = known i; groups = same i; session = session_in t'.session; log = log; unsettled = unsettled i; next = next i }

@@ -1,5 +1,5 @@
 -- What a group shows is what is stored of it.
-use Rattle.std.proofs.Common.{◌≡◌, ℕ, List, [], ◌∷◌, Option, Some, None, Bool, true, false, ◌&&◌, ◌||◌, not, cond, nat_eq, refl, sym, ◌∙◌, ap}
+use Rattle.std.proofs.Common.{◌≡◌, ℕ, List, [], ◌∷◌, Option, Some, None, Bool, true, false, ◌&&◌, ◌||◌, cond, nat_eq, refl, sym, ◌∙◌, ap}
 use Rattle.std.specs.List.{list_all, list_any}
 use Rattle.std.specs.Option.{is_some}
 use Rattle.std.specs.Ordering.{eq_by_cmp}
@@ -27,18 +27,20 @@ get_before t places (Update u old new ∷ ops) rows q = get_before t places ops 
 get_before t places (Delete u old ∷ ops) rows q = get_before t places ops rows q
 get_before t places (Insert u row ∷ ops) rows q = by_table (nat_eq u.0 t.0) (get_before t places ops rows q)
   where
-  later : Table
-  later = rows_before t places ops rows
-  by_key : (b c : Bool) (o : Option (List Value)) → cond b None (cond c None o) ≡ cond (b || c) None o
-  by_key true c o = refl
-  by_key false c o = refl
-  by_table : (b : Bool) → get later q ≡ cond (list_any (inserts_at t places q) ops) None (get rows q)
-      → get (cond b (remove later (key_of places row)) later) q ≡ cond ((b && is_same q (key_of places row)) || list_any (inserts_at t places q) ops) None (get rows q)
-  by_table false e = e
-  by_table true e =
-      get-remove key_total later (key_of places row) q
-      ∙ ap (λ o. cond (eq_by_cmp key_order q (key_of places row)) None o) e
-      ∙ by_key (eq_by_cmp key_order q (key_of places row)) (list_any (inserts_at t places q) ops) (get rows q)
+    later : Table
+    later = rows_before t places ops rows
+
+    by_key : (b c : Bool) (o : Option (List Value)) → cond b None (cond c None o) ≡ cond (b || c) None o
+    by_key true c o = refl
+    by_key false c o = refl
+
+    by_table : (b : Bool) → get later q ≡ cond (list_any (inserts_at t places q) ops) None (get rows q)
+        → get (cond b (remove later (key_of places row)) later) q ≡ cond ((b && is_same q (key_of places row)) || list_any (inserts_at t places q) ops) None (get rows q)
+    by_table false e = e
+    by_table true e =
+        get-remove key_total later (key_of places row) q
+        ∙ ap (λ o. cond (eq_by_cmp key_order q (key_of places row)) None o) e
+        ∙ by_key (eq_by_cmp key_order q (key_of places row)) (list_any (inserts_at t places q) ops) (get rows q)
 
 -- the keys behind inserts are those before them, and the inserted ones
 keys_behind_all : (g : GroupState) (ops : List Op) (keys : set.FinSet key_order) (q : List Value) → list_all is_insert ops ≡ true
@@ -49,22 +51,24 @@ keys_behind_all g (Delete u old ∷ ops) keys q are = Prim.cc
 keys_behind_all g (Insert u row ∷ ops) keys q are =
     keys_behind_all g ops (cond (nat_eq u.0 g.table.0) (set.insert keys (key_of g.def.primary_key row)) keys) q are ∙ by_table (nat_eq u.0 g.table.0)
   where
-  k : List Value
-  k = key_of g.def.primary_key row
-  swap : (a b c : Bool) → (a || (b || c)) ≡ ((b || a) || c)
-  swap true true c = refl
-  swap true false c = refl
-  swap false b c = ap (λ x. x || c) (sym (or_false b))
-    where
-    or_false : (x : Bool) → (x || false) ≡ x
-    or_false true = refl
-    or_false false = refl
-  by_table : (b : Bool) → (list_any (inserts_at g.table g.def.primary_key q) ops || set.contains (cond b (set.insert keys k) keys) q)
-      ≡ (((b && is_same q k) || list_any (inserts_at g.table g.def.primary_key q) ops) || set.contains keys q)
-  by_table false = refl
-  by_table true =
-      ap (λ x. list_any (inserts_at g.table g.def.primary_key q) ops || x) (set.contains-insert key_total keys k q)
-      ∙ swap (list_any (inserts_at g.table g.def.primary_key q) ops) (is_same q k) (set.contains keys q)
+    k : List Value
+    k = key_of g.def.primary_key row
+
+    swap : (a b c : Bool) → (a || (b || c)) ≡ ((b || a) || c)
+    swap true true c = refl
+    swap true false c = refl
+    swap false b c = ap (λ x. x || c) (sym (or_false b))
+      where
+        or_false : (x : Bool) → (x || false) ≡ x
+        or_false true = refl
+        or_false false = refl
+
+    by_table : (b : Bool) → (list_any (inserts_at g.table g.def.primary_key q) ops || set.contains (cond b (set.insert keys k) keys) q)
+        ≡ (((b && is_same q k) || list_any (inserts_at g.table g.def.primary_key q) ops) || set.contains keys q)
+    by_table false = refl
+    by_table true =
+        ap (λ x. list_any (inserts_at g.table g.def.primary_key q) ops || x) (set.contains-insert key_total keys k q)
+        ∙ swap (list_any (inserts_at g.table g.def.primary_key q) ops) (is_same q k) (set.contains keys q)
 
 -- A group's list with the session's writes counted has the keys of its stored rows.
 pub keys_are : (own : List Op) (g : Group) (q : List Value) → list_all is_insert own ≡ true → AreIn g.table g.def.primary_key g.rows own
@@ -74,18 +78,19 @@ keys_are own g q are within =
     ∙ ap (λ b. mine || b) (has_key_set (committed_rows own g) q ∙ ap is_some (get_before g.table g.def.primary_key own g.rows q))
     ∙ by_mine mine refl
   where
-  mine : Bool
-  mine = list_any (inserts_at g.table g.def.primary_key q) own
-  by_mine : (b : Bool) → mine ≡ b → (b || is_some (cond b None (get g.rows q))) ≡ contains_key g.rows q
-  by_mine true e = sym (within q e)
-  by_mine false e = refl
+    mine : Bool
+    mine = list_any (inserts_at g.table g.def.primary_key q) own
+
+    by_mine : (b : Bool) → mine ≡ b → (b || is_some (cond b None (get g.rows q))) ≡ contains_key g.rows q
+    by_mine true e = sym (within q e)
+    by_mine false e = refl
 
 kept : (T : Table) (rows : Table) (q : List Value) → IsWithin rows T → cond (contains_key rows q) (get T q) None ≡ get rows q
 kept T rows q within = by_row (get rows q) refl
   where
-  by_row : (o : Option (List Value)) → get rows q ≡ o → cond (is_some o) (get T q) None ≡ o
-  by_row None e = refl
-  by_row (Some row) e = within q row e
+    by_row : (o : Option (List Value)) → get rows q ≡ o → cond (is_some o) (get T q) None ≡ o
+    by_row None e = refl
+    by_row (Some row) e = within q row e
 
 -- What a session sees of a group is what is stored.
 pub shows_stored : (own : List Op) (g : Group) (s : TableState) → list_all is_insert own ≡ true → AreIn g.table g.def.primary_key g.rows own → IsWithin g.rows (table_at s g.table) → seen_rows (group_state own g) own s ≡ g.rows

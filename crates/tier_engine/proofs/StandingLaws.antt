@@ -1,5 +1,5 @@
 -- How a stored tier keeps standing for a list.
-use Rattle.std.proofs.Common.{◌≡◌, ℕ, zero, suc, ◌≤◌, ◌⊎◌, ◌+◌, List, [], ◌∷◌, ◌++◌, Bool, true, false, ◌&&◌, cond, map, Option, Some, None, refl, sym, ◌∙◌, ap, subst, inl, inr}
+use Rattle.std.proofs.Common.{◌≡◌, ℕ, zero, suc, ◌≤◌, ◌⊎◌, List, [], ◌∷◌, Bool, true, false, ◌&&◌, cond, map, Option, Some, None, refl, sym, ◌∙◌, ap, subst, inl, inr}
 use Rattle.std.specs.Prelude.{◌^◌}
 use Rattle.std.specs.List.{slice_get, list_all}
 use Rattle.std.specs.Option.{option_map, option_and_then, IfSome}
@@ -14,12 +14,12 @@ use Rattle.tier_engine.specs.declared.reply.Reply.{Reply}
 use Rattle.tier_engine.specs.declared.tier.Tier.{Tier}
 use Rattle.tier_engine.specs.declared.tier.Group.{Group}
 use Rattle.tier_engine.specs.declared.tier.Session.{Session}
-use Rattle.tier_engine.specs.Commits.{RiseBetween, virtual_state}
-use Rattle.tier_engine.specs.TierStates.{TierState, GroupState, SessionState, seen, is_named, group_of_table}
+use Rattle.tier_engine.specs.Commits.{RiseBetween}
+use Rattle.tier_engine.specs.TierStates.{TierState, seen, is_named, group_of_table}
 use Rattle.tier_engine.specs.Answers.{faulty}
 use Rattle.tier_engine.specs.Steps.{World, WantsMemory}
 use Rattle.tier_engine.specs.Storing.{IsSame, place_named}
-use Rattle.tier_engine.specs.Standing.{StandsFor, HasOwnKeys, Shows, ShowAll, AreApart, Turns, group_state, is_insert, is_stored, is_in_group, ops_of, own_in, session_in, tier_state, world_of}
+use Rattle.tier_engine.specs.Standing.{StandsFor, HasOwnKeys, Shows, ShowAll, AreApart, Turns, group_state, is_insert, is_stored, is_in_group, ops_of, own_in, session_in, tier_state}
 
 pub and_left : (a b : Bool) → (a && b) ≡ true → a ≡ true
 and_left true b e = refl
@@ -79,7 +79,7 @@ same_state t t' log e = λ i. record {
   session = session_in (e.session i);
   log = log;
   unsettled = e.unsettled i;
-  next = e.next i
+  next = e.next i;
 }
 
 -- the world of a tier whose state is another's
@@ -93,7 +93,7 @@ pub memory_turns : (t t' : Tier) (log : List Sealed) (h : List Entry) (reply : R
 memory_turns t t' log h reply P told e s = record {
   log' = log;
   stands = same_stands t t' log h e s;
-  made = λ faults moment. inr (same_world (tier_state t' log) (tier_state t log) h faults moment (same_state t t' log e), told)
+  made = λ faults moment. inr (same_world (tier_state t' log) (tier_state t log) h faults moment (same_state t t' log e), told);
 }
 
 -- a step is one with want of memory beside it
@@ -124,24 +124,25 @@ pub is_found : (own : List Op) (groups : List Group) (name : List ℕ) (place : 
 is_found own [] name place e = Prim.cc
 is_found own (g ∷ groups) name place e = by_name (λ n p. is_found own groups name n p) (is_named g.def.name name) refl e
   where
-  by_name : ((n : ℕ) → place_named groups name ≡ Some n → IsFound own groups name n) → (b : Bool) → is_named g.def.name name ≡ b → cond b (Some 0) (option_map suc (place_named groups name)) ≡ Some place
-      → IsFound own (g ∷ groups) name place
-  by_name more true is p =
-      let zero_place : place ≡ 0 = let q : Some 0 ≡ Some place = p in Prim.cc in
-      record { group = g; there = ap (slice_get (g ∷ groups)) zero_place; found = ap (λ b. cond b (Some (group_state own g)) (group_of_table (map (group_state own) groups) name)) is }
-  by_name more false is p =
-      let l = later_place (place_named groups name) place p in
-      let f = more l.0 l.1 in
-      record { group = f.group; there = ap (slice_get (g ∷ groups)) l.2 ∙ f.there; found = ap (λ b. cond b (Some (group_state own g)) (group_of_table (map (group_state own) groups) name)) is ∙ f.found }
+    by_name : ((n : ℕ) → place_named groups name ≡ Some n → IsFound own groups name n) → (b : Bool) → is_named g.def.name name ≡ b → cond b (Some 0) (option_map suc (place_named groups name)) ≡ Some place
+        → IsFound own (g ∷ groups) name place
+    by_name more true is p =
+        let zero_place : place ≡ 0 = let q : Some 0 ≡ Some place = p in Prim.cc in
+        record { group = g; there = ap (slice_get (g ∷ groups)) zero_place; found = ap (λ b. cond b (Some (group_state own g)) (group_of_table (map (group_state own) groups) name)) is }
+    by_name more false is p =
+        let l = later_place (place_named groups name) place p in
+        let f = more l.0 l.1 in
+        record { group = f.group; there = ap (slice_get (g ∷ groups)) l.2 ∙ f.there; found = ap (λ b. cond b (Some (group_state own g)) (group_of_table (map (group_state own) groups) name)) is ∙ f.found }
 
 pub not_found : (own : List Op) (groups : List Group) (name : List ℕ) → place_named groups name ≡ None → group_of_table (map (group_state own) groups) name ≡ None
 not_found own [] name e = refl
 not_found own (g ∷ groups) name e = by_name (not_found own groups name) (is_named g.def.name name) refl e
   where
-  none : (o : Option ℕ) → option_map suc o ≡ None → o ≡ None
-  none None p = refl
-  none (Some n) p = Prim.cc
-  by_name : (place_named groups name ≡ None → group_of_table (map (group_state own) groups) name ≡ None) → (b : Bool) → is_named g.def.name name ≡ b
-      → cond b (Some 0) (option_map suc (place_named groups name)) ≡ None → group_of_table (map (group_state own) (g ∷ groups)) name ≡ None
-  by_name more true is p = Prim.cc
-  by_name more false is p = ap (λ b. cond b (Some (group_state own g)) (group_of_table (map (group_state own) groups) name)) is ∙ more (none (place_named groups name) p)
+    none : (o : Option ℕ) → option_map suc o ≡ None → o ≡ None
+    none None p = refl
+    none (Some n) p = Prim.cc
+
+    by_name : (place_named groups name ≡ None → group_of_table (map (group_state own) groups) name ≡ None) → (b : Bool) → is_named g.def.name name ≡ b
+        → cond b (Some 0) (option_map suc (place_named groups name)) ≡ None → group_of_table (map (group_state own) (g ∷ groups)) name ≡ None
+    by_name more true is p = Prim.cc
+    by_name more false is p = ap (λ b. cond b (Some (group_state own g)) (group_of_table (map (group_state own) groups) name)) is ∙ more (none (place_named groups name) p)

@@ -1,12 +1,11 @@
 -- The first rule that a statement breaks, in the order of refusals. (This project's rule; the rules themselves are those
 -- of TimesTen SQL Reference, CREATE TABLE, CREATE CACHE GROUP and INSERT.)
 
-use Rattle.std.specs.Prelude.{ℕ, List, [], ◌∷◌, ◌+◌, ◌==◌, Bool, true, false, ◌&&◌, ◌||◌, not, nat_eq, nat_lt, nat_le, Option, Some, None, if◌then◌else◌, length, map, is_some, is_none, slice_get, find}
-use Rattle.std.specs.List.{list_all, list_any}
+use Rattle.std.specs.Prelude.{ℕ, List, [], ◌∷◌, ◌==◌, Bool, true, false, ◌&&◌, ◌||◌, not, nat_eq, nat_lt, nat_le, Option, Some, None, if◌then◌else◌, length, is_some}
+use Rattle.std.specs.List.{list_any}
 use Rattle.std.specs.Option.{option_map, option_and_then, option_or}
 use Rattle.std.specs.Cmp.Lexicographic.{pointwise}
 use Rattle.std.specs.FinMap.{len}
-use Rattle.tier_base.specs.declared.code.Code.{Code}
 use Rattle.tier_base.specs.declared.code.Code.TheVariants as code
 use Rattle.tier_base.specs.declared.limit.Limit.{Limit}
 use Rattle.tier_base.specs.declared.limit.Limit.TheVariants as limit
@@ -17,7 +16,6 @@ use Rattle.row_types.specs.declared.column.Ty.{Ty}
 use Rattle.row_types.specs.declared.column.Ty.TheVariants as ty
 use Rattle.row_types.specs.declared.declaration.ColumnDeclaration.{ColumnDeclaration}
 use Rattle.row_types.specs.declared.declaration.TableDeclaration.{TableDeclaration}
-use Rattle.row_types.specs.declared.rule.Detail.{Detail}
 use Rattle.row_types.specs.declared.rule.Detail.TheVariants as detail
 use Rattle.row_types.specs.declared.rule.Letter.{Letter}
 use Rattle.row_types.specs.declared.rule.Letter.TheVariants as letter
@@ -25,8 +23,6 @@ use Rattle.row_types.specs.declared.rule.Rule.{Rule}
 use Rattle.row_types.specs.declared.value.Value.{Value}
 use Rattle.sql_subset.specs.declared.request.OpenOptions.{OpenOptions}
 use Rattle.sql_subset.specs.declared.stmt.CreateGroup.{CreateGroup}
-use Rattle.sql_subset.specs.declared.stmt.GroupKind.{GroupKind}
-use Rattle.sql_subset.specs.declared.stmt.GroupKind.TheVariants.{ReadOnly, AsynchronousWritethrough}
 use Rattle.sql_subset.specs.declared.stmt.Literal.{Literal}
 use Rattle.sql_subset.specs.declared.stmt.Literal.TheVariants.{Null, Integer, Text}
 use Rattle.table_state.specs.declared.definition.ForeignKey.{ForeignKey}

@@ -1,6 +1,6 @@
 -- When the stored tier stands for the abstract one.
 
-use Rattle.std.specs.Prelude.{◌≡◌, ℕ, ◌+◌, ◌≤◌, ◌^◌, List, [], ◌∷◌, ◌++◌, Bool, true, false, ◌&&◌, nat_eq, Option, Some, None, Result, Ok, Err, if◌then◌else◌, map, take, drop, length, slice_get}
+use Rattle.std.specs.Prelude.{◌≡◌, ℕ, ◌+◌, ◌≤◌, ◌^◌, List, [], ◌∷◌, Bool, true, false, ◌&&◌, nat_eq, Option, Some, None, Result, Ok, Err, if◌then◌else◌, map, take, drop, length, slice_get}
 use Rattle.std.specs.Option.{IfSome, option_map}
 use Rattle.std.specs.Bool.{MatchBool}
 use Rattle.std.specs.List.{list_all, list_any, flat_map}
@@ -78,7 +78,7 @@ tier_state t log = record {
   session = session_in t.session;
   log = log;
   unsettled = t.unsettled.items;
-  next = t.next
+  next = t.next;
 }
 
 -- the operation inserts a row at this key into the table

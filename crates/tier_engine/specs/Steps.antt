@@ -45,7 +45,7 @@ use Rattle.tier_engine.specs.Rounds.{Round, FirstDiffers}
 use Rattle.tier_engine.specs.TierStates.{TierState, SessionState, GroupState, session_of, group_of_table, seen, seen_rows, is_named}
 use Rattle.tier_engine.specs.LiteralValues.{values_of}
 use Rattle.tier_engine.specs.Refusals.{not_yet, wrong_at, too_deep, too_long, unknown_session, unknown_table, key_taken, table_fault, insert_fault}
-use Rattle.tier_engine.specs.Answers.{Answer, only, faulty, refuses, unless, open_answer, close_answer, rollback_answer, group_answer, select_answer, commit_answer, inserted}
+use Rattle.tier_engine.specs.Answers.{Answer, only, faulty, refuses, open_answer, close_answer, rollback_answer, group_answer, select_answer, commit_answer, inserted}
 
 -- The tier, the one backing history, how often the bank has failed, and the site's moment.
 pub record World : Type 0 where

@@ -1,6 +1,6 @@
 -- What the calls of the stored tier do to it, without a word on what it stands for.
 
-use Rattle.std.specs.Prelude.{◌≡◌, ℕ, List, [], ◌∷◌, ◌++◌, Option, Some, None, Bool, true, false, not, nat_lt, nat_eq, if◌then◌else◌, length, suc, slice_set, slice_get, ◌+◌, ◌≤◌, ◌⊎◌, map, Result, Ok, Err}
+use Rattle.std.specs.Prelude.{◌≡◌, ℕ, List, [], ◌∷◌, ◌++◌, Option, Some, None, Bool, true, false, nat_lt, nat_eq, if◌then◌else◌, length, suc, slice_set, slice_get, ◌+◌, ◌≤◌, ◌⊎◌, map, Result, Ok, Err}
 use Rattle.std.specs.Option.{option_map, option_and_then, option_or}
 use Rattle.std.specs.List.{list_any}
 use Rattle.std.specs.Result.{IfOk, IsErrOf}
@@ -25,7 +25,7 @@ use Rattle.row_types.specs.declared.declaration.TableDeclaration.{TableDeclarati
 use Rattle.table_state.specs.declared.definition.ForeignKey.{ForeignKey}
 use Rattle.table_state.specs.Declarations.{Tells, IsRefusedBy, broken, broken_at, fault_of, limit_of, resolved, type_fault, wrong_name}
 use Rattle.table_state.specs.Names.{place_of_table}
-use Rattle.table_state.specs.Tables.{Table, key_of}
+use Rattle.table_state.specs.Tables.{key_of}
 use Rattle.tier_engine.specs.declared.reply.Reply.{Reply}
 use Rattle.tier_engine.specs.declared.reply.Last.TheVariants.{Done, No}
 use Rattle.tier_engine.specs.declared.tier.Group.{Group}

@@ -52,7 +52,12 @@ impl Tier {
 
     /// CREATE TABLE on the console. 102, 103, 113, 104, 105 as `TableDef::check` says; 121 of a foreign key to a table of a
     /// group; 119 of tables and columns.
-    pub fn create_table<P: Site>(&mut self, alloc: Global, site: &mut P, declaration: &TableDeclaration) -> Reply
+    pub fn create_table<P: Site>(
+        &mut self,
+        alloc: Global,
+        site: &mut P,
+        declaration: &TableDeclaration,
+    ) -> Reply
         ensures step { (log : List OneSealed) (held : Held) → P.Disk.held site.old ≡ Some held → StandsFor self.old log held.history → Made (P.Disk.held site.new) (P.bank_faults site.old) (P.bank_faults site.new) (P.Disk.moment site.old) (P.Disk.moment site.new) self.old self.new log held (λ w w'. DoesConsole (console.CreateTable declaration.now) w w' result ⊎ WantsMemory w w' result) }
         ensures later { P.bank_faults site.old ≤ P.bank_faults site.new }
         ensures cause { TellsBankFault result → Rose (P.bank_faults site.old) (P.bank_faults site.new) }
@@ -66,7 +71,11 @@ impl Tier {
     }
 
     /// The definition that the declaration makes, where nothing refuses it.
-    fn judge_create(&self, alloc: Global, declaration: &TableDeclaration) -> Result<TableDef, Refused>
+    fn judge_create(
+        &self,
+        alloc: Global,
+        declaration: &TableDeclaration,
+    ) -> Result<TableDef, Refused>
         ensures { JudgesTable self.now.groups.items declaration.now self.now.known result }
     {
         match &self.known {

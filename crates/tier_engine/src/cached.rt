@@ -21,6 +21,7 @@ use outside::Site;
 use row_types::{Detail, Refused, Row, Rule};
 use sql_subset::stmt::{Insert, Literal, Select};
 use std::alloc::Global;
+use table_state::laws::refusal_law;
 use tier_base::{Code, Name, Seq};
 
 impl Tier {
@@ -43,13 +44,21 @@ impl Tier {
             Ok(row) => match self.put_at(alloc, place, row) {
                 Err(Refused::Rule(rule)) => Reply::refuses(alloc, rule),
                 Err(Refused::Memory) => Reply::faulty(alloc, Code::Memory),
-                Ok(asked) => self.settle_put(alloc, site, asked),
+                Ok(asked) => {
+                    refusal_law();
+                    self.settle_put(alloc, site, asked)
+                }
             },
         }
     }
 
     /// The row of these literals, where nothing but its key refuses it.
-    fn judge_insert_at(&self, alloc: Global, place: usize, literals: &[Literal]) -> Result<Row, Refused>
+    fn judge_insert_at(
+        &self,
+        alloc: Global,
+        place: usize,
+        literals: &[Literal],
+    ) -> Result<Row, Refused>
         requires within { place < length self.now.groups.items }
         ensures told { (g : OneGroup) → slice_get self.now.groups.items place ≡ Some g → Tells result (insert_fault g.def (own_in self.now.session) literals.now g.rows) }
         ensures row { IfOk result (λ row. values_of literals.now ≡ Some row) }

@@ -67,13 +67,35 @@ impl Tier {
     }
 
     /// What refuses the group over this table.
-    fn judge(&self, alloc: Global, declaration: &CreateGroup, table: TableId, def: &TableDef) -> Result<(), Refused>
+    fn judge(
+        &self,
+        alloc: Global,
+        declaration: &CreateGroup,
+        table: TableId,
+        def: &TableDef,
+    ) -> Result<(), Refused>
         ensures { JudgesGroup self.now declaration.now table def.now result }
     {
         let written = self.written();
         match &self.known {
-            None => judge_group(alloc, self.groups.as_slice(), written, declaration, table, def, &Seq::new(alloc)),
-            Some(schema) => judge_group(alloc, self.groups.as_slice(), written, declaration, table, def, schema),
+            None => judge_group(
+                alloc,
+                self.groups.as_slice(),
+                written,
+                declaration,
+                table,
+                def,
+                &Seq::new(alloc),
+            ),
+            Some(schema) => judge_group(
+                alloc,
+                self.groups.as_slice(),
+                written,
+                declaration,
+                table,
+                def,
+                schema,
+            ),
         }
     }
 

@@ -11,7 +11,10 @@ use crate::tier::Group;
 use row_types::{Column, ColumnDeclaration, Detail, Letter, Refused, Rule, TableDeclaration};
 use sql_subset::stmt::CreateGroup;
 use std::alloc::{AllocError, Global};
-use table_state::{BackingSchema, ForeignKey, TableDef, has_one_key, has_type, key_places, refuse_types, wrong_name};
+use table_state::{
+    BackingSchema, ForeignKey, TableDef, has_one_key, has_type, key_places, refuse_types,
+    wrong_name,
+};
 use tier_base::{Code, Limit, Name, TableId};
 
 /// What refuses an asynchronous group over this table, beside these groups and so many uncommitted writes.
@@ -71,7 +74,11 @@ fn judge_letters(
 }
 
 /// Whether there is one primary key, and it is the backing table's.
-fn has_same_key(alloc: Global, declaration: &TableDeclaration, def: &TableDef) -> Result<bool, AllocError>
+fn has_same_key(
+    alloc: Global,
+    declaration: &TableDeclaration,
+    def: &TableDef,
+) -> Result<bool, AllocError>
     ensures { IfOk result (λ same. same ≡ has_same_key declaration.now def.now) }
 {
     if !has_one_key(declaration) {
@@ -100,7 +107,9 @@ fn same_columns(declared: &[ColumnDeclaration], columns: &[Column]) -> bool
 fn has_name(groups: &[Group], name: &Name) -> bool
     ensures { result ≡ has_name groups.now name.now }
 {
-    groups.iter().any(|group| group.name.as_bytes() == name.as_bytes())
+    groups
+        .iter()
+        .any(|group| group.name.as_bytes() == name.as_bytes())
 }
 
 /// Whether the table is a group's.

@@ -96,11 +96,7 @@ fn take_off(session: &mut Option<Session>) -> Option<OwnKey>
 }
 
 /// Why OPEN is refused, or else the label.
-fn judge_open(
-    session: &Option<Session>,
-    label: Label,
-    options: OpenOptions,
-) -> Result<Label, Rule>
+fn judge_open(session: &Option<Session>, label: Label, options: OpenOptions) -> Result<Label, Rule>
     ensures taken { IfOk result (λ same. same ≡ label) }
     ensures sound { OnOk result (open_fault (session_in session.now) label options ≡ None) }
     ensures refused { IfErr result (λ rule. open_fault (session_in session.now) label options ≡ Some rule) }

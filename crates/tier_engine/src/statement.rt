@@ -20,7 +20,13 @@ use tier_base::{Code, Label, Name};
 
 impl Tier {
     /// Executes a statement under this label. 123 where no session is open under it.
-    pub fn execute_as<P: Site>(&mut self, alloc: Global, site: &mut P, label: Label, statement: Stmt) -> Reply
+    pub fn execute_as<P: Site>(
+        &mut self,
+        alloc: Global,
+        site: &mut P,
+        label: Label,
+        statement: Stmt,
+    ) -> Reply
         ensures step { ServesPart (P.Disk.held site.old) (P.Disk.held site.new) (P.bank_faults site.old) (P.bank_faults site.new) (P.Disk.moment site.old) (P.Disk.moment site.new) self.old self.new result (λ w w'. ForSession label (session_of w.tier label) statement w w' result ⊎ WantsMemory w w' result) }
         ensures later { P.bank_faults site.old ≤ P.bank_faults site.new }
     {
@@ -95,7 +101,10 @@ impl Tier {
 fn judge_call(call: Call) -> Option<Rule>
     ensures { result ≡ call_fault call.procedure call.arguments }
 {
-    let Call { procedure, arguments } = call;
+    let Call {
+        procedure,
+        arguments,
+    } = call;
     if procedure.as_bytes() != b"TTDRAIN".as_slice() {
         return Some(Rule {
             code: Code::UnknownColumn,

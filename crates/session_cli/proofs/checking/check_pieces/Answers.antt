@@ -38,17 +38,17 @@ returns-in-Ok-finish-clause-takes g c = λ input source.
 pub returns-in-Err-clause-checks : goal.returns-in-Err-clause-checks
 returns-in-Err-clause-checks g c = λ input start source sink.
     let going = c.loop-room.invariant.going input start source sink in
-    rw c.status_of.ensures (check_unwritten c.in-Err.fault start input c.loop-room.room _ _ _ _ c.loop-room.checker c.take.new.buf c.in-Ok.count c.if-count-eq0.true c.in-Ok.ensures.bytes going (c.in-Err.ensures.checks start going.taking.given going.checking))
+    rw c.status_of.ensures.status (check_unwritten c.in-Err.fault start input c.loop-room.room _ _ _ _ c.loop-room.checker c.take.new.buf c.in-Ok.count c.if-count-eq0.true c.in-Ok.ensures.bytes going (c.in-Err.ensures.checks start going.taking.given going.checking))
 
 pub returns-in-Err-clause-takes : goal.returns-in-Err-clause-takes
-returns-in-Err-clause-takes g c = λ input source. rw c.status_of.ensures (taken_fault c.in-Err.fault input c.loop-room.room _ _ c.take.new.buf c.in-Ok.count c.if-count-eq0.true c.in-Ok.ensures.bytes (c.loop-room.invariant.taking input source))
+returns-in-Err-clause-takes g c = λ input source. rw c.status_of.ensures.status (taken_fault c.in-Err.fault input c.loop-room.room _ _ c.take.new.buf c.in-Ok.count c.if-count-eq0.true c.in-Ok.ensures.bytes (c.loop-room.invariant.taking input source))
 
 pub returns-in-Err-feed-clause-checks : goal.returns-in-Err-feed-clause-checks
 returns-in-Err-feed-clause-checks g c = λ input start source sink.
     let going = c.loop-room.invariant.going input start source sink in
     let bytes = take c.in-Ok.count (c.take.new.buf ++ drop c.min-want.result c.loop-room.piece) in
     let are : bytes ≡ take c.in-Ok.count c.take.new.buf = take-append-le c.in-Ok.count c.take.new.buf (drop c.min-want.result c.loop-room.piece) c.in-Ok.ensures.bound in
-    rw c.status_of-in-Err-feed.ensures (check_in_piece c.in-Err-feed.fault start input c.loop-room.room _ _ _ _ _ c.loop-room.checker c.take.new.buf bytes c.in-Ok.count are (ap length are ∙ length-take-le c.in-Ok.count c.take.new.buf c.in-Ok.ensures.bound)
+    rw c.status_of-in-Err-feed.ensures.status (check_in_piece c.in-Err-feed.fault start input c.loop-room.room _ _ _ _ _ c.loop-room.checker c.take.new.buf bytes c.in-Ok.count are (ap length are ∙ length-take-le c.in-Ok.count c.take.new.buf c.in-Ok.ensures.bound)
     (fits_room c.take.new.buf c.loop-room.piece c.min-want.result c.loop-room.room c.in-Ok.count c.min-want.ensures c.take.auto.buf c.in-Ok.ensures.bound) refl c.in-Ok.ensures.bytes going
     (c.in-Err-feed.ensures.checks start going.taking.given going.checking))
 
@@ -56,7 +56,7 @@ pub returns-in-Err-feed-clause-takes : goal.returns-in-Err-feed-clause-takes
 returns-in-Err-feed-clause-takes g c = λ input source.
     let bytes = take c.in-Ok.count (c.take.new.buf ++ drop c.min-want.result c.loop-room.piece) in
     let are : bytes ≡ take c.in-Ok.count c.take.new.buf = take-append-le c.in-Ok.count c.take.new.buf (drop c.min-want.result c.loop-room.piece) c.in-Ok.ensures.bound in
-    rw c.status_of-in-Err-feed.ensures (taken_fault_in_piece c.in-Err-feed.fault input _ _
+    rw c.status_of-in-Err-feed.ensures.status (taken_fault_in_piece c.in-Err-feed.fault input _ _
     (taking_on input c.loop-room.room _ _ _ c.take.new.buf bytes c.in-Ok.count are (ap length are ∙ length-take-le c.in-Ok.count c.take.new.buf c.in-Ok.ensures.bound)
     (fits_room c.take.new.buf c.loop-room.piece c.min-want.result c.loop-room.room c.in-Ok.count c.min-want.ensures c.take.auto.buf c.in-Ok.ensures.bound) refl c.in-Ok.ensures.bytes (c.loop-room.invariant.taking input source)))
 

@@ -1,10 +1,10 @@
-use Rattle.std.proofs.Common.{refl, inl, inr}
+use Rattle.std.proofs.Common.{refl, inl, inr, sym, ◌∙◌}
 use Rattle.command_line.specs.declared.command.Command.TheVariants as command
 use Rattle.command_line.specs.Words.{texts}
 use Rattle.session_cli.specs.declared.serving.Status.TheVariants.{NoMemory}
 use Rattle.session_cli.proofs.EndsLaws.{ended_unopened, taken_unstarted}
 use Rattle.session_cli.proofs.CheckLaws.{check_unstarted}
-use Rattle.session_cli.proofs.TopLaws.{words_of, refused_of, settings_of, bad_of, none_left, no_other}
+use Rattle.session_cli.proofs.TopLaws.{words_of, refused_of, settings_of, bad_of, is_schema, none_left, no_other}
 use Rattle.session_cli.proofs.program.top.Goals as goal
 
 pub returns-in-Err-clause-words : goal.returns-in-Err-clause-words
@@ -51,3 +51,9 @@ returns-in-Check-clause-unread g c = λ auto. elim auto [
   | inl refuses ↦ absurd (refuses c.in-Ok.ensures.0.0)
   | inr bad ↦ absurd (bad c.in-Ok.ensures.1.0 c.in-Ok.ensures.1.1)
 ]
+
+pub returns-in-Check-clause-unopened : goal.returns-in-Check-clause-unopened
+returns-in-Check-clause-unopened g c = λ six. absurd (c.check.ensures.schema (is_schema c.check.result (sym c.number-in-Check.ensures ∙ six)))
+
+pub returns-in-Check-clause-schema : goal.returns-in-Check-clause-schema
+returns-in-Check-clause-schema g c = λ six. absurd (c.check.ensures.schema (is_schema c.check.result (sym c.number-in-Check.ensures ∙ six)))

@@ -22,6 +22,6 @@ returns-in-Call-clause-step g c = statement_as _ _ _ _ _ _ _ _ _ _ _ c.in-Call.i
 pub returns-in-Load-clause-step : goal.returns-in-Load-clause-step
 returns-in-Load-clause-step g c = statement_as _ _ _ _ _ _ _ _ _ _ _ c.in-Load.is (load_part _ _ _ _ _ c.in-Load.field-0 c.requires c.not_yet.ensures)
 
-pub returns-in-Rollback-clause-step : goal.returns-in-Rollback-clause-step
-returns-in-Rollback-clause-step g c =
+pub returns-clause-step : goal.returns-clause-step
+returns-clause-step g c =
     quiet_statement _ _ _ _ _ _ _ _ c.in-Rollback.is (λ log h stands. turns_first _ _ log h _ (λ w w'. WantsMemory w w' c.rollback.result) (c.rollback.ensures.step log h stands)) (rollback_tells c.rollback.result)

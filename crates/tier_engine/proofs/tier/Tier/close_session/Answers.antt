@@ -1,0 +1,20 @@
+use Rattle.std.proofs.Common.{ap, refl, sym, ◌∙◌}
+use Rattle.row_types.specs.declared.rule.Rule.{Rule}
+use Rattle.tier_engine.specs.Answers.{only}
+use Rattle.tier_engine.specs.declared.reply.Last.TheVariants.{No}
+use Rattle.tier_engine.proofs.OpenSteps.{close_refused, closes_turns}
+use Rattle.tier_engine.proofs.tier.Tier.close_session.Goals as goal
+
+pub returns-then-not-is_open : goal.returns-then-not-is_open
+returns-then-not-is_open c = record {
+  step = λ log history stands.
+      close_refused c.args.self.now log history c.args.label c.refuses.result (sym (c.is_open.ensures log) ∙ c.if-not-is_open.true)
+      (c.refuses.ensures ∙ ap (λ (rule : Rule). only (No rule)) c.unknown_session.ensures) stands;
+}
+
+pub returns : goal.returns
+returns c = record {
+  step = λ log history stands.
+      closes_turns c.args.self.now c.take_back.new.self _ log history c.args.label c.done.result c.take_back.ensures refl refl refl refl refl
+      (sym (c.is_open.ensures log) ∙ c.if-not-is_open.false) c.done.ensures stands;
+}

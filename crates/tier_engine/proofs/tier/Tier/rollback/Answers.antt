@@ -1,0 +1,5 @@
+use Rattle.tier_engine.proofs.OpenSteps.{rollback_turns}
+use Rattle.tier_engine.proofs.tier.Tier.rollback.Goals as goal
+
+pub returns : goal.returns
+returns c = record { step = λ log history stands. rollback_turns c.args.self.now c.take_back.new.self log history c.done.result c.requires c.take_back.ensures c.done.ensures stands }
