@@ -1,4 +1,4 @@
-use Rattle.std.proofs.Common.{◌≡◌, ◌-◌, ◌≤◌, ◌<◌, length, slice_get, slice_index_or, Fits, w64, rules, sym, ap, ◌∙◌, arith}
+use Rattle.std.proofs.Common.{◌≤◌, ◌<◌, length, slice_get, Fits, w64, rules, sym, arith}
 use Rattle.std.specs.FinMap as fm
 use Rattle.std.proofs.lemmas.List.{length-map}
 use Rattle.table_state.specs.Tables.{table_at}
