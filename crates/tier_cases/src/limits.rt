@@ -177,20 +177,3 @@ fn there_are_256_tables_of_32_columns(rt: HostRuntime) -> Result<(), Fail> {
     expect_replies(&rt, alloc, &mut site, case.input, case.replies.as_slice())?;
     Ok(())
 }
-
-#[test]
-fn a_table_shows_1_000_000_rows(rt: HostRuntime) -> Result<(), Fail> {
-    let alloc = rt.alloc();
-    let mut case = Case::begin(alloc)?;
-    for ticket in 1..101u64 {
-        let below = 10_000 * ticket;
-        case.commit(alloc, below - 10_000, below, ticket)?;
-    }
-    case.push("s1: INSERT INTO A VALUES (1000000)", "no 119 rows")?;
-    // 106 comes before it, and 107 behind it.
-    case.push("s1: INSERT INTO A VALUES (NULL)", "no 106 ID")?;
-    case.push("s1: INSERT INTO A VALUES (7)", "no 119 rows")?;
-    let mut site = MemorySite::new(alloc)?;
-    expect_replies(&rt, alloc, &mut site, case.input, case.replies.as_slice())?;
-    Ok(())
-}
