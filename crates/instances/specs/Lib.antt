@@ -1,0 +1,4 @@
+pub mod Collecting
+pub mod Roots
+pub mod Trees
+pub mod Views
