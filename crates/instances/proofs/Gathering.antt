@@ -1,15 +1,15 @@
 -- Laws of rows that are put together one by one.
-use Rattle.std.proofs.Common.{◌≡◌, ℕ, zero, suc, ◌+◌, ◌<◌, ◌≤◌, Bool, true, false, cond, Option, Some, None, is_some, List, [], ◌∷◌, length, slice_get, get_or, refl, sym, ap, subst, ◌∙◌, arith}
-use Rattle.std.specs.Ordering.{is_eq}
+use Rattle.std.proofs.Common.{◌≡◌, ℕ, zero, suc, ◌+◌, ◌<◌, ◌≤◌, Bool, true, false, cond, ◌&&◌, T, Option, Some, None, is_some, List, [], ◌∷◌, length, slice_get, refl, sym, ap, subst, ◌∙◌, arith}
+use Rattle.std.specs.Ordering.{eq_by_cmp, is_eq, is_lt}
 use Rattle.std.specs.declared.cmp.Ordering.{Ordering}
 use Rattle.std.specs.declared.cmp.Ordering.TheVariants.{Less, Equal, Greater}
 use Rattle.std.specs.Cmp.{eq_by_cmp_equiv}
-use Rattle.std.specs.FinMap.{contains_key, empty, entries, find, get, insert, len, len-entries, get-empty, get-entries, get-insert, get-retain_keys, same_map}
+use Rattle.std.specs.FinMap.Entries.{below_all}
+use Rattle.std.specs.FinMap.{contains_key, empty, entries, entries_sorted, find, get, insert, is_sorted, len, len-entries, get-empty, get-entries, get-insert, get-retain_keys, same_map}
 use borrow.Author.Count.{below_more}
 use Rattle.row_types.specs.declared.value.Value.{Value}
 use Rattle.row_types.specs.Order.{key_order}
 use Rattle.row_types.proofs.OrderLaws.{key_total, key_exact}
-use Rattle.key_rows.proofs.MapLaws.{has_row, slice_get_map}
 use Rattle.table_state.specs.Tables.{Table}
 use Rattle.instances.specs.Collecting.{Gathers, added}
 use Rattle.instances.specs.Views.{passes, rows_where}
@@ -45,14 +45,43 @@ found_at q (e ∷ es) row is = by (key_order q e.0) refl (found_at q es row) is
         let here : Some e ≡ Some (q, row) = ap (λ x. Some (x, e.1)) (sym (key_exact q e.0 tie)) ∙ ap (λ y. Some (q, y)) same in
         record { place = 0; within = first; at = here }
 
-read : {A : Type 0} (xs : List A) (i : ℕ) (x : A) → slice_get xs i ≡ Some x → x ≡ get_or xs i x
-read [] i x e = cc
-read (y ∷ xs) zero x e = let same : y ≡ x = cc in sym same
-read (y ∷ xs) (suc i) x e = read xs i x e
+less_is_not_equal : (o : Ordering) → T (is_lt o) → is_eq o ≡ false
+less_is_not_equal Less h = refl
+less_is_not_equal Equal h = absurd h
+less_is_not_equal Greater h = absurd h
 
--- an entry is found by its key
+left_of : (a b : Bool) → T (a && b) → T a
+left_of true b h = tt
+left_of false b h = h
+
+right_of : (a b : Bool) → T (a && b) → T b
+right_of true b h = h
+right_of false b h = absurd h
+
+not_found : (q : Row) (es : Entries) → T (below_all key_order q es) → find key_order q es ≡ None
+not_found q [] h = refl
+not_found q (e ∷ es) h =
+    let other : eq_by_cmp key_order q e.0 ≡ false = less_is_not_equal (key_order q e.0) (left_of _ _ h) in
+    rw other (not_found q es (right_of _ _ h))
+
+-- an entry at a place is found by its key
+found_there : (es : Entries) → T (is_sorted key_order es) → (i : ℕ) (e : Row × Row) → slice_get es i ≡ Some e → find key_order e.0 es ≡ Some e.1
+found_there [] h i e at = cc
+found_there (x ∷ es) h zero e at =
+    let same : x ≡ e = cc in
+    let here : find key_order x.0 (x ∷ es) ≡ Some x.1 = ap (λ b. cond b (Some x.1) (find key_order x.0 es)) ((eq_by_cmp_equiv key_total).refl x.0) in
+    subst (λ (y : Row × Row). find key_order y.0 (x ∷ es) ≡ Some y.1) same here
+found_there (x ∷ es) h (suc i) e at = by (key_order e.0 x.0) refl (found_there es (right_of _ _ h) i e at)
+  where
+    by : (o : Ordering) → key_order e.0 x.0 ≡ o → find key_order e.0 es ≡ Some e.1 → cond (is_eq o) (Some x.1) (find key_order e.0 es) ≡ Some e.1
+    by Less tie found = found
+    by Greater tie found = found
+    by Equal tie found =
+        let gone : find key_order e.0 es ≡ None = not_found e.0 es (subst (λ k. T (below_all key_order k es)) (sym (key_exact e.0 x.0 tie)) (left_of _ _ h)) in
+        cc
+
 pub entry_found : (m : Table) (i : ℕ) (e : Row × Row) → slice_get (entries m) i ≡ Some e → get m e.0 ≡ Some e.1
-entry_found m i e at = has_row m e.0 i (slice_get_map (λ x. x.0) (entries m) i e at) e (read (entries m) i e at)
+entry_found m i e at = get-entries m e.0 ∙ found_there (entries m) (entries_sorted m) i e at
 
 module _ (out : Table) (k row : Row) where
   pub added_has : contains_key (added out k row) k ≡ true
@@ -108,12 +137,12 @@ module _ (test : Row → Bool) (table : Table) where
           here : Has n
           here key row there passed = let same : e ≡ (key, row) = cc in subst (λ (x : Row × Row). contains_key (added out e.0 e.1) x.0 ≡ true) same (added_has out e.0 e.1)
 
-      pub gathers_skip : test e.1 ≡ false → Gathers test table (n + 1) out
-      gathers_skip no = record {
+      pub gathers_skip : (new : Table) → test e.1 ≡ false → new ≡ out → Gathers test table (n + 1) new
+      gathers_skip new no is = subst (Gathers test table (n + 1)) (sym is) (record {
         sound = g.sound;
         whole = below_more (λ i. (key row : Row) → slice_get (entries table) i ≡ Some (key, row) → test row ≡ true → contains_key out key ≡ true) n g.whole (λ key row there passed.
-          let same : e ≡ (key, row) = cc in let failed : test row ≡ false = subst (λ (x : Row × Row). test x.1 ≡ false) same no in cc);
-      }
+            let same : e ≡ (key, row) = cc in let failed : test row ≡ false = subst (λ (x : Row × Row). test x.1 ≡ false) same no in cc);
+      })
 
     pub gathers_all : (end : ℕ) → end ≡ len table → end ≤ n → out ≡ rows_where test table
     gathers_all end is past = same_map key_total key_exact out (rows_where test table) (λ q. same q (get table q) refl (get out q) refl ∙ sym (get_where test table q))

@@ -1,3 +1,3 @@
+pub mod ChildLaws
 pub mod Gathering
 pub mod OnlyLaws
-pub mod RootLaws

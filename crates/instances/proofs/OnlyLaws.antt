@@ -1,5 +1,5 @@
 -- Laws of the row of one key.
-use Rattle.std.proofs.Common.{◌≡◌, Bool, true, false, cond, Option, Some, None, is_some, List, refl, sym, ap, ◌∙◌}
+use Rattle.std.proofs.Common.{◌≡◌, Bool, true, false, cond, Option, Some, None, Result, Ok, Err, IfOk, is_some, List, refl, sym, ap, ◌∙◌}
 use Rattle.std.specs.Ordering.{is_eq}
 use Rattle.std.specs.declared.cmp.Ordering.{Ordering}
 use Rattle.std.specs.declared.cmp.Ordering.TheVariants.{Less, Equal, Greater}
@@ -47,3 +47,7 @@ module _ (test : Row → Bool) (table : Table) (q : Row) where
 
   pub where_in : (row : Row) → Some row ≡ get table q → test row ≡ true → Some row ≡ get (rows_where test table) q
   where_in row some yes = sym (get_where test table q ∙ ap (λ o. cond (passes test o) o None) (sym some) ∙ ap (λ b. cond b (Some row) None) yes)
+
+pub if_ok : {A E : Type 0} (P Q : A → Type 0) → ((x : A) → P x → Q x) → (r : Result A E) → IfOk r P → IfOk r Q
+if_ok P Q f (Ok x) h = f x h
+if_ok P Q f (Err e) h = tt

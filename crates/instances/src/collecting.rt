@@ -4,13 +4,14 @@ ghost use Rattle.std.specs.Prelude.{◌≡◌, ◌&&◌, IfOk, OnOk, option_copi
 ghost use Rattle.std.specs.FinMap as map;
 ghost use Rattle.table_state.specs.Declarations.{foreign_places};
 ghost use Rattle.instances.specs.Collecting.{added};
-ghost use Rattle.instances.specs.Views.{child_rows, only, refers_to_one, root_rows, rows_where, selects};
+ghost use Rattle.instances.specs.Views.{child_rows, kept_at, only, refers_to_one, root_rows, rows_where, selects};
 
 use crate::tree::{Child, Root};
 use expressions::{Cond, truth_on};
 use key_rows::Rows;
 use row_types::{Key, Row, Truth};
 use std::alloc::{AllocError, Global};
+use table_scan::Scan;
 use table_state::{ForeignKey, TableDef, Tables, key_at};
 
 /// The rows of the root table that its WHERE selects.
@@ -31,31 +32,30 @@ pub(crate) fn root_row(
 ) -> Result<Rows, AllocError>
     ensures { IfOk result (λ rows. rows ≡ only key.now (root_rows tables.now root.now)) }
 {
-    let none = Rows::new(alloc);
-    let rows = or_none(tables.table(root.table), &none);
-    match selected_row(rows, &root.filter, key) {
+    match selected_row(tables, root, key) {
         None => Ok(Rows::new(alloc)),
         Some(row) => one_row(alloc, key, row),
     }
 }
 
-/// The rows of a child table that its WHERE selects and that refer to one of these rows.
+/// The rows of a child table that its WHERE selects and that refer to one of those kept at the parent's place.
 pub(crate) fn child_rows(
     alloc: Global,
     tables: &Tables,
-    parents: &Rows,
+    kept: &[Rows],
     child: &Child,
 ) -> Result<Rows, AllocError>
-    ensures { IfOk result (λ rows. rows ≡ child_rows tables.now parents.now child.now) }
+    ensures { IfOk result (λ rows. rows ≡ child_rows tables.now (kept_at kept.now child.now.parent) child.now) }
 {
     let none = Rows::new(alloc);
+    let parents = or_none(kept.get(child.parent), &none);
     let rows = or_none(tables.table(child.table), &none);
     let def = tables.schema().get(child.table.0 as usize);
     referring_rows(alloc, rows, &child.filter, parents, def)
 }
 
-/// The rows, or else those of `none`.
-pub(crate) fn or_none<'a>(rows: Option<&'a Rows>, none: &'a Rows) -> &'a Rows
+// The rows, or else those of `none`.
+fn or_none<'a>(rows: Option<&'a Rows>, none: &'a Rows) -> &'a Rows
     ensures { result.now ≡ unwrap_or (option_copied rows.entry) none.now }
 {
     match rows {
@@ -139,14 +139,14 @@ pub(crate) fn foreign_places(foreign_key: &Option<ForeignKey>) -> &[usize]
     }
 }
 
-// The row of a key, where the WHERE selects it.
-fn selected_row<'a>(rows: &'a Rows, filter: &Option<Cond>, key: &Key) -> Option<&'a Row>
-    ensures { option_copied result ≡ map.get (rows_where (selects filter.now) rows.now) key.now }
+// The root row of a key, where the root's WHERE selects it.
+fn selected_row<'a>(tables: &'a Tables, root: &Root, key: &Key) -> Option<&'a Row>
+    ensures { option_copied result ≡ map.get (root_rows tables.now root.now) key.now }
 {
-    match rows.get(key) {
+    match tables.find(root.table, key) {
         None => None,
         Some(row) => {
-            if selects(filter, row) {
+            if selects(&root.filter, row) {
                 Some(row)
             } else {
                 None

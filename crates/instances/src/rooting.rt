@@ -87,7 +87,10 @@ fn parent_key(
 ) -> Result<Option<Key>, AllocError>
     ensures { IfOk result (λ found. found ≡ parent_key tables.now child.now key.now) }
 {
-    match (tables.find(child.table, key), tables.schema().get(child.table.0 as usize)) {
+    match (
+        tables.find(child.table, key),
+        tables.schema().get(child.table.0 as usize),
+    ) {
         (Some(row), Some(def)) => {
             let parent = key_at(alloc, foreign_places(&def.foreign_key), row)?;
             Ok(Some(parent))

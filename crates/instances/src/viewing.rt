@@ -3,7 +3,7 @@
 ghost use Rattle.std.specs.Prelude.{◌≡◌, [], ◌∷◌, IfOk};
 ghost use Rattle.instances.specs.Views.{instance_of, view_of, with_children};
 
-use crate::collecting::{child_rows, or_none, root_row, root_rows};
+use crate::collecting::{child_rows, root_row, root_rows};
 use crate::tree::{Child, Tree};
 use key_rows::Rows;
 use row_types::Key;
@@ -53,11 +53,10 @@ fn with_children(
 ) -> Result<Seq<Rows>, AllocError>
     ensures { IfOk result (λ kept. kept ≡ with_children tables.now children.now (root ∷ [])) }
 {
-    let none = Rows::new(alloc);
     let mut kept = Vec::new(alloc);
     kept.push(root)?;
     for child in children {
-        let rows = child_rows(alloc, tables, or_none(kept.get(child.parent), &none), child)?;
+        let rows = child_rows(alloc, tables, kept.as_slice(), child)?;
         kept.push(rows)?;
     }
     Ok(Seq::from_vec(kept))

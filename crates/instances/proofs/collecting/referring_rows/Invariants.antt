@@ -5,4 +5,4 @@ use Rattle.instances.specs.Views.{refers_to_one, selects}
 use Rattle.instances.proofs.collecting.referring_rows.Given as goal
 
 abbrev pub invariant-loop-place : goal.invariant-loop-place
-invariant-loop-place l = Gathers (λ row. selects l.filter row && refers_to_one l.parents (option_copied l.def) row) l.rows l.place l.out
+invariant-loop-place l = Gathers (λ row. selects l.fn.filter row && refers_to_one l.fn.parents (option_copied l.fn.def) row) l.fn.rows l.place l.out
