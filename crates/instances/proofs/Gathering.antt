@@ -120,14 +120,14 @@ module _ (test : Row → Bool) (table : Table) where
   pub gathers_none : (out : Table) → out ≡ empty → Gathers test table 0 out
   gathers_none out is = record {
     sound = λ key row e. let none : get out key ≡ None = ap (λ m. get m key) is ∙ get-empty key_order key in cc;
-    whole = λ i lt key row at yes. absurd (omega arith);
+    whole = λ i lt key row at good. absurd (omega arith);
   }
 
   module _ (n : ℕ) (out : Table) (g : Gathers test table n out) where
     module _ (e : Row × Row) (at : slice_get (entries table) n ≡ Some e) where
       pub gathers_more : (new : Table) → test e.1 ≡ true → new ≡ added out e.0 e.1 → Gathers test table (n + 1) new
-      gathers_more new yes is = subst (Gathers test table (n + 1)) (sym is) (record {
-        sound = added_all out e.0 e.1 (λ q r. (get table q ≡ Some r) × (test r ≡ true)) g.sound (entry_found table n e at, yes);
+      gathers_more new good is = subst (Gathers test table (n + 1)) (sym is) (record {
+        sound = added_all out e.0 e.1 (λ q r. (get table q ≡ Some r) × (test r ≡ true)) g.sound (entry_found table n e at, good);
         whole = below_more Has n (λ i lt key row there passed. added_keeps out e.0 e.1 key (g.whole i lt key row there passed)) here;
       })
         where
@@ -138,31 +138,31 @@ module _ (test : Row → Bool) (table : Table) where
           here key row there passed = let same : e ≡ (key, row) = cc in subst (λ (x : Row × Row). contains_key (added out e.0 e.1) x.0 ≡ true) same (added_has out e.0 e.1)
 
       pub gathers_skip : (new : Table) → test e.1 ≡ false → new ≡ out → Gathers test table (n + 1) new
-      gathers_skip new no is = subst (Gathers test table (n + 1)) (sym is) (record {
+      gathers_skip new bad is = subst (Gathers test table (n + 1)) (sym is) (record {
         sound = g.sound;
         whole = below_more (λ i. (key row : Row) → slice_get (entries table) i ≡ Some (key, row) → test row ≡ true → contains_key out key ≡ true) n g.whole (λ key row there passed.
-            let same : e ≡ (key, row) = cc in let failed : test row ≡ false = subst (λ (x : Row × Row). test x.1 ≡ false) same no in cc);
+            let same : e ≡ (key, row) = cc in let failed : test row ≡ false = subst (λ (x : Row × Row). test x.1 ≡ false) same bad in cc);
       })
 
     pub gathers_all : (end : ℕ) → end ≡ len table → end ≤ n → out ≡ rows_where test table
     gathers_all end is past = same_map key_total key_exact out (rows_where test table) (λ q. same q (get table q) refl (get out q) refl ∙ sym (get_where test table q))
       where
         tested : (q r : Row) → get table q ≡ Some r → (b : Bool) → test r ≡ b → (o : Option Row) → get out q ≡ o → o ≡ cond b (Some r) None
-        tested q r there false no None e = refl
-        tested q r there false no (Some row) e =
+        tested q r there false bad None e = refl
+        tested q r there false bad (Some row) e =
             let w = g.sound q row e in
             let a : get table q ≡ Some row = w.0 in
             let same : row ≡ r = cc in
-            let yes : test r ≡ true = sym (ap test same) ∙ w.1 in
+            let good : test r ≡ true = sym (ap test same) ∙ w.1 in
             cc
-        tested q r there true yes None e =
+        tested q r there true good None e =
             let p : IsAt q r (entries table) = found_at q (entries table) r (sym (get-entries table q) ∙ there) in
             let within : p.place < length (entries table) = p.within in
             let below : p.place < n = omega (arith, len-entries table) in
-            let has : contains_key out q ≡ true = g.whole p.place below q r p.at yes in
+            let has : contains_key out q ≡ true = g.whole p.place below q r p.at good in
             let hasnt : contains_key out q ≡ false = ap is_some e in
             cc
-        tested q r there true yes (Some row) e =
+        tested q r there true good (Some row) e =
             let a : get table q ≡ Some row = (g.sound q row e).0 in
             let same : row ≡ r = cc in
             ap Some same

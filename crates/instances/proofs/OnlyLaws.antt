@@ -15,6 +15,9 @@ use Rattle.instances.proofs.Gathering.{get_where}
 abbrev Row : Type 0
 Row = List Value
 
+abbrev nothing : Table
+nothing = empty
+
 module _ (k : Row) (m : Table) where
   pub get_only : (q : Row) → get (only k m) q ≡ cond (is_same q k) (get m q) None
   get_only q = get-retain_keys m (λ other. is_same other k) q (λ x tie. ap (λ other. is_same other k) (sym (key_exact q x tie)))
@@ -32,7 +35,7 @@ module _ (k : Row) (m : Table) where
       is ∙ ap (λ o. cond (is_some o) empty (insert empty k row)) (get-empty key_order k)
       ∙ same_map key_total key_exact (insert empty k row) (only k m) (λ q. get-insert key_total empty k row q ∙ at q (key_order q k) refl ∙ sym (get_only q))
     where
-      at : (q : Row) (o : Ordering) → key_order q k ≡ o → cond (is_eq o) (Some row) (get empty q) ≡ cond (is_eq o) (get m q) None
+      at : (q : Row) (o : Ordering) → key_order q k ≡ o → cond (is_eq o) (Some row) (get nothing q) ≡ cond (is_eq o) (get m q) None
       at q Less tie = get-empty key_order q
       at q Equal tie = some ∙ ap (get m) (sym (key_exact q k tie))
       at q Greater tie = get-empty key_order q
@@ -43,10 +46,10 @@ module _ (test : Row → Bool) (table : Table) (q : Row) where
   where_none none = sym (get_where test table q ∙ ap (λ o. cond (passes test o) o None) (sym none))
 
   pub where_out : (row : Row) → Some row ≡ get table q → test row ≡ false → None ≡ get (rows_where test table) q
-  where_out row some no = sym (get_where test table q ∙ ap (λ o. cond (passes test o) o None) (sym some) ∙ ap (λ b. cond b (Some row) None) no)
+  where_out row some bad = sym (get_where test table q ∙ ap (λ o. cond (passes test o) o None) (sym some) ∙ ap (λ b. cond b (Some row) None) bad)
 
   pub where_in : (row : Row) → Some row ≡ get table q → test row ≡ true → Some row ≡ get (rows_where test table) q
-  where_in row some yes = sym (get_where test table q ∙ ap (λ o. cond (passes test o) o None) (sym some) ∙ ap (λ b. cond b (Some row) None) yes)
+  where_in row some good = sym (get_where test table q ∙ ap (λ o. cond (passes test o) o None) (sym some) ∙ ap (λ b. cond b (Some row) None) good)
 
 pub if_ok : {A E : Type 0} (P Q : A → Type 0) → ((x : A) → P x → Q x) → (r : Result A E) → IfOk r P → IfOk r Q
 if_ok P Q f (Ok x) h = f x h
