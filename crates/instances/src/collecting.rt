@@ -48,10 +48,20 @@ pub(crate) fn child_rows(
     ensures { IfOk result (λ rows. rows ≡ child_rows tables.now (kept_at kept.now child.now.parent) child.now) }
 {
     let none = Rows::new(alloc);
-    let parents = or_none(kept.get(child.parent), &none);
+    let parents = kept_at(kept, child.parent, &none);
     let rows = or_none(tables.table(child.table), &none);
     let def = tables.schema().get(child.table.0 as usize);
     referring_rows(alloc, rows, &child.filter, parents, def)
+}
+
+// The rows at a place, or else those of `none`.
+fn kept_at<'a>(kept: &'a [Rows], place: usize, none: &'a Rows) -> &'a Rows
+    ensures { result.now ≡ unwrap_or (slice_get kept.now place) none.now }
+{
+    match kept.get(place) {
+        None => none,
+        Some(rows) => rows,
+    }
 }
 
 // The rows, or else those of `none`.
