@@ -1,0 +1,4 @@
+pub mod ChildLaws
+pub mod Gathering
+pub mod InstanceLaws
+pub mod OnlyLaws

@@ -1,0 +1,5 @@
+pub mod Collecting
+pub mod Instances
+pub mod Roots
+pub mod Trees
+pub mod Views

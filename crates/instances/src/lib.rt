@@ -1,0 +1,13 @@
+//! The view of a cache group: which rows of the backing tables it covers, in which instances.
+#![tactic(auto)]
+
+mod collecting;
+pub mod laws;
+pub mod rooting;
+pub mod tree;
+pub mod viewing;
+
+pub use laws::instance_law;
+pub use rooting::root_of;
+pub use tree::{Child, Root, Tree};
+pub use viewing::{instance, view};
