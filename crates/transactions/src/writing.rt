@@ -35,10 +35,15 @@ pub fn write_all(
     ensures applies { IfOk result (λ written. applied_all written.ops tables.old ≡ Some tables.new) }
     ensures limited { IfOk result (λ written. length written.ops ≤ greatest Operations) }
 {
-    match writes.len() {
-        0 => Ok(Written::nothing(alloc)),
-        1 => write_one(alloc, tables, most_operations(), &writes[0]),
-        _ => write_to_copy(alloc, tables, writes),
+    match writes.split_first() {
+        None => Ok(Written::nothing(alloc)),
+        Some((write, rest)) => {
+            if rest.is_empty() {
+                write_one(alloc, tables, most_operations(), write)
+            } else {
+                write_to_copy(alloc, tables, writes)
+            }
+        }
     }
 }
 
