@@ -34,22 +34,14 @@ unbroken ops s n h = by (broken_by_all ops s) refl
     by (Some x) e = let none : applied_all ops s ≡ None = none_all ops s x e in cc
 
 module _ (room : ℕ) (change : Change) (s : TableState) where
-  pub refused_write : (rule : Rule) → effects_of room change s ≡ Err rule → written_by room change s ≡ Err (error.Rule rule)
-  refused_write rule h = ap (applied_to change s) h
-
   module _ (ops : List Op) (effects : effects_of room change s ≡ Ok ops) where
     applied_ops : written_by room change s ≡ left_by change s ops (broken_by_all ops s)
     applied_ops = ap (applied_to change s) effects
 
-    pub done_write : (n : TableState) → applied_all ops s ≡ Some n → Leaves (written_by room change s) n (record { ops = ops; rows = rows_in change.table ops })
+    done_write : (n : TableState) → applied_all ops s ≡ Some n → Leaves (written_by room change s) n (record { ops = ops; rows = rows_in change.table ops })
     done_write n h =
         applied_ops ∙ ap (left_by change s ops) (unbroken ops s n h)
         ∙ ap (λ o. Ok (record { written = record { ops = ops; rows = rows_in change.table ops }; state = unwrap_or o s })) h
-
-    pub broken_write : (e : ApplyError) → IsFault (broken_by_all ops s) e → Tells (written_by room change s) e
-    broken_write (error.Rule rule) h = applied_ops ∙ ap (left_by change s ops) h
-    broken_write (error.Differs t key row) h = applied_ops ∙ ap (left_by change s ops) h
-    broken_write error.Memory h = tt
 
 -- the operations and their number, as they were read
 pub done_written : (room : ℕ) (change : Change) (s n : TableState) (ops applied counted : List Op) (rows : ℕ) → effects_of room change s ≡ Ok ops → applied ≡ ops → applied_all applied s ≡ Some n → counted ≡ ops → rows ≡ rows_in change.table counted
@@ -68,9 +60,6 @@ behind_both a b (Ok done) =
     ap (λ ops. Ok (record { written = record { ops = ops; rows = a.rows + (b.rows + done.written.rows) }; state = done.state })) (sym (append_assoc a.ops b.ops done.written.ops))
     ∙ ap (λ n. Ok (record { written = record { ops = (a.ops ++ b.ops) ++ done.written.ops; rows = n }; state = done.state })) more
 
-behind_refused : (a : Written) (r : Result Done ApplyError) (e : ApplyError) → r ≡ Err e → behind a r ≡ Err e
-behind_refused a r e h = ap (behind a) h
-
 drop_here : {X : Type 0} (xs : List X) (i : ℕ) (x : X) → slice_get xs i ≡ Some x → drop i xs ≡ x ∷ drop (i + 1) xs
 drop_here [] i x at = cc
 drop_here (y ∷ xs) zero x at = let same : y ≡ x = cc in ap (λ z. z ∷ xs) same
@@ -88,56 +77,12 @@ pub record DoneBefore (whole : ℕ) (changes : List Change) (i : ℕ) (start : T
   pub counted : before.rows ≤ length before.ops
   pub applies : applied_all before.ops start ≡ Some now
 
--- the operations of a write are as many as may still come
-pub few_operations : (room : ℕ) (change : Change) (s : TableState) (ops : List Op) → effects_of room change s ≡ Ok ops → length ops ≤ room
-few_operations room change s ops h = by_done (done_by s change (slice_get s.schema change.table.0)) h
-  where
-    by_limits : (xs : List Op) (a : Bool) → nat_lt room (length xs) ≡ a → (b : Bool) → cond a (Err (limit Operations)) (cond b (Err (limit Rows)) (Ok xs)) ≡ Ok ops → length ops ≤ room
-    by_limits xs true e b g = cc
-    by_limits xs false e true g = cc
-    by_limits xs false e false g =
-        let same : xs ≡ ops = cc in
-        subst (λ (l : List Op). length l ≤ room) same (ltb-false room (length xs) e)
-
-    by_done : (r : Result (List Op) Rule) → then_do (within_limits room s change) r ≡ Ok ops → length ops ≤ room
-    by_done (Err e) g = cc
-    by_done (Ok xs) g = by_limits xs (nat_lt room (length xs)) refl (passes_rows s change.table change.action) g
-
-pub few_rows : (t : TableId) (ops : List Op) → rows_in t ops ≤ length ops
-few_rows t ops = count_by-le-length _ ops
-
 -- the writes, one after the other
 
-behind_nothing : (r : Result Done ApplyError) → behind nothing r ≡ r
-behind_nothing (Err e) = refl
-behind_nothing (Ok done) =
-    let same : 0 + done.written.rows ≡ done.written.rows = omega arith in
-    ap (λ n. Ok (record { written = record { ops = done.written.ops; rows = n }; state = done.state })) same
-
-nothing_behind : (before : Written) → joined before nothing ≡ before
-nothing_behind before =
-    let same : before.rows + 0 ≡ before.rows = omega arith in
-    ap (λ ops. record { ops = ops; rows = before.rows + 0 }) (append-none before.ops) ∙ ap (λ n. record { ops = before.ops; rows = n }) same
-
 module _ (whole : ℕ) (changes : List Change) (start : TableState) where
-  pub begun : DoneBefore whole changes 0 start nothing start
-  begun =
-      let same : whole ≡ whole - 0 = omega arith in
-      record {
-        so_far = sym (behind_nothing (written_in whole changes start)) ∙ ap (λ n. behind nothing (written_in n changes start)) same;
-        limited = omega arith;
-        counted = omega arith;
-        applies = refl;
-      }
-
   module _ (i : ℕ) (before : Written) (now : TableState) (so_far : DoneBefore whole changes i start before now) where
     pub keyed_now : IsKeyed start → IsKeyed now
     keyed_now keyed = ops_keyed before.ops start now so_far.applies keyed
-
-    pub all_done : length changes ≤ i → Leaves (written_in whole changes start) now before
-    all_done end =
-        so_far.so_far ∙ ap (λ l. behind before (written_in (whole - length before.ops) l now)) (drop_of_length-le changes end)
-        ∙ ap (λ w. Ok (record { written = w; state = now })) (nothing_behind before)
 
     module _ (change : Change) (here : i < length changes) (is : change ≡ get_or changes i change) (room : ℕ) (room_is : room ≡ whole - length before.ops) where
       after : Result Done ApplyError → Result Done ApplyError
@@ -149,13 +94,7 @@ module _ (whole : ℕ) (changes : List Change) (start : TableState) where
           so_far.so_far ∙ ap (λ n. behind before (written_in n (drop i changes) now)) (sym room_is)
           ∙ ap (λ l. behind before (written_in room l now)) (drop_here changes i change (there changes i change (omega arith) is))
 
-      pub stopped : (e : ApplyError) → Tells (written_by room change now) e → Tells (written_in whole changes start) e
-      unfolding after
-      stopped (error.Rule rule) h = opened ∙ ap after h
-      stopped (error.Differs t key row) h = opened ∙ ap after h
-      stopped error.Memory h = tt
-
-      pub went_on : (more : Written) (new : TableState) → Leaves (written_by room change now) new more → length more.ops ≤ room → more.rows ≤ length more.ops → applied_all more.ops now ≡ Some new
+      went_on : (more : Written) (new : TableState) → Leaves (written_by room change now) new more → length more.ops ≤ room → more.rows ≤ length more.ops → applied_all more.ops now ≡ Some new
           → DoneBefore whole changes (i + 1) start (joined before more) new
       unfolding after
       went_on more new h limited counted applies =
@@ -176,26 +115,3 @@ module _ (whole : ℕ) (changes : List Change) (start : TableState) where
           → DoneBefore whole changes (i + 1) start (record { ops = ops; rows = before.rows + more.rows }) new
       went_on_as more new ops same h limited counted applies =
           subst (λ (l : List Op). DoneBefore whole changes (i + 1) start (record { ops = l; rows = before.rows + more.rows }) new) (sym same) (went_on more new h limited counted applies)
-
--- one write alone
-
-alone : (whole : ℕ) (change : Change) (s : TableState) → written_in whole (change ∷ []) s ≡ written_by whole change s
-alone whole change s = by (written_by whole change s)
-  where
-    by : (r : Result Done ApplyError) → and_then (λ first. behind first.written (written_in (whole - length first.written.ops) [] first.state)) r ≡ r
-    by (Err e) = refl
-    by (Ok done) = ap (λ w. Ok (record { written = w; state = done.state })) (nothing_behind done.written)
-
-module _ (whole : ℕ) (changes rest : List Change) (change : Change) (s : TableState) (is : changes ≡ change ∷ rest) (none : length rest ≡ 0) where
-  only_one : written_in whole changes s ≡ written_by whole change s
-  only_one =
-      let no_rest : rest ≡ [] = nil_from_length rest none in
-      ap (λ l. written_in whole l s) (is ∙ ap (λ l. change ∷ l) no_rest) ∙ alone whole change s
-
-  pub leaves_one : (n : TableState) (w : Written) → Leaves (written_by whole change s) n w → Leaves (written_in whole changes s) n w
-  leaves_one n w h = only_one ∙ h
-
-  pub tells_one : (e : ApplyError) → Tells (written_by whole change s) e → Tells (written_in whole changes s) e
-  tells_one (error.Rule rule) h = only_one ∙ h
-  tells_one (error.Differs t key row) h = only_one ∙ h
-  tells_one error.Memory h = tt
