@@ -14,7 +14,9 @@ use table_state::{ApplyError, Entry, ForeignKey, Op, TableDef, Tables};
 use tier_base::{Name, NameError, Seq, TableId};
 
 const A: TableId = TableId(0);
+
 const C: TableId = TableId(1);
+
 const K: TableId = TableId(2);
 
 fn pair<T: Drop>(alloc: Global, first: T, second: T) -> Result<Seq<T>, AllocError> {
@@ -48,11 +50,7 @@ fn integer(alloc: Global, name: &[u8]) -> Result<Column, NameError> {
     })
 }
 
-fn table(
-    alloc: Global,
-    name: &[u8],
-    foreign_key: Option<ForeignKey>,
-) -> Result<Entry, NameError> {
+fn table(alloc: Global, name: &[u8], foreign_key: Option<ForeignKey>) -> Result<Entry, NameError> {
     let name = Name::new(alloc, name)?;
     let id = integer(alloc, b"ID")?;
     let other = integer(alloc, b"N")?;
@@ -127,11 +125,7 @@ fn number(number: i64) -> Expr {
 }
 
 fn is_id(id: i64) -> Option<Cond> {
-    Some(Cond::Compared(
-        Comparator::Equal,
-        Expr::Column(0),
-        number(id),
-    ))
+    Some(Cond::Compared(Comparator::Equal, Expr::Column(0), number(id)))
 }
 
 fn change(alloc: Global, write: Write) -> Result<Change, AllocError> {
@@ -227,7 +221,13 @@ fn all_or_none(rt: HostRuntime) -> Result<(), Fail> {
     let insert = Write::Insert(A, 4, 40);
     // The second write finds what the first left.
     let update = Write::Update(A, 4, 5);
-    assert!(rt; makes(alloc, &[insert, update], b"+4|40 =4|5 2 1|10 2|20 3|30 4|5 ")?);
+    assert!(rt;
+        makes(
+            alloc,
+            &[insert, update],
+            b"+4|40 =4|5 2 1|10 2|20 3|30 4|5 "
+        )?
+    );
     // 107 of the second write: the first one's row isn't there either.
     let again = Write::Insert(A, 1, 1);
     assert!(rt; makes(alloc, &[insert, again], b"no 107 1|10 2|20 3|30 ")?);
@@ -251,7 +251,13 @@ fn parents_and_children(rt: HostRuntime) -> Result<(), Fail> {
     let orphan = Write::Insert(C, 8, 9);
     assert!(rt; makes(alloc, &[orphan], b"no 108 1|10 2|20 3|30 ")?);
     let named = Write::Insert(A, 9, 90);
-    assert!(rt; makes(alloc, &[named, orphan], b"+9|90 +8|9 2 1|10 2|20 3|30 9|90 ")?);
+    assert!(rt;
+        makes(
+            alloc,
+            &[named, orphan],
+            b"+9|90 +8|9 2 1|10 2|20 3|30 9|90 "
+        )?
+    );
     Ok(())
 }
 
@@ -298,8 +304,8 @@ fn counted(alloc: Global, times: usize) -> Result<Vec<u8>, Fail> {
 #[test]
 fn operations_of_all_writes_are_limited(rt: HostRuntime) -> Result<(), Fail> {
     let alloc = rt.alloc();
-    assert!(rt; counted(alloc, 1)?.as_slice() == b"5001");
-    assert!(rt; counted(alloc, 2)?.as_slice() == b"no 119 ");
+    assert!(rt; counted(alloc, 1)?.as_slice() == b"5001".as_slice());
+    assert!(rt; counted(alloc, 2)?.as_slice() == b"no 119 ".as_slice());
     Ok(())
 }
 

@@ -73,11 +73,7 @@ fn write_to_copy(
 }
 
 // After an error those before it stay done.
-fn write_each(
-    alloc: Global,
-    tables: &mut Tables,
-    writes: &[Change],
-) -> Result<Written, ApplyError>
+fn write_each(alloc: Global, tables: &mut Tables, writes: &[Change]) -> Result<Written, ApplyError>
     requires { IsKeyed tables.old }
     ensures written { IfOk result (Leaves (written_by_all writes.now tables.old) tables.new) }
     ensures refused { IfErr result (Tells (written_by_all writes.now tables.old)) }
