@@ -1,0 +1,117 @@
+//! Whether an insert can be applied, over any tables that can be scanned.
+
+ghost use Rattle.std.specs.Prelude.{◌≡◌, IfOk, None, slice_get, if◌then◌else◌};
+ghost use Rattle.std.specs.FinMap as map;
+ghost use Rattle.row_types.specs.declared.rule.Detail.TheVariants as detail;
+ghost use Rattle.tier_base.specs.declared.code.Code.TheVariants as code;
+ghost use Rattle.table_state.specs.Independence.{IsWhole};
+ghost use Rattle.table_state.specs.Refusals.{Judges, insert_fault, missing_parent, refused, row_of};
+ghost use Rattle.table_state.specs.Tables.{table_at};
+ghost use Rattle.transactions.specs.Judging.{broken_by_insert};
+
+use row_types::{Detail, Key, Row, Rule};
+use std::alloc::{AllocError, Global};
+use table_scan::Scan;
+use table_state::{ApplyError, TableDef, check_row, key_at, key_of_row};
+use tier_base::{Code, TableId};
+
+/// Whether a row can be inserted, without inserting it. So the operation of an INSERT is judged over rows that can't
+/// be changed in place.
+///
+/// `ApplyError::Rule` tells the first rule that the operation breaks, as `Tables::apply_all` does: 102 without the
+/// table; 104, 105 and 106 of a row that doesn't fit; 107 where its key has a row; 108 without its parent.
+/// `ApplyError::Memory` may come at any time.
+pub fn judge_insert<S: Scan>(
+    alloc: Global,
+    table: TableId,
+    row: &Row,
+    scan: &S,
+) -> Result<(), ApplyError>
+    requires { IsWhole (S.state scan.now) }
+    ensures { Judges result (broken_by_insert table row.now (S.state scan.now)) }
+{
+    match scan.schema().get(table.0 as usize) {
+        None => Err(broken(Code::UnknownTable, Detail::Nothing)),
+        Some(def) => check_insert(alloc, scan, table, def, row),
+    }
+}
+
+fn broken(code: Code, detail: Detail) -> ApplyError
+    ensures { Some result ≡ refused code detail }
+{
+    ApplyError::Rule(Rule { code, detail })
+}
+
+fn check_insert<S: Scan>(
+    alloc: Global,
+    scan: &S,
+    table: TableId,
+    def: &TableDef,
+    row: &Row,
+) -> Result<(), ApplyError>
+    ensures { Judges result (insert_fault (S.state scan.now) row.now def.now (table_at (S.state scan.now) table)) }
+{
+    check_row(alloc, def.columns.as_slice(), row)?;
+    let key = key_of_row(alloc, def, row)?;
+    check_new(alloc, scan, table, def, &key)?;
+    check_parent(alloc, scan, def, row)
+}
+
+fn check_new<S: Scan>(
+    alloc: Global,
+    scan: &S,
+    table: TableId,
+    def: &TableDef,
+    key: &Key,
+) -> Result<(), ApplyError>
+    ensures { Judges result (if map.contains_key (table_at (S.state scan.now) table) key.now then refused code.KeyExists (detail.Row def.now.name key.now) else None) }
+{
+    match scan.find(table, key) {
+        None => Ok(()),
+        Some(_) => {
+            let name = def.name.copied(alloc)?;
+            let key = key.copied(alloc)?;
+            Err(broken(Code::KeyExists, Detail::Row(name, key)))
+        }
+    }
+}
+
+fn check_parent<S: Scan>(
+    alloc: Global,
+    scan: &S,
+    def: &TableDef,
+    row: &Row,
+) -> Result<(), ApplyError>
+    ensures { Judges result (missing_parent (S.state scan.now) def.now row.now) }
+{
+    match &def.foreign_key {
+        None => Ok(()),
+        Some(foreign) => {
+            let key = key_at(alloc, foreign.columns.as_slice(), row)?;
+            match scan.find(foreign.parent, &key) {
+                Some(_) => Ok(()),
+                None => {
+                    let detail = row_detail(alloc, scan, foreign.parent, key)?;
+                    Err(broken(Code::ParentMissing, detail))
+                }
+            }
+        }
+    }
+}
+
+fn row_detail<S: Scan>(
+    alloc: Global,
+    scan: &S,
+    table: TableId,
+    key: Key,
+) -> Result<Detail, AllocError>
+    ensures { IfOk result (λ detail. detail ≡ row_of key (slice_get (S.state scan.now).schema table.0)) }
+{
+    match scan.schema().get(table.0 as usize) {
+        None => Ok(Detail::Nothing),
+        Some(def) => {
+            let name = def.name.copied(alloc)?;
+            Ok(Detail::Row(name, key))
+        }
+    }
+}
