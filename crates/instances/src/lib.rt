@@ -11,3 +11,6 @@ pub use laws::instance_law;
 pub use rooting::root_of;
 pub use tree::{Child, Root, Tree};
 pub use viewing::{instance, view};
+
+#[cfg(test)]
+mod tests;
