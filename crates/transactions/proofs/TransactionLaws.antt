@@ -1,28 +1,18 @@
 -- Laws of what writes do.
-use Rattle.std.proofs.Common.{◌≡◌, ℕ, zero, suc, ◌+◌, ◌-◌, ◌<◌, ◌≤◌, Bool, true, false, cond, Option, Some, None, Result, Ok, Err, List, [], ◌∷◌, ◌++◌, length, nat_lt, drop, slice_get, get_or, unwrap_or, refl, sym, ap, subst, ◌∙◌, arith, append_assoc, length-append}
-use Rattle.std.proofs.lemmas.Bool.{ltb-false}
-use Rattle.std.proofs.lemmas.List.{nil_from_length}
-use Rattle.std.proofs.lemmas.List.Sums.{count_by-le-length}
-use Rattle.std.proofs.Math.ListN.{drop_of_length-le}
-use Rattle.tier_base.specs.declared.number.TableId.{TableId}
-use Rattle.row_types.specs.declared.rule.Rule.{Rule}
+use Rattle.std.proofs.Common.{◌≡◌, ℕ, zero, suc, ◌+◌, ◌-◌, ◌<◌, ◌≤◌, Option, Some, None, Result, Ok, Err, List, [], ◌∷◌, ◌++◌, length, drop, slice_get, get_or, unwrap_or, refl, sym, ap, subst, ◌∙◌, arith, append_assoc, length-append}
 use Rattle.table_state.specs.declared.operation.Op.{Op}
 use Rattle.table_state.specs.declared.refusal.ApplyError.{ApplyError}
-use Rattle.table_state.specs.declared.refusal.ApplyError.TheVariants as error
 use Rattle.table_state.specs.Operations.{applied_all}
-use Rattle.table_state.specs.Refusals.{IsFault, broken_by_all}
+use Rattle.table_state.specs.Refusals.{broken_by_all}
 use Rattle.table_state.specs.Tables.{TableState}
 use Rattle.table_state.proofs.HistoryLaws.{applied_all-append, none_all}
 use Rattle.evaluator.specs.declared.change.Change.{Change}
-use Rattle.evaluator.specs.Writes.{done_by, effects_of, passes_rows, within_limits}
-use Rattle.evaluator.specs.Rules.{limit, then_do}
-use Rattle.evaluator.proofs.CapLaws.{append-none}
-use Rattle.tier_base.specs.declared.limit.Limit.TheVariants.{Rows, Operations}
+use Rattle.evaluator.specs.Writes.{effects_of}
 use Rattle.table_scan.specs.Keyed.{IsKeyed}
 use Rattle.table_scan.proofs.KeyedLaws.{ops_keyed}
 use Rattle.std.specs.Option.{option_and_then}
 use Rattle.transactions.specs.declared.written.Written.{Written}
-use Rattle.transactions.specs.Transactions.{Done, Leaves, Tells, and_then, applied_to, behind, joined, left_by, nothing, rows_in, written_by, written_in}
+use Rattle.transactions.specs.Transactions.{Done, Leaves, and_then, applied_to, behind, joined, left_by, rows_in, written_by, written_in}
 
 -- one write
 

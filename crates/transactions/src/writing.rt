@@ -19,10 +19,11 @@ use tier_base::{Limit, Seq};
 ///
 /// `ApplyError::Rule` tells the first broken rule of the first write that breaks one: what `effects` refuses, where the
 /// limit of operations is that of the whole transaction; then what `Tables::apply_all` refuses of its operations: 107
-/// of an insert whose key has a row, 108 without the parent, 109 of a delete whose row has a child.
-/// `ApplyError::Memory` may come at any time. After an error the tables are as they were.
+/// of an insert whose key has a row, 108 without the parent, 109 of a delete whose row has a child; 104 and 118 of a
+/// write with another number of expressions than columns, or that changes a primary key. `ApplyError::Differs` is told
+/// as `apply_all` tells it. `ApplyError::Memory` may come at any time. After an error the tables are as they were.
 ///
-/// One write is done in place. Several are done on a copy of the tables, which goes through all rows.
+/// One write is done as `apply_all` does it. Several are done on a copy of the tables, which goes through all rows.
 pub fn write_all(
     alloc: Global,
     tables: &mut Tables,
