@@ -6,4 +6,5 @@ pub mod QueryLaws
 pub mod QueryOrder
 pub mod RuleLaws
 pub mod TallyLaws
+pub mod WalkLaws
 pub mod WriteLaws

@@ -1,6 +1,6 @@
 -- Laws of results that may be a broken rule.
-use Rattle.std.proofs.Common.{◌≡◌, ℕ, zero, suc, ◌+◌, Bool, true, false, cond, Some, Result, Ok, Err, List, [], ◌∷◌, ◌++◌, take, drop, slice_get, refl, sym, ap, subst, ◌∙◌, arith, append_assoc}
-use Rattle.std.specs.List.{filter}
+use Rattle.std.proofs.Common.{◌≡◌, ℕ, zero, suc, ◌+◌, Bool, true, false, cond, ◌&&◌, Some, Result, Ok, Err, List, [], ◌∷◌, ◌++◌, take, drop, slice_get, refl, sym, ap, subst, ◌∙◌, arith, append_assoc}
+use Rattle.std.specs.List.{filter, list_all}
 use Rattle.row_types.specs.declared.rule.Rule.{Rule}
 use Rattle.row_types.specs.declared.rule.Refused.{Refused}
 use Rattle.row_types.specs.declared.rule.Refused.TheVariants as refused
@@ -36,6 +36,21 @@ module _ {X A : Type 0} (f : X → Result (List A) Rule) where
       by : (b : Bool) → p x ≡ b → each f xs ≡ each f (filter p xs) → added (f x) (each f xs) ≡ each f (cond b (x ∷ filter p xs) (filter p xs))
       by true e rest = ap (added (f x)) rest
       by false e rest = ap (λ r. added r (each f xs)) (none x e) ∙ nil-added (each f xs) ∙ rest
+
+-- the same where another test is known to hold of each element
+pub each-filter_of : {X A : Type 0} (f : X → Result (List A) Rule) (p known : X → Bool) → ((x : X) → known x ≡ true → p x ≡ false → f x ≡ Ok []) → (xs : List X) → list_all known xs ≡ true → each f xs ≡ each f (filter p xs)
+each-filter_of f p known none [] all = refl
+each-filter_of f p known none (x ∷ xs) all =
+    let (here, rest) = all_true (known x) (list_all known xs) all in
+    by here (each-filter_of f p known none xs rest) (p x) refl
+  where
+    all_true : (a b : Bool) → (a && b) ≡ true → (a ≡ true) × (b ≡ true)
+    all_true true b h = (refl, h)
+    all_true false b h = cc
+
+    by : known x ≡ true → each f xs ≡ each f (filter p xs) → (c : Bool) → p x ≡ c → added (f x) (each f xs) ≡ each f (cond c (x ∷ filter p xs) (filter p xs))
+    by here rest true e = ap (added (f x)) rest
+    by here rest false e = ap (λ r. added r (each f xs)) (none x here e) ∙ nil-added (each f xs) ∙ rest
 
 module _ {S X A : Type 0} (after : S → A → S) (f : X → Result (List A) Rule) where
   pub added_start : (xs : List X) (start : S) → TakenBefore after f xs 0 start start

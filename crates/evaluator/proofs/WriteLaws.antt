@@ -15,8 +15,8 @@ use Rattle.table_state.specs.declared.definition.TableDef.{TableDef}
 use Rattle.table_state.specs.declared.operation.Op.{Op}
 use Rattle.table_state.specs.declared.operation.Op.TheVariants as op
 use Rattle.table_state.specs.Tables.{Table, TableState, table_at}
-use Rattle.table_scan.specs.Keyed.{IsKeyed, IsUnderKeys, has_key}
-use Rattle.table_scan.proofs.KeyedLaws.{none_is_under}
+use Rattle.table_scan.specs.Keyed.{HasWidth, IsKeyed, IsUnderKeys, has_key}
+use Rattle.table_scan.proofs.KeyedLaws.{none_has_width, none_is_under}
 use Rattle.table_scan.proofs.KeyLaws.{found_by_key}
 use Rattle.expressions.specs.declared.condition.Cond.{Cond}
 use Rattle.expressions.specs.declared.expression.Expr.{Expr}
@@ -46,7 +46,7 @@ if_not_true True r e = cc
 if_not_true False r e = refl
 if_not_true Unknown r e = refl
 
-module _ (s : TableState) (t : TableId) (def : TableDef) (action : Action) (places : List ℕ) (key : List Value) (narrow : Narrows (filter_of action) places key) (keyed : IsUnderKeys places (table_at s t)) where
+module _ (s : TableState) (t : TableId) (def : TableDef) (action : Action) (places : List ℕ) (key : List Value) (narrow : Narrows (filter_of action) [] places key) (keyed : IsUnderKeys places (table_at s t)) where
   left_out : (x : List Value) → has_key places key x ≡ false → done_on s t def action x ≡ Ok []
   left_out x other =
       let (truth, is, fails) = narrow x other in
@@ -64,13 +64,16 @@ module _ (s : TableState) (t : TableId) (def : TableDef) (action : Action) (plac
       same_taken put (done_on s t def action row) (each (done_on s t def action) (fm.values (table_at s t))) r old new
       (sym (by_key ∙ ap (λ o. each (done_on s t def action) (option_to_list o)) (sym found) ∙ added-nil (done_on s t def action row))) h
 
--- the rows of a table stand under their keys
-pub keyed_at : (s : TableState) (t : TableId) (def : TableDef) → IsKeyed s → slice_get s.schema t.0 ≡ Some def → IsUnderKeys def.primary_key (table_at s t)
-keyed_at s t def keyed is = by (slice_get s.tables t.0) refl
+-- the rows of a table stand under their keys, and each has a value for each column
+pub sound_at : (s : TableState) (t : TableId) (def : TableDef) → IsKeyed s → slice_get s.schema t.0 ≡ Some def → IsUnderKeys def.primary_key (table_at s t) × HasWidth (length def.columns) (table_at s t)
+sound_at s t def keyed is = by (slice_get s.tables t.0) refl
   where
-    by : (o : Option Table) → slice_get s.tables t.0 ≡ o → IsUnderKeys def.primary_key (unwrap_or o fm.empty)
-    by None e = none_is_under def.primary_key
+    by : (o : Option Table) → slice_get s.tables t.0 ≡ o → IsUnderKeys def.primary_key (unwrap_or o fm.empty) × HasWidth (length def.columns) (unwrap_or o fm.empty)
+    by None e = (none_is_under def.primary_key, none_has_width (length def.columns))
     by (Some table) e = keyed t.0 def table is e
+
+pub keyed_at : (s : TableState) (t : TableId) (def : TableDef) → IsKeyed s → slice_get s.schema t.0 ≡ Some def → IsUnderKeys def.primary_key (table_at s t)
+keyed_at s t def keyed is = (sound_at s t def keyed is).0
 
 -- the limits
 module _ (room : ℕ) (change : Change) (s : TableState) (def : TableDef) (is : slice_get s.schema change.table.0 ≡ Some def) where

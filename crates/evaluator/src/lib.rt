@@ -16,6 +16,7 @@ pub mod refusing;
 pub mod selecting;
 pub mod summing;
 pub mod tallies;
+pub mod walking;
 pub mod writing;
 
 pub use aggregate::Aggregate;

@@ -7,6 +7,7 @@ ghost use Rattle.table_scan.specs.Keyed.{IsKeyed, IsUnderKeys};
 ghost use Rattle.evaluator.specs.Rules.{Adds, Gives, each};
 ghost use Rattle.evaluator.specs.Writes.{done_in, done_on, done_to, effects_of, passes_rows};
 
+use crate::beside::Beside;
 use crate::building::build_row;
 use crate::capped::Capped;
 use crate::cascade::delete_row;
@@ -101,7 +102,12 @@ fn change_rows<S: Scan>(
     requires { IsUnderKeys def.now.primary_key (table_at (S.state scan.now) table) }
     ensures { Adds (each (done_on (S.state scan.now) table def.now action.now) (values (table_at (S.state scan.now) table))) result out.old out.new }
 {
-    match selected_key(alloc, action.filter(), def.primary_key.as_slice())? {
+    match selected_key(
+        alloc,
+        action.filter(),
+        &Beside::Nothing,
+        def.primary_key.as_slice(),
+    )? {
         None => change_all(alloc, scan, table, def, action, out),
         Some(key) => match scan.find(table, &key) {
             None => Ok(()),

@@ -1,10 +1,11 @@
--- Operations leave rows under their keys.
-use Rattle.std.proofs.Common.{◌≡◌, ℕ, zero, suc, Bool, true, false, cond, Option, Some, None, is_some, T, List, [], ◌∷◌, ◌++◌, length, slice_get, slice_set, ◌⊎◌, inl, inr, refl, sym, ap, subst, ◌∙◌, arith}
+-- Operations leave rows under their keys, with a value for each column.
+use Rattle.std.proofs.Common.{◌≡◌, ℕ, zero, suc, Bool, true, false, cond, ◌&&◌, Option, Some, None, is_some, T, List, [], ◌∷◌, ◌++◌, length, slice_get, slice_set, ◌⊎◌, inl, inr, refl, sym, ap, subst, ◌∙◌, arith}
 use Rattle.std.specs.Option.{option_and_then, option_map}
 use Rattle.std.specs.Ordering.{eq_by_cmp, is_eq}
 use Rattle.std.specs.declared.cmp.Ordering.{Ordering}
 use Rattle.std.specs.declared.cmp.Ordering.TheVariants.{Less, Equal, Greater}
 use Rattle.std.specs.FinMap as fm
+use Rattle.row_types.specs.declared.column.Column.{Column}
 use Rattle.row_types.specs.declared.value.Value.{Value}
 use Rattle.row_types.specs.Order.{key_order}
 use Rattle.row_types.proofs.OrderLaws.{key_total, key_exact}
@@ -18,8 +19,8 @@ use Rattle.table_state.specs.Histories.{after_entry, no_tables, state_from, stat
 use Rattle.table_state.specs.Independence.{IsWhole}
 use Rattle.table_state.proofs.IndependenceLaws.{entry_whole}
 use Rattle.table_state.specs.Operations.{applied, applied_all, on_table, only_if}
-use Rattle.table_state.specs.Tables.{Table, TableState, key_of}
-use Rattle.table_scan.specs.Keyed.{IsKeyed, IsUnderKeys}
+use Rattle.table_state.specs.Tables.{Table, TableState, fits_columns, key_of}
+use Rattle.table_scan.specs.Keyed.{HasWidth, IsKeyed, IsUnderKeys}
 
 abbrev Row : Type 0
 Row = List Value
@@ -42,7 +43,49 @@ remove_under places m gone under key found h = by (eq_by_cmp key_order key gone)
     by true h = cc
     by false h = under key found h
 
+-- and each has its width
+
+pub none_has_width : (width : ℕ) → HasWidth width fm.empty
+none_has_width width key row h = let e : None ≡ Some row = sym (fm.get-empty key_order key) ∙ h in absurd (subst T (sym (ap is_some e)) tt)
+
+insert_wide : (width : ℕ) (m : Table) (at row : Row) → length row ≡ width → HasWidth width m → HasWidth width (fm.insert m at row)
+insert_wide width m at row size wide key found h = by (eq_by_cmp key_order key at) (sym (fm.get-insert key_total m at row key) ∙ h)
+  where
+    by : (b : Bool) → cond b (Some row) (fm.get m key) ≡ Some found → length found ≡ width
+    by true h = let same : row ≡ found = cc in ap length (sym same) ∙ size
+    by false h = wide key found h
+
+remove_wide : (width : ℕ) (m : Table) (gone : Row) → HasWidth width m → HasWidth width (fm.remove m gone)
+remove_wide width m gone wide key found h = by (eq_by_cmp key_order key gone) (sym (fm.get-remove key_total m gone key) ∙ h)
+  where
+    by : (b : Bool) → cond b None (fm.get m key) ≡ Some found → length found ≡ width
+    by true h = cc
+    by false h = wide key found h
+
+-- a row that fits has a value for each column
+first_holds : (a b : Bool) → (a && b) ≡ true → a ≡ true
+first_holds true b h = refl
+first_holds false b h = cc
+
+second_holds : (a b : Bool) → (a && b) ≡ true → b ≡ true
+second_holds true b h = h
+second_holds false b h = cc
+
+fits_width : (columns : List Column) (row : Row) → fits_columns columns row ≡ true → length row ≡ length columns
+fits_width [] [] h = refl
+fits_width [] (v ∷ row) h = cc
+fits_width (c ∷ columns) [] h = cc
+fits_width (c ∷ columns) (v ∷ row) h = ap suc (fits_width columns row (second_holds _ _ h))
+
+-- both of a table
+abbrev IsSound : TableDef → Table → Type 0
+IsSound def table = IsUnderKeys def.primary_key table × HasWidth (length def.columns) table
+
 -- what applies only where a test holds
+only_if_test : {X : Type 0} (b : Bool) (x y : X) → only_if b x ≡ Some y → b ≡ true
+only_if_test true x y e = refl
+only_if_test false x y e = cc
+
 only_if_is : {X : Type 0} (b : Bool) (x y : X) → only_if b x ≡ Some y → x ≡ y
 only_if_is true x y e = cc
 only_if_is false x y e = cc
@@ -55,14 +98,13 @@ set_cases (z ∷ xs) (suc i) zero x y h = inr h
 set_cases (z ∷ xs) (suc i) (suc j) x y h = elim (set_cases xs i j x y h) [ inl e ↦ inl (ap suc e.0, e.1) | inr e ↦ inr e ]
 
 -- a change of one table
-module _ (s : TableState) (t : TableId) (change : TableDef → Table → Option Table) (keeps : (def : TableDef) (table new : Table) → change def table ≡ Some new → IsUnderKeys def.primary_key table → IsUnderKeys def.primary_key new) (keyed : IsKeyed s) where
+module _ (s : TableState) (t : TableId) (change : TableDef → Table → Option Table) (keeps : (def : TableDef) (table new : Table) → change def table ≡ Some new → IsSound def table → IsSound def new) (keyed : IsKeyed s) where
   changed_keyed : (def : TableDef) (table new : Table) → slice_get s.schema t.0 ≡ Some def → slice_get s.tables t.0 ≡ Some table → change def table ≡ Some new → IsKeyed (record { schema = s.schema; tables = slice_set s.tables t.0 new })
   changed_keyed def table new d m e u other found d_is m_is =
       elim (set_cases s.tables t.0 u new found m_is) [
         | inl same ↦
             let def_is : def ≡ other = same_def (sym d ∙ ap (slice_get s.schema) (sym same.0) ∙ d_is) in
-            let P : Table → Type 0 = λ x. IsUnderKeys other.primary_key x in
-            subst P (sym same.1) (subst (λ x. IsUnderKeys x.primary_key new) def_is (keeps def table new e (keyed t.0 def table d m)))
+            subst (λ x. IsSound other x) (sym same.1) (subst (λ x. IsSound x new) def_is (keeps def table new e (keyed t.0 def table d m)))
         | inr before ↦ keyed u other found d_is before
       ]
     where
@@ -86,13 +128,19 @@ module _ (s : TableState) (t : TableId) (change : TableDef → Table → Option 
       by (Some def) d_is (Some table) m_is h = last def table d_is m_is (change def table) refl h
 
 -- an operation, operations, an entry, a history
+insert_sound : (def : TableDef) (table : Table) (row : Row) → fits_columns def.columns row ≡ true → IsSound def table → IsSound def (fm.insert table (key_of def.primary_key row) row)
+insert_sound def table row fits (under, wide) = (insert_under def.primary_key table row under, insert_wide (length def.columns) table (key_of def.primary_key row) row (fits_width def.columns row fits) wide)
+
+remove_sound : (def : TableDef) (table : Table) (key : Row) → IsSound def table → IsSound def (fm.remove table key)
+remove_sound def table key (under, wide) = (remove_under def.primary_key table key under, remove_wide (length def.columns) table key wide)
+
 pub op_keyed : (op : Op) (s n : TableState) → applied op s ≡ Some n → IsKeyed s → IsKeyed n
 op_keyed (Insert t row) s n is keyed =
-    on_table_keyed s t _ (λ def table new e under. let P : Table → Type 0 = λ x. IsUnderKeys def.primary_key x in subst P (only_if_is _ _ _ e) (insert_under def.primary_key table row under)) keyed n is
+    on_table_keyed s t _ (λ def table new e sound. subst (λ x. IsSound def x) (only_if_is _ _ _ e) (insert_sound def table row (first_holds _ _ (first_holds _ _ (only_if_test _ _ _ e))) sound)) keyed n is
 op_keyed (Update t old row) s n is keyed =
-    on_table_keyed s t _ (λ def table new e under. let P : Table → Type 0 = λ x. IsUnderKeys def.primary_key x in subst P (only_if_is _ _ _ e) (insert_under def.primary_key table row under)) keyed n is
+    on_table_keyed s t _ (λ def table new e sound. subst (λ x. IsSound def x) (only_if_is _ _ _ e) (insert_sound def table row (first_holds _ _ (first_holds _ _ (first_holds _ _ (only_if_test _ _ _ e)))) sound)) keyed n is
 op_keyed (Delete t old) s n is keyed =
-    on_table_keyed s t _ (λ def table new e under. let P : Table → Type 0 = λ x. IsUnderKeys def.primary_key x in subst P (only_if_is _ _ _ e) (remove_under def.primary_key table (key_of def.primary_key old) under)) keyed n is
+    on_table_keyed s t _ (λ def table new e sound. subst (λ x. IsSound def x) (only_if_is _ _ _ e) (remove_sound def table (key_of def.primary_key old) sound)) keyed n is
 
 pub ops_keyed : (ops : List Op) (s n : TableState) → applied_all ops s ≡ Some n → IsKeyed s → IsKeyed n
 ops_keyed [] s n is keyed = let same : s ≡ n = cc in subst IsKeyed same keyed
@@ -117,7 +165,7 @@ entry_keyed (Definition def) s n is whole keyed =
     subst IsKeyed same (λ t other table d m.
     elim (both_cases s.schema s.tables def fm.empty t other table whole d m) [
       | inl old ↦ keyed t other table old.0 old.1
-      | inr new ↦ (let P : Table → Type 0 = λ x. IsUnderKeys other.primary_key x in subst P (sym new) (none_is_under other.primary_key))
+      | inr new ↦ subst (λ x. IsSound other x) (sym new) (none_is_under other.primary_key, none_has_width (length other.columns))
     ])
 entry_keyed (Foreign ops) s n is whole keyed = ops_keyed ops s n is keyed
 entry_keyed (Own ticket ops) s n is whole keyed = ops_keyed ops s n is keyed

@@ -2,3 +2,4 @@ pub mod ChildLaws
 pub mod EmptyTables
 pub mod KeyLaws
 pub mod KeyedLaws
+pub mod PairLaws

@@ -15,7 +15,7 @@ use Rattle.table_state.specs.declared.operation.Op.TheVariants.{Insert, Update, 
 use Rattle.table_state.specs.declared.history.Entry.{Entry}
 use Rattle.table_state.specs.declared.history.Entry.TheVariants.{Definition, Foreign, Own}
 use Rattle.table_state.specs.Histories.{after_entry, state_from}
-use Rattle.table_state.specs.Tables.{Table, TableState, fits_columns, has_child_in, has_parent, is_same, is_there, key_of, names_parent}
+use Rattle.table_state.specs.Tables.{Table, TableState, fits_columns, has_child_in, has_parent, is_same, is_there, key_of, names_parent, table_at}
 use Rattle.table_state.specs.Operations.{applied, applied_all, on_table, only_if, table_of, with_change, with_row, without_row}
 use Rattle.table_state.specs.Changes.{with_table}
 use Rattle.table_state.specs.Independence.{AreApart, Commute, IsWhole, is_child_of, refers_to, with_new}
@@ -246,3 +246,29 @@ history_whole (entry ∷ entries) s n is whole = by (after_entry entry s) refl i
     by : (o : Option TableState) → after_entry entry s ≡ o → option_and_then (state_from entries) o ≡ Some n → ((t : TableState) → state_from entries t ≡ Some n → IsWhole t → IsWhole n) → IsWhole n
     by None e h rest = cc
     by (Some t) e h rest = rest t h (entry_whole entry s t e whole)
+
+-- an operation keeps the schema
+pub stays_defined : (op : Op) (s n : TableState) → applied op s ≡ Some n → n.schema ≡ s.schema
+stays_defined op s n is =
+    let (def, table, made, d, m, e, n_is) = parts op s n is in
+    ap (λ x. x.schema) n_is
+
+-- and the rows of each other table
+pub stays_beside : (op : Op) (t : TableId) (s n : TableState) → nat_eq (table_of op).0 t.0 ≡ false → applied op s ≡ Some n → table_at n t ≡ table_at s t
+stays_beside op t s n other is =
+    let (def, table, made, d, m, e, n_is) = parts op s n is in
+    ap (λ x. table_at x t) n_is ∙ ap (λ o. unwrap_or o empty) (get_other s.tables (table_of op).0 t.0 made (unequal (table_of op).0 t.0 other))
+
+-- where both apply, the other applies behind the one
+pub applies_behind : (a b : Op) (s x y : TableState) → AreApart s.schema (table_of a) (table_of b) → applied a s ≡ Some x → applied b s ≡ Some y → (z : TableState) × (applied b x ≡ Some z)
+applies_behind a b s x y apart a_is b_is =
+    let (def_a, table_a, made_a, d_a, m_a, e_a, x_is) = parts a s x a_is in
+    by_new (new_of s (table_of b) (change_of b s)) refl made_a x_is (sym (applied_new b s) ∙ b_is)
+  where
+    by_new : (o : Option Table) → new_of s (table_of b) (change_of b s) ≡ o → (made : Table) → x ≡ with_table s (table_of a) made → option_map (with_table s (table_of b)) o ≡ Some y → (z : TableState) × (applied b x ≡ Some z)
+    by_new None e made x_is h = cc
+    by_new (Some new) e made x_is h = (
+      with_table (with_table s (table_of a) made) (table_of b) new,
+      ap (applied b) x_is ∙ applied_new b (with_table s (table_of a) made)
+          ∙ ap (option_map (with_table (with_table s (table_of a) made) (table_of b))) (same_new b s (table_of a) made (unequal (table_of a).0 (table_of b).0 apart.different) apart.other apart.one ∙ e),
+    )

@@ -1,3 +1,4 @@
+pub mod AskedLaws
 pub mod ChangeLaws
 pub mod CopyLaws
 pub mod HistoryLaws

@@ -1,4 +1,5 @@
 pub mod Changes
+pub mod Copies
 pub mod Declarations
 pub mod Footprints
 pub mod Histories

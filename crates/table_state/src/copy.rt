@@ -1,12 +1,16 @@
 //! A second copy of tables.
 
-ghost use Rattle.std.specs.Prelude.{◌≡◌, IfOk};
+ghost use Rattle.std.specs.Prelude.{◌≡◌, IfOk, length, if◌then◌else◌};
+ghost use Rattle.std.specs.FinMap.{empty};
+ghost use Rattle.tier_base.specs.declared.number.TableId.{TableId};
+ghost use Rattle.table_state.specs.Copies.{is_one_of, only_asked};
+ghost use Rattle.table_state.specs.Tables.{table_at};
 
 use crate::definition::{BackingSchema, TableDef};
 use crate::tables::Tables;
 use key_rows::Rows;
 use std::alloc::{AllocError, Global};
-use tier_base::Seq;
+use tier_base::{Seq, TableId};
 
 impl Tables {
     /// A second copy of the tables. It goes through all rows.
@@ -15,6 +19,18 @@ impl Tables {
     {
         let schema = copied_schema(alloc, self.schema.as_slice())?;
         let rows = copied_tables(alloc, self.rows.as_slice())?;
+        Ok(Tables { schema, rows })
+    }
+
+    /// A second copy of the definitions and of the rows of these tables; the others have no rows. It goes through the
+    /// rows of these tables alone.
+    pub fn copied_of(&self, alloc: Global, asked: &[TableId]) -> Result<Tables, AllocError>
+        ensures schema { IfOk result (λ copy. copy.schema ≡ self.now.schema) }
+        ensures whole { IfOk result (λ copy. length copy.tables ≡ length self.now.tables) }
+        ensures rows { IfOk result (λ copy. (t : TableId) → table_at copy t ≡ (if is_one_of asked.now t then table_at self.now t else empty)) }
+    {
+        let schema = copied_schema(alloc, self.schema.as_slice())?;
+        let rows = copied_asked(alloc, self.rows.as_slice(), asked)?;
         Ok(Tables { schema, rows })
     }
 }
@@ -38,6 +54,32 @@ fn copied_tables(alloc: Global, tables: &[Rows]) -> Result<Vec<Rows>, AllocError
         copies.push(copied_rows(alloc, rows)?)?;
     }
     Ok(copies)
+}
+
+fn copied_asked(alloc: Global, tables: &[Rows], asked: &[TableId]) -> Result<Vec<Rows>, AllocError>
+    ensures { IfOk result (λ copies. copies.items ≡ only_asked asked.now 0 tables.now) }
+{
+    let mut copies = Vec::with_capacity(alloc, tables.len())?;
+    for (place, rows) in tables.iter().enumerate() {
+        copies.push(copied_where(alloc, rows, is_asked(asked, place))?)?;
+    }
+    Ok(copies)
+}
+
+fn is_asked(asked: &[TableId], place: usize) -> bool
+    ensures { result ≡ is_one_of asked.now (record { 0 = place }) }
+{
+    asked.iter().any(|one| one.0 as usize == place)
+}
+
+fn copied_where(alloc: Global, rows: &Rows, asked: bool) -> Result<Rows, AllocError>
+    ensures { IfOk result (λ copy. copy ≡ (if asked then rows.now else empty)) }
+{
+    if asked {
+        copied_rows(alloc, rows)
+    } else {
+        Ok(Rows::new(alloc))
+    }
 }
 
 fn copied_rows(alloc: Global, rows: &Rows) -> Result<Rows, AllocError>

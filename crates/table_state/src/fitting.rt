@@ -82,8 +82,8 @@ fn is_code(code: Code, fit: Result<(), Code>) -> bool
     }
 }
 
-/// Refuses a change of the primary key.
-pub(crate) fn check_key_stays(
+/// Refuses a change of the primary key: 118 of the first column of the key that changes, in the key's order.
+pub fn check_key_stays(
     alloc: Global,
     def: &TableDef,
     old: &Row,

@@ -23,7 +23,7 @@ pub use check::{key_places, refuse_types};
 pub use copy::copied_schema;
 pub use definition::{BackingSchema, ForeignKey, TableDef};
 pub use faults::{has_one_key, wrong_name};
-pub use fitting::check_row;
+pub use fitting::{check_key_stays, check_row};
 pub use footprint::{Footprint, RowKey, conflicts};
 pub use history::{Entry, History, Sealed};
 pub use lookup::{find_table, key_at, key_of_row};

@@ -1,2 +1,4 @@
+pub mod Differing
 pub mod Judging
+pub mod Touching
 pub mod Transactions

@@ -1,18 +1,22 @@
-//! Whether an insert can be applied, over any tables that can be scanned.
+//! Whether an operation can be applied, over any tables that can be scanned.
 
-ghost use Rattle.std.specs.Prelude.{◌≡◌, IfOk, None, slice_get, if◌then◌else◌};
+ghost use Rattle.std.specs.Prelude.{◌≡◌, IfOk, None, Some, slice_get, if◌then◌else◌};
 ghost use Rattle.std.specs.FinMap as map;
 ghost use Rattle.row_types.specs.declared.rule.Detail.TheVariants as detail;
 ghost use Rattle.tier_base.specs.declared.code.Code.TheVariants as code;
 ghost use Rattle.table_state.specs.Independence.{IsWhole};
-ghost use Rattle.table_state.specs.Refusals.{Judges, insert_fault, missing_parent, refused, row_of};
-ghost use Rattle.table_state.specs.Tables.{table_at};
-ghost use Rattle.transactions.specs.Judging.{broken_by_insert};
+ghost use Rattle.table_state.specs.declared.refusal.ApplyError.TheVariants as error;
+ghost use Rattle.table_state.specs.Refusals.{Judges, delete_fault, has_children, insert_fault, missing_parent, refused, row_of, update_fault};
+ghost use Rattle.table_state.specs.Tables.{is_found, is_same, table_at};
+ghost use Rattle.table_scan.specs.Keyed.{IsKeyed};
+ghost use Rattle.transactions.specs.Judging.{broken_by_delete, broken_by_insert, broken_by_update};
 
-use row_types::{Detail, Key, Row, Rule};
+use crate::children::first_child;
+use row_types::{Detail, Key, Row, Rule, order_of_values};
 use std::alloc::{AllocError, Global};
+use std::cmp::Ordering;
 use table_scan::Scan;
-use table_state::{ApplyError, TableDef, check_row, key_at, key_of_row};
+use table_state::{ApplyError, TableDef, check_key_stays, check_row, key_at, key_of_row};
 use tier_base::{Code, TableId};
 
 /// Whether a row can be inserted, without inserting it. So the operation of an INSERT is judged over rows that can't
@@ -33,6 +37,49 @@ pub fn judge_insert<S: Scan>(
     match scan.schema().get(table.0 as usize) {
         None => Err(broken(Code::UnknownTable, Detail::Nothing)),
         Some(def) => check_insert(alloc, scan, table, def, row),
+    }
+}
+
+/// Whether a row can become another, without changing it.
+///
+/// `ApplyError::Rule` tells the first rule that the operation breaks, as `Tables::apply_all` does: 102 without the
+/// table; 118 of a primary key that changes; 104, 105 and 106 of a new row that doesn't fit; 108 without its parent. 107
+/// can't come. `ApplyError::Differs` tells that the old row isn't there, and what is. `ApplyError::Memory` may come at any
+/// time.
+pub fn judge_update<S: Scan>(
+    alloc: Global,
+    table: TableId,
+    old: &Row,
+    new: &Row,
+    scan: &S,
+) -> Result<(), ApplyError>
+    requires { IsWhole (S.state scan.now) }
+    ensures { Judges result (broken_by_update table old.now new.now (S.state scan.now)) }
+{
+    match scan.schema().get(table.0 as usize) {
+        None => Err(broken(Code::UnknownTable, Detail::Nothing)),
+        Some(def) => check_update(alloc, scan, table, def, old, new),
+    }
+}
+
+/// Whether a row can be deleted, without deleting it. Rows that refer to it aren't thought away.
+///
+/// `ApplyError::Rule` tells the first rule that the operation breaks, as `Tables::apply_all` does: 102 without the
+/// table; 109 of a row with a child, with the child of the least key in the first such table. `ApplyError::Differs` tells
+/// that the row isn't there, and what is. `ApplyError::Memory` may come at any time.
+pub fn judge_delete<S: Scan>(
+    alloc: Global,
+    table: TableId,
+    old: &Row,
+    scan: &S,
+) -> Result<(), ApplyError>
+    requires whole { IsWhole (S.state scan.now) }
+    requires keyed { IsKeyed (S.state scan.now) }
+    ensures { Judges result (broken_by_delete table old.now (S.state scan.now)) }
+{
+    match scan.schema().get(table.0 as usize) {
+        None => Err(broken(Code::UnknownTable, Detail::Nothing)),
+        Some(def) => check_delete(alloc, scan, table, def, old),
     }
 }
 
@@ -113,5 +160,89 @@ fn row_detail<S: Scan>(
             let name = def.name.copied(alloc)?;
             Ok(Detail::Row(name, key))
         }
+    }
+}
+
+fn check_update<S: Scan>(
+    alloc: Global,
+    scan: &S,
+    table: TableId,
+    def: &TableDef,
+    old: &Row,
+    new: &Row,
+) -> Result<(), ApplyError>
+    ensures { Judges result (update_fault (S.state scan.now) table old.now new.now def.now (table_at (S.state scan.now) table)) }
+{
+    check_key_stays(alloc, def, old, new)?;
+    check_row(alloc, def.columns.as_slice(), new)?;
+    let key = key_of_row(alloc, def, old)?;
+    check_there(alloc, scan, table, &key, old)?;
+    check_parent(alloc, scan, def, new)
+}
+
+fn check_delete<S: Scan>(
+    alloc: Global,
+    scan: &S,
+    table: TableId,
+    def: &TableDef,
+    old: &Row,
+) -> Result<(), ApplyError>
+    requires whole { IsWhole (S.state scan.now) }
+    requires keyed { IsKeyed (S.state scan.now) }
+    ensures { Judges result (delete_fault (S.state scan.now) table old.now def.now (table_at (S.state scan.now) table)) }
+{
+    let key = key_of_row(alloc, def, old)?;
+    check_there(alloc, scan, table, &key, old)?;
+    check_childless(alloc, scan, table, &key)
+}
+
+fn check_there<S: Scan>(
+    alloc: Global,
+    scan: &S,
+    table: TableId,
+    key: &Key,
+    row: &Row,
+) -> Result<(), ApplyError>
+    ensures { Judges result (if is_found row.now (map.get (table_at (S.state scan.now) table) key.now) then None else Some (error.Differs table key.now (map.get (table_at (S.state scan.now) table) key.now))) }
+{
+    match scan.find(table, key) {
+        None => {
+            let key = key.copied(alloc)?;
+            Err(ApplyError::Differs(table, key, None))
+        }
+        Some(found) => {
+            if is_same_row(found, row) {
+                return Ok(());
+            }
+            let key = key.copied(alloc)?;
+            let found = found.copied(alloc)?;
+            Err(ApplyError::Differs(table, key, Some(found)))
+        }
+    }
+}
+
+fn is_same_row(a: &Row, b: &Row) -> bool
+    ensures { result ≡ is_same a.now b.now }
+{
+    match order_of_values(a.values(), b.values()) {
+        Ordering::Equal => true,
+        _ => false,
+    }
+}
+
+fn check_childless<S: Scan>(
+    alloc: Global,
+    scan: &S,
+    table: TableId,
+    key: &Key,
+) -> Result<(), ApplyError>
+    requires whole { IsWhole (S.state scan.now) }
+    requires keyed { IsKeyed (S.state scan.now) }
+    ensures { Judges result (has_children (S.state scan.now) table key.now) }
+{
+    match first_child(alloc, scan, table, key) {
+        Err(_) => Err(ApplyError::Memory),
+        Ok(None) => Ok(()),
+        Ok(Some(child)) => Err(broken(Code::ChildExists, child)),
     }
 }
