@@ -1,0 +1,7 @@
+pub mod ArrangingLaws
+mod LiteralLaws
+pub mod QueryLaws
+mod ScopeLaws
+mod SoundLaws
+pub mod TypeLaws
+mod WriteLaws

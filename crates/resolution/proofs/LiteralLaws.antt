@@ -1,0 +1,46 @@
+-- The value of a literal is of the family of its form.
+
+use Rattle.std.proofs.Common.{◌≡◌, refl, subst, ℕ, List, [], ◌∷◌, Option, Some, None, Bool, true, false, ◌&&◌, if◌then◌else◌, length, ℤ}
+use Rattle.std.specs.Prelude.{nat_le}
+use Rattle.std.specs.Option.{option_map}
+use Rattle.row_types.specs.declared.column.Ty.TheVariants.{TtBigint}
+use Rattle.row_types.specs.declared.value.Value.{Value}
+use Rattle.row_types.specs.declared.value.Value.TheVariants as value
+use Rattle.row_types.specs.Columns.{holds}
+use Rattle.row_types.specs.Literals.{held_text, integer_of, is_integer}
+use Rattle.row_types.specs.TimeTexts.{time_of}
+use Rattle.expressions.specs.declared.typing.Family.{Family}
+use Rattle.expressions.specs.declared.typing.Family.TheVariants.{Number, Characters, Datetime}
+use Rattle.expressions.specs.Types.{family_of_value}
+use Rattle.sql_query.specs.declared.literal.Literal.{Literal}
+use Rattle.sql_query.specs.declared.literal.Literal.TheVariants.{Null, Integer, Text, Time}
+use Rattle.sql_query.specs.Literals.{signed_digits, value_of}
+use Rattle.resolution.specs.Literals.{family_of_literal, family_of_text}
+
+-- a value that is there is of the family
+abbrev Held : Option Value → Option Family → Type 0
+Held None family = Unit {0}
+Held (Some v) family = family_of_value v ≡ family
+
+held_if : (b : Bool) (v : Value) (family : Option Family) → family_of_value v ≡ family → Held (if b then Some v else None) family
+held_if true v family e = e
+held_if false v family e = tt
+
+held_time : (o : Option ℤ) → Held (option_map value.Time o) (Some Datetime)
+held_time None = tt
+held_time (Some n) = refl
+
+held_characters : (bytes : List ℕ) → Held (held_text bytes) (family_of_text bytes)
+held_characters [] = refl
+held_characters (b ∷ bytes) = held_if (nat_le (length (b ∷ bytes)) 4000) (value.Text (b ∷ bytes)) (Some Characters) refl
+
+held : (literal : Literal) → Held (value_of literal) (family_of_literal literal)
+held Null = refl
+held (Integer literal) =
+    held_if (is_integer (signed_digits literal) && holds TtBigint (value.Integer (integer_of (signed_digits literal))))
+    (value.Integer (integer_of (signed_digits literal))) (Some Number) refl
+held (Text bytes) = held_characters bytes
+held (Time text) = held_time (time_of text)
+
+pub family_of_held : (literal : Literal) (v : Value) → value_of literal ≡ Some v → family_of_value v ≡ family_of_literal literal
+family_of_held literal v e = subst (λ o. Held o (family_of_literal literal)) e (held literal)

@@ -1,0 +1,19 @@
+//! What the names of a statement stand for: queries and writes with places in place of names.
+#![tactic(auto)]
+
+mod assigning;
+mod building;
+mod listing;
+mod placing;
+pub mod query;
+mod refusing;
+pub mod resolved;
+pub mod scope;
+pub mod write;
+
+pub use query::resolve_query;
+pub use resolved::ResolvedQuery;
+pub use write::{resolve_write, resolve_writes};
+
+#[cfg(test)]
+mod tests;

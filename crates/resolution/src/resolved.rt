@@ -1,0 +1,18 @@
+//! Queries with places in place of names.
+
+use evaluator::{Aggregate, Plan};
+use row_types::Rule;
+use tier_base::Seq;
+
+/// What is judged of a write whose names are known: the write, or the rule that it breaks.
+pub(crate) type Judged<T> = Result<T, Rule>;
+
+/// A query with places in place of names.
+#[derive(Drop)]
+pub enum ResolvedQuery {
+    /// A query whose answer is rows.
+    Rows(Plan),
+    /// A query whose answer is one row of totals. The select list of the plan has an operand for each; that of
+    /// `COUNT(*)` is NULL.
+    Totals(Seq<Aggregate>, Plan),
+}
