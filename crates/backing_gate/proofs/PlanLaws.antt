@@ -13,8 +13,7 @@ use Rattle.outside.specs.declared.site.Applied.TheVariants.{Now, Before, NotRead
 use Rattle.backing_gate.specs.declared.plan.Outcome.{Outcome}
 use Rattle.backing_gate.specs.declared.plan.Outcome.TheVariants as outcome
 use Rattle.backing_gate.specs.declared.plan.When.TheVariants as when
-use Rattle.backing_gate.specs.Heeding.{Heeds}
-use Rattle.backing_gate.specs.Memory.{MemoryState}
+use Rattle.backing_gate.specs.Heeding.{BankState, Heeds}
 use Rattle.backing_gate.specs.Plans.{one_more}
 
 has_at : (tickets : List Ticket) (h : List Entry) (i : ℕ) (ticket : Ticket) → HasAll tickets h → i < length tickets → get_or tickets i ticket ≡ ticket → has_ticket ticket.0 h ≡ true
@@ -35,6 +34,6 @@ comes s after old new (Differs table key row) h can = absurd (none (subst (λ (o
     none : IsSome {T = TableState} None → ⊥
     none e = cc
 
-pub fails_after : (plan : Option Outcome) (old new : MemoryState) (effect : Type 0) → plan ≡ Some (outcome.Failed when.After) → effect → new.bank_faults ≡ one_more old.bank_faults
+pub fails_after : (plan : Option Outcome) (old new : BankState) (effect : Type 0) → plan ≡ Some (outcome.Failed when.After) → effect → new.faults ≡ one_more old.faults
     → Heeds {T = Applied} plan old new (Err Failed) effect
 fails_after plan old new effect is done counted = subst (λ (p : Option Outcome). Heeds {T = Applied} p old new (Err Failed) effect) (sym is) (inl (refl, done, counted))

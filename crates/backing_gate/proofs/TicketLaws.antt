@@ -1,5 +1,5 @@
 -- Laws of tickets in histories.
-use Rattle.std.proofs.Common.{◌≡◌, ℕ, zero, suc, ◌+◌, Bool, true, false, cond, nat_eq, Option, Some, None, is_some, List, [], ◌∷◌, ◌++◌, length, get_or, refl, sym, ap, ◌∙◌, eq-eqb, eqb-true}
+use Rattle.std.proofs.Common.{◌≡◌, ℕ, zero, suc, ◌+◌, ◌-◌, Bool, true, false, cond, nat_eq, Option, Some, None, is_some, List, [], ◌∷◌, ◌++◌, length, get_or, set, refl, sym, ap, ◌∙◌, eq-eqb, eqb-true, arith, length-append}
 use Rattle.std.specs.Option.{option_map, option_or}
 use Rattle.std.specs.Ordering.{is_eq, nat_cmp}
 use Rattle.std.specs.Cmp.{nat_cmp_is}
@@ -9,7 +9,7 @@ use Rattle.std.specs.declared.cmp.Ordering.TheVariants.{Less, Equal, Greater}
 use Rattle.tier_base.specs.declared.number.Ticket.{Ticket}
 use Rattle.table_state.specs.declared.operation.Op.{Op}
 use Rattle.table_state.specs.declared.history.Entry.{Entry}
-use Rattle.table_state.specs.declared.history.Entry.TheVariants.{Own}
+use Rattle.table_state.specs.declared.history.Entry.TheVariants.{Foreign, Own}
 use Rattle.table_state.specs.declared.history.Sealed.{Sealed}
 use Rattle.table_state.specs.Histories.{entry_of, has_ticket, is_of, position_of}
 use Rattle.table_state.proofs.PositionLaws.{has_position, position_of-append}
@@ -94,3 +94,15 @@ same_place (x ∷ xs) (suc i) d = same_place xs i d
 pub same : (h : List Entry) → h ≡ h ++ []
 same [] = refl
 same (x ∷ h) = ap (λ l. x ∷ l) (same h)
+
+-- the last entry is replaced
+set_last : (front : List Entry) (before entry : Entry) → set (front ++ before ∷ []) (length front) entry ≡ front ++ entry ∷ []
+set_last [] before entry = refl
+set_last (x ∷ front) before entry = ap (λ l. x ∷ l) (set_last front before entry)
+
+pub filled : (old items new : List Entry) (long : ℕ) (ops : List Op) → items ≡ old → long ≡ length items → new ≡ set items (long - 1) (Foreign ops) → (front : List Entry) (before : List Op) → old ≡ front ++ Foreign before ∷ [] → new ≡ front ++ Foreign ops ∷ []
+filled old items new long ops same count made front before is =
+    let all : items ≡ front ++ Foreign before ∷ [] = same ∙ is in
+    let whole : long ≡ length front + 1 = count ∙ ap length all ∙ length-append front (Foreign before ∷ []) in
+    let last : long - 1 ≡ length front = omega arith in
+    made ∙ ap (λ (l : List Entry). set l (long - 1) (Foreign ops)) all ∙ ap (λ (n : ℕ). set (front ++ Foreign before ∷ []) n (Foreign ops)) last ∙ set_last front (Foreign before) (Foreign ops)

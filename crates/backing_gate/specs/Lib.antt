@@ -1,5 +1,10 @@
+pub mod Calling
 pub mod Heeding
 pub mod Memory
 pub mod Plans
+pub mod SiteCode
 pub mod SiteLaws
 pub mod Tickets
+pub mod Tries
+pub mod VisitCode
+pub mod Visits

@@ -3,7 +3,7 @@
 use Rattle.std.specs.Prelude.{ℕ, ◌+◌, ◌-◌, ◌^◌, List, [], ◌∷◌, ◌++◌, Option, Bool, true, false, ◌&&◌, ◌==◌, min, find}
 use Rattle.std.specs.Option.{option_map}
 use Rattle.backing_gate.specs.declared.plan.CallKind.{CallKind}
-use Rattle.backing_gate.specs.declared.plan.CallKind.TheVariants.{Schema, Define, ApplyOnce, Find, Len}
+use Rattle.backing_gate.specs.declared.plan.CallKind.TheVariants.{Schema, Define, ApplyOnce, Find, Foreign, Snapshot, Len}
 use Rattle.backing_gate.specs.declared.plan.CallCounts.{CallCounts}
 use Rattle.backing_gate.specs.declared.plan.Outcome.{Outcome}
 use Rattle.backing_gate.specs.declared.plan.Plan.{Plan}
@@ -14,13 +14,15 @@ pub record Planned : Type 0 where
   pub calls : CallCounts
 
 abbrev pub no_plans : Planned
-no_plans = record { plans = []; calls = record { schema = 0; define = 0; apply_once = 0; find = 0; len = 0 } }
+no_plans = record { plans = []; calls = record { schema = 0; define = 0; apply_once = 0; find = 0; foreign = 0; snapshot = 0; len = 0 } }
 
 abbrev pub number_of : CallKind → CallCounts → ℕ
 number_of Schema calls = calls.schema
 number_of Define calls = calls.define
 number_of ApplyOnce calls = calls.apply_once
 number_of Find calls = calls.find
+number_of Foreign calls = calls.foreign
+number_of Snapshot calls = calls.snapshot
 number_of Len calls = calls.len
 
 -- one more, up to the last value of a count
@@ -32,6 +34,8 @@ counted Schema calls = record calls { schema = one_more calls.schema }
 counted Define calls = record calls { define = one_more calls.define }
 counted ApplyOnce calls = record calls { apply_once = one_more calls.apply_once }
 counted Find calls = record calls { find = one_more calls.find }
+counted Foreign calls = record calls { foreign = one_more calls.foreign }
+counted Snapshot calls = record calls { snapshot = one_more calls.snapshot }
 counted Len calls = record calls { len = one_more calls.len }
 
 abbrev pub same_kind : CallKind → CallKind → Bool
@@ -39,6 +43,8 @@ same_kind Schema Schema = true
 same_kind Define Define = true
 same_kind ApplyOnce ApplyOnce = true
 same_kind Find Find = true
+same_kind Foreign Foreign = true
+same_kind Snapshot Snapshot = true
 same_kind Len Len = true
 same_kind a b = false
 

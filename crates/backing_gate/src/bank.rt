@@ -1,22 +1,41 @@
 //! Tables with the history that they come of.
 
-ghost use Rattle.std.specs.Prelude.{◌≡◌, [], ◌∷◌, ◌++◌, false, IfErr, IfOk, IsSome, Ok, OnErr, OnOk, Some};
+ghost use Rattle.std.specs.Prelude.{◌≡◌, [], ◌∷◌, ◌++◌, false, length, IfErr, IfOk, IfSome, IsSome, Ok, OnErr, OnOk, Some};
+ghost use Rattle.std.specs.Result.{IsErrOf};
 ghost use Rattle.std.specs.FinMap.{get};
 ghost use Rattle.table_state.specs.declared.history.Entry.{Entry};
 ghost use Rattle.table_state.specs.Tables.{TableState, table_at};
 ghost use Rattle.table_state.specs.Histories.{entry_of, has_ticket, state_of};
 ghost use Rattle.table_state.specs.Refusals.{IsFault, SaysNone, broken_by_all};
 ghost use Rattle.outside.specs.Bank.{AppliesOnce, HasAll};
+ghost use Rattle.outside.specs.Console.{IsCopyOf, Writes, WritesForeign};
+ghost use Rattle.outside.specs.Others.{are_on_shared, is_shared};
+ghost use Rattle.outside.specs.declared.fault.BankError.{BankError};
+ghost use Rattle.transactions.specs.Transactions.{Tells, written_by_all};
+ghost use Rattle.backing_gate.specs.Heeding.{MayVisit, NoneDiffers};
+ghost use Rattle.backing_gate.specs.Tries.{Tries};
 ghost use Rattle.backing_gate.specs.Tickets.{FirstMissing};
 
 use crate::difference::{first_difference, row_at};
 use crate::ledger::Ledger;
-use outside::{Applied, Receipt};
+use evaluator::Change;
+use outside::{Applied, BankError, Done, Receipt, Snapshot};
 use row_types::{Key, Row};
 use std::alloc::{AllocError, Global};
 use std::marker::Model;
-use table_state::{ApplyError, BackingSchema, History, Op, Sealed, TableDef, Tables, copied_ops};
-use tier_base::{Position, TableId, Ticket};
+use table_state::{
+    ApplyError, BackingSchema, History, Op, Ops, Sealed, TableDef, Tables, copied_ops,
+};
+use tier_base::{Position, Seq, TableId, Ticket};
+use transactions::write_all;
+
+// What writes do, and the tables that they leave.
+#[derive(Drop)]
+struct Tried {
+    ops: Ops,
+    rows: usize,
+    tables: Tables,
+}
 
 /// The backing tables, with the history that left them. Clauses see the history.
 #[derive(Drop)]
@@ -109,6 +128,94 @@ impl Bank {
         }
     }
 
+    /// Does the writes of a transaction of the console, all of them or none, and puts it behind the history, also where
+    /// it writes no row.
+    ///
+    /// `BankError::Failed` where an operation meets a row that isn't there as it says; for want of memory
+    /// `BankError::Memory`. Nothing changes then.
+    pub(crate) fn foreign(&mut self, alloc: Global, changes: &[Change]) -> Result<Done, BankError>
+        ensures written { WritesForeign changes.now result self.old self.new }
+        ensures failed { IsErrOf result BankError.Failed → NoneDiffers changes.now self.old → ⊥ }
+        ensures unchanged { OnErr result (self.new ≡ self.old) }
+    {
+        // The history leaves the tables.
+        let _ = &self.tables;
+        match self.write(alloc, changes) {
+            Ok(rows) => Ok(Done::Rows(rows as u64)),
+            Err(ApplyError::Rule(rule)) => Ok(Done::Broken(rule)),
+            Err(ApplyError::Differs(_, _, _)) => Err(BankError::Failed),
+            Err(ApplyError::Memory) => Err(BankError::Memory),
+        }
+    }
+
+    // The entry is put in empty first, so that no memory is wanting when the tables have changed.
+    fn write(&mut self, alloc: Global, changes: &[Change]) -> Result<usize, ApplyError>
+        ensures ok { IfOk result (λ rows. Writes changes.now rows self.old self.new) }
+        ensures refused { IfErr result (λ error. (s : TableState) → state_of self.old ≡ Some s → Tells (written_by_all changes.now s) error) }
+        ensures unchanged { OnErr result (self.new ≡ self.old) }
+    {
+        self.ledger.push_foreign(Seq::new(alloc))?;
+        match write_all(alloc, &mut self.tables, changes) {
+            Ok(written) => {
+                let rows = written.rows;
+                self.ledger.fill(alloc, written.ops);
+                return Ok(rows);
+            }
+            Err(error) => {
+                self.ledger.take_back();
+                return Err(error);
+            }
+        }
+    }
+
+    /// Lets a transaction of others with these writes come, where they break no rule, change shared tables alone and
+    /// memory isn't wanting; else nothing changes.
+    pub(crate) fn visit(&mut self, alloc: Global, shared: &[TableId], changes: &[Change])
+        ensures { MayVisit shared.now (Some changes.now) self.old self.new }
+    {
+        match self.tried(alloc, shared, changes) {
+            None => {}
+            Some(tried) => match self.ledger.push_foreign(tried.ops) {
+                Ok(()) => self.tables = tried.tables,
+                Err(_) => {}
+            },
+        }
+    }
+
+    // What the writes of others do, tried on a copy of the tables.
+    fn tried(&self, alloc: Global, shared: &[TableId], changes: &[Change]) -> Option<Tried>
+        ensures { IfSome result (λ tried. Tries shared.now changes.now tried self.now) }
+    {
+        let Ok(mut tables) = self.tables.copied(alloc) else {
+            return None;
+        };
+        match write_all(alloc, &mut tables, changes) {
+            Err(_) => None,
+            Ok(written) => {
+                if are_on_shared(shared, written.ops.as_slice()) {
+                    Some(Tried {
+                        ops: written.ops,
+                        rows: written.rows,
+                        tables,
+                    })
+                } else {
+                    None
+                }
+            }
+        }
+    }
+
+    /// The definitions of all tables and the rows of these, with the length of the history. It fails for want of memory
+    /// alone.
+    pub(crate) fn snapshot(&self, alloc: Global, tables: &[TableId]) -> Result<Snapshot, AllocError>
+        ensures position { IfOk result (λ snapshot. snapshot.position.0 ≡ length self.now) }
+        ensures copy { IfOk result (λ snapshot. (s : TableState) → state_of self.now ≡ Some s → IsCopyOf tables.now s snapshot.tables) }
+    {
+        let tables = self.tables.copied_of(alloc, tables)?;
+        let position = Position(self.ledger.entries().len() as u64);
+        Ok(Snapshot { position, tables })
+    }
+
     /// Applies and records a transaction where its ticket is new, those of `after` are there and its operations
     /// apply. For want of memory nothing changes.
     pub(crate) fn apply_once(
@@ -193,4 +300,17 @@ impl Bank {
             }
         }
     }
+}
+
+// Whether each operation is on one of these tables.
+fn are_on_shared(shared: &[TableId], ops: &[Op]) -> bool
+    ensures { result ≡ are_on_shared shared.now ops.now }
+{
+    ops.iter().all(|op| is_shared(shared, op.table()))
+}
+
+fn is_shared(shared: &[TableId], table: TableId) -> bool
+    ensures { result ≡ is_shared shared.now table }
+{
+    shared.iter().any(|one| one.0 == table.0)
 }

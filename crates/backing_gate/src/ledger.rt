@@ -2,8 +2,9 @@
 
 ghost use Rattle.std.specs.Prelude.{◌≡◌, [], ◌∷◌, ◌++◌, false, length, List, OnErr, OnOk};
 ghost use Rattle.table_state.specs.declared.history.Entry.{Entry};
+ghost use Rattle.table_state.specs.declared.operation.Op.{Op};
 ghost use Rattle.table_state.specs.Histories.{has_ticket, position_of};
-ghost use Rattle.backing_gate.specs.Tickets.{IsNewIn};
+ghost use Rattle.backing_gate.specs.Tickets.{EndsForeign, IsNewIn};
 
 use std::alloc::{AllocError, Global};
 use std::collections::BTreeMap;
@@ -90,6 +91,18 @@ impl Ledger {
                 Err(AllocError::from(failed))
             }
         }
+    }
+
+    /// The last entry becomes one of others with these operations. A condition is that it is one of others. It takes no
+    /// memory.
+    pub(crate) fn fill(&mut self, alloc: Global, ops: Ops)
+        requires { EndsForeign self.old }
+        ensures { (front : List Entry) (before : List Op) → self.old ≡ front ++ Entry.Foreign before ∷ [] → self.new ≡ front ++ Entry.Foreign ops ∷ [] }
+    {
+        let mut entries = std::mem::replace(&mut self.entries, Seq::new(alloc)).into_vec();
+        let last = entries.len() - 1;
+        entries[last] = Entry::Foreign(ops);
+        self.entries = Seq::from_vec(entries);
     }
 
     /// Takes the last entry back. A condition is that no entry before it has its ticket. It takes no memory.

@@ -2,12 +2,15 @@
 #![tactic(auto)]
 
 mod bank;
+mod calling;
 mod difference;
 mod ledger;
 pub mod memory_site;
+mod own_steps;
 pub mod plan;
-#[cfg(test)]
-mod tests;
+pub mod visit;
+mod visits;
 
 pub use memory_site::MemorySite;
 pub use plan::{CallKind, When};
+pub use visit::Side;

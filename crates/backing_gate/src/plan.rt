@@ -17,6 +17,10 @@ pub enum CallKind {
     ApplyOnce,
     /// `find`.
     Find,
+    /// `foreign`.
+    Foreign,
+    /// `snapshot`.
+    Snapshot,
     /// `len`.
     Len,
 }
@@ -61,6 +65,10 @@ pub struct CallCounts {
     pub apply_once: u64,
     /// Of `find`.
     pub find: u64,
+    /// Of `foreign`.
+    pub foreign: u64,
+    /// Of `snapshot`.
+    pub snapshot: u64,
     /// Of `len`.
     pub len: u64,
 }
@@ -75,6 +83,8 @@ impl CallCounts {
             CallKind::Define => self.define,
             CallKind::ApplyOnce => self.apply_once,
             CallKind::Find => self.find,
+            CallKind::Foreign => self.foreign,
+            CallKind::Snapshot => self.snapshot,
             CallKind::Len => self.len,
         }
     }
@@ -88,6 +98,8 @@ impl CallCounts {
             CallKind::Define => self.define = self.define.saturating_add(1),
             CallKind::ApplyOnce => self.apply_once = self.apply_once.saturating_add(1),
             CallKind::Find => self.find = self.find.saturating_add(1),
+            CallKind::Foreign => self.foreign = self.foreign.saturating_add(1),
+            CallKind::Snapshot => self.snapshot = self.snapshot.saturating_add(1),
             CallKind::Len => self.len = self.len.saturating_add(1),
         }
     }
@@ -120,6 +132,8 @@ impl Plans {
                 define: 0,
                 apply_once: 0,
                 find: 0,
+                foreign: 0,
+                snapshot: 0,
                 len: 0,
             },
         }

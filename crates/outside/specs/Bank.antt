@@ -20,8 +20,8 @@ use Rattle.outside.specs.declared.site.Applied.{Applied}
 use Rattle.outside.specs.declared.site.Applied.TheVariants.{Now, Before, NotReady, Differs}
 use Rattle.outside.specs.declared.site.Receipt.{Receipt}
 
--- The history has these own entries behind it. Transactions of others may come at any call, before and behind the own
--- entry, in the same moment: none does yet.
+-- The history has these own entries behind it. Transactions of others may come before and behind them, in the same
+-- moment (Others).
 abbrev pub Grows : List Entry → List Entry → List Entry → Type 0
 Grows own old new = new ≡ old ++ own
 

@@ -2,9 +2,11 @@
 
 use Rattle.std.specs.Prelude.{◌≡◌, ℕ, ◌≤◌, ◌<◌, Option, Some, None, List, Result, length}
 use Rattle.std.specs.Result.{IfOk}
+use Rattle.tier_base.specs.declared.number.TableId.{TableId}
 use Rattle.table_state.specs.declared.history.Entry.{Entry}
 use Rattle.outside.specs.declared.disk.Slot.{Slot}
 use Rattle.outside.specs.Holding.{Held, slot_of}
+use Rattle.outside.specs.Others.{Around}
 
 -- what is told before a call is told after it, and the call is this step of it
 abbrev pub Told : Option Held → Option Held → (Held → Held → Type 0) → Type 0
@@ -26,12 +28,13 @@ Stays old new = new ≡ old
 abbrev pub HasLength : {E : Type 0} → Slot → Result ℕ E → Held → Held → Type 0
 HasLength slot result old new = (new ≡ old) × IfOk result (λ n. n ≡ length (slot_of slot old.slots))
 
--- a call of the backing database keeps the slots, and the history takes this step
-pub record BankCall (step : List Entry → List Entry → Type 0) (old new : Held) : Type 0 where
+-- A call of the backing database keeps the slots, and the history takes this step, with transactions of others before
+-- and behind it.
+pub record BankCall (shared : List TableId) (step : List Entry → List Entry → Type 0) (old new : Held) : Type 0 where
   pub slots : new.slots ≡ old.slots
-  pub history : step old.history new.history
+  pub history : Around shared step old.history new.history
 
 -- the same of what a crash may leave, where the site tells what it holds; else nothing is said
-abbrev pub MayApply : Option Held → (List Entry → List Entry → Type 0) → Held → Held → Type 0
-MayApply None step old new = Unit {0}
-MayApply (Some seen) step old new = BankCall step old new
+abbrev pub MayApply : List TableId → Option Held → (List Entry → List Entry → Type 0) → Held → Held → Type 0
+MayApply shared None step old new = Unit {0}
+MayApply shared (Some seen) step old new = BankCall shared step old new

@@ -1,7 +1,9 @@
 pub mod Bank
 pub mod Calls
 pub mod Clocks
+pub mod Console
 pub mod Differences
 pub mod Faults
 pub mod Holding
+pub mod Others
 pub mod Writing

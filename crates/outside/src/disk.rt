@@ -3,6 +3,7 @@
 ghost use Rattle.outside.specs.Calls.{GoesOn, HasLength, Stays, Told};
 ghost use Rattle.outside.specs.Faults.{HasCause};
 ghost use Rattle.outside.specs.Holding.{Held};
+ghost use Rattle.tier_base.specs.declared.number.TableId.{TableId};
 ghost use Rattle.std.specs.Prelude.{◌≡◌, ℕ, Some};
 
 use crate::fault::DiskFault;
@@ -19,7 +20,7 @@ pub enum Slot {
 /// Two slots of bytes, and what is kept beside them. A crash at some moment leaves one of the pairs of slots and rest
 /// that are possible then.
 pub trait Disk {
-    ghost use Rattle.std.specs.Prelude.{Option, ℕ};
+    ghost use Rattle.std.specs.Prelude.{List, Option, ℕ};
 
     /// What a read gives of the slots, and what is kept beside them, where it is told.
     ghost held: { Self → Option Held };
@@ -30,6 +31,10 @@ pub trait Disk {
     /// What a crash at this moment might have left of the slots, with what was kept beside them.
     ghost possible: { Self → ℕ → Held → Type 0 };
 
+    /// The tables of what is kept beside the slots that others change, too. Others change no other table, and define
+    /// nothing. No call changes it.
+    ghost shared: { Self → List TableId };
+
     /// How often the disk has failed. The count never falls, and stays at 2^64 - 1.
     ghost disk_faults: { Self → ℕ };
 
@@ -39,6 +44,7 @@ pub trait Disk {
     fn len(&mut self, slot: Slot) -> Result<u64, DiskFault>
         ensures told { Told (held self.old) (held self.new) (HasLength slot result) }
         ensures crash { GoesOn moment possible self.old self.new Stays }
+        ensures shares { shared self.new ≡ shared self.old }
         ensures cause { HasCause (disk_faults self.old) (disk_faults self.new) result };
 
     /// What is kept beside the slots is certain at the present moment.

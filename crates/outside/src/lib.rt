@@ -22,6 +22,6 @@ pub use memory_sink::MemorySink;
 pub use memory_source::MemorySource;
 pub use script_clock::ScriptClock;
 pub use sink::Sink;
-pub use site::{Applied, Receipt, Site};
+pub use site::{Applied, Done, Receipt, Site, Snapshot};
 pub use source::Source;
 pub use write::put_all;

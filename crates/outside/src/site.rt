@@ -1,13 +1,16 @@
 //! The backing database, with the journal's disk beside it.
 
+ghost use Rattle.std.specs.Prelude.{◌≡◌};
 ghost use Rattle.outside.specs.Bank.{AppliesOnce, Defines, TellsRow, TellsSchema};
 ghost use Rattle.outside.specs.Calls.{BankCall, GoesOn, MayApply, Told};
+ghost use Rattle.outside.specs.Console.{TakesSnapshot, WritesForeign};
 ghost use Rattle.outside.specs.Faults.{BankHasCause};
 
 use crate::disk::Disk;
 use crate::fault::BankError;
-use row_types::{Key, Row};
-use table_state::{BackingSchema, Sealed, TableDef};
+use evaluator::Change;
+use row_types::{Key, Row, Rule};
+use table_state::{BackingSchema, Sealed, TableDef, Tables};
 use tier_base::{Position, TableId, Ticket};
 
 /// That a transaction of the tier stands in the backing history.
@@ -33,11 +36,32 @@ pub enum Applied {
     Differs(TableId, Key, Option<Row>),
 }
 
+/// What became of a transaction of the console.
+#[derive(Drop)]
+pub enum Done {
+    /// It was done. So many rows of the named tables were written; those that left by ON DELETE CASCADE aren't counted.
+    Rows(u64),
+    /// It breaks this rule, and none of its writes was done.
+    Broken(Rule),
+}
+
+/// Rows of the backing tables at one position of the backing history.
+#[derive(Drop)]
+pub struct Snapshot {
+    /// The position: how many entries the history had.
+    pub position: Position,
+    /// All tables, but rows of those alone that were asked for.
+    pub tables: Tables,
+}
+
 /// The backing database. Each call is one moment. Calls keep the slots of the disk, and no call changes what was
 /// possible before it.
 ///
-/// `BankError::Failed` comes only where the count of bank faults rose in the call; a failed `define` or `apply_once`
-/// leaves the history with its own entry or without it. Where memory is wanting there is no own entry.
+/// Transactions of others may come in each call, before its own step and behind it. They change shared tables alone. So
+/// a position that a call tells is a length that the history had in the call, and needn't be its end.
+///
+/// `BankError::Failed` comes only where the count of bank faults rose in the call; a failed `define`, `apply_once` or
+/// `foreign` leaves the history with its own entry or without it. Where memory is wanting there is no own entry.
 pub trait Site: Disk {
     ghost use Rattle.std.specs.Prelude.{ℕ};
 
@@ -46,26 +70,50 @@ pub trait Site: Disk {
 
     /// The definitions of all tables, in the order in which they were made.
     fn schema(&mut self) -> Result<BackingSchema, BankError>
-        ensures told { Told (Self.held self.old) (Self.held self.new) (BankCall (TellsSchema result)) }
-        ensures crash { GoesOn Self.moment Self.possible self.old self.new (MayApply (Self.held self.old) (TellsSchema result)) }
+        ensures told { Told (Self.held self.old) (Self.held self.new) (BankCall (Self.shared self.old) (TellsSchema result)) }
+        ensures crash { GoesOn Self.moment Self.possible self.old self.new (MayApply (Self.shared self.old) (Self.held self.old) (TellsSchema result)) }
+        ensures shares { Self.shared self.new ≡ Self.shared self.old }
         ensures cause { BankHasCause (bank_faults self.old) (bank_faults self.new) result };
 
     /// Makes a table, which is behind the others then. The caller has checked that it fits the schema.
     fn define(&mut self, def: &TableDef) -> Result<(), BankError>
-        ensures told { Told (Self.held self.old) (Self.held self.new) (BankCall (Defines def.now result)) }
-        ensures crash { GoesOn Self.moment Self.possible self.old self.new (MayApply (Self.held self.old) (Defines def.now result)) }
+        ensures told { Told (Self.held self.old) (Self.held self.new) (BankCall (Self.shared self.old) (Defines def.now result)) }
+        ensures crash { GoesOn Self.moment Self.possible self.old self.new (MayApply (Self.shared self.old) (Self.held self.old) (Defines def.now result)) }
+        ensures shares { Self.shared self.new ≡ Self.shared self.old }
         ensures cause { BankHasCause (bank_faults self.old) (bank_faults self.new) result };
 
     /// Applies and records a transaction, in one transaction of the bank, where its ticket isn't recorded yet and
     /// those of `after` are.
     fn apply_once(&mut self, sealed: &Sealed, after: &[Ticket]) -> Result<Applied, BankError>
-        ensures told { Told (Self.held self.old) (Self.held self.new) (BankCall (AppliesOnce sealed.now after.now result)) }
-        ensures crash { GoesOn Self.moment Self.possible self.old self.new (MayApply (Self.held self.old) (AppliesOnce sealed.now after.now result)) }
+        ensures told { Told (Self.held self.old) (Self.held self.new) (BankCall (Self.shared self.old) (AppliesOnce sealed.now after.now result)) }
+        ensures crash { GoesOn Self.moment Self.possible self.old self.new (MayApply (Self.shared self.old) (Self.held self.old) (AppliesOnce sealed.now after.now result)) }
+        ensures shares { Self.shared self.new ≡ Self.shared self.old }
         ensures cause { BankHasCause (bank_faults self.old) (bank_faults self.new) result };
 
     /// The row at the key of the table, none where there is none.
     fn find(&mut self, table: TableId, key: &Key) -> Result<Option<Row>, BankError>
-        ensures told { Told (Self.held self.old) (Self.held self.new) (BankCall (TellsRow table key.now result)) }
-        ensures crash { GoesOn Self.moment Self.possible self.old self.new (MayApply (Self.held self.old) (TellsRow table key.now result)) }
+        ensures told { Told (Self.held self.old) (Self.held self.new) (BankCall (Self.shared self.old) (TellsRow table key.now result)) }
+        ensures crash { GoesOn Self.moment Self.possible self.old self.new (MayApply (Self.shared self.old) (Self.held self.old) (TellsRow table key.now result)) }
+        ensures shares { Self.shared self.new ≡ Self.shared self.old }
+        ensures cause { BankHasCause (bank_faults self.old) (bank_faults self.new) result };
+
+    /// Does the writes of a transaction of the console, one after the other, all of them or none. It isn't the tier's,
+    /// so it has no ticket. Its entry comes also where no row is written.
+    ///
+    /// It answers how many rows of the named tables were written (TimesTen SQL Reference, "INSERT", "UPDATE", "DELETE"),
+    /// or the first broken rule: 105 of a value that its column can't hold, 106 of NULL where it is refused, 120 of
+    /// a number past 64 signed bits, 119 of too many operations or rows, 107 of a key that has a row, 108 of a missing
+    /// parent, 109 of a row with a child; 104 and 118 of a write that isn't made for its table.
+    fn foreign(&mut self, changes: &[Change]) -> Result<Done, BankError>
+        ensures told { Told (Self.held self.old) (Self.held self.new) (BankCall (Self.shared self.old) (WritesForeign changes.now result)) }
+        ensures crash { GoesOn Self.moment Self.possible self.old self.new (MayApply (Self.shared self.old) (Self.held self.old) (WritesForeign changes.now result)) }
+        ensures shares { Self.shared self.new ≡ Self.shared self.old }
+        ensures cause { BankHasCause (bank_faults self.old) (bank_faults self.new) result };
+
+    /// The definitions of all tables, and the rows of these tables, at one position of the history.
+    fn snapshot(&mut self, tables: &[TableId]) -> Result<Snapshot, BankError>
+        ensures told { Told (Self.held self.old) (Self.held self.new) (BankCall (Self.shared self.old) (TakesSnapshot tables.now result)) }
+        ensures crash { GoesOn Self.moment Self.possible self.old self.new (MayApply (Self.shared self.old) (Self.held self.old) (TakesSnapshot tables.now result)) }
+        ensures shares { Self.shared self.new ≡ Self.shared self.old }
         ensures cause { BankHasCause (bank_faults self.old) (bank_faults self.new) result };
 }

@@ -1,19 +1,44 @@
-use Rattle.std.proofs.Common.{◌≡◌, Some, Ok, List, ◌∷◌, [], ◌++◌, subst, sym, ap, ◌∙◌}
-use Rattle.table_state.specs.declared.history.Entry.{Entry}
+use Rattle.std.proofs.Common.{◌≡◌, [], ◌∷◌, ◌++◌}
 use Rattle.table_state.specs.Histories.{entry_of}
 use Rattle.outside.specs.Bank.{AppliesOnce, CanFollow}
 use Rattle.backing_gate.specs.declared.plan.CallKind.TheVariants.{ApplyOnce}
-use Rattle.backing_gate.specs.declared.plan.Outcome.TheVariants as outcome
-use Rattle.backing_gate.specs.Memory.{MemoryState}
-use Rattle.backing_gate.specs.Plans.{one_more, planned_next}
-use Rattle.backing_gate.proofs.PlanLaws.{comes, fails_after}
+use Rattle.backing_gate.specs.Heeding.{Heeds, bank_of}
+use Rattle.backing_gate.specs.Plans.{planned_next}
+use Rattle.backing_gate.proofs.CallLaws.{cause, counted, crash, goes, heeds_all, idle_all, moment, shares, told, visits}
+use Rattle.backing_gate.proofs.GrowthLaws.{apply_grows}
 use Rattle.backing_gate.proofs.memory_site.MemorySiteSite.apply_once.Goals as goal
 
-pub returns-in-Ok-clause-planned : goal.returns-in-Ok-clause-planned
-returns-in-Ok-clause-planned c =
-    let history : c.self.inside.bank ≡ c.args.self.now.history = ap (λ (m : MemoryState). m.history) c.self.view_is in
-    fails_after (planned_next ApplyOnce c.args.self.now.planned) c.args.self.now _ (CanFollow c.args.sealed.now c.args.after.now c.args.self.now.history → c.apply_once.new.self ≡ c.args.self.now.history ++ entry_of c.args.sealed.now ∷ [])
-    (ap (λ (m : MemoryState). planned_next ApplyOnce m.planned) (sym c.self.view_is) ∙ sym c.in-Some-Failed-After.ensures.outcome ∙ ap Some (c.in-Some-Failed-After.field-0-is ∙ ap outcome.Failed c.in-Some-Failed-After.field-0-0-is))
-    (comes c.args.sealed.now c.args.after.now c.args.self.now.history c.apply_once.new.self c.in-Ok.field-0
-    (subst (λ (h : List Entry). AppliesOnce c.args.sealed.now c.args.after.now (Ok c.in-Ok.field-0) h c.apply_once.new.self) history c.in-Ok.ensures.ok))
-    (c.saturating_add-self-inside-in-Ok.ensures ∙ ap (λ (m : MemoryState). one_more m.bank_faults) c.self.view_is)
+pub returns-clause-told : goal.returns-clause-told
+returns-clause-told c =
+    told ApplyOnce c.begin-begun.result c.args.self.now c.begin-begun.new.self c.apply_once_as-answer.new.self c.end.new.self c.begin-begun.ensures c.apply_once_as-answer.ensures.kept c.end.ensures (AppliesOnce c.args.sealed.now c.args.after.now c.apply_once_as-answer.result) c.apply_once_as-answer.ensures.own
+    (apply_grows c.args.sealed.now c.args.after.now c.apply_once_as-answer.result c.begin-begun.new.self.history c.apply_once_as-answer.new.self.history c.apply_once_as-answer.ensures.own)
+    (idle_all c.begin-begun.result (planned_next ApplyOnce c.args.self.now.planned) (bank_of c.begin-begun.new.self) (bank_of c.apply_once_as-answer.new.self) c.apply_once_as-answer.result (CanFollow c.args.sealed.now c.args.after.now c.begin-begun.new.self.history → c.apply_once_as-answer.new.self.history ≡ c.begin-begun.new.self.history ++ entry_of c.args.sealed.now ∷ []) c.begin-begun.ensures.outcome c.apply_once_as-answer.ensures.heeds)
+
+pub returns-clause-crash : goal.returns-clause-crash
+returns-clause-crash c =
+    crash ApplyOnce c.begin-begun.result c.args.self.now c.begin-begun.new.self c.apply_once_as-answer.new.self c.end.new.self c.begin-begun.ensures c.apply_once_as-answer.ensures.kept c.end.ensures (AppliesOnce c.args.sealed.now c.args.after.now c.apply_once_as-answer.result) c.apply_once_as-answer.ensures.own
+    (apply_grows c.args.sealed.now c.args.after.now c.apply_once_as-answer.result c.begin-begun.new.self.history c.apply_once_as-answer.new.self.history c.apply_once_as-answer.ensures.own)
+    (idle_all c.begin-begun.result (planned_next ApplyOnce c.args.self.now.planned) (bank_of c.begin-begun.new.self) (bank_of c.apply_once_as-answer.new.self) c.apply_once_as-answer.result (CanFollow c.args.sealed.now c.args.after.now c.begin-begun.new.self.history → c.apply_once_as-answer.new.self.history ≡ c.begin-begun.new.self.history ++ entry_of c.args.sealed.now ∷ []) c.begin-begun.ensures.outcome c.apply_once_as-answer.ensures.heeds)
+
+pub returns-clause-shares : goal.returns-clause-shares
+returns-clause-shares c = shares ApplyOnce c.begin-begun.result c.args.self.now c.begin-begun.new.self c.apply_once_as-answer.new.self c.end.new.self c.begin-begun.ensures c.apply_once_as-answer.ensures.kept c.end.ensures
+
+pub returns-clause-cause : goal.returns-clause-cause
+returns-clause-cause c = cause ApplyOnce c.begin-begun.result c.args.self.now c.begin-begun.new.self c.apply_once_as-answer.new.self c.end.new.self c.begin-begun.ensures c.apply_once_as-answer.ensures.kept c.end.ensures c.apply_once_as-answer.result c.apply_once_as-answer.ensures.cause
+
+pub returns-clause-planned : goal.returns-clause-planned
+returns-clause-planned c =
+    goes ApplyOnce c.begin-begun.result c.args.self.now c.begin-begun.new.self c.apply_once_as-answer.new.self c.end.new.self c.begin-begun.ensures c.apply_once_as-answer.ensures.kept c.end.ensures (λ begun done. Heeds (planned_next ApplyOnce c.args.self.now.planned) begun done c.apply_once_as-answer.result (CanFollow c.args.sealed.now c.args.after.now begun.history → done.history ≡ begun.history ++ entry_of c.args.sealed.now ∷ []))
+    (heeds_all c.begin-begun.result (planned_next ApplyOnce c.args.self.now.planned) (bank_of c.begin-begun.new.self) (bank_of c.apply_once_as-answer.new.self) c.apply_once_as-answer.result (CanFollow c.args.sealed.now c.args.after.now c.begin-begun.new.self.history → c.apply_once_as-answer.new.self.history ≡ c.begin-begun.new.self.history ++ entry_of c.args.sealed.now ∷ []) c.begin-begun.ensures.outcome c.apply_once_as-answer.ensures.heeds)
+
+pub returns-clause-moment : goal.returns-clause-moment
+returns-clause-moment c =
+    moment ApplyOnce c.begin-begun.result c.args.self.now c.begin-begun.new.self c.apply_once_as-answer.new.self c.end.new.self c.begin-begun.ensures c.apply_once_as-answer.ensures.kept c.end.ensures (AppliesOnce c.args.sealed.now c.args.after.now c.apply_once_as-answer.result) c.apply_once_as-answer.ensures.own
+    (apply_grows c.args.sealed.now c.args.after.now c.apply_once_as-answer.result c.begin-begun.new.self.history c.apply_once_as-answer.new.self.history c.apply_once_as-answer.ensures.own)
+    (idle_all c.begin-begun.result (planned_next ApplyOnce c.args.self.now.planned) (bank_of c.begin-begun.new.self) (bank_of c.apply_once_as-answer.new.self) c.apply_once_as-answer.result (CanFollow c.args.sealed.now c.args.after.now c.begin-begun.new.self.history → c.apply_once_as-answer.new.self.history ≡ c.begin-begun.new.self.history ++ entry_of c.args.sealed.now ∷ []) c.begin-begun.ensures.outcome c.apply_once_as-answer.ensures.heeds)
+
+pub returns-clause-counted : goal.returns-clause-counted
+returns-clause-counted c = counted ApplyOnce c.begin-begun.result c.args.self.now c.begin-begun.new.self c.apply_once_as-answer.new.self c.end.new.self c.begin-begun.ensures c.apply_once_as-answer.ensures.kept c.end.ensures
+
+pub returns-clause-visits : goal.returns-clause-visits
+returns-clause-visits c = visits ApplyOnce c.begin-begun.result c.args.self.now c.begin-begun.new.self c.apply_once_as-answer.new.self c.end.new.self c.begin-begun.ensures c.apply_once_as-answer.ensures.kept c.end.ensures

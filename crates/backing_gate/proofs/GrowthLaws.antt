@@ -1,0 +1,52 @@
+-- The own steps of calls put entries behind the history.
+use Rattle.std.proofs.Common.{inl, inr, Option, Result, Ok, Err, List, [], ◌∷◌}
+use Rattle.row_types.specs.declared.value.Value.{Value}
+use Rattle.tier_base.specs.declared.number.TableId.{TableId}
+use Rattle.tier_base.specs.declared.number.Ticket.{Ticket}
+use Rattle.table_state.specs.declared.definition.TableDef.{TableDef}
+use Rattle.table_state.specs.declared.history.Entry.{Entry}
+use Rattle.table_state.specs.declared.history.Entry.TheVariants.{Definition, Foreign}
+use Rattle.table_state.specs.declared.history.Sealed.{Sealed}
+use Rattle.table_state.specs.Histories.{entry_of}
+use Rattle.evaluator.specs.declared.change.Change.{Change}
+use Rattle.outside.specs.Bank.{AppliesOnce, Defines, TellsRow, TellsSchema}
+use Rattle.outside.specs.Console.{TakesSnapshot, WritesForeign}
+use Rattle.outside.specs.declared.fault.BankError.{BankError}
+use Rattle.outside.specs.declared.fault.BankError.TheVariants.{Failed, Memory}
+use Rattle.outside.specs.declared.site.Applied.{Applied}
+use Rattle.outside.specs.declared.site.Applied.TheVariants.{Now, Before, NotReady, Differs}
+use Rattle.outside.specs.declared.site.Done.{Done}
+use Rattle.outside.specs.declared.site.Done.TheVariants.{Rows, Broken}
+use Rattle.outside.specs.declared.site.Snapshot.{Snapshot}
+use Rattle.backing_gate.proofs.MomentLaws.{Extends}
+
+pub schema_grows : (result : Result (List TableDef) BankError) (old new : List Entry) → TellsSchema result old new → Extends old new
+schema_grows (Ok schema) old new h = ([], h.0)
+schema_grows (Err e) old new h = ([], h)
+
+pub define_grows : (def : TableDef) (result : Result (Unit {0}) BankError) (old new : List Entry) → Defines def result old new → Extends old new
+define_grows def (Ok done) old new h = (Definition def ∷ [], h)
+define_grows def (Err Memory) old new h = ([], h)
+define_grows def (Err Failed) old new h = elim h [ inl e ↦ ([], e) | inr e ↦ (Definition def ∷ [], e) ]
+
+pub apply_grows : (s : Sealed) (after : List Ticket) (result : Result Applied BankError) (old new : List Entry) → AppliesOnce s after result old new → Extends old new
+apply_grows s after (Ok (Now receipt)) old new h = (entry_of s ∷ [], h.0.grows)
+apply_grows s after (Ok (Before receipt)) old new h = ([], h.1)
+apply_grows s after (Ok (NotReady ticket)) old new h = ([], h.3)
+apply_grows s after (Ok (Differs table key row)) old new h = ([], h.3)
+apply_grows s after (Err Memory) old new h = ([], h)
+apply_grows s after (Err Failed) old new h = elim h [ inl e ↦ ([], e) | inr comes ↦ (entry_of s ∷ [], comes.grows) ]
+
+pub find_grows : (table : TableId) (key : List Value) (result : Result (Option (List Value)) BankError) (old new : List Entry) → TellsRow table key result old new → Extends old new
+find_grows table key (Ok row) old new h = ([], h.0)
+find_grows table key (Err e) old new h = ([], h)
+
+pub foreign_grows : (changes : List Change) (result : Result Done BankError) (old new : List Entry) → WritesForeign changes result old new → Extends old new
+foreign_grows changes (Ok (Rows n)) old new h = (Foreign h.ops ∷ [], h.grows)
+foreign_grows changes (Ok (Broken rule)) old new h = ([], h.0)
+foreign_grows changes (Err Memory) old new h = ([], h)
+foreign_grows changes (Err Failed) old new h = elim h [ inl e ↦ ([], e) | inr writes ↦ (Foreign writes.1.ops ∷ [], writes.1.grows) ]
+
+pub snapshot_grows : (asked : List TableId) (result : Result Snapshot BankError) (old new : List Entry) → TakesSnapshot asked result old new → Extends old new
+snapshot_grows asked (Ok snapshot) old new h = ([], h.0)
+snapshot_grows asked (Err e) old new h = ([], h)

@@ -1,0 +1,206 @@
+//! The own steps of the bank calls, as they are planned.
+
+ghost use Rattle.std.specs.Prelude.{◌≡◌, ◌≤◌, ◌⊎◌, [], ◌∷◌, ◌++◌, Ok};
+ghost use Rattle.table_state.specs.declared.history.Entry.{Entry};
+ghost use Rattle.table_state.specs.Histories.{entry_of};
+ghost use Rattle.outside.specs.Bank.{AppliesOnce, CanFollow, Defines, TellsRow, TellsSchema};
+ghost use Rattle.outside.specs.Console.{TakesSnapshot, WritesForeign};
+ghost use Rattle.outside.specs.Faults.{BankHasCause, Rose};
+ghost use Rattle.outside.specs.declared.site.Done.{Done};
+ghost use Rattle.backing_gate.specs.Plans.{one_more};
+ghost use Rattle.backing_gate.specs.Heeding.{Heeds, NoneDiffers, HasEffect, bank_of};
+
+use crate::memory_site::MemorySite;
+use crate::plan::{Outcome, When};
+use evaluator::Change;
+use outside::{Applied, BankError, Done, Snapshot};
+use row_types::{Key, Row};
+use table_state::{BackingSchema, Sealed, TableDef, copied_schema};
+use tier_base::{TableId, Ticket};
+
+impl MemorySite {
+    // Counts a failed call.
+    fn count_failure(&mut self)
+        ensures counted { self.new ≡ record self.old { bank_faults = one_more self.old.bank_faults } }
+        ensures later { self.old.bank_faults ≤ self.new.bank_faults }
+        ensures rose { Rose self.old.bank_faults self.new.bank_faults }
+    {
+        self.bank_faults = self.bank_faults.saturating_add(1);
+    }
+
+    /// The definitions of the tables.
+    pub(crate) fn schema_as(&mut self, outcome: Option<Outcome>) -> Result<BackingSchema, BankError>
+        ensures own { TellsSchema result self.old.history self.new.history }
+        ensures heeds { Heeds outcome (bank_of self.old) (bank_of self.new) result (self.new.history ≡ self.old.history) }
+        ensures cause { BankHasCause self.old.bank_faults self.new.bank_faults result }
+        ensures kept { self.new ≡ record self.old { history = self.new.history; bank_faults = self.new.bank_faults } }
+    {
+        match outcome {
+            Some(Outcome::Failed(_)) => {
+                self.count_failure();
+                Err(BankError::Failed)
+            }
+            Some(Outcome::Refused) => Err(BankError::Memory),
+            None => match copied_schema(self.alloc, self.bank.schema().as_slice()) {
+                Ok(schema) => Ok(schema),
+                Err(_) => Err(BankError::Memory),
+            },
+        }
+    }
+
+    /// Makes a table.
+    pub(crate) fn define_as(
+        &mut self,
+        outcome: Option<Outcome>,
+        def: &TableDef,
+    ) -> Result<(), BankError>
+        ensures own { Defines def.now result self.old.history self.new.history }
+        ensures heeds { Heeds outcome (bank_of self.old) (bank_of self.new) result (self.new.history ≡ self.old.history ++ Entry.Definition def.now ∷ []) }
+        ensures cause { BankHasCause self.old.bank_faults self.new.bank_faults result }
+        ensures kept { self.new ≡ record self.old { history = self.new.history; bank_faults = self.new.bank_faults } }
+    {
+        match outcome {
+            Some(Outcome::Failed(When::Before)) => {
+                self.count_failure();
+                return Err(BankError::Failed);
+            }
+            Some(Outcome::Failed(When::After)) => match self.bank.define(self.alloc, def) {
+                Ok(()) => {
+                    self.count_failure();
+                    return Err(BankError::Failed);
+                }
+                Err(_) => return Err(BankError::Memory),
+            },
+            Some(Outcome::Refused) => return Err(BankError::Memory),
+            None => match self.bank.define(self.alloc, def) {
+                Ok(()) => return Ok(()),
+                Err(_) => return Err(BankError::Memory),
+            },
+        }
+    }
+
+    /// Applies and records a transaction of the tier, where it can come.
+    pub(crate) fn apply_once_as(
+        &mut self,
+        outcome: Option<Outcome>,
+        sealed: &Sealed,
+        after: &[Ticket],
+    ) -> Result<Applied, BankError>
+        ensures own { AppliesOnce sealed.now after.now result self.old.history self.new.history }
+        ensures heeds { Heeds outcome (bank_of self.old) (bank_of self.new) result (CanFollow sealed.now after.now self.old.history → self.new.history ≡ self.old.history ++ entry_of sealed.now ∷ []) }
+        ensures cause { BankHasCause self.old.bank_faults self.new.bank_faults result }
+        ensures kept { self.new ≡ record self.old { history = self.new.history; bank_faults = self.new.bank_faults } }
+    {
+        match outcome {
+            Some(Outcome::Failed(When::Before)) => {
+                self.count_failure();
+                return Err(BankError::Failed);
+            }
+            Some(Outcome::Failed(When::After)) => match self
+                .bank
+                .apply_once(self.alloc, sealed, after)
+            {
+                Ok(_) => {
+                    self.count_failure();
+                    return Err(BankError::Failed);
+                }
+                Err(_) => return Err(BankError::Memory),
+            },
+            Some(Outcome::Refused) => return Err(BankError::Memory),
+            None => match self.bank.apply_once(self.alloc, sealed, after) {
+                Ok(applied) => return Ok(applied),
+                Err(_) => return Err(BankError::Memory),
+            },
+        }
+    }
+
+    /// The row at the key of the table.
+    pub(crate) fn find_as(
+        &mut self,
+        outcome: Option<Outcome>,
+        table: TableId,
+        key: &Key,
+    ) -> Result<Option<Row>, BankError>
+        ensures own { TellsRow table key.now result self.old.history self.new.history }
+        ensures heeds { Heeds outcome (bank_of self.old) (bank_of self.new) result (self.new.history ≡ self.old.history) }
+        ensures cause { BankHasCause self.old.bank_faults self.new.bank_faults result }
+        ensures kept { self.new ≡ record self.old { history = self.new.history; bank_faults = self.new.bank_faults } }
+    {
+        match outcome {
+            Some(Outcome::Failed(_)) => {
+                self.count_failure();
+                Err(BankError::Failed)
+            }
+            Some(Outcome::Refused) => Err(BankError::Memory),
+            None => match self.bank.find(self.alloc, table, key) {
+                Ok(row) => Ok(row),
+                Err(_) => Err(BankError::Memory),
+            },
+        }
+    }
+
+    /// The rows of these tables.
+    pub(crate) fn snapshot_as(
+        &mut self,
+        outcome: Option<Outcome>,
+        tables: &[TableId],
+    ) -> Result<Snapshot, BankError>
+        ensures own { TakesSnapshot tables.now result self.old.history self.new.history }
+        ensures heeds { Heeds outcome (bank_of self.old) (bank_of self.new) result (self.new.history ≡ self.old.history) }
+        ensures cause { BankHasCause self.old.bank_faults self.new.bank_faults result }
+        ensures kept { self.new ≡ record self.old { history = self.new.history; bank_faults = self.new.bank_faults } }
+    {
+        match outcome {
+            Some(Outcome::Failed(_)) => {
+                self.count_failure();
+                Err(BankError::Failed)
+            }
+            Some(Outcome::Refused) => Err(BankError::Memory),
+            None => match self.bank.snapshot(self.alloc, tables) {
+                Ok(snapshot) => Ok(snapshot),
+                Err(_) => Err(BankError::Memory),
+            },
+        }
+    }
+
+    /// Does the writes of a transaction of the console. It fails, though nothing is planned, where an operation meets a row
+    /// that isn't there as it says; no schema whose definitions were checked leads there.
+    pub(crate) fn foreign_as(
+        &mut self,
+        outcome: Option<Outcome>,
+        changes: &[Change],
+    ) -> Result<Done, BankError>
+        ensures own { WritesForeign changes.now result self.old.history self.new.history }
+        ensures heeds { NoneDiffers changes.now self.old.history → Heeds outcome (bank_of self.old) (bank_of self.new) result ((told : Done) × WritesForeign changes.now (Ok told) self.old.history self.new.history) }
+        ensures idle { HasEffect outcome ⊎ (self.new.history ≡ self.old.history) }
+        ensures cause { BankHasCause self.old.bank_faults self.new.bank_faults result }
+        ensures kept { self.new ≡ record self.old { history = self.new.history; bank_faults = self.new.bank_faults } }
+    {
+        match outcome {
+            Some(Outcome::Failed(When::Before)) => {
+                self.count_failure();
+                return Err(BankError::Failed);
+            }
+            Some(Outcome::Failed(When::After)) => match self.bank.foreign(self.alloc, changes) {
+                Ok(_) => {
+                    self.count_failure();
+                    return Err(BankError::Failed);
+                }
+                Err(BankError::Failed) => {
+                    self.count_failure();
+                    return Err(BankError::Failed);
+                }
+                Err(BankError::Memory) => return Err(BankError::Memory),
+            },
+            Some(Outcome::Refused) => return Err(BankError::Memory),
+            None => match self.bank.foreign(self.alloc, changes) {
+                Ok(done) => return Ok(done),
+                Err(BankError::Failed) => {
+                    self.count_failure();
+                    return Err(BankError::Failed);
+                }
+                Err(BankError::Memory) => return Err(BankError::Memory),
+            },
+        }
+    }
+}
