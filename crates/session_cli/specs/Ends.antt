@@ -2,8 +2,11 @@
 
 use Rattle.std.specs.Prelude.{◌≡◌, ℕ, ◌^◌, ◌<◌, ◌≤◌, ◌⊎◌, List, [], ◌++◌, Option, Some, length}
 use Rattle.table_state.specs.declared.definition.TableDef.{TableDef}
+use Rattle.table_state.specs.declared.history.Entry.{Entry}
 use Rattle.table_state.specs.Tables.{TableState}
 use Rattle.outside.specs.Holding.{Held}
+use Rattle.outside.specs.Others.{AreOthers}
+use Rattle.tier_engine.specs.Standing.{Mark}
 use Rattle.command_line.specs.declared.command.Command.{Command}
 use Rattle.command_line.specs.Keys.{AreBad}
 use Rattle.command_line.specs.Words.{Asks, Refuses}
@@ -11,20 +14,20 @@ use Rattle.session_cli.specs.declared.serving.Status.{Status}
 use Rattle.session_cli.specs.declared.session.Session.{Session}
 use Rattle.session_cli.specs.declared.serving.Status.TheVariants.{Finished, SourceFailed, SinkFailed, SchemaFailed, NoMemory, LineUnchecked, InputTooLong}
 use Rattle.session_cli.specs.Cutting.{ended_lines, all_lines}
-use Rattle.session_cli.specs.Serving.{Origin, Whole, CutShort, HasNoTickets, IsNew, begins}
+use Rattle.session_cli.specs.Serving.{Origin, Whole, CutShort, HasNoTickets, IsLeftAlone, IsNew, begins}
 
 -- at most this many bytes are taken without an end
 abbrev pub input_limit : ℕ
 input_limit = 2 ^ 32
 
 -- a front of the bytes given was answered, and a front of its replies is written
-pub record Stops (o : Origin) (given : List ℕ) (sink : Option (List ℕ)) (site : Option Held) (faults moment : ℕ) : Type 0 where
+pub record Stops (o : Origin) (given : List ℕ) (sink : Option (List ℕ)) (site : Option Held) (faults : ℕ) (mark : Mark) : Type 0 where
   pub front : List ℕ
   pub behind : List ℕ
   pub parts : given ≡ front ++ behind
-  pub answered : CutShort o (ended_lines front) sink site faults moment ⊎ CutShort o (all_lines front) sink site faults moment
+  pub answered : CutShort o (ended_lines front) sink site faults mark ⊎ CutShort o (all_lines front) sink site faults mark
 
--- No line is answered: nothing is written, and the site holds what it held. Only its count of faults and its moment may
+-- No line is answered: nothing is written, and the site holds what it held. Only its count of faults and its mark may
 -- have risen.
 pub record Untouched (o : Origin) (sink : Option (List ℕ)) (site : Option Held) : Type 0 where
   pub unwritten : sink ≡ Some o.written
@@ -56,46 +59,54 @@ abbrev pub Takes : Status → Option (List ℕ) → Option (List ℕ) → Type 0
 Takes status source source' = (input : List ℕ) → source ≡ Some input → Taken status input source'
 
 -- how the run ended, by the bytes given
-abbrev pub Outcome : Status → Origin → List ℕ → Option (List ℕ) → Option Held → ℕ → ℕ → Type 0
+abbrev pub Outcome : Status → Origin → List ℕ → Option (List ℕ) → Option Held → ℕ → Mark → Type 0
 -- all lines are answered
-Outcome Finished o given sink site faults moment = Whole o (all_lines given) sink site faults moment
+Outcome Finished o given sink site faults mark = Whole o (all_lines given) sink site faults mark
 -- the lines that ended are answered
-Outcome SourceFailed o given sink site faults moment = Whole o (ended_lines given) sink site faults moment
-Outcome InputTooLong o given sink site faults moment = Whole o (ended_lines given) sink site faults moment
+Outcome SourceFailed o given sink site faults mark = Whole o (ended_lines given) sink site faults mark
+Outcome InputTooLong o given sink site faults mark = Whole o (ended_lines given) sink site faults mark
 -- a front of the replies is written
-Outcome SinkFailed o given sink site faults moment = Stops o given sink site faults moment
+Outcome SinkFailed o given sink site faults mark = Stops o given sink site faults mark
 -- a run that answers lines doesn't end so
-Outcome LineUnchecked o given sink site faults moment = ⊥
+Outcome LineUnchecked o given sink site faults mark = ⊥
 -- no line is answered
-Outcome SchemaFailed o given sink site faults moment = Untouched o sink site
-Outcome NoMemory o given sink site faults moment = Untouched o sink site
+Outcome SchemaFailed o given sink site faults mark = Untouched o sink site
+Outcome NoMemory o given sink site faults mark = Untouched o sink site
 
 -- The source gave a front of its bytes, and so the run ended.
-pub record Ended (status : Status) (o : Origin) (input : List ℕ) (source sink : Option (List ℕ)) (site : Option Held) (faults moment : ℕ) : Type 0 where
+pub record Ended (status : Status) (o : Origin) (input : List ℕ) (source sink : Option (List ℕ)) (site : Option Held) (faults : ℕ) (mark : Mark) : Type 0 where
   pub taken : Taken status input source
-  pub outcome : Outcome status o taken.given sink site faults moment
+  pub outcome : Outcome status o taken.given sink site faults mark
 
--- Where source, sink and site tell what they hold, and the session is new over the site's history, they tell it afterwards
--- too, and this is what the run did.
-abbrev pub Serves : Session → Status → Option (List ℕ) → Option (List ℕ) → Option Held → ℕ → ℕ → Option (List ℕ) → Option (List ℕ) → Option Held → ℕ → ℕ → Type 0
-Serves session status source sink site faults moment source' sink' site' faults' moment' =
+-- Where source, sink and site tell what they hold, the session is new over the site's history, and others change no table of
+-- a group, they tell it afterwards too, and this is what the run did.
+abbrev pub Serves : Session → Status → Option (List ℕ) → Option (List ℕ) → Option Held → ℕ → Mark → Option (List ℕ) → Option (List ℕ) → Option Held → ℕ → Mark → Type 0
+Serves session status source sink site faults mark source' sink' site' faults' mark' =
     (input start : List ℕ) (held : Held) (schema : List TableDef) → source ≡ Some input → sink ≡ Some start → site ≡ Some held → IsNew session held.history schema →
-    Ended status (begins held schema start faults moment) input source' sink' site' faults' moment'
+    IsLeftAlone (begins held schema start faults mark) input → Ended status (begins held schema start faults mark) input source' sink' site' faults' mark'
 
--- Before the first line the tier is opened, which may raise the site's count of faults and its moment. Then the run ends.
-pub record OpenedAndEnded (status : Status) (held : Held) (s : TableState) (start input : List ℕ) (faults moment : ℕ) (source sink : Option (List ℕ)) (site : Option Held) (faults' moment' : ℕ) : Type 0 where
+-- with these entries more
+abbrev pub with_more : Held → List Entry → Held
+with_more held entries = record { slots = held.slots; history = held.history ++ entries }
+
+-- Before the first line the tier is opened, which may raise the site's count of faults and its moment, and in which
+-- transactions of others may come. Then the run begins, and ends so where others change no table of a group.
+pub record OpenedAndEnded (status : Status) (held : Held) (s : TableState) (start input : List ℕ) (faults : ℕ) (mark : Mark) (source sink : Option (List ℕ)) (site : Option Held) (faults' : ℕ) (mark' : Mark) : Type 0 where
   pub faults_then : ℕ
-  pub moment_then : ℕ
+  pub mark_then : Mark
+  pub others : List Entry
   pub later : faults ≤ faults_then
-  pub goes_on : moment ≤ moment_then
-  pub ended : Ended status (begins held s.schema start faults_then moment_then) input source sink site faults' moment'
+  pub goes_on : mark.moment ≤ mark_then.moment
+  pub shares : mark_then.shared ≡ mark.shared
+  pub came : AreOthers mark.shared held.history others
+  pub ended : IsLeftAlone (begins (with_more held others) s.schema start faults_then mark_then) input → Ended status (begins (with_more held others) s.schema start faults_then mark_then) input source sink site faults' mark'
 
 -- Where source, sink and site tell what they hold, and no tickets stand in the site's history, they tell it afterwards too,
 -- and this is what the run did.
-abbrev pub Runs : Status → Option (List ℕ) → Option (List ℕ) → Option Held → ℕ → ℕ → Option (List ℕ) → Option (List ℕ) → Option Held → ℕ → ℕ → Type 0
-Runs status source sink site faults moment source' sink' site' faults' moment' =
+abbrev pub Runs : Status → Option (List ℕ) → Option (List ℕ) → Option Held → ℕ → Mark → Option (List ℕ) → Option (List ℕ) → Option Held → ℕ → Mark → Type 0
+Runs status source sink site faults mark source' sink' site' faults' mark' =
     (input start : List ℕ) (held : Held) (s : TableState) → source ≡ Some input → sink ≡ Some start → site ≡ Some held → HasNoTickets held.history s →
-    OpenedAndEnded status held s start input faults moment source' sink' site' faults' moment'
+    OpenedAndEnded status held s start input faults mark source' sink' site' faults' mark'
 
 -- Why a run doesn't begin: `clap` refuses the words, or it takes them and the settings are bad, or memory was wanting.
 abbrev pub Unstarted : List (List ℕ) → List ℕ → ℕ → Type 0

@@ -4,7 +4,7 @@ ghost use Rattle.std.specs.Prelude.{◌≡◌, ◌≤◌, List};
 ghost use Rattle.outside.specs.Faults.{HasCause};
 ghost use Rattle.outside.specs.Holding.{Held};
 ghost use Rattle.table_state.specs.declared.history.Sealed.{Sealed as OneSealed};
-ghost use Rattle.tier_engine.specs.Standing.{StandsFor};
+ghost use Rattle.tier_engine.specs.Standing.{IsApart, StandsFor, mark_of};
 ghost use Rattle.session_cli.specs.Serving.{Responds};
 
 use crate::output::Output;
@@ -25,7 +25,7 @@ pub fn respond<K: Sink, P: Site>(
     site: &mut P,
     line: &[u8],
 ) -> Result<(), Failed>
-    ensures serves { (log : List OneSealed) (held : Held) → P.Disk.held site.old ≡ Some held → StandsFor tier.old log held.history → Responds result (K.written sink.old) (K.written sink.new) output.old output.new (P.Disk.held site.new) (P.bank_faults site.old) (P.bank_faults site.new) (P.Disk.moment site.old) (P.Disk.moment site.new) tier.old tier.new log held line.now }
+    ensures serves { (log : List OneSealed) (held : Held) → P.Disk.held site.old ≡ Some held → StandsFor tier.old log held.history → IsApart tier.old log (P.Disk.shared site.old) → Responds result (K.written sink.old) (K.written sink.new) output.old output.new (P.Disk.held site.new) (P.bank_faults site.old) (P.bank_faults site.new) (mark_of (P.Disk.moment site.old) (P.Disk.shared site.old)) (mark_of (P.Disk.moment site.new) (P.Disk.shared site.new)) tier.old tier.new log held line.now }
     ensures cause { HasCause (K.faults sink.old) (K.faults sink.new) result }
 {
     legal_law();

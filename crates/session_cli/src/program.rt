@@ -3,6 +3,7 @@
 ghost use Rattle.std.specs.Prelude.{◌≡◌, ◌⊎◌, ℕ, List, Option, MatchResult};
 ghost use Rattle.outside.specs.Faults.{Rose};
 ghost use Rattle.tier_engine.specs.declared.reply.Reply.{Reply};
+ghost use Rattle.tier_engine.specs.Standing.{mark_of};
 ghost use Rattle.tier_engine.specs.Steps.{AreCaused, Run, World};
 ghost use Rattle.command_line.specs.declared.command.Command.{Command as Task};
 ghost use Rattle.command_line.specs.declared.settings.Settings.{Settings};
@@ -45,6 +46,9 @@ const NO_MEMORY: u8 = 7;
 ///
 /// `run` opens a tier over the site and lets it answer each line, and `check` says of each line whether it is spelt right.
 /// For now no setting acts, and the clock isn't asked. `check` doesn't call the site.
+///
+/// Others may change tables of the backing database in each of the site's calls. Of `run` something is said where they
+/// change no table of a cache group: those are the tier's to write.
 pub fn top<'a, S: Source, K: Sink, P: Site, C: Clock>(
     alloc: Global,
     words: &'a [&'a str],
@@ -61,7 +65,7 @@ pub fn top<'a, S: Source, K: Sink, P: Site, C: Clock>(
     ensures idle { (result ≡ 1) ⊎ (result ≡ 2) → (source.new ≡ source.old) × (sink.new ≡ sink.old) × (site.new ≡ site.old) }
     ensures unread { Refuses (texts words.entry.now) ⊎ AreBad settings.now → (source.new ≡ source.old) × (sink.new ≡ sink.old) × (site.new ≡ site.old) }
     ensures runs { Asks (texts words.entry.now) Task.Run → (s : Settings) → IsSetBy settings.now s → ((status : Status) × (result ≡ number_of status)
-        × Runs status (S.left source.old) (K.written sink.old) (P.Disk.held site.old) (P.bank_faults site.old) (P.Disk.moment site.old) (S.left source.new) (K.written sink.new) (P.Disk.held site.new) (P.bank_faults site.new) (P.Disk.moment site.new)) }
+        × Runs status (S.left source.old) (K.written sink.old) (P.Disk.held site.old) (P.bank_faults site.old) (mark_of (P.Disk.moment site.old) (P.Disk.shared site.old)) (S.left source.new) (K.written sink.new) (P.Disk.held site.new) (P.bank_faults site.new) (mark_of (P.Disk.moment site.new) (P.Disk.shared site.new))) }
     ensures checks { Asks (texts words.entry.now) Task.Check → (s : Settings) → IsSetBy settings.now s → ((status : Status) × (result ≡ number_of status)
         × CheckRuns status (S.left source.old) (K.written sink.old) (S.left source.new) (K.written sink.new)) }
     ensures takes { (task : Task) → Asks (texts words.entry.now) task → (s : Settings) → IsSetBy settings.now s → ((status : Status) × (result ≡ number_of status) × Takes status (S.left source.old) (S.left source.new)) }

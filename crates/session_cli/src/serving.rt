@@ -3,6 +3,7 @@
 ghost use Rattle.std.specs.Prelude.{◌≡◌, ◌<◌, ◌⊎◌, [], length};
 ghost use Rattle.outside.specs.Faults.{Rose};
 ghost use Rattle.session_cli.specs.Ends.{Runs, Serves, Takes};
+ghost use Rattle.tier_engine.specs.Standing.{mark_of};
 
 use crate::session::Session;
 use outside::{BankError, Sink, Site, Source};
@@ -63,7 +64,7 @@ pub fn serve<S: Source, K: Sink, P: Site>(
     sink: &mut K,
     site: &mut P,
 ) -> Status
-    ensures runs { Runs result (S.left source.old) (K.written sink.old) (P.Disk.held site.old) (P.bank_faults site.old) (P.Disk.moment site.old) (S.left source.new) (K.written sink.new) (P.Disk.held site.new) (P.bank_faults site.new) (P.Disk.moment site.new) }
+    ensures runs { Runs result (S.left source.old) (K.written sink.old) (P.Disk.held site.old) (P.bank_faults site.old) (mark_of (P.Disk.moment site.old) (P.Disk.shared site.old)) (S.left source.new) (K.written sink.new) (P.Disk.held site.new) (P.bank_faults site.new) (mark_of (P.Disk.moment site.new) (P.Disk.shared site.new)) }
     ensures takes { Takes result (S.left source.old) (S.left source.new) }
     ensures read { result ≡ Status.SourceFailed → Rose (S.faults source.old) (S.faults source.new) }
     ensures write { result ≡ Status.SinkFailed → Rose (K.faults sink.old) (K.faults sink.new) }
@@ -94,7 +95,7 @@ fn serve_pieces<S: Source, K: Sink, P: Site>(
 ) -> Status
     requires empty { session.old.output ≡ [] }
     requires room { 0 < length piece.old }
-    ensures serves { Serves session.old result (S.left source.old) (K.written sink.old) (P.Disk.held site.old) (P.bank_faults site.old) (P.Disk.moment site.old) (S.left source.new) (K.written sink.new) (P.Disk.held site.new) (P.bank_faults site.new) (P.Disk.moment site.new) }
+    ensures serves { Serves session.old result (S.left source.old) (K.written sink.old) (P.Disk.held site.old) (P.bank_faults site.old) (mark_of (P.Disk.moment site.old) (P.Disk.shared site.old)) (S.left source.new) (K.written sink.new) (P.Disk.held site.new) (P.bank_faults site.new) (mark_of (P.Disk.moment site.new) (P.Disk.shared site.new)) }
     ensures takes { Takes result (S.left source.old) (S.left source.new) }
     ensures read { result ≡ Status.SourceFailed → Rose (S.faults source.old) (S.faults source.new) }
     ensures write { result ≡ Status.SinkFailed → Rose (K.faults sink.old) (K.faults sink.new) }

@@ -19,20 +19,23 @@ pub struct Session {
 }
 
 impl Session {
-    ghost use Rattle.std.specs.Prelude.{◌≡◌, ◌∷◌, [], List, ℕ, OnOk, IfOk};
+    ghost use Rattle.std.specs.Prelude.{◌≡◌, ◌++◌, ◌∷◌, [], List, ℕ, OnOk, IfOk};
     ghost use Rattle.std.specs.Prelude.{◌≤◌};
-    ghost use Rattle.outside.specs.Calls.{BankCall, Told};
+    ghost use Rattle.outside.specs.Calls.{Told};
     ghost use Rattle.outside.specs.Faults.{BankHasCause, HasCause};
-    ghost use Rattle.session_cli.specs.Serving.{Closes, Feeds, Finishes, Opens, Origin, Serving};
+    ghost use Rattle.session_cli.specs.Serving.{Closes, Feeds, Finishes, IsLeftAlone, Opens, Origin, Serving};
+    ghost use Rattle.tier_engine.specs.Standing.{mark_of};
 
-    /// A session over a tier that is opened over the site. All memory of its buffers is taken before.
+    /// A session over a tier that is opened over the site. All memory of its buffers is taken before. Transactions of others
+    /// may come as the site is asked for its schema.
     ///
     /// `Failed` only where the site failed as it was asked for its schema.
     pub fn open<P: Site>(alloc: Global, site: &mut P) -> Result<Session, BankError>
-        ensures told { Told (P.Disk.held site.old) (P.Disk.held site.new) (BankCall (Opens result)) }
+        ensures told { Told (P.Disk.held site.old) (P.Disk.held site.new) (Opens (P.Disk.shared site.old) result) }
         ensures empty { IfOk result (λ session. session.output ≡ []) }
         ensures cause { BankHasCause (P.bank_faults site.old) (P.bank_faults site.new) result }
         ensures moment { P.Disk.moment site.old ≤ P.Disk.moment site.new }
+        ensures shares { P.Disk.shared site.new ≡ P.Disk.shared site.old }
     {
         legal_law();
         let Ok(line) = LineBuffer::new(alloc) else {
@@ -58,7 +61,7 @@ impl Session {
         site: &mut P,
         bytes: &[u8],
     ) -> Result<(), Failed>
-        ensures serves { (o : Origin) (given : List ℕ) → Serving o given (K.written sink.old) (P.Disk.held site.old) (P.bank_faults site.old) (P.Disk.moment site.old) self.old → Feeds result o given bytes.now (K.written sink.new) (P.Disk.held site.new) (P.bank_faults site.new) (P.Disk.moment site.new) self.new }
+        ensures serves { (o : Origin) (given : List ℕ) → IsLeftAlone o (given ++ bytes.now) → Serving o given (K.written sink.old) (P.Disk.held site.old) (P.bank_faults site.old) (mark_of (P.Disk.moment site.old) (P.Disk.shared site.old)) self.old → Feeds result o given bytes.now (K.written sink.new) (P.Disk.held site.new) (P.bank_faults site.new) (mark_of (P.Disk.moment site.new) (P.Disk.shared site.new)) self.new }
         ensures empty { OnOk result (self.new.output ≡ []) }
         ensures cause { HasCause (K.faults sink.old) (K.faults sink.new) result }
     {
@@ -76,7 +79,7 @@ impl Session {
         sink: &mut K,
         site: &mut P,
     ) -> Result<(), Failed>
-        ensures serves { (o : Origin) (given : List ℕ) → Serving o given (K.written sink.old) (P.Disk.held site.old) (P.bank_faults site.old) (P.Disk.moment site.old) self.old → Finishes result o given (K.written sink.new) (P.Disk.held site.new) (P.bank_faults site.new) (P.Disk.moment site.new) }
+        ensures serves { (o : Origin) (given : List ℕ) → IsLeftAlone o given → Serving o given (K.written sink.old) (P.Disk.held site.old) (P.bank_faults site.old) (mark_of (P.Disk.moment site.old) (P.Disk.shared site.old)) self.old → Finishes result o given (K.written sink.new) (P.Disk.held site.new) (P.bank_faults site.new) (mark_of (P.Disk.moment site.new) (P.Disk.shared site.new)) }
         ensures cause { HasCause (K.faults sink.old) (K.faults sink.new) result }
     {
         self.end_input(alloc, sink, site)?;
@@ -90,7 +93,7 @@ impl Session {
         sink: &mut K,
         site: &mut P,
     ) -> Result<(), Failed>
-        ensures serves { (o : Origin) (given : List ℕ) → Serving o given (K.written sink.old) (P.Disk.held site.old) (P.bank_faults site.old) (P.Disk.moment site.old) self.old → Closes result o given (K.written sink.new) (P.Disk.held site.new) (P.bank_faults site.new) (P.Disk.moment site.new) self.new.output }
+        ensures serves { (o : Origin) (given : List ℕ) → IsLeftAlone o given → Serving o given (K.written sink.old) (P.Disk.held site.old) (P.bank_faults site.old) (mark_of (P.Disk.moment site.old) (P.Disk.shared site.old)) self.old → Closes result o given (K.written sink.new) (P.Disk.held site.new) (P.bank_faults site.new) (mark_of (P.Disk.moment site.new) (P.Disk.shared site.new)) self.new.output }
         ensures cause { HasCause (K.faults sink.old) (K.faults sink.new) result }
     {
         if self.line.is_empty() {
@@ -114,7 +117,7 @@ impl Session {
         site: &mut P,
         bytes: &[u8],
     ) -> Result<(), Failed>
-        ensures serves { (o : Origin) (given : List ℕ) → Serving o given (K.written sink.old) (P.Disk.held site.old) (P.bank_faults site.old) (P.Disk.moment site.old) self.old → Feeds result o given bytes.now (K.written sink.new) (P.Disk.held site.new) (P.bank_faults site.new) (P.Disk.moment site.new) self.new }
+        ensures serves { (o : Origin) (given : List ℕ) → IsLeftAlone o (given ++ bytes.now) → Serving o given (K.written sink.old) (P.Disk.held site.old) (P.bank_faults site.old) (mark_of (P.Disk.moment site.old) (P.Disk.shared site.old)) self.old → Feeds result o given bytes.now (K.written sink.new) (P.Disk.held site.new) (P.bank_faults site.new) (mark_of (P.Disk.moment site.new) (P.Disk.shared site.new)) self.new }
         ensures cause { HasCause (K.faults sink.old) (K.faults sink.new) result }
     {
         for byte in bytes {
@@ -130,7 +133,7 @@ impl Session {
         site: &mut P,
         byte: u8,
     ) -> Result<(), Failed>
-        ensures serves { (o : Origin) (given : List ℕ) → Serving o given (K.written sink.old) (P.Disk.held site.old) (P.bank_faults site.old) (P.Disk.moment site.old) self.old → Feeds result o given (byte ∷ []) (K.written sink.new) (P.Disk.held site.new) (P.bank_faults site.new) (P.Disk.moment site.new) self.new }
+        ensures serves { (o : Origin) (given : List ℕ) → IsLeftAlone o given → Serving o given (K.written sink.old) (P.Disk.held site.old) (P.bank_faults site.old) (mark_of (P.Disk.moment site.old) (P.Disk.shared site.old)) self.old → Feeds result o given (byte ∷ []) (K.written sink.new) (P.Disk.held site.new) (P.bank_faults site.new) (mark_of (P.Disk.moment site.new) (P.Disk.shared site.new)) self.new }
         ensures cause { HasCause (K.faults sink.old) (K.faults sink.new) result }
     {
         if byte == b'\n' {
@@ -147,7 +150,7 @@ impl Session {
         sink: &mut K,
         site: &mut P,
     ) -> Result<(), Failed>
-        ensures serves { (o : Origin) (given : List ℕ) → Serving o given (K.written sink.old) (P.Disk.held site.old) (P.bank_faults site.old) (P.Disk.moment site.old) self.old → Feeds result o given (10 ∷ []) (K.written sink.new) (P.Disk.held site.new) (P.bank_faults site.new) (P.Disk.moment site.new) self.new }
+        ensures serves { (o : Origin) (given : List ℕ) → IsLeftAlone o given → Serving o given (K.written sink.old) (P.Disk.held site.old) (P.bank_faults site.old) (mark_of (P.Disk.moment site.old) (P.Disk.shared site.old)) self.old → Feeds result o given (10 ∷ []) (K.written sink.new) (P.Disk.held site.new) (P.bank_faults site.new) (mark_of (P.Disk.moment site.new) (P.Disk.shared site.new)) self.new }
         ensures cause { HasCause (K.faults sink.old) (K.faults sink.new) result }
     {
         respond(

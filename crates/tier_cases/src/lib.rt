@@ -3,6 +3,8 @@
 #![tactic(auto)]
 
 #[cfg(test)]
+mod console;
+#[cfg(test)]
 mod faults;
 #[cfg(test)]
 mod first_run;
@@ -10,6 +12,8 @@ mod first_run;
 mod limits;
 #[cfg(test)]
 mod opening;
+#[cfg(test)]
+mod others;
 #[cfg(test)]
 mod refusals;
 #[cfg(test)]

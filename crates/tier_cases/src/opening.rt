@@ -43,22 +43,26 @@ fn table(
 }
 
 // A reference from the second column to the first table.
-fn to_first(alloc: Global) -> Result<ForeignKey, AllocError> {
+fn to_first(alloc: Global, cascade: bool) -> Result<ForeignKey, AllocError> {
     let mut columns = Seq::new(alloc);
     columns.push(1)?;
     Ok(ForeignKey {
         columns,
         parent: TableId(0),
-        cascade: false,
+        cascade,
     })
 }
 
-// The tables P, C, which refers to P, V, which has a text, and T.
-fn define_tables(rt: &impl Abort, alloc: Global, site: &mut MemorySite) -> Result<(), AllocError> {
+// The tables P, C, which refers to P, V, which has a text, T, and K, which refers to P and cascades.
+pub(crate) fn define_tables(
+    rt: &impl Abort,
+    alloc: Global,
+    site: &mut MemorySite,
+) -> Result<(), AllocError> {
     let parent = table(alloc, "P", column(alloc, "N", Ty::TtInteger, false)?, None)?;
     assert!(rt; site.define(&parent).is_ok());
     let second = column(alloc, "PID", Ty::TtInteger, true)?;
-    let child = table(alloc, "C", second, Some(to_first(alloc)?))?;
+    let child = table(alloc, "C", second, Some(to_first(alloc, false)?))?;
     assert!(rt; site.define(&child).is_ok());
     let texts = table(
         alloc,
@@ -69,6 +73,9 @@ fn define_tables(rt: &impl Abort, alloc: Global, site: &mut MemorySite) -> Resul
     assert!(rt; site.define(&texts).is_ok());
     let last = table(alloc, "T", column(alloc, "N", Ty::TtInteger, false)?, None)?;
     assert!(rt; site.define(&last).is_ok());
+    let second = column(alloc, "PID", Ty::TtInteger, true)?;
+    let cascading = table(alloc, "K", second, Some(to_first(alloc, true)?))?;
+    assert!(rt; site.define(&cascading).is_ok());
     Ok(())
 }
 
@@ -153,6 +160,6 @@ fn the_rows_of_others_are_found_and_not_shown(rt: HostRuntime) -> Result<(), Fai
             ("s1: CALL ttDrain", "ok 1"),
         ],
     )?;
-    assert_eq!(rt; site.history().len(), 6);
+    assert_eq!(rt; site.history().len(), 7);
     Ok(())
 }

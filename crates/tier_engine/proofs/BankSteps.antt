@@ -4,7 +4,6 @@ use Rattle.std.specs.Prelude.{◌^◌, Result, Ok, Err}
 use Rattle.std.specs.List.{filter, list_all, list_any, slice_get}
 use Rattle.std.specs.Option.{option_map, option_and_then, is_some, IfSome}
 use Rattle.std.specs.FinMap.{get, empty}
-use Rattle.std.proofs.lemmas.List.{map-append, take-append-drop}
 use Rattle.std.proofs.lemmas.List.Elements.{filter-append}
 use Rattle.std.proofs.lemmas.List.Folds.{list_any-append}
 use Rattle.std.proofs.lemmas.Option.{slice_get_within}
@@ -21,6 +20,7 @@ use Rattle.table_state.specs.Histories.{state_of, state_from, entry_of, no_table
 use Rattle.outside.specs.Bank.{Defines, TellsSchema}
 use Rattle.outside.specs.Calls.{Told, BankCall}
 use Rattle.outside.specs.Holding.{Held}
+use Rattle.outside.specs.Others.{Around}
 use Rattle.outside.specs.declared.fault.BankError.{BankError}
 use Rattle.outside.specs.declared.fault.BankError.TheVariants.{Failed, Memory}
 use Rattle.tier_engine.specs.declared.reply.Reply.{Reply}
@@ -29,62 +29,30 @@ use Rattle.tier_engine.specs.declared.tier.Group.{Group}
 use Rattle.tier_engine.specs.declared.tier.Session.{Session}
 use Rattle.tier_engine.specs.Commits.{RiseBetween, virtual_state, pending, applied_sealed, own_entries, is_own, is_other, in_commit_order}
 use Rattle.tier_engine.specs.Refusals.{refers}
-use Rattle.tier_engine.specs.Steps.{Asked, Creates, known_after, stopped}
+use Rattle.tier_engine.specs.Steps.{Asked, Creates, bank_fault, known_after, stopped}
 use Rattle.tier_engine.specs.Storing.{KnowsAfter, MakesTable}
-use Rattle.tier_engine.specs.Standing.{StandsFor, Shows, ShowAll, AreApart, HasOwnKeys, Made, group_state, is_stored, ops_of, own_in, session_in, tier_state}
+use Rattle.tier_engine.specs.Standing.{IsApart, Mark, StandsFor, Shows, ShowAll, AreApart, HasOwnKeys, Made, group_state, is_stored, ops_of, own_in, session_in, tier_state}
 use Rattle.tier_engine.proofs.CommitLaws.{state_from-append, applied_sealed-state_from, by_option}
-use Rattle.tier_engine.proofs.OpLaws.{inserts_schema}
-use Rattle.tier_engine.proofs.StandingLaws.{are_inserts, and_left, and_right}
+use Rattle.tier_engine.proofs.LogLaws.{all_pending, log_schema}
+use Rattle.tier_engine.proofs.OthersStand.{apart_as, stands_around}
+use Rattle.tier_engine.proofs.StandingLaws.{are_inserts}
 
-pub record WasTold (now : Option Held) (old : Held) (step : List Entry → List Entry → Type 0) : Type 0 where
+pub record WasTold (shared : List TableId) (now : Option Held) (old : Held) (step : List Entry → List Entry → Type 0) : Type 0 where
   pub held : Held
   pub tells : now ≡ Some held
   pub slots : held.slots ≡ old.slots
-  pub history : step old.history held.history
+  pub history : Around shared step old.history held.history
 
-pub was_told : (before now : Option Held) (old : Held) (step : List Entry → List Entry → Type 0) → before ≡ Some old → Told before now (BankCall step) → WasTold now old step
-was_told before now old step e t = by_now now (subst (λ (o : Option Held). Told o now (BankCall step)) e t)
+pub was_told : (shared : List TableId) (before now : Option Held) (old : Held) (step : List Entry → List Entry → Type 0) → before ≡ Some old → Told before now (BankCall shared step) → WasTold shared now old step
+was_told shared before now old step e t = by_now now (subst (λ (o : Option Held). Told o now (BankCall shared step)) e t)
   where
-    by_now : (n : Option Held) → Told (Some old) n (BankCall step) → WasTold n old step
+    by_now : (n : Option Held) → Told (Some old) n (BankCall shared step) → WasTold shared n old step
     by_now None x = absurd x
     by_now (Some held) x = record { held = held; tells = refl; slots = x.slots; history = x.history }
 
 append_nil : {X : Type 0} (xs : List X) → xs ++ [] ≡ xs
 append_nil [] = refl
 append_nil (x ∷ xs) = ap (λ l. x ∷ l) (append_nil xs)
-
--- the log's transactions keep the schema
-log_schema : (groups : List Group) (log : List Sealed) (s s' : TableState) → list_all (is_stored groups) (ops_of log) ≡ true → applied_sealed log s ≡ Some s' → s'.schema ≡ s.schema
-log_schema groups [] s s' all e = let p : ◌≡◌ {A = Option TableState} (Some s) (Some s') = e in ap (λ (x : TableState). x.schema) (let q : s ≡ s' = Prim.cc in sym q)
-log_schema groups (x ∷ log) s s' all e = by_state (λ y q. log_schema groups log y s' later q) (applied_all x.ops s) refl e
-  where
-    parted : (list_all (is_stored groups) x.ops && list_all (is_stored groups) (ops_of log)) ≡ true
-    parted = sym (Rattle.std.proofs.lemmas.List.Folds.list_all-append (is_stored groups) x.ops (ops_of log)) ∙ all
-
-    later : list_all (is_stored groups) (ops_of log) ≡ true
-    later = and_right (list_all (is_stored groups) x.ops) (list_all (is_stored groups) (ops_of log)) parted
-
-    by_state : ((y : TableState) → applied_sealed log y ≡ Some s' → s'.schema ≡ y.schema) → (o : Option TableState) → applied_all x.ops s ≡ o → option_and_then (applied_sealed log) o ≡ Some s' → s'.schema ≡ s.schema
-    by_state more None p q = Prim.cc
-    by_state more (Some y) p q =
-        more y q ∙ inserts_schema x.ops s y (are_inserts groups x.ops (and_left (list_all (is_stored groups) x.ops) (list_all (is_stored groups) (ops_of log)) parted)) p
-
-pub all_pending : (groups : List Group) (h : List Entry) (log : List Sealed) → list_all (is_stored groups) (ops_of log) ≡ true → list_all (is_stored groups) (ops_of (pending h log)) ≡ true
-all_pending groups h [] all = refl
-all_pending groups h (x ∷ log) all = by_ticket (all_pending groups h log) (has_ticket x.ticket.0 h)
-  where
-    parted : (list_all (is_stored groups) x.ops && list_all (is_stored groups) (ops_of log)) ≡ true
-    parted = sym (Rattle.std.proofs.lemmas.List.Folds.list_all-append (is_stored groups) x.ops (ops_of log)) ∙ all
-
-    rest : list_all (is_stored groups) (ops_of log) ≡ true
-    rest = and_right (list_all (is_stored groups) x.ops) (list_all (is_stored groups) (ops_of log)) parted
-
-    by_ticket : (list_all (is_stored groups) (ops_of log) ≡ true → list_all (is_stored groups) (ops_of (pending h log)) ≡ true) → (b : Bool)
-        → list_all (is_stored groups) (ops_of (cond (not b) (x ∷ pending h log) (pending h log))) ≡ true
-    by_ticket more true = more rest
-    by_ticket more false =
-        Rattle.std.proofs.lemmas.List.Folds.list_all-append (is_stored groups) x.ops (ops_of (pending h log))
-        ∙ Rattle.tier_engine.proofs.StandingLaws.and_true _ _ (and_left (list_all (is_stored groups) x.ops) (list_all (is_stored groups) (ops_of log)) parted) (more rest)
 
 -- The history leaves a state, whose schema is that of the virtual state.
 pub record LeavesState (h : List Entry) (base : TableState) : Type 0 where
@@ -142,25 +110,51 @@ state_known t t' log known e x = λ i. record {
   next = x.next i;
 }
 
+-- the groups are the same where only what is known changed
+only_groups : (t t' : Tier) (log : List Sealed) → OnlyKnown t t' → (tier_state t' log).groups ≡ (tier_state t log).groups
+only_groups t t' log x = λ i. map (group_state (own_in (x.session i))) (x.groups i)
+
+-- the question was answered over this history
+asks_stands : (t t' : Tier) (log : List Sealed) (schema : List TableDef) (h h' : List Entry) → TellsSchema (Ok schema) h h' → t'.known ≡ Some schema → OnlyKnown t t' → StandsFor t log h → StandsFor t' log h'
+asks_stands t t' log schema h h' told known x stands =
+    let same : h' ≡ h = told.0 ∙ append_nil h in
+    let left = leaves_state t log h stands in
+    let defs : schema ≡ stands.base.schema = told.1 left.state (ap state_of same ∙ left.is) ∙ sym left.schema in
+    subst (λ (l : List Entry). StandsFor t' log l) (sym same)
+    (stands_known t t' log h stands x (subst (λ (o : Option (List TableDef)). IfSome o (λ y. y ≡ stands.base.schema)) (sym known) defs))
+
 -- the question was answered
-pub asks_made : (t t' : Tier) (log : List Sealed) (held : Held) (schema : List TableDef) (before now : Option Held) (faults faults' moment moment' : ℕ)
-    → before ≡ Some held → Told before now (BankCall (TellsSchema (Ok schema))) → faults ≤ faults' → moment ≤ moment' → t'.known ≡ Some schema → OnlyKnown t t' → StandsFor t log held.history
-    → Made now faults faults' moment moment' t t' log held (λ w w'. (answer : Result (List TableDef) BankError) × Asked answer w w' × (None ≡ stopped answer))
-asks_made t t' log held schema before now faults faults' moment moment' e told_now more later known x stands =
-    let c = was_told before now held (TellsSchema (Ok schema)) e told_now in
-    let same : c.held.history ≡ held.history = c.history.0 ∙ append_nil held.history in
-    let left = leaves_state t log held.history stands in
-    let defs : schema ≡ stands.base.schema = c.history.1 left.state (ap state_of same ∙ left.is) ∙ sym left.schema in
-    let here : StandsFor t' log held.history =
-    stands_known t t' log held.history stands x (subst (λ (o : Option (List TableDef)). IfSome o (λ y. y ≡ stands.base.schema)) (sym known) defs)
-    in
+pub asks_made : (t t' : Tier) (log : List Sealed) (held : Held) (schema : List TableDef) (before now : Option Held) (faults faults' : ℕ) (mark mark' : Mark)
+    → before ≡ Some held → Told before now (BankCall mark.shared (TellsSchema (Ok schema))) → faults ≤ faults' → mark.moment ≤ mark'.moment → mark'.shared ≡ mark.shared → t'.known ≡ Some schema → OnlyKnown t t' → StandsFor t log held.history
+    → IsApart t log mark.shared → Made now faults faults' mark mark' t t' log held (λ w w'. (answer : Result (List TableDef) BankError) × Asked answer w w' × (None ≡ stopped answer))
+asks_made t t' log held schema before now faults faults' mark mark' e told_now more later shares known x stands apart =
+    let c = was_told mark.shared before now held (TellsSchema (Ok schema)) e told_now in
+    let a = c.history in
     record {
       log' = log;
       held' = c.held;
       tells = c.tells;
       slots = c.slots;
-      stands = subst (λ (h : List Entry). StandsFor t' log h) (sym same) here;
-      made = (Ok schema, record { tier = state_known t t' log (Some schema) known x; history = c.history; on = record { faults = more; moment = later } }, refl);
+      stands = stands_around t t' log mark.shared held.history c.held.history (TellsSchema (Ok schema)) a stands apart (apart_as t t' log log mark.shared (only_groups t t' log x) apart)
+          (λ s. asks_stands t t' log schema (held.history ++ a.before) a.middle a.own known x s);
+      made = (Ok schema, record { tier = state_known t t' log (Some schema) known x; history = a; on = record { faults = more; moment = later; shared = shares } }, refl);
+    }
+
+-- the question failed
+pub asks_failed : (t : Tier) (log : List Sealed) (held : Held) (error : BankError) (before now : Option Held) (faults faults' : ℕ) (mark mark' : Mark) (reply : Reply)
+    → before ≡ Some held → Told before now (BankCall mark.shared (TellsSchema (Err error))) → faults ≤ faults' → mark.moment ≤ mark'.moment → mark'.shared ≡ mark.shared → reply ≡ bank_fault error → StandsFor t log held.history
+    → IsApart t log mark.shared → Made now faults faults' mark mark' t t log held (λ w w'. (answer : Result (List TableDef) BankError) × Asked answer w w' × (Some reply ≡ stopped answer))
+asks_failed t log held error before now faults faults' mark mark' reply e told_now more later shares told stands apart =
+    let c = was_told mark.shared before now held (TellsSchema (Err error)) e told_now in
+    let a = c.history in
+    record {
+      log' = log;
+      held' = c.held;
+      tells = c.tells;
+      slots = c.slots;
+      stands = stands_around t t log mark.shared held.history c.held.history (TellsSchema (Err error)) a stands apart apart
+          (λ s. subst (λ (l : List Entry). StandsFor t log l) (sym (a.own ∙ append_nil (held.history ++ a.before))) s);
+      made = (Err error, record { tier = refl; history = a; on = record { faults = more; moment = later; shared = shares } }, ap (λ (r : Reply). Some r) told);
     }
 
 -- the laws of a later table, as table_state states them
@@ -341,23 +335,25 @@ known_state t t' log def (Err Failed) x e = state_known t t' log None e x
 known_state t t' log def (Err Memory) x e = state_known t t' log t.known e x
 
 -- the definition at the bank is a step
-pub creates_made : LaterLaw → WholeLaw → (t t' : Tier) (log : List Sealed) (held : Held) (def : TableDef) (reply : Reply) (before now : Option Held) (faults faults' moment moment' : ℕ)
-    → before ≡ Some held → StandsFor t log held.history → RefersToNone def t.groups.items → faults ≤ faults' → moment ≤ moment' → MakesTable before now t t' def reply faults faults'
-    → Made now faults faults' moment moment' t t' log held (λ w w'. Creates def w w' reply)
-creates_made law whole_law t t' log held def reply before now faults faults' moment moment' e stands none more later m =
-    let c = was_told before now held (Defines def m.result) e m.call in
+pub creates_made : LaterLaw → WholeLaw → (t t' : Tier) (log : List Sealed) (held : Held) (def : TableDef) (reply : Reply) (before now : Option Held) (faults faults' : ℕ) (mark mark' : Mark)
+    → before ≡ Some held → StandsFor t log held.history → IsApart t log mark.shared → RefersToNone def t.groups.items → faults ≤ faults' → mark.moment ≤ mark'.moment → mark'.shared ≡ mark.shared
+    → MakesTable mark.shared before now t t' def reply faults faults' → Made now faults faults' mark mark' t t' log held (λ w w'. Creates def w w' reply)
+creates_made law whole_law t t' log held def reply before now faults faults' mark mark' e stands apart none more later shares m =
+    let c = was_told mark.shared before now held (Defines def m.result) e m.call in
+    let a = c.history in
     let x : OnlyKnown t t' = record { groups = m.groups; session = m.session; unsettled = m.unsettled; next = m.next } in
     record {
       log' = log;
       held' = c.held;
       tells = c.tells;
       slots = c.slots;
-      stands = defines_stands law whole_law t t' log held.history def m.result stands none x m.known c.held.history c.history;
+      stands = stands_around t t' log mark.shared held.history c.held.history (Defines def m.result) a stands apart (apart_as t t' log log mark.shared (only_groups t t' log x) apart)
+          (λ s. defines_stands law whole_law t t' log (held.history ++ a.before) def m.result s none x m.known a.middle a.own);
       made = record {
         result = m.result;
         tier = known_state t t' log def m.result x m.known;
-        history = c.history;
-        on = record { faults = more; moment = later };
+        history = a;
+        on = record { faults = more; moment = later; shared = shares };
         answer = m.answer;
       };
     }

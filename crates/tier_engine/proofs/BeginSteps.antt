@@ -1,9 +1,11 @@
 -- What stands when the tier was opened.
-use Rattle.std.proofs.Common.{◌≡◌, ℕ, List, [], ◌∷◌, ◌++◌, Option, Some, None, Bool, true, false, not, cond, refl, sym, ◌∙◌, ap, subst, arith}
-use Rattle.std.specs.Prelude.{Ok, Err}
+use Rattle.std.proofs.Common.{◌≡◌, ℕ, List, [], ◌∷◌, ◌++◌, Option, Some, None, Bool, true, false, not, cond, refl, sym, ◌∙◌, ap, subst, arith, append_assoc}
+use Rattle.std.specs.Prelude.{Result, Ok, Err}
+use Rattle.std.specs.Result.{IsErr}
 use Rattle.std.specs.List.{filter}
 use Rattle.std.specs.Option.{option_and_then, IfSome}
 use Rattle.std.proofs.lemmas.List.{append-nil}
+use Rattle.tier_base.specs.declared.number.TableId.{TableId}
 use Rattle.table_state.specs.declared.definition.TableDef.{TableDef}
 use Rattle.table_state.specs.declared.history.Entry.{Entry}
 use Rattle.table_state.specs.declared.history.Entry.TheVariants.{Definition, Foreign, Own}
@@ -12,6 +14,7 @@ use Rattle.table_state.specs.Histories.{state_of}
 use Rattle.outside.specs.Bank.{TellsSchema}
 use Rattle.outside.specs.Calls.{Told, BankCall}
 use Rattle.outside.specs.Holding.{Held}
+use Rattle.outside.specs.Others.{AreOthers, Around}
 use Rattle.outside.specs.declared.fault.BankError.{BankError}
 use Rattle.tier_engine.specs.declared.tier.Tier.{Tier}
 use Rattle.tier_engine.specs.declared.tier.Group.{Group}
@@ -20,6 +23,7 @@ use Rattle.tier_engine.specs.Commits.{applied_sealed, is_other, own_entries}
 use Rattle.tier_engine.specs.TierStates.{opened}
 use Rattle.tier_engine.specs.Standing.{AreApart, Begins, HasOwnKeys, ShowAll, StandsFor, tier_state}
 use Rattle.tier_engine.proofs.BankSteps.{WholeLaw, history_whole}
+use Rattle.tier_engine.proofs.OthersStand.{others_append, others_schema}
 
 -- the tier as it is opened
 pub record IsNew (t : Tier) (schema : List TableDef) : Type 0 where
@@ -75,17 +79,38 @@ state_new t schema s x same =
       next = x.next i;
     }
 
+-- Only transactions of others came in the call.
+came_around : (shared : List TableId) (step : List Entry → List Entry → Type 0) (h h' : List Entry) (a : Around shared step h h') → a.middle ≡ (h ++ a.before) ++ [] → (AreOthers shared h (a.before ++ a.behind)) × (h' ≡ h ++ (a.before ++ a.behind))
+came_around shared step h h' a grows =
+    let same : a.middle ≡ h ++ a.before = grows ∙ append-nil (h ++ a.before) in (
+      others_append shared h a.before a.behind a.came_before (subst (λ (l : List Entry). AreOthers shared l a.behind) same a.came_behind),
+      a.is ∙ ap (λ l. l ++ a.behind) same ∙ append_assoc h a.before a.behind,
+    )
+
 -- The tier was opened.
-pub begins_told : WholeLaw → (before now : Option Held) (t : Tier) (schema : List TableDef) → IsNew t schema → Told before now (BankCall (TellsSchema (Ok schema))) → Told before now (BankCall (Begins (Ok t)))
-begins_told law None now t schema x e = tt
-begins_told law (Some old) None t schema x e = e
-begins_told law (Some old) (Some new) t schema x e = record {
-  slots = e.slots;
-  history = (e.history.0, λ s is owns. let same = e.history.1 s is in (stands_new law t schema new.history s x is owns same, state_new t schema s x same));
-}
+pub begins_told : WholeLaw → (shared : List TableId) (before now : Option Held) (t : Tier) (schema : List TableDef) → IsNew t schema → Told before now (BankCall shared (TellsSchema (Ok schema))) → Told before now (Begins shared (Ok t))
+begins_told law shared None now t schema x e = tt
+begins_told law shared (Some old) None t schema x e = e
+begins_told law shared (Some old) (Some new) t schema x e =
+    let a = e.history in
+    let came = came_around shared (TellsSchema (Ok schema)) old.history new.history a a.own.0 in
+    record {
+      slots = e.slots;
+      others = a.before ++ a.behind;
+      came = came.0;
+      is = came.1;
+      opened = λ s is owns.
+          let (y, y_is, later) = others_schema shared a.middle a.behind s a.came_behind (ap state_of (sym a.is) ∙ is) in
+          let same : schema ≡ s.schema = a.own.1 y y_is ∙ sym later in
+          (stands_new law t schema new.history s x is owns same, state_new t schema s x same);
+    }
 
 -- It wasn't.
-pub begins_failed : (before now : Option Held) (error : BankError) → Told before now (BankCall (TellsSchema (Err error))) → Told before now (BankCall (Begins (Err error)))
-begins_failed None now error e = tt
-begins_failed (Some old) None error e = e
-begins_failed (Some old) (Some new) error e = record { slots = e.slots; history = e.history }
+pub begins_failed : (shared : List TableId) (before now : Option Held) (error : BankError) (result : Result Tier BankError) → IsErr result → Told before now (BankCall shared (TellsSchema (Err error))) → Told before now (Begins shared result)
+begins_failed shared before now error (Ok t) is e = Prim.cc
+begins_failed shared None now error (Err x) is e = tt
+begins_failed shared (Some old) None error (Err x) is e = e
+begins_failed shared (Some old) (Some new) error (Err x) is e =
+    let a = e.history in
+    let came = came_around shared (TellsSchema (Err error)) old.history new.history a a.own in
+    record { slots = e.slots; others = a.before ++ a.behind; came = came.0; is = came.1; opened = tt }

@@ -156,23 +156,23 @@ not_refused t log n e free within = fault_is t log n None None e free (sym (ap (
 -- a commit that is refused
 pub refused_turns : (t : Tier) (log : List Sealed) (h : List Entry) (reply : Reply) (rule : Rule) (o : IsOpen t) → 0 < length o.session.own → commit_fault (tier_state t log) ≡ Some rule → reply ≡ only (No rule) → StandsFor t log h
     → Turns t t log h (λ w w'. InOpen w.tier.session statement.Commit w w' reply ⊎ WantsMemory w w' reply)
-refused_turns t log h reply rule o some fault told stands = quiet_same t log h _ stands (λ faults moment.
-    let w = world_of t log h faults moment in
+refused_turns t log h reply rule o some fault told stands = quiet_same t log h _ stands (λ faults mark.
+    let w = world_of t log h faults mark in
     let st = tier_state t log in
     let ss = session_state o.session in
     let answer : commit_answer st ss ≡ refuses st rule = by_fault st ss o.session.own (Some rule) some fault in
-    let quiet : Quiet w (commit_answer st ss) w reply = (same_world st _ h faults moment (sym (ap (λ (a : Answer). a.0) answer)), told ∙ sym (ap (λ (a : Answer). a.1) answer)) in
+    let quiet : Quiet w (commit_answer st ss) w reply = (same_world st _ h faults mark (sym (ap (λ (a : Answer). a.0) answer)), told ∙ sym (ap (λ (a : Answer). a.1) answer)) in
     inl (opened_step t statement.Commit w w reply o quiet))
 
 -- a commit of nothing
 pub empty_turns : (t : Tier) (log : List Sealed) (h : List Entry) (reply : Reply) (o : IsOpen t) → length o.session.own ≡ 0 → reply ≡ only (Done 0) → StandsFor t log h
     → Turns t t log h (λ w w'. InOpen w.tier.session statement.Commit w w' reply ⊎ WantsMemory w w' reply)
-empty_turns t log h reply o none told stands = quiet_same t log h _ stands (λ faults moment.
-    let w = world_of t log h faults moment in
+empty_turns t log h reply o none told stands = quiet_same t log h _ stands (λ faults mark.
+    let w = world_of t log h faults mark in
     let st = tier_state t log in
     let ss = session_state o.session in
     let answer : commit_answer st ss ≡ (st, only (Done 0)) = nothing st ss o.session.own none in
-    let quiet : Quiet w (commit_answer st ss) w reply = (same_world st _ h faults moment (sym (ap (λ (a : Answer). a.0) answer)), told ∙ sym (ap (λ (a : Answer). a.1) answer)) in
+    let quiet : Quiet w (commit_answer st ss) w reply = (same_world st _ h faults mark (sym (ap (λ (a : Answer). a.0) answer)), told ∙ sym (ap (λ (a : Answer). a.1) answer)) in
     inl (opened_step t statement.Commit w w reply o quiet))
   where
     nothing : (t : TierState) (s : SessionState) (own : List Op) → length own ≡ 0 → commit_of t s own ≡ (t, only (Done 0))
@@ -235,11 +235,11 @@ seals_step t t' log h reply o stands some room ticket x =
     record {
       log' = log';
       stands = stands';
-      made = λ faults moment.
-          let w = world_of t log h faults moment in
-          let w' = world_of t' log' h faults moment in
+      made = λ faults mark.
+          let w = world_of t log h faults mark in
+          let w' = world_of t' log' h faults mark in
           let quiet : Quiet w (commit_answer st ss) w' reply =
-          (same_world (tier_state t' log') _ h faults moment (after ∙ sym (ap (λ (a : Answer). a.0) answer)), x.told ∙ sym (ap (λ (a : Answer). a.1) answer))
+          (same_world (tier_state t' log') _ h faults mark (after ∙ sym (ap (λ (a : Answer). a.0) answer)), x.told ∙ sym (ap (λ (a : Answer). a.1) answer))
           in
           opened_step t statement.Commit w w' reply o quiet;
     }

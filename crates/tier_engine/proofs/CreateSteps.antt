@@ -27,7 +27,7 @@ use Rattle.tier_engine.specs.Refusals.{past, refers, refers_to_group, table_faul
 use Rattle.tier_engine.specs.Answers.{faulty, only}
 use Rattle.tier_engine.specs.Steps.{World, Creates, CreatesTable, DoesConsole, DoesDefine, TellsBankFault, WantsMemory, cached_fault, define_reply}
 use Rattle.tier_engine.specs.Storing.{IsSame, JudgesTable, Makes, MakesTable, has_table, judged_foreign, judged_parent, judged_table}
-use Rattle.tier_engine.specs.Standing.{Made, StandsFor, group_state, own_in, world_of}
+use Rattle.tier_engine.specs.Standing.{IsApart, Mark, Made, StandsFor, group_state, own_in, world_of}
 use Rattle.tier_engine.proofs.BankSteps.{LaterLaw, RefersToNone, WholeLaw, creates_made}
 use Rattle.tier_engine.proofs.GroupSteps.{none_first, none_second, same_tables}
 use Rattle.tier_engine.proofs.ServingLaws.{no_memory}
@@ -96,10 +96,10 @@ refers_none groups d schema e = by_key d.foreign_key refl
         of_others (resolved d schema) key groups is (by_table f (has_table groups key.parent) told)
 
 -- CREATE TABLE is refused
-pub create_refused : (t : Tier) (log : List Sealed) (held : Held) (d : TableDeclaration) (rule : Rule) (reply : Reply) (now : Option Held) (faults moment : ℕ) → now ≡ Some held → StandsFor t log held.history
+pub create_refused : (t : Tier) (log : List Sealed) (held : Held) (d : TableDeclaration) (rule : Rule) (reply : Reply) (now : Option Held) (faults : ℕ) (mark : Mark) → now ≡ Some held → StandsFor t log held.history
     → JudgesTable t.groups.items d t.known (Err (refused.Rule rule)) → reply ≡ only (No rule)
-    → Made now faults faults moment moment t t log held (λ w w'. DoesConsole (console.CreateTable d) w w' reply ⊎ WantsMemory w w' reply)
-create_refused t log held d rule reply now faults moment told stands judged answer = record {
+    → Made now faults faults mark mark t t log held (λ w w'. DoesConsole (console.CreateTable d) w w' reply ⊎ WantsMemory w w' reply)
+create_refused t log held d rule reply now faults mark told stands judged answer = record {
   log' = log;
   held' = held;
   tells = told;
@@ -109,40 +109,40 @@ create_refused t log held d rule reply now faults moment told stands judged answ
 }
   where
     w : World
-    w = world_of t log held.history faults moment
+    w = world_of t log held.history faults mark
 
     by_known : (k : Option (List TableDef)) → JudgesTable t.groups.items d k (Err (refused.Rule rule)) → DoesDefine d k w w reply
     by_known None e = (refl, answer ∙ ap (λ r. only (No r)) (let p : Some (cached_fault d) ≡ Some rule = e in let q : cached_fault d ≡ rule = Prim.cc in sym q))
     by_known (Some schema) e = subst (λ (o : Option Rule). CreatesTable (resolved d schema) o w w reply) (sym (e.0) ∙ same_fault (own_in t.session) t.groups.items d schema) (refl, answer)
 
 -- want of memory before the call
-pub create_wants : (t t' : Tier) (log : List Sealed) (held : Held) (d : TableDeclaration) (reply : Reply) (before now : Option Held) (f f' m m' : ℕ) → before ≡ Some held → now ≡ before → f' ≡ f → m' ≡ m → IsSame t t'
-    → StandsFor t log held.history → reply ≡ faulty code.Memory → Made now f f' m m' t t' log held (λ w w'. DoesConsole (console.CreateTable d) w w' reply ⊎ WantsMemory w w' reply)
-create_wants t t' log held d reply before now f f' m m' told same faults moment x stands answer = record {
+pub create_wants : (t t' : Tier) (log : List Sealed) (held : Held) (d : TableDeclaration) (reply : Reply) (before now : Option Held) (f f' : ℕ) (m m' : Mark) → before ≡ Some held → now ≡ before → f' ≡ f → m'.moment ≡ m.moment → m'.shared ≡ m.shared
+    → IsSame t t' → StandsFor t log held.history → reply ≡ faulty code.Memory → Made now f f' m m' t t' log held (λ w w'. DoesConsole (console.CreateTable d) w w' reply ⊎ WantsMemory w w' reply)
+create_wants t t' log held d reply before now f f' m m' told same faults moment shares x stands answer = record {
   log' = log;
   held' = held;
   tells = same ∙ told;
   slots = refl;
   stands = same_stands t t' log held.history x stands;
-  made = inr (λ i. record { tier = same_state t t' log x i; history = held.history; bank_faults = faults i; moment = moment i }, answer);
+  made = inr (λ i. record { tier = same_state t t' log x i; history = held.history; bank_faults = faults i; moment = moment i; shared = shares i }, answer);
 }
 
 -- CREATE TABLE of what isn't refused
-pub table_created : LaterLaw → WholeLaw → (t t' : Tier) (log : List Sealed) (held : Held) (d : TableDeclaration) (def : TableDef) (reply : Reply) (before now : Option Held) (f f' m m' : ℕ) → before ≡ Some held → StandsFor t log held.history
-    → JudgesTable t.groups.items d t.known (Ok def) → Makes before now f f' m m' t t' def reply → Made now f f' m m' t t' log held (λ w w'. DoesConsole (console.CreateTable d) w w' reply ⊎ WantsMemory w w' reply)
-table_created later whole t t' log held d def reply before now f f' m m' told stands judged made = elim made.made [
+pub table_created : LaterLaw → WholeLaw → (t t' : Tier) (log : List Sealed) (held : Held) (d : TableDeclaration) (def : TableDef) (reply : Reply) (before now : Option Held) (f f' : ℕ) (m m' : Mark) → before ≡ Some held → StandsFor t log held.history
+    → IsApart t log m.shared → JudgesTable t.groups.items d t.known (Ok def) → Makes before now f f' m m' t t' def reply → Made now f f' m m' t t' log held (λ w w'. DoesConsole (console.CreateTable d) w w' reply ⊎ WantsMemory w w' reply)
+table_created later whole t t' log held d def reply before now f f' m m' told stands apart judged made = elim made.made [
   | inl x ↦ by_known t.known refl judged x
-  | inr x ↦ create_wants t t' log held d reply before now f f' m m' told x.1 x.2 x.3 x.0 stands x.4
+  | inr x ↦ create_wants t t' log held d reply before now f f' m m' told x.1 x.2 x.3 made.shares x.0 stands x.4
 ]
   where
-    by_known : (k : Option (List TableDef)) → t.known ≡ k → JudgesTable t.groups.items d k (Ok def) → MakesTable before now t t' def reply f f' → Made now f f' m m' t t' log held (λ w w'. DoesConsole (console.CreateTable d) w w' reply ⊎ WantsMemory w w' reply)
+    by_known : (k : Option (List TableDef)) → t.known ≡ k → JudgesTable t.groups.items d k (Ok def) → MakesTable m.shared before now t t' def reply f f' → Made now f f' m m' t t' log held (λ w w'. DoesConsole (console.CreateTable d) w w' reply ⊎ WantsMemory w w' reply)
     by_known None known e x = absurd e
     by_known (Some schema) known e x =
         let own = own_in t.session in
         let is : def ≡ resolved d schema = e.1 in
         let fault : judged_table t.groups.items d schema ≡ None = e.0 in
         let none : RefersToNone def t.groups.items = subst (λ (y : TableDef). RefersToNone y t.groups.items) (sym is) (refers_none t.groups.items d schema fault) in
-        let y = creates_made later whole t t' log held def reply before now f f' m m' told stands none made.later made.on x in
+        let y = creates_made later whole t t' log held def reply before now f f' m m' told stands apart none made.later made.on made.shares x in
         let w = world_of t log held.history f m in
         let w' = world_of t' y.log' y.held'.history f' m' in
         let creates : Creates (resolved d schema) w w' reply = subst (λ (z : TableDef). Creates z w w' reply) is y.made in
@@ -159,7 +159,7 @@ table_created later whole t t' log held d def reply before now f f' m m' told st
         }
 
 -- a fault of the bank that CREATE TABLE tells
-pub created_cause : (t t' : Tier) (def : TableDef) (reply : Reply) (before now : Option Held) (f f' m m' : ℕ) → Makes before now f f' m m' t t' def reply → TellsBankFault reply → Rose f f'
+pub created_cause : (t t' : Tier) (def : TableDef) (reply : Reply) (before now : Option Held) (f f' : ℕ) (m m' : Mark) → Makes before now f f' m m' t t' def reply → TellsBankFault reply → Rose f f'
 created_cause t t' def reply before now f f' m m' made tells = elim made.made [
   | inl x ↦ by_result x.result x.answer x.cause
   | inr x ↦ absurd (no_memory (subst TellsBankFault x.4 tells))

@@ -33,11 +33,11 @@ answered : (t t' : Tier) (log : List Sealed) (h : List Entry) (d : CreateGroup) 
 answered t t' log h d reply o a is state told stands = record {
   log' = log;
   stands = stands;
-  made = λ faults moment.
-      let w = world_of t log h faults moment in
-      let w' = world_of t' log h faults moment in
+  made = λ faults mark.
+      let w = world_of t log h faults mark in
+      let w' = world_of t' log h faults mark in
       let quiet : Quiet w (group_answer (tier_state t log) (session_state o.session) d) w' reply =
-      (same_world (tier_state t' log) _ h faults moment (state ∙ sym (ap (λ (x : Answer). x.0) is)), told ∙ sym (ap (λ (x : Answer). x.1) is))
+      (same_world (tier_state t' log) _ h faults mark (state ∙ sym (ap (λ (x : Answer). x.0) is)), told ∙ sym (ap (λ (x : Answer). x.1) is))
       in
       inl (opened_step t (statement.CreateGroup d) w w' reply o quiet);
 }

@@ -36,7 +36,7 @@ use Rattle.tier_engine.specs.Refusals.{at_limit, insert_fault, key_taken, rule_i
 use Rattle.tier_engine.specs.Answers.{only, faulty, refuses}
 use Rattle.tier_engine.specs.Steps.{World, Finds, Inserts, InsertsUnless, PutsValues, Quiet, TellsBankFault, WantsMemory}
 use Rattle.tier_engine.specs.Storing.{IsPut, IsSame, Puts, Settles, SettlesTier, StaysBeside, place_named}
-use Rattle.tier_engine.specs.Standing.{InOpen, ServesPart, StandsFor, group_state, ops_of, own_in, session_in, session_state, tier_state, world_of}
+use Rattle.tier_engine.specs.Standing.{Mark, InOpen, ServesPart, StandsFor, group_state, ops_of, own_in, session_in, session_state, tier_state, world_of}
 use Rattle.tier_engine.proofs.InsertSteps.{AppliesLaw, HasPut}
 use Rattle.tier_engine.proofs.SelectSteps.{IsOpen, is_open, opened_step, refuses_quiet}
 use Rattle.tier_engine.proofs.ServingLaws.{no_refusal, no_memory}
@@ -49,18 +49,18 @@ abbrev pub Does : OneInsert → Reply → World → World → Type 0
 Does i reply w w' = InOpen w.tier.session (statement.Insert i) w w' reply ⊎ WantsMemory w w' reply
 
 -- the world where the tier stays
-same_tier : (t t' : Tier) (log : List Sealed) (h : List Entry) (f m : ℕ) → IsSame t t' → world_of t' log h f m ≡ world_of t log h f m
+same_tier : (t t' : Tier) (log : List Sealed) (h : List Entry) (f : ℕ) (m : Mark) → IsSame t t' → world_of t' log h f m ≡ world_of t log h f m
 same_tier t t' log h f m e = same_world (tier_state t' log) (tier_state t log) h f m (same_state t t' log e)
 
 -- a refusal by a tier that stays
-still_refuses : (t t' : Tier) (log : List Sealed) (h : List Entry) (f m : ℕ) (rule : Rule) (reply : Reply) → IsSame t t' → reply ≡ only (No rule) → Quiet (world_of t log h f m) (refuses (tier_state t log) rule) (world_of t' log h f m) reply
+still_refuses : (t t' : Tier) (log : List Sealed) (h : List Entry) (f : ℕ) (m : Mark) (rule : Rule) (reply : Reply) → IsSame t t' → reply ≡ only (No rule) → Quiet (world_of t log h f m) (refuses (tier_state t log) rule) (world_of t' log h f m) reply
 still_refuses t t' log h f m rule reply e told = (same_tier t t' log h f m e, told)
 
 -- A tier that stays as it was serves a refusal.
-refused_part : (before : Option Held) (f m : ℕ) (t t' : Tier) (i : OneInsert) (rule : Rule) (reply : Reply) → IsSame t t' → reply ≡ only (No rule)
+refused_part : (before : Option Held) (f : ℕ) (m : Mark) (t t' : Tier) (i : OneInsert) (rule : Rule) (reply : Reply) → IsSame t t' → reply ≡ only (No rule)
     → ((log : List Sealed) (h : List Entry) → StandsFor t log h → InOpen (session_in t.session) (statement.Insert i) (world_of t log h f m) (world_of t' log h f m) reply)
     → ServesPart before before f f m m t t' reply (λ w w'. Does i reply w w')
-refused_part before f m t t' i rule reply same told step log held e stands =
+refused_part before f m t t' i rule reply same told step log held e stands apart =
     record {
       log' = log;
       held' = held;
@@ -71,7 +71,7 @@ refused_part before f m t t' i rule reply same told step log held e stands =
     }
 
 -- the table isn't cached
-pub insert_unknown : (before : Option Held) (f m : ℕ) (t : Tier) (i : OneInsert) (reply : Reply) → IsSome t.session → place_named t.groups.items i.table ≡ None → reply ≡ only (No (unknown_table i.table))
+pub insert_unknown : (before : Option Held) (f : ℕ) (m : Mark) (t : Tier) (i : OneInsert) (reply : Reply) → IsSome t.session → place_named t.groups.items i.table ≡ None → reply ≡ only (No (unknown_table i.table))
     → ServesPart before before f f m m t t reply (λ w w'. Does i reply w w')
 insert_unknown before f m t i reply some none told =
     refused_part before f m t t i (unknown_table i.table) reply (record { known = refl; groups = refl; session = refl; unsettled = refl; next = refl }) told
@@ -82,8 +82,8 @@ insert_unknown before f m t i reply some none told =
     (subst (λ (g : Option GroupState). Inserts (session_state o.session) g i w w reply) (sym (not_found (own_in t.session) t.groups.items i.table none)) (refuses_quiet w (unknown_table i.table) reply told)))
 
 -- memory was wanting
-pub insert_memory : (before : Option Held) (f m : ℕ) (t t' : Tier) (i : OneInsert) (reply : Reply) → IsSame t t' → reply ≡ faulty code.Memory → ServesPart before before f f m m t t' reply (λ w w'. Does i reply w w')
-insert_memory before f m t t' i reply same told log held e stands =
+pub insert_memory : (before : Option Held) (f : ℕ) (m : Mark) (t t' : Tier) (i : OneInsert) (reply : Reply) → IsSame t t' → reply ≡ faulty code.Memory → ServesPart before before f f m m t t' reply (λ w w'. Does i reply w w')
+insert_memory before f m t t' i reply same told log held e stands apart =
     record {
       log' = log;
       held' = held;
@@ -94,7 +94,7 @@ insert_memory before f m t t' i reply same told log held e stands =
     }
 
 -- What is done at the place of a stored group is done to the group of the abstract tier.
-at_place : (t : Tier) (log : List Sealed) (h : List Entry) (f m : ℕ) (w' : World) (s : StandsFor t log h) (o : IsOpen t) (i : OneInsert) (place : ℕ) (reply : Reply) → place_named t.groups.items i.table ≡ Some place
+at_place : (t : Tier) (log : List Sealed) (h : List Entry) (f : ℕ) (m : Mark) (w' : World) (s : StandsFor t log h) (o : IsOpen t) (i : OneInsert) (place : ℕ) (reply : Reply) → place_named t.groups.items i.table ≡ Some place
     → ((g : Group) → slice_get t.groups.items place ≡ Some g → InsertsUnless (insert_fault g.def (own_in t.session) i.values g.rows) (session_state (record o.session { own = own_in t.session })) (group_state (own_in t.session) g) i.values g.rows (world_of t log h f m) w' reply)
     → InOpen (session_in t.session) (statement.Insert i) (world_of t log h f m) w' reply
 at_place t log h f m w' s o i place reply there step =
@@ -114,7 +114,7 @@ at_place t log h f m w' s o i place reply there step =
     )))
 
 -- the row or the statement is refused
-pub insert_refused : (before : Option Held) (f m : ℕ) (t : Tier) (i : OneInsert) (place : ℕ) (rule : Rule) (reply : Reply) → IsSome t.session → place_named t.groups.items i.table ≡ Some place
+pub insert_refused : (before : Option Held) (f : ℕ) (m : Mark) (t : Tier) (i : OneInsert) (place : ℕ) (rule : Rule) (reply : Reply) → IsSome t.session → place_named t.groups.items i.table ≡ Some place
     → ((g : Group) → slice_get t.groups.items place ≡ Some g → insert_fault g.def (own_in t.session) i.values g.rows ≡ Some rule) → reply ≡ only (No rule)
     → ServesPart before before f f m m t t reply (λ w w'. Does i reply w w')
 insert_refused before f m t i place rule reply some there broken told =
@@ -156,7 +156,7 @@ put_nothing t t' place g g' s s' there opened stays groups session same_g same_s
 }
 
 -- the key is shown
-pub insert_taken : (before : Option Held) (f m : ℕ) (t t' : Tier) (i : OneInsert) (place : ℕ) (row : List Value) (rule : Rule) (reply : Reply) → IsSome t.session → place_named t.groups.items i.table ≡ Some place
+pub insert_taken : (before : Option Held) (f : ℕ) (m : Mark) (t t' : Tier) (i : OneInsert) (place : ℕ) (row : List Value) (rule : Rule) (reply : Reply) → IsSome t.session → place_named t.groups.items i.table ≡ Some place
     → ((g : Group) → slice_get t.groups.items place ≡ Some g → insert_fault g.def (own_in t.session) i.values g.rows ≡ None) → values_of i.values ≡ Some row
     → Puts t t' place row (Err (Rattle.row_types.specs.declared.rule.Refused.TheVariants.Rule rule)) → reply ≡ only (No rule) → ServesPart before before f f m m t t' reply (λ w w'. Does i reply w w')
 insert_taken before f m t t' i place row rule reply some there sound values puts told =
@@ -202,7 +202,7 @@ fits def own literals rows row sound values = by_kinds (takes_all def.columns li
     by_kinds false e = Prim.cc
 
 -- a fault of the bank is told where the call failed
-settled_cause : (before now : Option Held) (f f' m m' : ℕ) (t t' : Tier) (asked : Asked) (reply : Reply) → Settles before now f f' m m' t t' asked reply → TellsBankFault reply → Rose f f'
+settled_cause : (before now : Option Held) (f f' : ℕ) (m m' : Mark) (t t' : Tier) (asked : Asked) (reply : Reply) → Settles before now f f' m m' t t' asked reply → TellsBankFault reply → Rose f f'
 settled_cause before now f f' m m' t t' asked reply s b = by_result s.result s.cause s.tier
   where
     by_result : (r : Result (Option (List Value)) BankError) → (IsErrOf r Failed → Rose f f') → SettlesTier t t' asked r reply → Rose f f'
@@ -229,10 +229,10 @@ has_put t t1 place g s row asked there opened stays g1 s1 groups session p = rec
 }
 
 -- the bank has answered
-pub insert_asked : AppliesLaw → (before now : Option Held) (f f' m m' : ℕ) (t t1 t' : Tier) (i : OneInsert) (place : ℕ) (row : List Value) (asked : Asked) (reply : Reply) → IsSome t.session → place_named t.groups.items i.table ≡ Some place
+pub insert_asked : AppliesLaw → (before now : Option Held) (f f' : ℕ) (m m' : Mark) (t t1 t' : Tier) (i : OneInsert) (place : ℕ) (row : List Value) (asked : Asked) (reply : Reply) → IsSome t.session → place_named t.groups.items i.table ≡ Some place
     → ((g : Group) → slice_get t.groups.items place ≡ Some g → insert_fault g.def (own_in t.session) i.values g.rows ≡ None) → values_of i.values ≡ Some row
     → Puts t t1 place row (Ok asked) → Settles before now f f' m m' t1 t' asked reply → ServesPart before now f f' m m' t t' reply (λ w w'. Does i reply w w')
-insert_asked law before now f f' m m' t t1 t' i place row asked reply some there sound values puts settles log held told stands =
+insert_asked law before now f f' m m' t t1 t' i place row asked reply some there sound values puts settles log held told stands apart =
     let o = is_open t some in
     let own = own_in t.session in
     let at = is_found own t.groups.items i.table place there in
@@ -240,7 +240,7 @@ insert_asked law before now f f' m m' t t1 t' i place row asked reply some there
     let p = puts.1 g o.session at.there o.is in
     let put : HasPut t t1 place g o.session row = has_put t t1 place g o.session row asked at.there o.is puts.0 p.0 p.1 p.2 p.3 p.4 in
     let mine : own ≡ o.session.own = ap own_in o.is in
-    let x = insert_settled law t t1 t' log held before now f f' m m' place g o.session row asked reply stands told put p.4.table p.4.key p.4.taken (fits g.def own i.values g.rows row (sound g at.there) values) settles in
+    let x = insert_settled law t t1 t' log held before now f f' m m' place g o.session row asked reply stands apart told put p.4.table p.4.key p.4.taken (fits g.def own i.values g.rows row (sound g at.there) values) settles in
     let w = world_of t log held.history f m in
     let w' = world_of t' x.log' x.held'.history f' m' in
     record {

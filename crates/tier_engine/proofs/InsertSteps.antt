@@ -31,7 +31,8 @@ use Rattle.tier_engine.specs.declared.tier.Session.{Session}
 use Rattle.tier_engine.specs.Commits.{RiseBetween, pending, applied_sealed}
 use Rattle.tier_engine.specs.Refusals.{is_joined, rule_in}
 use Rattle.tier_engine.specs.Standing.{StandsFor, Shows, ShowAll, AreApart, AreIn, HasOwnKeys, OwnKeys, IsOwnKey, committed_rows, group_state, inserts_at, is_insert, is_stored, key_set, ops_of, own_in, session_in, tier_state}
-use Rattle.tier_engine.proofs.BankSteps.{LeavesState, all_pending}
+use Rattle.tier_engine.proofs.BankSteps.{LeavesState}
+use Rattle.tier_engine.proofs.LogLaws.{all_pending}
 use Rattle.tier_engine.proofs.OpLaws.{Goes, get_inserts, goes, goes_schema, inserts_schema, inserts_whole}
 use Rattle.tier_engine.proofs.PutLaws.{with_rows, committed_put, committed_other, other_shows, put_shows, set_apart, set_maps, set_shows, set_stored}
 use Rattle.tier_engine.proofs.ShownLaws.{get_before}

@@ -1,5 +1,7 @@
 pub mod BackSteps
 pub mod BeginSteps
+pub mod ConsoleLaws
+pub mod ConsoleSteps
 pub mod CreateSteps
 pub mod GroupTurns
 pub mod BankSteps
@@ -12,9 +14,12 @@ pub mod PutLaws
 pub mod InsertServes
 pub mod InsertSteps
 pub mod OpLaws
+pub mod OthersLaws
+pub mod OthersStand
 pub mod OpenSteps
 pub mod OwnLaws
 pub mod LegalLaws
+pub mod LogLaws
 pub mod ReplyLaws
 pub mod RoundLaws
 pub mod RoundSteps

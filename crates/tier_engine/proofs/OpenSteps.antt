@@ -51,22 +51,22 @@ opens_turns t t' log h label options reply known groups unsettled next session s
     record {
       log' = log;
       stands = stands;
-      made = λ faults moment.
-          (same_world (tier_state t' log) (open_answer (tier_state t log) label options).0 h faults moment (state ∙ sym (ap (λ (a : Answer). a.0) answered)), told ∙ sym (ap (λ (a : Answer). a.1) answered));
+      made = λ faults mark.
+          (same_world (tier_state t' log) (open_answer (tier_state t log) label options).0 h faults mark (state ∙ sym (ap (λ (a : Answer). a.0) answered)), told ∙ sym (ap (λ (a : Answer). a.1) answered));
     }
 
 pub open_refused : (t : Tier) (log : List Sealed) (h : List Entry) (label : List _) (options : OpenOptions) (reply : Reply) (rule : Rule) → open_fault (session_in t.session) label options ≡ Some rule → reply ≡ only (No rule) → StandsFor t log h
     → Turns t t log h (λ w w'. Quiet w (open_answer w.tier label options) w' reply)
-open_refused t log h label options reply rule e told s = quiet_same t log h _ s (λ faults moment.
-    let w = world_of t log h faults moment in
+open_refused t log h label options reply rule e told s = quiet_same t log h _ s (λ faults mark.
+    let w = world_of t log h faults mark in
     let after : Answer = (record w.tier { session = Some (record { label = label; own = [] }) }, only (Done 0)) in
     subst (λ (o : Option Rule). Quiet w (unless w.tier o after) w reply) (sym e) (refuses_quiet w rule reply told))
 
 -- CLOSE of a session that isn't open
 pub close_refused : (t : Tier) (log : List Sealed) (h : List Entry) (label : List _) (reply : Reply) → is_some (session_of (tier_state t log) label) ≡ false → reply ≡ only (No (unknown_session label)) → StandsFor t log h
     → Turns t t log h (λ w w'. DoesRequest label asks_for.Close w w' reply)
-close_refused t log h label reply closed told s = quiet_same t log h _ s (λ faults moment.
-    let w = world_of t log h faults moment in
+close_refused t log h label reply closed told s = quiet_same t log h _ s (λ faults mark.
+    let w = world_of t log h faults mark in
     by_session w (session_of (tier_state t log) label) closed)
   where
     by_session : (w : World) (o : Option SessionState) → is_some o ≡ false → Closes label o w w reply
@@ -98,8 +98,8 @@ closes_turns t t1 t' log h label reply back known groups unsettled next session 
     record {
       log' = log;
       stands = stands;
-      made = λ faults moment.
-          by_session (world_of t log h faults moment) (world_of t' log h faults moment) (session_of (tier_state t log) label) opened (same_world (tier_state t' log) (close_answer (tier_state t log)).0 h faults moment state, told);
+      made = λ faults mark.
+          by_session (world_of t log h faults mark) (world_of t' log h faults mark) (session_of (tier_state t log) label) opened (same_world (tier_state t' log) (close_answer (tier_state t log)).0 h faults mark state, told);
     }
   where
     by_session : (w w' : World) (o : Option SessionState) → is_some o ≡ true → Quiet w (close_answer w.tier) w' reply → Closes label o w w' reply
@@ -120,6 +120,6 @@ rollback_turns t t' log h reply some back told s =
     record {
       log' = log;
       stands = stands;
-      made = λ faults moment.
-          opened_step t statement.Rollback (world_of t log h faults moment) (world_of t' log h faults moment) reply o (same_world (tier_state t' log) (rollback_answer (tier_state t log) (session_state o.session)).0 h faults moment state, told);
+      made = λ faults mark.
+          opened_step t statement.Rollback (world_of t log h faults mark) (world_of t' log h faults mark) reply o (same_world (tier_state t' log) (rollback_answer (tier_state t log) (session_state o.session)).0 h faults mark state, told);
     }

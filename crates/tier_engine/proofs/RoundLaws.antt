@@ -1,27 +1,68 @@
 -- Laws of a round of propagation.
-use Rattle.std.proofs.Common.{◌≡◌, ℕ, zero, suc, ◌+◌, ◌≤◌, List, [], ◌∷◌, ◌++◌, Bool, true, false, ◌||◌, not, cond, map, take, drop, length, refl, sym, ◌∙◌, ap, arith, append_assoc, length-drop}
+use Rattle.std.proofs.Common.{◌≡◌, ℕ, zero, suc, ◌+◌, ◌≤◌, List, [], ◌∷◌, ◌++◌, Bool, true, false, ◌||◌, not, cond, map, take, drop, length, refl, sym, ◌∙◌, ap, subst, arith, append_assoc, length-drop}
 use Rattle.std.specs.List.{filter}
 use Rattle.std.specs.Prelude.{Result}
 use Rattle.std.specs.Result.{IfOk, OnOk}
-use Rattle.std.proofs.lemmas.List.{map-append, take-append-drop, drop-drop}
+use Rattle.std.proofs.lemmas.List.{append-nil, map-append, take-append-drop, drop-drop}
 use Rattle.std.proofs.lemmas.List.Elements.{filter-append}
 use Rattle.std.proofs.Math.Seq.{take-add}
+use Rattle.tier_base.specs.declared.number.TableId.{TableId}
 use Rattle.table_state.specs.declared.history.Entry.{Entry}
+use Rattle.table_state.specs.declared.history.Entry.TheVariants.{Definition, Foreign, Own}
 use Rattle.table_state.specs.declared.history.Sealed.{Sealed}
 use Rattle.table_state.specs.Histories.{has_ticket, entry_of}
-use Rattle.tier_engine.specs.Commits.{RiseBetween, pending, own_entries}
-use Rattle.tier_engine.specs.Rounds.{Round}
+use Rattle.outside.specs.Others.{AreOthers}
+use Rattle.tier_engine.specs.Commits.{RiseBetween, pending, own_entries, is_own}
+use Rattle.tier_engine.specs.Rounds.{Mixes, Round}
 use Rattle.tier_engine.proofs.CommitLaws.{has_ticket-append, nat_eq_same, or_true}
 use Rattle.tier_engine.proofs.LegalLaws.{AllStand, all_stand}
-use Rattle.tier_engine.proofs.OwnLaws.{front_tickets, front_pending, own_behind}
+use Rattle.tier_engine.proofs.OwnLaws.{front_tickets, front_pending}
 
--- a history with so many of the log's transactions behind it
-abbrev pub grown : List Entry → ℕ → List Sealed → ℕ → List Entry
-grown front began log n = front ++ map entry_of (take n (drop began log))
+-- the own entries of a mixed tail
+mixes_own : (shared : List TableId) (own : List Sealed) (front tail : List Entry) → Mixes shared own front tail → own_entries tail ≡ map entry_of own
+mixes_own shared own front [] m = ap (map entry_of) (sym m)
+mixes_own shared own front (Definition def ∷ tail) m = absurd m
+mixes_own shared own front (Foreign ops ∷ tail) m = mixes_own shared own (front ++ Foreign ops ∷ []) tail m.1
+mixes_own shared own front (Own ticket ops ∷ tail) (first, rest, parts, is, more) =
+    ap (λ l. Own ticket ops ∷ l) (mixes_own shared rest (front ++ Own ticket ops ∷ []) tail more) ∙ ap (λ e. e ∷ map entry_of rest) is ∙ sym (ap (map entry_of) parts)
 
-pub grown_owns : (front : List Entry) (began n : ℕ) (log : List Sealed) → own_entries front ≡ map entry_of (take began log) → own_entries (grown front began log n) ≡ map entry_of (take (began + n) log)
-grown_owns front began n log owns =
-    own_behind front (take n (drop began log))
+others_mix : (shared : List TableId) (front more : List Entry) → AreOthers shared front more → Mixes shared [] front more
+others_mix shared front [] o = refl
+others_mix shared front (Definition def ∷ more) o = o
+others_mix shared front (Own ticket ops ∷ more) o = absurd o
+others_mix shared front (Foreign ops ∷ more) o = ((o.0, o.1, tt), others_mix shared (front ++ Foreign ops ∷ []) more o.2)
+
+-- transactions of others come behind
+pub mixes_others : (shared : List TableId) (own : List Sealed) (front tail more : List Entry) → Mixes shared own front tail → AreOthers shared (front ++ tail) more → Mixes shared own front (tail ++ more)
+mixes_others shared own front [] more m o =
+    subst (λ (l : List Sealed). Mixes shared l front more) (sym m) (others_mix shared front more (subst (λ (h : List Entry). AreOthers shared h more) (append-nil front) o))
+mixes_others shared own front (Definition def ∷ tail) more m o = m
+mixes_others shared own front (Foreign ops ∷ tail) more m o = (
+  m.0,
+  mixes_others shared own (front ++ Foreign ops ∷ []) tail more m.1 (subst (λ (h : List Entry). AreOthers shared h more) (sym (append_assoc front (Foreign ops ∷ []) tail)) o),
+)
+mixes_others shared own front (Own ticket ops ∷ tail) more (first, rest, parts, is, m) o = (
+  first,
+  rest,
+  parts,
+  is,
+  mixes_others shared rest (front ++ Own ticket ops ∷ []) tail more m (subst (λ (h : List Entry). AreOthers shared h more) (sym (append_assoc front (Own ticket ops ∷ []) tail)) o),
+)
+
+-- the next of the own entries comes behind
+pub mixes_next : (shared : List TableId) (own : List Sealed) (front tail : List Entry) (s : Sealed) → Mixes shared own front tail → Mixes shared (own ++ s ∷ []) front (tail ++ entry_of s ∷ [])
+mixes_next shared own front [] s m = (s, [], ap (λ l. l ++ s ∷ []) m, refl, refl)
+mixes_next shared own front (Definition def ∷ tail) s m = m
+mixes_next shared own front (Foreign ops ∷ tail) s m = (m.0, mixes_next shared own (front ++ Foreign ops ∷ []) tail s m.1)
+mixes_next shared own front (Own ticket ops ∷ tail) s (first, rest, parts, is, m) =
+    (first, rest ++ s ∷ [], ap (λ l. l ++ s ∷ []) parts, is, mixes_next shared rest (front ++ Own ticket ops ∷ []) tail s m)
+
+-- the own entries of a history with a mixed tail
+pub tail_owns : (shared : List TableId) (front tail : List Entry) (began n : ℕ) (log : List Sealed) → own_entries front ≡ map entry_of (take began log) → Mixes shared (take n (drop began log)) front tail
+    → own_entries (front ++ tail) ≡ map entry_of (take (began + n) log)
+tail_owns shared front tail began n log owns m =
+    filter-append is_own front tail
+    ∙ ap (λ l. own_entries front ++ l) (mixes_own shared (take n (drop began log)) front tail m)
     ∙ ap (λ l. l ++ map entry_of (take n (drop began log))) owns
     ∙ sym (map-append entry_of (take began log) (take n (drop began log)))
     ∙ ap (map entry_of) (sym (take-add began n log))
@@ -34,13 +75,6 @@ drop_next n log s rest e = sym (drop-drop 1 n log) ∙ ap (drop 1) e
 
 pub next_within : (n : ℕ) (log : List Sealed) (s : Sealed) (rest : List Sealed) → drop n log ≡ s ∷ rest → n + 1 ≤ length log
 next_within n log s rest e = let l : length (drop n log) ≡ suc (length rest) = ap length e in Prim.omega (arith, length-drop n log)
-
--- the history with the next one of the log
-pub front_grows : (front : List Entry) (began n : ℕ) (log : List Sealed) (s : Sealed) (rest : List Sealed) → drop (began + n) log ≡ s ∷ rest → grown front began log n ++ entry_of s ∷ [] ≡ grown front began log (n + 1)
-front_grows front began n log s rest e =
-    let here : drop n (drop began log) ≡ s ∷ rest = drop-drop n began log ∙ e in
-    append_assoc front (map entry_of (take n (drop began log))) (entry_of s ∷ [])
-    ∙ ap (λ l. front ++ l) (sym (map-append entry_of (take n (drop began log)) (s ∷ [])) ∙ ap (map entry_of) (sym (take_next n (drop began log) s rest here)))
 
 filter_first : (p : Sealed → Bool) (xs : List Sealed) (y : Sealed) (ys : List Sealed) → filter p xs ≡ y ∷ ys → p y ≡ true
 filter_first p [] y ys e = Prim.cc
@@ -104,15 +138,17 @@ receipts_settled h r k n log owns below =
     ∙ sym parted ∙ front_settled h (r + k) n log owns below
 
 -- a round from this history on
-pub makes_round : {E : Type 0} (h : List Entry) (low r i j k : ℕ) (log : List Sealed) (high : ℕ) (new : List Sealed) (result : Result ℕ E) → own_entries h ≡ map entry_of (take i log) → RiseBetween low log high
-    → r ≤ i → i + j ≤ (r + k) + 1 → r + k ≤ i + j → new ≡ drop (r + k) log → OnOk result (new ≡ []) → IfOk result (λ n. n ≡ length (drop r log))
-    → Round (drop r log) h new (grown h i log j) result
-makes_round h low r i j k log high new result owns rise below most least rest all told = record {
+pub makes_round : {E : Type 0} (shared : List TableId) (h tail : List Entry) (low r i j k : ℕ) (log : List Sealed) (high : ℕ) (new : List Sealed) (result : Result ℕ E) → own_entries h ≡ map entry_of (take i log) → RiseBetween low log high
+    → Mixes shared (take j (drop i log)) h tail → r ≤ i → i + j ≤ (r + k) + 1 → r + k ≤ i + j → new ≡ drop (r + k) log → OnOk result (new ≡ []) → IfOk result (λ n. n ≡ length (drop r log))
+    → Round shared (drop r log) h new (h ++ tail) result
+makes_round shared h tail low r i j k log high new result owns rise mixes below most least rest all told = record {
   receipts = k;
   entries = j;
   rest = rest ∙ sym (drop-drop k r log);
-  came = ap (λ l. h ++ map entry_of (take j l)) (sym (waiting_rest h low r i log high owns rise below));
-  settled = receipts_settled (grown h i log j) r k (i + j) log (grown_owns h i j log owns) least;
+  tail = tail;
+  came = refl;
+  mixes = subst (λ (l : List Sealed). Mixes shared (take j l) h tail) (sym (waiting_rest h low r i log high owns rise below)) mixes;
+  settled = receipts_settled (h ++ tail) r k (i + j) log (tail_owns shared h tail i j log owns mixes) least;
   at_most = let a : r ≤ i = below in let b : i + j ≤ (r + k) + 1 = most in Prim.omega arith;
   all = all;
   told = told;

@@ -19,7 +19,7 @@ use Rattle.tier_engine.specs.Refusals.{unknown_table}
 use Rattle.tier_engine.specs.Answers.{Answer, only, select_answer, refuses}
 use Rattle.tier_engine.specs.Steps.{World, Quiet, InSession, Selects, WantsMemory}
 use Rattle.tier_engine.specs.Storing.{place_named}
-use Rattle.tier_engine.specs.Standing.{StandsFor, InOpen, Turns, group_state, own_in, session_state, session_in, world_of}
+use Rattle.tier_engine.specs.Standing.{Mark, StandsFor, InOpen, Turns, group_state, own_in, session_state, session_in, world_of}
 use Rattle.tier_engine.proofs.ShownLaws.{shows_stored}
 use Rattle.tier_engine.proofs.StandingLaws.{are_inserts, is_found, not_found, sees_top, shows_at}
 
@@ -40,7 +40,7 @@ pub opened_step : (t : Tier) (st : Stmt) (w w' : World) (reply : Reply) (o : IsO
 opened_step t st w w' reply o p = subst (λ (x : Option Session). InOpen (session_in x) st w w' reply) (sym o.is) p
 
 -- nothing but the reply
-pub quiet_same : (t : Tier) (log : List Sealed) (h : List Entry) (P : World → World → Type 0) → StandsFor t log h → ((faults moment : _) → P (world_of t log h faults moment) (world_of t log h faults moment)) → Turns t t log h P
+pub quiet_same : (t : Tier) (log : List Sealed) (h : List Entry) (P : World → World → Type 0) → StandsFor t log h → ((faults : _) (mark : Mark) → P (world_of t log h faults mark) (world_of t log h faults mark)) → Turns t t log h P
 quiet_same t log h P s made = record { log' = log; stands = s; made = made }
 
 pub refuses_quiet : (w : World) (rule : Rule) (reply : Reply) → reply ≡ only (No rule) → Quiet w (refuses w.tier rule) w reply
@@ -51,8 +51,8 @@ pub select_unknown : (t : Tier) (log : List Sealed) (h : List Entry) (i : OneSel
     → Turns t t log h (λ w w'. InOpen w.tier.session (statement.Select i) w w' reply ⊎ WantsMemory w w' reply)
 select_unknown t log h i reply some none told s =
     let o = is_open t some in
-    quiet_same t log h _ s (λ faults moment.
-    let w = world_of t log h faults moment in
+    quiet_same t log h _ s (λ faults mark.
+    let w = world_of t log h faults mark in
     inl (opened_step t (statement.Select i) w w reply o
     (subst (λ (g : Option GroupState). Selects (session_state o.session) g i w w reply) (sym (not_found (own_in t.session) t.groups.items i.table none)) (refuses_quiet w (unknown_table i.table) reply told))))
 
@@ -68,8 +68,8 @@ select_rows_step t log h i reply place rows some there are answer s =
     let x = shows_at s.top _ own t.groups.items place g s.shows f.there in
     let stored : seen_rows (group_state own g) own s.top ≡ rows = shows_stored own g s.top (are_inserts t.groups.items own s.writing) x.writes x.rows ∙ sym (are g f.there) in
     let mine : own ≡ o.session.own = ap own_in o.is in
-    quiet_same t log h _ s (λ faults moment.
-    let w = world_of t log h faults moment in
+    quiet_same t log h _ s (λ faults mark.
+    let w = world_of t log h faults mark in
     let a : select_answer w.tier (seen_rows (group_state own g) own s.top) ≡ (w.tier, reply) = ap (select_answer w.tier) stored ∙ answer w.tier in
     let quiet : Quiet w (select_answer w.tier (seen_rows (group_state own g) own s.top)) w reply = (ap (λ (y : Answer). let z : World = record w { tier = y.0 } in z) (sym a), ap (λ (y : Answer). y.1) (sym a)) in
     inl (opened_step t (statement.Select i) w w reply o

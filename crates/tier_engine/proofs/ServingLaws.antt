@@ -1,8 +1,9 @@
 -- Parts of a request line, one behind the other.
-use Rattle.std.proofs.Common.{◌≡◌, ℕ, suc, ◌≤◌, ◌⊎◌, List, [], ◌∷◌, map, Option, Some, None, Result, Bool, true, false, ◌&&◌, not, cond, is_some, is_none, refl, sym, ◌∙◌, ap, subst, inl, inr, arith}
+use Rattle.std.proofs.Common.{◌≡◌, ℕ, suc, ◌≤◌, ◌⊎◌, List, [], ◌∷◌, map, Option, Some, None, Result, Ok, Err, Bool, true, false, ◌&&◌, not, cond, is_some, is_none, refl, sym, ◌∙◌, ap, subst, inl, inr, arith}
 use Rattle.std.specs.Bool.{MatchBool}
 use Rattle.std.specs.Option.{option_map, option_and_then, IsSome}
 use Rattle.tier_base.specs.declared.code.Code.TheVariants as code
+use Rattle.tier_base.specs.declared.number.TableId.{TableId}
 use Rattle.table_state.specs.declared.definition.TableDef.{TableDef}
 use Rattle.table_state.specs.declared.history.Entry.{Entry}
 use Rattle.table_state.specs.declared.history.Sealed.{Sealed}
@@ -16,7 +17,7 @@ use Rattle.tier_engine.specs.declared.reply.Reply.{Reply}
 use Rattle.tier_engine.specs.declared.tier.Tier.{Tier}
 use Rattle.tier_engine.specs.declared.tier.Group.{Group}
 use Rattle.tier_engine.specs.declared.tier.Session.{Session}
-use Rattle.tier_engine.specs.TierStates.{TierState, SessionState, session_of, group_of_table, is_named}
+use Rattle.tier_engine.specs.TierStates.{GroupState, TierState, SessionState, session_of, group_of_table, is_named}
 use Rattle.row_types.specs.declared.rule.Rule.{Rule}
 use Rattle.sql_subset.specs.declared.stmt.Load.{Load}
 use Rattle.table_state.specs.declared.operation.Op.{Op}
@@ -25,9 +26,9 @@ use Rattle.tier_engine.specs.Refusals.{not_yet, too_long, unknown_session}
 use Rattle.tier_engine.specs.Answers.{only, faulty, refuses}
 use Rattle.sql_subset.specs.declared.stmt.Call.{Call}
 use Rattle.sql_subset.specs.declared.stmt.Stmt.TheVariants as statement
-use Rattle.tier_engine.specs.Steps.{World, Quiet, Calls, call_fault, is_long, Drains, Heeds, Asked, Does, ForSession, Parts, TellsBankFault, WantsMemory, asks, stopped}
+use Rattle.tier_engine.specs.Steps.{World, AreUnshared, IsUnshared, told, Quiet, Calls, call_fault, is_long, Drains, Heeds, Asked, Does, ForSession, Parts, TellsBankFault, WantsMemory, asks, stopped}
 use Rattle.tier_engine.specs.Storing.{place_named}
-use Rattle.tier_engine.specs.Standing.{StandsFor, InOpen, Made, Turns, Serves, ServesPart, AskServes, AsksWhere, tier_state, group_state, session_in, world_of}
+use Rattle.tier_engine.specs.Standing.{IsApart, Mark, StandsFor, InOpen, Made, Turns, Serves, ServesPart, AskServes, AsksWhere, tier_state, group_state, session_in, world_of}
 
 -- a refusal and want of memory tell no fault of the bank
 pub no_refusal : (rule : Rule) → TellsBankFault (only (No rule)) → ⊥
@@ -37,52 +38,52 @@ pub no_memory : TellsBankFault (faulty code.Memory) → ⊥
 no_memory x = Prim.cc (x.last, x.fault)
 
 -- A step without a call of the site.
-pub quiet_serves : (before : Option Held) (faults moment : ℕ) (t t' : Tier) (reply : Reply) (P : World → World → Type 0) → ((log : List Sealed) (h : List Entry) → StandsFor t log h → Turns t t' log h P)
-    → ((w w' : World) → P w w' → TellsBankFault reply → ⊥) → ServesPart before before faults faults moment moment t t' reply P
-quiet_serves before faults moment t t' reply P turns clean log held told stands =
+pub quiet_serves : (before : Option Held) (faults : ℕ) (mark : Mark) (t t' : Tier) (reply : Reply) (P : World → World → Type 0) → ((log : List Sealed) (h : List Entry) → StandsFor t log h → Turns t t' log h P)
+    → ((w w' : World) → P w w' → TellsBankFault reply → ⊥) → ServesPart before before faults faults mark mark t t' reply P
+quiet_serves before faults mark t t' reply P turns clean log held told stands apart =
     let x = turns log held.history stands in
-    record { log' = x.log'; held' = held; tells = told; slots = refl; stands = x.stands; made = (x.made faults moment, λ b. absurd (clean _ _ (x.made faults moment) b)) }
+    record { log' = x.log'; held' = held; tells = told; slots = refl; stands = x.stands; made = (x.made faults mark, λ b. absurd (clean _ _ (x.made faults mark) b)) }
 
 -- Such a statement.
-pub quiet_statement : (before : Option Held) (faults moment : ℕ) (t t' : Tier) (reply : Reply) (st st' : Stmt) → st ≡ st'
+pub quiet_statement : (before : Option Held) (faults : ℕ) (mark : Mark) (t t' : Tier) (reply : Reply) (st st' : Stmt) → st ≡ st'
     → ((log : List Sealed) (h : List Entry) → StandsFor t log h → Turns t t' log h (λ w w'. InOpen w.tier.session st' w w' reply ⊎ WantsMemory w w' reply))
     → ((w w' : World) → InOpen w.tier.session st' w w' reply ⊎ WantsMemory w w' reply → TellsBankFault reply → ⊥)
-    → ServesPart before before faults faults moment moment t t' reply (λ w w'. InOpen w.tier.session st w w' reply ⊎ WantsMemory w w' reply)
-quiet_statement before faults moment t t' reply st st' e turns clean =
-    subst (λ (s : Stmt). ServesPart before before faults faults moment moment t t' reply (λ w w'. InOpen w.tier.session s w w' reply ⊎ WantsMemory w w' reply)) (sym e)
-    (quiet_serves before faults moment t t' reply (λ w w'. InOpen w.tier.session st' w w' reply ⊎ WantsMemory w w' reply) turns clean)
+    → ServesPart before before faults faults mark mark t t' reply (λ w w'. InOpen w.tier.session st w w' reply ⊎ WantsMemory w w' reply)
+quiet_statement before faults mark t t' reply st st' e turns clean =
+    subst (λ (s : Stmt). ServesPart before before faults faults mark mark t t' reply (λ w w'. InOpen w.tier.session s w w' reply ⊎ WantsMemory w w' reply)) (sym e)
+    (quiet_serves before faults mark t t' reply (λ w w'. InOpen w.tier.session st' w w' reply ⊎ WantsMemory w w' reply) turns clean)
 
 -- The same statement.
-pub statement_as : (before now : Option Held) (f f' m m' : ℕ) (t t' : Tier) (reply : Reply) (st st' : Stmt) → st ≡ st'
+pub statement_as : (before now : Option Held) (f f' : ℕ) (m m' : Mark) (t t' : Tier) (reply : Reply) (st st' : Stmt) → st ≡ st'
     → ServesPart before now f f' m m' t t' reply (λ w w'. InOpen w.tier.session st' w w' reply ⊎ WantsMemory w w' reply)
     → ServesPart before now f f' m m' t t' reply (λ w w'. InOpen w.tier.session st w w' reply ⊎ WantsMemory w w' reply)
 statement_as before now f f' m m' t t' reply st st' e part =
     subst (λ (s : Stmt). ServesPart before now f f' m m' t t' reply (λ w w'. InOpen w.tier.session s w w' reply ⊎ WantsMemory w w' reply)) (sym e) part
 
 -- Nothing is done.
-pub idle_serves : (before : Option Held) (faults moment : ℕ) (t : Tier) (reply : Reply) (P : World → World → Type 0) → ((w : World) → P w w) → (TellsBankFault reply → ⊥)
-    → ServesPart before before faults faults moment moment t t reply P
-idle_serves before faults moment t reply P p clean log held told stands =
-    record { log' = log; held' = held; tells = told; slots = refl; stands = stands; made = (p (world_of t log held.history faults moment), λ b. absurd (clean b)) }
+pub idle_serves : (before : Option Held) (faults : ℕ) (mark : Mark) (t : Tier) (reply : Reply) (P : World → World → Type 0) → ((w : World) → P w w) → (TellsBankFault reply → ⊥)
+    → ServesPart before before faults faults mark mark t t reply P
+idle_serves before faults mark t reply P p clean log held told stands apart =
+    record { log' = log; held' = held; tells = told; slots = refl; stands = stands; made = (p (world_of t log held.history faults mark), λ b. absurd (clean b)) }
 
 -- A part with a weaker relation.
-pub part_as : (before now : Option Held) (f f' m m' : ℕ) (t t' : Tier) (reply : Reply) (P Q : World → World → Type 0)
+pub part_as : (before now : Option Held) (f f' : ℕ) (m m' : Mark) (t t' : Tier) (reply : Reply) (P Q : World → World → Type 0)
     → ((log : List Sealed) (h : List Entry) (w' : World) → P (world_of t log h f m) w' → Q (world_of t log h f m) w')
     → ServesPart before now f f' m m' t t' reply P → ServesPart before now f f' m m' t t' reply Q
-part_as before now f f' m m' t t' reply P Q go part log held told stands =
-    let x = part log held told stands in
+part_as before now f f' m m' t t' reply P Q go part log held told stands apart =
+    let x = part log held told stands apart in
     record { log' = x.log'; held' = x.held'; tells = x.tells; slots = x.slots; stands = x.stands; made = (go log held.history _ x.made.0, x.made.1) }
 
 -- A step of its own contract, with what causes its fault.
-pub caused_serves : (before now : Option Held) (f f' m m' : ℕ) (t t' : Tier) (reply : Reply) (P : World → World → Type 0)
-    → ((log : List Sealed) (held : Held) → before ≡ Some held → StandsFor t log held.history → Made now f f' m m' t t' log held P)
+pub caused_serves : (before now : Option Held) (f f' : ℕ) (m m' : Mark) (t t' : Tier) (reply : Reply) (P : World → World → Type 0)
+    → ((log : List Sealed) (held : Held) → before ≡ Some held → StandsFor t log held.history → IsApart t log m.shared → Made now f f' m m' t t' log held P)
     → (TellsBankFault reply → Rose f f') → ServesPart before now f f' m m' t t' reply P
-caused_serves before now f f' m m' t t' reply P made cause log held told stands =
-    let x = made log held told stands in
+caused_serves before now f f' m m' t t' reply P made cause log held told stands apart =
+    let x = made log held told stands apart in
     record { log' = x.log'; held' = x.held'; tells = x.tells; slots = x.slots; stands = x.stands; made = (x.made, cause) }
 
 -- The question was asked.
-pub was_asked : (now : Option Held) (f f' m m' : ℕ) (t t' : Tier) (log : List Sealed) (held : Held) (b : Bool) (stop : Option Reply) → b ≡ true
+pub was_asked : (now : Option Held) (f f' : ℕ) (m m' : Mark) (t t' : Tier) (log : List Sealed) (held : Held) (b : Bool) (stop : Option Reply) → b ≡ true
     → Made now f f' m m' t t' log held (λ w w'. (answer : Result (List TableDef) BankError) × Asked answer w w' × (stop ≡ stopped answer))
     → Made now f f' m m' t t' log held (AsksWhere b stop)
 was_asked now f f' m m' t t' log held b stop e x = record {
@@ -95,7 +96,7 @@ was_asked now f f' m m' t t' log held b stop e x = record {
 }
 
 -- The line asks nothing.
-pub plain_part : (line : Line) (before now : Option Held) (f f' m m' : ℕ) (t t' : Tier) (reply : Reply) → ((x : TierState) → asks x line ≡ false)
+pub plain_part : (line : Line) (before now : Option Held) (f f' : ℕ) (m m' : Mark) (t t' : Tier) (reply : Reply) → ((x : TierState) → asks x line ≡ false)
     → ServesPart before now f f' m m' t t' reply (λ w w'. Does line w w' reply ⊎ WantsMemory w w' reply)
     → ServesPart before now f f' m m' t t' reply (λ w w'. Parts line w w' reply)
 plain_part line before now f f' m m' t t' reply none part =
@@ -110,11 +111,11 @@ plain_part line before now f f' m m' t t' reply none part =
     }) part
 
 -- The question failed, and the line ends with its fault.
-pub stopped_part : (line : Line) (before now : Option Held) (f f' m m' : ℕ) (t t' : Tier) (b : Bool) (fault : Reply)
+pub stopped_part : (line : Line) (before now : Option Held) (f f' : ℕ) (m m' : Mark) (t t' : Tier) (b : Bool) (fault : Reply)
     → ((log : List Sealed) → b ≡ asks (tier_state t log) line) → AskServes before now f f' m m' t t' b (Some fault) → (TellsBankFault fault → Rose f f')
     → ServesPart before now f f' m m' t t' fault (λ w w'. Parts line w w' fault)
-stopped_part line before now f f' m m' t t' b fault same ask cause log held told stands =
-    let x = ask log held told stands in
+stopped_part line before now f f' m m' t t' b fault same ask cause log held told stands apart =
+    let x = ask log held told stands apart in
     let w = world_of t log held.history f m in
     let w' = world_of t' x.log' x.held'.history f' m' in
     record {
@@ -129,16 +130,27 @@ stopped_part line before now f f' m m' t t' b fault same ask cause log held told
 rose_later : (a b c : ℕ) → a ≤ b → Rose b c → Rose a c
 rose_later a b c p q = Prim.omega (arith, p, q)
 
+told_groups : (result : Result (List TableDef) BankError) (t : TierState) → (told result t).groups ≡ t.groups
+told_groups (Ok schema) t = refl
+told_groups (Err e) t = refl
+
+-- the question changes no group
+asked_apart : (b : Bool) (stop : Option Reply) (w w1 : World) → AsksWhere b stop w w1 → IsUnshared w → IsUnshared w1
+asked_apart true stop w w1 (answer, asked, is) apart =
+    let groups : w1.tier.groups ≡ w.tier.groups = ap (λ (t : TierState). t.groups) asked.tier ∙ told_groups answer w.tier in
+    subst (λ (gs : List GroupState). AreUnshared w1.shared gs) (sym groups) (subst (λ (l : List TableId). AreUnshared l w.tier.groups) (sym asked.on.shared) apart)
+asked_apart false stop w w1 same apart = subst IsUnshared (sym same.0) apart
+
 -- The question was answered, or not asked, and the statement follows.
-pub through_part : (line : Line) (before between after : Option Held) (f f1 f2 m m1 m2 : ℕ) (t mid t' : Tier) (b : Bool) (reply : Reply)
+pub through_part : (line : Line) (before between after : Option Held) (f f1 f2 : ℕ) (m m1 m2 : Mark) (t mid t' : Tier) (b : Bool) (reply : Reply)
     → ((log : List Sealed) → b ≡ asks (tier_state t log) line) → AskServes before between f f1 m m1 t mid b None → f ≤ f1
     → ServesPart between after f1 f2 m1 m2 mid t' reply (λ w w'. Does line w w' reply ⊎ WantsMemory w w' reply)
     → ServesPart before after f f2 m m2 t t' reply (λ w w'. Parts line w w' reply)
-through_part line before between after f f1 f2 m m1 m2 t mid t' b reply same ask later part log held told stands =
-    let x = ask log held told stands in
-    let y = part x.log' x.held' x.tells x.stands in
+through_part line before between after f f1 f2 m m1 m2 t mid t' b reply same ask later part log held told stands apart =
+    let x = ask log held told stands apart in
     let w = world_of t log held.history f m in
     let w1 = world_of mid x.log' x.held'.history f1 m1 in
+    let y = part x.log' x.held' x.tells x.stands (asked_apart b None w w1 x.made apart) in
     record {
       log' = y.log';
       held' = y.held';
@@ -200,23 +212,23 @@ pub and_all : (a b c d : Bool) → a ≡ true → b ≡ true → c ≡ d → c �
 and_all a b c d p q r = r ∙ sym (ap (λ x. (x && b) && d) p ∙ ap (λ x. x && d) q)
 
 -- A line that asks nothing, of a step without a call.
-pub plain_quiet : (line : Line) (before : Option Held) (faults moment : ℕ) (t t' : Tier) (reply : Reply) → ((x : TierState) → asks x line ≡ false)
+pub plain_quiet : (line : Line) (before : Option Held) (faults : ℕ) (mark : Mark) (t t' : Tier) (reply : Reply) → ((x : TierState) → asks x line ≡ false)
     → ((log : List Sealed) (h : List Entry) → StandsFor t log h → Turns t t' log h (λ w w'. Does line w w' reply)) → ((w w' : World) → Does line w w' reply → TellsBankFault reply → ⊥)
-    → ServesPart before before faults faults moment moment t t' reply (λ w w'. Parts line w w' reply)
-plain_quiet line before faults moment t t' reply none turns clean =
-    plain_part line before before faults faults moment moment t t' reply none
-    (part_as before before faults faults moment moment t t' reply (λ w w'. Does line w w' reply) (λ w w'. Does line w w' reply ⊎ WantsMemory w w' reply) (λ log h w' p. inl p)
-    (quiet_serves before faults moment t t' reply (λ w w'. Does line w w' reply) turns clean))
+    → ServesPart before before faults faults mark mark t t' reply (λ w w'. Parts line w w' reply)
+plain_quiet line before faults mark t t' reply none turns clean =
+    plain_part line before before faults faults mark mark t t' reply none
+    (part_as before before faults faults mark mark t t' reply (λ w w'. Does line w w' reply) (λ w w'. Does line w w' reply ⊎ WantsMemory w w' reply) (λ log h w' p. inl p)
+    (quiet_serves before faults mark t t' reply (λ w w'. Does line w w' reply) turns clean))
 
 -- The same line.
-pub parts_as : (before now : Option Held) (f f' m m' : ℕ) (t t' : Tier) (reply : Reply) (line line' : Line) → line ≡ line'
+pub parts_as : (before now : Option Held) (f f' : ℕ) (m m' : Mark) (t t' : Tier) (reply : Reply) (line line' : Line) → line ≡ line'
     → ServesPart before now f f' m m' t t' reply (λ w w'. Parts line' w w' reply) → ServesPart before now f f' m m' t t' reply (λ w w'. Parts line w w' reply)
 parts_as before now f f' m m' t t' reply line line' e part =
     subst (λ (l : Line). ServesPart before now f f' m m' t t' reply (λ w w'. Parts l w w' reply)) (sym e) part
 
 -- ttDrain of the open session.
-pub drain_part : (before now : Option Held) (f f' m m' : ℕ) (t t' : Tier) (reply : Reply) (call : Call) → IsSome t.session → call_fault call.procedure call.arguments ≡ None
-    → ((log : List Sealed) (held : Held) → before ≡ Some held → StandsFor t log held.history → Made now f f' m m' t t' log held (λ w w'. Drains w w' reply))
+pub drain_part : (before now : Option Held) (f f' : ℕ) (m m' : Mark) (t t' : Tier) (reply : Reply) (call : Call) → IsSome t.session → call_fault call.procedure call.arguments ≡ None
+    → ((log : List Sealed) (held : Held) → before ≡ Some held → StandsFor t log held.history → IsApart t log m.shared → Made now f f' m m' t t' log held (λ w w'. Drains w w' reply))
     → (TellsBankFault reply → Rose f f')
     → ServesPart before now f f' m m' t t' reply (λ w w'. InOpen w.tier.session (statement.Call call) w w' reply ⊎ WantsMemory w w' reply)
 drain_part before now f f' m m' t t' reply call some is made cause =
@@ -229,9 +241,9 @@ drain_part before now f f' m m' t t' reply call some is made cause =
     by_session w w' (Some s) p d = subst (λ o. Calls o w w' reply) (sym is) d
 
 -- a call that is refused
-pub call_refused : (before : Option Held) (f m : ℕ) (t : Tier) (reply : Reply) (call : Call) (rule : Rule) → IsSome t.session → call_fault call.procedure call.arguments ≡ Some rule → reply ≡ only (No rule)
+pub call_refused : (before : Option Held) (f : ℕ) (m : Mark) (t : Tier) (reply : Reply) (call : Call) (rule : Rule) → IsSome t.session → call_fault call.procedure call.arguments ≡ Some rule → reply ≡ only (No rule)
     → ServesPart before before f f m m t t reply (λ w w'. InOpen w.tier.session (statement.Call call) w w' reply ⊎ WantsMemory w w' reply)
-call_refused before f m t reply call rule some is e log held told stands =
+call_refused before f m t reply call rule some is e log held told stands apart =
     let w = world_of t log held.history f m in
     record {
       log' = log;
@@ -247,9 +259,9 @@ call_refused before f m t reply call rule some is e log held told stands =
     by_session w (Some s) p = subst (λ o. Calls o w w reply) (sym is) (refl, e)
 
 -- a statement of the open session that isn't there yet
-pub load_part : (before : Option Held) (f m : ℕ) (t : Tier) (reply : Reply) (load : Load) → IsSome t.session → reply ≡ only (No not_yet)
+pub load_part : (before : Option Held) (f : ℕ) (m : Mark) (t : Tier) (reply : Reply) (load : Load) → IsSome t.session → reply ≡ only (No not_yet)
     → ServesPart before before f f m m t t reply (λ w w'. InOpen w.tier.session (statement.Load load) w w' reply ⊎ WantsMemory w w' reply)
-load_part before f m t reply load some e log held told stands =
+load_part before f m t reply load some e log held told stands apart =
     let w = world_of t log held.history f m in
     record {
       log' = log;
@@ -265,10 +277,10 @@ load_part before f m t reply load some e log held told stands =
     by_session w (Some s) p = (refl, e)
 
 -- A statement under a label under which no session is open.
-pub closed_part : (before : Option Held) (f m : ℕ) (t : Tier) (reply : Reply) (st : Stmt) (label : List ℕ) → reply ≡ only (No (unknown_session label))
+pub closed_part : (before : Option Held) (f : ℕ) (m : Mark) (t : Tier) (reply : Reply) (st : Stmt) (label : List ℕ) → reply ≡ only (No (unknown_session label))
     → ((log : List Sealed) → is_some (session_of (tier_state t log) label) ≡ false)
     → ServesPart before before f f m m t t reply (λ w w'. ForSession label (session_of w.tier label) st w w' reply ⊎ WantsMemory w w' reply)
-closed_part before f m t reply st label e closed log held told stands =
+closed_part before f m t reply st label e closed log held told stands apart =
     let w = world_of t log held.history f m in
     record {
       log' = log;
@@ -285,7 +297,7 @@ for_session label None st w w' reply p = absurd p
 for_session label (Some s) st w w' reply p = p
 
 -- A statement under the label of the open session.
-pub opened_part : (before now : Option Held) (f f' m m' : ℕ) (t t' : Tier) (reply : Reply) (st : Stmt) (label : List ℕ)
+pub opened_part : (before now : Option Held) (f f' : ℕ) (m m' : Mark) (t t' : Tier) (reply : Reply) (st : Stmt) (label : List ℕ)
     → ((log : List Sealed) → is_some (session_of (tier_state t log) label) ≡ true)
     → ServesPart before now f f' m m' t t' reply (λ w w'. InOpen w.tier.session st w w' reply ⊎ WantsMemory w w' reply)
     → ServesPart before now f f' m m' t t' reply (λ w w'. ForSession label (session_of w.tier label) st w w' reply ⊎ WantsMemory w w' reply)
@@ -297,7 +309,7 @@ opened_part before now f f' m m' t t' reply st label opened part =
     ]) part
 
 -- What a line says was served.
-pub heeds_part : (before now : Option Held) (f f' m m' : ℕ) (t t' : Tier) (reply : Reply) (bytes : List ℕ) (line : Line) → Means bytes (Says line)
+pub heeds_part : (before now : Option Held) (f f' : ℕ) (m m' : Mark) (t t' : Tier) (reply : Reply) (bytes : List ℕ) (line : Line) → Means bytes (Says line)
     → ServesPart before now f f' m m' t t' reply (λ w w'. Parts line w w' reply) → ServesPart before now f f' m m' t t' reply (λ w w'. Heeds w bytes w' reply)
 heeds_part before now f f' m m' t t' reply bytes line means part =
     part_as before now f f' m m' t t' reply (λ w w'. Parts line w w' reply) (λ w w'. Heeds w bytes w' reply) (λ log h w' p. inl (Says line, means, p)) part
@@ -319,11 +331,11 @@ some_of None p = Prim.cc
 some_of (Some x) p = refl
 
 -- A line that isn't too long was served.
-pub line_served : (before now : Option Held) (f f' m m' : ℕ) (t t' : Tier) (reply : Reply) (bytes : List ℕ) → is_long bytes ≡ false → f ≤ f'
+pub line_served : (before now : Option Held) (f f' : ℕ) (m m' : Mark) (t t' : Tier) (reply : Reply) (bytes : List ℕ) → is_long bytes ≡ false → f ≤ f'
     → ServesPart before now f f' m m' t t' reply (λ w w'. Heeds w bytes w' reply)
-    → (log : List Sealed) (held : Held) → before ≡ Some held → StandsFor t log held.history → Serves now f f' m m' t t' log held bytes (Some reply)
-line_served before now f f' m m' t t' reply bytes short later part log held told stands =
-    let x = part log held told stands in
+    → (log : List Sealed) (held : Held) → before ≡ Some held → StandsFor t log held.history → IsApart t log m.shared → Serves now f f' m m' t t' log held bytes (Some reply)
+line_served before now f f' m m' t t' reply bytes short later part log held told stands apart =
+    let x = part log held told stands apart in
     let w = world_of t log held.history f m in
     let w' = world_of t' x.log' x.held'.history f' m' in
     record {

@@ -14,7 +14,6 @@ use Rattle.table_state.specs.Histories.{state_of}
 use Rattle.table_state.specs.Tables.{Table, TableState, table_at, key_of}
 use Rattle.table_state.specs.Refusals.{misfit}
 use Rattle.outside.specs.Bank.{TellsRow}
-use Rattle.outside.specs.Calls.{BankCall, Told}
 use Rattle.outside.specs.Holding.{Held}
 use Rattle.outside.specs.declared.fault.BankError.{BankError}
 use Rattle.tier_engine.specs.declared.insert.Asked.{Asked}
@@ -24,14 +23,15 @@ use Rattle.tier_engine.specs.declared.tier.Tier.{Tier}
 use Rattle.tier_engine.specs.declared.tier.Group.{Group}
 use Rattle.tier_engine.specs.declared.tier.OwnKey.{OwnKey}
 use Rattle.tier_engine.specs.declared.tier.Session.{Session}
-use Rattle.tier_engine.specs.TierStates.{seen}
+use Rattle.tier_engine.specs.TierStates.{GroupState, SessionState, TierState, seen}
 use Rattle.tier_engine.specs.Refusals.{key_taken, rule_in}
-use Rattle.tier_engine.specs.Answers.{only, inserted, refuses}
-use Rattle.tier_engine.specs.Steps.{Finds}
+use Rattle.tier_engine.specs.Answers.{Answer, only, inserted, refuses}
+use Rattle.tier_engine.specs.Steps.{Finds, found_answer, put_answer}
 use Rattle.tier_engine.specs.Storing.{IsSame, Settles, SettlesTier, TakesOne, TakesOneBack, TakenOff, without}
-use Rattle.tier_engine.specs.Standing.{StandsFor, Made, Shows, group_state, ops_of, own_in, session_state, tier_state}
+use Rattle.tier_engine.specs.Standing.{IsApart, Mark, StandsFor, Made, Shows, group_state, ops_of, own_in, session_state, tier_state}
 use Rattle.tier_engine.proofs.BankSteps.{LeavesState, leaves_state, was_told}
 use Rattle.tier_engine.proofs.InsertSteps.{AppliesLaw, HasPut, asked_of_bank, stands_put, state_put, set_there}
+use Rattle.tier_engine.proofs.OthersStand.{apart_as, stands_others}
 use Rattle.tier_engine.proofs.PutLaws.{remove_insert, set_back, with_rows}
 use Rattle.tier_engine.proofs.StandingLaws.{same_stands, same_state, sees_top, shows_at}
 
@@ -107,12 +107,28 @@ took_back t t1 t2 place g ss row true p back = by_session t2.session refl (subst
           next = back.0.next ∙ p.next;
         }
 
--- The bank has answered: INSERT is a step of the tier.
-pub insert_settled : AppliesLaw → (t t1 t2 : Tier) (log : List Sealed) (held : Held) (before now : Option Held) (f f' m m' : ℕ) (place : ℕ) (g : Group) (ss : Session) (row : List Value) (asked : Asked) (reply : Reply)
-    → (s : StandsFor t log held.history) → before ≡ Some held → HasPut t t1 place g ss row → asked.table ≡ g.table → asked.key ≡ key_of g.def.primary_key row → asked.taken ≡ key_taken g.def (key_of g.def.primary_key row)
-    → option_and_then rule_in (misfit g.def.columns row) ≡ None → Settles before now f f' m m' t1 t2 asked reply
-    → Made now f f' m m' t t2 log held (λ w w'. Finds (session_state ss) (group_state (own_in t.session) g) row w w' reply)
-insert_settled law t t1 t2 log held before now f f' m m' place g ss row asked reply s told p table key taken fits settles = by_result settles.result settles.call settles.tier
+-- What the bank has answered over this history, and what came of it.
+record Found (t t2 : Tier) (log : List Sealed) (ss : Session) (g : Group) (row : List Value) (reply : Reply) (result : Result (Option (List Value)) BankError) (h h' : List Entry) : Type 0 where
+  stands : StandsFor t2 log h'
+  history : TellsRow g.table (key_of g.def.primary_key row) result h h'
+  state : TableState
+  sees : seen (tier_state t log) ss.own h ≡ Some state
+  answer : (tier_state t2 log, reply) ≡ found_answer result (tier_state t log) (put_answer (tier_state t log) (session_state ss) (group_state (own_in t.session) g) row (table_at state g.table))
+
+-- the groups of the tier stay, whatever the bank answered
+found_groups : (r : Result (Option (List Value)) BankError) (t : TierState) (s : SessionState) (g : GroupState) (row : List Value) (table : Table) → (found_answer r t (put_answer t s g row table)).0.groups ≡ t.groups
+found_groups (Err e) t s g row table = refl
+found_groups (Ok r) t s g row table = by (contains_key table (key_of g.def.primary_key row))
+  where
+    by : (b : Bool) → (cond b (refuses t (key_taken g.def (key_of g.def.primary_key row))) (inserted t s g row)).0.groups ≡ t.groups
+    by true = refl
+    by false = refl
+
+-- The bank's answer by the history at the question.
+found_at : AppliesLaw → (t t1 t2 : Tier) (log : List Sealed) (h h' : List Entry) (place : ℕ) (g : Group) (ss : Session) (row : List Value) (asked : Asked) (reply : Reply)
+    → (s : StandsFor t log h) → HasPut t t1 place g ss row → asked.table ≡ g.table → asked.key ≡ key_of g.def.primary_key row → asked.taken ≡ key_taken g.def (key_of g.def.primary_key row)
+    → option_and_then rule_in (misfit g.def.columns row) ≡ None → (r : Result (Option (List Value)) BankError) → TellsRow asked.table asked.key r h h' → SettlesTier t1 t2 asked r reply → Found t t2 log ss g row reply r h h'
+found_at law t t1 t2 log h h' place g ss row asked reply s p table key taken fits r call done = by_result r call done
   where
     k : List Value
     k = key_of g.def.primary_key row
@@ -123,86 +139,89 @@ insert_settled law t t1 t2 log held before now f f' m m' place g ss row asked re
     T : Table
     T = table_at s.top g.table
 
-    x : LeavesState held.history s.base
-    x = leaves_state t log held.history s
+    x : LeavesState h s.base
+    x = leaves_state t log h s
 
     shows : Shows s.top (ops_of log) own g
     shows = shows_at s.top (ops_of log) own t.groups.items place g s.shows p.there
 
     bank : get T k ≡ get (table_at x.state g.table) k
-    bank = asked_of_bank t log held.history s g k shows p.new x
+    bank = asked_of_bank t log h s g k shows p.new x
 
-    same_top : (h : List Entry) → h ≡ held.history → seen (tier_state t log) ss.own h ≡ Some s.top
-    same_top h e = ap (λ y. seen (tier_state t log) ss.own y) e ∙ ap (λ o. seen (tier_state t log) (own_in o) held.history) (sym p.opened) ∙ sees_top t log held.history s
+    sees_it : seen (tier_state t log) ss.own h ≡ Some s.top
+    sees_it = ap (λ o. seen (tier_state t log) (own_in o) h) (sym p.opened) ∙ sees_top t log h s
 
-    told_row : (r : Option (List Value)) (h : List Entry) → h ≡ held.history → ((y : TableState) → state_of h ≡ Some y → r ≡ get (table_at y asked.table) asked.key) → get T k ≡ r
-    told_row r h e tells = bank ∙ sym (tells x.state (ap state_of e ∙ x.is) ∙ (λ i. get (table_at x.state (table i)) (key i)))
+    told_row : (r : Option (List Value)) → h' ≡ h → ((y : TableState) → state_of h' ≡ Some y → r ≡ get (table_at y asked.table) asked.key) → get T k ≡ r
+    told_row r e tells = bank ∙ sym (tells x.state (ap state_of e ∙ x.is) ∙ (λ i. get (table_at x.state (table i)) (key i)))
 
     gone : (done : Bool) → TakesOneBack t1 t2 done → IsSame t t2
     gone done back = took_back t t1 t2 place g ss row done p back
 
-    by_result : (r : Result (Option (List Value)) BankError) → Told before now (BankCall (TellsRow asked.table asked.key r)) → SettlesTier t1 t2 asked r reply
-        → Made now f f' m m' t t2 log held (λ w w'. Finds (session_state ss) (group_state own g) row w w' reply)
+    by_result : (r : Result (Option (List Value)) BankError) → TellsRow asked.table asked.key r h h' → SettlesTier t1 t2 asked r reply → Found t t2 log ss g row reply r h h'
     by_result (Ok None) call done =
-        let c = was_told before now held (TellsRow asked.table asked.key (Ok None)) told call in
-        let same : c.held.history ≡ held.history = c.history.0 ∙ append-nil held.history in
-        let absent : contains_key T k ≡ false = ap is_some (told_row None c.held.history same c.history.1) in
-        let stands1 = stands_put law t t1 log held.history place g ss row s p fits absent in
-        let history = subst (λ (tb : _). TellsRow tb asked.key (Ok None) held.history c.held.history) table c.history in
+        let same : h' ≡ h = call.0 ∙ append-nil h in
+        let absent : contains_key T k ≡ false = ap is_some (told_row None same call.1) in
+        let stands1 = stands_put law t t1 log h place g ss row s p fits absent in
+        let history = subst (λ (tb : _). TellsRow tb asked.key (Ok None) h h') table call in
         record {
-          log' = log;
-          held' = c.held;
-          tells = c.tells;
-          slots = c.slots;
-          stands = subst (λ (h : List Entry). StandsFor t2 log h) (sym same) (same_stands t1 t2 log held.history done.0 stands1);
-          made = record {
-            result = Ok None;
-            history = subst (λ (kk : List Value). TellsRow g.table kk (Ok None) held.history c.held.history) key history;
-            on = record { faults = settles.faults_later; moment = settles.later };
-            state = s.top;
-            sees = same_top c.held.history same;
-            answer = (λ i. ((same_state t1 t2 log done.0 ∙ state_put t t1 log place g ss row s.apart p) i, done.1 i))
-                ∙ sym (ap (λ b. cond b (refuses (tier_state t log) (key_taken g.def k)) (inserted (tier_state t log) (session_state ss) (group_state own g) row)) absent);
-          };
+          stands = subst (λ (l : List Entry). StandsFor t2 log l) (sym same) (same_stands t1 t2 log h done.0 stands1);
+          history = subst (λ (kk : List Value). TellsRow g.table kk (Ok None) h h') key history;
+          state = s.top;
+          sees = sees_it;
+          answer = (λ i. ((same_state t1 t2 log done.0 ∙ state_put t t1 log place g ss row s.apart p) i, done.1 i))
+              ∙ sym (ap (λ b. cond b (refuses (tier_state t log) (key_taken g.def k)) (inserted (tier_state t log) (session_state ss) (group_state own g) row)) absent);
         }
     by_result (Ok (Some r)) call done =
-        let c = was_told before now held (TellsRow asked.table asked.key (Ok (Some r))) told call in
-        let same : c.held.history ≡ held.history = c.history.0 ∙ append-nil held.history in
-        let there : contains_key T k ≡ true = ap is_some (told_row (Some r) c.held.history same c.history.1) in
+        let same : h' ≡ h = call.0 ∙ append-nil h in
+        let there : contains_key T k ≡ true = ap is_some (told_row (Some r) same call.1) in
         let as_before = gone done.0.0 done.0.1 in
-        let history = subst (λ (tb : _). TellsRow tb asked.key (Ok (Some r)) held.history c.held.history) table c.history in
+        let history = subst (λ (tb : _). TellsRow tb asked.key (Ok (Some r)) h h') table call in
         record {
-          log' = log;
-          held' = c.held;
-          tells = c.tells;
-          slots = c.slots;
-          stands = subst (λ (h : List Entry). StandsFor t2 log h) (sym same) (same_stands t t2 log held.history as_before s);
-          made = record {
-            result = Ok (Some r);
-            history = subst (λ (kk : List Value). TellsRow g.table kk (Ok (Some r)) held.history c.held.history) key history;
-            on = record { faults = settles.faults_later; moment = settles.later };
-            state = s.top;
-            sees = same_top c.held.history same;
-            answer = (λ i. (same_state t t2 log as_before i, (done.1 ∙ ap (λ (rule : Rule). only (No rule)) taken) i))
-                ∙ sym (ap (λ b. cond b (refuses (tier_state t log) (key_taken g.def k)) (inserted (tier_state t log) (session_state ss) (group_state own g) row)) there);
-          };
+          stands = subst (λ (l : List Entry). StandsFor t2 log l) (sym same) (same_stands t t2 log h as_before s);
+          history = subst (λ (kk : List Value). TellsRow g.table kk (Ok (Some r)) h h') key history;
+          state = s.top;
+          sees = sees_it;
+          answer = (λ i. (same_state t t2 log as_before i, (done.1 ∙ ap (λ (rule : Rule). only (No rule)) taken) i))
+              ∙ sym (ap (λ b. cond b (refuses (tier_state t log) (key_taken g.def k)) (inserted (tier_state t log) (session_state ss) (group_state own g) row)) there);
         }
     by_result (Err e) call done =
-        let c = was_told before now held (TellsRow asked.table asked.key (Err e)) told call in
-        let same : c.held.history ≡ held.history = c.history ∙ append-nil held.history in
+        let same : h' ≡ h = call ∙ append-nil h in
         let as_before = gone done.0.0 done.0.1 in
         record {
-          log' = log;
-          held' = c.held;
-          tells = c.tells;
-          slots = c.slots;
-          stands = subst (λ (h : List Entry). StandsFor t2 log h) (sym same) (same_stands t t2 log held.history as_before s);
-          made = record {
-            result = Err e;
-            history = c.history;
-            on = record { faults = settles.faults_later; moment = settles.later };
-            state = s.top;
-            sees = same_top c.held.history same;
-            answer = λ i. (same_state t t2 log as_before i, done.1 i);
-          };
+          stands = subst (λ (l : List Entry). StandsFor t2 log l) (sym same) (same_stands t t2 log h as_before s);
+          history = call;
+          state = s.top;
+          sees = sees_it;
+          answer = λ i. (same_state t t2 log as_before i, done.1 i);
         }
+
+-- The bank has answered: INSERT is a step of the tier.
+pub insert_settled : AppliesLaw → (t t1 t2 : Tier) (log : List Sealed) (held : Held) (before now : Option Held) (f f' : ℕ) (m m' : Mark) (place : ℕ) (g : Group) (ss : Session) (row : List Value) (asked : Asked) (reply : Reply)
+    → (s : StandsFor t log held.history) → IsApart t log m.shared → before ≡ Some held → HasPut t t1 place g ss row → asked.table ≡ g.table → asked.key ≡ key_of g.def.primary_key row → asked.taken ≡ key_taken g.def (key_of g.def.primary_key row)
+    → option_and_then rule_in (misfit g.def.columns row) ≡ None → Settles before now f f' m m' t1 t2 asked reply
+    → Made now f f' m m' t t2 log held (λ w w'. Finds (session_state ss) (group_state (own_in t.session) g) row w w' reply)
+insert_settled law t t1 t2 log held before now f f' m m' place g ss row asked reply s apart told p table key taken fits settles =
+    let r = settles.result in
+    let c = was_told m.shared before now held (TellsRow asked.table asked.key r) told settles.call in
+    let a = c.history in
+    let h = held.history ++ a.before in
+    let begun = stands_others t log m.shared held.history a.before apart a.came_before s in
+    let x = found_at law t t1 t2 log h a.middle place g ss row asked reply begun p table key taken fits r a.own settles.tier in
+    let groups : (tier_state t2 log).groups ≡ (tier_state t log).groups =
+    ap (λ (y : Answer). y.0.groups) x.answer ∙ found_groups r (tier_state t log) (session_state ss) (group_state (own_in t.session) g) row (table_at x.state g.table)
+    in
+    record {
+      log' = log;
+      held' = c.held;
+      tells = c.tells;
+      slots = c.slots;
+      stands = subst (λ (l : List Entry). StandsFor t2 log l) (sym a.is) (stands_others t2 log m.shared a.middle a.behind (apart_as t t2 log log m.shared groups apart) a.came_behind x.stands);
+      made = record {
+        result = r;
+        history = record { before = a.before; middle = a.middle; behind = a.behind; came_before = a.came_before; own = x.history; came_behind = a.came_behind; is = a.is };
+        on = record { faults = settles.faults_later; moment = settles.later; shared = settles.shares };
+        state = x.state;
+        sees = x.sees;
+        answer = x.answer;
+      };
+    }

@@ -19,7 +19,7 @@ use Rattle.tier_engine.specs.TierStates.{TierState, seen, is_named, group_of_tab
 use Rattle.tier_engine.specs.Answers.{faulty}
 use Rattle.tier_engine.specs.Steps.{World, WantsMemory}
 use Rattle.tier_engine.specs.Storing.{IsSame, place_named}
-use Rattle.tier_engine.specs.Standing.{StandsFor, HasOwnKeys, Shows, ShowAll, AreApart, Turns, group_state, is_insert, is_stored, is_in_group, ops_of, own_in, session_in, tier_state}
+use Rattle.tier_engine.specs.Standing.{Mark, StandsFor, HasOwnKeys, Shows, ShowAll, AreApart, Turns, group_state, is_insert, is_stored, is_in_group, ops_of, own_in, session_in, tier_state}
 
 pub and_left : (a b : Bool) → (a && b) ≡ true → a ≡ true
 and_left true b e = refl
@@ -83,9 +83,9 @@ same_state t t' log e = λ i. record {
 }
 
 -- the world of a tier whose state is another's
-pub same_world : (x y : TierState) (h : List Entry) (faults moment : ℕ) → x ≡ y
-    → (let w : World = record { tier = x; history = h; bank_faults = faults; moment = moment } in w) ≡ (let w : World = record { tier = y; history = h; bank_faults = faults; moment = moment } in w)
-same_world x y h faults moment e = λ i. record { tier = e i; history = h; bank_faults = faults; moment = moment }
+pub same_world : (x y : TierState) (h : List Entry) (faults : ℕ) (mark : Mark) → x ≡ y
+    → (let w : World = record { tier = x; history = h; bank_faults = faults; moment = mark.moment; shared = mark.shared } in w) ≡ (let w : World = record { tier = y; history = h; bank_faults = faults; moment = mark.moment; shared = mark.shared } in w)
+same_world x y h faults mark e = λ i. record { tier = e i; history = h; bank_faults = faults; moment = mark.moment; shared = mark.shared }
 
 -- a statement that wanted memory
 pub memory_turns : (t t' : Tier) (log : List Sealed) (h : List Entry) (reply : Reply) (P : World → World → Type 0) → reply ≡ faulty code.Memory → IsSame t t' → StandsFor t log h
@@ -93,12 +93,12 @@ pub memory_turns : (t t' : Tier) (log : List Sealed) (h : List Entry) (reply : R
 memory_turns t t' log h reply P told e s = record {
   log' = log;
   stands = same_stands t t' log h e s;
-  made = λ faults moment. inr (same_world (tier_state t' log) (tier_state t log) h faults moment (same_state t t' log e), told);
+  made = λ faults mark. inr (same_world (tier_state t' log) (tier_state t log) h faults mark (same_state t t' log e), told);
 }
 
 -- a step is one with want of memory beside it
 pub turns_first : (t t' : Tier) (log : List Sealed) (h : List Entry) (P Q : World → World → Type 0) → Turns t t' log h P → Turns t t' log h (λ w w'. P w w' ⊎ Q w w')
-turns_first t t' log h P Q x = record { log' = x.log'; stands = x.stands; made = λ faults moment. inl (x.made faults moment) }
+turns_first t t' log h P Q x = record { log' = x.log'; stands = x.stands; made = λ faults mark. inl (x.made faults mark) }
 
 -- what a session sees
 pub sees_top : (t : Tier) (log : List Sealed) (h : List Entry) (s : StandsFor t log h) → seen (tier_state t log) (own_in t.session) h ≡ Some s.top

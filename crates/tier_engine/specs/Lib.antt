@@ -1,5 +1,7 @@
 pub mod Answers
 pub mod Commits
+pub mod ConsoleStoring
+pub mod ConsoleWrites
 pub mod LiteralValues
 pub mod Refusals
 pub mod Storing

@@ -1,6 +1,6 @@
 -- When the stored tier stands for the abstract one.
 
-use Rattle.std.specs.Prelude.{◌≡◌, ℕ, ◌+◌, ◌≤◌, ◌^◌, List, [], ◌∷◌, Bool, true, false, ◌&&◌, nat_eq, Option, Some, None, Result, Ok, Err, if◌then◌else◌, map, take, drop, length, slice_get}
+use Rattle.std.specs.Prelude.{◌≡◌, ℕ, ◌+◌, ◌≤◌, ◌^◌, List, [], ◌∷◌, ◌++◌, Bool, true, false, ◌&&◌, nat_eq, Option, Some, None, Result, Ok, Err, if◌then◌else◌, map, take, drop, length, slice_get}
 use Rattle.std.specs.Option.{IfSome, option_map}
 use Rattle.std.specs.Bool.{MatchBool}
 use Rattle.std.specs.List.{list_all, list_any, flat_map}
@@ -18,7 +18,7 @@ use Rattle.table_state.specs.Tables.{Table, TableState, table_at, key_of, is_sam
 use Rattle.table_state.specs.Operations.{applied_all, table_of}
 use Rattle.table_state.specs.Independence.{IsWhole}
 use Rattle.table_state.specs.Histories.{state_of, entry_of}
-use Rattle.outside.specs.Bank.{Grows}
+use Rattle.outside.specs.Others.{AreOthers}
 use Rattle.outside.specs.Holding.{Held}
 use Rattle.outside.specs.declared.fault.BankError.{BankError}
 use Rattle.tier_engine.specs.declared.tier.Tier.{Tier}
@@ -30,7 +30,7 @@ use Rattle.tier_engine.specs.Commits.{RiseBetween, virtual_state, in_commit_orde
 use Rattle.tier_engine.specs.TierStates.{TierState, GroupState, SessionState, opened}
 use Rattle.tier_engine.specs.Refusals.{is_joined}
 use Rattle.sql_subset.specs.declared.stmt.Stmt.{Stmt}
-use Rattle.tier_engine.specs.Steps.{World, LineStep, Asked, InSession, IsCaused, stopped}
+use Rattle.tier_engine.specs.Steps.{World, AreUnshared, LineStep, Asked, InSession, IsCaused, stopped}
 
 -- the keys of a table's rows
 abbrev pub key_set : Table → FinSet key_order
@@ -180,40 +180,52 @@ pub record StandsFor (t : Tier) (log : List Sealed) (history : List Entry) : Typ
   pub apart : AreApart t.groups.items
   pub keys : HasOwnKeys t.groups.items t.session
 
+-- where a site stands: its moment, and the tables that others change, too
+pub record Mark : Type 0 where
+  pub moment : ℕ
+  pub shared : List TableId
+
+abbrev pub mark_of : ℕ → List TableId → Mark
+mark_of moment shared = record { moment = moment; shared = shared }
+
 -- the world of the stored tier over a site that holds this
-abbrev pub world_of : Tier → List Sealed → List Entry → ℕ → ℕ → World
-world_of t log history faults moment = record { tier = tier_state t log; history = history; bank_faults = faults; moment = moment }
+abbrev pub world_of : Tier → List Sealed → List Entry → ℕ → Mark → World
+world_of t log history faults mark = record { tier = tier_state t log; history = history; bank_faults = faults; moment = mark.moment; shared = mark.shared }
+
+-- no group of the stored tier is over a table that others change
+abbrev pub IsApart : Tier → List Sealed → List TableId → Type 0
+IsApart t log shared = AreUnshared shared (tier_state t log).groups
 
 -- The site tells what it holds, its slots stay, the tier stands for a list again, and the worlds before and after are in
 -- this relation.
-pub record Made (told : Option Held) (faults faults' moment moment' : ℕ) (old new : Tier) (log : List Sealed) (held : Held) (P : World → World → Type 0) : Type 0 where
+pub record Made (told : Option Held) (faults faults' : ℕ) (mark mark' : Mark) (old new : Tier) (log : List Sealed) (held : Held) (P : World → World → Type 0) : Type 0 where
   pub log' : List Sealed
   pub held' : Held
   pub tells : told ≡ Some held'
   pub slots : held'.slots ≡ held.slots
   pub stands : StandsFor new log' held'.history
-  pub made : P (world_of old log held.history faults moment) (world_of new log' held'.history faults' moment')
+  pub made : P (world_of old log held.history faults mark) (world_of new log' held'.history faults' mark')
 
 -- A request line was served.
-abbrev pub Serves : Option Held → ℕ → ℕ → ℕ → ℕ → Tier → Tier → List Sealed → Held → List ℕ → Option Reply → Type 0
-Serves told faults faults' moment moment' old new log held line reply = Made told faults faults' moment moment' old new log held (λ w w'. LineStep w line w' reply)
+abbrev pub Serves : Option Held → ℕ → ℕ → Mark → Mark → Tier → Tier → List Sealed → Held → List ℕ → Option Reply → Type 0
+Serves told faults faults' mark mark' old new log held line reply = Made told faults faults' mark mark' old new log held (λ w w'. LineStep w line w' reply)
 
 -- A part of a line was served, whatever list the tier stands for: the worlds are in this relation, and a fault of the
 -- bank that is told has a failed call of its own.
-abbrev pub ServesPart : Option Held → Option Held → ℕ → ℕ → ℕ → ℕ → Tier → Tier → Reply → (World → World → Type 0) → Type 0
-ServesPart before told faults faults' moment moment' old new reply P =
-    (log : List Sealed) (held : Held) → before ≡ Some held → StandsFor old log held.history
-    → Made told faults faults' moment moment' old new log held (λ w w'. P w w' × IsCaused w w' reply)
+abbrev pub ServesPart : Option Held → Option Held → ℕ → ℕ → Mark → Mark → Tier → Tier → Reply → (World → World → Type 0) → Type 0
+ServesPart before told faults faults' mark mark' old new reply P =
+    (log : List Sealed) (held : Held) → before ≡ Some held → StandsFor old log held.history → IsApart old log mark.shared
+    → Made told faults faults' mark mark' old new log held (λ w w'. P w w' × IsCaused w w' reply)
 
 -- the question for the schema where it is asked, and whether the line ends with its fault
 abbrev pub AsksWhere : Bool → Option Reply → World → World → Type 0
 AsksWhere asks stop w w' = MatchBool asks ((answer : Result (List TableDef) BankError) × Asked answer w w' × (stop ≡ stopped answer)) ((w' ≡ w) × (stop ≡ None))
 
 -- the question was asked, or not, whatever list the tier stands for
-abbrev pub AskServes : Option Held → Option Held → ℕ → ℕ → ℕ → ℕ → Tier → Tier → Bool → Option Reply → Type 0
-AskServes before told faults faults' moment moment' old new asks stop =
-    (log : List Sealed) (held : Held) → before ≡ Some held → StandsFor old log held.history
-    → Made told faults faults' moment moment' old new log held (AsksWhere asks stop)
+abbrev pub AskServes : Option Held → Option Held → ℕ → ℕ → Mark → Mark → Tier → Tier → Bool → Option Reply → Type 0
+AskServes before told faults faults' mark mark' old new asks stop =
+    (log : List Sealed) (held : Held) → before ≡ Some held → StandsFor old log held.history → IsApart old log mark.shared
+    → Made told faults faults' mark mark' old new log held (AsksWhere asks stop)
 
 -- a statement of the session, which is open
 abbrev pub InOpen : Option SessionState → Stmt → World → World → Reply → Type 0
@@ -224,10 +236,18 @@ InOpen (Some s) st w w' reply = InSession s st w w' reply
 pub record Turns (old new : Tier) (log : List Sealed) (history : List Entry) (P : World → World → Type 0) : Type 0 where
   pub log' : List Sealed
   pub stands : StandsFor new log' history
-  pub made : (faults moment : ℕ) → P (world_of old log history faults moment) (world_of new log' history faults moment)
+  pub made : (faults : ℕ) (mark : Mark) → P (world_of old log history faults mark) (world_of new log' history faults mark)
 
 -- A tier was opened: over a history that leaves a state and has no transaction of a tier, it stands for no transaction,
 -- and is the one over the schema of that state.
-abbrev pub Begins : Result Tier BankError → List Entry → List Entry → Type 0
-Begins (Ok t) old new = Grows [] old new × ((s : TableState) → state_of new ≡ Some s → own_entries new ≡ [] → StandsFor t [] new × (tier_state t [] ≡ opened s.schema))
-Begins (Err e) old new = Grows [] old new
+abbrev pub IsOpened : Result Tier BankError → List Entry → Type 0
+IsOpened (Ok t) history = (s : TableState) → state_of history ≡ Some s → own_entries history ≡ [] → StandsFor t [] history × (tier_state t [] ≡ opened s.schema)
+IsOpened (Err e) history = Unit {0}
+
+-- No slot changed, and transactions of others alone came, where the tier was opened or not.
+pub record Begins (shared : List TableId) (result : Result Tier BankError) (old new : Held) : Type 0 where
+  pub slots : new.slots ≡ old.slots
+  pub others : List Entry
+  pub came : AreOthers shared old.history others
+  pub is : new.history ≡ old.history ++ others
+  pub opened : IsOpened result new.history

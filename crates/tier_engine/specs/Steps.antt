@@ -1,14 +1,16 @@
 -- What one request line does, and what a list of them does.
 
-use Rattle.std.specs.Prelude.{◌≡◌, ℕ, ◌+◌, ◌-◌, ◌^◌, ◌≤◌, ◌⊎◌, min, nat_eq, nat_lt, if◌then◌else◌, List, [], ◌∷◌, ◌++◌, Bool, true, false, ◌&&◌, not, Option, Some, None, length, codes, is_none, is_some, Result, Ok, Err}
+use Rattle.std.specs.Prelude.{◌≡◌, ℕ, ◌+◌, ◌-◌, ◌^◌, ◌≤◌, ◌⊎◌, min, nat_eq, nat_lt, if◌then◌else◌, List, [], ◌∷◌, ◌++◌, Bool, true, false, ◌&&◌, not, Option, Some, None, length, codes, is_none, is_some, map, Result, Ok, Err}
 use Rattle.std.specs.Option.{option_map, unwrap_or}
 use Rattle.std.specs.FinMap.{contains_key}
 use Rattle.std.specs.Bool.{MatchBool}
+use Rattle.std.specs.List.{list_any}
 use Rattle.std.specs.Result.{IsErrOf, OnOk}
 use Rattle.tier_base.specs.declared.limit.Limit.TheVariants as limit
 use Rattle.tier_base.specs.Limits.{greatest}
 use Rattle.tier_base.specs.declared.code.Code.TheVariants as code
 use Rattle.tier_base.specs.Codes.{number_of}
+use Rattle.tier_base.specs.declared.number.TableId.{TableId}
 use Rattle.row_types.specs.declared.rule.Rule.{Rule}
 use Rattle.row_types.specs.declared.rule.Detail.TheVariants as detail
 use Rattle.row_types.specs.declared.value.Value.{Value}
@@ -25,6 +27,10 @@ use Rattle.sql_subset.specs.declared.stmt.Insert.{Insert as OneInsert}
 use Rattle.sql_subset.specs.declared.stmt.Select.{Select as OneSelect}
 use Rattle.sql_subset.specs.declared.stmt.Literal.{Literal}
 use Rattle.sql_subset.specs.Lines.{Saying, Silent, Says, WrongAt, TooDeep, Means, is_silent}
+use Rattle.sql_query.specs.declared.write.Write.{Write}
+use Rattle.console_writes.specs.ConsoleTrees.{trees_of}
+use Rattle.resolution.specs.Writes.{change_seen, resolved_writes, table_of}
+use Rattle.evaluator.specs.declared.change.Change.{Change}
 use Rattle.table_state.specs.declared.definition.TableDef.{TableDef}
 use Rattle.table_state.specs.declared.history.Entry.{Entry}
 use Rattle.table_state.specs.declared.history.Sealed.{Sealed}
@@ -32,7 +38,11 @@ use Rattle.table_state.specs.Declarations.{broken, broken_at, resolved, wrong_na
 use Rattle.table_state.specs.Tables.{Table, TableState, table_at, key_of}
 use Rattle.table_state.specs.Histories.{state_of}
 use Rattle.outside.specs.Bank.{Defines, TellsSchema, TellsRow}
+use Rattle.outside.specs.Console.{WritesForeign}
 use Rattle.outside.specs.Faults.{Rose}
+use Rattle.outside.specs.Others.{Around, is_shared}
+use Rattle.outside.specs.declared.site.Done.{Done as Wrote}
+use Rattle.outside.specs.declared.site.Done.TheVariants.{Rows, Broken}
 use Rattle.outside.specs.declared.fault.BankError.{BankError}
 use Rattle.outside.specs.declared.fault.BankError.TheVariants.{Failed, Memory}
 use Rattle.tier_engine.specs.declared.reply.Reply.{Reply}
@@ -41,18 +51,30 @@ use Rattle.tier_engine.specs.declared.reply.Last.TheVariants.{Done, No, Fault}
 use Rattle.tier_engine.specs.declared.rounds.RoundFault.{RoundFault}
 use Rattle.tier_engine.specs.declared.rounds.RoundFault.TheVariants as stop
 use Rattle.tier_engine.specs.Commits.{pending, in_commit_order}
-use Rattle.tier_engine.specs.Rounds.{Round, FirstDiffers}
+use Rattle.tier_engine.specs.Rounds.{Round, DifferedAt}
 use Rattle.tier_engine.specs.TierStates.{TierState, SessionState, GroupState, session_of, group_of_table, seen, seen_rows, is_named}
 use Rattle.tier_engine.specs.LiteralValues.{values_of}
+use Rattle.tier_engine.specs.ConsoleWrites.{tables_seen, writes_fault}
 use Rattle.tier_engine.specs.Refusals.{not_yet, wrong_at, too_deep, too_long, unknown_session, unknown_table, key_taken, table_fault, insert_fault}
 use Rattle.tier_engine.specs.Answers.{Answer, only, faulty, refuses, open_answer, close_answer, rollback_answer, group_answer, select_answer, commit_answer, inserted}
 
--- The tier, the one backing history, how often the bank has failed, and the site's moment.
+-- The tier, the one backing history, how often the bank has failed, the site's moment, and the tables that others change,
+-- too.
 pub record World : Type 0 where
   pub tier : TierState
   pub history : List Entry
   pub bank_faults : ℕ
   pub moment : ℕ
+  pub shared : List TableId
+
+-- no group is over a table that others change
+abbrev pub AreUnshared : List TableId → List GroupState → Type 0
+AreUnshared shared [] = Unit {0}
+AreUnshared shared (g ∷ groups) = (is_shared shared g.table ≡ false) × AreUnshared shared groups
+
+-- others change no table of a group
+abbrev pub IsUnshared : World → Type 0
+IsUnshared w = AreUnshared w.shared w.tier.groups
 
 -- a failed call of the bank, or its want of memory
 abbrev pub bank_fault : BankError → Reply
@@ -63,10 +85,11 @@ bank_fault Memory = faulty code.Memory
 abbrev pub Quiet : World → Answer → World → Reply → Type 0
 Quiet w answer w' reply = (w' ≡ record w { tier = answer.0 }) × (reply ≡ answer.1)
 
--- counts and moments that a call of the bank may raise
+-- counts and moments that a call of the bank may raise; what others change stays
 pub record GoesOn (w w' : World) : Type 0 where
   pub faults : w.bank_faults ≤ w'.bank_faults
   pub moment : w.moment ≤ w'.moment
+  pub shared : w'.shared ≡ w.shared
 
 -- what is due before a statement: nothing yet
 abbrev pub Due : World → World → Type 0
@@ -90,9 +113,13 @@ request_asks t label (asks_for.Open options) = false
 request_asks t label asks_for.Close = false
 request_asks t label (asks_for.Statement s) = is_none t.known && is_some (session_of t label) && names_uncached t s
 
+-- one of the writes is on a table which isn't cached
+abbrev pub write_uncached : TierState → List Write → Bool
+write_uncached t writes = list_any (λ w. not (is_cached t (table_of w))) writes
+
 abbrev pub console_asks : TierState → ConsoleRequest → Bool
 console_asks t (console.CreateTable d) = is_none t.known && not (is_cached t d.name)
-console_asks t (console.Writes writes) = false
+console_asks t (console.Writes writes) = is_none t.known && write_uncached t (trees_of writes)
 
 -- The tier asks for the schema that it doesn't know before a statement that names a table which isn't cached.
 abbrev pub asks : TierState → Line → Bool
@@ -110,7 +137,7 @@ stopped (Err e) = Some (bank_fault e)
 
 pub record Asked (result : Result (List TableDef) BankError) (w w' : World) : Type 0 where
   pub tier : w'.tier ≡ told result w.tier
-  pub history : TellsSchema result w.history w'.history
+  pub history : Around w.shared (TellsSchema result) w.history w'.history
   pub on : GoesOn w w'
 
 -- the question, and whether the line ends with its fault
@@ -131,7 +158,7 @@ define_reply (Err e) = bank_fault e
 pub record Creates (def : TableDef) (w w' : World) (reply : Reply) : Type 0 where
   pub result : Result (Unit {0}) BankError
   pub tier : w'.tier ≡ known_after def result w.tier
-  pub history : Defines def result w.history w'.history
+  pub history : Around w.shared (Defines def result) w.history w'.history
   pub on : GoesOn w w'
   pub answer : reply ≡ define_reply result
 
@@ -146,6 +173,30 @@ cached_fault d = unwrap_or (broken_at code.UnknownColumn (wrong_name d)) (record
 abbrev pub DoesDefine : TableDeclaration → Option (List TableDef) → World → World → Reply → Type 0
 DoesDefine d None w w' reply = Quiet w (refuses w.tier (cached_fault d)) w' reply
 DoesDefine d (Some schema) w w' reply = CreatesTable (resolved d schema) (table_fault w.tier.groups d schema) w w' reply
+
+-- how the console's writes are answered by the backing database: the rows of the tables that they name, or a broken rule
+abbrev pub writes_reply : Result Wrote BankError → Reply
+writes_reply (Ok (Rows n)) = only (Done n)
+writes_reply (Ok (Broken rule)) = only (No rule)
+writes_reply (Err e) = bank_fault e
+
+-- The writes are one transaction of others at the bank. Nothing of the tier changes.
+pub record WritesAll (writes : List Write) (w w' : World) (reply : Reply) : Type 0 where
+  pub changes : List Change
+  pub stand_for : resolved_writes (tables_seen w.tier) writes ≡ Ok (map change_seen changes)
+  pub result : Result Wrote BankError
+  pub tier : w'.tier ≡ w.tier
+  pub history : Around w.shared (WritesForeign changes result) w.history w'.history
+  pub on : GoesOn w w'
+  pub answer : reply ≡ writes_reply result
+
+abbrev pub WritesUnless : Option Rule → List Write → World → World → Reply → Type 0
+WritesUnless (Some rule) writes w w' reply = Quiet w (refuses w.tier rule) w' reply
+WritesUnless None writes w w' reply = WritesAll writes w w' reply
+
+-- INSERT, UPDATE and DELETE of the console, as one transaction
+abbrev pub DoesWrites : List Write → World → World → Reply → Type 0
+DoesWrites writes w w' reply = WritesUnless (writes_fault (is_cached w.tier) (tables_seen w.tier) writes) writes w w' reply
 
 -- how a round's end is answered
 abbrev pub round_reply : Result ℕ RoundFault → Reply
@@ -163,11 +214,11 @@ pub record IsDrained (history : List Entry) (log : List Sealed) : Type 0 where
 -- CALL ttDrain: a round, and nothing else of the tier changes
 pub record Drains (w w' : World) (reply : Reply) : Type 0 where
   pub result : Result ℕ RoundFault
-  pub round : Round w.tier.unsettled w.history w'.tier.unsettled w'.history result
+  pub round : Round w.shared w.tier.unsettled w.history w'.tier.unsettled w'.history result
   pub tier : w'.tier ≡ record w.tier { unsettled = w'.tier.unsettled }
   pub on : GoesOn w w'
   pub drained : OnOk result (IsDrained w'.history w'.tier.log)
-  pub differs : IsErrOf result stop.Differs → FirstDiffers w'.tier.unsettled w'.history
+  pub differs : IsErrOf result stop.Differs → DifferedAt w.shared w'.tier.unsettled w'.history
   pub answer : reply ≡ round_reply result
 
 -- the answer of the bank to a question for a row, or the fault of the question
@@ -180,13 +231,13 @@ abbrev pub put_answer : TierState → SessionState → GroupState → List Value
 put_answer t s g row table =
     if contains_key table (key_of g.def.primary_key row) then refuses t (key_taken g.def (key_of g.def.primary_key row)) else inserted t s g row
 
--- INSERT of a row whose key isn't shown: the bank is asked for the key
+-- INSERT of a row whose key isn't shown: the bank is asked for the key. The answer is by the history at the question.
 pub record Finds (s : SessionState) (g : GroupState) (row : List Value) (w w' : World) (reply : Reply) : Type 0 where
   pub result : Result (Option (List Value)) BankError
-  pub history : TellsRow g.table (key_of g.def.primary_key row) result w.history w'.history
+  pub history : Around w.shared (TellsRow g.table (key_of g.def.primary_key row) result) w.history w'.history
   pub on : GoesOn w w'
   pub state : TableState
-  pub sees : seen w.tier s.own w'.history ≡ Some state
+  pub sees : seen w.tier s.own (w.history ++ history.before) ≡ Some state
   pub answer : (w'.tier, reply) ≡ found_answer result w.tier (put_answer w.tier s g row (table_at state g.table))
 
 -- 107 where the key is shown
@@ -248,7 +299,7 @@ DoesRequest label (asks_for.Statement s) w w' reply = ForSession label (session_
 
 abbrev pub DoesConsole : ConsoleRequest → World → World → Reply → Type 0
 DoesConsole (console.CreateTable d) w w' reply = DoesDefine d w.tier.known w w' reply
-DoesConsole (console.Writes writes) w w' reply = Quiet w (refuses w.tier not_yet) w' reply
+DoesConsole (console.Writes writes) w w' reply = DoesWrites (trees_of writes) w w' reply
 
 -- what a line does where memory suffices
 abbrev pub Does : Line → World → World → Reply → Type 0

@@ -39,7 +39,7 @@ use Rattle.tier_engine.specs.Refusals.{key_taken, letter_fault, at_limit, past}
 use Rattle.tier_engine.specs.TierStates.{is_named}
 use Rattle.tier_engine.specs.Answers.{only, faulty}
 use Rattle.tier_engine.specs.Steps.{bank_fault, cached_fault, define_reply}
-use Rattle.tier_engine.specs.Standing.{own_in, bare, AreApart, HasOwnKeys}
+use Rattle.tier_engine.specs.Standing.{Mark, own_in, bare, AreApart, HasOwnKeys}
 
 -- the place of the group that has the table of this name
 abbrev pub place_named : List Group → List ℕ → Option ℕ
@@ -120,12 +120,13 @@ SettlesTier old new asked (Ok (Some row)) reply = ((done : Bool) × TakesOneBack
 SettlesTier old new asked (Err e) reply = ((done : Bool) × TakesOneBack old new done) × (reply ≡ bank_fault e)
 
 -- The bank is asked for the key of the row that was put in last.
-pub record Settles (told told' : Option Held) (faults faults' moment moment' : ℕ) (old new : Tier) (asked : Asked) (reply : Reply) : Type 0 where
+pub record Settles (told told' : Option Held) (faults faults' : ℕ) (mark mark' : Mark) (old new : Tier) (asked : Asked) (reply : Reply) : Type 0 where
   pub result : Result (Option (List Value)) BankError
-  pub call : Told told told' (BankCall (TellsRow asked.table asked.key result))
+  pub call : Told told told' (BankCall mark.shared (TellsRow asked.table asked.key result))
   pub tier : SettlesTier old new asked result reply
   pub faults_later : faults ≤ faults'
-  pub later : moment ≤ moment'
+  pub later : mark.moment ≤ mark'.moment
+  pub shares : mark'.shared ≡ mark.shared
   pub cause : IsErrOf result Failed → Rose faults faults'
 
 -- a group has this name
@@ -221,9 +222,9 @@ KnowsAfter old new def (Err Failed) = new.known ≡ None
 KnowsAfter old new def (Err Memory) = new.known ≡ old.known
 
 -- A definition was made at the bank.
-pub record MakesTable (before after : Option Held) (old new : Tier) (def : TableDef) (reply : Reply) (faults faults' : ℕ) : Type 0 where
+pub record MakesTable (shared : List TableId) (before after : Option Held) (old new : Tier) (def : TableDef) (reply : Reply) (faults faults' : ℕ) : Type 0 where
   pub result : Result (Unit {0}) BankError
-  pub call : Told before after (BankCall (Defines def result))
+  pub call : Told before after (BankCall shared (Defines def result))
   pub known : KnowsAfter old new def result
   pub groups : new.groups.items ≡ old.groups.items
   pub session : new.session ≡ old.session
@@ -233,7 +234,8 @@ pub record MakesTable (before after : Option Held) (old new : Tier) (def : Table
   pub cause : IsErrOf result Failed → Rose faults faults'
 
 -- or it wasn't tried, since memory was wanting
-pub record Makes (told told' : Option Held) (faults faults' moment moment' : ℕ) (old new : Tier) (def : TableDef) (reply : Reply) : Type 0 where
-  pub made : MakesTable told told' old new def reply faults faults' ⊎ (IsSame old new × (told' ≡ told) × (faults' ≡ faults) × (moment' ≡ moment) × (reply ≡ faulty code.Memory))
+pub record Makes (told told' : Option Held) (faults faults' : ℕ) (mark mark' : Mark) (old new : Tier) (def : TableDef) (reply : Reply) : Type 0 where
+  pub made : MakesTable mark.shared told told' old new def reply faults faults' ⊎ (IsSame old new × (told' ≡ told) × (faults' ≡ faults) × (mark'.moment ≡ mark.moment) × (reply ≡ faulty code.Memory))
   pub later : faults ≤ faults'
-  pub on : moment ≤ moment'
+  pub on : mark.moment ≤ mark'.moment
+  pub shares : mark'.shared ≡ mark.shared

@@ -9,7 +9,7 @@ ghost use Rattle.table_state.specs.declared.history.Sealed.{Sealed as OneSealed}
 ghost use Rattle.row_types.specs.declared.rule.Detail.TheVariants as detail;
 ghost use Rattle.table_state.specs.Declarations.{IsRefusedBy, Tells, broken, resolved};
 ghost use Rattle.sql_subset.specs.declared.request.ConsoleRequest.TheVariants as console;
-ghost use Rattle.tier_engine.specs.Standing.{AskServes, Made, StandsFor};
+ghost use Rattle.tier_engine.specs.Standing.{AskServes, IsApart, Made, StandsFor, mark_of};
 ghost use Rattle.tier_engine.specs.Steps.{Asked, DoesConsole, TellsBankFault, WantsMemory, bank_fault, cached_fault, stopped};
 ghost use Rattle.tier_engine.specs.Storing.{JudgesTable, Makes, judged_parent, judged_table};
 
@@ -27,8 +27,9 @@ use tier_base::{Code, Name};
 impl Tier {
     /// Asks the backing database for its schema. A reply is the fault of the question.
     pub fn ask<P: Site>(&mut self, alloc: Global, site: &mut P) -> Option<Reply>
-        ensures step { (log : List OneSealed) (held : Held) → P.Disk.held site.old ≡ Some held → StandsFor self.old log held.history → Made (P.Disk.held site.new) (P.bank_faults site.old) (P.bank_faults site.new) (P.Disk.moment site.old) (P.Disk.moment site.new) self.old self.new log held (λ w w'. (answer : Result (List OneDef) OneBankError) × Asked answer w w' × (result ≡ stopped answer)) }
+        ensures step { (log : List OneSealed) (held : Held) → P.Disk.held site.old ≡ Some held → StandsFor self.old log held.history → IsApart self.old log (P.Disk.shared site.old) → Made (P.Disk.held site.new) (P.bank_faults site.old) (P.bank_faults site.new) (mark_of (P.Disk.moment site.old) (P.Disk.shared site.old)) (mark_of (P.Disk.moment site.new) (P.Disk.shared site.new)) self.old self.new log held (λ w w'. (answer : Result (List OneDef) OneBankError) × Asked answer w w' × (result ≡ stopped answer)) }
         ensures later { P.bank_faults site.old ≤ P.bank_faults site.new }
+        ensures shares { P.Disk.shared site.new ≡ P.Disk.shared site.old }
         ensures moment { P.Disk.moment site.old ≤ P.Disk.moment site.new }
         ensures cause { IfSome result (λ reply. TellsBankFault reply → Rose (P.bank_faults site.old) (P.bank_faults site.new)) }
     {
@@ -43,8 +44,9 @@ impl Tier {
 
     /// Asks the backing database for its schema where this says so.
     pub fn ask_where<P: Site>(&mut self, alloc: Global, site: &mut P, asks: bool) -> Option<Reply>
-        ensures step { AskServes (P.Disk.held site.old) (P.Disk.held site.new) (P.bank_faults site.old) (P.bank_faults site.new) (P.Disk.moment site.old) (P.Disk.moment site.new) self.old self.new asks result }
+        ensures step { AskServes (P.Disk.held site.old) (P.Disk.held site.new) (P.bank_faults site.old) (P.bank_faults site.new) (mark_of (P.Disk.moment site.old) (P.Disk.shared site.old)) (mark_of (P.Disk.moment site.new) (P.Disk.shared site.new)) self.old self.new asks result }
         ensures later { P.bank_faults site.old ≤ P.bank_faults site.new }
+        ensures shares { P.Disk.shared site.new ≡ P.Disk.shared site.old }
         ensures cause { IfSome result (λ reply. TellsBankFault reply → Rose (P.bank_faults site.old) (P.bank_faults site.new)) }
     {
         if asks { self.ask(alloc, site) } else { None }
@@ -58,8 +60,9 @@ impl Tier {
         site: &mut P,
         declaration: &TableDeclaration,
     ) -> Reply
-        ensures step { (log : List OneSealed) (held : Held) → P.Disk.held site.old ≡ Some held → StandsFor self.old log held.history → Made (P.Disk.held site.new) (P.bank_faults site.old) (P.bank_faults site.new) (P.Disk.moment site.old) (P.Disk.moment site.new) self.old self.new log held (λ w w'. DoesConsole (console.CreateTable declaration.now) w w' result ⊎ WantsMemory w w' result) }
+        ensures step { (log : List OneSealed) (held : Held) → P.Disk.held site.old ≡ Some held → StandsFor self.old log held.history → IsApart self.old log (P.Disk.shared site.old) → Made (P.Disk.held site.new) (P.bank_faults site.old) (P.bank_faults site.new) (mark_of (P.Disk.moment site.old) (P.Disk.shared site.old)) (mark_of (P.Disk.moment site.new) (P.Disk.shared site.new)) self.old self.new log held (λ w w'. DoesConsole (console.CreateTable declaration.now) w w' result ⊎ WantsMemory w w' result) }
         ensures later { P.bank_faults site.old ≤ P.bank_faults site.new }
+        ensures shares { P.Disk.shared site.new ≡ P.Disk.shared site.old }
         ensures cause { TellsBankFault result → Rose (P.bank_faults site.old) (P.bank_faults site.new) }
     {
         later_table_law();
@@ -87,7 +90,7 @@ impl Tier {
     /// Makes a table. All memory is taken before the call of the bank.
     fn define<P: Site>(&mut self, alloc: Global, site: &mut P, def: TableDef) -> Reply
         requires { IsSome self.old.known }
-        ensures { Makes (P.Disk.held site.old) (P.Disk.held site.new) (P.bank_faults site.old) (P.bank_faults site.new) (P.Disk.moment site.old) (P.Disk.moment site.new) self.old self.new def result }
+        ensures { Makes (P.Disk.held site.old) (P.Disk.held site.new) (P.bank_faults site.old) (P.bank_faults site.new) (mark_of (P.Disk.moment site.old) (P.Disk.shared site.old)) (mark_of (P.Disk.moment site.new) (P.Disk.shared site.new)) self.old self.new def result }
     {
         let Some(known) = &mut self.known else {
             unreachable!()
@@ -153,7 +156,7 @@ fn taken_name(alloc: Global, declaration: &TableDeclaration) -> Refused
 }
 
 /// A rule that this name breaks.
-fn named(alloc: Global, code: Code, name: &Name) -> Refused
+pub(crate) fn named(alloc: Global, code: Code, name: &Name) -> Refused
     ensures { IsRefusedBy (broken code (detail.Name name.now)) result }
 {
     match name.copied(alloc) {

@@ -7,7 +7,7 @@ ghost use Rattle.table_state.specs.Declarations.{Tells};
 ghost use Rattle.sql_subset.specs.declared.stmt.Stmt.TheVariants as statement;
 ghost use Rattle.tier_engine.specs.LiteralValues.{values_of};
 ghost use Rattle.tier_engine.specs.Refusals.{insert_fault, unknown_table};
-ghost use Rattle.tier_engine.specs.Standing.{InOpen, ServesPart, StandsFor, Turns, own_in};
+ghost use Rattle.tier_engine.specs.Standing.{InOpen, ServesPart, StandsFor, Turns, mark_of, own_in};
 ghost use Rattle.tier_engine.specs.Steps.{WantsMemory};
 ghost use Rattle.tier_engine.specs.Storing.{Puts, Settles, place_named};
 ghost use Rattle.tier_engine.specs.declared.tier.Group.{Group as OneGroup};
@@ -31,8 +31,9 @@ impl Tier {
     /// virtual state with the session's writes. After an error the tier is as before.
     pub fn insert<P: Site>(&mut self, alloc: Global, site: &mut P, insert: Insert) -> Reply
         requires { IsSome self.old.session }
-        ensures step { ServesPart (P.Disk.held site.old) (P.Disk.held site.new) (P.bank_faults site.old) (P.bank_faults site.new) (P.Disk.moment site.old) (P.Disk.moment site.new) self.old self.new result (λ w w'. InOpen w.tier.session (statement.Insert insert) w w' result ⊎ WantsMemory w w' result) }
+        ensures step { ServesPart (P.Disk.held site.old) (P.Disk.held site.new) (P.bank_faults site.old) (P.bank_faults site.new) (mark_of (P.Disk.moment site.old) (P.Disk.shared site.old)) (mark_of (P.Disk.moment site.new) (P.Disk.shared site.new)) self.old self.new result (λ w w'. InOpen w.tier.session (statement.Insert insert) w w' result ⊎ WantsMemory w w' result) }
         ensures later { P.bank_faults site.old ≤ P.bank_faults site.new }
+        ensures shares { P.Disk.shared site.new ≡ P.Disk.shared site.old }
     {
         let Insert { table, values } = insert;
         let Some(place) = place_of_group(self.groups.as_slice(), &table) else {
@@ -85,7 +86,7 @@ impl Tier {
 
     /// Asks the backing database for the key of the row that was put in last, and takes it back where the key has a row.
     fn settle_put<P: Site>(&mut self, alloc: Global, site: &mut P, asked: Asked) -> Reply
-        ensures { Settles (P.Disk.held site.old) (P.Disk.held site.new) (P.bank_faults site.old) (P.bank_faults site.new) (P.Disk.moment site.old) (P.Disk.moment site.new) self.old self.new asked result }
+        ensures { Settles (P.Disk.held site.old) (P.Disk.held site.new) (P.bank_faults site.old) (P.bank_faults site.new) (mark_of (P.Disk.moment site.old) (P.Disk.shared site.old)) (mark_of (P.Disk.moment site.new) (P.Disk.shared site.new)) self.old self.new asked result }
     {
         match site.find(asked.table, &asked.key) {
             Ok(None) => Reply::done(alloc, 1),

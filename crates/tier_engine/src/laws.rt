@@ -1,12 +1,14 @@
 //! Laws of the definitions, each on the contract of a function that does nothing.
 
-ghost use Rattle.std.specs.Prelude.{ℕ, Bool, List, Option};
+ghost use Rattle.std.specs.Prelude.{ℕ, ◌++◌, Bool, List, Option};
+ghost use Rattle.outside.specs.Others.{AreOthers};
+ghost use Rattle.tier_base.specs.declared.number.TableId.{TableId};
 ghost use Rattle.table_state.specs.declared.history.Entry.{Entry};
 ghost use Rattle.table_state.specs.declared.history.Sealed.{Sealed};
 ghost use Rattle.tier_engine.specs.declared.reply.Reply.{Reply};
 ghost use Rattle.tier_engine.specs.declared.tier.Tier.{Tier};
 ghost use Rattle.tier_engine.specs.Commits.{IsLegal};
-ghost use Rattle.tier_engine.specs.Standing.{StandsFor};
+ghost use Rattle.tier_engine.specs.Standing.{IsApart, StandsFor};
 ghost use Rattle.tier_engine.specs.Steps.{AreCaused, Run, World};
 
 /// Whatever is called a conflict, a tier stands for committed transactions only over a history that has each of them at
@@ -18,4 +20,9 @@ pub fn legal_law()
 /// In a run each fault of the bank that is told has a failed call of its own.
 pub fn fault_law()
     ensures { (w w' : World) (lines : List (List ℕ)) (replies : List (Option Reply)) → Run w lines replies w' → AreCaused w replies w' }
+{}
+
+/// A tier stands for the same committed transactions where others change tables of no group.
+pub fn others_law()
+    ensures { (tier : Tier) (log : List Sealed) (shared : List TableId) (history others : List Entry) → IsApart tier log shared → AreOthers shared history others → StandsFor tier log history → StandsFor tier log (history ++ others) }
 {}

@@ -4,6 +4,7 @@
 mod bank;
 mod cached;
 mod commit;
+mod console;
 mod define_group;
 mod drain;
 mod insert;

@@ -5,7 +5,7 @@ ghost use Rattle.std.specs.Result.{IsErrOf, OnOk};
 ghost use Rattle.outside.specs.Calls.{BankCall, Told};
 ghost use Rattle.outside.specs.Faults.{Rose};
 ghost use Rattle.outside.specs.Holding.{Held};
-ghost use Rattle.tier_engine.specs.Rounds.{FirstDiffers};
+ghost use Rattle.tier_engine.specs.Rounds.{DifferedAt};
 ghost use Rattle.tier_engine.specs.RoundStates.{RoundGoes, Settles};
 ghost use Rattle.tier_engine.specs.declared.rounds.RoundFault.TheVariants as stop;
 
@@ -28,12 +28,13 @@ pub enum RoundFault {
 ///
 /// After a fault those without a receipt stay, in their order; the first of them may have come where the bank failed.
 pub fn round<P: Site>(site: &mut P, unsettled: &mut VecDeque<Sealed>) -> Result<u64, RoundFault>
-    ensures goes { RoundGoes (P.Disk.held site.old) (P.Disk.held site.new) unsettled.old.items unsettled.new.items }
+    ensures goes { RoundGoes (P.Disk.shared site.old) (P.Disk.held site.old) (P.Disk.held site.new) unsettled.old.items unsettled.new.items }
     ensures all { OnOk result (unsettled.new.items ≡ []) }
     ensures told { IfOk result (λ n. n ≡ length unsettled.old.items) }
-    ensures differs { IsErrOf result stop.Differs → IsSome (P.Disk.held site.old) → (held : Held) → P.Disk.held site.new ≡ Some held → FirstDiffers unsettled.new.items held.history }
+    ensures differs { IsErrOf result stop.Differs → IsSome (P.Disk.held site.old) → (held : Held) → P.Disk.held site.new ≡ Some held → DifferedAt (P.Disk.shared site.old) unsettled.new.items held.history }
     ensures faults { P.bank_faults site.old ≤ P.bank_faults site.new }
     ensures moment { P.Disk.moment site.old ≤ P.Disk.moment site.new }
+    ensures shares { P.Disk.shared site.new ≡ P.Disk.shared site.old }
     ensures cause { IsErrOf result stop.Failed → Rose (P.bank_faults site.old) (P.bank_faults site.new) }
 {
     let mut receipts = 0;
@@ -47,9 +48,10 @@ pub fn round<P: Site>(site: &mut P, unsettled: &mut VecDeque<Sealed>) -> Result<
 
 /// Sees to it that the transaction stands in the backing history.
 fn settle<P: Site>(site: &mut P, sealed: &Sealed) -> Result<(), RoundFault>
-    ensures told { Told (P.Disk.held site.old) (P.Disk.held site.new) (BankCall (Settles sealed.now result)) }
+    ensures told { Told (P.Disk.held site.old) (P.Disk.held site.new) (BankCall (P.Disk.shared site.old) (Settles sealed.now result)) }
     ensures faults { P.bank_faults site.old ≤ P.bank_faults site.new }
     ensures moment { P.Disk.moment site.old ≤ P.Disk.moment site.new }
+    ensures shares { P.Disk.shared site.new ≡ P.Disk.shared site.old }
     ensures cause { IsErrOf result stop.Failed → Rose (P.bank_faults site.old) (P.bank_faults site.new) }
 {
     match site.apply_once(sealed, &[]) {

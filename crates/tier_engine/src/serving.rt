@@ -8,9 +8,10 @@ ghost use Rattle.sql_subset.specs.declared.request.Line.TheVariants as says;
 ghost use Rattle.sql_subset.specs.declared.request.Request.TheVariants as asks_for;
 ghost use Rattle.sql_subset.specs.Lines.{is_silent};
 ghost use Rattle.tier_engine.specs.Refusals.{wrong_at};
-ghost use Rattle.tier_engine.specs.Standing.{ServesPart, tier_state};
+ghost use Rattle.tier_engine.specs.Standing.{ServesPart, mark_of, tier_state};
 ghost use Rattle.tier_engine.specs.Steps.{Heeds, Parts, console_asks, request_asks};
 
+use crate::console::writes_uncached;
 use crate::insert::past;
 use crate::reply::Reply;
 use crate::tier::Tier;
@@ -18,16 +19,17 @@ use outside::Site;
 use row_types::{Detail, Rule, TableDeclaration};
 use sql_subset::line::parse_line;
 use sql_subset::request::{ConsoleRequest, Line, ParseError, Request};
-use sql_subset::stmt::Stmt;
+use sql_subset::stmt::{Stmt, Write};
 use std::alloc::Global;
-use tier_base::{Code, Label, Limit};
+use tier_base::{Code, Label, Limit, Seq};
 
 impl Tier {
     /// Answers a line that isn't silent.
     pub fn serve<P: Site>(&mut self, alloc: Global, site: &mut P, line: &[u8]) -> Reply
         requires { is_silent line.now ≡ false }
-        ensures step { ServesPart (P.Disk.held site.old) (P.Disk.held site.new) (P.bank_faults site.old) (P.bank_faults site.new) (P.Disk.moment site.old) (P.Disk.moment site.new) self.old self.new result (λ w w'. Heeds w line.now w' result) }
+        ensures step { ServesPart (P.Disk.held site.old) (P.Disk.held site.new) (P.bank_faults site.old) (P.bank_faults site.new) (mark_of (P.Disk.moment site.old) (P.Disk.shared site.old)) (mark_of (P.Disk.moment site.new) (P.Disk.shared site.new)) self.old self.new result (λ w w'. Heeds w line.now w' result) }
         ensures later { P.bank_faults site.old ≤ P.bank_faults site.new }
+        ensures shares { P.Disk.shared site.new ≡ P.Disk.shared site.old }
     {
         match parse_line(alloc, line) {
             Ok(None) => unreachable!(),
@@ -39,8 +41,9 @@ impl Tier {
     }
 
     fn serve_line<P: Site>(&mut self, alloc: Global, site: &mut P, line: Line) -> Reply
-        ensures step { ServesPart (P.Disk.held site.old) (P.Disk.held site.new) (P.bank_faults site.old) (P.bank_faults site.new) (P.Disk.moment site.old) (P.Disk.moment site.new) self.old self.new result (λ w w'. Parts line w w' result) }
+        ensures step { ServesPart (P.Disk.held site.old) (P.Disk.held site.new) (P.bank_faults site.old) (P.bank_faults site.new) (mark_of (P.Disk.moment site.old) (P.Disk.shared site.old)) (mark_of (P.Disk.moment site.new) (P.Disk.shared site.new)) self.old self.new result (λ w w'. Parts line w w' result) }
         ensures later { P.bank_faults site.old ≤ P.bank_faults site.new }
+        ensures shares { P.Disk.shared site.new ≡ P.Disk.shared site.old }
     {
         match line {
             Line::Session(label, request) => self.serve_request(alloc, site, label, request),
@@ -55,8 +58,9 @@ impl Tier {
         label: Label,
         request: Request,
     ) -> Reply
-        ensures step { ServesPart (P.Disk.held site.old) (P.Disk.held site.new) (P.bank_faults site.old) (P.bank_faults site.new) (P.Disk.moment site.old) (P.Disk.moment site.new) self.old self.new result (λ w w'. Parts (says.Session label request) w w' result) }
+        ensures step { ServesPart (P.Disk.held site.old) (P.Disk.held site.new) (P.bank_faults site.old) (P.bank_faults site.new) (mark_of (P.Disk.moment site.old) (P.Disk.shared site.old)) (mark_of (P.Disk.moment site.new) (P.Disk.shared site.new)) self.old self.new result (λ w w'. Parts (says.Session label request) w w' result) }
         ensures later { P.bank_faults site.old ≤ P.bank_faults site.new }
+        ensures shares { P.Disk.shared site.new ≡ P.Disk.shared site.old }
     {
         match request {
             Request::Open(options) => self.open_session(alloc, label, options),
@@ -71,8 +75,9 @@ impl Tier {
         site: &mut P,
         request: ConsoleRequest,
     ) -> Reply
-        ensures step { ServesPart (P.Disk.held site.old) (P.Disk.held site.new) (P.bank_faults site.old) (P.bank_faults site.new) (P.Disk.moment site.old) (P.Disk.moment site.new) self.old self.new result (λ w w'. Parts (says.Console request) w w' result) }
+        ensures step { ServesPart (P.Disk.held site.old) (P.Disk.held site.new) (P.bank_faults site.old) (P.bank_faults site.new) (mark_of (P.Disk.moment site.old) (P.Disk.shared site.old)) (mark_of (P.Disk.moment site.new) (P.Disk.shared site.new)) self.old self.new result (λ w w'. Parts (says.Console request) w w' result) }
         ensures later { P.bank_faults site.old ≤ P.bank_faults site.new }
+        ensures shares { P.Disk.shared site.new ≡ P.Disk.shared site.old }
     {
         match request {
             ConsoleRequest::CreateTable(declaration) => self.serve_create(
@@ -80,7 +85,7 @@ impl Tier {
                 site,
                 &declaration,
             ),
-            ConsoleRequest::Writes(_) => Reply::not_yet(alloc),
+            ConsoleRequest::Writes(writes) => self.serve_writes(alloc, site, writes),
         }
     }
 
@@ -91,8 +96,9 @@ impl Tier {
         label: Label,
         statement: Stmt,
     ) -> Reply
-        ensures step { ServesPart (P.Disk.held site.old) (P.Disk.held site.new) (P.bank_faults site.old) (P.bank_faults site.new) (P.Disk.moment site.old) (P.Disk.moment site.new) self.old self.new result (λ w w'. Parts (says.Session label (asks_for.Statement statement)) w w' result) }
+        ensures step { ServesPart (P.Disk.held site.old) (P.Disk.held site.new) (P.bank_faults site.old) (P.bank_faults site.new) (mark_of (P.Disk.moment site.old) (P.Disk.shared site.old)) (mark_of (P.Disk.moment site.new) (P.Disk.shared site.new)) self.old self.new result (λ w w'. Parts (says.Session label (asks_for.Statement statement)) w w' result) }
         ensures later { P.bank_faults site.old ≤ P.bank_faults site.new }
+        ensures shares { P.Disk.shared site.new ≡ P.Disk.shared site.old }
     {
         let asks = self.asks_before(&label, &statement);
         match self.ask_where(alloc, site, asks) {
@@ -107,13 +113,26 @@ impl Tier {
         site: &mut P,
         declaration: &TableDeclaration,
     ) -> Reply
-        ensures step { ServesPart (P.Disk.held site.old) (P.Disk.held site.new) (P.bank_faults site.old) (P.bank_faults site.new) (P.Disk.moment site.old) (P.Disk.moment site.new) self.old self.new result (λ w w'. Parts (says.Console (console.CreateTable declaration.now)) w w' result) }
+        ensures step { ServesPart (P.Disk.held site.old) (P.Disk.held site.new) (P.bank_faults site.old) (P.bank_faults site.new) (mark_of (P.Disk.moment site.old) (P.Disk.shared site.old)) (mark_of (P.Disk.moment site.new) (P.Disk.shared site.new)) self.old self.new result (λ w w'. Parts (says.Console (console.CreateTable declaration.now)) w w' result) }
         ensures later { P.bank_faults site.old ≤ P.bank_faults site.new }
+        ensures shares { P.Disk.shared site.new ≡ P.Disk.shared site.old }
     {
         let asks = self.asks_before_create(declaration);
         match self.ask_where(alloc, site, asks) {
             Some(fault) => fault,
             None => self.create_table(alloc, site, declaration),
+        }
+    }
+
+    fn serve_writes<P: Site>(&mut self, alloc: Global, site: &mut P, writes: Seq<Write>) -> Reply
+        ensures step { ServesPart (P.Disk.held site.old) (P.Disk.held site.new) (P.bank_faults site.old) (P.bank_faults site.new) (mark_of (P.Disk.moment site.old) (P.Disk.shared site.old)) (mark_of (P.Disk.moment site.new) (P.Disk.shared site.new)) self.old self.new result (λ w w'. Parts (says.Console (console.Writes writes)) w w' result) }
+        ensures later { P.bank_faults site.old ≤ P.bank_faults site.new }
+        ensures shares { P.Disk.shared site.new ≡ P.Disk.shared site.old }
+    {
+        let asks = self.asks_before_writes(writes.as_slice());
+        match self.ask_where(alloc, site, asks) {
+            Some(fault) => fault,
+            None => self.write_console(alloc, site, writes),
         }
     }
 
@@ -135,6 +154,12 @@ impl Tier {
         ensures { (log : List OneSealed) → result ≡ console_asks (tier_state self.now log) (console.CreateTable declaration.now) }
     {
         self.known.is_none() && !self.is_cached(&declaration.name)
+    }
+
+    fn asks_before_writes(&self, writes: &[Write]) -> bool
+        ensures { (log : List OneSealed) → result ≡ console_asks (tier_state self.now log) (console.Writes writes.now) }
+    {
+        self.known.is_none() && writes_uncached(self.groups.as_slice(), writes)
     }
 }
 

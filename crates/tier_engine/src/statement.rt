@@ -4,7 +4,7 @@ ghost use Rattle.std.specs.Prelude.{◌≡◌, ◌≤◌, ◌⊎◌, List, IfErr
 ghost use Rattle.table_state.specs.declared.history.Entry.{Entry};
 ghost use Rattle.table_state.specs.declared.history.Sealed.{Sealed as OneSealed};
 ghost use Rattle.sql_subset.specs.declared.stmt.Stmt.TheVariants as statement;
-ghost use Rattle.tier_engine.specs.Standing.{InOpen, ServesPart, tier_state};
+ghost use Rattle.tier_engine.specs.Standing.{InOpen, ServesPart, mark_of, tier_state};
 ghost use Rattle.tier_engine.specs.Steps.{ForSession, WantsMemory, call_fault, is_cached, names_uncached};
 ghost use Rattle.tier_engine.specs.TierStates.{session_of};
 
@@ -27,8 +27,9 @@ impl Tier {
         label: Label,
         statement: Stmt,
     ) -> Reply
-        ensures step { ServesPart (P.Disk.held site.old) (P.Disk.held site.new) (P.bank_faults site.old) (P.bank_faults site.new) (P.Disk.moment site.old) (P.Disk.moment site.new) self.old self.new result (λ w w'. ForSession label (session_of w.tier label) statement w w' result ⊎ WantsMemory w w' result) }
+        ensures step { ServesPart (P.Disk.held site.old) (P.Disk.held site.new) (P.bank_faults site.old) (P.bank_faults site.new) (mark_of (P.Disk.moment site.old) (P.Disk.shared site.old)) (mark_of (P.Disk.moment site.new) (P.Disk.shared site.new)) self.old self.new result (λ w w'. ForSession label (session_of w.tier label) statement w w' result ⊎ WantsMemory w w' result) }
         ensures later { P.bank_faults site.old ≤ P.bank_faults site.new }
+        ensures shares { P.Disk.shared site.new ≡ P.Disk.shared site.old }
     {
         if !self.is_open(&label) {
             return Reply::refuses(alloc, unknown_session(label));
@@ -38,8 +39,9 @@ impl Tier {
 
     fn execute<P: Site>(&mut self, alloc: Global, site: &mut P, statement: Stmt) -> Reply
         requires { IsSome self.old.session }
-        ensures step { ServesPart (P.Disk.held site.old) (P.Disk.held site.new) (P.bank_faults site.old) (P.bank_faults site.new) (P.Disk.moment site.old) (P.Disk.moment site.new) self.old self.new result (λ w w'. InOpen w.tier.session statement w w' result ⊎ WantsMemory w w' result) }
+        ensures step { ServesPart (P.Disk.held site.old) (P.Disk.held site.new) (P.bank_faults site.old) (P.bank_faults site.new) (mark_of (P.Disk.moment site.old) (P.Disk.shared site.old)) (mark_of (P.Disk.moment site.new) (P.Disk.shared site.new)) self.old self.new result (λ w w'. InOpen w.tier.session statement w w' result ⊎ WantsMemory w w' result) }
         ensures later { P.bank_faults site.old ≤ P.bank_faults site.new }
+        ensures shares { P.Disk.shared site.new ≡ P.Disk.shared site.old }
     {
         match statement {
             Stmt::Select(select) => self.select(alloc, select),
@@ -55,8 +57,9 @@ impl Tier {
     /// CALL. 103 of a procedure that there isn't, 104 of arguments that it doesn't take.
     fn call<P: Site>(&mut self, alloc: Global, site: &mut P, call: Call) -> Reply
         requires { IsSome self.old.session }
-        ensures step { ServesPart (P.Disk.held site.old) (P.Disk.held site.new) (P.bank_faults site.old) (P.bank_faults site.new) (P.Disk.moment site.old) (P.Disk.moment site.new) self.old self.new result (λ w w'. InOpen w.tier.session (statement.Call call) w w' result ⊎ WantsMemory w w' result) }
+        ensures step { ServesPart (P.Disk.held site.old) (P.Disk.held site.new) (P.bank_faults site.old) (P.bank_faults site.new) (mark_of (P.Disk.moment site.old) (P.Disk.shared site.old)) (mark_of (P.Disk.moment site.new) (P.Disk.shared site.new)) self.old self.new result (λ w w'. InOpen w.tier.session (statement.Call call) w w' result ⊎ WantsMemory w w' result) }
         ensures later { P.bank_faults site.old ≤ P.bank_faults site.new }
+        ensures shares { P.Disk.shared site.new ≡ P.Disk.shared site.old }
     {
         match judge_call(call) {
             Some(rule) => Reply::refuses(alloc, rule),
