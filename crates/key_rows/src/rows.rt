@@ -1,6 +1,6 @@
 //! Rows in key order.
 
-ghost use Rattle.std.specs.Prelude.{◌≡◌, ◌==◌, ◌<◌, ◌≤◌, ◌≢◌, List, All, take, drop, MatchResult, IfOk, IfErr, OnOk, OnErr, OnSome, length, None, Some, false, not, slice_get, MatchOption, option_copied, if◌then◌else◌};
+ghost use Rattle.std.specs.Prelude.{◌≡◌, ◌==◌, ◌<◌, ◌≤◌, ◌≢◌, ◌++◌, List, All, take, drop, MatchResult, IfOk, IfErr, OnOk, OnErr, OnSome, length, None, Some, false, not, slice_get, MatchOption, option_copied, if◌then◌else◌};
 ghost use Rattle.std.specs.List.Sorted.{IsSearchInRange};
 ghost use Rattle.row_types.specs.declared.value.Value.{Value};
 ghost use Rattle.row_types.specs.Order.{key_order};
@@ -8,7 +8,7 @@ ghost use Rattle.key_rows.specs.Places.{IsKeyAt, IsGapFor, IsSplitAt};
 ghost use Rattle.std.specs.FinMap as map;
 
 use long_list::{LongList, Probe};
-use row_types::{Key, Row};
+use row_types::{Key, Row, Value, order, order_of_values};
 use std::alloc::{AllocError, Global};
 use std::cmp::Ordering;
 use std::marker::Model;
@@ -22,6 +22,31 @@ impl<'a> Probe<(Key, Row)> for ByKey<'a> {
 
     fn order(&self, entry: &(Key, Row)) -> Ordering {
         entry.0.order(self.0)
+    }
+}
+
+// The entry of the key that two lists make, one behind the other.
+#[derive(Drop)]
+struct ByParts<'a>(&'a [Value], &'a [Value]);
+
+impl<'a> Probe<(Key, Row)> for ByParts<'a> {
+    ghost order_gives = { λ sought entry. key_order entry.0 (sought.0.now ++ sought.1.now) };
+
+    fn order(&self, entry: &(Key, Row)) -> Ordering {
+        order_to_parts(entry.0.values(), self.0, self.1)
+    }
+}
+
+fn order_to_parts(values: &[Value], head: &[Value], tail: &[Value]) -> Ordering
+    ensures { result ≡ key_order values.now (head.now ++ tail.now) }
+{
+    match (values.split_first(), head.split_first()) {
+        (_, None) => order_of_values(values, tail),
+        (None, Some(_)) => Ordering::Less,
+        (Some((a, values)), Some((b, head))) => match order(a, b) {
+            Ordering::Equal => order_to_parts(values, head, tail),
+            decided => decided,
+        },
     }
 }
 
@@ -126,6 +151,26 @@ impl Rows {
         match self.search(key) {
             Ok(place) => place,
             Err(place) => place,
+        }
+    }
+
+    fn search_parts(&self, head: &[Value], tail: &[Value]) -> Result<usize, usize>
+        ensures bound { IsSearchInRange result (map.len self.now) }
+        ensures split { MatchResult result (IsSplitAt (map.entries self.now) (head.now ++ tail.now)) (IsSplitAt (map.entries self.now) (head.now ++ tail.now)) }
+    {
+        self.entries.search(&ByParts(head, tail))
+    }
+
+    /// The place of the first key that isn't below the one that two lists make, one behind the other, or the length
+    /// where each is below it. It takes no memory.
+    pub fn first_at_least_parts(&self, head: &[Value], tail: &[Value]) -> usize
+        ensures bound { result ≤ map.len self.now }
+        ensures below { All (λ other. key_order other (head.now ++ tail.now) ≡ Ordering.Less) (take result (map.keys self.now)) }
+        ensures at_least { All (λ other. key_order other (head.now ++ tail.now) ≢ Ordering.Less) (drop result (map.keys self.now)) }
+    {
+        match self.search_parts(head, tail) {
+            Ok(found) => found,
+            Err(gap) => gap,
         }
     }
 

@@ -1,11 +1,10 @@
 -- A table that isn't there has no rows.
-use Rattle.std.proofs.Common.{◌≡◌, ◌≤◌, ℕ, Bool, Option, None, List, [], ◌∷◌, drop, length, slice_get, unwrap_or, refl, sym, ap, ◌∙◌, zero, suc, arith}
+use Rattle.std.proofs.Common.{◌≡◌, ◌≤◌, ℕ, Option, None, List, [], ◌∷◌, length, slice_get, unwrap_or, refl, sym, ap, ◌∙◌, zero, suc, arith}
 use Rattle.std.proofs.lemmas.List.{length-map, nil_from_length}
 use Rattle.std.specs.FinMap as fm
 use Rattle.row_types.specs.declared.value.Value.{Value}
 use Rattle.row_types.specs.Order.{key_order}
 use Rattle.table_state.specs.Tables.{Table}
-use Rattle.table_scan.specs.Children.{first_from}
 
 module _ (found : Option Table) (none : None ≡ found) where
   pub no_table : unwrap_or found fm.empty ≡ fm.empty
@@ -22,13 +21,6 @@ module _ (found : Option Table) (none : None ≡ found) where
 
   pub no_value : (place : ℕ) → None ≡ slice_get (fm.values (unwrap_or found fm.empty)) place
   no_value place = sym (ap (λ l. slice_get l place) no_values)
-
-  nothing_behind : {A : Type 0} (from : ℕ) → drop {A = A} from [] ≡ []
-  nothing_behind zero = refl
-  nothing_behind (suc from) = refl
-
-  pub no_child : (p : List Value → Bool) (from : ℕ) → None ≡ first_from p from (drop from (fm.values (unwrap_or found fm.empty)))
-  no_child p from = sym (ap (λ l. first_from p from (drop from l)) no_values ∙ ap (first_from p from) (nothing_behind from))
 
 past : {A : Type 0} (xs : List A) (i : ℕ) → length xs ≤ i → None ≡ slice_get xs i
 past [] i h = refl

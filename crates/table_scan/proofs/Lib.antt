@@ -1,4 +1,3 @@
-pub mod ChildLaws
 pub mod EmptyTables
 pub mod KeyLaws
 pub mod KeyedLaws

@@ -1,15 +1,12 @@
 -- Rows that stand under their own primary keys, and have a value for each column. (TimesTen SQL Reference, "CREATE
 -- TABLE": primary keys.)
 
-use Rattle.std.specs.Prelude.{◌≡◌, ℕ, List, Bool, Some, length, slice_get}
+use Rattle.std.specs.Prelude.{◌≡◌, ℕ, List, Some, length, slice_get}
 use Rattle.std.specs.FinMap.{get}
 use Rattle.row_types.specs.declared.value.Value.{Value}
 use Rattle.table_state.specs.declared.definition.TableDef.{TableDef}
-use Rattle.table_state.specs.Tables.{Table, TableState, is_same, key_of}
-
--- the row has this key at these places
-abbrev pub has_key : List ℕ → List Value → List Value → Bool
-has_key places key row = is_same (key_of places row) key
+use Rattle.table_state.specs.Tables.{Table, TableState, key_of}
+pub use Rattle.table_state.specs.Children.{has_key}
 
 -- the row of each key has that key at these places
 abbrev pub IsUnderKeys : List ℕ → Table → Type 0

@@ -1,7 +1,6 @@
 //! Tables as a query reads them: rows by place in key order, and by key.
 #![tactic(auto)]
 
-pub mod children;
 pub mod laws;
 pub mod scan;
 

@@ -5,7 +5,6 @@ ghost use Rattle.std.specs.FinMap as map;
 ghost use Rattle.table_state.specs.Tables.{TableState, table_at};
 ghost use Rattle.table_scan.specs.Children.{child_from};
 
-use crate::children::child_from;
 use key_rows::Rows;
 use row_types::{Key, Row};
 use table_state::{BackingSchema, Tables};
@@ -31,8 +30,8 @@ pub trait Scan {
     fn find(&self, table: TableId, key: &Key) -> Option<&Row>
         ensures { option_copied result ≡ map.get (table_at (state self.now) table) key.now };
 
-    /// The first place, from a place on, of a row that refers to the key by its table's foreign key. Rows may be gone
-    /// through for it: what the call costs isn't told, so an index can stand behind it.
+    /// The first place, from a place on, of a row that refers to the key by its table's foreign key. It is to cost no
+    /// more than a look-up.
     fn child(&self, table: TableId, key: &Key, from: usize) -> Option<usize>
         ensures { result ≡ child_from (state self.now) table key.now from };
 }
@@ -66,11 +65,7 @@ impl Scan for Tables {
     }
 
     fn child(&self, table: TableId, key: &Key, from: usize) -> Option<usize> {
-        let def = Tables::schema(self).get(table.0 as usize);
-        match self.table(table) {
-            None => None,
-            Some(rows) => child_from(rows, def, key, from),
-        }
+        Tables::child(self, table, key, from)
     }
 }
 

@@ -6,9 +6,8 @@ ghost use Rattle.table_state.specs.Changes.{all_taken_back, put_in, put_over, ta
 ghost use Rattle.table_state.specs.Tables.{table_at};
 
 use crate::tables::Tables;
-use key_rows::Rows;
 use row_types::{Key, Row};
-use std::alloc::AllocError;
+use std::alloc::{AllocError, Global};
 use tier_base::TableId;
 
 /// How a change of one row is taken back.
@@ -22,55 +21,60 @@ pub(crate) enum Undo {
 
 impl Tables {
     /// Puts in a row where its key has none.
-    pub(crate) fn put_new(&mut self, table: TableId, key: Key, row: Row) -> Result<(), AllocError>
-        ensures ok { OnOk result (self.new ≡ with_table self.old table (put_in (table_at self.old table) key row)) }
+    pub(crate) fn put_new(
+        &mut self,
+        alloc: Global,
+        table: TableId,
+        key: &Key,
+        row: Row,
+    ) -> Result<(), AllocError>
+        ensures ok { OnOk result (self.new ≡ with_table self.old table (put_in (table_at self.old table) key.now row)) }
         ensures err { OnErr result (self.new ≡ self.old) }
     {
         let place = table.0 as usize;
         if place >= self.rows.len() {
             return Ok(());
         }
-        self.rows[place].insert(key, row)?;
-        Ok(())
+        self.rows[place].insert(alloc, key, row)
     }
 
-    /// Puts a row over the one that the key has. It takes no memory.
-    pub(crate) fn put_over(&mut self, table: TableId, key: Key, row: Row)
+    /// Puts a row over the one that the key has. It doesn't fail.
+    pub(crate) fn put_over(&mut self, alloc: Global, table: TableId, key: Key, row: Row)
         ensures { self.new ≡ with_table self.old table (put_over (table_at self.old table) key row) }
     {
         let place = table.0 as usize;
         if place < self.rows.len() {
-            let _ = self.rows[place].replace(key, row);
+            self.rows[place].replace(alloc, key, row);
         }
     }
 
-    /// Takes out the row of a key.
-    pub(crate) fn take_out(&mut self, table: TableId, key: &Key)
+    /// Takes out the row of a key. It doesn't fail.
+    pub(crate) fn take_out(&mut self, alloc: Global, table: TableId, key: &Key)
         ensures { self.new ≡ with_table self.old table (map.remove (table_at self.old table) key.now) }
     {
         let place = table.0 as usize;
         if place < self.rows.len() {
-            let _ = self.rows[place].remove(key);
+            self.rows[place].remove(alloc, key);
         }
     }
 
-    /// Takes a change back. It takes no memory.
-    pub(crate) fn take_back(&mut self, undo: Undo)
+    /// Takes a change back. It doesn't fail.
+    pub(crate) fn take_back(&mut self, alloc: Global, undo: Undo)
         ensures { self.new ≡ taken_back undo self.old }
     {
         match undo {
-            Undo::Inserted(table, key) => self.take_out(table, &key),
-            Undo::Changed(table, key, row) => self.put_over(table, key, row),
+            Undo::Inserted(table, key) => self.take_out(alloc, table, &key),
+            Undo::Changed(table, key, row) => self.put_over(alloc, table, key, row),
         }
     }
 
-    /// Takes changes back, the last one first. It takes no memory.
-    pub(crate) fn take_all_back(&mut self, done: Vec<Undo>)
+    /// Takes changes back, the last one first. It doesn't fail.
+    pub(crate) fn take_all_back(&mut self, alloc: Global, done: Vec<Undo>)
         ensures { self.new ≡ all_taken_back done.items self.old }
     {
         let mut done = done;
         while let Some(undo) = done.pop() {
-            self.take_back(undo);
+            self.take_back(alloc, undo);
         }
     }
 }

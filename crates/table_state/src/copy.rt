@@ -7,6 +7,7 @@ ghost use Rattle.table_state.specs.Copies.{is_one_of, only_asked};
 ghost use Rattle.table_state.specs.Tables.{table_at};
 
 use crate::definition::{BackingSchema, TableDef};
+use crate::indexed::Indexed;
 use crate::tables::Tables;
 use key_rows::Rows;
 use std::alloc::{AllocError, Global};
@@ -46,17 +47,21 @@ pub fn copied_schema(alloc: Global, defs: &[TableDef]) -> Result<BackingSchema, 
     Ok(Seq::from_vec(copies))
 }
 
-fn copied_tables(alloc: Global, tables: &[Rows]) -> Result<Vec<Rows>, AllocError>
+fn copied_tables(alloc: Global, tables: &[Indexed]) -> Result<Vec<Indexed>, AllocError>
     ensures { IfOk result (λ copies. copies.items ≡ tables.now) }
 {
     let mut copies = Vec::with_capacity(alloc, tables.len())?;
     for rows in tables {
-        copies.push(copied_rows(alloc, rows)?)?;
+        copies.push(rows.copied(alloc)?)?;
     }
     Ok(copies)
 }
 
-fn copied_asked(alloc: Global, tables: &[Rows], asked: &[TableId]) -> Result<Vec<Rows>, AllocError>
+fn copied_asked(
+    alloc: Global,
+    tables: &[Indexed],
+    asked: &[TableId],
+) -> Result<Vec<Indexed>, AllocError>
     ensures { IfOk result (λ copies. copies.items ≡ only_asked asked.now 0 tables.now) }
 {
     let mut copies = Vec::with_capacity(alloc, tables.len())?;
@@ -72,17 +77,18 @@ fn is_asked(asked: &[TableId], place: usize) -> bool
     asked.iter().any(|one| one.0 as usize == place)
 }
 
-fn copied_where(alloc: Global, rows: &Rows, asked: bool) -> Result<Rows, AllocError>
+fn copied_where(alloc: Global, rows: &Indexed, asked: bool) -> Result<Indexed, AllocError>
     ensures { IfOk result (λ copy. copy ≡ (if asked then rows.now else empty)) }
 {
     if asked {
-        copied_rows(alloc, rows)
+        rows.copied(alloc)
     } else {
-        Ok(Rows::new(alloc))
+        Ok(Indexed::bare(alloc))
     }
 }
 
-fn copied_rows(alloc: Global, rows: &Rows) -> Result<Rows, AllocError>
+/// A second copy of rows.
+pub(crate) fn copied_rows(alloc: Global, rows: &Rows) -> Result<Rows, AllocError>
     ensures { IfOk result (λ copies. copies ≡ rows.now) }
 {
     let mut copies = Rows::new(alloc);

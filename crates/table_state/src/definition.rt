@@ -84,7 +84,8 @@ impl TableDef {
     }
 }
 
-fn copied_places(alloc: Global, places: &[usize]) -> Result<Seq<usize>, AllocError>
+/// A second copy of places.
+pub(crate) fn copied_places(alloc: Global, places: &[usize]) -> Result<Seq<usize>, AllocError>
     ensures { IfOk result (λ copies. copies ≡ places.now) }
 {
     Ok(Seq::from_vec(Vec::from_slice(alloc, places)?))

@@ -112,7 +112,8 @@ fn column_name(alloc: Global, column: Option<&Column>) -> Result<Detail, AllocEr
     }
 }
 
-fn first_change(places: &[usize], old: &[Value], new: &[Value]) -> Option<usize>
+/// The first of these places at which the rows differ.
+pub(crate) fn first_change(places: &[usize], old: &[Value], new: &[Value]) -> Option<usize>
     ensures { result ≡ find (changes old.now new.now) places.now }
 {
     match places.split_first() {

@@ -6,11 +6,12 @@ ghost use Rattle.std.specs.FinMap as map;
 ghost use Rattle.tier_base.specs.declared.code.Code.TheVariants as code;
 ghost use Rattle.row_types.specs.declared.rule.Detail.TheVariants as detail;
 ghost use Rattle.table_state.specs.declared.refusal.ApplyError.TheVariants as error;
-ghost use Rattle.table_state.specs.Tables.{is_found, is_same, key_of, names_parent, table_at};
+ghost use Rattle.table_state.specs.Tables.{is_found, key_of, names_parent, table_at};
 ghost use Rattle.table_state.specs.Refusals.{Judges, child_of, delete_fault, differing, first_child, has_children, insert_fault, missing_parent, refused, row_of, update_fault};
 
 use crate::definition::{ForeignKey, TableDef};
-use crate::fitting::{broken, check_fit, check_key_stays, has_key, is_same_row};
+use crate::fitting::{broken, check_fit, check_key_stays, is_same_row};
+use crate::indexed::Indexed;
 use crate::lookup::{key_at, key_of_row};
 use crate::refusal::ApplyError;
 use crate::tables::Tables;
@@ -174,7 +175,7 @@ fn first_child(
     table: TableId,
     key: &Key,
     defs: &[TableDef],
-    tables: &[Rows],
+    tables: &[Indexed],
 ) -> Result<Option<Detail>, AllocError>
     ensures { IfOk result (λ child. child ≡ first_child table key.now defs.now tables.now) }
 {
@@ -192,14 +193,14 @@ fn child_of(
     table: TableId,
     key: &Key,
     def: &TableDef,
-    rows: &Rows,
+    rows: &Indexed,
 ) -> Result<Option<Detail>, AllocError>
     ensures { IfOk result (λ child. child ≡ child_of table key.now def.now rows.now) }
 {
     match child_place(table, key, &def.foreign_key, rows) {
         None => Ok(None),
         Some(place) => {
-            let (key, _) = rows.entry_at(place);
+            let (key, _) = rows.rows().entry_at(place);
             let key = key.copied(alloc)?;
             let name = def.name.copied(alloc)?;
             Ok(Some(Detail::Row(name, key)))
@@ -212,7 +213,7 @@ fn child_place(
     table: TableId,
     key: &Key,
     foreign_key: &Option<ForeignKey>,
-    rows: &Rows,
+    rows: &Indexed,
 ) -> Option<usize>
     ensures found { option_and_then (slice_get (map.entries rows.now)) result ≡ find (λ e. names_parent table key.now foreign_key.now e.1) (map.entries rows.now) }
     ensures within { IfSome result (λ place. place < map.len rows.now) }
@@ -221,23 +222,10 @@ fn child_place(
         None => None,
         Some(foreign) => {
             if foreign.parent == table {
-                place_of_key(foreign.columns.as_slice(), key, rows)
+                rows.child(foreign.columns.as_slice(), key, 0)
             } else {
                 None
             }
         }
     }
-}
-
-fn place_of_key(places: &[usize], key: &Key, rows: &Rows) -> Option<usize>
-    ensures found { option_and_then (slice_get (map.entries rows.now)) result ≡ find (λ e. is_same (key_of places.now e.1) key.now) (map.entries rows.now) }
-    ensures within { IfSome result (λ place. place < map.len rows.now) }
-{
-    for place in 0..rows.len() {
-        let (_, row) = rows.entry_at(place);
-        if has_key(places, row.values(), key.values()) {
-            return Some(place);
-        }
-    }
-    None
 }

@@ -41,11 +41,22 @@ pub fn key_at(alloc: Global, places: &[usize], row: &Row) -> Result<Key, AllocEr
         let value = value_at(alloc, row.values(), places[0])?;
         return Ok(Key::one(value));
     }
+    Ok(Key::from_vec(values_at(alloc, places, row)?))
+}
+
+/// The values of a row at these places, NULL past its end.
+pub(crate) fn values_at(
+    alloc: Global,
+    places: &[usize],
+    row: &Row,
+) -> Result<Vec<Value>, AllocError>
+    ensures { IfOk result (λ values. values.items ≡ key_of places.now row.now) }
+{
     let mut values = Vec::with_capacity(alloc, places.len())?;
     for place in places {
         values.push(value_at(alloc, row.values(), *place)?)?;
     }
-    Ok(Key::from_vec(values))
+    Ok(values)
 }
 
 fn value_at(alloc: Global, values: &[Value], place: usize) -> Result<Value, AllocError>

@@ -54,10 +54,9 @@ impl Tables {
         ensures unchanged { OnErr result (self.new ≡ self.old) }
     {
         let key = self.judge_insert(alloc, table, row)?;
-        let kept = key.copied(alloc)?;
         let row = row.copied(alloc)?;
-        self.put_new(table, key, row)?;
-        Ok(Undo::Inserted(table, kept))
+        self.put_new(alloc, table, &key, row)?;
+        Ok(Undo::Inserted(table, key))
     }
 
     /// Updates a row, and tells how that is taken back.
@@ -77,7 +76,7 @@ impl Tables {
         let kept = key.copied(alloc)?;
         let old = old.copied(alloc)?;
         let new = new.copied(alloc)?;
-        self.put_over(table, key, new);
+        self.put_over(alloc, table, key, new);
         Ok(Undo::Changed(table, kept, old))
     }
 
@@ -87,7 +86,7 @@ impl Tables {
         ensures unchanged { OnErr result (self.new ≡ self.old) }
     {
         let key = self.judge_delete(alloc, table, old)?;
-        self.take_out(table, &key);
+        self.take_out(alloc, table, &key);
         Ok(())
     }
 

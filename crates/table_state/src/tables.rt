@@ -2,10 +2,14 @@
 
 ghost use Rattle.std.specs.Prelude.{◌≡◌, [], ◌∷◌, ◌++◌, Some, OnErr, OnOk, option_copied, slice_get};
 ghost use Rattle.std.specs.FinMap as map;
+ghost use Rattle.table_state.specs.Children.{child_from};
+ghost use Rattle.table_state.specs.Declarations.{foreign_places};
 ghost use Rattle.table_state.specs.Histories.{no_tables};
 
-use crate::definition::{BackingSchema, TableDef};
+use crate::definition::{BackingSchema, ForeignKey, TableDef};
+use crate::indexed::Indexed;
 use key_rows::Rows;
+use row_types::Key;
 use std::alloc::{AllocError, Global};
 use std::marker::Model;
 use tier_base::{Seq, TableId};
@@ -14,7 +18,7 @@ use tier_base::{Seq, TableId};
 #[derive(Drop)]
 pub struct Tables {
     pub(crate) schema: BackingSchema,
-    pub(crate) rows: Vec<Rows>,
+    pub(crate) rows: Vec<Indexed>,
 }
 
 impl Model for Tables {
@@ -50,7 +54,29 @@ impl Tables {
     pub fn table(&self, table: TableId) -> Option<&Rows>
         ensures { option_copied result ≡ slice_get self.now.tables table.0 }
     {
+        match self.indexed(table) {
+            None => None,
+            Some(indexed) => Some(indexed.rows()),
+        }
+    }
+
+    fn indexed(&self, table: TableId) -> Option<&Indexed>
+        ensures { option_copied result ≡ slice_get self.now.tables table.0 }
+    {
         self.rows.get(table.0 as usize)
+    }
+
+    /// The first place in key order, from a place on, of a row that refers to the key by its table's foreign key.
+    ///
+    /// It is looked up in an index by parent. Where a call that doesn't fail had no memory for the index, the rows are
+    /// gone through.
+    pub fn child(&self, table: TableId, key: &Key, from: usize) -> Option<usize>
+        ensures { result ≡ child_from self.now table key.now from }
+    {
+        match (self.schema().get(table.0 as usize), self.indexed(table)) {
+            (Some(def), Some(rows)) => rows.child(foreign_places(&def.foreign_key), key, from),
+            _ => None,
+        }
     }
 
     /// Makes a table without rows, behind the others.
@@ -60,7 +86,8 @@ impl Tables {
         ensures ok { OnOk result (self.new ≡ record { schema = self.old.schema ++ def ∷ []; tables = self.old.tables ++ map.empty ∷ [] }) }
         ensures err { OnErr result (self.new ≡ self.old) }
     {
-        self.rows.push(Rows::new(alloc))?;
+        let rows = Indexed::new(alloc, &def.foreign_key)?;
+        self.rows.push(rows)?;
         match self.schema.push(def) {
             Ok(()) => Ok(()),
             Err(failed) => {
@@ -68,5 +95,14 @@ impl Tables {
                 Err(AllocError::from(failed))
             }
         }
+    }
+}
+
+fn foreign_places(foreign_key: &Option<ForeignKey>) -> &[usize]
+    ensures { result.now ≡ foreign_places foreign_key.now }
+{
+    match foreign_key {
+        None => &[],
+        Some(foreign) => foreign.columns.as_slice(),
     }
 }

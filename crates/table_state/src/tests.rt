@@ -13,6 +13,8 @@ use std::alloc::{AllocError, Global};
 use std::test::Fail;
 use tier_base::{Name, NameError, Seq, TableId, Ticket};
 
+mod index;
+
 const PARENT: TableId = TableId(0);
 
 const CHILD: TableId = TableId(1);

@@ -48,18 +48,18 @@ impl Tables {
         for op in front {
             match self.apply_undoable(alloc, op) {
                 Err(e) => {
-                    self.take_all_back(done);
+                    self.take_all_back(alloc, done);
                     return Err(e);
                 }
                 Ok(None) => {
-                    self.take_all_back(done);
+                    self.take_all_back(alloc, done);
                     return self.apply_to_copy(alloc, ops);
                 }
                 Ok(Some(undo)) => match done.push(undo) {
                     Ok(()) => {}
                     Err(failed) => {
-                        self.take_back(failed.value);
-                        self.take_all_back(done);
+                        self.take_back(alloc, failed.value);
+                        self.take_all_back(alloc, done);
                         return Err(ApplyError::Memory);
                     }
                 },
@@ -68,7 +68,7 @@ impl Tables {
         match self.apply(alloc, last) {
             Ok(()) => Ok(()),
             Err(e) => {
-                self.take_all_back(done);
+                self.take_all_back(alloc, done);
                 Err(e)
             }
         }

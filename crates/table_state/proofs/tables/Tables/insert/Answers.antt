@@ -14,6 +14,5 @@ returns-clause-ok c =
 pub returns-clause-undo : goal.returns-clause-undo
 returns-clause-undo c =
     let laws = inserted c.args.self.now c.args.table c.args.row.now c.in_ok-key.key c.in_ok-key.ensures.judged c.in_ok-key.ensures.key in
-    ap (λ key. taken_back (Inserted c.args.table key) c.put_new.new.self) c.in_ok-kept.ensures
-    ∙ ap (taken_back (Inserted c.args.table c.in_ok-key.key)) (c.in_ok-put_new.ensures.ok ∙ ap (λ row. with_table c.args.self.now c.args.table (put_in (table_at c.args.self.now c.args.table) c.in_ok-key.key row)) c.in_ok-row.ensures)
+    ap (taken_back (Inserted c.args.table c.in_ok-key.key)) (c.in_ok-put_new.ensures.ok ∙ ap (λ row. with_table c.args.self.now c.args.table (put_in (table_at c.args.self.now c.args.table) c.in_ok-key.key row)) c.in_ok-row.ensures)
     ∙ state_back c.args.self.now c.args.table _ (λ m. remove m c.in_ok-key.key) laws.1

@@ -1,0 +1,157 @@
+//! The rows of a table beside an index.
+
+ghost use Rattle.std.specs.Prelude.{◌≡◌, IfOk, OnErr, OnOk, drop};
+ghost use Rattle.std.specs.FinMap as map;
+ghost use Rattle.table_state.specs.Changes.{put_in, put_over};
+ghost use Rattle.table_state.specs.Children.{first_from, has_key};
+
+use crate::copy::copied_rows;
+use crate::definition::ForeignKey;
+use crate::parents::{Parents, insert_both, remove_both, replace_both, walked};
+use key_rows::Rows;
+use row_types::{Key, Row};
+use std::alloc::{AllocError, Global};
+use std::marker::Model;
+
+/// The rows of a table, with an index by parent where it has a foreign key. Clauses see the rows.
+///
+/// A call that doesn't fail gives the index up where memory for it is wanting. The rows are then gone through where
+/// they would be looked up.
+#[derive(Drop)]
+pub(crate) struct Indexed {
+    rows: Rows,
+    parents: Option<Parents>,
+}
+
+impl Model for Indexed {
+    ghost use Rattle.std.specs.Prelude.{List};
+    ghost use Rattle.std.specs.FinMap as map;
+    ghost use Rattle.std.specs.Coded.{coded_list};
+    ghost use Rattle.row_types.specs.contracts.value.Value as one;
+    ghost use Rattle.table_state.specs.Tables.{Table};
+    ghost use Rattle.table_state.specs.Indexes.{IsIndexed};
+
+    ghost Value = { Table };
+
+    ghost coded = { map.code (coded_list one.the_row.coded) (coded_list one.the_row.coded) };
+
+    ghost view = { λ i. i.rows };
+
+    ghost invariant = { λ i. IsIndexed i.parents i.rows };
+}
+
+impl Indexed {
+    /// No rows.
+    pub(crate) fn new(
+        alloc: Global,
+        foreign_key: &Option<ForeignKey>,
+    ) -> Result<Indexed, AllocError>
+        ensures { IfOk result (λ indexed. indexed ≡ map.empty) }
+    {
+        let parents = Parents::new(alloc, foreign_key)?;
+        Ok(Indexed {
+            rows: Rows::new(alloc),
+            parents,
+        })
+    }
+
+    /// No rows and no index. It takes no memory.
+    pub(crate) fn bare(alloc: Global) -> Indexed
+        ensures { result ≡ map.empty }
+    {
+        Indexed {
+            rows: Rows::new(alloc),
+            parents: None,
+        }
+    }
+
+    /// The rows.
+    pub(crate) fn rows(&self) -> &Rows
+        ensures { result.now ≡ self.now }
+    {
+        &self.rows
+    }
+
+    /// A second copy of the rows and of the index. It goes through all rows.
+    pub(crate) fn copied(&self, alloc: Global) -> Result<Indexed, AllocError>
+        ensures { IfOk result (λ indexed. indexed ≡ self.now) }
+    {
+        let rows = copied_rows(alloc, &self.rows)?;
+        let parents = copied_index(alloc, &self.parents)?;
+        Ok(Indexed { rows, parents })
+    }
+
+    /// Puts in a row where its key has none.
+    ///
+    /// It fails for want of memory alone, and the rows then are as they were.
+    pub(crate) fn insert(&mut self, alloc: Global, key: &Key, row: Row) -> Result<(), AllocError>
+        ensures ok { OnOk result (self.new ≡ put_in self.old key.now row) }
+        ensures err { OnErr result (self.new ≡ self.old) }
+    {
+        match &mut self.parents {
+            None => {
+                let key = key.copied(alloc)?;
+                let _ = self.rows.insert(key, row)?;
+                Ok(())
+            }
+            Some(parents) => insert_both(alloc, &mut self.rows, parents, key, row),
+        }
+    }
+
+    /// Puts a row over the one that the key has. It takes no memory where the parent stays.
+    pub(crate) fn replace(&mut self, alloc: Global, key: Key, row: Row)
+        ensures { self.new ≡ put_over self.old key row }
+    {
+        match self.parents.take() {
+            None => {
+                let _ = self.rows.replace(key, row);
+            }
+            Some(parents) => {
+                self.parents = replace_both(alloc, &mut self.rows, parents, key, row);
+            }
+        }
+    }
+
+    /// Takes out the row of a key.
+    pub(crate) fn remove(&mut self, alloc: Global, key: &Key)
+        ensures { self.new ≡ map.remove self.old key.now }
+    {
+        match self.parents.take() {
+            None => {
+                let _ = self.rows.remove(key);
+            }
+            Some(parents) => {
+                self.parents = remove_both(alloc, &mut self.rows, parents, key);
+            }
+        }
+    }
+
+    /// The first place, from a place on, of a row that has the key at these columns. It is looked up where they are
+    /// the foreign key's and the index is there, and else the rows are gone through.
+    pub(crate) fn child(&self, columns: &[usize], key: &Key, from: usize) -> Option<usize>
+        ensures { result ≡ first_from (has_key columns.now key.now) from (drop from (map.values self.now)) }
+    {
+        match &self.parents {
+            None => walked(columns, &self.rows, key, from),
+            Some(parents) => {
+                if parents.columns.as_slice() == columns {
+                    parents.child(&self.rows, key, from)
+                } else {
+                    walked(columns, &self.rows, key, from)
+                }
+            }
+        }
+    }
+}
+
+fn copied_index(alloc: Global, parents: &Option<Parents>) -> Result<Option<Parents>, AllocError>
+    ensures { IfOk result (λ copy. copy ≡ parents.now) }
+{
+    match parents {
+        None => Ok(None),
+        Some(parents) => {
+            let copy = parents.copied(alloc)?;
+            Ok(Some(copy))
+        }
+    }
+}
