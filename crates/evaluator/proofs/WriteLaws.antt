@@ -14,7 +14,9 @@ use Rattle.tier_base.specs.declared.limit.Limit.TheVariants.{Rows, Operations}
 use Rattle.table_state.specs.declared.definition.TableDef.{TableDef}
 use Rattle.table_state.specs.declared.operation.Op.{Op}
 use Rattle.table_state.specs.declared.operation.Op.TheVariants as op
+use Rattle.table_state.specs.Declarations.{foreign_places}
 use Rattle.table_state.specs.Tables.{Table, TableState, table_at}
+use Rattle.table_scan.specs.Children.{refers_to}
 use Rattle.table_scan.specs.Keyed.{HasWidth, IsKeyed, IsUnderKeys, has_key}
 use Rattle.table_scan.proofs.KeyedLaws.{none_has_width, none_is_under}
 use Rattle.table_scan.proofs.KeyLaws.{found_by_key}
@@ -25,7 +27,7 @@ use Rattle.evaluator.specs.declared.change.Action.{Action}
 use Rattle.evaluator.specs.declared.change.Action.TheVariants.{Insert, Update}
 use Rattle.evaluator.specs.declared.change.Change.{Change}
 use Rattle.evaluator.specs.Capping.{extended, put}
-use Rattle.evaluator.specs.KeyPaths.{Narrows, is_not_true}
+use Rattle.evaluator.specs.KeyPaths.{ChangesChildren, Narrows, is_not_true}
 use Rattle.evaluator.specs.Rules.{Adds, Gives, each, limit, or_overflow, then_do}
 use Rattle.evaluator.specs.Writes.{built, done_by, done_in, done_on, done_to, effects_of, filter_of, if_true, one_op, passes_rows, within_limits}
 use Rattle.evaluator.proofs.CapLaws.{kept_over, kept_whole}
@@ -63,6 +65,12 @@ module _ (s : TableState) (t : TableId) (def : TableDef) (action : Action) (plac
   one_found row found r old new h =
       same_taken put (done_on s t def action row) (each (done_on s t def action) (fm.values (table_at s t))) r old new
       (sym (by_key ∙ ap (λ o. each (done_on s t def action) (option_to_list o)) (sym found) ∙ added-nil (done_on s t def action row))) h
+
+-- rows of other parents aren't changed
+pub other_parents : (s : TableState) (t : TableId) (def : TableDef) (action : Action) (key : List Value) → slice_get s.schema t.0 ≡ Some def → Narrows (filter_of action) [] (foreign_places def.foreign_key) key → ChangesChildren s t def action key
+other_parents s t def action key is narrow i row at fails =
+    let (truth, e, other) = narrow row (ap (λ d. refers_to key d row) (sym is) ∙ fails) in
+    ap (λ o. then_do (λ b. if_true b (done_to s t def action row)) (or_overflow o)) e ∙ if_not_true truth (done_to s t def action row) other
 
 -- the rows of a table stand under their keys, and each has a value for each column
 pub sound_at : (s : TableState) (t : TableId) (def : TableDef) → IsKeyed s → slice_get s.schema t.0 ≡ Some def → IsUnderKeys def.primary_key (table_at s t) × HasWidth (length def.columns) (table_at s t)

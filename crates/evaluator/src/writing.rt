@@ -1,9 +1,10 @@
 //! The effects of writes.
 
-ghost use Rattle.std.specs.Prelude.{◌≡◌};
+ghost use Rattle.std.specs.Prelude.{◌≡◌, Some, slice_get};
 ghost use Rattle.std.specs.FinMap.{values};
 ghost use Rattle.table_state.specs.Tables.{table_at};
 ghost use Rattle.table_scan.specs.Keyed.{IsKeyed, IsUnderKeys};
+ghost use Rattle.evaluator.specs.KeyPaths.{ChangesChildren};
 ghost use Rattle.evaluator.specs.Rules.{Adds, Gives, each};
 ghost use Rattle.evaluator.specs.Writes.{done_in, done_on, done_to, effects_of, passes_rows};
 
@@ -12,11 +13,11 @@ use crate::building::build_row;
 use crate::capped::Capped;
 use crate::cascade::delete_row;
 use crate::change::{Action, Change};
-use crate::key_path::selected_key;
+use crate::key_path::{selected_key, selected_parent};
 use crate::looking::selects;
 use crate::refusing::{over_limit, overflow, unknown_table};
 use expressions::NoColumns;
-use row_types::{Refused, Row, Truth};
+use row_types::{Key, Refused, Row, Truth};
 use std::alloc::Global;
 use table_scan::Scan;
 use table_state::{Op, Ops, TableDef};
@@ -31,8 +32,8 @@ use tier_base::{Limit, TableId};
 /// the table's rows. It is 102 where there is no such table. Whether keys, parents and children allow the operations is
 /// told where they are applied. After a refusal for want of memory, as after all others, nothing is changed.
 ///
-/// Where the condition has no arithmetic and names the whole primary key, the row is looked up, and no other is read.
-/// (TimesTen SQL Reference, INSERT, UPDATE, DELETE.)
+/// Where the condition has no arithmetic and names the whole primary key, the row is looked up, and no other is read;
+/// where it so names the whole foreign key, the rows of that parent are. (TimesTen SQL Reference, INSERT, UPDATE, DELETE.)
 pub fn effects<S: Scan>(
     alloc: Global,
     change: &Change,
@@ -76,7 +77,8 @@ fn add_ops<S: Scan>(
     action: &Action,
     out: &mut Capped<Op>,
 ) -> Result<(), Refused>
-    requires { IsUnderKeys def.now.primary_key (table_at (S.state scan.now) table) }
+    requires its_def { slice_get (S.state scan.now).schema table.0 ≡ Some def.now }
+    requires under_keys { IsUnderKeys def.now.primary_key (table_at (S.state scan.now) table) }
     ensures { Adds (done_in (S.state scan.now) table def.now action.now) result out.old out.new }
 {
     match action {
@@ -99,7 +101,8 @@ fn change_rows<S: Scan>(
     action: &Action,
     out: &mut Capped<Op>,
 ) -> Result<(), Refused>
-    requires { IsUnderKeys def.now.primary_key (table_at (S.state scan.now) table) }
+    requires its_def { slice_get (S.state scan.now).schema table.0 ≡ Some def.now }
+    requires under_keys { IsUnderKeys def.now.primary_key (table_at (S.state scan.now) table) }
     ensures { Adds (each (done_on (S.state scan.now) table def.now action.now) (values (table_at (S.state scan.now) table))) result out.old out.new }
 {
     match selected_key(
@@ -108,12 +111,60 @@ fn change_rows<S: Scan>(
         &Beside::Nothing,
         def.primary_key.as_slice(),
     )? {
-        None => change_all(alloc, scan, table, def, action, out),
+        None => change_many(alloc, scan, table, def, action, out),
         Some(key) => match scan.find(table, &key) {
             None => Ok(()),
             Some(row) => change_row(alloc, scan, table, def, action, row, out),
         },
     }
+}
+
+// Changes the selected rows of the parent that the condition tells, or of all rows.
+fn change_many<S: Scan>(
+    alloc: Global,
+    scan: &S,
+    table: TableId,
+    def: &TableDef,
+    action: &Action,
+    out: &mut Capped<Op>,
+) -> Result<(), Refused>
+    requires { slice_get (S.state scan.now).schema table.0 ≡ Some def.now }
+    ensures { Adds (each (done_on (S.state scan.now) table def.now action.now) (values (table_at (S.state scan.now) table))) result out.old out.new }
+{
+    match selected_parent(alloc, action.filter(), &Beside::Nothing, &def.foreign_key)? {
+        None => change_all(alloc, scan, table, def, action, out),
+        Some(key) => change_children(alloc, scan, table, def, action, &key, out),
+    }
+}
+
+// Changes the selected rows of the table that refer to the key.
+fn change_children<S: Scan>(
+    alloc: Global,
+    scan: &S,
+    table: TableId,
+    def: &TableDef,
+    action: &Action,
+    key: &Key,
+    out: &mut Capped<Op>,
+) -> Result<(), Refused>
+    requires { ChangesChildren (S.state scan.now) table def.now action.now key.now }
+    ensures { Adds (each (done_on (S.state scan.now) table def.now action.now) (values (table_at (S.state scan.now) table))) result out.old out.new }
+{
+    let mut from: usize = 0;
+    let end = scan.len(table);
+    while from < end {
+        match scan.child(table, key, from) {
+            None => return Ok(()),
+            Some(place) => {
+                match scan.row(table, place) {
+                    None => {}
+                    Some(row) => change_row(alloc, scan, table, def, action, row, out)?,
+                }
+                from = place + 1;
+            }
+        }
+    }
+    Ok(())
 }
 
 fn change_all<S: Scan>(

@@ -6,7 +6,7 @@ use Rattle.table_scan.specs.Children.{refers_to}
 use Rattle.evaluator.specs.Cascades.{deleted}
 use Rattle.evaluator.proofs.CapLaws.{on_ok}
 use Rattle.evaluator.proofs.CascadeLaws.{deleted_last, no_row}
-use Rattle.evaluator.proofs.ChildSteps.{child_behind, child_end, child_more, child_none, child_within}
+use Rattle.evaluator.proofs.ChildSteps.{child_end, child_more, child_none, place_behind, place_within}
 use Rattle.evaluator.proofs.cascade.+cascade.Goals as goal
 use Rattle.evaluator.proofs.cascade.+cascade.Goals.{delete_children-in-None-row, delete_children-in-Some-row+in_ok-delete_row-in-Some-row}
 
@@ -18,14 +18,14 @@ delete_children-returns-in-None g t c =
 pub delete_children-overflow_add-from : goal.delete_children-overflow_add-from
 delete_children-overflow_add-from g t c =
     let s = g.S.Scan.state c.args.scan.now in
-    let within = child_within (deleted c.args.depth s c.args.child) (refers_to c.args.key.now (slice_get s.schema c.args.child.0)) (fm.values (table_at s c.args.child)) c.loop-from.from c.in-Some.place (sym c.in-Some.ensures) in
+    let within = place_within (refers_to c.args.key.now (slice_get s.schema c.args.child.0)) (fm.values (table_at s c.args.child)) c.loop-from.from c.in-Some.place (sym c.in-Some.ensures) in
     let fits : Fits w64 c.len-end.result = search rules in
     omega (arith, within, fits, c.len-end.ensures, length-map (fm.entries (table_at s c.args.child)) (λ x. x.1), fm.len-entries (table_at s c.args.child))
 
 pub delete_children-loop-from-smaller : goal.delete_children-loop-from-smaller
 delete_children-loop-from-smaller g t c =
     let s = g.S.Scan.state c.args.scan.now in
-    let behind = child_behind (deleted c.args.depth s c.args.child) (refers_to c.args.key.now (slice_get s.schema c.args.child.0)) (fm.values (table_at s c.args.child)) c.loop-from.from c.in-Some.place (sym c.in-Some.ensures) in
+    let behind = place_behind (refers_to c.args.key.now (slice_get s.schema c.args.child.0)) (fm.values (table_at s c.args.child)) c.loop-from.from c.in-Some.place (sym c.in-Some.ensures) in
     omega (arith, behind, c.loop-from-test.true)
 
 pub delete_children-loop-from-preserved : goal.delete_children-loop-from-preserved
@@ -34,7 +34,7 @@ delete_children-loop-from-preserved g t c =
     let f = deleted c.args.depth s c.args.child in
     let p = refers_to c.args.key.now (slice_get s.schema c.args.child.0) in
     let xs = fm.values (table_at s c.args.child) in
-    let within = child_within (deleted c.args.depth s c.args.child) (refers_to c.args.key.now (slice_get s.schema c.args.child.0)) (fm.values (table_at s c.args.child)) c.loop-from.from c.in-Some.place (sym c.in-Some.ensures) in
+    let within = place_within (refers_to c.args.key.now (slice_get s.schema c.args.child.0)) (fm.values (table_at s c.args.child)) c.loop-from.from c.in-Some.place (sym c.in-Some.ensures) in
     let below : c.in-Some.place < c.len-end.result = omega (arith, within, c.len-end.ensures, length-map (fm.entries (table_at s c.args.child)) (λ x. x.1), fm.len-entries (table_at s c.args.child)) in
     elim c.match-row.branch [
       | delete_children-in-None-row w ↦ absurd (no_row _ _ _ c.len-end.ensures below w.in-None-row.ensures)
