@@ -1,6 +1,6 @@
 -- The grammar of the lines, as data.
 use Rattle.std.specs.Prelude.{ℕ, Bool, true, false, List, [], ◌∷◌}
-use Rattle.sql_tokens.specs.declared.kind.Kind.TheVariants.{Colon, Semicolon, Comma, Dot, OpenParen, CloseParen, Star, Plus, Minus, Equals, Text, Select, From, Where, And, Or, Not, Null, Order, Insert, Into, Values, Update, Set, Delete, Create, Alter, Drop, Table, Cache, Group, Primary, Key, On, Timestamp, Count, Call, Commit, Rollback, Load, Refresh, Unload, Flush, Aging, Readonly, TtInteger, TtBigint, Open, Close, Passthrough, Durable, Asynchronous, Synchronous, Writethrough, Dynamic, Usermanaged, Index, Autorefresh, Mode, Interval, State, Off, Lru, Use, Cycle, With, Parallel}
+use Rattle.sql_tokens.specs.declared.kind.Kind.TheVariants.{Colon, Semicolon, Comma, Dot, OpenParen, CloseParen, Star, Plus, Minus, Equals, Text, Select, From, Where, And, Or, Not, Null, Order, Insert, Into, Values, Update, Set, Delete, Create, Alter, Drop, Table, Cache, Group, Primary, Key, On, Timestamp, Count, Call, Commit, Rollback, Load, Refresh, Unload, Flush, Aging, Readonly, TtInteger, TtBigint, Open, Close, Passthrough, Durable, Asynchronous, Synchronous, Writethrough, Dynamic, Usermanaged, Index, Autorefresh, Mode, Interval, State, Off, Lru, Use, Cycle, With, Every, Rows, Parallel}
 use Rattle.sql_grammar.specs.declared.test.Test.{Test}
 use Rattle.sql_grammar.specs.declared.test.Test.TheVariants.{Only, Name, Sign, Whole, Digits, Level, Flag, Direction, Fold, Manner, Rest, IntervalUnit}
 use Rattle.sql_grammar.specs.declared.rule.Rule.{Rule}
@@ -80,9 +80,17 @@ delete = the From ▸ table_name ▸ key_filter
 abbrev pub select : Grammar
 select = the Star ▸ the From ▸ table_name
 
--- CACHE GROUP name
+-- [ COMMIT EVERY integer ROWS ]
+abbrev pub commit_every : Grammar
+commit_every = optional Commit (the Every ▸ Token Whole ▸ the Rows)
+
+-- [ PARALLEL integer ]
+abbrev pub parallel : Grammar
+parallel = optional Parallel (Token Whole)
+
+-- CACHE GROUP name [ COMMIT EVERY integer ROWS ] [ PARALLEL integer ]
 abbrev pub load : Grammar
-load = the Cache ▸ the Group ▸ table_name
+load = the Cache ▸ the Group ▸ table_name ▸ commit_every ▸ parallel
 
 -- [ "(" [ literals ] ")" ]
 abbrev pub arguments : Grammar
@@ -225,7 +233,7 @@ known = record { empty = λ m. empty_known m; starts = λ m. starts_known m; end
     starts_known rules.MoreWrites = Only Semicolon ∷ []
 
     ends_known : Rule → List Test
-    ends_known rules.Statement = Only Dot ∷ Only OpenParen ∷ []
+    ends_known rules.Statement = Only Dot ∷ Only OpenParen ∷ Only Commit ∷ Only Parallel ∷ []
     ends_known rules.Columns = []
     ends_known rules.Writes = Only Delete ∷ Only Update ∷ Only Insert ∷ Only Semicolon ∷ Only Where ∷ Only Dot ∷ []
     ends_known rules.Named = Only Dot ∷ []

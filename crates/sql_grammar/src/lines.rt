@@ -155,7 +155,14 @@ const DELETE: Syntax<'static> = seq!(the!(From), TABLE_NAME, KEY_FILTER);
 
 const SELECT: Syntax<'static> = seq!(the!(Star), the!(From), TABLE_NAME);
 
-const LOAD: Syntax<'static> = seq!(the!(Cache), the!(Group), TABLE_NAME);
+const COMMIT_EVERY: Syntax<'static> = optional!(
+    Commit,
+    seq!(the!(Every), Syntax::Token(Test::Whole), the!(Rows))
+);
+
+const PARALLEL: Syntax<'static> = optional!(Parallel, Syntax::Token(Test::Whole));
+
+const LOAD: Syntax<'static> = seq!(the!(Cache), the!(Group), TABLE_NAME, COMMIT_EVERY, PARALLEL);
 
 const ARGUMENTS: Syntax<'static> = optional!(
     OpenParen,

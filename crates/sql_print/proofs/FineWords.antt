@@ -13,6 +13,7 @@ use Rattle.row_types.specs.declared.declaration.TableDeclaration.{TableDeclarati
 use Rattle.sql_grammar.proofs.Lists.{and_left, and_right}
 use Rattle.sql_subset.specs.declared.stmt.Autorefresh as autorefreshes
 use Rattle.sql_subset.specs.declared.stmt.CreateGroup as groups
+use Rattle.sql_subset.specs.declared.stmt.Load as loads
 use Rattle.sql_subset.specs.declared.stmt.GroupKind.{GroupKind}
 use Rattle.sql_subset.specs.declared.stmt.GroupKind.TheVariants.{ReadOnly, AsynchronousWritethrough}
 use Rattle.sql_subset.specs.declared.stmt.RefreshMode.{RefreshMode}
@@ -23,13 +24,14 @@ use Rattle.sql_subset.specs.declared.stmt.Literal.{Literal}
 use Rattle.sql_subset.specs.declared.stmt.Literal.TheVariants as literals
 use Rattle.sql_subset.specs.declared.stmt.Stmt.{Stmt}
 use Rattle.sql_subset.specs.declared.stmt.Stmt.TheVariants as v
-use Rattle.sql_print.specs.Words.{Word, argument_words, column_words, enclosed, group_words, identifier_words, interval_words, key_words, kind_words, listed, literal_words, mark_words, mode_word, more, name_words, name_words_at, refresh_words, state_word, statement_words, table_words, type_words}
+use Rattle.sql_print.specs.Words.{Word, argument_words, column_words, commit_words, enclosed, group_words, identifier_words, interval_words, key_words, kind_words, listed, literal_words, load_words, mark_words, mode_word, more, name_words, name_words_at, parallel_words, refresh_words, state_word, statement_words, table_words, type_words}
 use Rattle.sql_print.proofs.WordKinds.{digits_bytes, identifier_word}
 use Rattle.sql_print.proofs.Fine.{IsFine, fine, fine_append, fine_cons, fine_minus, fine_one, fine_word}
 use Rattle.sql_print.proofs.Names.{IsIdentifier, IsName}
 use Rattle.sql_print.proofs.Literals.{AllGood, IsLiteral}
 use Rattle.sql_print.proofs.Tables.{IsColumn, IsKey, IsRead, IsTable}
 use Rattle.sql_print.proofs.Groups.{IsGroup, IsRefresh}
+use Rattle.sql_print.proofs.Loads.{IsCount, IsLoad}
 use Rattle.sql_print.proofs.Statements.{AreLiterals, IsStatement}
 
 fine_identifier : (n : List ℕ) → is_identifier n ≡ true → IsFine (n ∷ [])
@@ -136,6 +138,25 @@ fine_group g h =
     (fine_refresh g.kind g.autorefresh h.refresh))
     (fine_cons (codes "FROM") (table_words g.table) (fine (codes "FROM" ∷ []) refl) (fine_table g.table h.table))
 
+fine_number : (n : ℕ) → n ≤ 18446744073709551615 → IsFine (decimal n ∷ [])
+fine_number n h = let small : n < 2 ^ 64 = omega (arith, h) in fine_word (decimal n) (digits_bytes (decimal n) (digits_decimal numerals n small))
+
+fine_commit : (o : Option ℕ) → IsCount o → IsFine (commit_words o)
+fine_commit None h = fine [] refl
+fine_commit (Some n) h =
+    fine_append (codes "COMMIT" ∷ codes "EVERY" ∷ []) (decimal n ∷ codes "ROWS" ∷ []) (fine (codes "COMMIT" ∷ codes "EVERY" ∷ []) refl)
+    (fine_cons (decimal n) (codes "ROWS" ∷ []) (fine_number n h) (fine (codes "ROWS" ∷ []) refl))
+
+fine_parallel : (o : Option ℕ) → IsCount o → IsFine (parallel_words o)
+fine_parallel None h = fine [] refl
+fine_parallel (Some n) h = fine_cons (codes "PARALLEL") (decimal n ∷ []) (fine (codes "PARALLEL" ∷ []) refl) (fine_number n h)
+
+fine_load : (x : loads.Load) → IsLoad x → IsFine (load_words x)
+fine_load x h =
+    fine_append (name_words x.group ++ commit_words x.commit_every) (parallel_words x.parallel)
+    (fine_append (name_words x.group) (commit_words x.commit_every) (fine_name x.group h.name) (fine_commit x.commit_every h.commit_every))
+    (fine_parallel x.parallel h.parallel)
+
 fine_literals : (x : Literal) (xs : List Literal) → IsLiteral x → AllGood IsLiteral xs → IsFine (enclosed (listed literal_words (x ∷ xs)))
 fine_literals x xs h t = fine_enclosed (listed literal_words (x ∷ xs)) (fine_listed literal_words IsLiteral fine_literal x xs h t)
 
@@ -153,7 +174,7 @@ pub fine_statement : (s : Stmt) → IsStatement s → IsFine (statement_words s)
 fine_statement (v.Select x) h = fine_append (codes "SELECT" ∷ codes "*" ∷ codes "FROM" ∷ []) (name_words x.table) (fine (codes "SELECT" ∷ codes "*" ∷ codes "FROM" ∷ []) refl) (fine_name x.table h)
 fine_statement (v.Insert x) (h, t) = fine_insert x.table x.values h t
 fine_statement (v.CreateGroup x) h = fine_cons (codes "CREATE") (group_words x) (fine (codes "CREATE" ∷ []) refl) (fine_group x h)
-fine_statement (v.Load x) h = fine_append (codes "LOAD" ∷ codes "CACHE" ∷ codes "GROUP" ∷ []) (name_words x.group) (fine (codes "LOAD" ∷ codes "CACHE" ∷ codes "GROUP" ∷ []) refl) (fine_name x.group h)
+fine_statement (v.Load x) h = fine_append (codes "LOAD" ∷ codes "CACHE" ∷ codes "GROUP" ∷ []) (load_words x) (fine (codes "LOAD" ∷ codes "CACHE" ∷ codes "GROUP" ∷ []) refl) (fine_load x h)
 fine_statement (v.Call x) (h, t) = fine_cons (codes "CALL") (name_words x.procedure ++ argument_words x.arguments) (fine (codes "CALL" ∷ []) refl) (fine_append (name_words x.procedure) (argument_words x.arguments) (fine_name x.procedure h) (fine_arguments x.arguments t))
 fine_statement v.Commit h = fine (codes "COMMIT" ∷ []) refl
 fine_statement v.Rollback h = fine (codes "ROLLBACK" ∷ []) refl

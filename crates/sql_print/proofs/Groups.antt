@@ -1,11 +1,8 @@
 -- Cache groups that are put are read back.
-use Rattle.std.proofs.Common.{◌≡◌, ℕ, ◌+◌, ◌*◌, ◌-◌, ◌^◌, ◌<◌, ◌≤◌, eqb, true, false, List, [], ◌∷◌, ◌++◌, drop, codes, Option, Some, None, refl, ap, ◌∙◌, subst, arith, append_assoc}
+use Rattle.std.proofs.Common.{◌≡◌, ℕ, ◌*◌, ◌^◌, ◌<◌, ◌≤◌, eqb, true, false, List, [], ◌∷◌, ◌++◌, drop, codes, Option, Some, None, refl, ap, ◌∙◌, subst, arith, append_assoc}
 use Rattle.std.proofs.lemmas.Bool.Decides.{nat_tests}
-use Rattle.std.proofs.lemmas.Fmt.{digits_decimal, digits_value-decimal, decimal_nonempty}
+use Rattle.std.proofs.lemmas.Fmt.{digits_decimal, decimal_nonempty}
 use Rattle.std.specs.Fmt.{decimal}
-use Rattle.std.specs.List.{list_all}
-use Rattle.std.specs.Char.{digit_value, is_ascii_digit}
-use Rattle.std.specs.Str.Parse.{digits_value, digits_value_after}
 use Rattle.row_types.proofs.Digits.{numerals}
 use Rattle.row_types.specs.declared.declaration.TableDeclaration.{TableDeclaration}
 use Rattle.sql_tokens.specs.declared.kind.Kind.{Kind}
@@ -16,7 +13,6 @@ use Rattle.sql_grammar.specs.declared.test.Test.TheVariants.{Only, Manner, Whole
 use Rattle.sql_grammar.specs.Grammar.{Grammar, Parts, Part, Reads, Token, token, both, this, that, empty}
 use Rattle.sql_grammar.specs.Notation.{optional, the, ◌▸◌}
 use Rattle.sql_grammar.specs.Sql.{rule, autorefresh, create_group, group_kind, state, table, table_name}
-use Rattle.sql_grammar.proofs.Lists.{and_left, and_right}
 use Rattle.sql_subset.specs.declared.stmt.Autorefresh as autorefreshes
 use Rattle.sql_subset.specs.declared.stmt.CreateGroup as groups
 use Rattle.sql_subset.specs.declared.stmt.GroupKind.{GroupKind}
@@ -25,43 +21,22 @@ use Rattle.sql_subset.specs.declared.stmt.RefreshMode.{RefreshMode}
 use Rattle.sql_subset.specs.declared.stmt.RefreshMode.TheVariants as modes
 use Rattle.sql_subset.specs.declared.stmt.RefreshState.{RefreshState}
 use Rattle.sql_subset.specs.declared.stmt.RefreshState.TheVariants as states
-use Rattle.sql_subset.specs.Reading.{begins, name_of}
+use Rattle.sql_subset.specs.Reading.{begins, capped, name_of}
 use Rattle.sql_subset.specs.Lines.{kinds_in}
 use Rattle.sql_tokens.specs.Kinds.{code}
 use Rattle.sql_grammar.specs.Tests.{passes}
-use Rattle.sql_subset.specs.Groups.{capped, group_kinded, group_named, group_of, group_refreshed, grouped, interval_of, kind_of, mode_of, number_with, refresh_of, state_of}
+use Rattle.sql_subset.specs.Groups.{group_kinded, group_named, group_of, group_refreshed, grouped, interval_of, kind_of, mode_of, refresh_of, state_of}
 use Rattle.sql_subset.specs.Tables.{table_of}
 use Rattle.sql_print.specs.Words.{Word, group_words, interval_words, kind_words, mode_word, name_words, refresh_words, state_word, table_words}
+use Rattle.sql_print.proofs.Numbers.{decimal_is}
 use Rattle.sql_print.proofs.Lexed.{lexes, lexes_word}
 use Rattle.sql_print.proofs.WordKinds.{digits_bytes, digits_kind}
 use Rattle.sql_print.proofs.Rest.{Front, Gives, Never, Rest, front_never, known, known_by, moved, taken}
 use Rattle.sql_print.proofs.Names.{IsName, put_name}
 use Rattle.sql_print.proofs.Tables.{IsTable, put_table}
 
--- the value with further digits is no less
-value_grows : (ds : List ℕ) (a : ℕ) → a ≤ digits_value_after 10 a ds
-value_grows [] a = omega arith
-value_grows (d ∷ ds) a = let h = value_grows ds (a * 10 + digit_value d) in omega (arith, h)
-
-digit_is : (b : ℕ) → is_ascii_digit b ≡ true → digit_value b ≡ b - 48
-digit_is b h = grind (arith, nat_tests)
-
--- a number of 64 bits is read as it is
-number_is : (ds : List ℕ) (a : ℕ) → list_all is_ascii_digit ds ≡ true → digits_value_after 10 a ds ≤ 18446744073709551615 → number_with a ds ≡ digits_value_after 10 a ds
-number_is [] a h l = refl
-number_is (d ∷ ds) a h l =
-    let e = digit_is d (and_left (is_ascii_digit d) (list_all is_ascii_digit ds) h) in
-    let g = value_grows ds (a * 10 + digit_value d) in
-    let c : capped (10 * a + (d - 48)) ≡ a * 10 + digit_value d = omega (arith, e, g) in
-    ap (λ n. number_with n ds) c ∙ number_is ds (a * 10 + digit_value d) (and_right (is_ascii_digit d) (list_all is_ascii_digit ds) h) l
-
 interval_is : (n : ℕ) → n ≤ 18446744073709551615 → interval_of (decimal n) k.Millisecond ≡ n
-interval_is n l =
-    let small : n < 2 ^ 64 = omega arith in
-    let v : digits_value 10 (decimal n) ≡ n = digits_value-decimal numerals n small in
-    let m : digits_value_after 10 0 (decimal n) ≤ 18446744073709551615 = omega (arith, v) in
-    let r : number_with 0 (decimal n) ≡ n = number_is (decimal n) 0 (digits_decimal numerals n small) m ∙ v in
-    ap (λ x. capped (x * 1)) r ∙ omega arith
+interval_is n l = ap (λ x. capped (x * 1)) (decimal_is n l) ∙ omega arith
 
 -- first a word of this meaning, then such
 abbrev Meant : {V : Type 0} → (Kind → V) → V → Word → (List Lexeme → Type 0) → List Lexeme → Type 0

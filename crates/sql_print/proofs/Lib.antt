@@ -7,8 +7,10 @@ pub mod Folded
 pub mod Groups
 pub mod Lexed
 pub mod Literals
+pub mod Loads
 pub mod Names
 pub mod NormalLaws
+pub mod Numbers
 pub mod Puts
 pub mod Rest
 pub mod Read

@@ -1,5 +1,5 @@
 -- What is read off the tokens of bytes without a bad one.
-use Rattle.std.proofs.Common.{◌≡◌, ℕ, zero, suc, ◌*◌, ◌≤◌, min, Bool, true, false, cond, List, [], ◌∷◌, ◌++◌, drop, length, Some, None, refl, sym, ap, subst, arith}
+use Rattle.std.proofs.Common.{◌≡◌, ℕ, zero, suc, ◌*◌, ◌≤◌, min, Bool, true, false, cond, List, [], ◌∷◌, ◌++◌, drop, length, Option, Some, None, refl, sym, ap, subst, arith}
 use Rattle.std.proofs.lemmas.Bool.Decides.{nat_tests}
 use Rattle.row_types.specs.Printing.{quoted}
 use Rattle.row_types.specs.declared.declaration.TypeDeclaration.TheVariants as types
@@ -24,14 +24,16 @@ use Rattle.sql_subset.specs.declared.stmt.Literal.{Literal}
 use Rattle.sql_subset.specs.declared.stmt.Stmt.{Stmt}
 use Rattle.sql_subset.specs.declared.stmt.Stmt.TheVariants as v
 use Rattle.sql_subset.specs.Lines.{Spells, kinds_in}
-use Rattle.sql_subset.specs.Reading.{as_list, at_comma, begins, chained, first_kind, first_text, identifier_of, identifiers_of, literal_of, literals_of, name_from, name_of, unquoted, with_last}
+use Rattle.sql_subset.specs.Reading.{as_list, at_comma, begins, chained, first_kind, first_text, identifier_of, identifiers_of, literal_of, literals_of, name_from, name_of, number_of, unquoted, with_last}
 use Rattle.sql_subset.specs.Tables.{as_column, as_key, column_of, element_of, past_two, table_of, table_with, type_of, with_element}
-use Rattle.sql_subset.specs.Groups.{unwritten, default_refresh, group_of, kind_of, milliseconds_of, number_with, refresh_of, with_interval, with_mode, with_state, written}
-use Rattle.sql_subset.specs.Statements.{call_named, call_with, insert_of, statement_of}
+use Rattle.sql_subset.specs.Groups.{unwritten, default_refresh, group_of, kind_of, milliseconds_of, refresh_of, with_interval, with_mode, with_state, written}
+use Rattle.sql_subset.specs.Statements.{call_named, call_with, commit_every_of, counted, insert_of, load_of, statement_of}
 use Rattle.sql_print.proofs.Fine.{IsFineText}
 use Rattle.sql_print.proofs.Fits.{Fits, all_fit}
 use Rattle.sql_print.proofs.Folded.{identifier_read, name_read}
 use Rattle.sql_print.proofs.Groups.{IsGroup, IsRefresh}
+use Rattle.sql_print.proofs.Loads.{IsCount, IsLoad}
+use Rattle.sql_print.proofs.Numbers.{number_le}
 use Rattle.sql_print.proofs.Literals.{AllGood, IsDigits, IsLiteral, unquoted_quoted}
 use Rattle.sql_print.proofs.Names.{IsIdentifier, IsName}
 use Rattle.sql_print.proofs.Spoilt.{fine_bytes}
@@ -175,7 +177,7 @@ mode_good : (x : autorefreshes.Autorefresh × List Lexeme) → Refreshed x → R
 mode_good x (h, t) = choice_good (begins k.Mode x.1) _ x (h, drop_fit 2 x.1 t) (h, t)
 
 interval_good : (x : autorefreshes.Autorefresh × List Lexeme) → Refreshed x → Refreshed (with_interval x)
-interval_good x (h, t) = choice_good (begins k.Interval x.1) _ x (capped_le (number_with 0 (first_text (drop 1 x.1)) * milliseconds_of (first_kind (drop 2 x.1))), drop_fit 3 x.1 t) (h, t)
+interval_good x (h, t) = choice_good (begins k.Interval x.1) _ x (capped_le (number_of (first_text (drop 1 x.1)) * milliseconds_of (first_kind (drop 2 x.1))), drop_fit 3 x.1 t) (h, t)
 
 state_good : (x : autorefreshes.Autorefresh × List Lexeme) → Refreshed x → Refreshed (with_state x)
 state_good x (h, t) = choice_good (begins k.State x.1) _ x (h, drop_fit 2 x.1 t) (h, t)
@@ -207,6 +209,21 @@ group_good us h =
     let g = name_fit vs (drop_fit 2 kind.1 f) in
     let r = refresh_good kind.0 (name_of vs).1 g in
     record { name = name_good vs; refresh = r.0; table = table_good (drop 1 (refresh_of kind.0 (name_of vs).1).1) (drop_fit 1 (refresh_of kind.0 (name_of vs).1).1 r.1) }
+
+-- LOAD
+count_good : (b : Bool) (n : ℕ) (us vs : List Lexeme) → n ≤ 18446744073709551615 → IsCount (cond {A = Option ℕ × List Lexeme} b (counted n us) (None, vs)).0
+count_good true n us vs h = h
+count_good false n us vs h = tt
+
+load_good : (us : List Lexeme) → IsLoad (load_of us).0
+load_good us =
+    let vs : List Lexeme = (name_of (drop 2 us)).1 in
+    let ws : List Lexeme = (commit_every_of vs).1 in
+    record {
+      name = name_good (drop 2 us);
+      commit_every = count_good (begins k.Commit vs) (number_of (first_text (drop 2 vs))) (drop 4 vs) vs (number_le (first_text (drop 2 vs)));
+      parallel = count_good (begins k.Parallel ws) (number_of (first_text (drop 1 ws))) (drop 2 ws) ws (number_le (first_text (drop 1 ws)));
+    }
 
 -- what a test of one kind says
 only : (j n : Kind) → passes (Only j) n ≡ true → is_kind n j ≡ true
@@ -376,11 +393,11 @@ statement_read us t d = by (begins k.Select us) (begins k.Insert us) (begins k.C
     rest = drop 1 us
 
     by : (a b c e f g : Bool) → begins k.Insert us ≡ b → begins k.Call us ≡ f
-        → IsStatement (cond a (v.Select (record { table = (name_of (drop 3 us)).0 })) (cond b (v.Insert (insert_of rest).0) (cond c (v.CreateGroup (group_of rest).0) (cond e (v.Load (record { group = (name_of (drop 3 us)).0 })) (cond f (call_named (name_of rest)) (cond g v.Commit v.Rollback))))))
+        → IsStatement (cond a (v.Select (record { table = (name_of (drop 3 us)).0 })) (cond b (v.Insert (insert_of rest).0) (cond c (v.CreateGroup (group_of rest).0) (cond e (v.Load (load_of rest).0) (cond f (call_named (name_of rest)) (cond g v.Commit v.Rollback))))))
     by true b c e f g i j = name_good (drop 3 us)
     by false true c e f g i j = insert_read rest (drop_fit 1 us t) (insert_start us i d)
     by false false true e f g i j = group_good rest (drop_fit 1 us t)
-    by false false false true f g i j = name_good (drop 3 us)
+    by false false false true f g i j = load_good rest
     by false false false false true g i j =
         call_read (name_of rest).0 (name_of rest).1 (name_good rest) (name_fit rest (drop_fit 1 us t)) (name_read_by behind_call call_first rest (call_start us j d))
     by false false false false false true i j = tt

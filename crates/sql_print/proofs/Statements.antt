@@ -13,6 +13,7 @@ use Rattle.sql_grammar.specs.Notation.{optional, the, ◌▸◌}
 use Rattle.sql_grammar.specs.Sql.{rule, arguments, create_group, insert, literal, literals, load, select, table_name}
 use Rattle.sql_subset.specs.declared.stmt.Literal.{Literal}
 use Rattle.sql_subset.specs.declared.stmt.CreateGroup as groups
+use Rattle.sql_subset.specs.declared.stmt.Load as loads
 use Rattle.sql_subset.specs.declared.stmt.Stmt.{Stmt}
 use Rattle.sql_subset.specs.declared.stmt.Stmt.TheVariants as v
 use Rattle.sql_subset.specs.Lines.{kinds_in}
@@ -20,13 +21,14 @@ use Rattle.sql_subset.specs.Reading.{begins, name_of, literal_of, literals_of}
 use Rattle.sql_subset.specs.Groups.{group_of}
 use Rattle.sql_subset.specs.Statements.{call_named, call_with, inserted, insert_named, statement_of}
 use Rattle.sql_subset.proofs.Shrinking.{literal_shrinks}
-use Rattle.sql_print.specs.Words.{Word, group_words, listed, literal_words, name_words, statement_words}
+use Rattle.sql_print.specs.Words.{Word, group_words, listed, literal_words, load_words, name_words, statement_words}
 use Rattle.sql_print.specs.Printed.{joined, spaced}
 use Rattle.sql_print.proofs.Lexed.{Lexes, lexes}
 use Rattle.sql_print.proofs.Rest.{Front, Gives, Never, Rest, begun_by, front_never, known_by, moved, taken}
 use Rattle.sql_print.proofs.Names.{IsName, put_name}
 use Rattle.sql_print.proofs.Literals.{AllGood, IsLiteral, put_list, put_literal}
 use Rattle.sql_print.proofs.Groups.{IsGroup, put_group}
+use Rattle.sql_print.proofs.Loads.{IsLoad, Loaded, load_says, put_load}
 
 -- one literal or more
 abbrev pub AreLiterals : List Literal → Type 0
@@ -38,7 +40,7 @@ abbrev pub IsStatement : Stmt → Type 0
 IsStatement (v.Select x) = IsName x.table
 IsStatement (v.Insert x) = IsName x.table × AreLiterals x.values
 IsStatement (v.CreateGroup x) = IsGroup x
-IsStatement (v.Load x) = IsName x.group
+IsStatement (v.Load x) = IsLoad x
 IsStatement (v.Call x) = IsName x.procedure × AllGood IsLiteral x.arguments
 IsStatement v.Commit = Unit {0}
 IsStatement v.Rollback = Unit {0}
@@ -88,17 +90,15 @@ says_select n h =
     let whole : Says (codes "SELECT" ++ spaced (codes "*" ∷ codes "FROM" ∷ (name_words n ++ []))) (v.Select (record { table = n })) = (d, select_says n _ f) in
     subst (λ us. Says (codes "SELECT" ++ spaced (codes "*" ∷ codes "FROM" ∷ us)) (v.Select (record { table = n }))) (append-nil (name_words n)) whole
 
-load_says : (n : List ℕ) (ls : List Lexeme) → Front k.Load (codes "LOAD") (Front k.Cache (codes "CACHE") (Front k.Group (codes "GROUP") (Gives name_of n Ends))) ls → statement_of ls ≡ v.Load (record { group = n })
-load_says n ls (p1, r1, e1, (p2, r2, e2, (p3, r3, e3, (r4, e4, q)))) = rw (e1, e2, e3) (ap (λ (x : List ℕ × List Lexeme). v.Load (record { group = x.0 })) e4)
+load_begins : (x : loads.Load) (ls : List Lexeme) → Front k.Load (codes "LOAD") (Loaded x) ls → statement_of ls ≡ v.Load x
+load_begins x ls (p1, r1, e1, q) = let (rest, e) = load_says x r1 q in rw e1 (ap (λ (y : loads.Load × List Lexeme). v.Load y.0) e)
 
-says_load : (n : List ℕ) → IsName n → Says (joined (statement_words (v.Load (record { group = n })))) (v.Load (record { group = n }))
-says_load n h =
-    let r1 = put_name n h end [] Ends (ends_never k.Dot refl) at_end in
-    let r2 = taken k.Group (codes "GROUP") (Part 0 table_name end) (Part 0 (the k.Group ▸ table_name) end) (name_words n ++ []) (Gives name_of n Ends) (lexes (codes "GROUP") refl) (λ j d. both (token refl d)) r1 in
-    let r3 = taken k.Cache (codes "CACHE") (Part 0 (the k.Group ▸ table_name) end) (Part 0 load end) (codes "GROUP" ∷ (name_words n ++ [])) (Front k.Group (codes "GROUP") (Gives name_of n Ends)) (lexes (codes "CACHE") refl) (λ j d. both (token refl d)) r2 in
-    let (d, f) = begun_by k.Load (codes "LOAD") (Part 0 load end) start (codes "CACHE" ∷ codes "GROUP" ∷ (name_words n ++ [])) (Front k.Cache (codes "CACHE") (Front k.Group (codes "GROUP") (Gives name_of n Ends))) (lexes (codes "LOAD") refl) (λ j x. named (that (that (that (this refl x))))) r3 in
-    let whole : Says (codes "LOAD" ++ spaced (codes "CACHE" ∷ codes "GROUP" ∷ (name_words n ++ []))) (v.Load (record { group = n })) = (d, load_says n _ f) in
-    subst (λ us. Says (codes "LOAD" ++ spaced (codes "CACHE" ∷ codes "GROUP" ∷ us)) (v.Load (record { group = n }))) (append-nil (name_words n)) whole
+says_load : (x : loads.Load) → IsLoad x → Says (joined (statement_words (v.Load x))) (v.Load x)
+says_load x h =
+    let r = put_load x h at_end (ends_never k.Parallel refl) in
+    let (d, f) = begun_by k.Load (codes "LOAD") (Part 0 load end) start (codes "CACHE" ∷ codes "GROUP" ∷ (load_words x ++ [])) (Loaded x) (lexes (codes "LOAD") refl) (λ j y. named (that (that (that (this refl y))))) r in
+    let whole : Says (codes "LOAD" ++ spaced (codes "CACHE" ∷ codes "GROUP" ∷ (load_words x ++ []))) (v.Load x) = (d, load_begins x _ f) in
+    subst (λ us. Says (codes "LOAD" ++ spaced (codes "CACHE" ∷ codes "GROUP" ∷ us)) (v.Load x)) (append-nil (load_words x)) whole
 
 create_says : (g : groups.CreateGroup) (ls : List Lexeme) → Front k.Create (codes "CREATE") (Gives group_of g Ends) ls → statement_of ls ≡ v.CreateGroup g
 create_says g ls (p1, r1, e1, (r2, e2, q)) = rw e1 (ap (λ (x : groups.CreateGroup × List Lexeme). v.CreateGroup x.0) e2)
@@ -194,7 +194,7 @@ pub says_statement : (s : Stmt) → IsStatement s → Says (joined (statement_wo
 says_statement (v.Select x) h = says_select x.table h
 says_statement (v.Insert x) (h, t) = says_insert x.table x.values h t
 says_statement (v.CreateGroup x) h = says_create x h
-says_statement (v.Load x) h = says_load x.group h
+says_statement (v.Load x) h = says_load x h
 says_statement (v.Call x) (h, t) = says_call x.procedure x.arguments h t
 says_statement v.Commit h = says_commit
 says_statement v.Rollback h = says_rollback

@@ -13,6 +13,7 @@ use Rattle.sql_subset.specs.declared.stmt.Literal.{Literal}
 use Rattle.sql_subset.specs.declared.stmt.Literal.TheVariants as literals
 use Rattle.sql_subset.specs.declared.stmt.Autorefresh as autorefreshes
 use Rattle.sql_subset.specs.declared.stmt.CreateGroup as groups
+use Rattle.sql_subset.specs.declared.stmt.Load as loads
 use Rattle.sql_subset.specs.declared.stmt.GroupKind.{GroupKind}
 use Rattle.sql_subset.specs.declared.stmt.GroupKind.TheVariants.{ReadOnly, AsynchronousWritethrough}
 use Rattle.sql_subset.specs.declared.stmt.RefreshMode.{RefreshMode}
@@ -142,6 +143,20 @@ abbrev pub group_words : groups.CreateGroup → List Word
 group_words group =
     kind_words group.kind ++ codes "CACHE" ∷ codes "GROUP" ∷ name_words group.name ++ refresh_words group.autorefresh ++ codes "FROM" ∷ table_words group.table
 
+-- [ COMMIT EVERY n ROWS ]
+abbrev pub commit_words : Option ℕ → List Word
+commit_words None = []
+commit_words (Some rows) = codes "COMMIT" ∷ codes "EVERY" ∷ decimal rows ∷ codes "ROWS" ∷ []
+
+-- [ PARALLEL n ]
+abbrev pub parallel_words : Option ℕ → List Word
+parallel_words None = []
+parallel_words (Some threads) = codes "PARALLEL" ∷ decimal threads ∷ []
+
+-- name [ COMMIT EVERY n ROWS ] [ PARALLEL n ]
+abbrev pub load_words : loads.Load → List Word
+load_words load = name_words load.group ++ commit_words load.commit_every ++ parallel_words load.parallel
+
 -- [ ( literals ) ]
 abbrev pub argument_words : List Literal → List Word
 argument_words [] = []
@@ -152,7 +167,7 @@ abbrev pub rest_words : Stmt → List Word
 rest_words (v.Select select) = name_words select.table
 rest_words (v.Insert insert) = name_words insert.table ++ codes "VALUES" ∷ enclosed (listed literal_words insert.values)
 rest_words (v.CreateGroup group) = group_words group
-rest_words (v.Load load) = name_words load.group
+rest_words (v.Load load) = load_words load
 rest_words (v.Call call) = name_words call.procedure ++ argument_words call.arguments
 rest_words v.Commit = []
 rest_words v.Rollback = []

@@ -1,16 +1,18 @@
 //! Statements as text.
 ghost use Rattle.std.specs.Prelude.{◌≡◌, ◌++◌, ◌∷◌, IfOk, OnOk, Some};
+ghost use Rattle.std.specs.Fmt.{decimal};
 ghost use Rattle.row_types.specs.Printing.{doubled_quote, quoted};
 ghost use Rattle.sql_print.specs.Normal.{normal, normal_group};
 ghost use Rattle.sql_print.specs.Printed.{joined, printed, printed_table, spaced};
-ghost use Rattle.sql_print.specs.Words.{argument_words, enclosed, group_words, integer_word, interval_words, kind_words, literal_word, literal_words, listed, mode_word, more, refresh_words, rest_words, statement_words, state_word};
+ghost use Rattle.sql_print.specs.Words.{argument_words, commit_words, enclosed, group_words, integer_word, interval_words, kind_words, literal_word, literal_words, listed, load_words, mode_word, more, parallel_words, refresh_words, rest_words, statement_words, state_word};
 
 use crate::table::put_table;
 use crate::word::{put, put_name};
 use itoa::Buffer;
 use row_types::{TableDeclaration, Text};
 use sql_subset::stmt::{
-    Autorefresh, CreateGroup, GroupKind, IntegerLiteral, Literal, RefreshMode, RefreshState, Stmt,
+    Autorefresh, CreateGroup, GroupKind, IntegerLiteral, Literal, Load, RefreshMode, RefreshState,
+    Stmt,
 };
 use std::alloc::{AllocError, Global};
 
@@ -108,12 +110,18 @@ fn state_word(state: RefreshState) -> &'static [u8]
     }
 }
 
+fn put_number(out: &mut Vec<u8>, number: u64) -> Result<(), AllocError>
+    ensures { OnOk result (out.new.items ≡ out.old.items ++ 32 ∷ decimal number) }
+{
+    let mut digits = Buffer::new();
+    put(out, digits.format(number).as_bytes())
+}
+
 fn put_interval(out: &mut Vec<u8>, interval: u64) -> Result<(), AllocError>
     ensures { OnOk result (out.new.items ≡ out.old.items ++ spaced (interval_words interval)) }
 {
-    let mut digits = Buffer::new();
     put(out, b"INTERVAL")?;
-    put(out, digits.format(interval).as_bytes())?;
+    put_number(out, interval)?;
     put(out, b"MILLISECONDS")
 }
 
@@ -151,6 +159,35 @@ fn put_group(alloc: Global, out: &mut Vec<u8>, group: &CreateGroup) -> Result<()
     put_table(alloc, out, &group.table)
 }
 
+fn put_commit_every(out: &mut Vec<u8>, rows: Option<u64>) -> Result<(), AllocError>
+    ensures { OnOk result (out.new.items ≡ out.old.items ++ spaced (commit_words rows)) }
+{
+    let Some(rows) = rows else {
+        return Ok(());
+    };
+    put(out, b"COMMIT EVERY")?;
+    put_number(out, rows)?;
+    put(out, b"ROWS")
+}
+
+fn put_parallel(out: &mut Vec<u8>, threads: Option<u64>) -> Result<(), AllocError>
+    ensures { OnOk result (out.new.items ≡ out.old.items ++ spaced (parallel_words threads)) }
+{
+    let Some(threads) = threads else {
+        return Ok(());
+    };
+    put(out, b"PARALLEL")?;
+    put_number(out, threads)
+}
+
+fn put_load(out: &mut Vec<u8>, load: &Load) -> Result<(), AllocError>
+    ensures { OnOk result (out.new.items ≡ out.old.items ++ spaced (load_words load.now)) }
+{
+    put_name(out, &load.group)?;
+    put_commit_every(out, load.commit_every)?;
+    put_parallel(out, load.parallel)
+}
+
 /// The words with which the statement begins.
 fn first_words(s: &Stmt) -> &'static [u8]
     ensures { joined (statement_words (normal s.now)) ≡ result.now ++ spaced (rest_words (normal s.now)) }
@@ -178,7 +215,7 @@ fn put_rest(alloc: Global, out: &mut Vec<u8>, s: &Stmt) -> Result<(), AllocError
             put_literals(out, insert.values.as_slice())
         }
         Stmt::CreateGroup(group) => put_group(alloc, out, group),
-        Stmt::Load(load) => put_name(out, &load.group),
+        Stmt::Load(load) => put_load(out, load),
         Stmt::Call(call) => {
             put_name(out, &call.procedure)?;
             put_arguments(out, call.arguments.as_slice())

@@ -1,5 +1,5 @@
 -- What the tokens at the front say: cache groups. (TimesTen SQL Reference, "CREATE CACHE GROUP".)
-use Rattle.std.specs.Prelude.{ℕ, ◌+◌, ◌-◌, ◌*◌, min, List, [], ◌∷◌, drop, Option, Some, None, if◌then◌else◌}
+use Rattle.std.specs.Prelude.{ℕ, ◌*◌, List, drop, Option, Some, None, if◌then◌else◌}
 use Rattle.sql_tokens.specs.declared.kind.Kind.{Kind}
 use Rattle.sql_tokens.specs.declared.kind.Kind.TheVariants.{Autorefresh, Full, Interval, Millisecond, Mode, Off, On, Readonly, Second, State}
 use Rattle.sql_tokens.specs.Kinds.{is_kind}
@@ -13,17 +13,8 @@ use Rattle.sql_subset.specs.declared.stmt.RefreshMode.TheVariants as modes
 use Rattle.sql_subset.specs.declared.stmt.RefreshState.{RefreshState}
 use Rattle.sql_subset.specs.declared.stmt.RefreshState.TheVariants as states
 use Rattle.row_types.specs.declared.declaration.TableDeclaration.{TableDeclaration}
-use Rattle.sql_subset.specs.Reading.{begins, first_kind, first_text, name_of}
+use Rattle.sql_subset.specs.Reading.{begins, first_kind, first_text, name_of, capped, number_of}
 use Rattle.sql_subset.specs.Tables.{table_of}
-
--- the greatest number of 64 bits, which stands for all that is greater
-abbrev pub capped : ℕ → ℕ
-capped n = min n 18446744073709551615
-
--- the number with further digits behind it
-abbrev pub number_with : ℕ → List ℕ → ℕ
-number_with n [] = n
-number_with n (b ∷ bs) = number_with (capped (10 * n + (b - 48))) bs
 
 -- the milliseconds of a unit
 abbrev pub milliseconds_of : Kind → ℕ
@@ -31,7 +22,7 @@ milliseconds_of unit = if is_kind unit Millisecond then 1 else if is_kind unit S
 
 -- the milliseconds of so many units
 abbrev pub interval_of : List ℕ → Kind → ℕ
-interval_of digits unit = capped (number_with 0 digits * milliseconds_of unit)
+interval_of digits unit = capped (number_of digits * milliseconds_of unit)
 
 -- AUTOREFRESH without a part (TimesTen SQL Reference, "CREATE CACHE GROUP")
 abbrev pub default_refresh : autorefreshes.Autorefresh

@@ -1,7 +1,7 @@
 -- What the tokens at the front say: names, literals, and lists of them. (TimesTen SQL Reference, "Names, namespace and
 -- parameters" and "Constants".) On tokens that no statement has these functions give some value, which no line says
 -- (this project's rule).
-use Rattle.std.specs.Prelude.{ℕ, zero, suc, Bool, true, false, nat_eq, List, [], ◌∷◌, ◌++◌, length, drop, codes, if◌then◌else◌}
+use Rattle.std.specs.Prelude.{ℕ, zero, suc, ◌+◌, ◌-◌, ◌*◌, min, Bool, true, false, nat_eq, List, [], ◌∷◌, ◌++◌, length, drop, codes, if◌then◌else◌}
 use Rattle.tier_base.specs.Names.{folded, is_name}
 use Rattle.sql_tokens.specs.declared.kind.Kind.{Kind}
 use Rattle.sql_tokens.specs.declared.kind.Kind.TheVariants.{Bad, Comma, Dot, Minus, Null, Text}
@@ -45,6 +45,19 @@ abbrev pub integer_of : List Lexeme → IntegerLiteral × List Lexeme
 integer_of ls =
     if begins Minus ls then (record { negative = true; digits = first_text (drop 1 ls) }, drop 2 ls)
     else (record { negative = false; digits = first_text ls }, drop 1 ls)
+
+-- the greatest number of 64 bits, which stands for all that is greater
+abbrev pub capped : ℕ → ℕ
+capped n = min n 18446744073709551615
+
+-- the number with further digits behind it
+abbrev pub number_with : ℕ → List ℕ → ℕ
+number_with n [] = n
+number_with n (b ∷ bs) = number_with (capped (10 * n + (b - 48))) bs
+
+-- the number that the digits make
+abbrev pub number_of : List ℕ → ℕ
+number_of digits = number_with 0 digits
 
 -- the bytes with each quote that is followed by another one as one quote, behind a quote or not
 abbrev pub halved : Bool → List ℕ → List ℕ

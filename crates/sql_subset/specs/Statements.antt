@@ -8,6 +8,7 @@ use Rattle.sql_tokens.specs.Lexing.{Lexeme}
 use Rattle.sql_subset.specs.declared.stmt.Insert as inserts
 use Rattle.sql_subset.specs.declared.stmt.Update as updates
 use Rattle.sql_subset.specs.declared.stmt.Delete as deletes
+use Rattle.sql_subset.specs.declared.stmt.Load as loads
 use Rattle.sql_subset.specs.declared.stmt.Comparison.{Comparison}
 use Rattle.sql_subset.specs.declared.stmt.Literal.{Literal}
 use Rattle.sql_subset.specs.declared.stmt.Write.{Write}
@@ -19,7 +20,7 @@ use Rattle.sql_subset.specs.declared.request.Request.{Request}
 use Rattle.sql_subset.specs.declared.request.Request.TheVariants as requests
 use Rattle.sql_subset.specs.declared.request.ConsoleRequest.{ConsoleRequest}
 use Rattle.sql_subset.specs.declared.request.ConsoleRequest.TheVariants as consoles
-use Rattle.sql_subset.specs.Reading.{begins, first_kind, name_of, literals_of, comparison_of, chained, with_last, as_list}
+use Rattle.sql_subset.specs.Reading.{begins, first_kind, first_text, name_of, number_of, literals_of, comparison_of, chained, with_last, as_list}
 use Rattle.sql_subset.specs.Tables.{table_of}
 use Rattle.sql_subset.specs.Groups.{group_of}
 
@@ -100,13 +101,37 @@ call_with name ls =
 abbrev pub call_named : List ℕ × List Lexeme → Stmt
 call_named x = call_with x.0 x.1
 
+abbrev pub counted : ℕ → List Lexeme → Option ℕ × List Lexeme
+counted n ls = (Some n, ls)
+
+-- [ COMMIT EVERY integer ROWS ]
+abbrev pub commit_every_of : List Lexeme → Option ℕ × List Lexeme
+commit_every_of ls = if begins k.Commit ls then counted (number_of (first_text (drop 2 ls))) (drop 4 ls) else (None, ls)
+
+-- [ PARALLEL integer ]
+abbrev pub parallel_of : List Lexeme → Option ℕ × List Lexeme
+parallel_of ls = if begins k.Parallel ls then counted (number_of (first_text (drop 1 ls))) (drop 2 ls) else (None, ls)
+
+abbrev pub loaded : List ℕ → Option ℕ → Option ℕ × List Lexeme → loads.Load × List Lexeme
+loaded group commit_every x = (record { group = group; commit_every = commit_every; parallel = x.0 }, x.1)
+
+abbrev pub load_counted : List ℕ → Option ℕ × List Lexeme → loads.Load × List Lexeme
+load_counted group x = loaded group x.0 (parallel_of x.1)
+
+abbrev pub load_named : List ℕ × List Lexeme → loads.Load × List Lexeme
+load_named x = load_counted x.0 (commit_every_of x.1)
+
+-- CACHE GROUP name [ COMMIT EVERY integer ROWS ] [ PARALLEL integer ]
+abbrev pub load_of : List Lexeme → loads.Load × List Lexeme
+load_of ls = load_named (name_of (drop 2 ls))
+
 -- a statement of a session
 abbrev pub statement_of : List Lexeme → Stmt
 statement_of ls =
     if begins k.Select ls then v.Select (record { table = (name_of (drop 3 ls)).0 })
     else if begins k.Insert ls then v.Insert (insert_of (drop 1 ls)).0
     else if begins k.Create ls then v.CreateGroup (group_of (drop 1 ls)).0
-    else if begins k.Load ls then v.Load (record { group = (name_of (drop 3 ls)).0 })
+    else if begins k.Load ls then v.Load (load_of (drop 1 ls)).0
     else if begins k.Call ls then call_named (name_of (drop 1 ls))
     else if begins k.Commit ls then v.Commit
     else v.Rollback

@@ -1,27 +1,14 @@
 //! Cache groups, read off the tokens of a line.
-ghost use Rattle.std.specs.Prelude.{◌≡◌, ◌≤◌, IfOk};
-ghost use Rattle.sql_subset.specs.Groups.{number_with, milliseconds_of, interval_of, default_refresh, mode_of, state_of, with_mode, with_interval, with_state, refresh_of, kind_of, group_of};
+ghost use Rattle.std.specs.Prelude.{◌≡◌, IfOk};
+ghost use Rattle.sql_subset.specs.Groups.{milliseconds_of, interval_of, default_refresh, mode_of, state_of, with_mode, with_interval, with_state, refresh_of, kind_of, group_of};
 
 use crate::reader::Reader;
-use crate::reading::read_name;
+use crate::reading::{number_of, read_name};
 use crate::stmt::{Autorefresh, CreateGroup, GroupKind, RefreshMode, RefreshState};
 use crate::tables::read_table;
 use sql_tokens::kind::Kind;
 use sql_tokens::token::is_kind;
 use std::alloc::AllocError;
-
-/// The number that the digits make; 2^64 - 1 stands for all that is greater.
-fn number_of(digits: &[u8]) -> u64
-    ensures { result ≡ number_with 0 digits.now }
-{
-    let mut number: u64 = 0;
-    for digit in digits {
-        number = number
-            .saturating_mul(10)
-            .saturating_add(u64::from(digit.saturating_sub(b'0')));
-    }
-    number
-}
 
 fn milliseconds_of(unit: Kind) -> u64
     ensures { result ≡ milliseconds_of unit }

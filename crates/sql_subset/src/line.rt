@@ -166,4 +166,6 @@ pub fn one_meaning()
 #[cfg(test)]
 mod cases;
 #[cfg(test)]
+mod group_cases;
+#[cfg(test)]
 mod tests;

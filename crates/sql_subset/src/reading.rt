@@ -1,6 +1,6 @@
 //! Names, literals and lists of them, read off the tokens of a line.
 ghost use Rattle.std.specs.Prelude.{◌≡◌, ◌++◌, ◌∷◌, ℕ, List, codes, drop, IfOk};
-ghost use Rattle.sql_subset.specs.Reading.{name_from, identifier_of, name_of, integer_of, halved, unquoted, literal_of, identifiers_of, literals_of, comparison_of};
+ghost use Rattle.sql_subset.specs.Reading.{name_from, identifier_of, name_of, integer_of, number_of, halved, unquoted, literal_of, identifiers_of, literals_of, comparison_of};
 
 use crate::reader::Reader;
 use crate::stmt::{Comparison, IntegerLiteral, Literal};
@@ -73,6 +73,19 @@ pub fn read_integer(r: Reader<'_>) -> Result<(IntegerLiteral, Reader<'_>), Alloc
     let number = if negative { r.skip(1) } else { r };
     let digits = Text::new(number.alloc(), number.text())?;
     Ok((IntegerLiteral { negative, digits }, number.skip(1)))
+}
+
+/// The number that the digits make; 2^64 - 1 stands for all that is greater.
+pub fn number_of(digits: &[u8]) -> u64
+    ensures { result ≡ number_of digits.now }
+{
+    let mut number: u64 = 0;
+    for digit in digits {
+        number = number
+            .saturating_mul(10)
+            .saturating_add(u64::from(digit.saturating_sub(b'0')));
+    }
+    number
 }
 
 /// Takes a byte of a text, behind a quote or not; whether the next one is.

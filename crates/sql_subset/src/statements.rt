@@ -1,10 +1,10 @@
 //! Statements and requests, read off the tokens of a line.
 ghost use Rattle.std.specs.Prelude.{◌≡◌, IfOk};
-ghost use Rattle.sql_subset.specs.Statements.{insert_of, filter_of, update_of, delete_of, write_of, goes_on, writes_of, console_of, call_with, statement_of, digit_of, passthrough_of, open_with, request_of};
+ghost use Rattle.sql_subset.specs.Statements.{insert_of, filter_of, update_of, delete_of, write_of, goes_on, writes_of, console_of, call_with, commit_every_of, parallel_of, load_of, statement_of, digit_of, passthrough_of, open_with, request_of};
 
 use crate::groups::read_group;
 use crate::reader::Reader;
-use crate::reading::{read_comparison, read_literals, read_name};
+use crate::reading::{number_of, read_comparison, read_literals, read_name};
 use crate::request::{ConsoleRequest, OpenOptions, Request};
 use crate::stmt::{Call, Comparison, Delete, Insert, Load, Select, Stmt, Update, Write};
 use crate::tables::read_table;
@@ -134,6 +134,47 @@ fn read_call(procedure: Name, r: Reader<'_>) -> Result<Stmt, AllocError>
     }))
 }
 
+/// Reads COMMIT EVERY, where it stands.
+fn read_commit_every(r: Reader<'_>) -> (Option<u64>, Reader<'_>)
+    ensures { commit_every_of r.entry ≡ (result.0, result.1) }
+{
+    if r.begins(Kind::Commit) {
+        let rows = r.skip(2);
+        let number = number_of(rows.text());
+        return (Some(number), rows.skip(2));
+    }
+    (None, r)
+}
+
+/// Reads PARALLEL, where it stands.
+fn read_parallel(r: Reader<'_>) -> (Option<u64>, Reader<'_>)
+    ensures { parallel_of r.entry ≡ (result.0, result.1) }
+{
+    if r.begins(Kind::Parallel) {
+        let threads = r.skip(1);
+        let number = number_of(threads.text());
+        return (Some(number), threads.skip(1));
+    }
+    (None, r)
+}
+
+/// Reads what stands behind LOAD.
+fn read_load(r: Reader<'_>) -> Result<(Load, Reader<'_>), AllocError>
+    ensures { IfOk result (λ x. load_of r.entry ≡ (x.0, x.1)) }
+{
+    let (group, rest) = read_name(r.skip(2))?;
+    let (commit_every, rest) = read_commit_every(rest);
+    let (parallel, rest) = read_parallel(rest);
+    Ok((
+        Load {
+            group,
+            commit_every,
+            parallel,
+        },
+        rest,
+    ))
+}
+
 /// Reads a statement of a session.
 pub fn read_statement(r: Reader<'_>) -> Result<Stmt, AllocError>
     ensures { IfOk result (λ x. x ≡ statement_of r.entry) }
@@ -151,8 +192,8 @@ pub fn read_statement(r: Reader<'_>) -> Result<Stmt, AllocError>
         return Ok(Stmt::CreateGroup(group));
     }
     if r.begins(Kind::Load) {
-        let (group, _) = read_name(r.skip(3))?;
-        return Ok(Stmt::Load(Load { group }));
+        let (load, _) = read_load(r.skip(1))?;
+        return Ok(Stmt::Load(load));
     }
     if r.begins(Kind::Call) {
         let (procedure, rest) = read_name(r.skip(1))?;

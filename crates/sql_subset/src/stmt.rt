@@ -133,11 +133,15 @@ pub struct CreateGroup {
     pub table: TableDeclaration,
 }
 
-/// `LOAD CACHE GROUP group`
+/// `LOAD CACHE GROUP group [COMMIT EVERY n ROWS] [PARALLEL n]`
 #[derive(Drop)]
 pub struct Load {
     /// the group
     pub group: Name,
+    /// the rows of COMMIT EVERY, where it is written; 2^64 - 1 stands for all that are more
+    pub commit_every: Option<u64>,
+    /// the threads of PARALLEL, where it is written; 2^64 - 1 stands for all that are more
+    pub parallel: Option<u64>,
 }
 
 /// `CALL procedure [([argument, ..])]`

@@ -14,7 +14,7 @@ use tier_base::{Name, Seq};
 /// A statement, and what is printed of it.
 type Case = (&'static [u8], &'static [u8]);
 
-static ROWS: [Case; 19] = [
+static ROWS: [Case; 22] = [
     (b"select * from a", b"SELECT * FROM A"),
     (b"SELECT*FROM own.t;", b"SELECT * FROM OWN . T"),
     (b"SELECT * FROM\tOwn . t", b"SELECT * FROM OWN . T"),
@@ -45,6 +45,18 @@ static ROWS: [Case; 19] = [
     ),
     (b"load cache group g", b"LOAD CACHE GROUP G"),
     (b"LOAD CACHE GROUP own.g", b"LOAD CACHE GROUP OWN . G"),
+    (
+        b"load cache group g commit every 0256 rows",
+        b"LOAD CACHE GROUP G COMMIT EVERY 256 ROWS",
+    ),
+    (
+        b"LOAD CACHE GROUP G PARALLEL 99999999999999999999",
+        b"LOAD CACHE GROUP G PARALLEL 18446744073709551615",
+    ),
+    (
+        b"LOAD CACHE GROUP own.g COMMIT EVERY 0 ROWS PARALLEL 02;",
+        b"LOAD CACHE GROUP OWN . G COMMIT EVERY 0 ROWS PARALLEL 2",
+    ),
     (b"call ttDrain", b"CALL TTDRAIN"),
     (b"CALL p()", b"CALL P"),
     (b"CALL own.p ( )", b"CALL OWN . P"),

@@ -265,195 +265,8 @@ pub static INSERTS: [(&'static [u8], Wanted); 29] = [
     ),
 ];
 
-/// CREATE CACHE GROUP
-pub static GROUPS: [(&'static [u8], Wanted); 29] = [
-    (b"s1: CREATE TABLE A (ID TT_INTEGER)", Wanted::At(11)),
-    (
-        b"s1: CREATE SYNCHRONOUS WRITETHROUGH CACHE GROUP G",
-        Wanted::At(11),
-    ),
-    (b"s1: CREATE DYNAMIC READONLY CACHE GROUP G", Wanted::At(11)),
-    (b"s1: CREATE ASYNCHRONOUS CACHE GROUP G", Wanted::At(24)),
-    (b"s1: CREATE READONLY GROUP G", Wanted::At(20)),
-    (b"s1: CREATE READONLY CACHE G", Wanted::At(26)),
-    (
-        b"s1: CREATE READONLY CACHE GROUP FROM A (ID TT_INTEGER)",
-        Wanted::At(32),
-    ),
-    (
-        b"s1: CREATE READONLY CACHE GROUP G A (ID TT_INTEGER)",
-        Wanted::At(34),
-    ),
-    (
-        b"s1: CREATE READONLY CACHE GROUP G FROM A ;",
-        Wanted::At(41),
-    ),
-    (
-        b"s1: CREATE READONLY CACHE GROUP G FROM A ()",
-        Wanted::At(42),
-    ),
-    (
-        b"s1: CREATE READONLY CACHE GROUP G FROM A (ID INTEGER)",
-        Wanted::At(45),
-    ),
-    (
-        b"s1: CREATE READONLY CACHE GROUP G FROM A (ID TT_INTEGER NOT NUL)",
-        Wanted::At(60),
-    ),
-    (
-        b"s1: CREATE READONLY CACHE GROUP G FROM A (ID TT_INTEGER NULL)",
-        Wanted::At(56),
-    ),
-    (
-        b"s1: CREATE READONLY CACHE GROUP G FROM A (ID TT_INTEGER PRIMARY KEYS)",
-        Wanted::At(64),
-    ),
-    (
-        b"s1: CREATE READONLY CACHE GROUP G FROM A (ID TT_INTEGER PRIMARY KEY NOT NULL)",
-        Wanted::At(68),
-    ),
-    (
-        b"s1: CREATE READONLY CACHE GROUP G FROM A (ID TT_INTEGER,)",
-        Wanted::At(56),
-    ),
-    (
-        b"s1: CREATE READONLY CACHE GROUP G FROM A (ID TT_INTEGER, PRIMARY KEY ID)",
-        Wanted::At(69),
-    ),
-    (
-        b"s1: CREATE READONLY CACHE GROUP G FROM A (ID TT_INTEGER, PRIMARY KEY ())",
-        Wanted::At(70),
-    ),
-    (
-        b"s1: CREATE READONLY CACHE GROUP G FROM A (ID TT_INTEGER, PRIMARY KEY (ID), N TT_INTEGER)",
-        Wanted::At(73),
-    ),
-    (
-        b"s1: CREATE READONLY CACHE GROUP G FROM A (PRIMARY KEY (ID))",
-        Wanted::At(42),
-    ),
-    (
-        b"s1: CREATE READONLY CACHE GROUP G FROM A (ID TT_INTEGER, FOREIGN KEY (ID) REFERENCES B (ID))",
-        Wanted::At(57),
-    ),
-    (
-        b"s1: CREATE READONLY CACHE GROUP G FROM A (ID VARCHAR2(20))",
-        Wanted::At(45),
-    ),
-    (
-        b"s1: CREATE READONLY CACHE GROUP G FROM A (ID TIMESTAMP)",
-        Wanted::At(45),
-    ),
-    (
-        b"s1: CREATE READONLY CACHE GROUP G FROM A (ID TT_BIGINT) WHERE ID > 0",
-        Wanted::At(56),
-    ),
-    (
-        b"s1: CREATE READONLY CACHE GROUP G FROM A (ID TT_BIGINT), B (ID TT_BIGINT)",
-        Wanted::At(55),
-    ),
-    (
-        b"s1: CREATE READONLY CACHE GROUP G FROM A (ID TT_BIGINT) AGING LRU",
-        Wanted::At(56),
-    ),
-    (
-        b"s1: CREATE READONLY CACHE GROUP G FROM A (ID TT_BIGINT",
-        Wanted::At(54),
-    ),
-    (
-        b"s1: CREATE READONLY CACHE GROUP G FROM A ID TT_BIGINT)",
-        Wanted::At(41),
-    ),
-    (
-        b"s1: CREATE READONLY CACHE GROUP G FROM A (ID TT_BIGINT N TT_BIGINT)",
-        Wanted::At(55),
-    ),
-];
-
-/// AUTOREFRESH and whole groups
-pub static REFRESHES: [(&'static [u8], Wanted); 18] = [
-    (
-        b"s1: CREATE READONLY CACHE GROUP G AUTOREFRESH MODE PARTIAL FROM A (ID TT_INTEGER, N TT_INTEGER, PRIMARY KEY (ID))",
-        Wanted::At(51),
-    ),
-    (
-        b"s1: CREATE READONLY CACHE GROUP G AUTOREFRESH INTERVAL -5 SECONDS FROM A (ID TT_INTEGER, N TT_INTEGER, PRIMARY KEY (ID))",
-        Wanted::At(55),
-    ),
-    (
-        b"s1: CREATE READONLY CACHE GROUP G AUTOREFRESH INTERVAL 5 HOURS FROM A (ID TT_INTEGER, N TT_INTEGER, PRIMARY KEY (ID))",
-        Wanted::At(57),
-    ),
-    (
-        b"s1: CREATE READONLY CACHE GROUP G AUTOREFRESH INTERVAL 5SECONDS FROM A (ID TT_INTEGER, N TT_INTEGER, PRIMARY KEY (ID))",
-        Wanted::At(55),
-    ),
-    (
-        b"s1: CREATE READONLY CACHE GROUP G AUTOREFRESH STATE FULL FROM A (ID TT_INTEGER, N TT_INTEGER, PRIMARY KEY (ID))",
-        Wanted::At(52),
-    ),
-    (
-        b"s1: CREATE READONLY CACHE GROUP G AUTOREFRESH INTERVAL 5 SECONDS MODE FULL FROM A (ID TT_INTEGER, N TT_INTEGER, PRIMARY KEY (ID))",
-        Wanted::At(65),
-    ),
-    (
-        b"s1: CREATE READONLY CACHE GROUP G AUTOREFRESH STATE OFF STATE ON FROM A (ID TT_INTEGER, N TT_INTEGER, PRIMARY KEY (ID))",
-        Wanted::At(56),
-    ),
-    (
-        b"s1: CREATE READONLY CACHE GROUP G INTERVAL 5 SECONDS FROM A (ID TT_INTEGER, N TT_INTEGER, PRIMARY KEY (ID))",
-        Wanted::At(34),
-    ),
-    (
-        b"s1: CREATE ASYNCHRONOUS WRITETHROUGH CACHE GROUP G FROM A (ID TT_INTEGER, N TT_INTEGER, PRIMARY KEY (ID))",
-        Wanted::Read,
-    ),
-    (
-        b"s1: CREATE READONLY CACHE GROUP G AUTOREFRESH INTERVAL 5 SECONDS FROM A (ID TT_INTEGER, N TT_INTEGER, PRIMARY KEY (ID))",
-        Wanted::Read,
-    ),
-    (
-        b"s1: CREATE READONLY CACHE GROUP G FROM A (ID TT_INTEGER PRIMARY KEY)",
-        Wanted::Read,
-    ),
-    (
-        b"s1: CREATE READONLY CACHE GROUP G FROM A (ID TT_INTEGER NOT NULL PRIMARY KEY, N TT_BIGINT NOT NULL);",
-        Wanted::Read,
-    ),
-    (
-        b"s1: CREATE READONLY CACHE GROUP G AUTOREFRESH FROM A (ID TT_INTEGER)",
-        Wanted::Read,
-    ),
-    (
-        b"s1: CREATE READONLY CACHE GROUP G AUTOREFRESH MODE FULL INTERVAL 1 MINUTE STATE ON FROM A (ID TT_INTEGER)",
-        Wanted::Read,
-    ),
-    (
-        b"s1: CREATE READONLY CACHE GROUP G AUTOREFRESH MODE INCREMENTAL STATE OFF FROM A (ID TT_INTEGER)",
-        Wanted::Read,
-    ),
-    (
-        b"s1: CREATE READONLY CACHE GROUP G AUTOREFRESH INTERVAL 5 MILLISECONDS STATE PAUSED FROM A (STATE TT_BIGINT)",
-        Wanted::Read,
-    ),
-    (
-        b"s1: CREATE ASYNCHRONOUS WRITETHROUGH CACHE GROUP G AUTOREFRESH FROM A (ID TT_INTEGER)",
-        Wanted::Read,
-    ),
-    (
-        b"s1: CREATE READONLY CACHE GROUP MODE FROM OWN.FULL (STATE TT_INTEGER, PRIMARY KEY (STATE, MODE))",
-        Wanted::Read,
-    ),
-];
-
-/// LOAD, CALL, COMMIT and ROLLBACK
-pub static OTHERS: [(&'static [u8], Wanted); 19] = [
-    (b"s1: LOAD GROUP RA", Wanted::At(9)),
-    (
-        b"s1: LOAD CACHE GROUP RA COMMIT EVERY 256 ROWS",
-        Wanted::At(24),
-    ),
-    (b"s1: LOAD CACHE GROUP", Wanted::At(20)),
+/// CALL, COMMIT and ROLLBACK
+pub static OTHERS: [(&'static [u8], Wanted); 16] = [
     (b"s1: REFRESH CACHE GROUP RA", Wanted::At(4)),
     (b"s1: UNLOAD CACHE GROUP RA", Wanted::At(4)),
     (b"s1: DROP CACHE GROUP RA", Wanted::At(4)),
@@ -472,8 +285,8 @@ pub static OTHERS: [(&'static [u8], Wanted); 19] = [
     (b"s1: COMMIT 12ab", Wanted::At(11)),
 ];
 
-/// LOAD, CALL, COMMIT and ROLLBACK
-pub static OTHERS_TOO: [(&'static [u8], Wanted); 18] = [
+/// CALL, COMMIT and ROLLBACK
+pub static OTHERS_TOO: [(&'static [u8], Wanted); 17] = [
     (b"s1: COMMIT !", Wanted::At(11)),
     (b"s1: COMMIT <>", Wanted::At(11)),
     (b"s1: ROLLBACK .", Wanted::At(13)),
@@ -483,7 +296,6 @@ pub static OTHERS_TOO: [(&'static [u8], Wanted); 18] = [
     (b"s1: COMMIT \"", Wanted::At(11)),
     (b"s1: UPDATE A SET N = 5", Wanted::At(4)),
     (b"s1: DELETE FROM A", Wanted::At(4)),
-    (b"s1: LOAD CACHE GROUP RA", Wanted::Read),
     (b"s1: CALL ttDrain", Wanted::Read),
     (b"s1: CALL ttDrain()", Wanted::Read),
     (b"s1: CALL ttDrain ( );", Wanted::Read),

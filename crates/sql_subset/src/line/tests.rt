@@ -1,9 +1,10 @@
 //! Lines, each with the byte of its error.
 
 use super::cases::{
-    BAD_BYTES, CONSOLE, CONSOLE_TOO, GROUPS, HEADS, HEADS_TOO, INSERTS, OPENS, OTHERS, OTHERS_TOO,
-    REFRESHES, SELECTS, SELECTS_TOO,
+    BAD_BYTES, CONSOLE, CONSOLE_TOO, HEADS, HEADS_TOO, INSERTS, OPENS, OTHERS, OTHERS_TOO, SELECTS,
+    SELECTS_TOO,
 };
+use super::group_cases::{GROUPS, LOADS, REFRESHES};
 use super::{is_silent, parse, parse_line};
 use crate::request::{Line, ParseError};
 use crate::stmt::Stmt;
@@ -102,6 +103,12 @@ fn groups_are_read(rt: HostRuntime) -> Result<(), Fail> {
 #[test]
 fn refresh_clauses_are_read(rt: HostRuntime) -> Result<(), Fail> {
     assert_eq!(rt; first_other(rt.alloc(), &REFRESHES), None);
+    Ok(())
+}
+
+#[test]
+fn loads_are_read(rt: HostRuntime) -> Result<(), Fail> {
+    assert_eq!(rt; first_other(rt.alloc(), &LOADS), None);
     Ok(())
 }
 

@@ -1,6 +1,6 @@
 use Rattle.std.proofs.Common.{◌≡◌, drop}
-use Rattle.sql_subset.specs.Groups.{number_with}
-use Rattle.sql_subset.proofs.groups.number_of.Given as goal
+use Rattle.sql_subset.specs.Reading.{number_with}
+use Rattle.sql_subset.proofs.reading.number_of.Given as goal
 
 -- the number so far, with the digits that are left behind it, is the whole
 abbrev pub invariant-loop-digit : goal.invariant-loop-digit
