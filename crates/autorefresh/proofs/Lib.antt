@@ -1,0 +1,3 @@
+pub mod CopyLaws
+pub mod KeepingLaws
+pub mod PuttingLaws

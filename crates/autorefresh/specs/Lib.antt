@@ -1,0 +1,4 @@
+pub mod Keeping
+pub mod Putting
+pub mod Refreshes
+pub mod Sets

@@ -1,0 +1,3 @@
+pub mod GroupRules
+pub mod Limits
+pub mod LiteralValues
