@@ -14,6 +14,3 @@ pub mod write;
 pub use query::resolve_query;
 pub use resolved::ResolvedQuery;
 pub use write::{resolve_write, resolve_writes};
-
-#[cfg(test)]
-mod tests;

@@ -1,7 +1,7 @@
 // The order of refusals, against the rules as they are told, over the tables C (ID, NAME) and O (ID, CID, N).
 
-use crate::{resolve_query, resolve_write, resolve_writes};
 use expressions::Comparator;
+use resolution::{resolve_query, resolve_write, resolve_writes};
 use row_types::{Column, Refused, Text, Ty};
 use sql_query::{
     Assignment, Condition, Delete, Expression, FromTable, Insert, IntegerLiteral, Literal,
