@@ -57,6 +57,7 @@ serving_new session start held schema sink site faults mark n is_sink is_site = 
   slots = refl;
   stands = n.stands;
   legal = n.legal;
+  committed = n.committed;
   run = ap (λ t. world t held.history faults mark) n.tier;
   line = n.line ∙ sym (front_short [] (lit≤ tt));
   passed = record { count = 0; written = rw is_sink (sym (append-nil start)); waits = n.output };

@@ -9,7 +9,8 @@ use Rattle.outside.specs.Holding.{Held}
 use Rattle.outside.specs.declared.fault.BankError.{BankError}
 use Rattle.tier_engine.specs.declared.tier.Tier.{Tier}
 use Rattle.tier_engine.specs.Commits.{IsLegal}
-use Rattle.tier_engine.specs.Standing.{Begins, StandsFor}
+use Rattle.tier_engine.specs.ReadOnlyStates.{ShowCommitted}
+use Rattle.tier_engine.specs.Standing.{Begins, StandsFor, tier_state}
 use Rattle.session_cli.specs.declared.session.Session.{Session}
 use Rattle.session_cli.specs.Serving.{HasNoTickets, IsNew, Opens}
 
@@ -21,17 +22,18 @@ not_called shared (Some held) e = record { slots = refl; others = []; came = tt;
 -- the tier was opened, and the session has been given nothing
 pub with_tier : (shared : List TableId) (session : Session) (tier : Tier) (before after : Option Held) → session.tier ≡ tier → session.line ≡ [] → session.output ≡ []
     → ((t : Tier) (log : List Sealed) (history : List Entry) → StandsFor t log history → (conflict : Sealed → Sealed → Bool) → IsLegal conflict history log)
+    → ((t : Tier) (log : List Sealed) (history : List Entry) → StandsFor t log history → ShowCommitted history (tier_state t log).read_only)
     → Told before after (Begins shared (Ok tier)) → Told before after (Opens shared (Ok session))
-with_tier shared session tier None after is line output legal told = tt
-with_tier shared session tier (Some held) None is line output legal told = absurd told
-with_tier shared session tier (Some held) (Some now) is line output legal told = record {
+with_tier shared session tier None after is line output legal committed told = tt
+with_tier shared session tier (Some held) None is line output legal committed told = absurd told
+with_tier shared session tier (Some held) (Some now) is line output legal committed told = record {
   slots = told.slots;
   others = told.others;
   came = told.came;
   is = told.is;
   fresh = λ (s : TableState) (none : HasNoTickets now.history s).
       let x = told.opened s none.leaves none.none in
-      record { stands = rw is x.0; legal = legal session.tier [] now.history (rw is x.0); tier = rw is x.1; line = line; output = output };
+      record { stands = rw is x.0; legal = legal session.tier [] now.history (rw is x.0); committed = committed session.tier [] now.history (rw is x.0); tier = rw is x.1; line = line; output = output };
 }
 
 -- the tier wasn't opened

@@ -45,6 +45,7 @@ answered_line res o given sink sink' site site' faults faults' mark mark' sessio
   now = refl;
   shares = refl;
   legal = r.legal;
+  committed = r.committed;
 }
 
 -- a front of the replies is written
@@ -70,6 +71,7 @@ serving_line o given sink sink' site site' faults faults' mark mark' session ses
       slots = a.slots;
       stands = r.served.stands;
       legal = r.legal;
+      committed = r.committed;
       run = subst (λ (ls : List (List ℕ)). Run o.world ls (s.replies ++ r.reply ∷ []) (world_of session'.tier r.served.log' r.served.held'.history faults' mark')) lines a.run;
       line = empty ∙ sym (ap front_of (rest_ended given) ∙ front_short [] (lit≤ tt));
       passed = rw (replies_push s.replies r.reply) (splits_then (Some o.written) sink sink' (replies_bytes s.replies) session.output (reply_bytes r.reply) session'.output s.passed r.passed);
@@ -100,6 +102,7 @@ serving_byte o given b sink site faults mark session session' differs tier line 
   slots = s.slots;
   stands = rw tier s.stands;
   legal = s.legal;
+  committed = rw tier s.committed;
   run = rw (ended_same given b differs, tier) s.run;
   line = line ∙ ap (λ l. front_of (l ++ b ∷ [])) s.line ∙ front_push (cut given).1 b ∙ sym (ap front_of (rest_push given b differs));
   passed = rw output s.passed;
@@ -143,6 +146,7 @@ answered_here o given sink site faults mark session s = record {
   now = refl;
   shares = refl;
   legal = s.legal;
+  committed = s.committed;
 }
 
 pub take_whole : (xs : List ℕ) → take (length xs) xs ≡ xs
@@ -161,6 +165,7 @@ serving_flushed (Ok done) o given bytes sink sink' site faults mark session sess
   slots = s.slots;
   stands = rw tier s.stands;
   legal = s.legal;
+  committed = rw tier s.committed;
   run = rw tier s.run;
   line = line ∙ s.line;
   passed = subst (λ (l : List ℕ). Splits (Some o.written) sink' l session'.output) (append-nil (replies_bytes s.replies))

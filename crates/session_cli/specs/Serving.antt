@@ -15,6 +15,7 @@ use Rattle.tier_engine.specs.declared.reply.Reply.{Reply}
 use Rattle.tier_engine.specs.Replying.{reply_bytes, replies_bytes}
 use Rattle.tier_engine.specs.Standing.{Mark, StandsFor, Serves, tier_state, world_of}
 use Rattle.tier_engine.specs.Commits.{IsLegal, own_entries}
+use Rattle.tier_engine.specs.ReadOnlyStates.{ShowCommitted}
 use Rattle.tier_engine.specs.Steps.{World, IsUnshared, Run}
 use Rattle.tier_engine.specs.TierStates.{opened}
 use Rattle.session_cli.specs.declared.session.Session.{Session}
@@ -40,8 +41,8 @@ begins held schema written faults mark = record {
   written = written;
 }
 
--- Others change no table of a group: at no end of a line of these bytes, in whatever run, is a group over a table that
--- others change.
+-- Others change no table of a writethrough group: at no end of a line of these bytes, in whatever run, is such a group
+-- over a table that others change.
 abbrev pub IsLeftAlone : Origin → List ℕ → Type 0
 IsLeftAlone o input = (given left : List ℕ) (replies : List (Option Reply)) (w : World) → input ≡ given ++ left → Run o.world (ended_lines given) replies w → IsUnshared w
 
@@ -55,6 +56,7 @@ pub record Responds {E : Type 0} (result : Result (Unit {0}) E) (sink sink' : Op
   pub reply : Option Reply
   pub served : Serves site' faults faults' mark mark' tier tier' log held line reply
   pub legal : AreLegal served.held'.history served.log'
+  pub committed : ShowCommitted served.held'.history (tier_state tier' served.log').read_only
   pub passed : Passes result sink sink' waiting waiting' (reply_bytes reply)
 
 -- After the bytes given: each line that ended is answered, a front of the replies is written and the others wait, and
@@ -67,11 +69,13 @@ pub record Serving (o : Origin) (given : List ℕ) (sink : Option (List ℕ)) (s
   pub slots : held.slots ≡ o.slots
   pub stands : StandsFor session.tier log held.history
   pub legal : AreLegal held.history log
+  pub committed : ShowCommitted held.history (tier_state session.tier log).read_only
   pub run : Run o.world (ended_lines given) replies (world_of session.tier log held.history faults mark)
   pub line : session.line ≡ front_of (cut given).1
   pub passed : Splits (Some o.written) sink (replies_bytes replies) session.output
 
--- These are the replies of a run over the lines, and at its end the site holds what the run's last world says.
+-- These are the replies of a run over the lines, and at its end the site holds what the run's last world says. There each
+-- committed transaction stands once at most, and the loaded READONLY groups of one set show one committed state.
 pub record Answered (o : Origin) (lines : List (List ℕ)) (replies : List (Option Reply)) (site : Option Held) (faults : ℕ) (mark : Mark) : Type 0 where
   pub last : World
   pub run : Run o.world lines replies last
@@ -83,6 +87,7 @@ pub record Answered (o : Origin) (lines : List (List ℕ)) (replies : List (Opti
   pub now : last.moment ≡ mark.moment
   pub shares : last.shared ≡ mark.shared
   pub legal : AreLegal last.history last.tier.log
+  pub committed : ShowCommitted last.history last.tier.read_only
 
 -- The lines are answered, and all replies written.
 pub record Whole (o : Origin) (lines : List (List ℕ)) (sink : Option (List ℕ)) (site : Option Held) (faults : ℕ) (mark : Mark) : Type 0 where
@@ -121,6 +126,7 @@ Finishes (Err e) o given sink site faults mark = CutShort o (all_lines given) si
 pub record IsNew (session : Session) (history : List Entry) (schema : List TableDef) : Type 0 where
   pub stands : StandsFor session.tier [] history
   pub legal : AreLegal history []
+  pub committed : ShowCommitted history (tier_state session.tier []).read_only
   pub tier : tier_state session.tier [] ≡ opened schema
   pub line : session.line ≡ []
   pub output : session.output ≡ []

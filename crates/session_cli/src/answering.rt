@@ -11,7 +11,7 @@ use crate::output::Output;
 use crate::replies::write_reply;
 use outside::{Failed, Sink, Site};
 use std::alloc::Global;
-use tier_engine::{Tier, legal_law};
+use tier_engine::{Tier, committed_law, legal_law};
 
 /// Lets the tier answer a line, and passes the reply on to the sink.
 ///
@@ -29,6 +29,7 @@ pub fn respond<K: Sink, P: Site>(
     ensures cause { HasCause (K.faults sink.old) (K.faults sink.new) result }
 {
     legal_law();
+    committed_law();
     match tier.request(alloc, site, line) {
         None => Ok(()),
         Some(reply) => write_reply(output, sink, &reply),

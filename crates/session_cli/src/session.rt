@@ -5,7 +5,7 @@ use crate::line::LineBuffer;
 use crate::output::Output;
 use outside::{BankError, Failed, Sink, Site};
 use std::alloc::Global;
-use tier_engine::{Tier, legal_law};
+use tier_engine::{Tier, committed_law, legal_law};
 
 /// What is kept between the pieces of the input.
 #[derive(Drop)]
@@ -38,6 +38,7 @@ impl Session {
         ensures shares { P.Disk.shared site.new ≡ P.Disk.shared site.old }
     {
         legal_law();
+        committed_law();
         let Ok(line) = LineBuffer::new(alloc) else {
             return Err(BankError::Memory);
         };

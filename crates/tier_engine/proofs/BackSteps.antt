@@ -30,7 +30,7 @@ pub record Taking (old now : Tier) : Type 0 where
   pub left : AreApart old.groups.items → HasOwnKeys old.groups.items old.session → IsLeft old now
 
 pub taking_new : (t : Tier) → Taking t t
-taking_new t = record { stays = record { known = refl; unsettled = refl; next = refl }; left = λ apart keys. record { apart = apart; keys = keys; session = refl; groups = refl } }
+taking_new t = record { stays = record { known = refl; read_only = refl; unsettled = refl; next = refl }; left = λ apart keys. record { apart = apart; keys = keys; session = refl; groups = refl } }
 
 -- the last write and its key
 pub record HasLast (groups : List Group) (own : List Op) (keys : List OwnKey) (k : OwnKey) : Type 0 where
@@ -68,7 +68,7 @@ bare_same g a b e = ap (with_rows g) e
 -- one more is taken back
 pub taking_one : (old now next : Tier) → Taking old now → TakesOneBack now next true → Taking old next
 taking_one old now next t back = record {
-  stays = record { known = back.0.known ∙ t.stays.known; unsettled = back.0.unsettled ∙ t.stays.unsettled; next = back.0.next ∙ t.stays.next };
+  stays = record { known = back.0.known ∙ t.stays.known; read_only = back.0.read_only ∙ t.stays.read_only; unsettled = back.0.unsettled ∙ t.stays.unsettled; next = back.0.next ∙ t.stays.next };
   left = λ apart keys. by_sessions (t.left apart keys) now.session refl next.session refl back.1.off;
 }
   where
@@ -118,7 +118,7 @@ no_keys groups (op ∷ own) all = absurd all
 -- nothing was left
 pub taken_all : (old now new : Tier) → Taking old now → TakesOneBack now new false → TakesBack old new
 taken_all old now new t back = record {
-  stays = record { known = back.0.known ∙ t.stays.known; unsettled = back.0.unsettled ∙ t.stays.unsettled; next = back.0.next ∙ t.stays.next };
+  stays = record { known = back.0.known ∙ t.stays.known; read_only = back.0.read_only ∙ t.stays.read_only; unsettled = back.0.unsettled ∙ t.stays.unsettled; next = back.0.next ∙ t.stays.next };
   back = λ apart keys. by_sessions (t.left apart keys) now.session refl new.session refl back.1;
 }
   where

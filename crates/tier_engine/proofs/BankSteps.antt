@@ -28,13 +28,15 @@ use Rattle.tier_engine.specs.declared.tier.Tier.{Tier}
 use Rattle.tier_engine.specs.declared.tier.Group.{Group}
 use Rattle.tier_engine.specs.declared.tier.Session.{Session}
 use Rattle.tier_engine.specs.Commits.{RiseBetween, virtual_state, pending, applied_sealed, own_entries, is_own, is_other, in_commit_order}
-use Rattle.tier_engine.specs.Refusals.{refers}
+use Rattle.group_defs.specs.GroupRules.{refers}
 use Rattle.tier_engine.specs.Steps.{Asked, Creates, bank_fault, known_after, stopped}
 use Rattle.tier_engine.specs.Storing.{KnowsAfter, MakesTable}
-use Rattle.tier_engine.specs.Standing.{IsApart, Mark, StandsFor, Shows, ShowAll, AreApart, HasOwnKeys, Made, group_state, is_stored, ops_of, own_in, session_in, tier_state}
+use Rattle.tier_engine.specs.Standing.{IsApart, Mark, StandsFor, Shows, ShowAll, HasOwnKeys, Made, group_state, is_stored, ops_of, own_in, read_only_state, session_in, tier_state}
 use Rattle.tier_engine.proofs.CommitLaws.{state_from-append, applied_sealed-state_from, by_option}
+use Rattle.tier_engine.proofs.GroupedLaws.{cover, defined_as, defined_at, distinct_as, front_get}
 use Rattle.tier_engine.proofs.LogLaws.{all_pending, log_schema}
 use Rattle.tier_engine.proofs.OthersStand.{apart_as, stands_around}
+use Rattle.tier_engine.proofs.ReadLaws.{reads_as, reads_at, sets_as}
 use Rattle.tier_engine.proofs.StandingLaws.{are_inserts}
 
 pub record WasTold (shared : List TableId) (now : Option Held) (old : Held) (step : List Entry → List Entry → Type 0) : Type 0 where
@@ -70,6 +72,7 @@ leaves_state t log h s = by_state (state_of h) refl s.virtual
 -- only what is known of the schema changed
 pub record OnlyKnown (old new : Tier) : Type 0 where
   pub groups : new.groups.items ≡ old.groups.items
+  pub read_only : new.read_only ≡ old.read_only
   pub session : new.session ≡ old.session
   pub unsettled : new.unsettled.items ≡ old.unsettled.items
   pub next : new.next ≡ old.next
@@ -96,14 +99,18 @@ stands_known t t' log h s x knows = record {
   writing = ap (λ o. list_all (is_stored t'.groups.items) (own_in o)) x.session ∙ ap (λ gs. list_all (is_stored gs) (own_in t.session)) x.groups ∙ s.writing;
   shows = subst (λ (o : Option Session). ShowAll s.top (ops_of log) (own_in o) t'.groups.items) (sym x.session)
       (subst (λ (gs : List Group). ShowAll s.top (ops_of log) (own_in t.session) gs) (sym x.groups) s.shows);
-  apart = subst AreApart (sym x.groups) s.apart;
+  distinct = distinct_as t.groups.items t'.groups.items t.read_only t'.read_only (ap (map (λ (x : Group). x.table)) x.groups) (ap (map cover) x.read_only) s.distinct;
   keys = subst (λ (o : Option Session). HasOwnKeys t'.groups.items o) (sym x.session) (subst (λ (gs : List Group). HasOwnKeys gs t.session) (sym x.groups) s.keys);
+  defined = defined_as h t.read_only t'.read_only (ap (map cover) x.read_only) s.defined;
+  reads = reads_as h t.read_only t'.read_only x.read_only s.reads;
+  sets = sets_as t.read_only t'.read_only x.read_only s.sets;
 }
 
 state_known : (t t' : Tier) (log : List Sealed) (known : Option (List TableDef)) → t'.known ≡ known → OnlyKnown t t' → tier_state t' log ≡ record (tier_state t log) { known = known }
 state_known t t' log known e x = λ i. record {
   known = e i;
   groups = map (group_state (own_in (x.session i))) (x.groups i);
+  read_only = map read_only_state (x.read_only i);
   session = session_in (x.session i);
   log = log;
   unsettled = x.unsettled i;
@@ -226,12 +233,6 @@ virtual_defined law whole_law h log def s base is e =
     ∙ ap (option_and_then (applied_sealed (pending h log))) (state_defined h def s is)
     ∙ sealed_later law whole_law def (pending h log) s base (history_whole whole_law h s is) (sym (ap (option_and_then (applied_sealed (pending h log))) is) ∙ e)
 
--- a place that is there stays
-pub front_get : {X : Type 0} (xs : List X) (y : X) (n : ℕ) (x : X) → slice_get xs n ≡ Some x → slice_get (xs ++ y ∷ []) n ≡ Some x
-front_get [] y n x e = Prim.cc
-front_get (z ∷ xs) y zero x e = e
-front_get (z ∷ xs) y (suc n) x e = front_get xs y n x e
-
 -- the table of a group in a state with one table more
 later_table : (s : TableState) (def : TableDef) (t : TableId) (own : TableDef) → IsWhole s → slice_get s.schema t.0 ≡ Some own → table_at (with_new def s) t ≡ table_at s t
 later_table s def t own whole e = by_table (slice_get s.tables t.0) refl
@@ -302,8 +303,11 @@ stands_defined law whole_law t t' log h def s x none knows =
       writing = ap (λ o. list_all (is_stored t'.groups.items) (own_in o)) x.session ∙ ap (λ gs. list_all (is_stored gs) (own_in t.session)) x.groups ∙ s.writing;
       shows = subst (λ (o : Option Session). ShowAll (with_new def s.top) (ops_of log) (own_in o) t'.groups.items) (sym x.session)
           (subst (λ (gs : List Group). ShowAll (with_new def s.top) (ops_of log) own gs) (sym x.groups) (defined_all s.top def (ops_of log) own t.groups.items top_whole none s.shows));
-      apart = subst AreApart (sym x.groups) s.apart;
+      distinct = distinct_as t.groups.items t'.groups.items t.read_only t'.read_only (ap (map (λ (x : Group). x.table)) x.groups) (ap (map cover) x.read_only) s.distinct;
       keys = subst (λ (o : Option Session). HasOwnKeys t'.groups.items o) (sym x.session) (subst (λ (gs : List Group). HasOwnKeys gs t.session) (sym x.groups) s.keys);
+      defined = defined_at h (h ++ Definition def ∷ []) (Definition def ∷ []) t.read_only t'.read_only refl (ap (map cover) x.read_only) s.defined;
+      reads = reads_at h (h ++ Definition def ∷ []) (Definition def ∷ []) t.read_only t'.read_only refl x.read_only s.reads;
+      sets = sets_as t.read_only t'.read_only x.read_only s.sets;
     }
 
 knows_after : (t t' : Tier) (def : TableDef) (schema : List TableDef) → IfSome t.known (λ k. k ≡ schema) → t'.known ≡ option_map (λ k. k ++ def ∷ []) t.known → IfSome t'.known (λ k. k ≡ schema ++ def ∷ [])
@@ -341,7 +345,7 @@ pub creates_made : LaterLaw → WholeLaw → (t t' : Tier) (log : List Sealed) (
 creates_made law whole_law t t' log held def reply before now faults faults' mark mark' e stands apart none more later shares m =
     let c = was_told mark.shared before now held (Defines def m.result) e m.call in
     let a = c.history in
-    let x : OnlyKnown t t' = record { groups = m.groups; session = m.session; unsettled = m.unsettled; next = m.next } in
+    let x : OnlyKnown t t' = record { groups = m.groups; read_only = m.read_only; session = m.session; unsettled = m.unsettled; next = m.next } in
     record {
       log' = log;
       held' = c.held;

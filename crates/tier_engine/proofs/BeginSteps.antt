@@ -1,5 +1,5 @@
 -- What stands when the tier was opened.
-use Rattle.std.proofs.Common.{◌≡◌, ℕ, List, [], ◌∷◌, ◌++◌, Option, Some, None, Bool, true, false, not, cond, refl, sym, ◌∙◌, ap, subst, arith, append_assoc}
+use Rattle.std.proofs.Common.{◌≡◌, ℕ, List, [], ◌∷◌, ◌++◌, Option, Some, None, Bool, true, false, not, cond, refl, sym, ◌∙◌, ap, subst, arith, append_assoc, map}
 use Rattle.std.specs.Prelude.{Result, Ok, Err}
 use Rattle.std.specs.Result.{IsErr}
 use Rattle.std.specs.List.{filter}
@@ -21,14 +21,17 @@ use Rattle.tier_engine.specs.declared.tier.Group.{Group}
 use Rattle.tier_engine.specs.declared.tier.Session.{Session}
 use Rattle.tier_engine.specs.Commits.{applied_sealed, is_other, own_entries}
 use Rattle.tier_engine.specs.TierStates.{opened}
-use Rattle.tier_engine.specs.Standing.{AreApart, Begins, HasOwnKeys, ShowAll, StandsFor, tier_state}
+use Rattle.tier_engine.specs.Standing.{Begins, HasOwnKeys, ShowAll, StandsFor, tier_state}
 use Rattle.tier_engine.proofs.BankSteps.{WholeLaw, history_whole}
+use Rattle.tier_engine.proofs.GroupedLaws.{cover, defined_as, defined_none, distinct_as, distinct_none}
 use Rattle.tier_engine.proofs.OthersStand.{others_append, others_schema}
+use Rattle.tier_engine.proofs.ReadLaws.{reads_as, reads_none, sets_as, sets_none}
 
 -- the tier as it is opened
 pub record IsNew (t : Tier) (schema : List TableDef) : Type 0 where
   pub known : t.known ≡ Some schema
   pub groups : t.groups.items ≡ []
+  pub read_only : t.read_only ≡ []
   pub session : t.session ≡ None
   pub unsettled : t.unsettled.items ≡ []
   pub next : t.next ≡ 1
@@ -63,8 +66,11 @@ stands_new law t schema h s x is owns same =
       logged = refl;
       writing = ap (λ (o : Option Session). Rattle.std.specs.List.list_all (Rattle.tier_engine.specs.Standing.is_stored t.groups.items) (Rattle.tier_engine.specs.Standing.own_in o)) x.session;
       shows = subst (λ (gs : List Group). ShowAll s [] (Rattle.tier_engine.specs.Standing.own_in t.session) gs) (sym x.groups) tt;
-      apart = subst AreApart (sym x.groups) tt;
+      distinct = distinct_as [] t.groups.items [] t.read_only (ap (map (λ (y : Group). y.table)) x.groups) (ap (map cover) x.read_only) distinct_none;
       keys = subst (λ (o : Option Session). HasOwnKeys t.groups.items o) (sym x.session) tt;
+      defined = defined_as h [] t.read_only (ap (map cover) x.read_only) (defined_none h);
+      reads = reads_as h [] t.read_only x.read_only (reads_none h);
+      sets = sets_as [] t.read_only x.read_only sets_none;
     }
 
 state_new : (t : Tier) (schema : List TableDef) (s : TableState) → IsNew t schema → schema ≡ s.schema → tier_state t [] ≡ opened s.schema
@@ -73,6 +79,7 @@ state_new t schema s x same =
     λ i. record {
       known = known i;
       groups = Rattle.std.proofs.Common.map (Rattle.tier_engine.specs.Standing.group_state (Rattle.tier_engine.specs.Standing.own_in t.session)) (x.groups i);
+      read_only = Rattle.std.proofs.Common.map Rattle.tier_engine.specs.Standing.read_only_state (x.read_only i);
       session = Rattle.tier_engine.specs.Standing.session_in (x.session i);
       log = [];
       unsettled = x.unsettled i;

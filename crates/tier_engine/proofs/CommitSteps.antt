@@ -29,13 +29,16 @@ use Rattle.tier_engine.specs.declared.tier.Session.{Session}
 use Rattle.tier_engine.specs.Commits.{RiseBetween, pending, virtual_state, applied_sealed, in_commit_order}
 use Rattle.tier_engine.specs.TierStates.{TierState, SessionState, keys_after}
 use Rattle.row_types.specs.declared.rule.Rule.{Rule}
-use Rattle.tier_engine.specs.Refusals.{at_limit, commit_fault, past}
+use Rattle.group_defs.specs.Limits.{at_limit, past}
+use Rattle.tier_engine.specs.Refusals.{commit_fault}
 use Rattle.tier_engine.specs.Answers.{Answer, only, committed, commit_answer, commit_of, group_after, refuses, unless}
 use Rattle.tier_engine.specs.Steps.{Quiet, WantsMemory}
 use Rattle.tier_engine.specs.Storing.{Seals, SealsOr}
 use Rattle.tier_engine.specs.Standing.{StandsFor, InOpen, Turns, Shows, ShowAll, AreIn, committed_rows, group_state, inserts_at, is_insert, is_stored, key_set, ops_of, own_in, session_state, session_in, tier_state, world_of, HasOwnKeys}
+use Rattle.tier_engine.proofs.GroupedLaws.{cover, defined_as, distinct_as}
 use Rattle.tier_engine.proofs.OwnLaws.{front_tickets}
 use Rattle.tier_engine.proofs.OpLaws.{inserts_schema, inserts_whole}
+use Rattle.tier_engine.proofs.ReadLaws.{reads_as, sets_as}
 use Rattle.tier_engine.proofs.SelectSteps.{IsOpen, opened_step, quiet_same}
 use Rattle.tier_engine.proofs.ShownLaws.{get_before, has_key_set, keys_are}
 use Rattle.tier_engine.proofs.StandingLaws.{and_true, are_inserts, memory_turns, same_world, turns_first}
@@ -218,8 +221,11 @@ seals_step t t' log h reply o stands some room ticket x =
       shows = subst (λ (l : List Op). ShowAll stands.top (ops_of log') l t'.groups.items) (sym none)
           (subst (λ (gs : List Group). ShowAll stands.top (ops_of log') [] gs) (sym x.groups)
           (subst (λ (l : List Op). ShowAll stands.top l [] t.groups.items) (sym (ops_push log new)) (commit_all stands.top (ops_of log) s.own t.groups.items all)));
-      apart = subst (λ (gs : List Group). Rattle.tier_engine.specs.Standing.AreApart gs) (sym x.groups) stands.apart;
+      distinct = distinct_as t.groups.items t'.groups.items t.read_only t'.read_only (ap (map (λ (x : Group). x.table)) x.groups) (ap (map cover) x.read_only) stands.distinct;
       keys = subst (λ (k : Option Session). HasOwnKeys t'.groups.items k) (sym x.session) tt;
+      defined = defined_as h t.read_only t'.read_only (ap (map cover) x.read_only) stands.defined;
+      reads = reads_as h t.read_only t'.read_only x.read_only stands.reads;
+      sets = sets_as t.read_only t'.read_only x.read_only stands.sets;
     }
     in
     let st = tier_state t log in
@@ -229,7 +235,7 @@ seals_step t t' log h reply o stands some room ticket x =
     ∙ ap (λ l. map (group_after s.own) (map (group_state l) t.groups.items)) (sym mine)
     in
     let after : tier_state t' log' ≡ committed st ss =
-    λ i. record { known = x.known i; groups = groups_after i; session = session_in (x.session i); log = log'; unsettled = x.unsettled i; next = x.next i }
+    λ i. record { known = x.known i; groups = groups_after i; read_only = map Rattle.tier_engine.specs.Standing.read_only_state (x.read_only i); session = session_in (x.session i); log = log'; unsettled = x.unsettled i; next = x.next i }
     in
     let answer : commit_answer st ss ≡ (committed st ss, only (Done t.next)) = by_fault st ss s.own None some room in
     record {

@@ -1,5 +1,5 @@
 -- Writes of the console that aren't refused touch no group's table.
-use Rattle.std.proofs.Common.{◌≡◌, ℕ, zero, suc, ◌<◌, List, [], ◌∷◌, map, length, get_or, Option, Some, None, Bool, true, false, ◌&&◌, ◌||◌, not, cond, nat_eq, nat_lt, is_some, unwrap_or, refl, sym, ◌∙◌, ap, subst}
+use Rattle.std.proofs.Common.{◌≡◌, ℕ, zero, suc, List, [], ◌∷◌, map, get_or, Option, Some, None, Bool, true, false, ◌||◌, not, cond, nat_eq, nat_lt, is_some, unwrap_or, refl, sym, ◌∙◌, ap}
 use Rattle.std.specs.Prelude.{◌^◌, Result, Ok, Err}
 use Rattle.std.specs.List.{list_all, list_any, slice_get, position}
 use Rattle.std.specs.Option.{option_map, option_and_then, option_or}
@@ -26,8 +26,8 @@ use Rattle.transactions.specs.Transactions.{is_of}
 use Rattle.tier_engine.specs.declared.tier.Group.{Group}
 use Rattle.tier_engine.specs.declared.tier.Tier.{Tier}
 use Rattle.tier_engine.specs.TierStates.{GroupState, is_named}
-use Rattle.tier_engine.specs.Refusals.{is_joined}
-use Rattle.tier_engine.specs.Steps.{is_cached, write_uncached}
+use Rattle.group_defs.specs.GroupRules.{is_joined}
+use Rattle.tier_engine.specs.Steps.{is_writethrough, write_uncached}
 use Rattle.tier_engine.specs.Standing.{group_state, is_in_group, own_in, tier_state}
 use Rattle.tier_engine.specs.Storing.{has_table, place_named}
 use Rattle.tier_engine.specs.ConsoleWrites.{first_table, refusal_in, tables_seen, writes_fault, writethrough_table}
@@ -39,7 +39,7 @@ use Rattle.tier_engine.proofs.StandingLaws.{and_left, and_right}
 -- the stored tier judges as the tier
 
 pub same_writes_fault : (t : Tier) (log : List Sealed) (tables : List TableDef) (writes : List Write)
-    → writes_fault (is_stored_name t.groups.items) tables writes ≡ writes_fault (is_cached (tier_state t log)) tables writes
+    → writes_fault (is_stored_name t.groups.items) tables writes ≡ writes_fault (is_writethrough (tier_state t log)) tables writes
 same_writes_fault t log tables writes = λ i. writes_fault (λ name. cached_stored (own_in t.session) t.groups.items name i) tables writes
 
 same_defs : (own : List Op) (groups : List Group) → map (λ (g : Group). g.def) groups ≡ map (λ (g : GroupState). g.def) (map (group_state own) groups)
@@ -265,7 +265,7 @@ not_alone schema (g ∷ groups) op alone child = by (nat_eq (table_of op).0 g.ta
     by true is more =
         let here : slice_get schema (table_of op).0 ≡ Some g.def = ap (slice_get schema) (eqb-true (table_of op).0 g.table.0 is) ∙ alone.0 in
         let key : is_some g.def.foreign_key ≡ true = ap is_child (sym here) ∙ child in
-        let none : is_some g.def.foreign_key ≡ false = left (is_some g.def.foreign_key) (list_any (λ other. Rattle.tier_engine.specs.Refusals.refers g.table other.foreign_key) schema) alone.1 in
+        let none : is_some g.def.foreign_key ≡ false = left (is_some g.def.foreign_key) (list_any (λ other. Rattle.group_defs.specs.GroupRules.refers g.table other.foreign_key) schema) alone.1 in
         let bad : true ≡ false = sym key ∙ none in
         Prim.cc
     by false is more = more

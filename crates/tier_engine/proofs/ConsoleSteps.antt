@@ -37,7 +37,7 @@ use Rattle.tier_engine.specs.declared.tier.Group.{Group}
 use Rattle.tier_engine.specs.Answers.{faulty, only}
 use Rattle.tier_engine.specs.ConsoleStoring.{JudgesWrites, is_stored_name, tables_known}
 use Rattle.tier_engine.specs.ConsoleWrites.{tables_seen, writes_fault}
-use Rattle.tier_engine.specs.Steps.{World, DoesWrites, TellsBankFault, WantsMemory, WritesAll, WritesUnless, is_cached, writes_reply}
+use Rattle.tier_engine.specs.Steps.{DoesWrites, TellsBankFault, WantsMemory, WritesAll, WritesUnless, is_writethrough, writes_reply}
 use Rattle.tier_engine.specs.Standing.{IsApart, Made, Mark, ShowAll, StandsFor, ops_of, own_in, tier_state, world_of}
 use Rattle.tier_engine.proofs.BankSteps.{leaves_state}
 use Rattle.tier_engine.proofs.ConsoleLaws.{AreOnNone, ByName, by_groups, by_schema, leave_groups, on_none, same_tables, same_writes_fault, unrefused}
@@ -104,7 +104,7 @@ named_apart t log h s = by t.known s.knows
 
 -- the tier refuses what the stored one refuses
 same_fault : (t : Tier) (log : List Sealed) (writes : List Write)
-    → writes_fault (is_cached (tier_state t log)) (tables_seen (tier_state t log)) writes ≡ writes_fault (is_stored_name t.groups.items) (tables_known t) writes
+    → writes_fault (is_writethrough (tier_state t log)) (tables_seen (tier_state t log)) writes ≡ writes_fault (is_stored_name t.groups.items) (tables_known t) writes
 same_fault t log writes =
     sym (same_writes_fault t log (tables_seen (tier_state t log)) writes) ∙ ap (λ tables. writes_fault (is_stored_name t.groups.items) tables writes) (sym (same_tables t log))
 

@@ -1,9 +1,8 @@
 -- CREATE TABLE on the console is a step of the tier.
-use Rattle.std.proofs.Common.{◌≡◌, ℕ, ◌⊎◌, List, [], ◌∷◌, map, Option, Some, None, Bool, true, false, ◌||◌, cond, nat_eq, refl, sym, ◌∙◌, ap, subst, inl, inr}
+use Rattle.std.proofs.Common.{◌≡◌, ℕ, ◌⊎◌, List, [], ◌∷◌, map, Option, Some, None, Bool, true, false, cond, nat_eq, refl, sym, ◌∙◌, ap, subst, inl, inr}
 use Rattle.std.specs.Prelude.{Result, Ok, Err}
 use Rattle.std.specs.Option.{option_map, option_or, option_and_then, IsSome}
 use Rattle.std.specs.Result.{IsErrOf}
-use Rattle.std.proofs.lemmas.Bool.{eqb-true, eq-eqb}
 use Rattle.tier_base.specs.declared.code.Code.TheVariants as code
 use Rattle.row_types.specs.declared.rule.Rule.{Rule}
 use Rattle.row_types.specs.declared.rule.Refused.TheVariants as refused
@@ -23,13 +22,16 @@ use Rattle.tier_engine.specs.declared.reply.Reply.{Reply}
 use Rattle.tier_engine.specs.declared.reply.Last.TheVariants.{No}
 use Rattle.tier_engine.specs.declared.tier.Tier.{Tier}
 use Rattle.tier_engine.specs.declared.tier.Group.{Group}
-use Rattle.tier_engine.specs.Refusals.{past, refers, refers_to_group, table_fault, writethrough_parent}
+use Rattle.group_defs.specs.GroupRules.{refers}
+use Rattle.group_defs.specs.Limits.{past}
+use Rattle.tier_engine.specs.Refusals.{refers_to_group, table_fault, writethrough_parent}
 use Rattle.tier_engine.specs.Answers.{faulty, only}
 use Rattle.tier_engine.specs.Steps.{World, Creates, CreatesTable, DoesConsole, DoesDefine, TellsBankFault, WantsMemory, cached_fault, define_reply}
 use Rattle.tier_engine.specs.Storing.{IsSame, JudgesTable, Makes, MakesTable, has_table, judged_foreign, judged_parent, judged_table}
 use Rattle.tier_engine.specs.Standing.{IsApart, Mark, Made, StandsFor, group_state, own_in, world_of}
 use Rattle.tier_engine.proofs.BankSteps.{LaterLaw, RefersToNone, WholeLaw, creates_made}
 use Rattle.tier_engine.proofs.GroupSteps.{none_first, none_second, same_tables}
+use Rattle.tier_engine.proofs.GroupedLaws.{equal_swap, or_left, or_right}
 use Rattle.tier_engine.proofs.ServingLaws.{no_memory}
 use Rattle.tier_engine.proofs.StandingLaws.{same_stands, same_state}
 
@@ -44,22 +46,6 @@ same_parent own groups d def = by_key def.foreign_key
 same_fault : (own : List Op) (groups : List Group) (d : TableDeclaration) (schema : List TableDef) → judged_table groups d schema ≡ table_fault (map (group_state own) groups) d schema
 same_fault own groups d schema =
     ap (λ o. option_or (fault_of d schema) (option_or o (option_and_then past (limit_of (resolved d schema) schema)))) (same_parent own groups d (resolved d schema))
-
-equal_swap : (a b : ℕ) → nat_eq a b ≡ nat_eq b a
-equal_swap a b = by_both (nat_eq a b) (nat_eq b a) refl refl
-  where
-    by_both : (c d : Bool) → nat_eq a b ≡ c → nat_eq b a ≡ d → nat_eq a b ≡ nat_eq b a
-    by_both true d p q = p ∙ sym (eq-eqb b a (sym (eqb-true a b p)))
-    by_both false true p q = let r : nat_eq a b ≡ true = eq-eqb a b (sym (eqb-true b a q)) in Prim.cc
-    by_both false false p q = p ∙ sym q
-
-or_left : (a b : Bool) → (a || b) ≡ false → a ≡ false
-or_left true b e = e
-or_left false b e = refl
-
-or_right : (a b : Bool) → (a || b) ≡ false → b ≡ false
-or_right true b e = Prim.cc
-or_right false b e = e
 
 -- a table without foreign key refers to no group's table
 without_key : (def : TableDef) (groups : List Group) → def.foreign_key ≡ None → RefersToNone def groups

@@ -26,17 +26,20 @@ use Rattle.tier_engine.specs.Commits.{RiseBetween, pending, in_commit_order, vir
 use Rattle.tier_engine.specs.Rounds.{DifferedAt, Mixes, Round}
 use Rattle.tier_engine.specs.RoundStates.{RoundAt, RoundOver, RoundGoes}
 use Rattle.tier_engine.specs.Steps.{AreUnshared, Drains, IsDrained, round_reply}
-use Rattle.tier_engine.specs.Standing.{IsApart, Mark, StandsFor, ShowAll, HasOwnKeys, AreApart, Made, tier_state, group_state, is_stored, ops_of, session_in, own_in}
+use Rattle.tier_engine.specs.Standing.{IsApart, Mark, StandsFor, ShowAll, HasOwnKeys, Made, tier_state, group_state, is_stored, ops_of, read_only_state, session_in, own_in}
 use Rattle.tier_engine.proofs.CommitLaws.{state_one}
+use Rattle.tier_engine.proofs.GroupedLaws.{cover, defined_at, distinct_as}
 use Rattle.tier_engine.proofs.LegalLaws.{ordered_push}
 use Rattle.tier_engine.proofs.OthersStand.{Rests, leave_unshared, rests, rests_foreign}
 use Rattle.tier_engine.proofs.OwnLaws.{front_pending, own_behind}
+use Rattle.tier_engine.proofs.ReadLaws.{reads_at, sets_as}
 use Rattle.tier_engine.proofs.RoundLaws.{drop_next, makes_round, next_fresh, take_next}
 
 -- all but the unsettled transactions stays
 pub record IsSameBeside (t t' : Tier) : Type 0 where
   pub known : t'.known ≡ t.known
   pub groups : t'.groups.items ≡ t.groups.items
+  pub read_only : t'.read_only ≡ t.read_only
   pub session : t'.session ≡ t.session
   pub next : t'.next ≡ t.next
 
@@ -146,8 +149,11 @@ stands_after t t' log h h' shared added received s e apart over =
       writing = ap (λ o. list_all (is_stored t'.groups.items) (own_in o)) e.session ∙ ap (λ gs. list_all (is_stored gs) (own_in t.session)) e.groups ∙ s.writing;
       shows = subst (λ (o : Option Session). ShowAll r.top (ops_of log) (own_in o) t'.groups.items) (sym e.session)
           (subst (λ (gs : List Group). ShowAll r.top (ops_of log) (own_in t.session) gs) (sym e.groups) r.shows);
-      apart = subst AreApart (sym e.groups) s.apart;
+      distinct = distinct_as t.groups.items t'.groups.items t.read_only t'.read_only (ap (map (λ (x : Group). x.table)) e.groups) (ap (map cover) e.read_only) s.distinct;
       keys = subst (λ (o : Option Session). HasOwnKeys t'.groups.items o) (sym e.session) (subst (λ (gs : List Group). HasOwnKeys gs t.session) (sym e.groups) s.keys);
+      defined = defined_at h h' over.tail t.read_only t'.read_only over.is (ap (map cover) e.read_only) s.defined;
+      reads = reads_at h h' over.tail t.read_only t'.read_only over.is e.read_only s.reads;
+      sets = sets_as t.read_only t'.read_only e.read_only s.sets;
     }
 
 -- of the tier's state only the unsettled transactions change
@@ -155,6 +161,7 @@ state_after : (t t' : Tier) (log : List Sealed) → IsSameBeside t t' → tier_s
 state_after t t' log e = λ i. record {
   known = e.known i;
   groups = map (group_state (own_in (e.session i))) (e.groups i);
+  read_only = map read_only_state (e.read_only i);
   session = session_in (e.session i);
   log = log;
   unsettled = t'.unsettled.items;

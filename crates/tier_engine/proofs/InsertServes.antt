@@ -1,9 +1,9 @@
 -- An INSERT is refused without a call, or answered as the bank says.
 use Rattle.std.proofs.Common.{◌≡◌, ◌⊎◌, ℕ, zero, suc, List, [], ◌∷◌, Option, Some, None, Bool, true, false, cond, refl, sym, ◌∙◌, ap, subst, inl, inr}
-use Rattle.std.specs.Prelude.{Result, Ok, Err}
+use Rattle.std.specs.Prelude.{Result, Ok, Err, position}
 use Rattle.std.specs.Bool.{MatchBool}
 use Rattle.std.specs.List.{slice_get, slice_set}
-use Rattle.std.specs.Option.{option_and_then, option_or, IsSome}
+use Rattle.std.specs.Option.{option_and_then, option_map, option_or, IsSome}
 use Rattle.std.specs.Result.{IsErrOf}
 use Rattle.std.specs.FinMap.{contains_key, len}
 use Rattle.row_types.specs.declared.value.Value.{Value}
@@ -24,20 +24,27 @@ use Rattle.outside.specs.Faults.{Rose}
 use Rattle.outside.specs.Holding.{Held}
 use Rattle.outside.specs.declared.fault.BankError.{BankError}
 use Rattle.outside.specs.declared.fault.BankError.TheVariants.{Failed, Memory}
+use Rattle.autorefresh.specs.Sets.{is_of_table}
+use Rattle.autorefresh.specs.declared.group.ReadOnlyGroup.{ReadOnlyGroup}
 use Rattle.tier_engine.specs.declared.insert.Asked.{Asked}
 use Rattle.tier_engine.specs.declared.reply.Reply.{Reply}
 use Rattle.tier_engine.specs.declared.reply.Last.TheVariants.{Done, No}
 use Rattle.tier_engine.specs.declared.tier.Tier.{Tier}
 use Rattle.tier_engine.specs.declared.tier.Group.{Group}
 use Rattle.tier_engine.specs.declared.tier.Session.{Session}
-use Rattle.tier_engine.specs.LiteralValues.{values_of}
+use Rattle.group_defs.specs.LiteralValues.{takes_all, values_of}
+use Rattle.tier_engine.specs.ReadOnlyAnswers.{write_fault}
+use Rattle.tier_engine.specs.ReadOnlyStates.{ReadOnlyState}
+use Rattle.tier_engine.specs.ReadOnlyStoring.{refused_write}
 use Rattle.tier_engine.specs.TierStates.{SessionState, GroupState, seen_rows}
-use Rattle.tier_engine.specs.Refusals.{at_limit, insert_fault, key_taken, rule_in, takes_all, unknown_table, values_fault}
+use Rattle.group_defs.specs.Limits.{at_limit}
+use Rattle.tier_engine.specs.Refusals.{insert_fault, key_taken, rule_in, unknown_table, values_fault}
 use Rattle.tier_engine.specs.Answers.{only, faulty, refuses}
-use Rattle.tier_engine.specs.Steps.{World, Finds, Inserts, InsertsUnless, PutsValues, Quiet, TellsBankFault, WantsMemory}
+use Rattle.tier_engine.specs.Steps.{World, Finds, Inserts, InsertsRead, InsertsUnless, PutsValues, Quiet, TellsBankFault, WantsMemory}
 use Rattle.tier_engine.specs.Storing.{IsPut, IsSame, Puts, Settles, SettlesTier, StaysBeside, place_named}
-use Rattle.tier_engine.specs.Standing.{Mark, InOpen, ServesPart, StandsFor, group_state, ops_of, own_in, session_in, session_state, tier_state, world_of}
+use Rattle.tier_engine.specs.Standing.{Mark, InOpen, ServesPart, StandsFor, group_state, ops_of, own_in, read_only_state, session_in, session_state, tier_state, world_of}
 use Rattle.tier_engine.proofs.InsertSteps.{AppliesLaw, HasPut}
+use Rattle.tier_engine.proofs.ReadLaws.{found_over}
 use Rattle.tier_engine.proofs.SelectSteps.{IsOpen, is_open, opened_step, refuses_quiet}
 use Rattle.tier_engine.proofs.ServingLaws.{no_refusal, no_memory}
 use Rattle.tier_engine.proofs.SettleSteps.{insert_settled}
@@ -70,16 +77,21 @@ refused_part before f m t t' i rule reply same told step log held e stands apart
       made = (inl (step log held.history stands), λ b. absurd (no_refusal rule (subst TellsBankFault told b)));
     }
 
--- the table isn't cached
-pub insert_unknown : (before : Option Held) (f : ℕ) (m : Mark) (t : Tier) (i : OneInsert) (reply : Reply) → IsSome t.session → place_named t.groups.items i.table ≡ None → reply ≡ only (No (unknown_table i.table))
-    → ServesPart before before f f m m t t reply (λ w w'. Does i reply w w')
-insert_unknown before f m t i reply some none told =
-    refused_part before f m t t i (unknown_table i.table) reply (record { known = refl; groups = refl; session = refl; unsettled = refl; next = refl }) told
+-- the table is of no writethrough group
+pub insert_read : (before : Option Held) (f : ℕ) (m : Mark) (t : Tier) (i : OneInsert) (rule : Rule) (reply : Reply) → IsSome t.session → place_named t.groups.items i.table ≡ None
+    → refused_write (option_and_then (slice_get t.read_only) (position (is_of_table i.table) t.read_only)) i.table i.values ≡ rule → reply ≡ only (No rule) → ServesPart before before f f m m t t reply (λ w w'. Does i reply w w')
+insert_read before f m t i rule reply some none broken told =
+    refused_part before f m t t i rule reply (record { known = refl; groups = refl; read_only = refl; session = refl; unsettled = refl; next = refl }) told
     (λ log h s.
     let o = is_open t some in
     let w = world_of t log h f m in
     opened_step t (statement.Insert i) w w reply o
-    (subst (λ (g : Option GroupState). Inserts (session_state o.session) g i w w reply) (sym (not_found (own_in t.session) t.groups.items i.table none)) (refuses_quiet w (unknown_table i.table) reply told)))
+    (subst (λ (g : Option GroupState). Inserts (session_state o.session) g i w w reply) (sym (not_found (own_in t.session) t.groups.items i.table none))
+    (subst (λ (g : Option ReadOnlyState). InsertsRead g i w w reply) (sym (found_over t.read_only i.table)) (by_group w (option_and_then (slice_get t.read_only) (position (is_of_table i.table) t.read_only)) broken))))
+  where
+    by_group : (w : World) (g : Option ReadOnlyGroup) → refused_write g i.table i.values ≡ rule → InsertsRead (option_map read_only_state g) i w w reply
+    by_group w None e = refuses_quiet w (unknown_table i.table) reply (told ∙ ap (λ (r : Rule). only (No r)) (sym e))
+    by_group w (Some g) e = refuses_quiet w (write_fault g.def i.values) reply (told ∙ ap (λ (r : Rule). only (No r)) (sym e))
 
 -- memory was wanting
 pub insert_memory : (before : Option Held) (f : ℕ) (m : Mark) (t t' : Tier) (i : OneInsert) (reply : Reply) → IsSame t t' → reply ≡ faulty code.Memory → ServesPart before before f f m m t t' reply (λ w w'. Does i reply w w')
@@ -118,7 +130,7 @@ pub insert_refused : (before : Option Held) (f : ℕ) (m : Mark) (t : Tier) (i :
     → ((g : Group) → slice_get t.groups.items place ≡ Some g → insert_fault g.def (own_in t.session) i.values g.rows ≡ Some rule) → reply ≡ only (No rule)
     → ServesPart before before f f m m t t reply (λ w w'. Does i reply w w')
 insert_refused before f m t i place rule reply some there broken told =
-    refused_part before f m t t i rule reply (record { known = refl; groups = refl; session = refl; unsettled = refl; next = refl }) told
+    refused_part before f m t t i rule reply (record { known = refl; groups = refl; read_only = refl; session = refl; unsettled = refl; next = refl }) told
     (λ log h s.
     let o = is_open t some in
     let w = world_of t log h f m in
@@ -150,6 +162,7 @@ put_nothing : (t t' : Tier) (place : ℕ) (g g' : Group) (s s' : Session) → sl
 put_nothing t t' place g g' s s' there opened stays groups session same_g same_s = record {
   known = stays.known;
   groups = groups ∙ ap (slice_set t.groups.items place) same_g ∙ set_same t.groups.items place g there;
+  read_only = stays.read_only;
   session = session ∙ ap Some same_s ∙ sym opened;
   unsettled = stays.unsettled;
   next = stays.next;
@@ -222,6 +235,7 @@ has_put t t1 place g s row asked there opened stays g1 s1 groups session p = rec
   opened = opened;
   new = p.new;
   known = stays.known;
+  read_only = stays.read_only;
   unsettled = stays.unsettled;
   next = stays.next;
   groups = groups ∙ ap (slice_set t.groups.items place) p.group;

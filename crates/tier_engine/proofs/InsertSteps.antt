@@ -29,12 +29,15 @@ use Rattle.tier_engine.specs.declared.tier.Group.{Group}
 use Rattle.tier_engine.specs.declared.tier.OwnKey.{OwnKey}
 use Rattle.tier_engine.specs.declared.tier.Session.{Session}
 use Rattle.tier_engine.specs.Commits.{RiseBetween, pending, applied_sealed}
-use Rattle.tier_engine.specs.Refusals.{is_joined, rule_in}
+use Rattle.group_defs.specs.GroupRules.{is_joined}
+use Rattle.tier_engine.specs.Refusals.{rule_in}
 use Rattle.tier_engine.specs.Standing.{StandsFor, Shows, ShowAll, AreApart, AreIn, HasOwnKeys, OwnKeys, IsOwnKey, committed_rows, group_state, inserts_at, is_insert, is_stored, key_set, ops_of, own_in, session_in, tier_state}
 use Rattle.tier_engine.proofs.BankSteps.{LeavesState}
+use Rattle.tier_engine.proofs.GroupedLaws.{apart_of, cover, defined_as, distinct_as, tables_set}
 use Rattle.tier_engine.proofs.LogLaws.{all_pending}
 use Rattle.tier_engine.proofs.OpLaws.{Goes, get_inserts, goes, goes_schema, inserts_schema, inserts_whole}
-use Rattle.tier_engine.proofs.PutLaws.{with_rows, committed_put, committed_other, other_shows, put_shows, set_apart, set_maps, set_shows, set_stored}
+use Rattle.tier_engine.proofs.PutLaws.{with_rows, committed_put, committed_other, other_shows, put_shows, set_maps, set_shows, set_stored}
+use Rattle.tier_engine.proofs.ReadLaws.{reads_as, sets_as}
 use Rattle.tier_engine.proofs.ShownLaws.{get_before}
 use Rattle.tier_engine.proofs.StandingLaws.{and_left, and_right, and_true, are_inserts, shows_at}
 
@@ -133,7 +136,7 @@ no_misfit columns row e = by_length (length row == length columns) e
     by_length false p = Prim.cc
 
 no_foreign : (t : TableId) (def : TableDef) (schema : List TableDef) → is_joined t def schema ≡ false → def.foreign_key ≡ None
-no_foreign t def schema e = by_key def.foreign_key (or_left (is_some def.foreign_key) (list_any (λ other. Rattle.tier_engine.specs.Refusals.refers t other.foreign_key) schema) e)
+no_foreign t def schema e = by_key def.foreign_key (or_left (is_some def.foreign_key) (list_any (λ other. Rattle.group_defs.specs.GroupRules.refers t other.foreign_key) schema) e)
   where
     by_key : (o : Option ForeignKey) → is_some o ≡ false → o ≡ None
     by_key None p = refl
@@ -245,6 +248,7 @@ pub record HasPut (t t1 : Tier) (place : ℕ) (g : Group) (s : Session) (row : L
   pub opened : t.session ≡ Some s
   pub new : contains_key g.rows (key_of g.def.primary_key row) ≡ false
   pub known : t1.known ≡ t.known
+  pub read_only : t1.read_only ≡ t.read_only
   pub unsettled : t1.unsettled.items ≡ t.unsettled.items
   pub next : t1.next ≡ t.next
   pub groups : t1.groups.items ≡ slice_set t.groups.items place (with_rows g (insert g.rows (key_of g.def.primary_key row) row))
@@ -270,7 +274,7 @@ stands_put law t t1 log h place g ss row s p fits absent =
     let in_ : GoesIn s.top g.table row = goes_new law s.top g.table g.def row top_whole shows.defined shows.alone fits absent in
     let key : OwnKey = record { group = place; key = k } in
     let all1 : ShowAll in_.after (ops_of log) (own ++ op ∷ []) groups1 =
-    set_shows s.top in_.after (ops_of log) own (own ++ op ∷ []) t.groups.items place g rows p.there s.apart s.shows
+    set_shows s.top in_.after (ops_of log) own (own ++ op ∷ []) t.groups.items place g rows p.there (apart_of t.groups.items t.read_only s.distinct) s.shows
     (λ x other y. other_shows s.top in_.after (ops_of log) own x g.table row in_.goes_in other y)
     (put_shows s.top in_.after (ops_of log) own g row shows in_.goes_in p.new)
     in
@@ -300,8 +304,11 @@ stands_put law t t1 log h place g ss row s p fits absent =
           ∙ list_all-append (is_stored t.groups.items) own (op ∷ []) ∙ and_true (list_all (is_stored t.groups.items) own) (list_all (is_stored t.groups.items) (op ∷ [])) s.writing
           (ap (λ b. b && true) (stored_one t.groups.items place g row p.there));
       shows = subst (λ (l : List Op). ShowAll in_.after (ops_of log) l t1.groups.items) (sym mine1) (subst (λ (gs : List Group). ShowAll in_.after (ops_of log) (own ++ op ∷ []) gs) (sym p.groups) all1);
-      apart = subst AreApart (sym p.groups) (set_apart t.groups.items place g rows p.there s.apart);
+      distinct = distinct_as t.groups.items t1.groups.items t.read_only t1.read_only (ap (map (λ (x : Group). x.table)) p.groups ∙ tables_set t.groups.items place g (with_rows g rows) p.there refl) (ap (map cover) p.read_only) s.distinct;
       keys = subst (λ (o : Option Session). HasOwnKeys t1.groups.items o) (sym p.session) (subst (λ (gs : List Group). OwnKeys gs (ss.own ++ op ∷ []) (ss.keys ++ key ∷ [])) (sym p.groups) keys1);
+      defined = defined_as h t.read_only t1.read_only (ap (map cover) p.read_only) s.defined;
+      reads = reads_as h t.read_only t1.read_only p.read_only s.reads;
+      sets = sets_as t.read_only t1.read_only p.read_only s.sets;
     }
 
 -- its state: of the tier's only the session's writes change
@@ -323,4 +330,4 @@ state_put t t1 log place g ss row apart p =
     (λ x other. same_keys x (committed_rows (own ++ op ∷ []) x) (committed_rows own x) (committed_other own x g.table row other))
     (same_keys g (committed_rows (own ++ op ∷ []) (with_rows g rows)) (committed_rows own g) (committed_put own g row p.new))
     in
-    λ i. record { known = p.known i; groups = groups i; session = session_in (p.session i); log = log; unsettled = p.unsettled i; next = p.next i }
+    λ i. record { known = p.known i; groups = groups i; read_only = map Rattle.tier_engine.specs.Standing.read_only_state (p.read_only i); session = session_in (p.session i); log = log; unsettled = p.unsettled i; next = p.next i }

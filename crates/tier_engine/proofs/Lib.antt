@@ -9,6 +9,7 @@ pub mod CommitLaws
 pub mod CommitSteps
 pub mod DrainSteps
 pub mod FaultLaws
+pub mod GroupedLaws
 pub mod GroupSteps
 pub mod PutLaws
 pub mod InsertServes
@@ -20,6 +21,12 @@ pub mod OpenSteps
 pub mod OwnLaws
 pub mod LegalLaws
 pub mod LogLaws
+pub mod ReadCalls
+pub mod ReadJudging
+pub mod ReadLaws
+pub mod ReadServes
+pub mod ReadStates
+pub mod ReadSteps
 pub mod ReplyLaws
 pub mod RoundLaws
 pub mod RoundSteps

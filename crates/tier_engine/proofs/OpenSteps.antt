@@ -12,11 +12,13 @@ use Rattle.tier_engine.specs.declared.reply.Last.TheVariants.{Done, No}
 use Rattle.tier_engine.specs.declared.tier.Tier.{Tier}
 use Rattle.tier_engine.specs.declared.tier.Session.{Session}
 use Rattle.tier_engine.specs.TierStates.{TierState, SessionState, is_named, session_of}
-use Rattle.tier_engine.specs.Refusals.{open_fault, past, unknown_session}
+use Rattle.group_defs.specs.Limits.{past}
+use Rattle.tier_engine.specs.Refusals.{open_fault, unknown_session}
 use Rattle.tier_engine.specs.Answers.{Answer, only, open_answer, close_answer, rollback_answer, unless}
 use Rattle.tier_engine.specs.Steps.{World, Quiet, Closes, DoesRequest}
 use Rattle.tier_engine.specs.Standing.{HasOwnKeys, InOpen, StandsFor, Turns, own_in, session_in, session_state, tier_state, world_of}
 use Rattle.tier_engine.specs.Storing.{TakesBack, emptied}
+use Rattle.tier_engine.proofs.GroupedLaws.{apart_of}
 use Rattle.tier_engine.proofs.StandingLaws.{same_world, stands_beside}
 use Rattle.tier_engine.proofs.SessionSteps.{stands_bare, state_bare}
 use Rattle.tier_engine.proofs.SelectSteps.{is_open, opened_step, quiet_same, refuses_quiet}
@@ -31,18 +33,19 @@ no_session (Some s) label options e = by_name (is_named s.label label) e
     by_name false p = Prim.cc
 
 -- OPEN
-pub opens_turns : (t t' : Tier) (log : List Sealed) (h : List Entry) (label : List _) (options : OpenOptions) (reply : Reply) → t'.known ≡ t.known → t'.groups.items ≡ t.groups.items → t'.unsettled.items ≡ t.unsettled.items → t'.next ≡ t.next
+pub opens_turns : (t t' : Tier) (log : List Sealed) (h : List Entry) (label : List _) (options : OpenOptions) (reply : Reply) → t'.known ≡ t.known → t'.groups.items ≡ t.groups.items → t'.read_only ≡ t.read_only → t'.unsettled.items ≡ t.unsettled.items → t'.next ≡ t.next
     → t'.session ≡ Some (record { label = label; own = []; keys = [] }) → open_fault (session_in t.session) label options ≡ None → reply ≡ only (Done 0) → StandsFor t log h
     → Turns t t' log h (λ w w'. Quiet w (open_answer w.tier label options) w' reply)
-opens_turns t t' log h label options reply known groups unsettled next session sound told s =
+opens_turns t t' log h label options reply known groups read_only unsettled next session sound told s =
     let closed : t.session ≡ None = no_session t.session label options sound in
     let own : own_in t'.session ≡ own_in t.session = ap own_in session ∙ sym (ap own_in closed) in
-    let stands : StandsFor t' log h = stands_beside t t' log h s known unsettled next groups own (subst (λ (o : Option Session). HasOwnKeys t.groups.items o) (sym session) tt) in
+    let stands : StandsFor t' log h = stands_beside t t' log h s known unsettled next groups read_only own (subst (λ (o : Option Session). HasOwnKeys t.groups.items o) (sym session) tt) in
     let after : Answer = (record (tier_state t log) { session = Some (record { label = label; own = [] }) }, only (Done 0)) in
     let answered : open_answer (tier_state t log) label options ≡ after = ap (λ o. unless (tier_state t log) o after) sound in
     let state : tier_state t' log ≡ after.0 = λ i. record {
       known = known i;
       groups = map (Rattle.tier_engine.specs.Standing.group_state (own i)) (groups i);
+      read_only = map Rattle.tier_engine.specs.Standing.read_only_state (read_only i);
       session = session_in (session i);
       log = log;
       unsettled = unsettled i;
@@ -83,18 +86,19 @@ keys_emptied groups None = tt
 keys_emptied groups (Some s) = tt
 
 -- CLOSE
-pub closes_turns : (t t1 t' : Tier) (log : List Sealed) (h : List Entry) (label : List _) (reply : Reply) → TakesBack t t1 → t'.known ≡ t1.known → t'.groups.items ≡ t1.groups.items → t'.unsettled.items ≡ t1.unsettled.items → t'.next ≡ t1.next
+pub closes_turns : (t t1 t' : Tier) (log : List Sealed) (h : List Entry) (label : List _) (reply : Reply) → TakesBack t t1 → t'.known ≡ t1.known → t'.groups.items ≡ t1.groups.items → t'.read_only ≡ t1.read_only → t'.unsettled.items ≡ t1.unsettled.items → t'.next ≡ t1.next
     → t'.session ≡ None → is_some (session_of (tier_state t log) label) ≡ true → reply ≡ only (Done 0) → StandsFor t log h
     → Turns t t' log h (λ w w'. DoesRequest label asks_for.Close w w' reply)
-closes_turns t t1 t' log h label reply back known groups unsettled next session opened told s =
-    let went = back.back s.apart s.keys in
+closes_turns t t1 t' log h label reply back known groups read_only unsettled next session opened told s =
+    let went = back.back (apart_of t.groups.items t.read_only s.distinct) s.keys in
     let known' : t'.known ≡ t.known = known ∙ back.stays.known in
+    let read_only' : t'.read_only ≡ t.read_only = read_only ∙ back.stays.read_only in
     let unsettled' : t'.unsettled.items ≡ t.unsettled.items = unsettled ∙ back.stays.unsettled in
     let next' : t'.next ≡ t.next = next ∙ back.stays.next in
     let none : own_in t'.session ≡ [] = ap own_in session in
-    let stands : StandsFor t' log h = stands_bare t t' log h s known' unsettled' next' (groups ∙ went.1) none (subst (λ (o : Option Session). HasOwnKeys t'.groups.items o) (sym session) tt) in
+    let stands : StandsFor t' log h = stands_bare t t' log h s known' read_only' unsettled' next' (groups ∙ went.1) none (subst (λ (o : Option Session). HasOwnKeys t'.groups.items o) (sym session) tt) in
     let state : tier_state t' log ≡ (close_answer (tier_state t log)).0 =
-    state_bare t t' log known' unsettled' next' (groups ∙ went.1) none ∙ ap (λ (o : Option Session). let x : TierState = record (tier_state t log) { session = session_in o } in x) session in
+    state_bare t t' log known' read_only' unsettled' next' (groups ∙ went.1) none ∙ ap (λ (o : Option Session). let x : TierState = record (tier_state t log) { session = session_in o } in x) session in
     record {
       log' = log;
       stands = stands;
@@ -111,12 +115,12 @@ pub rollback_turns : (t t' : Tier) (log : List Sealed) (h : List Entry) (reply :
     → Turns t t' log h (λ w w'. InOpen w.tier.session statement.Rollback w w' reply)
 rollback_turns t t' log h reply some back told s =
     let o = is_open t some in
-    let went = back.back s.apart s.keys in
+    let went = back.back (apart_of t.groups.items t.read_only s.distinct) s.keys in
     let none : own_in t'.session ≡ [] = ap own_in went.0 ∙ own_emptied t.session in
-    let stands : StandsFor t' log h = stands_bare t t' log h s back.stays.known back.stays.unsettled back.stays.next went.1 none (subst (λ (x : Option Session). HasOwnKeys t'.groups.items x) (sym went.0) (keys_emptied t'.groups.items t.session)) in
+    let stands : StandsFor t' log h = stands_bare t t' log h s back.stays.known back.stays.read_only back.stays.unsettled back.stays.next went.1 none (subst (λ (x : Option Session). HasOwnKeys t'.groups.items x) (sym went.0) (keys_emptied t'.groups.items t.session)) in
     let session : t'.session ≡ Some (emptied o.session) = went.0 ∙ ap (option_map emptied) o.is in
     let state : tier_state t' log ≡ (rollback_answer (tier_state t log) (session_state o.session)).0 =
-    state_bare t t' log back.stays.known back.stays.unsettled back.stays.next went.1 none ∙ ap (λ (x : Option Session). let y : TierState = record (tier_state t log) { session = session_in x } in y) session in
+    state_bare t t' log back.stays.known back.stays.read_only back.stays.unsettled back.stays.next went.1 none ∙ ap (λ (x : Option Session). let y : TierState = record (tier_state t log) { session = session_in x } in y) session in
     record {
       log' = log;
       stands = stands;

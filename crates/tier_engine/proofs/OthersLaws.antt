@@ -12,7 +12,7 @@ use Rattle.table_state.specs.Operations.{applied, applied_all, table_of}
 use Rattle.table_state.specs.Independence.{AreApart, is_child_of, refers_to}
 use Rattle.table_state.proofs.IndependenceLaws.{applied_commute, applies_behind, stays_beside, stays_defined}
 use Rattle.tier_engine.specs.declared.tier.Group.{Group}
-use Rattle.tier_engine.specs.Refusals.{is_joined, refers}
+use Rattle.group_defs.specs.GroupRules.{is_joined, refers}
 use Rattle.tier_engine.specs.Standing.{is_in_group, is_insert, is_stored}
 use Rattle.tier_engine.proofs.StandingLaws.{and_left, and_right}
 

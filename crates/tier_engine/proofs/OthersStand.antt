@@ -17,16 +17,19 @@ use Rattle.table_state.specs.Independence.{IsWhole}
 use Rattle.table_state.specs.Histories.{state_of, state_from, entry_of, has_ticket, is_of, no_tables}
 use Rattle.table_state.proofs.IndependenceLaws.{all_whole}
 use Rattle.outside.specs.Others.{AreOthers, Around, are_on_shared, is_shared}
+use Rattle.autorefresh.specs.Sets.{AllShow}
 use Rattle.tier_engine.specs.declared.tier.Tier.{Tier}
 use Rattle.tier_engine.specs.declared.tier.Group.{Group}
 use Rattle.tier_engine.specs.Commits.{pending, applied_sealed, virtual_state, in_commit_order, own_entries, is_own, is_other}
 use Rattle.tier_engine.specs.Steps.{AreUnshared}
-use Rattle.tier_engine.specs.Standing.{StandsFor, Shows, ShowAll, IsApart, group_state, is_in_group, is_stored, ops_of, own_in, tier_state}
+use Rattle.tier_engine.specs.Standing.{AreDefined, IsApart, ShowAll, Shows, StandsFor, group_state, is_in_group, is_stored, ops_of, own_in, tier_state}
 use Rattle.tier_engine.proofs.CommitLaws.{applied_sealed-state_from, by_option, state_from-append}
+use Rattle.tier_engine.proofs.GroupedLaws.{defined_later}
 use Rattle.tier_engine.proofs.LogLaws.{all_pending, all_taken, applied_ops}
 use Rattle.tier_engine.proofs.OpLaws.{inserts_schema}
 use Rattle.tier_engine.proofs.OthersLaws.{AreAlone, LeaveGroups, Leads, leads, leads_back, leads_schema, leads_table, leave_rest, meets, stored_beside, swaps}
 use Rattle.tier_engine.proofs.OwnLaws.{same_pending}
+use Rattle.tier_engine.proofs.ReadLaws.{reads_later}
 use Rattle.tier_engine.proofs.StandingLaws.{are_inserts}
 
 -- What of a tier's standing is said of the history.
@@ -54,8 +57,8 @@ rests t log h s = record {
   shows = s.shows;
 }
 
-pub stands_rests : (t : Tier) (log : List Sealed) (h h' : List Entry) (s : StandsFor t log h) → Rests t.groups.items (own_in t.session) t.known log s.came h' → StandsFor t log h'
-stands_rests t log h h' s r = record {
+pub stands_rests : (t : Tier) (log : List Sealed) (h h' : List Entry) (s : StandsFor t log h) → Rests t.groups.items (own_in t.session) t.known log s.came h' → AreDefined h' t.read_only → AllShow h' t.read_only → StandsFor t log h'
+stands_rests t log h h' s r defined reads = record {
   rise = s.rise;
   last = s.last;
   came = s.came;
@@ -75,8 +78,11 @@ stands_rests t log h h' s r = record {
   logged = s.logged;
   writing = s.writing;
   shows = r.shows;
-  apart = s.apart;
+  distinct = s.distinct;
   keys = s.keys;
+  defined = defined;
+  reads = reads;
+  sets = s.sets;
 }
 
 -- A history leaves a state, behind which what is pending leads to the virtual one.
@@ -130,7 +136,7 @@ shows_same s n log own (g ∷ groups) ops leave go all =
     let x : Shows s log own g = all.0 in (
       record {
         defined = ap (λ defs. Rattle.std.specs.List.slice_get defs g.table.0) schema ∙ x.defined;
-        alone = ap (Rattle.tier_engine.specs.Refusals.is_joined g.table g.def) schema ∙ x.alone;
+        alone = ap (Rattle.group_defs.specs.GroupRules.is_joined g.table g.def) schema ∙ x.alone;
         rows = subst (λ (table : Rattle.table_state.specs.Tables.Table). Rattle.tier_engine.specs.Standing.IsWithin g.rows table) (sym rows) x.rows;
         writes = x.writes;
         committed = x.committed;
@@ -195,6 +201,7 @@ pub stands_foreign : (t : Tier) (log : List Sealed) (h : List Entry) (ops : List
     → StandsFor t log (h ++ Foreign ops ∷ [])
 stands_foreign t log h ops leave applies s =
     stands_rests t log h (h ++ Foreign ops ∷ []) s (rests_foreign t.groups.items (own_in t.session) t.known log s.came h ops s.logged s.writing leave applies (rests t log h s))
+    (defined_later h (Foreign ops ∷ []) t.read_only s.defined) (reads_later h (Foreign ops ∷ []) t.read_only s.reads)
 
 -- an operation on a shared table is on no group's
 not_in_group : (shared : List TableId) (own : List Op) (groups : List Group) (op : Op) → AreUnshared shared (map (group_state own) groups) → is_shared shared (table_of op) ≡ true → is_in_group groups op ≡ false
@@ -229,6 +236,7 @@ rests_others shared groups own known log came h (Foreign ops ∷ entries) logged
 pub stands_others : (t : Tier) (log : List Sealed) (shared : List TableId) (h entries : List Entry) → IsApart t log shared → AreOthers shared h entries → StandsFor t log h → StandsFor t log (h ++ entries)
 stands_others t log shared h entries unshared others s =
     stands_rests t log h (h ++ entries) s (rests_others shared t.groups.items (own_in t.session) t.known log s.came h entries s.logged s.writing unshared others (rests t log h s))
+    (defined_later h entries t.read_only s.defined) (reads_later h entries t.read_only s.reads)
 
 -- the tables of the groups are the same
 pub apart_as : (t t' : Tier) (log log' : List Sealed) (shared : List TableId) → (tier_state t' log').groups ≡ (tier_state t log).groups → IsApart t log shared → IsApart t' log' shared

@@ -17,7 +17,7 @@ use Rattle.table_state.specs.declared.operation.Op.TheVariants.{Insert}
 use Rattle.table_state.specs.Tables.{Table, TableState, table_at, key_of, is_same}
 use Rattle.table_state.specs.Operations.{table_of}
 use Rattle.tier_engine.specs.declared.tier.Group.{Group}
-use Rattle.tier_engine.specs.Refusals.{is_joined}
+use Rattle.group_defs.specs.GroupRules.{is_joined}
 use Rattle.tier_engine.specs.Standing.{AreApart, AreIn, IsWithin, Shows, ShowAll, committed_rows, inserts_at, is_in_group, is_insert, is_stored, row_before, rows_before}
 use Rattle.tier_engine.proofs.OpLaws.{Goes, goes_other, goes_schema, goes_table}
 

@@ -1,5 +1,5 @@
 -- Statements that make no call of the bank tell no fault of it.
-use Rattle.std.proofs.Common.{ℕ, ◌⊎◌, List, [], ◌∷◌, Option, Some, None, Bool, true, false, cond, subst, inl, inr}
+use Rattle.std.proofs.Common.{ℕ, ◌⊎◌, List, [], ◌∷◌, Option, Some, None, subst, inl, inr}
 use Rattle.std.specs.List.{slice_get}
 use Rattle.tier_base.specs.declared.number.TableId.{TableId}
 use Rattle.row_types.specs.declared.rule.Rule.{Rule}
@@ -15,9 +15,10 @@ use Rattle.table_state.specs.Tables.{Table}
 use Rattle.tier_engine.specs.declared.reply.Reply.{Reply}
 use Rattle.tier_engine.specs.declared.reply.Last.TheVariants.{Done}
 use Rattle.tier_engine.specs.TierStates.{TierState, SessionState, GroupState, group_of_table, session_of, seen_rows}
+use Rattle.tier_engine.specs.ReadOnlyStates.{ReadOnlyState, read_only_over, shown_rows}
 use Rattle.tier_engine.specs.Refusals.{unknown_session, unknown_table, open_fault, group_fault, select_fault, commit_fault}
-use Rattle.tier_engine.specs.Answers.{Answer, only, refuses, unless, open_answer, close_answer, rollback_answer, group_answer, group_known, group_cached, group_in, group_over, is_asynchronous, select_answer, commit_answer, commit_of}
-use Rattle.tier_engine.specs.Steps.{World, Quiet, DoesRequest, Closes, Selects, TellsBankFault, WantsMemory}
+use Rattle.tier_engine.specs.Answers.{Answer, only, refuses, unless, open_answer, close_answer, rollback_answer, group_answer, group_known, group_cached, group_in, group_over, group_shown, select_answer, commit_answer, commit_of}
+use Rattle.tier_engine.specs.Steps.{World, Quiet, DoesRequest, Closes, Selects, SelectsRead, TellsBankFault, WantsMemory}
 use Rattle.tier_engine.specs.Standing.{InOpen}
 use Rattle.tier_engine.proofs.ServingLaws.{no_refusal, no_memory}
 
@@ -37,14 +38,18 @@ clean_unless t (Some rule) a clean = clean_refuses t rule
 
 clean_over : (t : TierState) (s : SessionState) (d : CreateGroup) (table : TableId) (schema : List TableDef) (o : Option TableDef) → IsClean (group_over t s d table schema o)
 clean_over t s d table schema None = clean_refuses t (unknown_table d.table.name)
-clean_over t s d table schema (Some def) = clean_unless t (group_fault t.groups s.own d table def schema) _ (clean_done 0)
+clean_over t s d table schema (Some def) = clean_unless t (group_fault t.groups t.read_only s.own d table def schema) _ (clean_done 0)
 
 clean_in : (t : TierState) (s : SessionState) (d : CreateGroup) (schema : List TableDef) (o : Option TableId) → IsClean (group_in t s d schema o)
 clean_in t s d schema None = clean_refuses t (unknown_table d.table.name)
 clean_in t s d schema (Some table) = clean_over t s d table schema (slice_get schema table.0)
 
+clean_shown : (t : TierState) (s : SessionState) (d : CreateGroup) (o : Option ReadOnlyState) → IsClean (group_shown t s d o)
+clean_shown t s d None = clean_refuses t (unknown_table d.table.name)
+clean_shown t s d (Some g) = clean_over t s d g.tree.root.table [] (Some g.def)
+
 clean_cached : (t : TierState) (s : SessionState) (d : CreateGroup) (o : Option GroupState) → IsClean (group_cached t s d o)
-clean_cached t s d None = clean_refuses t (unknown_table d.table.name)
+clean_cached t s d None = clean_shown t s d (read_only_over t.read_only d.table.name)
 clean_cached t s d (Some g) = clean_over t s d g.table [] (Some g.def)
 
 clean_known : (t : TierState) (s : SessionState) (d : CreateGroup) (o : Option (List TableDef)) → IsClean (group_known t s d o)
@@ -52,11 +57,7 @@ clean_known t s d None = clean_cached t s d (group_of_table t.groups d.table.nam
 clean_known t s d (Some schema) = clean_in t s d schema (place_of_table schema d.table.name)
 
 clean_group : (t : TierState) (s : SessionState) (d : CreateGroup) → IsClean (group_answer t s d)
-clean_group t s d = by_kind (is_asynchronous d.kind)
-  where
-    by_kind : (b : Bool) → IsClean (cond b (group_known t s d t.known) (refuses t Rattle.tier_engine.specs.Refusals.not_yet))
-    by_kind true = clean_known t s d t.known
-    by_kind false = clean_refuses t Rattle.tier_engine.specs.Refusals.not_yet
+clean_group t s d = clean_known t s d t.known
 
 clean_select : (t : TierState) (rows : Table) → IsClean (select_answer t rows)
 clean_select t rows = clean_unless t (select_fault rows) _ (λ x. Prim.cc x.last)
@@ -110,8 +111,12 @@ pub select_tells : (i : OneSelect) (reply : Reply) (w w' : World) → InOpen w.t
 select_tells i reply w w' (inr q) = by_memory w w' reply q
 select_tells i reply w w' (inl q) = by_session w.tier.session q
   where
+    by_read : (o : Option ReadOnlyState) → SelectsRead o i w w' reply → TellsBankFault reply → ⊥
+    by_read None p = by_quiet w w' (refuses w.tier (unknown_table i.table)) reply (clean_refuses w.tier (unknown_table i.table)) p
+    by_read (Some g) p = by_quiet w w' (select_answer w.tier (shown_rows w.history g)) reply (clean_select w.tier (shown_rows w.history g)) p
+
     by_group : (s : SessionState) (o : Option GroupState) → Selects s o i w w' reply → TellsBankFault reply → ⊥
-    by_group s None p = by_quiet w w' (refuses w.tier (unknown_table i.table)) reply (clean_refuses w.tier (unknown_table i.table)) p
+    by_group s None p = by_read (read_only_over w.tier.read_only i.table) p
     by_group s (Some g) p = by_quiet w w' (select_answer w.tier (seen_rows g s.own p.0)) reply (clean_select w.tier (seen_rows g s.own p.0)) p.2
 
     by_session : (o : Option SessionState) → InOpen o (statement.Select i) w w' reply → TellsBankFault reply → ⊥

@@ -1,7 +1,8 @@
 -- A SELECT is a step of the tier.
-use Rattle.std.proofs.Common.{◌≡◌, List, Option, Some, None, refl, sym, ◌∙◌, ap, subst, inl, ◌⊎◌}
+use Rattle.std.proofs.Common.{◌≡◌, List, Option, Some, None, refl, sym, ◌∙◌, ap, subst, inl, inr, ◌⊎◌}
+use Rattle.std.specs.Prelude.{position}
 use Rattle.std.specs.List.{slice_get}
-use Rattle.std.specs.Option.{IsSome}
+use Rattle.std.specs.Option.{IsSome, option_and_then, option_map}
 use Rattle.table_state.specs.declared.history.Entry.{Entry}
 use Rattle.table_state.specs.declared.history.Sealed.{Sealed}
 use Rattle.table_state.specs.Tables.{Table}
@@ -9,17 +10,23 @@ use Rattle.sql_subset.specs.declared.stmt.Select.{Select as OneSelect}
 use Rattle.sql_subset.specs.declared.stmt.Stmt.{Stmt}
 use Rattle.sql_subset.specs.declared.stmt.Stmt.TheVariants as statement
 use Rattle.row_types.specs.declared.rule.Rule.{Rule}
+use Rattle.autorefresh.specs.Sets.{is_of_table}
+use Rattle.autorefresh.specs.declared.group.ReadOnlyGroup.{ReadOnlyGroup}
 use Rattle.tier_engine.specs.declared.reply.Reply.{Reply}
 use Rattle.tier_engine.specs.declared.reply.Last.TheVariants.{No}
 use Rattle.tier_engine.specs.declared.tier.Tier.{Tier}
 use Rattle.tier_engine.specs.declared.tier.Group.{Group}
 use Rattle.tier_engine.specs.declared.tier.Session.{Session}
 use Rattle.tier_engine.specs.TierStates.{TierState, GroupState, seen_rows}
+use Rattle.tier_engine.specs.ReadOnlyStates.{ReadOnlyState, read_only_over, shown_rows}
+use Rattle.tier_engine.specs.ReadOnlyStoring.{SelectsShown, root_of}
 use Rattle.tier_engine.specs.Refusals.{unknown_table}
 use Rattle.tier_engine.specs.Answers.{Answer, only, select_answer, refuses}
-use Rattle.tier_engine.specs.Steps.{World, Quiet, InSession, Selects, WantsMemory}
+use Rattle.tier_engine.specs.Steps.{World, Quiet, InSession, Selects, SelectsRead, WantsMemory}
 use Rattle.tier_engine.specs.Storing.{place_named}
-use Rattle.tier_engine.specs.Standing.{Mark, StandsFor, InOpen, Turns, group_state, own_in, session_state, session_in, world_of}
+use Rattle.tier_engine.specs.Standing.{Mark, StandsFor, InOpen, Turns, group_state, own_in, read_only_state, session_state, session_in, tier_state, world_of}
+use Rattle.tier_engine.proofs.BankSteps.{leaves_state}
+use Rattle.tier_engine.proofs.ReadLaws.{found_over, rows_shown}
 use Rattle.tier_engine.proofs.ShownLaws.{shows_stored}
 use Rattle.tier_engine.proofs.StandingLaws.{are_inserts, is_found, not_found, sees_top, shows_at}
 
@@ -46,15 +53,42 @@ quiet_same t log h P s made = record { log' = log; stands = s; made = made }
 pub refuses_quiet : (w : World) (rule : Rule) (reply : Reply) → reply ≡ only (No rule) → Quiet w (refuses w.tier rule) w reply
 refuses_quiet w rule reply e = (refl, e)
 
--- the table isn't cached
-pub select_unknown : (t : Tier) (log : List Sealed) (h : List Entry) (i : OneSelect) (reply : Reply) → IsSome t.session → place_named t.groups.items i.table ≡ None → reply ≡ only (No (unknown_table i.table)) → StandsFor t log h
+-- the table is of no writethrough group
+pub select_read : (t : Tier) (log : List Sealed) (h : List Entry) (i : OneSelect) (reply : Reply) → IsSome t.session → place_named t.groups.items i.table ≡ None
+    → SelectsShown (option_and_then (slice_get t.read_only) (position (is_of_table i.table) t.read_only)) i.table reply → StandsFor t log h
     → Turns t t log h (λ w w'. InOpen w.tier.session (statement.Select i) w w' reply ⊎ WantsMemory w w' reply)
-select_unknown t log h i reply some none told s =
-    let o = is_open t some in
-    quiet_same t log h _ s (λ faults mark.
-    let w = world_of t log h faults mark in
-    inl (opened_step t (statement.Select i) w w reply o
-    (subst (λ (g : Option GroupState). Selects (session_state o.session) g i w w reply) (sym (not_found (own_in t.session) t.groups.items i.table none)) (refuses_quiet w (unknown_table i.table) reply told))))
+select_read t log h i reply some none shown s = by_place (position (is_of_table i.table) t.read_only) refl shown
+  where
+    o : IsOpen t
+    o = is_open t some
+
+    -- what is done of the group that has the table, or of none
+    done : (g : Option ReadOnlyState) → read_only_over (tier_state t log).read_only i.table ≡ g → ((faults : _) (mark : Mark) → SelectsRead g i (world_of t log h faults mark) (world_of t log h faults mark) reply)
+        → Turns t t log h (λ w w'. InOpen w.tier.session (statement.Select i) w w' reply ⊎ WantsMemory w w' reply)
+    done g is step = quiet_same t log h _ s (λ faults mark.
+        let w = world_of t log h faults mark in
+        inl (opened_step t (statement.Select i) w w reply o
+        (subst (λ (x : Option GroupState). Selects (session_state o.session) x i w w reply) (sym (not_found (own_in t.session) t.groups.items i.table none))
+        (subst (λ (x : Option ReadOnlyState). SelectsRead x i w w reply) (sym is) (step faults mark)))))
+
+    by_found : (place : _) (x : Option ReadOnlyGroup) → slice_get t.read_only place ≡ x → read_only_over (tier_state t log).read_only i.table ≡ option_map read_only_state x → SelectsShown x i.table reply
+        → Turns t t log h (λ w w'. InOpen w.tier.session (statement.Select i) w w' reply ⊎ WantsMemory w w' reply)
+    by_found place None at is told = done None is (λ faults mark. refuses_quiet (world_of t log h faults mark) (unknown_table i.table) reply told)
+    by_found place (Some g) at is told = elim told [
+      | inl answer ↦
+          let left = leaves_state t log h s in
+          let rows : root_of g.shown ≡ shown_rows h (read_only_state g) = rows_shown h left.state g left.is (s.reads place g at) in
+          done (Some (read_only_state g)) is (λ faults mark.
+          let w = world_of t log h faults mark in
+          let a : select_answer w.tier (shown_rows h (read_only_state g)) ≡ (w.tier, reply) = ap (select_answer w.tier) (sym rows) ∙ answer w.tier in
+          (ap (λ (y : Answer). let z : World = record w { tier = y.0 } in z) (sym a), ap (λ (y : Answer). y.1) (sym a)))
+      | inr want ↦ quiet_same t log h _ s (λ faults mark. inr (refl, want))
+    ]
+
+    by_place : (p : Option _) → position (is_of_table i.table) t.read_only ≡ p → SelectsShown (option_and_then (slice_get t.read_only) p) i.table reply
+        → Turns t t log h (λ w w'. InOpen w.tier.session (statement.Select i) w w' reply ⊎ WantsMemory w w' reply)
+    by_place None p told = done None (found_over t.read_only i.table ∙ ap (λ x. option_map read_only_state (option_and_then (slice_get t.read_only) x)) p) (λ faults mark. refuses_quiet (world_of t log h faults mark) (unknown_table i.table) reply told)
+    by_place (Some place) p told = by_found place (slice_get t.read_only place) refl (found_over t.read_only i.table ∙ ap (λ x. option_map read_only_state (option_and_then (slice_get t.read_only) x)) p) told
 
 -- the rows of a group
 pub select_rows_step : (t : Tier) (log : List Sealed) (h : List Entry) (i : OneSelect) (reply : Reply) (place : _) (rows : Table) → IsSome t.session → place_named t.groups.items i.table ≡ Some place

@@ -19,14 +19,14 @@ use Rattle.tier_engine.specs.declared.tier.Group.{Group}
 use Rattle.tier_engine.specs.declared.tier.Session.{Session}
 use Rattle.tier_engine.specs.TierStates.{GroupState, TierState, SessionState, session_of, group_of_table, is_named}
 use Rattle.row_types.specs.declared.rule.Rule.{Rule}
-use Rattle.sql_subset.specs.declared.stmt.Load.{Load}
 use Rattle.table_state.specs.declared.operation.Op.{Op}
 use Rattle.tier_engine.specs.declared.reply.Last.TheVariants.{No}
-use Rattle.tier_engine.specs.Refusals.{not_yet, too_long, unknown_session}
+use Rattle.tier_engine.specs.ReadOnlyAnswers.{refreshed_set}
+use Rattle.tier_engine.specs.Refusals.{too_long, unknown_session}
 use Rattle.tier_engine.specs.Answers.{only, faulty, refuses}
 use Rattle.sql_subset.specs.declared.stmt.Call.{Call}
 use Rattle.sql_subset.specs.declared.stmt.Stmt.TheVariants as statement
-use Rattle.tier_engine.specs.Steps.{World, AreUnshared, IsUnshared, told, Quiet, Calls, call_fault, is_long, Drains, Heeds, Asked, Does, ForSession, Parts, TellsBankFault, WantsMemory, asks, stopped}
+use Rattle.tier_engine.specs.Steps.{World, AreUnshared, IsUnshared, told, Quiet, Autorefreshes, Calls, call_fault, is_autorefresh, is_long, Drains, Heeds, Asked, Does, ForSession, Parts, TellsBankFault, WantsMemory, asks, stopped}
 use Rattle.tier_engine.specs.Storing.{place_named}
 use Rattle.tier_engine.specs.Standing.{IsApart, Mark, StandsFor, InOpen, Made, Turns, Serves, ServesPart, AskServes, AsksWhere, tier_state, group_state, session_in, world_of}
 
@@ -227,23 +227,25 @@ parts_as before now f f' m m' t t' reply line line' e part =
     subst (λ (l : Line). ServesPart before now f f' m m' t t' reply (λ w w'. Parts l w w' reply)) (sym e) part
 
 -- ttDrain of the open session.
-pub drain_part : (before now : Option Held) (f f' : ℕ) (m m' : Mark) (t t' : Tier) (reply : Reply) (call : Call) → IsSome t.session → call_fault call.procedure call.arguments ≡ None
+pub drain_part : (before now : Option Held) (f f' : ℕ) (m m' : Mark) (t t' : Tier) (reply : Reply) (call : Call) → IsSome t.session → is_autorefresh call.procedure ≡ false → call_fault call.procedure call.arguments ≡ None
     → ((log : List Sealed) (held : Held) → before ≡ Some held → StandsFor t log held.history → IsApart t log m.shared → Made now f f' m m' t t' log held (λ w w'. Drains w w' reply))
     → (TellsBankFault reply → Rose f f')
     → ServesPart before now f f' m m' t t' reply (λ w w'. InOpen w.tier.session (statement.Call call) w w' reply ⊎ WantsMemory w w' reply)
-drain_part before now f f' m m' t t' reply call some is made cause =
+drain_part before now f f' m m' t t' reply call some other is made cause =
     part_as before now f f' m m' t t' reply (λ w w'. Drains w w' reply) (λ w w'. InOpen w.tier.session (statement.Call call) w w' reply ⊎ WantsMemory w w' reply)
     (λ log h w' d. inl (by_session (world_of t log h f m) w' t.session some d))
     (caused_serves before now f f' m m' t t' reply (λ w w'. Drains w w' reply) made cause)
   where
     by_session : (w w' : World) (o : Option Session) → IsSome o → Drains w w' reply → InOpen (session_in o) (statement.Call call) w w' reply
     by_session w w' None p d = Prim.cc
-    by_session w w' (Some s) p d = subst (λ o. Calls o w w' reply) (sym is) d
+    by_session w w' (Some s) p d =
+        subst (λ (b : Bool). MatchBool b (Autorefreshes (refreshed_set w.tier call.arguments) w w' reply) (Calls (call_fault call.procedure call.arguments) w w' reply)) (sym other)
+        (subst (λ o. Calls o w w' reply) (sym is) d)
 
 -- a call that is refused
-pub call_refused : (before : Option Held) (f : ℕ) (m : Mark) (t : Tier) (reply : Reply) (call : Call) (rule : Rule) → IsSome t.session → call_fault call.procedure call.arguments ≡ Some rule → reply ≡ only (No rule)
+pub call_refused : (before : Option Held) (f : ℕ) (m : Mark) (t : Tier) (reply : Reply) (call : Call) (rule : Rule) → IsSome t.session → is_autorefresh call.procedure ≡ false → call_fault call.procedure call.arguments ≡ Some rule → reply ≡ only (No rule)
     → ServesPart before before f f m m t t reply (λ w w'. InOpen w.tier.session (statement.Call call) w w' reply ⊎ WantsMemory w w' reply)
-call_refused before f m t reply call rule some is e log held told stands apart =
+call_refused before f m t reply call rule some other is e log held told stands apart =
     let w = world_of t log held.history f m in
     record {
       log' = log;
@@ -256,25 +258,25 @@ call_refused before f m t reply call rule some is e log held told stands apart =
   where
     by_session : (w : World) (o : Option Session) → IsSome o → InOpen (session_in o) (statement.Call call) w w reply
     by_session w None p = Prim.cc
-    by_session w (Some s) p = subst (λ o. Calls o w w reply) (sym is) (refl, e)
+    by_session w (Some s) p =
+        subst (λ (b : Bool). MatchBool b (Autorefreshes (refreshed_set w.tier call.arguments) w w reply) (Calls (call_fault call.procedure call.arguments) w w reply)) (sym other)
+        (subst (λ o. Calls o w w reply) (sym is) (refl, e))
 
--- a statement of the open session that isn't there yet
-pub load_part : (before : Option Held) (f : ℕ) (m : Mark) (t : Tier) (reply : Reply) (load : Load) → IsSome t.session → reply ≡ only (No not_yet)
-    → ServesPart before before f f m m t t reply (λ w w'. InOpen w.tier.session (statement.Load load) w w' reply ⊎ WantsMemory w w' reply)
-load_part before f m t reply load some e log held told stands apart =
-    let w = world_of t log held.history f m in
-    record {
-      log' = log;
-      held' = held;
-      tells = told;
-      slots = refl;
-      stands = stands;
-      made = (inl (by_session w t.session some), λ b. absurd (no_refusal not_yet (subst TellsBankFault e b)));
-    }
+-- ttCacheAutorefresh of the open session.
+pub autorefresh_part : (before now : Option Held) (f f' : ℕ) (m m' : Mark) (t t' : Tier) (reply : Reply) (call : Call) → IsSome t.session → is_autorefresh call.procedure ≡ true
+    → ServesPart before now f f' m m' t t' reply (λ w w'. Autorefreshes (refreshed_set w.tier call.arguments) w w' reply ⊎ WantsMemory w w' reply)
+    → ServesPart before now f f' m m' t t' reply (λ w w'. InOpen w.tier.session (statement.Call call) w w' reply ⊎ WantsMemory w w' reply)
+autorefresh_part before now f f' m m' t t' reply call some is part =
+    part_as before now f f' m m' t t' reply (λ w w'. Autorefreshes (refreshed_set w.tier call.arguments) w w' reply ⊎ WantsMemory w w' reply) (λ w w'. InOpen w.tier.session (statement.Call call) w w' reply ⊎ WantsMemory w w' reply)
+    (λ log h w' p. elim p [
+      | inl q ↦ inl (by_session (world_of t log h f m) w' t.session some q)
+      | inr q ↦ inr q
+    ]) part
   where
-    by_session : (w : World) (o : Option Session) → IsSome o → InOpen (session_in o) (statement.Load load) w w reply
-    by_session w None p = Prim.cc
-    by_session w (Some s) p = (refl, e)
+    by_session : (w w' : World) (o : Option Session) → IsSome o → Autorefreshes (refreshed_set w.tier call.arguments) w w' reply → InOpen (session_in o) (statement.Call call) w w' reply
+    by_session w w' None p d = Prim.cc
+    by_session w w' (Some s) p d =
+        subst (λ (b : Bool). MatchBool b (Autorefreshes (refreshed_set w.tier call.arguments) w w' reply) (Calls (call_fault call.procedure call.arguments) w w' reply)) (sym is) d
 
 -- A statement under a label under which no session is open.
 pub closed_part : (before : Option Held) (f : ℕ) (m : Mark) (t : Tier) (reply : Reply) (st : Stmt) (label : List ℕ) → reply ≡ only (No (unknown_session label))

@@ -14,9 +14,11 @@ use Rattle.table_state.specs.Operations.{applied_all, table_of}
 use Rattle.tier_engine.specs.declared.tier.Tier.{Tier}
 use Rattle.tier_engine.specs.declared.tier.Group.{Group}
 use Rattle.tier_engine.specs.Commits.{RiseBetween}
-use Rattle.tier_engine.specs.Refusals.{is_joined}
-use Rattle.tier_engine.specs.Standing.{StandsFor, Shows, ShowAll, AreApart, HasOwnKeys, bare, group_state, inserts_at, is_insert, is_in_group, is_stored, ops_of, own_in, tier_state, session_in}
+use Rattle.group_defs.specs.GroupRules.{is_joined}
+use Rattle.tier_engine.specs.Standing.{StandsFor, Shows, ShowAll, HasOwnKeys, bare, group_state, inserts_at, is_insert, is_in_group, is_stored, ops_of, own_in, tier_state, session_in}
+use Rattle.tier_engine.proofs.GroupedLaws.{cover, defined_as, distinct_as}
 use Rattle.tier_engine.proofs.OpLaws.{get_inserts, inserts_schema}
+use Rattle.tier_engine.proofs.ReadLaws.{reads_as, sets_as}
 use Rattle.tier_engine.proofs.ShownLaws.{get_before}
 use Rattle.tier_engine.proofs.StandingLaws.{are_inserts}
 
@@ -52,22 +54,18 @@ stored_bare : (own : List Op) (groups : List Group) (ops : List Op) → list_all
 stored_bare own groups [] = refl
 stored_bare own groups (op ∷ ops) = ap (λ b. (is_insert op && b) && list_all (is_stored (map (bare own) groups)) ops) (in_bare own groups op) ∙ ap (λ b. is_stored groups op && b) (stored_bare own groups ops)
 
-apart_bare : (own : List Op) (groups : List Group) → AreApart groups → AreApart (map (bare own) groups)
-apart_bare own [] apart = tt
-apart_bare own (g ∷ groups) apart = (same groups ∙ apart.0, apart_bare own groups apart.1)
-  where
-    same : (hs : List Group) → list_any (λ h. nat_eq g.table.0 h.table.0) (map (bare own) hs) ≡ list_any (λ h. nat_eq g.table.0 h.table.0) hs
-    same [] = refl
-    same (h ∷ hs) = ap (λ b. nat_eq g.table.0 h.table.0 || b) (same hs)
+bare_tables : (own : List Op) (groups : List Group) → map (λ (x : Group). x.table) (map (bare own) groups) ≡ map (λ (x : Group). x.table) groups
+bare_tables own [] = refl
+bare_tables own (g ∷ groups) = ap (λ l. g.table ∷ l) (bare_tables own groups)
 
 pub bare_states : (own : List Op) (groups : List Group) → map (group_state []) (map (bare own) groups) ≡ map (group_state own) groups
 bare_states own [] = refl
 bare_states own (g ∷ groups) = ap (λ l. group_state own g ∷ l) (bare_states own groups)
 
 -- the tier without the session's writes
-pub stands_bare : (t t' : Tier) (log : List Sealed) (h : List Entry) (s : StandsFor t log h) → t'.known ≡ t.known → t'.unsettled.items ≡ t.unsettled.items → t'.next ≡ t.next
+pub stands_bare : (t t' : Tier) (log : List Sealed) (h : List Entry) (s : StandsFor t log h) → t'.known ≡ t.known → t'.read_only ≡ t.read_only → t'.unsettled.items ≡ t.unsettled.items → t'.next ≡ t.next
     → t'.groups.items ≡ map (bare (own_in t.session)) t.groups.items → own_in t'.session ≡ [] → HasOwnKeys t'.groups.items t'.session → StandsFor t' log h
-stands_bare t t' log h s known unsettled next groups none keys =
+stands_bare t t' log h s known read_only unsettled next groups none keys =
     let own = own_in t.session in
     let are : list_all is_insert own ≡ true = are_inserts t.groups.items own s.writing in
     record {
@@ -91,15 +89,18 @@ stands_bare t t' log h s known unsettled next groups none keys =
       writing = ap (list_all (is_stored t'.groups.items)) none;
       shows = subst (λ (l : List Op). ShowAll s.base (ops_of log) l t'.groups.items) (sym none)
           (subst (λ (gs : List Group). ShowAll s.base (ops_of log) [] gs) (sym groups) (bare_all s.base s.top (ops_of log) own t.groups.items are s.over s.shows));
-      apart = subst AreApart (sym groups) (apart_bare own t.groups.items s.apart);
+      distinct = distinct_as t.groups.items t'.groups.items t.read_only t'.read_only (ap (map (λ (x : Group). x.table)) groups ∙ bare_tables own t.groups.items) (ap (map cover) read_only) s.distinct;
       keys = keys;
+      defined = defined_as h t.read_only t'.read_only (ap (map cover) read_only) s.defined;
+      reads = reads_as h t.read_only t'.read_only read_only s.reads;
+      sets = sets_as t.read_only t'.read_only read_only s.sets;
     }
 
 -- its state
-pub state_bare : (t t' : Tier) (log : List Sealed) → t'.known ≡ t.known → t'.unsettled.items ≡ t.unsettled.items → t'.next ≡ t.next → t'.groups.items ≡ map (bare (own_in t.session)) t.groups.items → own_in t'.session ≡ []
+pub state_bare : (t t' : Tier) (log : List Sealed) → t'.known ≡ t.known → t'.read_only ≡ t.read_only → t'.unsettled.items ≡ t.unsettled.items → t'.next ≡ t.next → t'.groups.items ≡ map (bare (own_in t.session)) t.groups.items → own_in t'.session ≡ []
     → tier_state t' log ≡ record (tier_state t log) { session = session_in t'.session }
-state_bare t t' log known unsettled next groups none =
+state_bare t t' log known read_only unsettled next groups none =
     let same : map (group_state (own_in t'.session)) t'.groups.items ≡ map (group_state (own_in t.session)) t.groups.items =
     ap (λ l. map (group_state l) t'.groups.items) none ∙ ap (map (group_state [])) groups ∙ bare_states (own_in t.session) t.groups.items
     in
-    λ i. record { known = known i; groups = same i; session = session_in t'.session; log = log; unsettled = unsettled i; next = next i }
+    λ i. record { known = known i; groups = same i; read_only = map Rattle.tier_engine.specs.Standing.read_only_state (read_only i); session = session_in t'.session; log = log; unsettled = unsettled i; next = next i }

@@ -30,6 +30,7 @@ use Rattle.tier_engine.specs.Steps.{Finds, found_answer, put_answer}
 use Rattle.tier_engine.specs.Storing.{IsSame, Settles, SettlesTier, TakesOne, TakesOneBack, TakenOff, without}
 use Rattle.tier_engine.specs.Standing.{IsApart, Mark, StandsFor, Made, Shows, group_state, ops_of, own_in, session_state, tier_state}
 use Rattle.tier_engine.proofs.BankSteps.{LeavesState, leaves_state, was_told}
+use Rattle.tier_engine.proofs.GroupedLaws.{apart_of}
 use Rattle.tier_engine.proofs.InsertSteps.{AppliesLaw, HasPut, asked_of_bank, stands_put, state_put, set_there}
 use Rattle.tier_engine.proofs.OthersStand.{apart_as, stands_others}
 use Rattle.tier_engine.proofs.PutLaws.{remove_insert, set_back, with_rows}
@@ -102,6 +103,7 @@ took_back t t1 t2 place g ss row true p back = by_session t2.session refl (subst
         record {
           known = back.0.known ∙ p.known;
           groups = groups (sym last.1);
+          read_only = back.0.read_only ∙ p.read_only;
           session = e ∙ same ∙ sym p.opened;
           unsettled = back.0.unsettled ∙ p.unsettled;
           next = back.0.next ∙ p.next;
@@ -168,7 +170,7 @@ found_at law t t1 t2 log h h' place g ss row asked reply s p table key taken fit
           history = subst (λ (kk : List Value). TellsRow g.table kk (Ok None) h h') key history;
           state = s.top;
           sees = sees_it;
-          answer = (λ i. ((same_state t1 t2 log done.0 ∙ state_put t t1 log place g ss row s.apart p) i, done.1 i))
+          answer = (λ i. ((same_state t1 t2 log done.0 ∙ state_put t t1 log place g ss row (apart_of t.groups.items t.read_only s.distinct) p) i, done.1 i))
               ∙ sym (ap (λ b. cond b (refuses (tier_state t log) (key_taken g.def k)) (inserted (tier_state t log) (session_state ss) (group_state own g) row)) absent);
         }
     by_result (Ok (Some r)) call done =

@@ -19,7 +19,9 @@ use Rattle.tier_engine.specs.TierStates.{TierState, seen, is_named, group_of_tab
 use Rattle.tier_engine.specs.Answers.{faulty}
 use Rattle.tier_engine.specs.Steps.{World, WantsMemory}
 use Rattle.tier_engine.specs.Storing.{IsSame, place_named}
-use Rattle.tier_engine.specs.Standing.{Mark, StandsFor, HasOwnKeys, Shows, ShowAll, AreApart, Turns, group_state, is_insert, is_stored, is_in_group, ops_of, own_in, session_in, tier_state}
+use Rattle.tier_engine.specs.Standing.{Mark, StandsFor, HasOwnKeys, Shows, ShowAll, Turns, group_state, is_insert, is_stored, is_in_group, ops_of, own_in, read_only_state, session_in, tier_state}
+use Rattle.tier_engine.proofs.GroupedLaws.{cover, defined_as, distinct_as}
+use Rattle.tier_engine.proofs.ReadLaws.{reads_as, sets_as}
 
 pub and_left : (a b : Bool) → (a && b) ≡ true → a ≡ true
 and_left true b e = refl
@@ -41,9 +43,9 @@ are_inserts groups (op ∷ ops) all =
     (are_inserts groups ops (and_right (is_stored groups op) (list_all (is_stored groups) ops) all))
 
 -- the same tier but for its session, which has written the same
-pub stands_beside : (t t' : Tier) (log : List Sealed) (h : List Entry) (s : StandsFor t log h) → t'.known ≡ t.known → t'.unsettled.items ≡ t.unsettled.items → t'.next ≡ t.next → t'.groups.items ≡ t.groups.items
+pub stands_beside : (t t' : Tier) (log : List Sealed) (h : List Entry) (s : StandsFor t log h) → t'.known ≡ t.known → t'.unsettled.items ≡ t.unsettled.items → t'.next ≡ t.next → t'.groups.items ≡ t.groups.items → t'.read_only ≡ t.read_only
     → own_in t'.session ≡ own_in t.session → HasOwnKeys t.groups.items t'.session → StandsFor t' log h
-stands_beside t t' log h s known unsettled next groups own keys = record {
+stands_beside t t' log h s known unsettled next groups read_only own keys = record {
   rise = subst (λ n. RiseBetween 1 log n) (sym next) s.rise;
   last = subst (λ n. n ≤ 2 ^ 63) (sym next) s.last;
   came = s.came;
@@ -63,19 +65,23 @@ stands_beside t t' log h s known unsettled next groups own keys = record {
   logged = ap (λ gs. list_all (is_stored gs) (ops_of log)) groups ∙ s.logged;
   writing = ap (λ l. list_all (is_stored t'.groups.items) l) own ∙ ap (λ gs. list_all (is_stored gs) (own_in t.session)) groups ∙ s.writing;
   shows = subst (λ (l : List Op). ShowAll s.top (ops_of log) l t'.groups.items) (sym own) (subst (λ (gs : List Group). ShowAll s.top (ops_of log) (own_in t.session) gs) (sym groups) s.shows);
-  apart = subst AreApart (sym groups) s.apart;
+  distinct = distinct_as t.groups.items t'.groups.items t.read_only t'.read_only (ap (map (λ (x : Group). x.table)) groups) (ap (map cover) read_only) s.distinct;
   keys = subst (λ (gs : List Group). HasOwnKeys gs t'.session) (sym groups) keys;
+  defined = defined_as h t.read_only t'.read_only (ap (map cover) read_only) s.defined;
+  reads = reads_as h t.read_only t'.read_only read_only s.reads;
+  sets = sets_as t.read_only t'.read_only read_only s.sets;
 }
 
 -- nothing changed
 pub same_stands : (t t' : Tier) (log : List Sealed) (h : List Entry) → IsSame t t' → StandsFor t log h → StandsFor t' log h
 same_stands t t' log h e s =
-    stands_beside t t' log h s e.known e.unsettled e.next e.groups (ap own_in e.session) (subst (λ (o : Option Session). HasOwnKeys t.groups.items o) (sym e.session) s.keys)
+    stands_beside t t' log h s e.known e.unsettled e.next e.groups e.read_only (ap own_in e.session) (subst (λ (o : Option Session). HasOwnKeys t.groups.items o) (sym e.session) s.keys)
 
 pub same_state : (t t' : Tier) (log : List Sealed) → IsSame t t' → tier_state t' log ≡ tier_state t log
 same_state t t' log e = λ i. record {
   known = e.known i;
   groups = map (group_state (own_in (e.session i))) (e.groups i);
+  read_only = map read_only_state (e.read_only i);
   session = session_in (e.session i);
   log = log;
   unsettled = e.unsettled i;

@@ -1,6 +1,6 @@
 -- What each statement answers where it makes no call of the backing database, and what the tier keeps then.
 
-use Rattle.std.specs.Prelude.{ℕ, ◌+◌, Bool, true, false, if◌then◌else◌, List, [], ◌∷◌, ◌++◌, Option, Some, None, map, slice_get}
+use Rattle.std.specs.Prelude.{ℕ, ◌+◌, List, [], ◌∷◌, ◌++◌, Option, Some, None, map, slice_get, unwrap_or}
 use Rattle.std.specs.FinMap.{values, len}
 use Rattle.std.specs.FinSet as set
 use Rattle.row_types.specs.declared.rule.Rule.{Rule}
@@ -15,15 +15,19 @@ use Rattle.table_state.specs.declared.history.Sealed.{Sealed}
 use Rattle.table_state.specs.Names.{place_of_table}
 use Rattle.table_state.specs.Tables.{Table}
 use Rattle.sql_subset.specs.declared.request.OpenOptions.{OpenOptions}
+use Rattle.sql_subset.specs.declared.stmt.Autorefresh.{Autorefresh}
 use Rattle.sql_subset.specs.declared.stmt.CreateGroup.{CreateGroup}
 use Rattle.sql_subset.specs.declared.stmt.GroupKind.{GroupKind}
 use Rattle.sql_subset.specs.declared.stmt.GroupKind.TheVariants.{ReadOnly, AsynchronousWritethrough}
+use Rattle.sql_subset.specs.Groups.{default_refresh}
 use Rattle.tier_engine.specs.declared.reply.Reply.{Reply}
 use Rattle.tier_engine.specs.declared.reply.Last.{Last}
 use Rattle.tier_engine.specs.declared.reply.Last.TheVariants.{Done, No, Fault}
 use Rattle.tier_engine.specs.Replying.{rows_bytes}
 use Rattle.tier_engine.specs.TierStates.{TierState, SessionState, GroupState, keys_after, group_of_table}
-use Rattle.tier_engine.specs.Refusals.{not_yet, unknown_table, open_fault, group_fault, select_fault, commit_fault}
+use Rattle.instances.specs.declared.tree.Tree.{Tree}
+use Rattle.tier_engine.specs.ReadOnlyStates.{ReadOnlyState, read_only_over}
+use Rattle.tier_engine.specs.Refusals.{unknown_table, open_fault, group_fault, select_fault, commit_fault}
 
 abbrev pub only : Last → Reply
 only last = record { notes = []; rows = []; last = last }
@@ -64,31 +68,55 @@ rollback_answer t s = (with_own t s [], only (Done 0))
 abbrev pub new_group : List ℕ → TableId → TableDef → GroupState
 new_group name table def = record { name = name; table = table; def = def; keys = set.empty }
 
+-- the AUTOREFRESH clause of a READONLY group
+abbrev pub refresh_of : CreateGroup → Autorefresh
+refresh_of d = unwrap_or d.autorefresh default_refresh
+
+-- one table without condition
+abbrev pub only_table : TableId → Tree
+only_table table = record { root = record { table = table; filter = None }; children = [] }
+
+-- a READONLY group over a table without condition, which isn't loaded yet
+abbrev pub new_read_only : CreateGroup → TableId → TableDef → ReadOnlyState
+new_read_only d table def = record {
+  name = d.name;
+  tree = only_table table;
+  def = def;
+  mode = (refresh_of d).mode;
+  interval = (refresh_of d).interval;
+  state = (refresh_of d).state;
+  position = None;
+}
+
+-- the tier with a group of this kind more
+abbrev pub with_group : GroupKind → TierState → CreateGroup → TableId → TableDef → TierState
+with_group ReadOnly t d table def = record t { read_only = t.read_only ++ new_read_only d table def ∷ [] }
+with_group AsynchronousWritethrough t d table def = record t { groups = t.groups ++ new_group d.name table def ∷ [] }
+
 abbrev pub group_over : TierState → SessionState → CreateGroup → TableId → List TableDef → Option TableDef → Answer
 group_over t s d table schema None = refuses t (unknown_table d.table.name)
-group_over t s d table schema (Some def) =
-    unless t (group_fault t.groups s.own d table def schema) (record t { groups = t.groups ++ new_group d.name table def ∷ [] }, only (Done 0))
+group_over t s d table schema (Some def) = unless t (group_fault t.groups t.read_only s.own d table def schema) (with_group d.kind t d table def, only (Done 0))
 
 abbrev pub group_in : TierState → SessionState → CreateGroup → List TableDef → Option TableId → Answer
 group_in t s d schema None = refuses t (unknown_table d.table.name)
 group_in t s d schema (Some table) = group_over t s d table schema (slice_get schema table.0)
 
 -- where the schema isn't known and the table is that of a group: it is refused, at the latest for that
+abbrev pub group_shown : TierState → SessionState → CreateGroup → Option ReadOnlyState → Answer
+group_shown t s d None = refuses t (unknown_table d.table.name)
+group_shown t s d (Some g) = group_over t s d g.tree.root.table [] (Some g.def)
+
 abbrev pub group_cached : TierState → SessionState → CreateGroup → Option GroupState → Answer
-group_cached t s d None = refuses t (unknown_table d.table.name)
+group_cached t s d None = group_shown t s d (read_only_over t.read_only d.table.name)
 group_cached t s d (Some g) = group_over t s d g.table [] (Some g.def)
 
+-- CREATE CACHE GROUP: a READONLY or an asynchronous one over a backing table
 abbrev pub group_known : TierState → SessionState → CreateGroup → Option (List TableDef) → Answer
 group_known t s d None = group_cached t s d (group_of_table t.groups d.table.name)
 group_known t s d (Some schema) = group_in t s d schema (place_of_table schema d.table.name)
 
-abbrev pub is_asynchronous : GroupKind → Bool
-is_asynchronous ReadOnly = false
-is_asynchronous AsynchronousWritethrough = true
-
--- CREATE CACHE GROUP: an asynchronous one over a backing table. Groups of the other kinds aren't there yet.
 abbrev pub group_answer : TierState → SessionState → CreateGroup → Answer
-group_answer t s d = if is_asynchronous d.kind then group_known t s d t.known else refuses t not_yet
+group_answer t s d = group_known t s d t.known
 
 -- SELECT * FROM a cached table of which the session sees these rows
 abbrev pub select_answer : TierState → Table → Answer
@@ -105,6 +133,7 @@ abbrev pub committed : TierState → SessionState → TierState
 committed t s = record {
   known = t.known;
   groups = map (group_after s.own) t.groups;
+  read_only = t.read_only;
   session = Some (record { label = s.label; own = [] });
   log = t.log ++ sealed_own t s.own ∷ [];
   unsettled = t.unsettled ++ sealed_own t s.own ∷ [];

@@ -1,6 +1,6 @@
 -- What the stored tier makes of the console's writes, without a word on what it stands for.
 
-use Rattle.std.specs.Prelude.{◌≡◌, ℕ, List, Option, None, Some, Bool, Result, Ok, Err, is_some, map, unwrap_or}
+use Rattle.std.specs.Prelude.{◌≡◌, ℕ, List, None, Some, Bool, Result, Ok, Err, is_some, map, unwrap_or}
 use Rattle.row_types.specs.declared.rule.Refused.{Refused}
 use Rattle.row_types.specs.declared.rule.Refused.TheVariants as refused
 use Rattle.table_state.specs.declared.definition.TableDef.{TableDef}

@@ -1,49 +1,35 @@
 -- The first rule that a statement breaks, in the order of refusals. (This project's rule; the rules themselves are those
 -- of TimesTen SQL Reference, CREATE TABLE, CREATE CACHE GROUP and INSERT.)
 
-use Rattle.std.specs.Prelude.{ℕ, List, [], ◌∷◌, ◌==◌, Bool, true, false, ◌&&◌, ◌||◌, not, nat_eq, nat_lt, nat_le, Option, Some, None, if◌then◌else◌, length, is_some}
+use Rattle.std.specs.Prelude.{ℕ, List, [], ◌∷◌, Bool, false, ◌&&◌, ◌||◌, not, nat_eq, nat_lt, nat_le, Option, Some, None, if◌then◌else◌, length, is_some, position, ◌+◌}
 use Rattle.std.specs.List.{list_any}
 use Rattle.std.specs.Option.{option_map, option_and_then, option_or}
-use Rattle.std.specs.Cmp.Lexicographic.{pointwise}
 use Rattle.std.specs.FinMap.{len}
 use Rattle.tier_base.specs.declared.code.Code.TheVariants as code
-use Rattle.tier_base.specs.declared.limit.Limit.{Limit}
 use Rattle.tier_base.specs.declared.limit.Limit.TheVariants as limit
 use Rattle.tier_base.specs.Limits.{greatest}
 use Rattle.tier_base.specs.declared.number.TableId.{TableId}
-use Rattle.row_types.specs.declared.column.Column.{Column}
-use Rattle.row_types.specs.declared.column.Ty.{Ty}
-use Rattle.row_types.specs.declared.column.Ty.TheVariants as ty
-use Rattle.row_types.specs.declared.declaration.ColumnDeclaration.{ColumnDeclaration}
 use Rattle.row_types.specs.declared.declaration.TableDeclaration.{TableDeclaration}
 use Rattle.row_types.specs.declared.rule.Detail.TheVariants as detail
-use Rattle.row_types.specs.declared.rule.Letter.{Letter}
-use Rattle.row_types.specs.declared.rule.Letter.TheVariants as letter
 use Rattle.row_types.specs.declared.rule.Rule.{Rule}
 use Rattle.row_types.specs.declared.value.Value.{Value}
 use Rattle.sql_subset.specs.declared.request.OpenOptions.{OpenOptions}
 use Rattle.sql_subset.specs.declared.stmt.CreateGroup.{CreateGroup}
 use Rattle.sql_subset.specs.declared.stmt.Literal.{Literal}
-use Rattle.sql_subset.specs.declared.stmt.Literal.TheVariants.{Null, Integer, Text}
 use Rattle.table_state.specs.declared.definition.ForeignKey.{ForeignKey}
 use Rattle.table_state.specs.declared.definition.TableDef.{TableDef}
 use Rattle.table_state.specs.declared.operation.Op.{Op}
 use Rattle.table_state.specs.declared.refusal.ApplyError.{ApplyError}
 use Rattle.table_state.specs.declared.refusal.ApplyError.TheVariants as error
-use Rattle.table_state.specs.Names.{place_of_table}
-use Rattle.table_state.specs.Declarations.{broken, broken_at, fault_of, resolved, limit_of, has_type, wrong_name, type_fault, key_count, key_places}
+use Rattle.table_state.specs.Declarations.{broken, broken_at, fault_of, resolved, limit_of}
 use Rattle.table_state.specs.Refusals.{misfit}
 use Rattle.table_state.specs.Tables.{Table}
-use Rattle.tier_engine.specs.LiteralValues.{values_of}
+use Rattle.group_defs.specs.declared.group.Beside.{Beside}
+use Rattle.group_defs.specs.GroupRules.{definition_fault}
+use Rattle.group_defs.specs.Limits.{at_limit, past}
+use Rattle.group_defs.specs.LiteralValues.{takes_all, values_of}
+use Rattle.tier_engine.specs.ReadOnlyStates.{ReadOnlyState, covers, is_called}
 use Rattle.tier_engine.specs.TierStates.{TierState, SessionState, GroupState, is_named}
-
--- 119: a limit would be passed
-abbrev pub past : Limit → Option Rule
-past l = broken code.Limit (detail.Limit l)
-
--- 119: the count is at the limit
-abbrev pub at_limit : Limit → ℕ → Option Rule
-at_limit l n = if nat_lt n (greatest l) then None else past l
 
 -- No statement is answered so that is there already. The others are, until they come.
 abbrev pub not_yet : Rule
@@ -95,74 +81,31 @@ abbrev pub table_fault : List GroupState → TableDeclaration → List TableDef 
 table_fault groups d schema =
     option_or (fault_of d schema) (option_or (writethrough_parent groups d (resolved d schema)) (option_and_then past (limit_of (resolved d schema) schema)))
 
--- 102: the table isn't at the backing database
-abbrev pub missing_table : List TableDef → List ℕ → Option Rule
-missing_table schema name = if is_some (place_of_table schema name) then None else Some (unknown_table name)
-
--- 113: the name is another group's
-abbrev pub taken_group : List GroupState → List ℕ → Option Rule
-taken_group groups name = if list_any (λ g. is_named g.name name) groups then broken code.NameInUse (detail.Name name) else None
+-- a group has this name
+abbrev pub is_group : List GroupState → List ReadOnlyState → List ℕ → Bool
+is_group groups read_only name = list_any (λ g. is_named g.name name) groups || is_some (position (is_called name) read_only)
 
 -- 122: the session has uncommitted writes
 abbrev pub open_writes : List Op → Option Rule
 open_writes [] = None
 open_writes (op ∷ ops) = broken code.TransactionOpen detail.Nothing
 
--- the columns have the same names and types
-abbrev pub same_columns : List ColumnDeclaration → List Column → Bool
-same_columns [] [] = true
-same_columns (a ∷ as_declared) (b ∷ columns) = is_named a.name b.name && has_type (Some a) b.ty && same_columns as_declared columns
-same_columns [] (b ∷ columns) = false
-same_columns (a ∷ as_declared) [] = false
+-- the table is that of some group
+abbrev pub is_in_some : List GroupState → List ReadOnlyState → TableId → Bool
+is_in_some groups read_only table = is_grouped groups table || is_some (position (covers table) read_only)
 
--- 114 a: there is one primary key, and it is the backing table's
-abbrev pub has_same_key : TableDeclaration → TableDef → Bool
-has_same_key d def = key_count d == 1 && pointwise nat_eq (key_places d) def.primary_key
+-- what the definition of a group comes beside
+abbrev pub beside_groups : List GroupState → List ReadOnlyState → List Op → CreateGroup → TableId → Beside
+beside_groups groups read_only own d table = record {
+  has_name = is_group groups read_only d.name;
+  has_writes = nat_lt 0 (length own);
+  has_table = is_in_some groups read_only table;
+  is_full = is_some (at_limit limit.Groups (length groups + length read_only));
+}
 
--- the table has a foreign key, or some table refers to it
-abbrev pub refers : TableId → Option ForeignKey → Bool
-refers table None = false
-refers table (Some foreign) = nat_eq foreign.parent.0 table.0
-
-abbrev pub is_joined : TableId → TableDef → List TableDef → Bool
-is_joined table def schema = is_some def.foreign_key || list_any (λ other. refers table other.foreign_key) schema
-
-abbrev pub lettered : Letter → Bool → Option Rule
-lettered l breaks = if breaks then broken code.DefinitionRule (detail.Letter l) else None
-
--- 114: another primary key (a); a table of a group already (d); other columns (e); AUTOREFRESH on writethrough (g); a
--- foreign key to or from a table outside of the group (j)
-abbrev pub letter_fault : Bool → CreateGroup → TableId → TableDef → List TableDef → Option Rule
-letter_fault grouped d table def schema =
-    option_or (lettered letter.A (not (has_same_key d.table def)))
-    (option_or (lettered letter.D grouped)
-    (option_or (lettered letter.E (not (same_columns d.table.columns def.columns)))
-    (option_or (lettered letter.G (is_some d.autorefresh)) (lettered letter.J (is_joined table def schema)))))
-
--- CREATE CACHE GROUP of an asynchronous group over a table at the backing database: 103, 113, 122, 105, 114, 119
-abbrev pub group_fault : List GroupState → List Op → CreateGroup → TableId → TableDef → List TableDef → Option Rule
-group_fault groups own d table def schema =
-    option_or (broken_at code.UnknownColumn (wrong_name d.table))
-    (option_or (taken_group groups d.name)
-    (option_or (open_writes own)
-    (option_or (type_fault d.table.columns) (option_or (letter_fault (is_grouped groups table) d table def schema) (at_limit limit.Groups (length groups))))))
-
--- a column of this type takes such a literal: NULL and '' have no type
-abbrev pub takes : Ty → Literal → Bool
-takes t Null = true
-takes t (Text []) = true
-takes (ty.Varchar2 n) (Text (b ∷ bytes)) = true
-takes t (Text (b ∷ bytes)) = false
-takes ty.TtInteger (Integer literal) = true
-takes ty.TtBigint (Integer literal) = true
-takes t (Integer literal) = false
-
--- as many literals as columns, each of a kind that its column takes
-abbrev pub takes_all : List Column → List Literal → Bool
-takes_all [] [] = true
-takes_all (c ∷ columns) (l ∷ literals) = takes c.ty l && takes_all columns literals
-takes_all [] (l ∷ literals) = false
-takes_all (c ∷ columns) [] = false
+-- CREATE CACHE GROUP over a table at the backing database: 103, 113, 122, 105, 114, 119
+abbrev pub group_fault : List GroupState → List ReadOnlyState → List Op → CreateGroup → TableId → TableDef → List TableDef → Option Rule
+group_fault groups read_only own d table def schema = definition_fault (beside_groups groups read_only own d table) d table def schema
 
 abbrev pub rule_in : ApplyError → Option Rule
 rule_in (error.Rule rule) = Some rule

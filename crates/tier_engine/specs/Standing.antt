@@ -3,7 +3,7 @@
 use Rattle.std.specs.Prelude.{◌≡◌, ℕ, ◌+◌, ◌≤◌, ◌^◌, List, [], ◌∷◌, ◌++◌, Bool, true, false, ◌&&◌, nat_eq, Option, Some, None, Result, Ok, Err, if◌then◌else◌, map, take, drop, length, slice_get}
 use Rattle.std.specs.Option.{IfSome, option_map}
 use Rattle.std.specs.Bool.{MatchBool}
-use Rattle.std.specs.List.{list_all, list_any, flat_map}
+use Rattle.std.specs.List.{IsDistinct, list_all, list_any, flat_map}
 use Rattle.std.specs.FinMap.{keys, get, contains_key, remove}
 use Rattle.std.specs.FinSet.{FinSet, from_list}
 use Rattle.row_types.specs.Order.{key_order}
@@ -27,8 +27,14 @@ use Rattle.tier_engine.specs.declared.tier.OwnKey.{OwnKey}
 use Rattle.tier_engine.specs.declared.tier.Session.{Session}
 use Rattle.tier_engine.specs.declared.reply.Reply.{Reply}
 use Rattle.tier_engine.specs.Commits.{RiseBetween, virtual_state, in_commit_order, own_entries}
+use Rattle.autorefresh.specs.declared.group.ReadOnlyGroup.{ReadOnlyGroup}
+use Rattle.autorefresh.specs.declared.group.Shown.{Shown}
+use Rattle.autorefresh.specs.Refreshes.{tree_tables}
+use Rattle.autorefresh.specs.Sets.{AllShow, OnePosition}
+use Rattle.instances.specs.Trees.{same_table}
+use Rattle.tier_engine.specs.ReadOnlyStates.{ReadOnlyState}
 use Rattle.tier_engine.specs.TierStates.{TierState, GroupState, SessionState, opened}
-use Rattle.tier_engine.specs.Refusals.{is_joined}
+use Rattle.group_defs.specs.GroupRules.{is_joined}
 use Rattle.sql_subset.specs.declared.stmt.Stmt.{Stmt}
 use Rattle.tier_engine.specs.Steps.{World, AreUnshared, LineStep, Asked, InSession, IsCaused, stopped}
 
@@ -70,11 +76,24 @@ bare own g = record g { rows = committed_rows own g }
 abbrev pub group_state : List Op → Group → GroupState
 group_state own g = record { name = g.name; table = g.table; def = g.def; keys = key_set (committed_rows own g) }
 
+-- a READONLY group, whose rows are said by its position
+abbrev pub read_only_state : ReadOnlyGroup → ReadOnlyState
+read_only_state g = record {
+  name = g.name;
+  tree = g.tree;
+  def = g.def;
+  mode = g.mode;
+  interval = g.interval;
+  state = g.state;
+  position = option_map (λ (shown : Shown). shown.position.0) g.shown;
+}
+
 -- the stored tier, with the list of committed transactions that it doesn't store
 abbrev pub tier_state : Tier → List Sealed → TierState
 tier_state t log = record {
   known = t.known;
   groups = map (group_state (own_in t.session)) t.groups.items;
+  read_only = map read_only_state t.read_only;
   session = session_in t.session;
   log = log;
   unsettled = t.unsettled.items;
@@ -127,6 +146,19 @@ abbrev pub AreApart : List Group → Type 0
 AreApart [] = Unit {0}
 AreApart (g ∷ groups) = (list_any (λ h. nat_eq g.table.0 h.table.0) groups ≡ false) × AreApart groups
 
+-- the tables of all groups, of either kind
+abbrev pub grouped_tables : List Group → List ReadOnlyGroup → List TableId
+grouped_tables groups read_only = map (λ g. g.table) groups ++ flat_map (λ g. tree_tables g.tree) read_only
+
+-- no table is in two groups, or twice in one
+abbrev pub AreDistinct : List Group → List ReadOnlyGroup → Type 0
+AreDistinct groups read_only = IsDistinct same_table (grouped_tables groups read_only)
+
+-- The definition of each READONLY group's root table is the one of the schema that the history leaves.
+abbrev pub AreDefined : List Entry → List ReadOnlyGroup → Type 0
+AreDefined history read_only =
+    (s : TableState) (place : ℕ) (g : ReadOnlyGroup) → state_of history ≡ Some s → slice_get read_only place ≡ Some g → slice_get s.schema g.tree.root.table.0 ≡ Some g.def
+
 -- the operations of these transactions
 abbrev pub ops_of : List Sealed → List Op
 ops_of log = flat_map (λ s. s.ops) log
@@ -156,7 +188,9 @@ HasOwnKeys groups (Some s) = OwnKeys groups s.own s.keys
 
 -- The tier stands for this list of committed transactions over this history. The history has a front of the list, in its
 -- order, which is at most one longer than what the tier has receipts of, and entries of others between. The virtual
--- state, and that with the session's writes over it, are defined, and the groups show what they are to show of it.
+-- state, and that with the session's writes over it, are defined, and the writethrough groups show what they are to show
+-- of it. Each READONLY group is over a table as the history defines it and shows its view in the backing state at its
+-- position, and those of one set have one position. No table is in two groups.
 pub record StandsFor (t : Tier) (log : List Sealed) (history : List Entry) : Type 0 where
   pub rise : RiseBetween 1 log t.next
   pub last : t.next ≤ 2 ^ 63
@@ -177,8 +211,11 @@ pub record StandsFor (t : Tier) (log : List Sealed) (history : List Entry) : Typ
   pub logged : list_all (is_stored t.groups.items) (ops_of log) ≡ true
   pub writing : list_all (is_stored t.groups.items) (own_in t.session) ≡ true
   pub shows : ShowAll top (ops_of log) (own_in t.session) t.groups.items
-  pub apart : AreApart t.groups.items
+  pub distinct : AreDistinct t.groups.items t.read_only
   pub keys : HasOwnKeys t.groups.items t.session
+  pub defined : AreDefined history t.read_only
+  pub reads : AllShow history t.read_only
+  pub sets : OnePosition t.read_only
 
 -- where a site stands: its moment, and the tables that others change, too
 pub record Mark : Type 0 where
@@ -192,7 +229,7 @@ mark_of moment shared = record { moment = moment; shared = shared }
 abbrev pub world_of : Tier → List Sealed → List Entry → ℕ → Mark → World
 world_of t log history faults mark = record { tier = tier_state t log; history = history; bank_faults = faults; moment = mark.moment; shared = mark.shared }
 
--- no group of the stored tier is over a table that others change
+-- no writethrough group of the stored tier is over a table that others change
 abbrev pub IsApart : Tier → List Sealed → List TableId → Type 0
 IsApart t log shared = AreUnshared shared (tier_state t log).groups
 

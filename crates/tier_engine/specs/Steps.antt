@@ -1,6 +1,6 @@
 -- What one request line does, and what a list of them does.
 
-use Rattle.std.specs.Prelude.{◌≡◌, ℕ, ◌+◌, ◌-◌, ◌^◌, ◌≤◌, ◌⊎◌, min, nat_eq, nat_lt, if◌then◌else◌, List, [], ◌∷◌, ◌++◌, Bool, true, false, ◌&&◌, not, Option, Some, None, length, codes, is_none, is_some, map, Result, Ok, Err}
+use Rattle.std.specs.Prelude.{◌≡◌, ℕ, ◌+◌, ◌-◌, ◌^◌, ◌≤◌, ◌⊎◌, min, nat_eq, nat_lt, if◌then◌else◌, List, [], ◌∷◌, ◌++◌, Bool, true, false, ◌&&◌, ◌||◌, not, Option, Some, None, length, codes, is_none, is_some, map, position, Result, Ok, Err}
 use Rattle.std.specs.Option.{option_map, unwrap_or}
 use Rattle.std.specs.FinMap.{contains_key}
 use Rattle.std.specs.Bool.{MatchBool}
@@ -10,7 +10,6 @@ use Rattle.tier_base.specs.declared.limit.Limit.TheVariants as limit
 use Rattle.tier_base.specs.Limits.{greatest}
 use Rattle.tier_base.specs.declared.code.Code.TheVariants as code
 use Rattle.tier_base.specs.Codes.{number_of}
-use Rattle.tier_base.specs.declared.number.TableId.{TableId}
 use Rattle.row_types.specs.declared.rule.Rule.{Rule}
 use Rattle.row_types.specs.declared.rule.Detail.TheVariants as detail
 use Rattle.row_types.specs.declared.value.Value.{Value}
@@ -40,7 +39,7 @@ use Rattle.table_state.specs.Histories.{state_of}
 use Rattle.outside.specs.Bank.{Defines, TellsSchema, TellsRow}
 use Rattle.outside.specs.Console.{WritesForeign}
 use Rattle.outside.specs.Faults.{Rose}
-use Rattle.outside.specs.Others.{Around, is_shared}
+use Rattle.outside.specs.Others.{Around}
 use Rattle.outside.specs.declared.site.Done.{Done as Wrote}
 use Rattle.outside.specs.declared.site.Done.TheVariants.{Rows, Broken}
 use Rattle.outside.specs.declared.fault.BankError.{BankError}
@@ -53,51 +52,26 @@ use Rattle.tier_engine.specs.declared.rounds.RoundFault.TheVariants as stop
 use Rattle.tier_engine.specs.Commits.{pending, in_commit_order}
 use Rattle.tier_engine.specs.Rounds.{Round, DifferedAt}
 use Rattle.tier_engine.specs.TierStates.{TierState, SessionState, GroupState, session_of, group_of_table, seen, seen_rows, is_named}
-use Rattle.tier_engine.specs.LiteralValues.{values_of}
+use Rattle.group_defs.specs.LiteralValues.{values_of}
+use Rattle.tier_engine.specs.ReadOnlyAnswers.{refreshed_set, write_fault}
+use Rattle.tier_engine.specs.ReadOnlyStates.{ReadOnlyState, is_called, is_over, read_only_over, shown_rows}
 use Rattle.tier_engine.specs.ConsoleWrites.{tables_seen, writes_fault}
-use Rattle.tier_engine.specs.Refusals.{not_yet, wrong_at, too_deep, too_long, unknown_session, unknown_table, key_taken, table_fault, insert_fault}
+use Rattle.tier_engine.specs.Refusals.{wrong_at, too_deep, too_long, unknown_session, unknown_table, key_taken, table_fault, insert_fault}
 use Rattle.tier_engine.specs.Answers.{Answer, only, faulty, refuses, open_answer, close_answer, rollback_answer, group_answer, select_answer, commit_answer, inserted}
-
--- The tier, the one backing history, how often the bank has failed, the site's moment, and the tables that others change,
--- too.
-pub record World : Type 0 where
-  pub tier : TierState
-  pub history : List Entry
-  pub bank_faults : ℕ
-  pub moment : ℕ
-  pub shared : List TableId
-
--- no group is over a table that others change
-abbrev pub AreUnshared : List TableId → List GroupState → Type 0
-AreUnshared shared [] = Unit {0}
-AreUnshared shared (g ∷ groups) = (is_shared shared g.table ≡ false) × AreUnshared shared groups
-
--- others change no table of a group
-abbrev pub IsUnshared : World → Type 0
-IsUnshared w = AreUnshared w.shared w.tier.groups
-
--- a failed call of the bank, or its want of memory
-abbrev pub bank_fault : BankError → Reply
-bank_fault Failed = faulty code.BackingFault
-bank_fault Memory = faulty code.Memory
-
--- nothing but the tier changes
-abbrev pub Quiet : World → Answer → World → Reply → Type 0
-Quiet w answer w' reply = (w' ≡ record w { tier = answer.0 }) × (reply ≡ answer.1)
-
--- counts and moments that a call of the bank may raise; what others change stays
-pub record GoesOn (w w' : World) : Type 0 where
-  pub faults : w.bank_faults ≤ w'.bank_faults
-  pub moment : w.moment ≤ w'.moment
-  pub shared : w'.shared ≡ w.shared
+pub use Rattle.tier_engine.specs.RefreshSteps.{Autorefreshes, Loads, LoadsAt, LoadsGroup, LoadsUnless, Refreshes, RefreshesSet, TellsPosition, refresh_reply, refreshed_by}
+pub use Rattle.tier_engine.specs.Worlds.{World, AreUnshared, GoesOn, IsUnshared, Quiet, bank_fault}
 
 -- what is due before a statement: nothing yet
 abbrev pub Due : World → World → Type 0
 Due w mid = mid ≡ w
 
+-- the table is that of a writethrough group
+abbrev pub is_writethrough : TierState → List ℕ → Bool
+is_writethrough t table = is_some (group_of_table t.groups table)
+
 -- the table is that of some group
 abbrev pub is_cached : TierState → List ℕ → Bool
-is_cached t table = is_some (group_of_table t.groups table)
+is_cached t table = is_writethrough t table || is_some (position (is_over table) t.read_only)
 
 abbrev pub names_uncached : TierState → Stmt → Bool
 names_uncached t (statement.CreateGroup d) = not (is_cached t d.table.name)
@@ -113,15 +87,16 @@ request_asks t label (asks_for.Open options) = false
 request_asks t label asks_for.Close = false
 request_asks t label (asks_for.Statement s) = is_none t.known && is_some (session_of t label) && names_uncached t s
 
--- one of the writes is on a table which isn't cached
+-- one of the writes is on a table of no writethrough group, so that not all of them are refused
 abbrev pub write_uncached : TierState → List Write → Bool
-write_uncached t writes = list_any (λ w. not (is_cached t (table_of w))) writes
+write_uncached t writes = list_any (λ w. not (is_writethrough t (table_of w))) writes
 
 abbrev pub console_asks : TierState → ConsoleRequest → Bool
 console_asks t (console.CreateTable d) = is_none t.known && not (is_cached t d.name)
 console_asks t (console.Writes writes) = is_none t.known && write_uncached t (trees_of writes)
 
--- The tier asks for the schema that it doesn't know before a statement that names a table which isn't cached.
+-- The tier asks for the schema that it doesn't know before a statement that names a table which isn't cached, and before
+-- the console writes a table that it may write.
 abbrev pub asks : TierState → Line → Bool
 asks t (says.Session label request) = request_asks t label request
 asks t (says.Console request) = console_asks t request
@@ -196,7 +171,7 @@ WritesUnless None writes w w' reply = WritesAll writes w w' reply
 
 -- INSERT, UPDATE and DELETE of the console, as one transaction
 abbrev pub DoesWrites : List Write → World → World → Reply → Type 0
-DoesWrites writes w w' reply = WritesUnless (writes_fault (is_cached w.tier) (tables_seen w.tier) writes) writes w w' reply
+DoesWrites writes w w' reply = WritesUnless (writes_fault (is_writethrough w.tier) (tables_seen w.tier) writes) writes w w' reply
 
 -- how a round's end is answered
 abbrev pub round_reply : Result ℕ RoundFault → Reply
@@ -253,18 +228,28 @@ abbrev pub InsertsUnless : Option Rule → SessionState → GroupState → List 
 InsertsUnless (Some rule) s g literals rows w w' reply = Quiet w (refuses w.tier rule) w' reply
 InsertsUnless None s g literals rows w w' reply = PutsValues s g (values_of literals) rows w w' reply
 
+-- INSERT into a table of no writethrough group: it is that of a READONLY one, or isn't cached
+abbrev pub InsertsRead : Option ReadOnlyState → OneInsert → World → World → Reply → Type 0
+InsertsRead None i w w' reply = Quiet w (refuses w.tier (unknown_table i.table)) w' reply
+InsertsRead (Some g) i w w' reply = Quiet w (refuses w.tier (write_fault g.def i.values)) w' reply
+
 -- INSERT
 abbrev pub Inserts : SessionState → Option GroupState → OneInsert → World → World → Reply → Type 0
-Inserts s None i w w' reply = Quiet w (refuses w.tier (unknown_table i.table)) w' reply
+Inserts s None i w w' reply = InsertsRead (read_only_over w.tier.read_only i.table) i w w' reply
 Inserts s (Some g) i w w' reply = (state : TableState) × (seen w.tier s.own w.history ≡ Some state)
     × InsertsUnless (insert_fault g.def s.own i.values (seen_rows g s.own state)) s g i.values (seen_rows g s.own state) w w' reply
 
+-- SELECT from a table of no writethrough group: what its READONLY group shows
+abbrev pub SelectsRead : Option ReadOnlyState → OneSelect → World → World → Reply → Type 0
+SelectsRead None i w w' reply = Quiet w (refuses w.tier (unknown_table i.table)) w' reply
+SelectsRead (Some g) i w w' reply = Quiet w (select_answer w.tier (shown_rows w.history g)) w' reply
+
 -- SELECT
 abbrev pub Selects : SessionState → Option GroupState → OneSelect → World → World → Reply → Type 0
-Selects s None i w w' reply = Quiet w (refuses w.tier (unknown_table i.table)) w' reply
+Selects s None i w w' reply = SelectsRead (read_only_over w.tier.read_only i.table) i w w' reply
 Selects s (Some g) i w w' reply = (state : TableState) × (seen w.tier s.own w.history ≡ Some state) × Quiet w (select_answer w.tier (seen_rows g s.own state)) w' reply
 
--- CALL: 103 of a procedure that there isn't, 104 of arguments that it doesn't take
+-- CALL of another than ttCacheAutorefresh: 103 of a procedure that there isn't, 104 of arguments that it doesn't take
 abbrev pub call_fault : List ℕ → List Literal → Option Rule
 call_fault procedure arguments =
     if not (is_named procedure (codes "TTDRAIN")) then broken code.UnknownColumn (detail.Name procedure)
@@ -274,13 +259,21 @@ abbrev pub Calls : Option Rule → World → World → Reply → Type 0
 Calls (Some rule) w w' reply = Quiet w (refuses w.tier rule) w' reply
 Calls None w w' reply = Drains w w' reply
 
+abbrev pub is_autorefresh : List ℕ → Bool
+is_autorefresh procedure = is_named procedure (codes "TTCACHEAUTOREFRESH")
+
+-- CALL
+abbrev pub CallsBy : List ℕ → List Literal → World → World → Reply → Type 0
+CallsBy procedure arguments w w' reply =
+    MatchBool (is_autorefresh procedure) (Autorefreshes (refreshed_set w.tier arguments) w w' reply) (Calls (call_fault procedure arguments) w w' reply)
+
 -- a statement of an open session
 abbrev pub InSession : SessionState → Stmt → World → World → Reply → Type 0
 InSession s (statement.CreateGroup d) w w' reply = Quiet w (group_answer w.tier s d) w' reply
 InSession s (statement.Insert insert) w w' reply = Inserts s (group_of_table w.tier.groups insert.table) insert w w' reply
 InSession s (statement.Select select) w w' reply = Selects s (group_of_table w.tier.groups select.table) select w w' reply
-InSession s (statement.Load load) w w' reply = Quiet w (refuses w.tier not_yet) w' reply
-InSession s (statement.Call call) w w' reply = Calls (call_fault call.procedure call.arguments) w w' reply
+InSession s (statement.Load load) w w' reply = LoadsAt s load (position (is_called load.group) w.tier.read_only) w w' reply
+InSession s (statement.Call call) w w' reply = CallsBy call.procedure call.arguments w w' reply
 InSession s statement.Commit w w' reply = Quiet w (commit_answer w.tier s) w' reply
 InSession s statement.Rollback w w' reply = Quiet w (rollback_answer w.tier s) w' reply
 

@@ -1,6 +1,6 @@
 -- What the calls of the stored tier do to it, without a word on what it stands for.
 
-use Rattle.std.specs.Prelude.{◌≡◌, ℕ, List, [], ◌∷◌, ◌++◌, Option, Some, None, Bool, true, false, nat_lt, nat_eq, if◌then◌else◌, length, suc, slice_set, slice_get, ◌+◌, ◌≤◌, ◌⊎◌, map, Result, Ok, Err}
+use Rattle.std.specs.Prelude.{◌≡◌, ℕ, List, [], ◌∷◌, ◌++◌, Option, Some, None, Bool, true, false, ◌||◌, is_some, position, nat_lt, nat_eq, if◌then◌else◌, length, suc, slice_set, slice_get, ◌+◌, ◌≤◌, ◌⊎◌, map, Result, Ok, Err}
 use Rattle.std.specs.Option.{option_map, option_and_then, option_or}
 use Rattle.std.specs.List.{list_any}
 use Rattle.std.specs.Result.{IfOk, IsErrOf}
@@ -13,19 +13,20 @@ use Rattle.outside.specs.declared.fault.BankError.TheVariants.{Failed, Memory}
 use Rattle.std.specs.FinMap.{contains_key, insert, remove, empty}
 use Rattle.row_types.specs.declared.value.Value.{Value}
 use Rattle.tier_base.specs.declared.code.Code.TheVariants as code
+use Rattle.tier_base.specs.declared.limit.Limit.TheVariants as limit
 use Rattle.tier_base.specs.declared.number.TableId.{TableId}
 use Rattle.table_state.specs.declared.definition.TableDef.{TableDef}
 use Rattle.table_state.specs.declared.operation.Op.{Op}
 use Rattle.table_state.specs.declared.operation.Op.TheVariants.{Insert}
 use Rattle.row_types.specs.declared.rule.Rule.{Rule}
-use Rattle.row_types.specs.declared.rule.Detail.TheVariants as detail
-use Rattle.tier_base.specs.declared.limit.Limit.TheVariants as limit
 use Rattle.sql_subset.specs.declared.stmt.CreateGroup.{CreateGroup}
 use Rattle.row_types.specs.declared.declaration.TableDeclaration.{TableDeclaration}
 use Rattle.table_state.specs.declared.definition.ForeignKey.{ForeignKey}
-use Rattle.table_state.specs.Declarations.{Tells, IsRefusedBy, broken, broken_at, fault_of, limit_of, resolved, type_fault, wrong_name}
+use Rattle.table_state.specs.Declarations.{Tells, IsRefusedBy, broken_at, fault_of, limit_of, resolved}
 use Rattle.table_state.specs.Names.{place_of_table}
 use Rattle.table_state.specs.Tables.{key_of}
+use Rattle.autorefresh.specs.declared.group.ReadOnlyGroup.{ReadOnlyGroup}
+use Rattle.autorefresh.specs.Sets.{covers, is_named as is_called, is_of_table}
 use Rattle.tier_engine.specs.declared.reply.Reply.{Reply}
 use Rattle.tier_engine.specs.declared.reply.Last.TheVariants.{Done, No}
 use Rattle.tier_engine.specs.declared.tier.Group.{Group}
@@ -35,9 +36,12 @@ use Rattle.tier_engine.specs.declared.tier.Tier.{Tier}
 use Rattle.tier_engine.specs.declared.insert.Asked.{Asked}
 use Rattle.row_types.specs.declared.rule.Refused.{Refused}
 use Rattle.row_types.specs.declared.rule.Refused.TheVariants as refused
-use Rattle.tier_engine.specs.Refusals.{key_taken, letter_fault, at_limit, past}
+use Rattle.group_defs.specs.declared.group.Beside.{Beside}
+use Rattle.group_defs.specs.GroupRules.{definition_fault}
+use Rattle.group_defs.specs.Limits.{at_limit, past}
+use Rattle.tier_engine.specs.Refusals.{key_taken}
 use Rattle.tier_engine.specs.TierStates.{is_named}
-use Rattle.tier_engine.specs.Answers.{only, faulty}
+use Rattle.tier_engine.specs.Answers.{only, faulty, only_table, refresh_of}
 use Rattle.tier_engine.specs.Steps.{bank_fault, cached_fault, define_reply}
 use Rattle.tier_engine.specs.Standing.{Mark, own_in, bare, AreApart, HasOwnKeys}
 
@@ -50,6 +54,7 @@ place_named (g ∷ groups) name = if is_named g.def.name name then Some 0 else o
 pub record IsSame (old new : Tier) : Type 0 where
   pub known : new.known ≡ old.known
   pub groups : new.groups.items ≡ old.groups.items
+  pub read_only : new.read_only ≡ old.read_only
   pub session : new.session ≡ old.session
   pub unsettled : new.unsettled.items ≡ old.unsettled.items
   pub next : new.next ≡ old.next
@@ -57,6 +62,7 @@ pub record IsSame (old new : Tier) : Type 0 where
 -- all but groups and session stays
 pub record StaysBeside (old new : Tier) : Type 0 where
   pub known : new.known ≡ old.known
+  pub read_only : new.read_only ≡ old.read_only
   pub unsettled : new.unsettled.items ≡ old.unsettled.items
   pub next : new.next ≡ old.next
 
@@ -129,57 +135,101 @@ pub record Settles (told told' : Option Held) (faults faults' : ℕ) (mark mark'
   pub shares : mark'.shared ≡ mark.shared
   pub cause : IsErrOf result Failed → Rose faults faults'
 
--- a group has this name
-abbrev pub has_name : List Group → List ℕ → Bool
-has_name groups name = list_any (λ g. is_named g.name name) groups
+-- a writethrough group has this name
+abbrev pub has_group : List Group → List ℕ → Bool
+has_group groups name = list_any (λ g. is_named g.name name) groups
 
--- the table is a group's
+-- a group has this name
+abbrev pub has_name : List Group → List ReadOnlyGroup → List ℕ → Bool
+has_name groups read_only name = has_group groups name || is_some (position (is_called name) read_only)
+
+-- the table is a writethrough group's
 abbrev pub has_table : List Group → TableId → Bool
 has_table groups table = list_any (λ g. nat_eq g.table.0 table.0) groups
 
-abbrev pub judged_letter : List Group → CreateGroup → TableId → TableDef → List TableDef → Option Rule
-judged_letter groups d table def schema = letter_fault (has_table groups table) d table def schema
+-- the table is a group's
+abbrev pub is_taken : List Group → List ReadOnlyGroup → TableId → Bool
+is_taken groups read_only table = has_table groups table || is_some (position (covers table) read_only)
 
--- what refuses a group beside these, of which the session wrote so much
-abbrev pub judged_group : List Group → ℕ → CreateGroup → TableId → TableDef → List TableDef → Option Rule
-judged_group groups own d table def schema =
-    option_or (broken_at code.UnknownColumn (wrong_name d.table))
-    (option_or (if has_name groups d.name then broken code.NameInUse (detail.Name d.name) else None)
-    (option_or (if nat_lt 0 own then broken code.TransactionOpen detail.Nothing else None)
-    (option_or (type_fault d.table.columns) (option_or (judged_letter groups d table def schema) (at_limit limit.Groups (length groups))))))
+-- there are as many groups as there may be
+abbrev pub is_full : Tier → Bool
+is_full t = is_some (at_limit limit.Groups (length t.groups.items + length t.read_only))
+
+-- what the definition of a group over a table comes beside
+abbrev pub beside_stored : Tier → List ℕ → TableId → Beside
+beside_stored t name table = record {
+  has_name = has_name t.groups.items t.read_only name;
+  has_writes = nat_lt 0 (length (own_in t.session));
+  has_table = is_taken t.groups.items t.read_only table;
+  is_full = is_full t;
+}
 
 -- what the tier has for the name of a table: that of the schema, or of a group where the schema isn't known
 abbrev pub located_in : List TableDef → Option TableId → Option (TableId × TableDef)
 located_in schema None = None
 located_in schema (Some table) = option_map (λ def. (table, def)) (slice_get schema table.0)
 
-abbrev pub located_group : List Group → Option ℕ → Option (TableId × TableDef)
-located_group groups None = None
-located_group groups (Some place) = option_map (λ (g : Group). (g.table, g.def)) (slice_get groups place)
+abbrev pub located_read : List ReadOnlyGroup → Option ℕ → Option (TableId × TableDef)
+located_read read_only None = None
+located_read read_only (Some place) = option_map (λ (g : ReadOnlyGroup). (g.tree.root.table, g.def)) (slice_get read_only place)
 
-abbrev pub located_by : List Group → List ℕ → Option (List TableDef) → Option (TableId × TableDef)
-located_by groups name None = located_group groups (place_named groups name)
-located_by groups name (Some schema) = located_in schema (place_of_table schema name)
+abbrev pub located_group : List Group → List ReadOnlyGroup → List ℕ → Option ℕ → Option (TableId × TableDef)
+located_group groups read_only name None = located_read read_only (position (is_of_table name) read_only)
+located_group groups read_only name (Some place) = option_map (λ (g : Group). (g.table, g.def)) (slice_get groups place)
+
+abbrev pub located_by : List Group → List ReadOnlyGroup → List ℕ → Option (List TableDef) → Option (TableId × TableDef)
+located_by groups read_only name None = located_group groups read_only name (place_named groups name)
+located_by groups read_only name (Some schema) = located_in schema (place_of_table schema name)
 
 abbrev pub located : Tier → List ℕ → Option (TableId × TableDef)
-located t name = located_by t.groups.items name t.known
+located t name = located_by t.groups.items t.read_only name t.known
 
 -- the schema that the tier knows, none where it knows none
 abbrev pub known_or_none : Option (List TableDef) → List TableDef
 known_or_none None = []
 known_or_none (Some schema) = schema
 
+-- what refuses a group over this table
+abbrev pub judged_group : Tier → CreateGroup → TableId → TableDef → Option Rule
+judged_group t d table def = definition_fault (beside_stored t d.name table) d table def (known_or_none t.known)
+
 abbrev pub JudgesGroup : Tier → CreateGroup → TableId → TableDef → Result (Unit {0}) Refused → Type 0
-JudgesGroup t d table def result = Tells result (judged_group t.groups.items (length (own_in t.session)) d table def (known_or_none t.known))
+JudgesGroup t d table def result = Tells result (judged_group t d table def)
+
+-- a READONLY group that isn't loaded yet
+abbrev pub fresh_read_only : CreateGroup → TableId → TableDef → ReadOnlyGroup
+fresh_read_only d table def = record {
+  name = d.name;
+  tree = only_table table;
+  def = def;
+  mode = (refresh_of d).mode;
+  interval = (refresh_of d).interval;
+  state = (refresh_of d).state;
+  shown = None;
+}
 
 -- A group without rows was added, or memory was wanting.
 pub record Groups (old new : Tier) (name : List ℕ) (table : TableId) (def : TableDef) (reply : Reply) : Type 0 where
   pub known : new.known ≡ old.known
   pub groups : new.groups.items ≡ old.groups.items ++ record { name = name; table = table; def = def; rows = empty } ∷ []
+  pub read_only : new.read_only ≡ old.read_only
   pub session : new.session ≡ old.session
   pub unsettled : new.unsettled.items ≡ old.unsettled.items
   pub next : new.next ≡ old.next
   pub told : reply ≡ only (Done 0)
+
+-- A READONLY group was added, which isn't loaded yet.
+pub record GroupsRead (old new : Tier) (d : CreateGroup) (table : TableId) (def : TableDef) (reply : Reply) : Type 0 where
+  pub known : new.known ≡ old.known
+  pub groups : new.groups.items ≡ old.groups.items
+  pub read_only : new.read_only ≡ old.read_only ++ fresh_read_only d table def ∷ []
+  pub session : new.session ≡ old.session
+  pub unsettled : new.unsettled.items ≡ old.unsettled.items
+  pub next : new.next ≡ old.next
+  pub told : reply ≡ only (Done 0)
+
+abbrev pub GroupsReadOrNot : Tier → Tier → CreateGroup → TableId → TableDef → Reply → Type 0
+GroupsReadOrNot old new d table def reply = GroupsRead old new d table def reply ⊎ (IsSame old new × (reply ≡ faulty code.Memory))
 
 abbrev pub GroupsOrNot : Tier → Tier → List ℕ → TableId → TableDef → Reply → Type 0
 GroupsOrNot old new name table def reply = Groups old new name table def reply ⊎ (IsSame old new × (reply ≡ faulty code.Memory))
@@ -188,6 +238,7 @@ GroupsOrNot old new name table def reply = Groups old new name table def reply �
 pub record Seals (old new : Tier) (s : Session) (reply : Reply) : Type 0 where
   pub known : new.known ≡ old.known
   pub groups : new.groups.items ≡ old.groups.items
+  pub read_only : new.read_only ≡ old.read_only
   pub session : new.session ≡ Some (emptied s)
   pub unsettled : new.unsettled.items ≡ old.unsettled.items ++ record { ticket = record { 0 = old.next }; ops = s.own } ∷ []
   pub next : new.next ≡ old.next + 1
@@ -227,6 +278,7 @@ pub record MakesTable (shared : List TableId) (before after : Option Held) (old 
   pub call : Told before after (BankCall shared (Defines def result))
   pub known : KnowsAfter old new def result
   pub groups : new.groups.items ≡ old.groups.items
+  pub read_only : new.read_only ≡ old.read_only
   pub session : new.session ≡ old.session
   pub unsettled : new.unsettled.items ≡ old.unsettled.items
   pub next : new.next ≡ old.next

@@ -16,6 +16,7 @@ use Rattle.table_state.specs.declared.history.Sealed.{Sealed}
 use Rattle.table_state.specs.Tables.{Table, TableState, table_at, key_of}
 use Rattle.table_state.specs.Operations.{applied_all}
 use Rattle.tier_engine.specs.Commits.{virtual_state}
+use Rattle.tier_engine.specs.ReadOnlyStates.{ReadOnlyState}
 
 -- an asynchronous writethrough group: its name, its table with the backing definition, and the keys of its instances
 pub record GroupState : Type 0 where
@@ -29,11 +30,13 @@ pub record SessionState : Type 0 where
   pub label : List ℕ
   pub own : List Op
 
--- The tier: the schema that it knows (none after a definition that failed, until the bank tells it), its groups, its
--- session, the committed transactions in ticket order, those of them whose receipt it hasn't seen, the next ticket.
+-- The tier: the schema that it knows (none after a definition that failed, until the bank tells it), its writethrough
+-- groups and its READONLY groups in the order of their definitions, its session, the committed transactions in ticket
+-- order, those of them whose receipt it hasn't seen, the next ticket.
 pub record TierState : Type 0 where
   pub known : Option (List TableDef)
   pub groups : List GroupState
+  pub read_only : List ReadOnlyState
   pub session : Option SessionState
   pub log : List Sealed
   pub unsettled : List Sealed
@@ -41,7 +44,7 @@ pub record TierState : Type 0 where
 
 -- the tier over a backing database with this schema, before its first line
 abbrev pub opened : List TableDef → TierState
-opened schema = record { known = Some schema; groups = []; session = None; log = []; unsettled = []; next = 1 }
+opened schema = record { known = Some schema; groups = []; read_only = []; session = None; log = []; unsettled = []; next = 1 }
 
 abbrev pub is_named : List ℕ → List ℕ → Bool
 is_named a b = pointwise nat_eq a b
@@ -50,7 +53,7 @@ is_named a b = pointwise nat_eq a b
 abbrev pub session_of : TierState → List ℕ → Option SessionState
 session_of t label = option_and_then (λ s. if is_named s.label label then Some s else None) t.session
 
--- the group that has the table of this name
+-- the writethrough group that has the table of this name
 abbrev pub group_of_table : List GroupState → List ℕ → Option GroupState
 group_of_table [] name = None
 group_of_table (g ∷ groups) name = if is_named g.def.name name then Some g else group_of_table groups name

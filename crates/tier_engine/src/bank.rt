@@ -13,10 +13,10 @@ ghost use Rattle.tier_engine.specs.Standing.{AskServes, IsApart, Made, StandsFor
 ghost use Rattle.tier_engine.specs.Steps.{Asked, DoesConsole, TellsBankFault, WantsMemory, bank_fault, cached_fault, stopped};
 ghost use Rattle.tier_engine.specs.Storing.{JudgesTable, Makes, judged_parent, judged_table};
 
-use crate::insert::past;
-use crate::judge_group::has_table;
 use crate::reply::Reply;
+use crate::taken::has_table;
 use crate::tier::{Group, Tier};
+use group_defs::past;
 use outside::{BankError, Site};
 use row_types::{Detail, Refused, Rule, TableDeclaration};
 use std::alloc::{AllocError, Global};

@@ -1,12 +1,17 @@
 //! Statements on cached tables.
 
-ghost use Rattle.std.specs.Prelude.{◌≡◌, ◌<◌, ◌≤◌, ◌⊎◌, List, IfErr, IfOk, IfSome, IsSome, Some, length, slice_get};
+ghost use Rattle.std.specs.Prelude.{◌≡◌, ◌<◌, ◌≤◌, ◌⊎◌, List, IfErr, IfOk, IfSome, IsSome, Some, length, position, slice_get};
 ghost use Rattle.table_state.specs.declared.history.Entry.{Entry};
 ghost use Rattle.table_state.specs.declared.history.Sealed.{Sealed as OneSealed};
 ghost use Rattle.table_state.specs.Declarations.{Tells};
 ghost use Rattle.sql_subset.specs.declared.stmt.Stmt.TheVariants as statement;
-ghost use Rattle.tier_engine.specs.LiteralValues.{values_of};
+ghost use Rattle.group_defs.specs.LiteralValues.{values_of};
 ghost use Rattle.tier_engine.specs.Refusals.{insert_fault, unknown_table};
+ghost use Rattle.std.specs.Option.{option_and_then};
+ghost use Rattle.autorefresh.specs.Sets.{is_of_table};
+ghost use Rattle.tier_engine.specs.Answers.{select_answer};
+ghost use Rattle.tier_engine.specs.ReadOnlyStoring.{SelectsShown, root_shown};
+ghost use Rattle.tier_engine.specs.TierStates.{TierState};
 ghost use Rattle.tier_engine.specs.Standing.{InOpen, ServesPart, StandsFor, Turns, mark_of, own_in};
 ghost use Rattle.tier_engine.specs.Steps.{WantsMemory};
 ghost use Rattle.tier_engine.specs.Storing.{Puts, Settles, place_named};
@@ -17,18 +22,19 @@ use crate::insert::{Asked, judge_insert, put};
 use crate::reply::Reply;
 use crate::select::select_rows;
 use crate::tier::{Group, Tier};
+use key_rows::Rows;
 use outside::Site;
 use row_types::{Detail, Refused, Row, Rule};
 use sql_subset::stmt::{Insert, Literal, Select};
-use std::alloc::Global;
+use std::alloc::{AllocError, Global};
 use table_state::laws::refusal_law;
 use tier_base::{Code, Name, Seq};
 
 impl Tier {
     /// INSERT by the session. Where the key isn't shown the backing database is asked for it.
     ///
-    /// 102 where the table isn't cached; 104, 105, 106 and 119 as `judge_insert` says; 107 where the key has a row in the
-    /// virtual state with the session's writes. After an error the tier is as before.
+    /// 102 where the table isn't cached; 110 where it is a READONLY group's; 104, 105, 106 and 119 as `judge_insert` says;
+    /// 107 where the key has a row in the virtual state with the session's writes. After an error the tier is as before.
     pub fn insert<P: Site>(&mut self, alloc: Global, site: &mut P, insert: Insert) -> Reply
         requires { IsSome self.old.session }
         ensures step { ServesPart (P.Disk.held site.old) (P.Disk.held site.new) (P.bank_faults site.old) (P.bank_faults site.new) (mark_of (P.Disk.moment site.old) (P.Disk.shared site.old)) (mark_of (P.Disk.moment site.new) (P.Disk.shared site.new)) self.old self.new result (λ w w'. InOpen w.tier.session (statement.Insert insert) w w' result ⊎ WantsMemory w w' result) }
@@ -37,7 +43,10 @@ impl Tier {
     {
         let Insert { table, values } = insert;
         let Some(place) = place_of_group(self.groups.as_slice(), &table) else {
-            return Reply::refuses(alloc, unknown_table(table));
+            return match self.refuse_insert(alloc, table, values.as_slice()) {
+                Refused::Rule(rule) => Reply::refuses(alloc, rule),
+                Refused::Memory => Reply::faulty(alloc, Code::Memory),
+            };
         };
         match self.judge_insert_at(alloc, place, values.as_slice()) {
             Err(Refused::Rule(rule)) => Reply::refuses(alloc, rule),
@@ -108,12 +117,39 @@ impl Tier {
     {
         let Select { table } = select;
         let Some(place) = place_of_group(self.groups.as_slice(), &table) else {
-            return Reply::refuses(alloc, unknown_table(table));
+            return self.select_read_only(alloc, table);
         };
         let group = &self.groups[place];
         match select_rows(alloc, &group.rows) {
             Ok(reply) => reply,
             Err(_) => Reply::faulty(alloc, Code::Memory),
+        }
+    }
+
+    /// SELECT * FROM a table of no writethrough group: what its READONLY group shows.
+    fn select_read_only(&self, alloc: Global, table: Name) -> Reply
+        ensures { SelectsShown (option_and_then (slice_get self.now.read_only) (position (is_of_table table) self.now.read_only)) table result }
+    {
+        let Some(place) = self.read_only.find_table(&table) else {
+            return Reply::refuses(alloc, unknown_table(table));
+        };
+        match self.select_shown(alloc, place) {
+            Ok(reply) => reply,
+            Err(_) => Reply::faulty(alloc, Code::Memory),
+        }
+    }
+
+    /// The rows that the READONLY group at a place shows, none where it isn't loaded.
+    fn select_shown(&self, alloc: Global, place: usize) -> Result<Reply, AllocError>
+        requires { place < length self.now.read_only }
+        ensures { IfOk result (λ reply. (t : TierState) → select_answer t (root_shown (slice_get self.now.read_only place)) ≡ (t, reply)) }
+    {
+        match self.read_only.rows_of(place) {
+            None => select_rows(alloc, &Rows::new(alloc)),
+            Some(rows) => match rows.get(0) {
+                None => select_rows(alloc, &Rows::new(alloc)),
+                Some(root) => select_rows(alloc, root),
+            },
         }
     }
 }
@@ -128,7 +164,7 @@ pub fn unknown_table(name: Name) -> Rule
     }
 }
 
-/// The place of the group that has the table of this name.
+/// The place of the writethrough group that has the table of this name.
 pub fn place_of_group(groups: &[Group], table: &Name) -> Option<usize>
     ensures place { result ≡ place_named groups.now table.now }
     ensures within { IfSome result (λ place. place < length groups.now) }

@@ -9,9 +9,9 @@ ghost use Rattle.tier_engine.specs.Steps.{WantsMemory};
 ghost use Rattle.tier_engine.specs.Storing.{SealsOr};
 ghost use Rattle.tier_engine.specs.declared.tier.Session.{Session as OneSession};
 
-use crate::insert::{at_limit, past};
 use crate::reply::Reply;
 use crate::tier::{Session, Tier};
+use group_defs::{at_limit, past};
 use std::alloc::Global;
 use table_state::Sealed;
 use tier_base::{Code, Limit, Seq, Ticket};

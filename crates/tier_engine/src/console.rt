@@ -34,8 +34,9 @@ impl Tier {
     /// none. The reply tells how many rows of the tables that they name they write.
     ///
     /// They are refused write by write with 102 and then 103; then with 118, 104, and 105 of a literal that no type holds;
-    /// then with 121 of a group's table. The backing database refuses the first write that breaks a rule: row by row 120
-    /// of the condition, 105 and then 106 of a column, 120 of a value; 119 of operations and rows; then 107, 108, 109.
+    /// then with 121 of a writethrough group's table. The backing database refuses the first write that breaks a rule:
+    /// row by row 120 of the condition, 105 and then 106 of a column, 120 of a value; 119 of operations and rows; then
+    /// 107, 108, 109.
     /// Behind a refusal, and where memory is wanting, nothing of theirs is done; behind a failed call of the bank all of
     /// it, or nothing. (TimesTen SQL Reference, INSERT, UPDATE, DELETE; the codes and their order are this project's.)
     pub fn write_console<P: Site>(&self, alloc: Global, site: &mut P, writes: Seq<Spelt>) -> Reply

@@ -5,16 +5,16 @@ ghost use Rattle.std.specs.FinMap.{contains_key, insert, len};
 ghost use Rattle.table_state.specs.Declarations.{IsRefusedBy, Tells};
 ghost use Rattle.table_state.specs.Tables.{key_of};
 ghost use Rattle.table_state.specs.declared.operation.Op.TheVariants.{Insert as InsertOf};
-ghost use Rattle.tier_engine.specs.LiteralValues.{values_of};
-ghost use Rattle.tier_engine.specs.Refusals.{at_limit, insert_fault, key_taken, past, row_fault, takes, takes_all};
+ghost use Rattle.group_defs.specs.LiteralValues.{values_of};
+ghost use Rattle.tier_engine.specs.Refusals.{insert_fault, key_taken, row_fault};
 ghost use Rattle.tier_engine.specs.Storing.{Put};
 ghost use Rattle.table_state.specs.declared.operation.Op.{Op as OneOp};
 ghost use Rattle.tier_engine.specs.declared.tier.OwnKey.{OwnKey as OneKey};
 
-use crate::literal::literal_values;
 use crate::tier::{Group, OwnKey, Session};
+use group_defs::{at_limit, broken, literal_values, takes_all};
 use key_rows::Rows;
-use row_types::{Column, Detail, Key, Refused, Row, Rule, Ty, Value};
+use row_types::{Detail, Key, Refused, Row, Rule};
 use sql_subset::stmt::Literal;
 use std::alloc::{AllocError, Global};
 use table_state::{ApplyError, Op, Ops, TableDef, check_row, key_of_row};
@@ -143,64 +143,4 @@ fn key_taken(alloc: Global, def: &TableDef, key: Key) -> Result<Rule, AllocError
         code: Code::KeyExists,
         detail: Detail::Row(name, key),
     })
-}
-
-fn broken(code: Code, detail: Detail) -> Refused
-    ensures { result ≡ Refused.Rule (record { code = code; detail = detail }) }
-{
-    Refused::Rule(Rule { code, detail })
-}
-
-/// 119, where so many are at the limit.
-pub fn at_limit(limit: Limit, count: usize) -> Option<Rule>
-    ensures { result ≡ at_limit limit count }
-{
-    if (count as u64) < limit.number() {
-        return None;
-    }
-    Some(past(limit))
-}
-
-/// 119: the limit would be passed.
-pub fn past(limit: Limit) -> Rule
-    ensures { Some result ≡ past limit }
-{
-    Rule {
-        code: Code::Limit,
-        detail: Detail::Limit(limit),
-    }
-}
-
-/// Whether there are as many literals as columns, each of a kind that its column takes.
-fn takes_all(columns: &[Column], literals: &[Literal]) -> bool
-    ensures { result ≡ takes_all columns.now literals.now }
-{
-    match (columns.split_first(), literals.split_first()) {
-        (None, None) => true,
-        (Some((column, columns)), Some((literal, literals))) => {
-            takes(column.ty, literal) && takes_all(columns, literals)
-        }
-        _ => false,
-    }
-}
-
-/// Whether a column of this type takes such a literal: NULL and '' have no type.
-fn takes(ty: Ty, literal: &Literal) -> bool
-    ensures { result ≡ takes ty literal.now }
-{
-    match literal {
-        Literal::Null => true,
-        Literal::Integer(_) => match ty {
-            Ty::TtInteger => true,
-            Ty::TtBigint => true,
-            Ty::Varchar2(_) => false,
-            Ty::Timestamp => false,
-        },
-        Literal::Text(text) => match ty {
-            Ty::TtInteger => text.as_bytes().is_empty(),
-            Ty::TtBigint => text.as_bytes().is_empty(),
-            Ty::Varchar2(_) => true,
-            Ty::Timestamp => text.as_bytes().is_empty(),
-        },
-    }
 }

@@ -8,7 +8,8 @@ ghost use Rattle.table_state.specs.declared.history.Sealed.{Sealed};
 ghost use Rattle.tier_engine.specs.declared.reply.Reply.{Reply};
 ghost use Rattle.tier_engine.specs.declared.tier.Tier.{Tier};
 ghost use Rattle.tier_engine.specs.Commits.{IsLegal};
-ghost use Rattle.tier_engine.specs.Standing.{IsApart, StandsFor};
+ghost use Rattle.tier_engine.specs.ReadOnlyStates.{ShowCommitted};
+ghost use Rattle.tier_engine.specs.Standing.{IsApart, StandsFor, tier_state};
 ghost use Rattle.tier_engine.specs.Steps.{AreCaused, Run, World};
 
 /// Whatever is called a conflict, a tier stands for committed transactions only over a history that has each of them at
@@ -22,7 +23,13 @@ pub fn fault_law()
     ensures { (w w' : World) (lines : List (List ℕ)) (replies : List (Option Reply)) → Run w lines replies w' → AreCaused w replies w' }
 {}
 
-/// A tier stands for the same committed transactions where others change tables of no group.
+/// A tier stands for the same committed transactions where others change tables of no writethrough group.
 pub fn others_law()
     ensures { (tier : Tier) (log : List Sealed) (shared : List TableId) (history others : List Entry) → IsApart tier log shared → AreOthers shared history others → StandsFor tier log history → StandsFor tier log (history ++ others) }
+{}
+
+/// A tier stands for committed transactions only where its loaded READONLY groups show committed states: each at a position
+/// that is a length of the history, and those of one set at one.
+pub fn committed_law()
+    ensures { (tier : Tier) (log : List Sealed) (history : List Entry) → StandsFor tier log history → ShowCommitted history (tier_state tier log).read_only }
 {}

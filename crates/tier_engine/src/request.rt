@@ -9,9 +9,10 @@ ghost use Rattle.outside.specs.Faults.{BankHasCause};
 ghost use Rattle.tier_engine.specs.Standing.{Begins, IsApart, Serves, StandsFor, mark_of};
 ghost use Rattle.sql_subset.specs.Lines.{is_silent};
 
-use crate::insert::past;
 use crate::reply::Reply;
 use crate::tier::Tier;
+use autorefresh::ReadOnlyGroups;
+use group_defs::past;
 use outside::{BankError, Site};
 use std::alloc::Global;
 use std::collections::VecDeque;
@@ -37,6 +38,7 @@ impl Tier {
         Ok(Tier {
             known: Some(schema),
             groups: Vec::new(alloc),
+            read_only: ReadOnlyGroups::new(alloc),
             session: None,
             unsettled: VecDeque::new(alloc),
             next: 1,
@@ -49,8 +51,8 @@ impl Tier {
     /// INSERT of a key that isn't shown, and the question for the schema after a definition that failed. Where memory is
     /// wanting the tier is as before, and so is the backing database but for what calls before did.
     ///
-    /// Others may change the backing database in each call, too, but no table of a group: a table whose rows are written
-    /// through a group belongs to it. Of a group over a table that others change nothing is said.
+    /// Others may change the backing database in each call, too, but no table of a writethrough group: a table whose rows
+    /// are written through a group belongs to it. Of such a group over a table that others change nothing is said.
     pub fn request<P: Site>(&mut self, alloc: Global, site: &mut P, line: &[u8]) -> Option<Reply>
         ensures step { (log : List OneSealed) (held : Held) → P.Disk.held site.old ≡ Some held → StandsFor self.old log held.history → IsApart self.old log (P.Disk.shared site.old) → Serves (P.Disk.held site.new) (P.bank_faults site.old) (P.bank_faults site.new) (mark_of (P.Disk.moment site.old) (P.Disk.shared site.old)) (mark_of (P.Disk.moment site.new) (P.Disk.shared site.new)) self.old self.new log held line.now result }
         ensures later { P.bank_faults site.old ≤ P.bank_faults site.new }

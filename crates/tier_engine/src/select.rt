@@ -6,8 +6,8 @@ ghost use Rattle.tier_engine.specs.Replying.{row_bytes, rows_bytes};
 ghost use Rattle.tier_engine.specs.Answers.{select_answer};
 ghost use Rattle.tier_engine.specs.TierStates.{TierState};
 
-use crate::insert::past;
 use crate::reply::{Last, Reply};
+use group_defs::past;
 use key_rows::Rows;
 use row_types::{Row, print_values_into};
 use std::alloc::{AllocError, Global};

@@ -12,9 +12,9 @@ ghost use Rattle.tier_engine.specs.Standing.{ServesPart, mark_of, tier_state};
 ghost use Rattle.tier_engine.specs.Steps.{Heeds, Parts, console_asks, request_asks};
 
 use crate::console::writes_uncached;
-use crate::insert::past;
 use crate::reply::Reply;
 use crate::tier::Tier;
+use group_defs::past;
 use outside::Site;
 use row_types::{Detail, Rule, TableDeclaration};
 use sql_subset::line::parse_line;

@@ -5,7 +5,7 @@ ghost use Rattle.table_state.specs.declared.history.Entry.{Entry};
 ghost use Rattle.table_state.specs.declared.history.Sealed.{Sealed as OneSealed};
 ghost use Rattle.sql_subset.specs.declared.stmt.Stmt.TheVariants as statement;
 ghost use Rattle.tier_engine.specs.Standing.{InOpen, ServesPart, mark_of, tier_state};
-ghost use Rattle.tier_engine.specs.Steps.{ForSession, WantsMemory, call_fault, is_cached, names_uncached};
+ghost use Rattle.tier_engine.specs.Steps.{ForSession, WantsMemory, call_fault, is_autorefresh, is_cached, is_writethrough, names_uncached};
 ghost use Rattle.tier_engine.specs.TierStates.{session_of};
 
 use crate::cached::place_of_group;
@@ -47,20 +47,24 @@ impl Tier {
             Stmt::Select(select) => self.select(alloc, select),
             Stmt::Insert(insert) => self.insert(alloc, site, insert),
             Stmt::CreateGroup(declaration) => self.create_group(alloc, declaration),
-            Stmt::Load(_) => Reply::not_yet(alloc),
+            Stmt::Load(load) => self.load(alloc, site, load),
             Stmt::Call(call) => self.call(alloc, site, call),
             Stmt::Commit => self.commit(alloc),
             Stmt::Rollback => self.rollback(alloc),
         }
     }
 
-    /// CALL. 103 of a procedure that there isn't, 104 of arguments that it doesn't take.
+    /// CALL. 103 of a procedure that there isn't, 104 of arguments that it doesn't take; what else refuses
+    /// ttCacheAutorefresh is said there.
     fn call<P: Site>(&mut self, alloc: Global, site: &mut P, call: Call) -> Reply
         requires { IsSome self.old.session }
         ensures step { ServesPart (P.Disk.held site.old) (P.Disk.held site.new) (P.bank_faults site.old) (P.bank_faults site.new) (mark_of (P.Disk.moment site.old) (P.Disk.shared site.old)) (mark_of (P.Disk.moment site.new) (P.Disk.shared site.new)) self.old self.new result (λ w w'. InOpen w.tier.session (statement.Call call) w w' result ⊎ WantsMemory w w' result) }
         ensures later { P.bank_faults site.old ≤ P.bank_faults site.new }
         ensures shares { P.Disk.shared site.new ≡ P.Disk.shared site.old }
     {
+        if is_autorefresh(&call.procedure) {
+            return self.autorefresh(alloc, site, &call.arguments);
+        }
         match judge_call(call) {
             Some(rule) => Reply::refuses(alloc, rule),
             None => self.drain(alloc, site),
@@ -77,11 +81,21 @@ impl Tier {
         }
     }
 
+    /// Whether the table is that of a writethrough group.
+    fn is_writethrough(&self, table: &Name) -> bool
+        ensures { (log : List OneSealed) → result ≡ is_writethrough (tier_state self.now log) table.now }
+    {
+        place_of_group(self.groups.as_slice(), table).is_some()
+    }
+
     /// Whether the table is that of some group.
     pub fn is_cached(&self, table: &Name) -> bool
         ensures { (log : List OneSealed) → result ≡ is_cached (tier_state self.now log) table.now }
     {
-        place_of_group(self.groups.as_slice(), table).is_some()
+        if self.is_writethrough(table) {
+            return true;
+        }
+        self.read_only.find_table(table).is_some()
     }
 
     /// Whether the statement names a table which isn't cached.
@@ -100,7 +114,13 @@ impl Tier {
     }
 }
 
-/// What refuses the call of a procedure.
+fn is_autorefresh(procedure: &Name) -> bool
+    ensures { result ≡ is_autorefresh procedure.now }
+{
+    procedure.as_bytes() == b"TTCACHEAUTOREFRESH".as_slice()
+}
+
+/// What refuses the call of another procedure than ttCacheAutorefresh.
 fn judge_call(call: Call) -> Option<Rule>
     ensures { result ≡ call_fault call.procedure call.arguments }
 {

@@ -1,5 +1,6 @@
 //! The tier.
 
+use autorefresh::ReadOnlyGroups;
 use key_rows::Rows;
 use row_types::Key;
 use std::collections::VecDeque;
@@ -45,8 +46,10 @@ pub struct Session {
 pub struct Tier {
     /// The backing schema, where the tier knows it.
     pub known: Option<BackingSchema>,
-    /// The cache groups, in the order of their definitions.
+    /// The writethrough groups, in the order of their definitions.
     pub groups: Vec<Group>,
+    /// The READONLY groups, in the order of their definitions.
+    pub read_only: ReadOnlyGroups,
     /// The session, where one is open.
     pub session: Option<Session>,
     /// The committed transactions whose receipt the tier hasn't seen, in ticket order.

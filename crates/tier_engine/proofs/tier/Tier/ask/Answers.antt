@@ -6,7 +6,7 @@ use Rattle.tier_engine.proofs.tier.Tier.ask.Goals as goal
 pub returns-in-Ok-clause-step : goal.returns-in-Ok-clause-step
 returns-in-Ok-clause-step g c log held told stands apart =
     asks_made c.args.self.now _ log held c.in-Ok.schema (g.P.Disk.held c.args.site.now) (g.P.Disk.held c.schema.new.self) _ _ (mark_of (g.P.Disk.moment c.args.site.now) (g.P.Disk.shared c.args.site.now)) _ told c.in-Ok.ensures.told c.in-Ok.ensures.cause.later c.in-Ok.ensures.crash.later c.in-Ok.ensures.shares
-    refl (record { groups = refl; session = refl; unsettled = refl; next = refl }) stands apart
+    refl (record { groups = refl; read_only = refl; session = refl; unsettled = refl; next = refl }) stands apart
 
 pub returns-in-Err-clause-step : goal.returns-in-Err-clause-step
 returns-in-Err-clause-step g c log held told stands apart =

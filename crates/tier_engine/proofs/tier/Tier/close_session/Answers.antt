@@ -15,6 +15,6 @@ returns-then-not-is_open c = record {
 pub returns : goal.returns
 returns c = record {
   step = λ log history stands.
-      closes_turns c.args.self.now c.take_back.new.self _ log history c.args.label c.done.result c.take_back.ensures refl refl refl refl refl
+      closes_turns c.args.self.now c.take_back.new.self _ log history c.args.label c.done.result c.take_back.ensures refl refl refl refl refl refl
       (sym (c.is_open.ensures log) ∙ c.if-not-is_open.false) c.done.ensures stands;
 }

@@ -1,5 +1,5 @@
 use Rattle.tier_engine.specs.Steps.{WantsMemory}
-use Rattle.tier_engine.proofs.ServingLaws.{load_part, quiet_statement, statement_as}
+use Rattle.tier_engine.proofs.ServingLaws.{quiet_statement, statement_as}
 use Rattle.tier_engine.proofs.StandingLaws.{turns_first}
 use Rattle.tier_engine.proofs.ReplyLaws.{commit_tells, group_tells, rollback_tells, select_tells}
 use Rattle.tier_engine.proofs.tier.Tier.execute.Goals as goal
@@ -20,8 +20,8 @@ pub returns-in-Call-clause-step : goal.returns-in-Call-clause-step
 returns-in-Call-clause-step g c = statement_as _ _ _ _ _ _ _ _ _ _ _ c.in-Call.is c.call.ensures.step
 
 pub returns-in-Load-clause-step : goal.returns-in-Load-clause-step
-returns-in-Load-clause-step g c = statement_as _ _ _ _ _ _ _ _ _ _ _ c.in-Load.is (load_part _ _ _ _ _ c.in-Load.field-0 c.requires c.not_yet.ensures)
+returns-in-Load-clause-step g c = statement_as _ _ _ _ _ _ _ _ _ _ _ c.in-Load.is c.load.ensures.step
 
-pub returns-clause-step : goal.returns-clause-step
-returns-clause-step g c =
+pub returns-in-Rollback-clause-step : goal.returns-in-Rollback-clause-step
+returns-in-Rollback-clause-step g c =
     quiet_statement _ _ _ _ _ _ _ _ c.in-Rollback.is (λ log h stands. turns_first _ _ log h _ (λ w w'. WantsMemory w w' c.rollback.result) (c.rollback.ensures.step log h stands)) (rollback_tells c.rollback.result)

@@ -1,21 +1,36 @@
-use Rattle.std.proofs.Common.{◌∙◌, ap, subst, sym, List, Err}
+use Rattle.std.proofs.Common.{◌≡◌, ◌∙◌, refl, ap, subst, sym, List, Some, Err, position, slice_get}
+use Rattle.std.specs.Option.{option_and_then}
 use Rattle.row_types.specs.declared.rule.Refused.{Refused}
+use Rattle.row_types.specs.declared.rule.Rule.{Rule}
 use Rattle.table_state.specs.Declarations.{IsRefusedBy}
-use Rattle.tier_engine.specs.declared.reply.Last.TheVariants.{No}
+use Rattle.autorefresh.specs.Sets.{is_of_table}
+use Rattle.tier_engine.specs.ReadOnlyStoring.{refused_write}
 use Rattle.tier_engine.specs.declared.tier.Group.{Group}
-use Rattle.tier_engine.specs.Answers.{only}
-use Rattle.tier_engine.specs.LiteralValues.{values_of}
+use Rattle.group_defs.specs.LiteralValues.{values_of}
 use Rattle.tier_engine.specs.Refusals.{insert_fault}
 use Rattle.tier_engine.specs.Standing.{own_in}
 use Rattle.tier_engine.specs.Storing.{Puts, place_named}
-use Rattle.tier_engine.proofs.InsertServes.{insert_asked, insert_memory, insert_refused, insert_taken, insert_unknown, put_memory}
+use Rattle.tier_engine.proofs.InsertServes.{insert_asked, insert_memory, insert_read, insert_refused, insert_taken, put_memory}
 use Rattle.tier_engine.proofs.tier.Tier.insert.Goals as goal
+use Rattle.tier_engine.proofs.tier.Tier.insert.Goals.{in-Memory, in-Rule}
+
+-- the rule that is told is the one that is broken
+refused_by : (r rule : Rule) → Some r ≡ Some rule → r ≡ rule
+refused_by r rule e = Prim.cc
 
 pub returns-in_default-clause-step : goal.returns-in_default-clause-step
 returns-in_default-clause-step g c =
-    insert_unknown _ _ _ c.args.self.now c.args.insert c.refuses.result c.requires
-    (ap (λ (l : List Group). place_named l c.args.insert.table) (sym c.as_slice.ensures.value) ∙ sym c.place_of_group.ensures.place ∙ c.in_default.is)
-    (c.refuses.ensures ∙ ap (λ r. only (No r)) c.unknown_table.ensures)
+    elim c.match-refuse_insert.branch [
+      | in-Rule w ↦
+          insert_read _ _ _ c.args.self.now c.args.insert w.in-Rule.rule c.match-refuse_insert.result c.requires
+          (ap (λ (l : List Group). place_named l c.args.insert.table) (sym c.as_slice.ensures.value) ∙ sym c.place_of_group.ensures.place ∙ c.in_default.is)
+          (ap (refused_write (option_and_then (slice_get c.args.self.now.read_only) (position (is_of_table c.args.insert.table) c.args.self.now.read_only)) c.args.insert.table) (sym c.as_slice-in_default.ensures)
+          ∙ refused_by _ _ (subst (λ (r : Refused). IsRefusedBy (Some (refused_write (option_and_then (slice_get c.args.self.now.read_only) (position (is_of_table c.args.insert.table) c.args.self.now.read_only)) c.args.insert.table c.as_slice-in_default.result.now)) r) w.in-Rule.is c.refuse_insert.ensures))
+          (w.result-is ∙ w.refuses.ensures)
+      | in-Memory w ↦
+          insert_memory _ _ _ c.args.self.now c.args.self.now c.args.insert c.match-refuse_insert.result
+          (record { known = refl; groups = refl; read_only = refl; session = refl; unsettled = refl; next = refl }) (w.result-is ∙ w.faulty.ensures)
+    ]
 
 pub returns-in-Err-Rule-clause-step : goal.returns-in-Err-Rule-clause-step
 returns-in-Err-Rule-clause-step g c =

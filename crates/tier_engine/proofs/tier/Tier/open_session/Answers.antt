@@ -8,6 +8,6 @@ returns-in-Err c = record { step = λ log history stands. open_refused c.args.se
 pub returns-in-Ok : goal.returns-in-Ok
 returns-in-Ok c = record {
   step = λ log history stands.
-      opens_turns c.args.self.now _ log history c.args.label c.args.options c.done.result refl refl refl refl
+      opens_turns c.args.self.now _ log history c.args.label c.args.options c.done.result refl refl refl refl refl
       (λ i. Some (record { label = c.in-Ok.ensures.taken i; own = c.new.ensures i; keys = c.new-in-Ok.ensures i })) c.in-Ok.ensures.sound c.done.ensures stands;
 }

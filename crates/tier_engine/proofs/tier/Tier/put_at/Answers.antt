@@ -10,7 +10,7 @@ same_session o a b p q = let r : Some a ≡ Some b = sym p ∙ q in Prim.cc
 
 pub returns : goal.returns
 returns c = (
-  record { known = refl; unsettled = refl; next = refl },
+  record { known = refl; read_only = refl; unsettled = refl; next = refl },
   λ g s there is. (
     c.put.new.group,
     c.put.new.session,

@@ -1,12 +1,9 @@
 use Rattle.std.proofs.Common.{◌<◌, ◌≡◌, ◌∙◌, List, Some, length, ap, subst, sym, ℕ}
 use Rattle.std.specs.List.{slice_get}
 use Rattle.std.proofs.lemmas.Option.{slice_get-get_or}
-use Rattle.row_types.specs.declared.rule.Rule.{Rule}
-use Rattle.tier_engine.specs.Answers.{only}
 use Rattle.tier_engine.specs.Storing.{place_named}
-use Rattle.tier_engine.specs.declared.reply.Last.TheVariants.{No}
 use Rattle.tier_engine.specs.declared.tier.Group.{Group}
-use Rattle.tier_engine.proofs.SelectSteps.{select_rows_step, select_unknown}
+use Rattle.tier_engine.proofs.SelectSteps.{select_read, select_rows_step}
 use Rattle.tier_engine.proofs.tier.Tier.select.Goals as goal
 
 -- one group stands at a place
@@ -16,9 +13,9 @@ rows_same groups place a b e f = let p : Some a ≡ Some b = sym e ∙ f in let 
 pub returns-in_default : goal.returns-in_default
 returns-in_default c = record {
   step = λ log history stands.
-      select_unknown c.args.self.now log history c.args.select c.refuses.result c.requires
+      select_read c.args.self.now log history c.args.select c.select_read_only.result c.requires
       (ap (λ (l : List Group). place_named l c.args.select.table) (sym c.as_slice.ensures.value) ∙ sym c.place_of_group.ensures.place ∙ c.in_default.is)
-      (c.refuses.ensures ∙ ap (λ (rule : Rule). only (No rule)) c.unknown_table.ensures) stands;
+      c.select_read_only.ensures stands;
 }
 
 pub returns-in-Ok : goal.returns-in-Ok

@@ -2,7 +2,7 @@ use Rattle.std.proofs.Common.{subst, Err}
 use Rattle.row_types.specs.declared.rule.Refused.{Refused}
 use Rattle.console_writes.specs.ConsoleTrees.{trees_of}
 use Rattle.tier_engine.specs.ConsoleStoring.{JudgesWrites, tables_known}
-use Rattle.tier_engine.proofs.ConsoleSteps.{writes_cause, writes_made, writes_refused, writes_want}
+use Rattle.tier_engine.proofs.ConsoleSteps.{writes_cause, writes_made, writes_refused}
 use Rattle.tier_engine.proofs.tier.Tier.write_console.Goals as goal
 
 pub returns-in-Ok-clause-step : goal.returns-in-Ok-clause-step

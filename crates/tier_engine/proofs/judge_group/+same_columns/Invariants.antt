@@ -1,6 +1,0 @@
--- The columns get fewer.
-use Rattle.std.proofs.Common.{length}
-use Rattle.tier_engine.proofs.judge_group.+same_columns.Given as goal
-
-abbrev pub decreases-same_columns : goal.decreases-same_columns
-decreases-same_columns l = length l.declared.now
