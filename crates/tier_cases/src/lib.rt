@@ -15,6 +15,8 @@ mod opening;
 #[cfg(test)]
 mod others;
 #[cfg(test)]
+mod read_only;
+#[cfg(test)]
 mod refusals;
 #[cfg(test)]
 mod script;
