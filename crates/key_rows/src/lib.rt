@@ -2,8 +2,10 @@
 #![tactic(auto)]
 
 mod rows;
+mod spare;
 
 pub use rows::Rows;
+pub use spare::Spare;
 
 #[cfg(test)]
 mod tests;

@@ -1,12 +1,13 @@
 //! Rows in key order.
 
-ghost use Rattle.std.specs.Prelude.{◌≡◌, ◌==◌, ◌<◌, ◌≤◌, ◌≢◌, ◌++◌, List, All, take, drop, MatchResult, IfOk, IfErr, OnOk, OnErr, OnSome, length, None, Some, false, not, slice_get, MatchOption, option_copied, if◌then◌else◌};
+ghost use Rattle.std.specs.Prelude.{◌≡◌, ◌==◌, ◌<◌, ◌≤◌, ◌≢◌, ◌+◌, ◌^◌, ◌++◌, List, All, take, drop, MatchResult, IfOk, IfErr, OnOk, OnErr, OnSome, length, None, Some, false, not, slice_get, MatchOption, option_copied, if◌then◌else◌};
 ghost use Rattle.std.specs.List.Sorted.{IsSearchInRange};
 ghost use Rattle.row_types.specs.declared.value.Value.{Value};
 ghost use Rattle.row_types.specs.Order.{key_order};
 ghost use Rattle.key_rows.specs.Places.{IsKeyAt, IsGapFor, IsSplitAt};
 ghost use Rattle.std.specs.FinMap as map;
 
+use crate::spare::Spare;
 use long_list::{LongList, Probe};
 use row_types::{Key, Row, Value, order, order_of_values};
 use std::alloc::{AllocError, Global};
@@ -88,7 +89,8 @@ impl Rows {
 
     /// How many rows there are.
     pub fn len(&self) -> usize
-        ensures { result ≡ map.len self.now }
+        ensures value { result ≡ map.len self.now }
+        ensures fits { result < 2 ^ 63 }
     {
         self.entries.len()
     }
@@ -233,6 +235,16 @@ impl Rows {
                 Some(row)
             }
             Err(_) => None,
+        }
+    }
+    /// Puts a row back where its key has none. It needs no memory.
+    pub fn put_back(&mut self, spare: Spare)
+        requires { map.len self.old + 1 < 2 ^ 63 }
+        ensures { self.new ≡ (if map.contains_key self.old spare.0 then self.old else map.insert self.old spare.0 spare.1) }
+    {
+        match self.search(spare.key()) {
+            Ok(_) => {}
+            Err(place) => self.entries.put_back(place, spare.into_room()),
         }
     }
 }

@@ -1,6 +1,6 @@
 // Rows by key beside what arithmetic says of them.
 
-use crate::Rows;
+use crate::{Rows, Spare};
 use row_types::{Key, Row, Value};
 use std::alloc::{AllocError, Global};
 use std::process::Abort;
@@ -106,5 +106,35 @@ fn neither_replaces_nor_removes_what_is_not_there(rt: HostRuntime) -> Result<(),
     assert!(rt; replaced.is_none());
     assert!(rt; rows.remove(&key_of(3000)).is_none());
     assert_eq!(rt; rows.len(), 2003);
+    Ok(())
+}
+
+#[test]
+fn puts_back_what_left_and_keeps_what_is_there(rt: HostRuntime) -> Result<(), Fail> {
+    let mut rows = filled(&rt, rt.alloc())?;
+    let mut left = Vec::new(rt.alloc());
+    for number in 0..COUNT {
+        let row = row_of(rt.alloc(), number, number * 10)?;
+        left.push(Spare::new(rt.alloc(), key_of(number), row)?)?;
+        if number % 3 != 0 {
+            assert!(rt; rows.remove(&key_of(number)).is_some());
+        }
+    }
+    assert_eq!(rt; rows.len(), 668);
+
+    // Of the others a row with another note is there.
+    for number in 0..COUNT {
+        let _ = rows.replace(key_of(number), row_of(rt.alloc(), number, 7)?);
+    }
+    for spare in left {
+        assert!(rt; spare.row().values().len() == 2);
+        assert!(rt; rows.len() < 3000);
+        rows.put_back(spare);
+    }
+    assert_eq!(rt; rows.len(), 2003);
+    for number in 0..COUNT {
+        let note = if number % 3 == 0 { 7 } else { number * 10 };
+        expect_at(&rt, &rows, number, number as usize, note);
+    }
     Ok(())
 }

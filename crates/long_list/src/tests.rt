@@ -2,7 +2,8 @@
 
 ghost use Rattle.std.specs.Ordering.{nat_cmp};
 
-use crate::{LongList, Probe};
+use crate::{LongList, Probe, Spare};
+use std::alloc::{AllocError, Global};
 use std::cmp::Ordering;
 use std::process::Abort;
 use std::test::Fail;
@@ -98,5 +99,86 @@ fn finds_numbers_in_order(rt: HostRuntime) -> Result<(), Fail> {
         assert_eq!(rt; list.search(&Sought(odd - 1)), Err(i), "below {odd}");
     }
     assert_eq!(rt; list.search(&Sought(2000)), Err(1000));
+    Ok(())
+}
+
+// The list of the tens up to a count, in order.
+fn tens(rt: &impl Abort, alloc: Global, count: u8) -> Result<LongList<u64>, AllocError> {
+    let mut list = LongList::new(alloc);
+    for i in 0..count {
+        let end = usize::from(i);
+        assert!(rt; end <= list.len());
+        list.insert(end, 10 * u64::from(i))?;
+    }
+    Ok(list)
+}
+
+// An element between the tens, and the place where it belongs among so many.
+fn expect_put_back(rt: &impl Abort, alloc: Global, count: u8, place: u8) -> Result<(), AllocError> {
+    let mut list = tens(rt, alloc, count)?;
+    let mut model = Vec::new(alloc);
+    for i in 0..count {
+        model.push(10 * u64::from(i))?;
+    }
+    let element = (10 * u64::from(place)).saturating_sub(5);
+    let spare = Spare::new(alloc, element)?;
+    assert_eq!(rt; *spare.element(), element);
+    let place = usize::from(place);
+    assert!(rt; place <= model.len());
+    model.insert(place, element)?;
+    assert!(rt; place <= list.len() && list.len() < 100);
+    list.put_back(place, spare);
+    expect_same(rt, &list, &model);
+    assert_eq!(rt; list.search(&Sought(45)).is_ok(), place == 5);
+    assert_eq!(rt; list.search(&Sought(99)), Err(model.len()));
+
+    for (at, element) in model.iter().enumerate() {
+        assert!(rt; at < list.len());
+        assert_eq!(rt; list.replace(at, 7), *element);
+    }
+    assert!(rt; place < list.len());
+    assert_eq!(rt; list.remove(place), 7);
+    assert_eq!(rt; list.len(), usize::from(count));
+    Ok(())
+}
+
+#[test]
+fn puts_back_at_each_place(rt: HostRuntime) -> Result<(), Fail> {
+    for count in 0..6 {
+        for place in 0..count + 1 {
+            expect_put_back(&rt, rt.alloc(), count, place)?;
+        }
+    }
+    Ok(())
+}
+
+#[test]
+fn puts_back_a_whole_list(rt: HostRuntime) -> Result<(), Fail> {
+    let mut list = LongList::new(rt.alloc());
+    let mut model = Vec::new(rt.alloc());
+    for i in 0..700 {
+        let end = model.len();
+        assert!(rt; end == list.len());
+        list.insert(end, i)?;
+        model.push(i)?;
+    }
+    let mut random = 1;
+    let mut taken = Vec::new(rt.alloc());
+    for i in 0..700 {
+        random = next_random(random);
+        let place = (random >> 33) as usize % (700 - i);
+        assert!(rt; place < list.len());
+        let spare = Spare::new(rt.alloc(), *list.at(place))?;
+        let _ = list.remove(place);
+        taken.push((place, spare))?;
+    }
+    assert!(rt; list.is_empty());
+    for _ in 0..700 {
+        if let Some((place, spare)) = taken.pop() {
+            assert!(rt; place <= list.len() && list.len() < 700);
+            list.put_back(place, spare);
+        }
+    }
+    expect_same(&rt, &list, &model);
     Ok(())
 }

@@ -1,19 +1,18 @@
-use Rattle.std.proofs.Common.{vec_items, get_or, set, ap, sym, ◌∙◌}
-use Rattle.long_list.proofs.EditLaws.{element_at, element_set}
+use Rattle.std.proofs.Common.{◌∙◌, ◌<◌, ◌++◌, ap, sym, set, length, arith}
+use Rattle.std.proofs.lemmas.List.{set-append_left, set-append_right}
 use Rattle.long_list.proofs.list.LongList.replace.Goals as goal
 
-pub invariant_of-self : goal.invariant_of-self
-invariant_of-self g c =
+pub returns-then-place-end-clause-new : goal.returns-then-place-end-clause-new
+returns-then-place-end-clause-new g c =
     let l = c.self.inside in
-    (element_set vec_items l.chunks.items l.starts.items l.len c.args.self.now c.self.invariant c.self.view_is c.deref.result.now c.deref.ensures.value c.args.place _ _ c.locate-c.ensures c.index_mut.result.now c.index_mut.ensures.value c.requires c.args.element _ (ap (set (vec_items c.index_mut.result.now) c.locate-c.result.1) c.replace.ensures.after)).counted
+    let within : c.args.place < length l.front = omega (arith, c.len-end.ensures, c.if-place-end.true) in
+    ap (λ xs. xs ++ l.tail) c.replace.ensures.new
+    ∙ sym (set-append_left l.front l.tail c.args.place c.args.element within)
+    ∙ ap (λ xs. set xs c.args.place c.args.element) c.self.view_is
 
-pub returns-clause-old : goal.returns-clause-old
-returns-clause-old g c =
+pub returns-else-place-end-clause-new : goal.returns-else-place-end-clause-new
+returns-else-place-end-clause-new g c =
     let l = c.self.inside in
-    let read = c.replace.ensures.value ∙ c.index_mut-2.ensures.value ∙ ap (get_or (vec_items c.index_mut.result.now) c.locate-c.result.1) (sym c.replace.ensures.value) in
-    element_at vec_items l.chunks.items l.starts.items l.len c.args.self.now c.self.invariant c.self.view_is c.deref.result.now c.deref.ensures.value c.args.place _ _ c.locate-c.ensures c.index_mut.result.now c.index_mut.ensures.value c.requires c.replace.result read
-
-pub returns-clause-new : goal.returns-clause-new
-returns-clause-new g c =
-    let l = c.self.inside in
-    (element_set vec_items l.chunks.items l.starts.items l.len c.args.self.now c.self.invariant c.self.view_is c.deref.result.now c.deref.ensures.value c.args.place _ _ c.locate-c.ensures c.index_mut.result.now c.index_mut.ensures.value c.requires c.args.element _ (ap (set (vec_items c.index_mut.result.now) c.locate-c.result.1) c.replace.ensures.after)).view
+    ap (λ xs. l.front ++ xs) c.replace_at.ensures.new
+    ∙ sym (set-append_right l.front l.tail c.len-end.result c.args.place c.args.element (sym c.len-end.ensures) c.if-place-end.false)
+    ∙ ap (λ xs. set xs c.args.place c.args.element) c.self.view_is

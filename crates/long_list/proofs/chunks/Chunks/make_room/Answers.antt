@@ -1,7 +1,7 @@
 use Rattle.std.proofs.Common.{vec_items, ◌∙◌, ◌<◌, ◌+◌, ◌/◌, ap, arith, map, length, get_or}
 use Rattle.std.specs.List.{insert}
 use Rattle.long_list.proofs.EditLaws.{here, chunk, same_chunk, chunk_split, within_starts, start_room, start_read}
-use Rattle.long_list.proofs.list.LongList.make_room.Goals as goal
+use Rattle.long_list.proofs.chunks.Chunks.make_room.Goals as goal
 
 pub index-requires-2 : goal.index-requires-2
 index-requires-2 g c =

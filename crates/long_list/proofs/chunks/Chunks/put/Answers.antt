@@ -1,6 +1,6 @@
 use Rattle.std.proofs.Common.{vec_items, arith, map}
 use Rattle.long_list.proofs.EditLaws.{here, element_put, as_kept, within_starts, all_have_room, on_err}
-use Rattle.long_list.proofs.list.LongList.put.Goals as goal
+use Rattle.long_list.proofs.chunks.Chunks.put.Goals as goal
 
 pub invariant_of-self : goal.invariant_of-self
 invariant_of-self g c =

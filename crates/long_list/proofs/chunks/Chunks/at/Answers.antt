@@ -1,6 +1,6 @@
 use Rattle.std.proofs.Common.{vec_items}
 use Rattle.long_list.proofs.EditLaws.{element_at}
-use Rattle.long_list.proofs.list.LongList.at.Goals as goal
+use Rattle.long_list.proofs.chunks.Chunks.at.Goals as goal
 
 pub returns : goal.returns
 returns g c =

@@ -2,7 +2,7 @@ use Rattle.std.proofs.Common.{vec_items, ◌+◌, ◌∙◌, ◌≡◌, ◌<◌,
 use Rattle.std.proofs.lemmas.List.{length-map}
 use Rattle.std.proofs.lemmas.Grind.{common_steps}
 use Rattle.long_list.proofs.EditLaws.{as_kept, chunks_kept, chunks_joined, counts}
-use Rattle.long_list.proofs.list.LongList.join_next.Goals as goal
+use Rattle.long_list.proofs.chunks.Chunks.join_next.Goals as goal
 
 pub invariant_of-self : goal.invariant_of-self
 invariant_of-self g c =

@@ -1,6 +1,6 @@
 use Rattle.std.proofs.Common.{vec_items, ◌∙◌, ap, ◌++◌, [], ◌∷◌}
 use Rattle.long_list.proofs.EditLaws.{chunk_pushed}
-use Rattle.long_list.proofs.list.LongList.push_chunk.Goals as goal
+use Rattle.long_list.proofs.chunks.Chunks.push_chunk.Goals as goal
 
 pub invariant_of-self-2 : goal.invariant_of-self-2
 invariant_of-self-2 g c =
