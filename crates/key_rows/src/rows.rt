@@ -237,6 +237,7 @@ impl Rows {
             Err(_) => None,
         }
     }
+
     /// Puts a row back where its key has none. It needs no memory.
     pub fn put_back(&mut self, spare: Spare)
         requires { map.len self.old + 1 < 2 ^ 63 }

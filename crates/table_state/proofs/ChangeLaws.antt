@@ -1,10 +1,10 @@
 -- Laws of changes of rows and of taking them back.
-use Rattle.std.proofs.Common.{◌≡◌, ℕ, zero, suc, Bool, true, false, cond, not, ◌&&◌, Option, Some, None, OnSome, List, [], ◌∷◌, ◌++◌, slice_get, slice_set, unwrap_or, is_some, refl, sym, ap, ◌∙◌}
+use Rattle.std.proofs.Common.{◌≡◌, ◌+◌, ◌-◌, ◌<◌, ◌^◌, ℕ, zero, suc, subst, arith, Bool, true, false, cond, not, ◌&&◌, Option, Some, None, OnSome, List, [], ◌∷◌, ◌++◌, slice_get, slice_set, unwrap_or, is_some, refl, sym, ap, ◌∙◌}
 use Rattle.std.specs.Cmp.{eq_by_cmp_equiv}
 use Rattle.std.specs.Ordering.{eq_by_cmp, is_eq}
 use Rattle.std.specs.declared.cmp.Ordering.{Ordering}
 use Rattle.std.specs.declared.cmp.Ordering.TheVariants.{Less, Equal, Greater}
-use Rattle.std.specs.FinMap.{empty, contains_key, get, insert, remove, get-insert, get-remove, same_map}
+use Rattle.std.specs.FinMap.{empty, contains_key, get, insert, len, remove, get-insert, get-remove, len-remove, same_map}
 use Rattle.row_types.specs.declared.value.Value.{Value}
 use Rattle.row_types.specs.Order.{key_order}
 use Rattle.row_types.proofs.OrderLaws.{key_total, key_exact}
@@ -17,7 +17,7 @@ use Rattle.table_state.specs.Tables.{Table, TableState, fits_columns, is_found, 
 use Rattle.table_state.specs.Operations.{applied, with_change, with_row, without_row}
 use Rattle.table_state.specs.declared.refusal.ApplyError.TheVariants as error
 use Rattle.table_state.specs.Refusals.{IsFault, SaysNone, broken_by, insert_fault, update_fault, delete_fault}
-use Rattle.table_state.specs.Changes.{IsKeyIn, all_taken_back, put_in, put_over, taken_back, with_table}
+use Rattle.table_state.specs.Changes.{AllHaveRoom, HasRoom, IsKeyIn, LeadsBack, all_taken_back, put_in, put_over, taken_back, with_table}
 use Rattle.table_state.proofs.RefusalLaws.{insert_is, update_is, delete_is, unbroken, stays_out}
 
 abbrev Row : Type 0
@@ -31,6 +31,33 @@ replaced m new (Some old) key row is some none = some ∙ ap (λ o. cond (is_som
 pub back_push : (undos : List Undo) (undo : Undo) (s : TableState) → all_taken_back (undos ++ undo ∷ []) s ≡ all_taken_back undos (taken_back undo s)
 back_push [] undo s = refl
 back_push (u ∷ undos) undo s = ap (taken_back u) (back_push undos undo s)
+
+pub back_append : (first later : List Undo) (s : TableState) → all_taken_back (first ++ later) s ≡ all_taken_back first (all_taken_back later s)
+back_append [] later s = refl
+back_append (u ∷ first) later s = ap (taken_back u) (back_append first later s)
+
+room_append : (first later : List Undo) (s : TableState) → AllHaveRoom later s → AllHaveRoom first (all_taken_back later s) → AllHaveRoom (first ++ later) s
+room_append [] later s room more = room
+room_append (u ∷ first) later s room more = (room_append first later s room more.0, subst (HasRoom u) (sym (back_append first later s)) more.1)
+
+-- the last change has room, and those before it have when it is taken back
+pub room_last : (undos : List Undo) (undo : Undo) (s : TableState) → AllHaveRoom (undos ++ undo ∷ []) s → HasRoom undo s × AllHaveRoom undos (taken_back undo s)
+room_last [] undo s room = (room.1, tt)
+room_last (u ∷ undos) undo s room =
+    let others = room_last undos undo s room.0 in
+    (others.0, (others.1, subst (HasRoom u) (back_push undos undo s) room.1))
+
+-- changes on the state that others left
+pub leads_on : (first later : List Undo) (before between behind : TableState) → LeadsBack first between before → LeadsBack later behind between → LeadsBack (first ++ later) behind before
+leads_on first later before between behind a b = record {
+  room = room_append first later behind b.room (subst (AllHaveRoom first) (sym b.back) a.room);
+  back = back_append first later behind ∙ ap (all_taken_back first) b.back ∙ a.back;
+}
+
+-- one change more
+pub leads_past : (undos : List Undo) (undo : Undo) (before between behind : TableState) → LeadsBack undos between before → taken_back undo behind ≡ between → HasRoom undo behind → LeadsBack (undos ++ undo ∷ []) behind before
+leads_past undos undo before between behind a is room =
+    leads_on undos (undo ∷ []) before between behind a (record { room = (tt, room); back = is })
 
 -- a table of the state, set twice
 
@@ -69,6 +96,18 @@ unchange m key old new is = ap (λ b. cond b (insert (insert m key new) key old)
   where
     there : (k : Row) → is_some (get (insert m k new) k) ≡ true
     there k = ap is_some (get-insert key_total m k new k ∙ ap (λ b. cond b (Some new) (get m k)) ((eq_by_cmp_equiv key_total).refl k))
+
+pub undelete : (m : Table) (key old : Row) → get m key ≡ Some old → put_in (remove m key) key old ≡ m
+undelete m key old is = ap (λ b. cond b (remove m key) (insert (remove m key) key old)) gone ∙ same_map key_total key_exact (insert (remove m key) key old) m (λ q.
+    get-insert key_total (remove m key) key old q ∙ ap (λ o. cond (eq_by_cmp key_order q key) (Some old) o) (get-remove key_total m key q) ∙
+    elim (key_order q key) as (λ r. key_order q key ≡ r → cond (is_eq r) (Some old) (cond (is_eq r) None (get m q)) ≡ get m q) [
+      | Less ↦ λ e. refl
+      | Equal ↦ λ e. sym is ∙ ap (get m) (sym (key_exact q key e))
+      | Greater ↦ λ e. refl
+    ] refl)
+  where
+    gone : is_some (get (remove m key) key) ≡ false
+    gone = ap is_some (get-remove key_total m key key ∙ ap (λ b. cond b None (get m key)) ((eq_by_cmp_equiv key_total).refl key))
 
 -- only the same values are the same
 
@@ -130,10 +169,30 @@ updated s t old new key none is_key =
       λ m m_is. ap (λ x. put_over x key old) put ∙ unchange table key old new found ∙ same_some (sym table_is ∙ m_is),
     )
 
-pub deleted : (s : TableState) (t : TableId) (old key : Row) → broken_by (Delete t old) s ≡ None → IsKeyIn s t old key → applied (Delete t old) s ≡ Some (with_table s t (remove (table_at s t) key))
+pub deleted : (s : TableState) (t : TableId) (old key : Row) → broken_by (Delete t old) s ≡ None → IsKeyIn s t old key →
+    (applied (Delete t old) s ≡ Some (with_table s t (remove (table_at s t) key))) × ((m : Table) → slice_get s.tables t.0 ≡ Some m → put_in (remove (table_at s t) key) key old ≡ m)
 deleted s t old key none is_key =
     let (def, table, def_is, table_is, test, made) = unbroken s t (delete_fault s t old) (without_row s t old) _ (λ def table. remove table (key_of def.primary_key old)) (delete_is s t old) (λ def table. refl) none in
-    made ∙ ap (λ k. Some (with_table s t (remove table k))) (sym (is_key def def_is)) ∙ ap (λ m. Some (with_table s t (remove m key))) (sym (at_table s t table table_is))
+    let at : table_at s t ≡ table = at_table s t table table_is in
+    let found : get table key ≡ Some old = ap (get table) (is_key def def_is) ∙ row_found old _ (both_true _ _ test).0 in (
+      made ∙ ap (λ k. Some (with_table s t (remove table k))) (sym (is_key def def_is)) ∙ ap (λ m. Some (with_table s t (remove m key))) (sym at),
+      λ m m_is. ap (λ x. put_in (remove x key) key old) at ∙ undelete table key old found ∙ same_some (sym table_is ∙ m_is),
+    )
+
+set_at : (tables : List Table) (t : ℕ) (m a : Table) → slice_get tables t ≡ Some m → unwrap_or (slice_get (slice_set tables t a) t) empty ≡ a
+set_at [] t m a e = cc
+set_at (x ∷ tables) zero m a e = refl
+set_at (x ∷ tables) (suc t) m a e = set_at tables t m a e
+
+-- a table that a row left can take it back
+pub deleted_room : (s : TableState) (t : TableId) (old key : Row) → broken_by (Delete t old) s ≡ None → IsKeyIn s t old key → len (table_at s t) < 2 ^ 63 → len (table_at (with_table s t (remove (table_at s t) key)) t) + 1 < 2 ^ 63
+deleted_room s t old key none is_key held =
+    let (def, table, def_is, table_is, test, made) = unbroken s t (delete_fault s t old) (without_row s t old) _ (λ def table. remove table (key_of def.primary_key old)) (delete_is s t old) (λ def table. refl) none in
+    let at : table_at s t ≡ table = at_table s t table table_is in
+    let found : get table key ≡ Some old = ap (get table) (is_key def def_is) ∙ row_found old _ (both_true _ _ test).0 in
+    let left : table_at (with_table s t (remove (table_at s t) key)) t ≡ remove table key = set_at s.tables t.0 table (remove (table_at s t) key) table_is ∙ ap (λ m. remove m key) at in
+    let fewer : len (remove table key) ≡ len table - 1 = len-remove key_total table key ∙ ap (λ o. cond (is_some o) (len table - 1) (len table)) found in
+    omega (arith, ap len left, fewer, ap len at, held)
 
 -- an operation applies exactly where it breaks no rule
 

@@ -1,5 +1,5 @@
 -- Laws of the index by parent.
-use Rattle.std.proofs.Common.{◌≡◌, ◌≢◌, ℕ, Bool, true, false, not, Option, Some, None, List, [], ◌∷◌, ◌++◌, length, map, slice_get, unwrap_or, cond, is_some, inl, inr, ◌⊎◌, refl, sym, ap, subst, ◌∙◌, arith}
+use Rattle.std.proofs.Common.{◌≡◌, ℕ, Bool, true, false, not, Option, Some, None, List, [], ◌∷◌, ◌++◌, length, slice_get, unwrap_or, cond, is_some, inl, inr, refl, sym, ap, subst, ◌∙◌}
 use Rattle.std.specs.Ordering.{is_eq}
 use Rattle.std.specs.declared.cmp.Ordering.{Ordering}
 use Rattle.std.specs.declared.cmp.Ordering.TheVariants.{Less, Equal, Greater}
@@ -8,11 +8,11 @@ use Rattle.std.specs.List.{find}
 use Rattle.std.proofs.lemmas.List.{length-map}
 use Rattle.row_types.specs.declared.value.Value.{Value}
 use Rattle.row_types.specs.declared.value.Value.TheVariants.{Null}
-use Rattle.row_types.specs.Order.{key_order, order_of}
+use Rattle.row_types.specs.Order.{key_order}
 use Rattle.row_types.proofs.OrderLaws.{order_exact}
 use Rattle.table_state.specs.declared.parents.Parents.{Parents}
 use Rattle.table_state.specs.Changes.{put_in}
-use Rattle.table_state.specs.Indexes.{IsEntryIn, IsIndexOf, IsIndexed, entry_of, with_entry, without_entry}
+use Rattle.table_state.specs.Indexes.{IsEntryIn, IsIndexOf, entry_of, with_entry, without_entry}
 use Rattle.table_state.specs.Refusals.{changes}
 use Rattle.table_state.specs.Tables.{Table, key_of}
 use Rattle.table_state.proofs.EntryLaws.{decided, get_gone, get_left, get_new, get_other, insert_over, left_keeps, left_only, put_has, put_keeps, put_only, tail_of}

@@ -1,7 +1,7 @@
 -- Laws of looking through a list, and of a table of a state.
 use Rattle.std.proofs.Common.{◌≡◌, ℕ, zero, suc, ◌+◌, ◌≤◌, Bool, true, false, cond, Some, None, List, [], ◌∷◌, length, drop, slice_get, unwrap_or, is_some, refl, sym, ap, ◌∙◌, arith}
 use Rattle.std.specs.List.{find}
-use Rattle.std.specs.FinMap.{empty, contains_key, get-empty}
+use Rattle.std.specs.FinMap.{empty, contains_key, get-empty, len, len-empty}
 use Rattle.std.proofs.lemmas.List.{drop_all}
 use Rattle.row_types.specs.declared.value.Value.{Value}
 use Rattle.row_types.specs.Order.{key_order}
@@ -41,3 +41,6 @@ no_table tables t key e = ap is_some (sym (get-empty key_order key)) ∙ ap (λ 
 
 pub its_table : (tables : List Table) (t : ℕ) (table : Table) (key : List Value) → Some table ≡ slice_get tables t → contains_key table key ≡ contains_key (unwrap_or (slice_get tables t) empty) key
 its_table tables t table key e = ap (λ o. contains_key (unwrap_or o empty) key) e
+
+pub no_rows : (tables : List Table) (t : ℕ) → None ≡ slice_get tables t → len (unwrap_or (slice_get tables t) empty) ≡ 0
+no_rows tables t e = ap (λ o. len (unwrap_or o empty)) (sym e) ∙ len-empty key_order (List Value)

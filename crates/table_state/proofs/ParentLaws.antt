@@ -1,7 +1,7 @@
 -- Laws of looking up the rows of a parent in the index.
-use Rattle.std.proofs.Common.{◌≡◌, ◌≢◌, ℕ, zero, suc, ◌+◌, ◌-◌, is_some, ◌<◌, ◌≤◌, Bool, true, false, cond, ◌&&◌, All, Option, Some, None, List, [], ◌∷◌, ◌++◌, length, drop, take, nat_le, slice_get, unwrap_or, length-append, inl, inr, refl, sym, ap, subst, ◌∙◌, arith}
-use Rattle.std.specs.declared.cmp.Ordering.TheVariants.{Less, Equal, Greater}
-use Rattle.std.specs.FinMap.{contains_key, entries, get, keys, len, len-entries, values}
+use Rattle.std.proofs.Common.{◌≡◌, ◌≢◌, ℕ, zero, suc, ◌+◌, ◌-◌, is_some, ◌<◌, ◌≤◌, Bool, true, false, cond, ◌&&◌, All, Some, None, List, [], ◌∷◌, ◌++◌, length, drop, take, nat_le, slice_get, unwrap_or, length-append, inl, inr, refl, sym, ap, subst, ◌∙◌, arith}
+use Rattle.std.specs.declared.cmp.Ordering.TheVariants.{Less}
+use Rattle.std.specs.FinMap.{entries, get, keys, len, len-entries, values}
 use Rattle.std.proofs.lemmas.Bool.{cases_lt, cases_order}
 use Rattle.std.proofs.lemmas.List.{length-map}
 use Rattle.row_types.specs.declared.value.Value.{Value}

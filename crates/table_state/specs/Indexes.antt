@@ -1,6 +1,6 @@
 -- An index of rows by parent: an entry for each row, by the parent's key with the row's own key behind it.
 
-use Rattle.std.specs.Prelude.{◌≡◌, ◌≢◌, ℕ, List, [], ◌++◌, Option, Some, None, Bool, true, ◌&&◌, drop, length, nat_le, take, if◌then◌else◌}
+use Rattle.std.specs.Prelude.{◌≡◌, ◌≢◌, ℕ, List, [], ◌++◌, Option, Some, None, true, ◌&&◌, drop, length, nat_le, take, if◌then◌else◌}
 use Rattle.std.specs.declared.cmp.Ordering.TheVariants.{Less}
 use Rattle.std.specs.FinMap.{contains_key, get, remove}
 use Rattle.row_types.specs.declared.value.Value.{Value}

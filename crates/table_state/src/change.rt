@@ -1,11 +1,12 @@
 //! Changes of one row, and how they are taken back.
 
-ghost use Rattle.std.specs.Prelude.{◌≡◌, OnErr, OnOk};
+ghost use Rattle.std.specs.Prelude.{◌≡◌, ◌+◌, ◌<◌, ◌^◌, OnErr, OnOk};
 ghost use Rattle.std.specs.FinMap as map;
-ghost use Rattle.table_state.specs.Changes.{all_taken_back, put_in, put_over, taken_back, with_table};
+ghost use Rattle.table_state.specs.Changes.{HasRoom, put_in, put_over, taken_back, with_table};
 ghost use Rattle.table_state.specs.Tables.{table_at};
 
 use crate::tables::Tables;
+use key_rows::Spare;
 use row_types::{Key, Row};
 use std::alloc::{AllocError, Global};
 use tier_base::TableId;
@@ -17,6 +18,8 @@ pub(crate) enum Undo {
     Inserted(TableId, Key),
     /// The key had this row.
     Changed(TableId, Key, Row),
+    /// This row left.
+    Deleted(TableId, Spare),
 }
 
 impl Tables {
@@ -58,23 +61,26 @@ impl Tables {
         }
     }
 
+    /// Puts back a row that left where its key has none. It doesn't fail.
+    fn put_back(&mut self, alloc: Global, table: TableId, left: Spare)
+        requires { map.len (table_at self.old table) + 1 < 2 ^ 63 }
+        ensures { self.new ≡ with_table self.old table (put_in (table_at self.old table) left.0 left.1) }
+    {
+        let place = table.0 as usize;
+        if place < self.rows.len() {
+            self.rows[place].put_back(alloc, left);
+        }
+    }
+
     /// Takes a change back. It doesn't fail.
     pub(crate) fn take_back(&mut self, alloc: Global, undo: Undo)
+        requires { HasRoom undo self.old }
         ensures { self.new ≡ taken_back undo self.old }
     {
         match undo {
             Undo::Inserted(table, key) => self.take_out(alloc, table, &key),
             Undo::Changed(table, key, row) => self.put_over(alloc, table, key, row),
-        }
-    }
-
-    /// Takes changes back, the last one first. It doesn't fail.
-    pub(crate) fn take_all_back(&mut self, alloc: Global, done: Vec<Undo>)
-        ensures { self.new ≡ all_taken_back done.items self.old }
-    {
-        let mut done = done;
-        while let Some(undo) = done.pop() {
-            self.take_back(alloc, undo);
+            Undo::Deleted(table, left) => self.put_back(alloc, table, left),
         }
     }
 }

@@ -1,14 +1,14 @@
 //! The rows of a table beside an index.
 
-ghost use Rattle.std.specs.Prelude.{◌≡◌, IfOk, OnErr, OnOk, drop};
+ghost use Rattle.std.specs.Prelude.{◌≡◌, ◌+◌, ◌<◌, ◌^◌, IfOk, OnErr, OnOk, drop};
 ghost use Rattle.std.specs.FinMap as map;
 ghost use Rattle.table_state.specs.Changes.{put_in, put_over};
 ghost use Rattle.table_state.specs.Children.{first_from, has_key};
 
 use crate::copy::copied_rows;
 use crate::definition::ForeignKey;
-use crate::parents::{Parents, insert_both, remove_both, replace_both, walked};
-use key_rows::Rows;
+use crate::parents::{Parents, insert_both, put_back_both, remove_both, replace_both, walked};
+use key_rows::{Rows, Spare};
 use row_types::{Key, Row};
 use std::alloc::{AllocError, Global};
 use std::marker::Model;
@@ -122,6 +122,19 @@ impl Indexed {
             }
             Some(parents) => {
                 self.parents = remove_both(alloc, &mut self.rows, parents, key);
+            }
+        }
+    }
+
+    /// Puts back a row that left where its key has none.
+    pub(crate) fn put_back(&mut self, alloc: Global, left: Spare)
+        requires { map.len self.old + 1 < 2 ^ 63 }
+        ensures { self.new ≡ put_in self.old left.0 left.1 }
+    {
+        match self.parents.take() {
+            None => self.rows.put_back(left),
+            Some(parents) => {
+                self.parents = put_back_both(alloc, &mut self.rows, parents, left);
             }
         }
     }

@@ -20,6 +20,7 @@ pub mod refusal;
 pub mod tables;
 mod transaction;
 mod types;
+mod undo_log;
 
 pub use check::{key_places, refuse_types};
 pub use copy::copied_schema;
@@ -33,6 +34,7 @@ pub use operation::{Op, Ops, copied_ops, same_ops};
 pub use refusal::ApplyError;
 pub use tables::Tables;
 pub use types::has_type;
+pub use undo_log::UndoLog;
 
 #[cfg(test)]
 mod tests;

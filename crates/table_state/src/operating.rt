@@ -1,15 +1,18 @@
 //! Operations applied to tables.
 
-ghost use Rattle.std.specs.Prelude.{◌≡◌, IfErr, IfOk, OnErr, OnOk, Some};
+ghost use Rattle.std.specs.Prelude.{◌≡◌, ◌<◌, ◌^◌, IfErr, IfOk, OnErr, OnOk, Some};
+ghost use Rattle.std.specs.FinMap as map;
 ghost use Rattle.table_state.specs.Operations.{applied};
+ghost use Rattle.table_state.specs.Tables.{table_at};
 ghost use Rattle.table_state.specs.Refusals.{IsFault, Judges, SaysNone, broken_by};
-ghost use Rattle.table_state.specs.Changes.{IsKeyIn, taken_back};
+ghost use Rattle.table_state.specs.Changes.{HasRoom, IsKeyIn, taken_back};
 
 use crate::change::Undo;
 use crate::fitting::broken;
 use crate::operation::Op;
 use crate::refusal::ApplyError;
 use crate::tables::Tables;
+use key_rows::Spare;
 use row_types::{Detail, Key, Row};
 use std::alloc::Global;
 use tier_base::{Code, TableId};
@@ -41,6 +44,21 @@ impl Tables {
         }
     }
 
+    /// Applies an operation, and tells how that is taken back. The error is that of `apply`.
+    pub(crate) fn apply_undoable(&mut self, alloc: Global, op: &Op) -> Result<Undo, ApplyError>
+        ensures ok { OnOk result (applied op.now self.old ≡ Some self.new) }
+        ensures undo { IfOk result (λ undo. taken_back undo self.new ≡ self.old) }
+        ensures room { IfOk result (λ undo. HasRoom undo self.new) }
+        ensures refused { IfErr result (IsFault (broken_by op.now self.old)) }
+        ensures unchanged { OnErr result (self.new ≡ self.old) }
+    {
+        match op {
+            Op::Insert(table, row) => self.insert(alloc, *table, row),
+            Op::Update(table, old, new) => self.update(alloc, *table, old, new),
+            Op::Delete(table, old) => self.delete_kept(alloc, *table, old),
+        }
+    }
+
     /// Inserts a row, and tells how that is taken back.
     pub(crate) fn insert(
         &mut self,
@@ -50,6 +68,7 @@ impl Tables {
     ) -> Result<Undo, ApplyError>
         ensures ok { OnOk result (applied (Op.Insert table row.now) self.old ≡ Some self.new) }
         ensures undo { IfOk result (λ undo. taken_back undo self.new ≡ self.old) }
+        ensures room { IfOk result (λ undo. HasRoom undo self.new) }
         ensures refused { IfErr result (IsFault (broken_by (Op.Insert table row.now) self.old)) }
         ensures unchanged { OnErr result (self.new ≡ self.old) }
     {
@@ -69,6 +88,7 @@ impl Tables {
     ) -> Result<Undo, ApplyError>
         ensures ok { OnOk result (applied (Op.Update table old.now new.now) self.old ≡ Some self.new) }
         ensures undo { IfOk result (λ undo. taken_back undo self.new ≡ self.old) }
+        ensures room { IfOk result (λ undo. HasRoom undo self.new) }
         ensures refused { IfErr result (IsFault (broken_by (Op.Update table old.now new.now) self.old)) }
         ensures unchanged { OnErr result (self.new ≡ self.old) }
     {
@@ -88,6 +108,34 @@ impl Tables {
         let key = self.judge_delete(alloc, table, old)?;
         self.take_out(alloc, table, &key);
         Ok(())
+    }
+
+    // Deletes a row, and tells how that is taken back.
+    fn delete_kept(&mut self, alloc: Global, table: TableId, old: &Row) -> Result<Undo, ApplyError>
+        ensures ok { OnOk result (applied (Op.Delete table old.now) self.old ≡ Some self.new) }
+        ensures undo { IfOk result (λ undo. taken_back undo self.new ≡ self.old) }
+        ensures room { IfOk result (λ undo. HasRoom undo self.new) }
+        ensures refused { IfErr result (IsFault (broken_by (Op.Delete table old.now) self.old)) }
+        ensures unchanged { OnErr result (self.new ≡ self.old) }
+    {
+        let key = self.judge_delete(alloc, table, old)?;
+        let kept = key.copied(alloc)?;
+        let old = old.copied(alloc)?;
+        let left = Spare::new(alloc, kept, old)?;
+        let _held = self.count(table);
+        self.take_out(alloc, table, &key);
+        Ok(Undo::Deleted(table, left))
+    }
+
+    // How many rows a table has.
+    fn count(&self, table: TableId) -> usize
+        ensures value { result ≡ map.len (table_at self.now table) }
+        ensures fits { map.len (table_at self.now table) < 2 ^ 63 }
+    {
+        match self.table(table) {
+            None => 0,
+            Some(rows) => rows.len(),
+        }
     }
 
     fn judge_insert(&self, alloc: Global, table: TableId, row: &Row) -> Result<Key, ApplyError>

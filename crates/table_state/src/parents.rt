@@ -1,6 +1,6 @@
 //! An index of the rows of a table by parent.
 
-ghost use Rattle.std.specs.Prelude.{◌≡◌, ◌++◌, IfOk, OnErr, OnOk, drop, option_copied};
+ghost use Rattle.std.specs.Prelude.{◌≡◌, ◌+◌, ◌<◌, ◌^◌, ◌++◌, None, IfOk, OnErr, OnOk, drop, option_copied};
 ghost use Rattle.std.specs.FinMap as map;
 ghost use Rattle.table_state.specs.Changes.{put_in, put_over};
 ghost use Rattle.table_state.specs.Children.{first_from, has_key};
@@ -11,7 +11,7 @@ use crate::copy::copied_rows;
 use crate::definition::{ForeignKey, copied_places};
 use crate::fitting::{first_change, has_key, is_same_values};
 use crate::lookup::values_at;
-use key_rows::Rows;
+use key_rows::{Rows, Spare};
 use row_types::{Key, Row, Value};
 use std::alloc::{AllocError, Global};
 use tier_base::Seq;
@@ -110,6 +110,25 @@ impl Parents {
                 Some(left)
             }
         }
+    }
+
+    // None where memory is wanting.
+    fn joined(self, alloc: Global, key: &Key, row: &Row) -> Option<Parents>
+        ensures { (rows : Table) → IsIndexOf self rows → map.get rows key.now ≡ None → IsIndexed result (map.insert rows key.now row.now) }
+    {
+        match self.with_row(alloc, key, row) {
+            Ok(joined) => Some(joined),
+            Err(_) => None,
+        }
+    }
+
+    fn with_row(self, alloc: Global, key: &Key, row: &Row) -> Result<Parents, AllocError>
+        ensures { IfOk result (λ joined. joined ≡ with_entry (entry_of self key.now row.now) self) }
+    {
+        let mut joined = self;
+        let entry = joined.entry_of(alloc, key, row)?;
+        joined.enter(alloc, entry)?;
+        Ok(joined)
     }
 
     // The key of the first row of a parent whose key isn't below the least.
@@ -220,6 +239,26 @@ pub(crate) fn remove_both(
         None => Some(parents),
         Some(row) => parents.left(alloc, key, &row),
     }
+}
+
+/// Puts back a row that left where its key has none, and gives back the index, where memory is left for it.
+pub(crate) fn put_back_both(
+    alloc: Global,
+    rows: &mut Rows,
+    parents: Parents,
+    left: Spare,
+) -> Option<Parents>
+    requires index { IsIndexOf parents rows.old }
+    requires room { map.len rows.old + 1 < 2 ^ 63 }
+    ensures index { IsIndexed result rows.new }
+    ensures rows { rows.new ≡ put_in rows.old left.0 left.1 }
+{
+    if rows.contains_key(left.key()) {
+        return Some(parents);
+    }
+    let joined = parents.joined(alloc, left.key(), left.row());
+    rows.put_back(left);
+    joined
 }
 
 /// The first place, from a place on, of a row that has the key at these columns. It goes through the rows from there.

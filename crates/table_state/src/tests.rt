@@ -14,6 +14,7 @@ use std::test::Fail;
 use tier_base::{Name, NameError, Seq, TableId, Ticket};
 
 mod index;
+mod undo;
 
 const PARENT: TableId = TableId(0);
 

@@ -1,24 +1,24 @@
 //! Transactions and histories applied to tables.
 
-ghost use Rattle.std.specs.Prelude.{◌≡◌, [], ◌∷◌, ◌++◌, IfErr, IfOk, MatchOption, OnErr, OnOk, Some};
+ghost use Rattle.std.specs.Prelude.{◌≡◌, [], ◌∷◌, ◌++◌, IfErr, IfOk, OnErr, OnOk, Some};
 ghost use Rattle.table_state.specs.Operations.{applied, applied_all};
 ghost use Rattle.table_state.specs.Histories.{after_entry, state_from};
 ghost use Rattle.table_state.specs.Refusals.{IsFault, SaysNone, StopsAt, broken_by, broken_by_all, broken_by_entry, broken_in};
-ghost use Rattle.table_state.specs.Changes.{taken_back};
+ghost use Rattle.table_state.specs.Changes.{LeadsBack};
+ghost use Rattle.table_state.specs.Tables.{TableState};
 
-use crate::change::Undo;
 use crate::history::Entry;
 use crate::operation::Op;
 use crate::refusal::ApplyError;
 use crate::tables::Tables;
+use crate::undo_log::UndoLog;
 use std::alloc::Global;
 
 impl Tables {
     /// Applies the operations of a transaction from left to right, all or none.
     ///
     /// The error is that of the first operation that doesn't apply, as `apply` tells it. After an error, want of
-    /// memory too, the tables are as they were. A transaction costs what its own rows cost, but one with a delete
-    /// before its last operation is applied to a copy of the tables.
+    /// memory too, the tables are as they were. A transaction costs what its own rows cost.
     pub fn apply_all(&mut self, alloc: Global, ops: &[Op]) -> Result<(), ApplyError>
         ensures ok { OnOk result (applied_all ops.now self.old ≡ Some self.new) }
         ensures refused { IfErr result (IsFault (broken_by_all ops.now self.old)) }
@@ -27,12 +27,12 @@ impl Tables {
     {
         match ops.split_last() {
             None => Ok(()),
-            Some((last, front)) => self.apply_in_place(alloc, ops, front, last),
+            Some((last, front)) => self.apply_front(alloc, ops, front, last),
         }
     }
 
-    // The changes before the last one are kept until all are done, so that they can be taken back.
-    fn apply_in_place(
+    // How the last operation is taken back isn't noted.
+    fn apply_front(
         &mut self,
         alloc: Global,
         ops: &[Op],
@@ -44,76 +44,54 @@ impl Tables {
         ensures refused { IfErr result (IsFault (broken_by_all ops.now self.old)) }
         ensures unchanged { OnErr result (self.new ≡ self.old) }
     {
-        let mut done: Vec<Undo> = Vec::with_capacity(alloc, front.len())?;
-        for op in front {
-            match self.apply_undoable(alloc, op) {
+        match self.apply_noted(alloc, front) {
+            Err(e) => Err(e),
+            Ok(log) => match self.apply(alloc, last) {
+                Ok(()) => Ok(()),
                 Err(e) => {
-                    self.take_all_back(alloc, done);
-                    return Err(e);
+                    self.take_all_back(alloc, log);
+                    Err(e)
                 }
-                Ok(None) => {
-                    self.take_all_back(alloc, done);
-                    return self.apply_to_copy(alloc, ops);
-                }
-                Ok(Some(undo)) => match done.push(undo) {
-                    Ok(()) => {}
-                    Err(failed) => {
-                        self.take_back(alloc, failed.value);
-                        self.take_all_back(alloc, done);
-                        return Err(ApplyError::Memory);
-                    }
-                },
-            }
-        }
-        match self.apply(alloc, last) {
-            Ok(()) => Ok(()),
-            Err(e) => {
-                self.take_all_back(alloc, done);
-                Err(e)
-            }
+            },
         }
     }
 
-    // Applies an insert or an update, and tells how that is taken back. Nothing is done of a delete.
-    fn apply_undoable(&mut self, alloc: Global, op: &Op) -> Result<Option<Undo>, ApplyError>
-        ensures ok { IfOk result (λ undo. MatchOption undo (self.new ≡ self.old) (λ _. applied op.now self.old ≡ Some self.new)) }
-        ensures undo { IfOk result (λ undo. MatchOption undo (self.new ≡ self.old) (λ undo. taken_back undo self.new ≡ self.old)) }
+    /// Applies the operations of a transaction as `apply_all` does, and tells how that is taken back.
+    pub fn apply_noted(&mut self, alloc: Global, ops: &[Op]) -> Result<UndoLog, ApplyError>
+        ensures ok { OnOk result (applied_all ops.now self.old ≡ Some self.new) }
+        ensures back { IfOk result (λ log. LeadsBack log self.new self.old) }
+        ensures refused { IfErr result (IsFault (broken_by_all ops.now self.old)) }
+        ensures none { IfErr result (SaysNone (applied_all ops.now self.old)) }
+        ensures unchanged { OnErr result (self.new ≡ self.old) }
+    {
+        let mut log = UndoLog::new(alloc);
+        for op in ops {
+            match self.apply_one(alloc, op, &mut log) {
+                Ok(()) => {}
+                Err(e) => {
+                    self.take_all_back(alloc, log);
+                    return Err(e);
+                }
+            }
+        }
+        Ok(log)
+    }
+
+    // Applies an operation, and notes how that is taken back.
+    fn apply_one(&mut self, alloc: Global, op: &Op, log: &mut UndoLog) -> Result<(), ApplyError>
+        ensures ok { OnOk result (applied op.now self.old ≡ Some self.new) }
+        ensures back { (s : TableState) → LeadsBack log.old self.old s → LeadsBack log.new self.new s }
         ensures refused { IfErr result (IsFault (broken_by op.now self.old)) }
         ensures unchanged { OnErr result (self.new ≡ self.old) }
     {
-        match op {
-            Op::Insert(table, row) => {
-                let undo = self.insert(alloc, *table, row)?;
-                Ok(Some(undo))
+        let undo = self.apply_undoable(alloc, op)?;
+        match log.push(undo) {
+            Ok(()) => Ok(()),
+            Err(undo) => {
+                self.take_back(alloc, undo);
+                Err(ApplyError::Memory)
             }
-            Op::Update(table, old, new) => {
-                let undo = self.update(alloc, *table, old, new)?;
-                Ok(Some(undo))
-            }
-            Op::Delete(_, _) => Ok(None),
         }
-    }
-
-    fn apply_to_copy(&mut self, alloc: Global, ops: &[Op]) -> Result<(), ApplyError>
-        ensures ok { OnOk result (applied_all ops.now self.old ≡ Some self.new) }
-        ensures refused { IfErr result (IsFault (broken_by_all ops.now self.old)) }
-        ensures unchanged { OnErr result (self.new ≡ self.old) }
-    {
-        let mut copy = self.copied(alloc)?;
-        copy.apply_each(alloc, ops)?;
-        *self = copy;
-        Ok(())
-    }
-
-    // After an error those before it stay applied.
-    fn apply_each(&mut self, alloc: Global, ops: &[Op]) -> Result<(), ApplyError>
-        ensures ok { OnOk result (applied_all ops.now self.old ≡ Some self.new) }
-        ensures refused { IfErr result (IsFault (broken_by_all ops.now self.old)) }
-    {
-        for op in ops {
-            self.apply(alloc, op)?;
-        }
-        Ok(())
     }
 
     /// Takes the step of one entry of the history.

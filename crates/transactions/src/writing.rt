@@ -1,17 +1,20 @@
 //! The writes of one transaction.
 
-ghost use Rattle.std.specs.Prelude.{◌≡◌, ◌≤◌, IfErr, IfOk, OnErr, Some, length};
+ghost use Rattle.std.specs.Prelude.{◌≡◌, ◌≤◌, IfErr, IfOk, OnErr, OnOk, Some, length};
 ghost use Rattle.tier_base.specs.Limits.{greatest};
 ghost use Rattle.tier_base.specs.declared.limit.Limit.TheVariants.{Operations};
 ghost use Rattle.table_scan.specs.Keyed.{IsKeyed};
+ghost use Rattle.table_state.specs.Changes.{LeadsBack};
 ghost use Rattle.table_state.specs.Operations.{applied_all};
+ghost use Rattle.table_state.specs.Refusals.{IsFault, broken_by_all};
+ghost use Rattle.table_state.specs.Tables.{TableState};
 ghost use Rattle.transactions.specs.Transactions.{Leaves, Tells, written_by, written_by_all};
 
 use crate::written::{Written, rows_in};
 use evaluator::{Change, effects};
 use row_types::Refused;
 use std::alloc::Global;
-use table_state::{ApplyError, Op, Tables};
+use table_state::{ApplyError, Op, Tables, UndoLog};
 use tier_base::{Limit, Seq};
 
 /// Does the writes of a transaction, one after the other, each on the tables as those before it leave them: all of
@@ -23,7 +26,7 @@ use tier_base::{Limit, Seq};
 /// write with another number of expressions than columns, or that changes a primary key. `ApplyError::Differs` is told
 /// as `apply_all` tells it. `ApplyError::Memory` may come at any time. After an error the tables are as they were.
 ///
-/// One write is done as `apply_all` does it. Several are done on a copy of the tables, which goes through all rows.
+/// It costs what its own rows cost: what was done is taken back where a later write is refused.
 pub fn write_all(
     alloc: Global,
     tables: &mut Tables,
@@ -36,14 +39,12 @@ pub fn write_all(
     ensures applies { IfOk result (λ written. applied_all written.ops tables.old ≡ Some tables.new) }
     ensures limited { IfOk result (λ written. length written.ops ≤ greatest Operations) }
 {
-    match writes.split_first() {
-        None => Ok(Written::nothing(alloc)),
-        Some((write, rest)) => {
-            if rest.is_empty() {
-                write_one(alloc, tables, most_operations(), write)
-            } else {
-                write_to_copy(alloc, tables, writes)
-            }
+    let mut log = UndoLog::new(alloc);
+    match write_each(alloc, tables, writes, &mut log) {
+        Ok(written) => Ok(written),
+        Err(error) => {
+            tables.take_all_back(alloc, log);
+            Err(error)
         }
     }
 }
@@ -55,37 +56,25 @@ fn most_operations() -> usize
     Limit::Operations.number() as usize
 }
 
-fn write_to_copy(
+// After an error those before it stay done. What is done is noted in any case.
+fn write_each(
     alloc: Global,
     tables: &mut Tables,
     writes: &[Change],
+    log: &mut UndoLog,
 ) -> Result<Written, ApplyError>
     requires { IsKeyed tables.old }
     ensures written { IfOk result (Leaves (written_by_all writes.now tables.old) tables.new) }
     ensures refused { IfErr result (Tells (written_by_all writes.now tables.old)) }
-    ensures unchanged { OnErr result (tables.new ≡ tables.old) }
     ensures applies { IfOk result (λ written. applied_all written.ops tables.old ≡ Some tables.new) }
     ensures limited { IfOk result (λ written. length written.ops ≤ greatest Operations) }
-{
-    let mut copy = tables.copied(alloc)?;
-    let written = write_each(alloc, &mut copy, writes)?;
-    *tables = copy;
-    Ok(written)
-}
-
-// After an error those before it stay done.
-fn write_each(alloc: Global, tables: &mut Tables, writes: &[Change]) -> Result<Written, ApplyError>
-    requires { IsKeyed tables.old }
-    ensures written { IfOk result (Leaves (written_by_all writes.now tables.old) tables.new) }
-    ensures refused { IfErr result (Tells (written_by_all writes.now tables.old)) }
-    ensures applies { IfOk result (λ written. applied_all written.ops tables.old ≡ Some tables.new) }
-    ensures limited { IfOk result (λ written. length written.ops ≤ greatest Operations) }
+    ensures back { (s : TableState) → LeadsBack log.old tables.old s → LeadsBack log.new tables.new s }
 {
     let mut ops: Vec<Op> = Vec::new(alloc);
     let mut rows: usize = 0;
     for write in writes {
         let room = most_operations() - ops.len();
-        let more = write_one(alloc, tables, room, write)?;
+        let more = write_one(alloc, tables, room, write, log)?;
         let mut behind = more.ops.into_vec();
         ops.append(&mut behind)?;
         rows += more.rows;
@@ -102,22 +91,44 @@ fn write_one(
     tables: &mut Tables,
     room: usize,
     write: &Change,
+    log: &mut UndoLog,
 ) -> Result<Written, ApplyError>
     requires { IsKeyed tables.old }
     ensures written { IfOk result (Leaves (written_by room write.now tables.old) tables.new) }
     ensures refused { IfErr result (Tells (written_by room write.now tables.old)) }
-    ensures unchanged { OnErr result (tables.new ≡ tables.old) }
     ensures applies { IfOk result (λ written. applied_all written.ops tables.old ≡ Some tables.new) }
     ensures limited { IfOk result (λ written. length written.ops ≤ room) }
     ensures counted { IfOk result (λ written. written.rows ≤ length written.ops) }
+    ensures back { (s : TableState) → LeadsBack log.old tables.old s → LeadsBack log.new tables.new s }
 {
     match effects(alloc, write, room, &*tables) {
         Err(Refused::Rule(rule)) => Err(ApplyError::Rule(rule)),
         Err(Refused::Memory) => Err(ApplyError::Memory),
         Ok(ops) => {
-            tables.apply_all(alloc, ops.as_slice())?;
+            apply_noted(alloc, tables, ops.as_slice(), log)?;
             let rows = rows_in(write.table, ops.as_slice());
             Ok(Written { ops, rows })
+        }
+    }
+}
+
+// Applies operations, all or none, and puts how they are taken back behind what is noted.
+fn apply_noted(
+    alloc: Global,
+    tables: &mut Tables,
+    ops: &[Op],
+    log: &mut UndoLog,
+) -> Result<(), ApplyError>
+    ensures ok { OnOk result (applied_all ops.now tables.old ≡ Some tables.new) }
+    ensures refused { IfErr result (IsFault (broken_by_all ops.now tables.old)) }
+    ensures back { (s : TableState) → LeadsBack log.old tables.old s → LeadsBack log.new tables.new s }
+{
+    let mut more = tables.apply_noted(alloc, ops)?;
+    match log.append(&mut more) {
+        Ok(()) => Ok(()),
+        Err(_) => {
+            tables.take_all_back(alloc, more);
+            Err(ApplyError::Memory)
         }
     }
 }

@@ -1,5 +1,5 @@
 use Rattle.std.proofs.Common.{sym, ap, subst, ◌∙◌}
-use Rattle.std.specs.FinMap.{insert, remove}
+use Rattle.std.specs.FinMap.{remove}
 use Rattle.table_state.specs.Indexes.{IsIndexOf, entry_of, with_entry}
 use Rattle.table_state.proofs.EntryLaws.{taken_out}
 use Rattle.table_state.proofs.IndexLaws.{entered, was_new}
