@@ -18,4 +18,4 @@ loop-place-preserved c =
 
 pub returns : goal.returns
 returns c =
-    gathers_all (λ (row : List Value). selects c.args.filter.now row && refers_to_one c.args.parents.now (option_copied c.args.def) row) c.args.rows.now c.loop-place.place c.loop-place.out c.loop-place.invariant c.len-place-end.result c.len-place-end.ensures c.loop-place-test.false
+    gathers_all (λ (row : List Value). selects c.args.filter.now row && refers_to_one c.args.parents.now (option_copied c.args.def) row) c.args.rows.now c.loop-place.place c.loop-place.out c.loop-place.invariant c.len-place-end.result c.len-place-end.ensures.value c.loop-place-test.false

@@ -15,4 +15,4 @@ loop-place-preserved c =
     ]
 
 pub returns : goal.returns
-returns c = gathers_all (selects c.args.filter.now) c.args.rows.now c.loop-place.place c.loop-place.out c.loop-place.invariant c.len-place-end.result c.len-place-end.ensures c.loop-place-test.false
+returns c = gathers_all (selects c.args.filter.now) c.args.rows.now c.loop-place.place c.loop-place.out c.loop-place.invariant c.len-place-end.result c.len-place-end.ensures.value c.loop-place-test.false
