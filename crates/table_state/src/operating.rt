@@ -122,6 +122,7 @@ impl Tables {
         let kept = key.copied(alloc)?;
         let old = old.copied(alloc)?;
         let left = Spare::new(alloc, kept, old)?;
+        // What `count` ensures tells that the table has room for the row when it comes back.
         let _held = self.count(table);
         self.take_out(alloc, table, &key);
         Ok(Undo::Deleted(table, left))
