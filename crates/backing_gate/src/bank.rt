@@ -275,7 +275,7 @@ impl Bank {
                 return Ok(Applied::Differs(table, key, row));
             }
             Err(ApplyError::Rule(_)) => {
-                let found = first_difference(alloc, &self.tables, sealed.ops.as_slice())?;
+                let found = first_difference(alloc, &mut self.tables, sealed.ops.as_slice())?;
                 return Ok(Applied::Differs(found.table, found.key, found.row));
             }
         }

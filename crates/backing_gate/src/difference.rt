@@ -3,14 +3,15 @@
 ghost use Rattle.std.specs.Prelude.{◌≡◌, IfOk, None, Some};
 ghost use Rattle.std.specs.FinMap as map;
 ghost use Rattle.std.specs.Option.{option_map};
+ghost use Rattle.table_state.specs.Changes.{LeadsBack};
 ghost use Rattle.table_state.specs.Operations.{applied_all};
 ghost use Rattle.table_state.specs.Refusals.{IsFault, broken_by};
-ghost use Rattle.table_state.specs.Tables.{table_at};
+ghost use Rattle.table_state.specs.Tables.{TableState, table_at};
 ghost use Rattle.outside.specs.Differences.{difference_of, first_difference, own_key, place_of, row_of};
 
 use row_types::{Detail, Key, Row};
 use std::alloc::{AllocError, Global};
-use table_state::{ApplyError, Op, Tables, find_table, key_of_row};
+use table_state::{ApplyError, Op, Tables, UndoLog, find_table, key_of_row};
 use tier_base::TableId;
 
 /// A row that isn't as an operation wants it: its table, its key, and the row that is there.
@@ -24,21 +25,38 @@ pub(crate) struct Difference {
     pub row: Option<Row>,
 }
 
-/// The difference at the first operation that doesn't apply. A condition is that one doesn't. It is found on a copy of
-/// the tables.
+/// The difference at the first operation that doesn't apply. A condition is that one doesn't. Those before it are applied
+/// and taken back again, so the tables are as they were. It fails for want of memory alone.
 pub(crate) fn first_difference(
     alloc: Global,
-    tables: &Tables,
+    tables: &mut Tables,
     ops: &[Op],
 ) -> Result<Difference, AllocError>
-    requires { applied_all ops.now tables.now ≡ None }
-    ensures { IfOk result (λ difference. first_difference ops.now tables.now ≡ Some (difference.table, difference.key, difference.row)) }
+    requires { applied_all ops.now tables.old ≡ None }
+    ensures found { IfOk result (λ difference. first_difference ops.now tables.old ≡ Some (difference.table, difference.key, difference.row)) }
+    ensures unchanged { tables.new ≡ tables.old }
 {
-    let mut copy = tables.copied(alloc)?;
+    let mut log = UndoLog::new(alloc);
+    let found = difference_in(alloc, tables, ops, &mut log);
+    tables.take_all_back(alloc, log);
+    found
+}
+
+// The operations before the first that doesn't apply stay applied, and it is noted how they are taken back.
+fn difference_in(
+    alloc: Global,
+    tables: &mut Tables,
+    ops: &[Op],
+    log: &mut UndoLog,
+) -> Result<Difference, AllocError>
+    requires { applied_all ops.now tables.old ≡ None }
+    ensures found { IfOk result (λ difference. first_difference ops.now tables.old ≡ Some (difference.table, difference.key, difference.row)) }
+    ensures back { (s : TableState) → LeadsBack log.old tables.old s → LeadsBack log.new tables.new s }
+{
     for op in ops {
-        match copy.apply(alloc, op) {
+        match tables.apply_one(alloc, op, log) {
             Ok(()) => {}
-            Err(error) => return difference_of(alloc, &copy, op, error),
+            Err(error) => return difference_of(alloc, &*tables, op, error),
         }
     }
     unreachable!()

@@ -77,8 +77,10 @@ impl Tables {
         Ok(log)
     }
 
-    // Applies an operation, and notes how that is taken back.
-    fn apply_one(&mut self, alloc: Global, op: &Op, log: &mut UndoLog) -> Result<(), ApplyError>
+    /// Applies one operation as `apply` does, and puts how it is taken back behind what is noted.
+    ///
+    /// After an error, want of memory too, the tables are as they were, and what is noted still leads back from them.
+    pub fn apply_one(&mut self, alloc: Global, op: &Op, log: &mut UndoLog) -> Result<(), ApplyError>
         ensures ok { OnOk result (applied op.now self.old ≡ Some self.new) }
         ensures back { (s : TableState) → LeadsBack log.old self.old s → LeadsBack log.new self.new s }
         ensures refused { IfErr result (IsFault (broken_by op.now self.old)) }
