@@ -10,6 +10,3 @@ pub mod sets;
 pub use group::{ReadOnlyGroup, Shown};
 pub use groups::ReadOnlyGroups;
 pub use laws::refresh_law;
-
-#[cfg(test)]
-mod tests;

@@ -5,6 +5,3 @@ mod parts;
 pub mod tree;
 
 pub use tree::{tree_of, trees_of};
-
-#[cfg(test)]
-mod tests;

@@ -26,6 +26,3 @@ pub use plan::{Found, Plan};
 pub use selecting::select;
 pub use summing::summarize;
 pub use writing::effects;
-
-#[cfg(test)]
-mod tests;

@@ -12,6 +12,3 @@ pub use condition::{Comparator, Cond, holds, truth_on};
 pub use expression::{Arithmetic, Expr, eval, value_of};
 pub use operand::Operand;
 pub use typing::{Family, family_of, family_of_type, has_sound_types, is_numeric, suits};
-
-#[cfg(test)]
-mod tests;

@@ -10,6 +10,3 @@ pub use group::{Beside, judge_group};
 pub use limit::{at_limit, past};
 pub use literal::{literal_values, takes_all};
 pub use refusal::broken;
-
-#[cfg(test)]
-mod tests;

@@ -11,6 +11,3 @@ pub use laws::instance_law;
 pub use rooting::root_of;
 pub use tree::{Child, Root, Tree};
 pub use viewing::{instance, view};
-
-#[cfg(test)]
-mod tests;

@@ -6,6 +6,3 @@ mod spare;
 
 pub use rows::Rows;
 pub use spare::Spare;
-
-#[cfg(test)]
-mod tests;

@@ -29,6 +29,3 @@ pub use time::Time;
 pub use truth::Truth;
 pub use value::{Value, compare, order};
 pub use values::{copied_values, order_of_values, same_values};
-
-#[cfg(test)]
-mod tests;

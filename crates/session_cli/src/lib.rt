@@ -22,6 +22,3 @@ pub use replies::write_reply;
 pub use serving::{Status, serve};
 pub use session::Session;
 pub use values::{write_key, write_number};
-
-#[cfg(test)]
-mod tests;

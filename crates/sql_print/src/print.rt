@@ -242,6 +242,3 @@ pub fn print_table(alloc: Global, table: &TableDeclaration) -> Result<Text, Allo
     put_table(alloc, &mut out, table)?;
     Ok(Text::from_vec(out))
 }
-
-#[cfg(test)]
-mod tests;

@@ -12,6 +12,3 @@ pub use expression::{Expression, ExpressionNode};
 pub use literal::{IntegerLiteral, Literal};
 pub use query::{Aggregate, FromTable, OrderItem, Query, SelectList};
 pub use write::{Assignment, Delete, Insert, Update, Write};
-
-#[cfg(test)]
-mod tests;

@@ -162,10 +162,3 @@ pub fn one_meaning()
 {
     one_verdict();
 }
-
-#[cfg(test)]
-mod cases;
-#[cfg(test)]
-mod group_cases;
-#[cfg(test)]
-mod tests;

@@ -92,6 +92,3 @@ pub fn good_length(line: &[u8]) -> usize
 {
     without_controls(line).min(utf8_length(line))
 }
-
-#[cfg(test)]
-mod tests;

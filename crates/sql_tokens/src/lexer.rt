@@ -186,6 +186,3 @@ pub fn lex(alloc: Global, line: &[u8], from: usize) -> Result<Vec<Token>, AllocE
     end(&mut tokens, line, state)?;
     Ok(tokens)
 }
-
-#[cfg(test)]
-mod tests;

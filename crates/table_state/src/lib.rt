@@ -35,6 +35,3 @@ pub use refusal::ApplyError;
 pub use tables::Tables;
 pub use types::has_type;
 pub use undo_log::UndoLog;
-
-#[cfg(test)]
-mod tests;

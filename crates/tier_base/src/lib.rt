@@ -16,6 +16,3 @@ pub use list::Seq;
 pub use name::{Name, NameError};
 pub use number::{GroupId, Moment, Position, SessionId, TableId, Ticket};
 pub use reserved::{is_reserved, reserved_words};
-
-#[cfg(test)]
-mod tests;

@@ -1,7 +1,7 @@
 // Writes of the console, each line a transaction of others at the backing database. Expected bytes are worked out by hand.
 
 use crate::opening::define_tables;
-use crate::script::{expect_fresh, expect_script};
+use crate::script::expect_script;
 use backing_gate::{CallKind, MemorySite, When};
 use std::test::Fail;
 
@@ -13,33 +13,6 @@ const GROUP_A: &str =
     "s1: CREATE ASYNCHRONOUS WRITETHROUGH CACHE GROUP GA FROM A (ID TT_INTEGER, N TT_INTEGER, PRIMARY KEY (ID))";
 
 const TABLE_B: &str = "backing: CREATE TABLE B (ID TT_BIGINT PRIMARY KEY)";
-
-const GROUP_B: &str =
-    "s1: CREATE ASYNCHRONOUS WRITETHROUGH CACHE GROUP GB FROM B (ID TT_BIGINT PRIMARY KEY)";
-
-#[test]
-fn rows_of_a_table(rt: HostRuntime) -> Result<(), Fail> {
-    expect_fresh(
-        &rt,
-        rt.alloc(),
-        &[
-            (TABLE_A, "ok 0"),
-            (ROWS_OF_A, "ok 2"),
-            ("backing: INSERT INTO A VALUES (1,11)", "no 107 A 1"),
-            ("backing: INSERT INTO A VALUES (-5,NULL)", "ok 1"),
-            ("backing: DELETE FROM A WHERE ID = -5", "ok 1"),
-            ("backing: UPDATE A SET N = 7 WHERE ID = 1", "ok 1"),
-            ("backing: UPDATE A SET N = 8 WHERE N = 7", "ok 1"),
-            ("backing: UPDATE A SET N = 8 WHERE ID = 9", "ok 0"),
-            ("backing: UPDATE A SET N = 8", "ok 2"),
-            ("backing: DELETE FROM A WHERE ID = 9", "ok 0"),
-            ("backing: DELETE FROM A WHERE ID = 1", "ok 1"),
-            ("backing: DELETE FROM A", "ok 1"),
-            ("backing: DELETE FROM A", "ok 0"),
-        ],
-    )?;
-    Ok(())
-}
 
 // P, whose rows C and K refer to; those of K leave with them. V has a text of 3 bytes.
 #[test]
@@ -106,98 +79,6 @@ fn all_writes_or_none(rt: HostRuntime) -> Result<(), Fail> {
         ],
     )?;
     assert_eq!(rt; site.history().len(), 4);
-    Ok(())
-}
-
-#[test]
-fn refusals_across_writes(rt: HostRuntime) -> Result<(), Fail> {
-    expect_fresh(
-        &rt,
-        rt.alloc(),
-        &[
-            (TABLE_A, "ok 0"),
-            (TABLE_B, "ok 0"),
-            ("s1: OPEN", "ok 0"),
-            (GROUP_B, "ok 0"),
-            // 102 and 103 of each write come first.
-            (
-                "backing: INSERT INTO A VALUES ('x'); INSERT INTO X VALUES (1)",
-                "no 102 X",
-            ),
-            (
-                "backing: UPDATE A SET X = 1; INSERT INTO Y VALUES (1)",
-                "no 103 X",
-            ),
-            (
-                "backing: UPDATE A SET ID = 1; DELETE FROM A WHERE X = 1",
-                "no 103 X",
-            ),
-            // Then 118, 104 and 105 of each.
-            (
-                "backing: INSERT INTO A VALUES (1); UPDATE A SET ID = 1",
-                "no 104",
-            ),
-            (
-                "backing: UPDATE A SET ID = 1; INSERT INTO A VALUES (1)",
-                "no 118 ID",
-            ),
-            (
-                "backing: INSERT INTO A VALUES (9223372036854775808,1); INSERT INTO A VALUES (1)",
-                "no 105 -",
-            ),
-            (
-                "backing: INSERT INTO A VALUES ('x',9223372036854775808)",
-                "no 104",
-            ),
-            (
-                "backing: DELETE FROM A WHERE N = 9223372036854775808",
-                "no 105 -",
-            ),
-            (
-                "backing: INSERT INTO B VALUES (1); INSERT INTO A VALUES (1)",
-                "no 104",
-            ),
-            // Then 121 of each.
-            ("backing: DELETE FROM B", "no 121 B"),
-            (
-                "backing: INSERT INTO A VALUES (2147483648,1); INSERT INTO B VALUES (1)",
-                "no 121 B",
-            ),
-            // Then what the backing database refuses, in its order: 105 and then 106 of a column.
-            ("backing: INSERT INTO A VALUES (2147483648,1)", "no 105 ID"),
-            (
-                "backing: INSERT INTO A VALUES (NULL,2147483648)",
-                "no 105 N",
-            ),
-            ("backing: INSERT INTO A VALUES (NULL,1)", "no 106 ID"),
-            ("backing: DELETE FROM A", "ok 0"),
-        ],
-    )?;
-    Ok(())
-}
-
-// What the console wrote before is there for a group made later; from then on its table is the group's.
-#[test]
-fn a_group_over_rows_of_the_console(rt: HostRuntime) -> Result<(), Fail> {
-    expect_fresh(
-        &rt,
-        rt.alloc(),
-        &[
-            (TABLE_A, "ok 0"),
-            (TABLE_B, "ok 0"),
-            (ROWS_OF_A, "ok 2"),
-            ("s1: OPEN", "ok 0"),
-            (GROUP_A, "ok 0"),
-            ("backing: DELETE FROM A WHERE ID = 1", "no 121 A"),
-            ("s1: INSERT INTO A VALUES (1,11)", "no 107 A 1"),
-            ("s1: INSERT INTO A VALUES (3,30)", "ok 1"),
-            ("backing: INSERT INTO B VALUES (7)", "ok 1"),
-            ("s1: COMMIT", "ok 1"),
-            ("backing: DELETE FROM B", "ok 1"),
-            ("s1: SELECT * FROM A", "= 3|30\nok 1"),
-            ("s1: CALL ttDrain", "ok 1"),
-        ],
-    )?;
     Ok(())
 }
 

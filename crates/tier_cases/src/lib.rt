@@ -1,5 +1,5 @@
-//! Scripts over the whole program, in objects in memory, against replies that are worked out by hand. This crate has only
-//! tests.
+//! Scripts over the whole program, in objects in memory, where calls fail, others commit or a limit is met, against replies
+//! that are worked out by hand. This crate has only tests.
 #![tactic(auto)]
 
 #[cfg(test)]
@@ -9,16 +9,14 @@ mod faults;
 #[cfg(test)]
 mod first_run;
 #[cfg(test)]
+mod keys_of_others;
+#[cfg(test)]
 mod limits;
 #[cfg(test)]
 mod opening;
 #[cfg(test)]
 mod others;
 #[cfg(test)]
-mod read_only;
-#[cfg(test)]
-mod refusals;
-#[cfg(test)]
 mod script;
 #[cfg(test)]
-mod syntax;
+mod snapshots;

@@ -177,3 +177,13 @@ fn there_are_256_tables_of_32_columns(rt: HostRuntime) -> Result<(), Fail> {
     expect_replies(&rt, alloc, &mut site, case.input, case.replies.as_slice())?;
     Ok(())
 }
+
+#[test]
+fn the_line_behind_one_of_65_537_bytes_is_read(rt: HostRuntime) -> Result<(), Fail> {
+    let alloc = rt.alloc();
+    let mut site = MemorySite::new(alloc)?;
+    let mut input = vec![in alloc; b'x'; 65_537]?;
+    input.extend_from_slice(b"\ns1: OPEN\n")?;
+    expect_replies(&rt, alloc, &mut site, input, b"no 119 line\nok 0\n")?;
+    Ok(())
+}

@@ -56,13 +56,3 @@ pub(crate) fn expect_replies(
     assert!(rt; sink.bytes() == replies);
     Ok(())
 }
-
-// The same over a site without a history.
-pub(crate) fn expect_fresh(
-    rt: &impl Abort,
-    alloc: Global,
-    script: &[(&str, &str)],
-) -> Result<(), AllocError> {
-    let mut site = MemorySite::new(alloc)?;
-    expect_script(rt, alloc, &mut site, script)
-}

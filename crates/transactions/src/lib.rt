@@ -10,6 +10,3 @@ pub mod written;
 pub use judging::{judge_delete, judge_insert, judge_update};
 pub use writing::write_all;
 pub use written::Written;
-
-#[cfg(test)]
-mod tests;

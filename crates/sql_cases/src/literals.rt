@@ -1,0 +1,92 @@
+// The values of literals, against the ranges as they are told.
+
+use expressions::Arithmetic;
+use row_types::{Text, Value};
+use sql_query::{Expression, IntegerLiteral, Literal};
+use std::alloc::{AllocError, Global};
+use std::test::Fail;
+
+fn integer(alloc: Global, negative: bool, digits: &[u8]) -> Result<Literal, AllocError> {
+    let digits = Text::new(alloc, digits)?;
+    Ok(Literal::Integer(IntegerLiteral { negative, digits }))
+}
+
+// The number; none for NULL, and for a literal that no type holds.
+fn number(alloc: Global, literal: Literal) -> Result<Option<i64>, AllocError> {
+    Ok(match literal.value(alloc)? {
+        Some(Value::Integer(number)) => Some(number),
+        _ => None,
+    })
+}
+
+#[test]
+fn integers_have_64_signed_bits(rt: HostRuntime) -> Result<(), Fail> {
+    let alloc = rt.alloc();
+    for (negative, digits, wanted) in [
+        (false, b"007".as_slice(), Some(7)),
+        (true, b"5", Some(-5)),
+        (
+            false,
+            b"9223372036854775807",
+            Some(9_223_372_036_854_775_807),
+        ),
+        (false, b"9223372036854775808", None),
+        (
+            true,
+            b"9223372036854775808",
+            Some(-9_223_372_036_854_775_808),
+        ),
+        (true, b"9223372036854775809", None),
+    ] {
+        let literal = integer(alloc, negative, digits)?;
+        assert_eq!(rt; number(alloc, literal)?, wanted);
+    }
+    Ok(())
+}
+
+// What the literal is: `n` for NULL, `t` for a text, `z` for a time, `-` where no type holds it.
+fn kind(alloc: Global, literal: Literal) -> Result<char, AllocError> {
+    Ok(match literal.value(alloc)? {
+        None => '-',
+        Some(Value::Null) => 'n',
+        Some(Value::Integer(_)) => 'i',
+        Some(Value::Text(_)) => 't',
+        Some(Value::Time(_)) => 'z',
+    })
+}
+
+#[test]
+fn texts_and_times_have_their_ranges(rt: HostRuntime) -> Result<(), Fail> {
+    let alloc = rt.alloc();
+    assert_eq!(rt; kind(alloc, Literal::Null)?, 'n');
+    assert_eq!(rt; kind(alloc, Literal::Text(Text::new(alloc, b"")?))?, 'n');
+    assert_eq!(rt;
+        kind(alloc, Literal::Text(Text::new(alloc, &[65; 4000])?))?,
+        't'
+    );
+    assert_eq!(rt;
+        kind(alloc, Literal::Text(Text::new(alloc, &[65; 4001])?))?,
+        '-'
+    );
+    for (text, wanted) in [
+        (b"2024-02-29 23:59:59".as_slice(), 'z'),
+        (b"2023-02-29 00:00:00", '-'),
+        (b"0000-01-01 00:00:00", '-'),
+        (b"2024-02-29", '-'),
+        (b"", '-'),
+    ] {
+        let literal = Literal::Time(Text::new(alloc, text)?);
+        assert_eq!(rt; kind(alloc, literal)?, wanted);
+    }
+    Ok(())
+}
+
+#[test]
+fn expressions_are_made_with_ample_memory(rt: HostRuntime) -> Result<(), Fail> {
+    let alloc = rt.alloc();
+    let one = Expression::literal(integer(alloc, false, b"1")?);
+    let two = Expression::literal(integer(alloc, false, b"2")?);
+    let sum = Expression::binary(alloc, Arithmetic::Plus, one, two);
+    assert!(rt; sum.is_ok());
+    Ok(())
+}
