@@ -1,128 +1,9 @@
-//! Lines, each with the byte of its error.
+//! Lines that no script can have, and statements without a label.
 
-use super::group_table::{GROUPS, LOADS, REFRESHES};
-use super::line_table::{
-    BAD_BYTES, CONSOLE, CONSOLE_TOO, HEADS, HEADS_TOO, INSERTS, OPENS, OTHERS, OTHERS_TOO, SELECTS,
-    SELECTS_TOO,
-};
 use sql_subset::line::{is_silent, parse, parse_line};
-use sql_subset::request::{Line, ParseError};
+use sql_subset::request::ParseError;
 use sql_subset::stmt::Stmt;
-use std::alloc::Global;
 use std::test::Fail;
-
-/// What a line is.
-pub enum Wanted {
-    /// empty or a comment
-    Silent,
-    /// spelt wrong at this byte
-    At(usize),
-    /// a request
-    Read,
-}
-
-fn is_wanted(answer: &Result<Option<Line>, ParseError>, wanted: &Wanted) -> bool {
-    match (answer, wanted) {
-        (Ok(None), Wanted::Silent) => true,
-        (Ok(Some(_)), Wanted::Read) => true,
-        (Err(ParseError::At(place)), Wanted::At(byte)) => *place == *byte,
-        _ => false,
-    }
-}
-
-/// The place of the first line that is something else than wanted.
-fn first_other(alloc: Global, lines: &[(&[u8], Wanted)]) -> Option<usize> {
-    for (i, (line, wanted)) in lines.iter().enumerate() {
-        if !is_wanted(&parse_line(alloc, line), wanted) {
-            return Some(i);
-        }
-    }
-    None
-}
-
-#[test]
-fn a_head_is_a_label(rt: HostRuntime) -> Result<(), Fail> {
-    assert_eq!(rt; first_other(rt.alloc(), &HEADS), None);
-    Ok(())
-}
-
-#[test]
-fn a_head_is_a_label_too(rt: HostRuntime) -> Result<(), Fail> {
-    assert_eq!(rt; first_other(rt.alloc(), &HEADS_TOO), None);
-    Ok(())
-}
-
-#[test]
-fn the_first_bad_byte_counts(rt: HostRuntime) -> Result<(), Fail> {
-    assert_eq!(rt; first_other(rt.alloc(), &BAD_BYTES), None);
-    Ok(())
-}
-
-#[test]
-fn selects_are_read(rt: HostRuntime) -> Result<(), Fail> {
-    assert_eq!(rt; first_other(rt.alloc(), &SELECTS), None);
-    Ok(())
-}
-
-#[test]
-fn selects_are_read_too(rt: HostRuntime) -> Result<(), Fail> {
-    assert_eq!(rt; first_other(rt.alloc(), &SELECTS_TOO), None);
-    Ok(())
-}
-
-#[test]
-fn sessions_open_with_options(rt: HostRuntime) -> Result<(), Fail> {
-    assert_eq!(rt; first_other(rt.alloc(), &OPENS), None);
-    Ok(())
-}
-
-#[test]
-fn the_console_creates_and_writes(rt: HostRuntime) -> Result<(), Fail> {
-    assert_eq!(rt; first_other(rt.alloc(), &CONSOLE), None);
-    Ok(())
-}
-
-#[test]
-fn the_console_creates_and_writes_too(rt: HostRuntime) -> Result<(), Fail> {
-    assert_eq!(rt; first_other(rt.alloc(), &CONSOLE_TOO), None);
-    Ok(())
-}
-
-#[test]
-fn inserts_are_read(rt: HostRuntime) -> Result<(), Fail> {
-    assert_eq!(rt; first_other(rt.alloc(), &INSERTS), None);
-    Ok(())
-}
-
-#[test]
-fn groups_are_read(rt: HostRuntime) -> Result<(), Fail> {
-    assert_eq!(rt; first_other(rt.alloc(), &GROUPS), None);
-    Ok(())
-}
-
-#[test]
-fn refresh_clauses_are_read(rt: HostRuntime) -> Result<(), Fail> {
-    assert_eq!(rt; first_other(rt.alloc(), &REFRESHES), None);
-    Ok(())
-}
-
-#[test]
-fn loads_are_read(rt: HostRuntime) -> Result<(), Fail> {
-    assert_eq!(rt; first_other(rt.alloc(), &LOADS), None);
-    Ok(())
-}
-
-#[test]
-fn other_statements_are_read(rt: HostRuntime) -> Result<(), Fail> {
-    assert_eq!(rt; first_other(rt.alloc(), &OTHERS), None);
-    Ok(())
-}
-
-#[test]
-fn other_statements_are_read_too(rt: HostRuntime) -> Result<(), Fail> {
-    assert_eq!(rt; first_other(rt.alloc(), &OTHERS_TOO), None);
-    Ok(())
-}
 
 #[test]
 fn a_silent_line_is_told_apart(rt: HostRuntime) -> Result<(), Fail> {
@@ -140,6 +21,7 @@ fn a_statement_is_read_without_a_label(rt: HostRuntime) -> Result<(), Fail> {
     assert!(rt; matches!(parse(alloc, b"SELECT * FROM"), Err(ParseError::At(13))));
     assert!(rt; matches!(parse(alloc, b"s1: COMMIT"), Err(ParseError::At(0))));
     assert!(rt; matches!(parse(alloc, b"COMMIT\x01"), Err(ParseError::At(6))));
+    assert!(rt; matches!(parse(alloc, b"COMMIT\r"), Err(ParseError::At(6))));
     Ok(())
 }
 
