@@ -2,7 +2,8 @@
 
 use Rattle.std.specs.Prelude.{ℕ, zero, suc, List, [], ◌∷◌, Option, Some, None, Bool, if◌then◌else◌}
 use Rattle.tier_base.specs.declared.number.Position.{Position}
-use Rattle.table_state.specs.Tables.{Table, TableState}
+use Rattle.indexed_rows.specs.Rows.{Table}
+use Rattle.table_state.specs.Tables.{TableState}
 use Rattle.instances.specs.Views.{view_of}
 use Rattle.autorefresh.specs.declared.group.ReadOnlyGroup.{ReadOnlyGroup}
 use Rattle.autorefresh.specs.Refreshes.{Choice, showing_rows}

@@ -8,7 +8,8 @@ use Rattle.tier_base.specs.declared.number.TableId.{TableId}
 use Rattle.sql_subset.specs.declared.stmt.RefreshState.{RefreshState}
 use Rattle.sql_subset.specs.declared.stmt.RefreshState.TheVariants.{On, Off, Paused}
 use Rattle.table_state.specs.Copies.{is_one_of}
-use Rattle.table_state.specs.Tables.{Table, TableState, table_at}
+use Rattle.indexed_rows.specs.Rows.{Table}
+use Rattle.table_state.specs.Tables.{TableState, table_at}
 use Rattle.instances.specs.declared.tree.Tree.{Tree}
 use Rattle.instances.specs.Trees.{is_place}
 use Rattle.instances.specs.Views.{view_of}

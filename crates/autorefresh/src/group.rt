@@ -3,7 +3,7 @@
 use instances::Tree;
 use key_rows::Rows;
 use sql_subset::stmt::{RefreshMode, RefreshState};
-use table_state::TableDef;
+use table_defs::TableDef;
 use tier_base::{Name, Position, Seq};
 
 /// What a loaded group shows.

@@ -23,9 +23,8 @@ use outside::{Applied, BankError, Done, Receipt, Snapshot};
 use row_types::{Key, Row};
 use std::alloc::{AllocError, Global};
 use std::marker::Model;
-use table_state::{
-    ApplyError, BackingSchema, History, Op, Ops, Sealed, TableDef, Tables, copied_ops,
-};
+use table_defs::{BackingSchema, TableDef};
+use table_state::{ApplyError, History, Op, Ops, Sealed, Tables, copied_ops};
 use tier_base::{Position, Seq, TableId, Ticket};
 use transactions::write_all;
 

@@ -11,7 +11,8 @@ ghost use Rattle.outside.specs.Differences.{difference_of, first_difference, own
 
 use row_types::{Detail, Key, Row};
 use std::alloc::{AllocError, Global};
-use table_state::{ApplyError, Op, Tables, UndoLog, find_table, key_of_row};
+use table_defs::find_table;
+use table_state::{ApplyError, Op, Tables, UndoLog, key_of_row};
 use tier_base::TableId;
 
 /// A row that isn't as an operation wants it: its table, its key, and the row that is there.

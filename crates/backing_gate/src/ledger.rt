@@ -9,7 +9,8 @@ ghost use Rattle.backing_gate.specs.Tickets.{EndsForeign, IsNewIn};
 use std::alloc::{AllocError, Global};
 use std::collections::BTreeMap;
 use std::marker::Model;
-use table_state::{Entry, History, Ops, TableDef};
+use table_defs::TableDef;
+use table_state::{Entry, History, Ops};
 use tier_base::{Seq, Ticket};
 
 /// The backing history, in which a ticket is found without going through it. Clauses see the entries.

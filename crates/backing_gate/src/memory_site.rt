@@ -26,7 +26,8 @@ use outside::{Applied, BankError, Disk, DiskFault, Done, Site, Slot, Snapshot};
 use row_types::{Key, Row};
 use std::alloc::{AllocError, Global};
 use std::marker::Model;
-use table_state::{ApplyError, BackingSchema, History, Op, Sealed, TableDef};
+use table_defs::{BackingSchema, TableDef};
+use table_state::{ApplyError, History, Op, Sealed};
 use tier_base::{Seq, TableId, Ticket};
 
 /// A site in memory, which tells everything: two slots, and a bank whose tables are what its history leaves. Calls

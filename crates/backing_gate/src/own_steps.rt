@@ -15,7 +15,8 @@ use crate::plan::{Outcome, When};
 use evaluator::Change;
 use outside::{Applied, BankError, Done, Snapshot};
 use row_types::{Key, Row};
-use table_state::{BackingSchema, Sealed, TableDef, copied_schema};
+use table_defs::{BackingSchema, TableDef, copied_schema};
+use table_state::Sealed;
 use tier_base::{TableId, Ticket};
 
 impl MemorySite {

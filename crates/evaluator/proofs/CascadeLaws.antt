@@ -7,7 +7,8 @@ use Rattle.row_types.specs.declared.value.Value.{Value}
 use Rattle.tier_base.specs.declared.number.TableId.{TableId}
 use Rattle.table_state.specs.declared.operation.Op.{Op}
 use Rattle.table_state.specs.declared.operation.Op.TheVariants.{Delete}
-use Rattle.table_state.specs.Tables.{Table, TableState}
+use Rattle.indexed_rows.specs.Rows.{Table}
+use Rattle.table_state.specs.Tables.{TableState}
 use Rattle.evaluator.specs.declared.capped.Capped.{Capped}
 use Rattle.evaluator.specs.Capping.{extended, put}
 use Rattle.evaluator.specs.Cascades.{children_from, deleted, key_in, referring}

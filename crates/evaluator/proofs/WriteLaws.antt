@@ -11,11 +11,12 @@ use Rattle.row_types.specs.declared.rule.Rule.{Rule}
 use Rattle.row_types.specs.declared.value.Value.{Value}
 use Rattle.tier_base.specs.declared.number.TableId.{TableId}
 use Rattle.tier_base.specs.declared.limit.Limit.TheVariants.{Rows, Operations}
-use Rattle.table_state.specs.declared.definition.TableDef.{TableDef}
+use Rattle.table_defs.specs.declared.definition.TableDef.{TableDef}
 use Rattle.table_state.specs.declared.operation.Op.{Op}
 use Rattle.table_state.specs.declared.operation.Op.TheVariants as op
-use Rattle.table_state.specs.Declarations.{foreign_places}
-use Rattle.table_state.specs.Tables.{Table, TableState, table_at}
+use Rattle.table_defs.specs.Declarations.{foreign_places}
+use Rattle.indexed_rows.specs.Rows.{Table}
+use Rattle.table_state.specs.Tables.{TableState, table_at}
 use Rattle.table_scan.specs.Children.{refers_to}
 use Rattle.table_scan.specs.Keyed.{HasWidth, IsKeyed, IsUnderKeys, has_key}
 use Rattle.table_scan.proofs.KeyedLaws.{none_has_width, none_is_under}

@@ -6,12 +6,13 @@ use Rattle.std.specs.List.{filter, flat_map}
 use Rattle.std.specs.FinMap.{values}
 use Rattle.row_types.specs.declared.value.Value.{Value}
 use Rattle.tier_base.specs.declared.number.TableId.{TableId}
-use Rattle.table_state.specs.declared.definition.TableDef.{TableDef}
-use Rattle.table_state.specs.declared.definition.ForeignKey.{ForeignKey}
+use Rattle.table_defs.specs.declared.definition.TableDef.{TableDef}
+use Rattle.table_defs.specs.declared.definition.ForeignKey.{ForeignKey}
 use Rattle.table_state.specs.declared.operation.Op.{Op}
 use Rattle.table_state.specs.declared.operation.Op.TheVariants.{Delete}
-use Rattle.table_state.specs.Names.{table_id}
-use Rattle.table_state.specs.Tables.{TableState, key_of, table_at}
+use Rattle.table_defs.specs.Names.{table_id}
+use Rattle.indexed_rows.specs.Rows.{key_of}
+use Rattle.table_state.specs.Tables.{TableState, table_at}
 use Rattle.table_scan.specs.Children.{refers_to}
 
 -- the foreign key refers to this table, and its rows leave with the parent's

@@ -13,7 +13,7 @@ use Rattle.row_types.specs.declared.truth.Truth.{Truth}
 use Rattle.row_types.specs.declared.truth.Truth.TheVariants.{True, False, Unknown}
 use Rattle.row_types.specs.declared.value.Value.{Value}
 use Rattle.row_types.specs.Columns.{fit_of}
-use Rattle.table_state.specs.declared.definition.TableDef.{TableDef}
+use Rattle.table_defs.specs.declared.definition.TableDef.{TableDef}
 use Rattle.table_state.specs.declared.operation.Op.{Op}
 use Rattle.table_state.specs.declared.operation.Op.TheVariants as op
 use Rattle.table_state.specs.Refusals.{is_code}

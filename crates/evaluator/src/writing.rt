@@ -20,7 +20,8 @@ use expressions::NoColumns;
 use row_types::{Key, Refused, Row, Truth};
 use std::alloc::Global;
 use table_scan::Scan;
-use table_state::{Op, Ops, TableDef};
+use table_defs::TableDef;
+use table_state::{Op, Ops};
 use tier_base::{Limit, TableId};
 
 /// The operations of a write, on its selected rows in key order. An update's expressions are read on the old row, and

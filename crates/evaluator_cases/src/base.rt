@@ -7,7 +7,8 @@ use expressions::{Arithmetic, Comparator, Cond, Expr};
 use row_types::{Column, Refused, Row, Ty, Value, print_values_into};
 use std::alloc::{AllocError, Global};
 use std::test::Fail;
-use table_state::{Entry, ForeignKey, Op, TableDef, Tables};
+use table_defs::{ForeignKey, TableDef};
+use table_state::{Entry, Op, Tables};
 use tier_base::{Name, NameError, Seq, TableId};
 
 // A (ID, N) with (1, 10), (2, NULL), (3, 30).

@@ -7,7 +7,7 @@ use sql_subset::request::{ConsoleRequest, Line, ParseError, Request};
 use sql_subset::stmt::{CreateGroup, Literal, Stmt};
 use std::alloc::Global;
 use std::test::Fail;
-use table_state::{BackingSchema, TableDef};
+use table_defs::{BackingSchema, TableDef};
 use tier_base::{Seq, TableId};
 
 const ALONE: Beside = Beside {

@@ -6,7 +6,8 @@ use row_types::{Column, Row, Ty, Value};
 use sql_subset::stmt::{RefreshMode, RefreshState};
 use std::alloc::{AllocError, Global};
 use std::test::Fail;
-use table_state::{Entry, Op, TableDef, Tables};
+use table_defs::TableDef;
+use table_state::{Entry, Op, Tables};
 use tier_base::{Name, NameError, Position, Seq, TableId};
 
 // A, B, C and D (ID)

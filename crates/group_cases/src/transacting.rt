@@ -9,7 +9,8 @@ use expressions::{Comparator, Cond, Expr};
 use row_types::{Column, Row, Ty, Value, print_values_into};
 use std::alloc::{AllocError, Global};
 use std::test::Fail;
-use table_state::{ApplyError, Entry, ForeignKey, Op, TableDef, Tables};
+use table_defs::{ForeignKey, TableDef};
+use table_state::{ApplyError, Entry, Op, Tables};
 use tier_base::{Name, NameError, Seq, TableId};
 use transactions::{judge_insert, write_all};
 

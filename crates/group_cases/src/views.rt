@@ -6,7 +6,8 @@ use key_rows::Rows;
 use row_types::{Column, Key, Row, Ty, Value, print_values_into};
 use std::alloc::{AllocError, Global};
 use std::test::Fail;
-use table_state::{Entry, ForeignKey, Op, TableDef, Tables};
+use table_defs::{ForeignKey, TableDef};
+use table_state::{Entry, Op, Tables};
 use tier_base::{Name, NameError, Seq, TableId};
 
 // R (ID, N TT_BIGINT)

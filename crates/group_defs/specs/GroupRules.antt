@@ -19,9 +19,9 @@ use Rattle.sql_subset.specs.declared.stmt.Autorefresh.{Autorefresh}
 use Rattle.sql_subset.specs.declared.stmt.CreateGroup.{CreateGroup}
 use Rattle.sql_subset.specs.declared.stmt.GroupKind.{GroupKind}
 use Rattle.sql_subset.specs.declared.stmt.GroupKind.TheVariants.{ReadOnly, AsynchronousWritethrough}
-use Rattle.table_state.specs.declared.definition.ForeignKey.{ForeignKey}
-use Rattle.table_state.specs.declared.definition.TableDef.{TableDef}
-use Rattle.table_state.specs.Declarations.{broken, broken_at, has_type, wrong_name, type_fault, key_count, key_places}
+use Rattle.table_defs.specs.declared.definition.ForeignKey.{ForeignKey}
+use Rattle.table_defs.specs.declared.definition.TableDef.{TableDef}
+use Rattle.table_defs.specs.Declarations.{broken, broken_at, has_type, wrong_name, type_fault, key_count, key_places}
 use Rattle.group_defs.specs.declared.group.Beside.{Beside}
 use Rattle.group_defs.specs.Limits.{past}
 

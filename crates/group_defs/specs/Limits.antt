@@ -6,7 +6,7 @@ use Rattle.tier_base.specs.declared.limit.Limit.{Limit}
 use Rattle.tier_base.specs.Limits.{greatest}
 use Rattle.row_types.specs.declared.rule.Detail.TheVariants as detail
 use Rattle.row_types.specs.declared.rule.Rule.{Rule}
-use Rattle.table_state.specs.Declarations.{broken}
+use Rattle.table_defs.specs.Declarations.{broken}
 
 -- 119: a limit would be passed
 abbrev pub past : Limit → Option Rule

@@ -2,7 +2,7 @@
 
 ghost use Rattle.std.specs.Prelude.{◌≡◌, IfOk};
 ghost use Rattle.std.specs.List.{list_any};
-ghost use Rattle.table_state.specs.Declarations.{Tells};
+ghost use Rattle.table_defs.specs.Declarations.{Tells};
 ghost use Rattle.group_defs.specs.GroupRules.{definition_fault, has_same_key, is_asynchronous, is_joined, is_out_of_range, letter_fault, refers, same_columns};
 
 use crate::limit::past;
@@ -10,10 +10,7 @@ use crate::refusal::{broken, refuse_name};
 use row_types::{Column, ColumnDeclaration, Detail, Letter, Refused, TableDeclaration};
 use sql_subset::stmt::{Autorefresh, CreateGroup, GroupKind};
 use std::alloc::{AllocError, Global};
-use table_state::{
-    BackingSchema, ForeignKey, TableDef, has_one_key, has_type, key_places, refuse_types,
-    wrong_name,
-};
+use table_defs::{BackingSchema, ForeignKey, TableDef, has_one_key, has_type, key_places, refuse_types, wrong_name};
 use tier_base::{Code, Limit, TableId};
 
 /// The greatest interval, in milliseconds: 24 hours.

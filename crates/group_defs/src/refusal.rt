@@ -1,7 +1,7 @@
 //! Refusals.
 
 ghost use Rattle.std.specs.Prelude.{◌≡◌, option_copied};
-ghost use Rattle.table_state.specs.Declarations.{Tells, broken_at};
+ghost use Rattle.table_defs.specs.Declarations.{Tells, broken_at};
 
 use row_types::{Detail, Refused, Rule};
 use std::alloc::Global;

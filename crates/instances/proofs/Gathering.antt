@@ -10,7 +10,7 @@ use borrow.Author.Count.{below_more}
 use Rattle.row_types.specs.declared.value.Value.{Value}
 use Rattle.row_types.specs.Order.{key_order}
 use Rattle.row_types.proofs.OrderLaws.{key_total, key_exact}
-use Rattle.table_state.specs.Tables.{Table}
+use Rattle.indexed_rows.specs.Rows.{Table}
 use Rattle.instances.specs.Collecting.{Gathers, added}
 use Rattle.instances.specs.Views.{passes, rows_where}
 

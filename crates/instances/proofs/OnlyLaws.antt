@@ -7,7 +7,7 @@ use Rattle.std.specs.FinMap.{empty, get, insert, get-empty, get-insert, get-reta
 use Rattle.row_types.specs.declared.value.Value.{Value}
 use Rattle.row_types.specs.Order.{key_order}
 use Rattle.row_types.proofs.OrderLaws.{key_total, key_exact}
-use Rattle.table_state.specs.Tables.{Table, is_same}
+use Rattle.indexed_rows.specs.Rows.{Table, is_same}
 use Rattle.instances.specs.Collecting.{added}
 use Rattle.instances.specs.Views.{only, passes, rows_where}
 use Rattle.instances.proofs.Gathering.{get_where}

@@ -3,7 +3,7 @@
 use Rattle.std.specs.Prelude.{◌≡◌, ℕ, ◌<◌, List, Bool, true, Some, slice_get, if◌then◌else◌}
 use Rattle.std.specs.FinMap.{contains_key, entries, get, insert}
 use Rattle.row_types.specs.declared.value.Value.{Value}
-use Rattle.table_state.specs.Tables.{Table}
+use Rattle.indexed_rows.specs.Rows.{Table}
 
 -- with this row, where its key has none
 abbrev pub added : Table → List Value → List Value → Table

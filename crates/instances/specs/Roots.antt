@@ -6,8 +6,9 @@ use Rattle.std.specs.Option.{option_and_then, option_map}
 use Rattle.std.specs.FinMap.{contains_key, get}
 use Rattle.row_types.specs.declared.value.Value.{Value}
 use Rattle.tier_base.specs.declared.number.TableId.{TableId}
-use Rattle.table_state.specs.Declarations.{foreign_places}
-use Rattle.table_state.specs.Tables.{TableState, key_of, table_at}
+use Rattle.table_defs.specs.Declarations.{foreign_places}
+use Rattle.indexed_rows.specs.Rows.{key_of}
+use Rattle.table_state.specs.Tables.{TableState, table_at}
 use Rattle.instances.specs.declared.tree.Child.{Child}
 use Rattle.instances.specs.declared.tree.Tree.{Tree}
 use Rattle.instances.specs.Trees.{place_of}

@@ -6,9 +6,10 @@ use Rattle.std.specs.FinMap.{empty, contains_key, get, retain_keys}
 use Rattle.row_types.specs.declared.truth.Truth.{Truth}
 use Rattle.row_types.specs.declared.truth.Truth.TheVariants.{True, False, Unknown}
 use Rattle.row_types.specs.declared.value.Value.{Value}
-use Rattle.table_state.specs.declared.definition.TableDef.{TableDef}
-use Rattle.table_state.specs.Declarations.{foreign_places}
-use Rattle.table_state.specs.Tables.{Table, TableState, is_same, key_of, table_at}
+use Rattle.table_defs.specs.declared.definition.TableDef.{TableDef}
+use Rattle.table_defs.specs.Declarations.{foreign_places}
+use Rattle.indexed_rows.specs.Rows.{Table, is_same, key_of}
+use Rattle.table_state.specs.Tables.{TableState, table_at}
 use Rattle.expressions.specs.declared.condition.Cond.{Cond}
 use Rattle.expressions.specs.Conditions.{holds}
 use Rattle.instances.specs.declared.tree.Child.{Child}

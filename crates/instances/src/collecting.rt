@@ -2,7 +2,7 @@
 
 ghost use Rattle.std.specs.Prelude.{◌≡◌, ◌&&◌, IfOk, OnOk, option_copied, slice_get, unwrap_or};
 ghost use Rattle.std.specs.FinMap as map;
-ghost use Rattle.table_state.specs.Declarations.{foreign_places};
+ghost use Rattle.table_defs.specs.Declarations.{foreign_places};
 ghost use Rattle.instances.specs.Collecting.{added};
 ghost use Rattle.instances.specs.Views.{child_rows, kept_at, only, refers_to_one, root_rows, rows_where, selects};
 
@@ -12,7 +12,9 @@ use key_rows::Rows;
 use row_types::{Key, Row, Truth};
 use std::alloc::{AllocError, Global};
 use table_scan::Scan;
-use table_state::{ForeignKey, TableDef, Tables, key_at};
+use indexed_rows::key_at;
+use table_defs::{ForeignKey, TableDef};
+use table_state::Tables;
 
 /// The rows of the root table that its WHERE selects.
 pub(crate) fn root_rows(alloc: Global, tables: &Tables, root: &Root) -> Result<Rows, AllocError>

@@ -10,7 +10,8 @@ use crate::tree::{Child, Root, Tree};
 use row_types::Key;
 use std::alloc::{AllocError, Global};
 use table_scan::Scan;
-use table_state::{Tables, key_at};
+use indexed_rows::key_at;
+use table_state::Tables;
 use tier_base::TableId;
 
 /// The key of the root row that the row of a key in this table is reached from, whatever the WHERE conditions say; none

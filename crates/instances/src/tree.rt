@@ -5,7 +5,7 @@ ghost use Rattle.instances.specs.Trees.{are_sound, is_parent, is_place, is_sound
 
 use expressions::Cond;
 use std::alloc::Global;
-use table_state::{BackingSchema, ForeignKey};
+use table_defs::{BackingSchema, ForeignKey};
 use tier_base::{Seq, TableId};
 
 /// The root table of a group.

@@ -7,17 +7,18 @@ use Rattle.tier_base.specs.declared.number.TableId.{TableId}
 use Rattle.row_types.specs.declared.rule.Detail.{Detail}
 use Rattle.row_types.specs.declared.rule.Detail.TheVariants as detail
 use Rattle.row_types.specs.declared.value.Value.{Value}
-use Rattle.table_state.specs.declared.definition.TableDef.{TableDef}
+use Rattle.table_defs.specs.declared.definition.TableDef.{TableDef}
 use Rattle.table_state.specs.declared.history.Entry.{Entry}
 use Rattle.table_state.specs.declared.operation.Op.{Op}
 use Rattle.table_state.specs.declared.operation.Op.TheVariants.{Insert, Update, Delete}
 use Rattle.table_state.specs.declared.refusal.ApplyError.{ApplyError}
 use Rattle.table_state.specs.declared.refusal.ApplyError.TheVariants as error
 use Rattle.table_state.specs.Histories.{state_of}
-use Rattle.table_state.specs.Names.{place_of_table}
+use Rattle.table_defs.specs.Names.{place_of_table}
 use Rattle.table_state.specs.Operations.{applied, table_of}
 use Rattle.table_state.specs.Refusals.{broken_by}
-use Rattle.table_state.specs.Tables.{TableState, key_of, table_at}
+use Rattle.indexed_rows.specs.Rows.{key_of}
+use Rattle.table_state.specs.Tables.{TableState, table_at}
 
 -- the row that an operation puts in, changes or takes out
 abbrev pub row_of : Op → List Value

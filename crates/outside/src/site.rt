@@ -10,7 +10,8 @@ use crate::disk::Disk;
 use crate::fault::BankError;
 use evaluator::Change;
 use row_types::{Key, Row, Rule};
-use table_state::{BackingSchema, Sealed, TableDef, Tables};
+use table_defs::{BackingSchema, TableDef};
+use table_state::{Sealed, Tables};
 use tier_base::{Position, TableId, Ticket};
 
 /// That a transaction of the tier stands in the backing history.

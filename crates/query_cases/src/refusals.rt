@@ -9,7 +9,7 @@ use sql_query::{
 };
 use std::alloc::{AllocError, Global};
 use std::test::Fail;
-use table_state::{BackingSchema, TableDef};
+use table_defs::{BackingSchema, TableDef};
 use tier_base::{Name, NameError, Seq};
 
 fn put<T: Drop>(list: &mut Seq<T>, item: T) -> Result<(), AllocError> {

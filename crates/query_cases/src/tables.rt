@@ -6,7 +6,8 @@ ghost use Rattle.table_scan.specs.Keyed.{IsKeyed};
 use row_types::{Column, Row, Ty, Value, print_values_into};
 use std::alloc::{AllocError, Global};
 use std::test::Fail;
-use table_state::{Entry, ForeignKey, Op, TableDef, Tables};
+use table_defs::{ForeignKey, TableDef};
+use table_state::{Entry, Op, Tables};
 use tier_base::{Name, NameError, Seq, TableId};
 
 pub const A: TableId = TableId(0);

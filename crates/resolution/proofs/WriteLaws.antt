@@ -13,7 +13,7 @@ use Rattle.sql_query.specs.declared.write.Delete.{Delete as DeleteStatement}
 use Rattle.sql_query.specs.declared.write.Insert.{Insert as InsertStatement}
 use Rattle.sql_query.specs.declared.write.Update.{Update as UpdateStatement}
 use Rattle.sql_query.specs.Trees.{ExpressionTree}
-use Rattle.table_state.specs.declared.definition.TableDef.{TableDef}
+use Rattle.table_defs.specs.declared.definition.TableDef.{TableDef}
 use Rattle.evaluator.specs.Rules.{unless}
 use Rattle.resolution.specs.Assignments.{arranged, key_column_of, suit_columns}
 use Rattle.resolution.specs.Literals.{some_unheld, unheld_in_filter}

@@ -9,8 +9,8 @@ use Rattle.row_types.specs.declared.column.Column.{Column}
 use Rattle.row_types.specs.declared.rule.Rule.{Rule}
 use Rattle.expressions.specs.declared.typing.Family.{Family}
 use Rattle.expressions.specs.Types.{agrees, family_of_type}
-use Rattle.table_state.specs.declared.definition.TableDef.{TableDef}
-use Rattle.table_state.specs.Names.{same_name}
+use Rattle.table_defs.specs.declared.definition.TableDef.{TableDef}
+use Rattle.table_defs.specs.Names.{same_name}
 use Rattle.evaluator.specs.Rules.{about, then_do}
 
 -- the column of this name, by its name alone

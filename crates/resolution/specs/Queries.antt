@@ -18,7 +18,7 @@ use Rattle.sql_query.specs.declared.query.Query.{Query}
 use Rattle.sql_query.specs.declared.query.SelectList.{SelectList}
 use Rattle.sql_query.specs.declared.query.SelectList.TheVariants.{Everything, Expressions, Aggregates}
 use Rattle.sql_query.specs.Trees.{ExpressionTree, Constant}
-use Rattle.table_state.specs.declared.definition.TableDef.{TableDef}
+use Rattle.table_defs.specs.declared.definition.TableDef.{TableDef}
 use Rattle.evaluator.specs.declared.aggregate.Aggregate.{Aggregate}
 use Rattle.evaluator.specs.declared.aggregate.Aggregate.TheVariants as total
 use Rattle.evaluator.specs.declared.plan.Plan.{Plan}

@@ -9,8 +9,8 @@ use Rattle.tier_base.specs.declared.number.TableId.{TableId}
 use Rattle.row_types.specs.declared.column.Column.{Column}
 use Rattle.row_types.specs.declared.rule.Rule.{Rule}
 use Rattle.sql_query.specs.declared.query.FromTable.{FromTable}
-use Rattle.table_state.specs.declared.definition.TableDef.{TableDef}
-use Rattle.table_state.specs.Names.{place_of_table, same_name}
+use Rattle.table_defs.specs.declared.definition.TableDef.{TableDef}
+use Rattle.table_defs.specs.Names.{place_of_table, same_name}
 use Rattle.evaluator.specs.Rules.{about}
 use Rattle.expressions.specs.declared.typing.Family.{Family}
 use Rattle.expressions.specs.Types.{family_of_type}

@@ -14,8 +14,8 @@ use Rattle.sql_query.specs.declared.write.Update.{Update as UpdateStatement}
 use Rattle.sql_query.specs.declared.write.Write.{Write}
 use Rattle.sql_query.specs.declared.write.Write.TheVariants as write
 use Rattle.sql_query.specs.Trees.{ExpressionTree}
-use Rattle.table_state.specs.declared.definition.TableDef.{TableDef}
-use Rattle.table_state.specs.Names.{place_of_table}
+use Rattle.table_defs.specs.declared.definition.TableDef.{TableDef}
+use Rattle.table_defs.specs.Names.{place_of_table}
 use Rattle.evaluator.specs.declared.change.Action.{Action}
 use Rattle.evaluator.specs.declared.change.Action.TheVariants as action
 use Rattle.evaluator.specs.declared.change.Change.{Change}

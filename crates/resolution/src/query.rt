@@ -18,7 +18,7 @@ use expressions::{Cond, Expr};
 use row_types::Refused;
 use sql_query::{Query, SelectList};
 use std::alloc::{AllocError, Global};
-use table_state::BackingSchema;
+use table_defs::BackingSchema;
 use tier_base::{Seq, TableId};
 
 /// The query with places in place of names, over the tables of the schema.

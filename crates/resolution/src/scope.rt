@@ -1,7 +1,7 @@
 //! The columns that a statement sees, and their names.
 
 ghost use Rattle.std.specs.Prelude.{◌≡◌, ◌++◌, ◌∷◌, IfOk, OnOk, count_by, option_copied, position};
-ghost use Rattle.table_state.specs.Names.{same_name};
+ghost use Rattle.table_defs.specs.Names.{same_name};
 ghost use Rattle.resolution.specs.Results.{Gives};
 ghost use Rattle.resolution.specs.Scopes.{columns_seen, families, fits, name_seen, place_in, placed_column, scope_of, shown, shown_column, table_named, tables_of};
 
@@ -10,7 +10,7 @@ use expressions::{Family, family_of_type};
 use row_types::{Column, Refused};
 use sql_query::FromTable;
 use std::alloc::{AllocError, Global};
-use table_state::{BackingSchema, TableDef, find_table};
+use table_defs::{BackingSchema, TableDef, find_table};
 use tier_base::{Code, Name, Seq, TableId};
 
 /// A column that a statement sees.

@@ -24,7 +24,7 @@ use expressions::{Cond, Expr};
 use row_types::{Column, Refused, Value};
 use sql_query::{Assignment, Delete, Insert, Update, Write};
 use std::alloc::{AllocError, Global};
-use table_state::{BackingSchema, TableDef, find_table};
+use table_defs::{BackingSchema, TableDef, find_table};
 use tier_base::{Code, Name, Seq, TableId};
 
 /// The write with places in place of names, over the tables of the schema.

@@ -8,7 +8,7 @@ use Rattle.tier_engine.specs.Steps.{World}
 use Rattle.table_state.specs.declared.operation.Op.{Op}
 use Rattle.table_state.specs.declared.history.Entry.{Entry}
 use Rattle.table_state.specs.declared.history.Entry.TheVariants.{Definition, Foreign, Own}
-use Rattle.table_state.specs.declared.definition.TableDef.{TableDef}
+use Rattle.table_defs.specs.declared.definition.TableDef.{TableDef}
 use Rattle.table_state.specs.Tables.{TableState}
 use Rattle.outside.specs.Calls.{Told}
 use Rattle.outside.specs.Others.{AreOthers}

@@ -6,11 +6,9 @@ use row_types::{
 };
 use std::alloc::{AllocError, Global};
 use std::test::Fail;
-use table_state::{
-    ApplyError, Entry, Footprint, Op, Ops, Sealed, TableDef, Tables, check_row, conflicts,
-    copied_ops, copied_schema, find_table, has_one_key, has_type, key_at, key_of_row, key_places,
-    refuse_types, same_ops, wrong_name,
-};
+use indexed_rows::key_at;
+use table_defs::{TableDef, copied_schema, find_table, has_one_key, has_type, key_places, refuse_types, wrong_name};
+use table_state::{ApplyError, Entry, Footprint, Op, Ops, Sealed, Tables, check_row, conflicts, copied_ops, key_of_row, same_ops};
 use tier_base::{Name, NameError, Seq, TableId, Ticket};
 
 mod index;

@@ -12,7 +12,7 @@ use Rattle.std.specs.FinMap.Entries.{below_all}
 use Rattle.row_types.specs.declared.value.Value.{Value}
 use Rattle.row_types.specs.Order.{key_order}
 use Rattle.row_types.proofs.OrderLaws.{key_total, key_exact}
-use Rattle.table_state.specs.Tables.{Table, is_same, key_of}
+use Rattle.indexed_rows.specs.Rows.{Table, is_same, key_of}
 use Rattle.table_scan.specs.Keyed.{HasWidth, IsUnderKeys, has_key}
 use Rattle.table_scan.proofs.PairLaws.{Every, Pairs}
 

@@ -10,7 +10,7 @@ use Rattle.row_types.specs.declared.value.Value.{Value}
 use Rattle.row_types.specs.Order.{key_order}
 use Rattle.row_types.proofs.OrderLaws.{key_total, key_exact}
 use Rattle.tier_base.specs.declared.number.TableId.{TableId}
-use Rattle.table_state.specs.declared.definition.TableDef.{TableDef}
+use Rattle.table_defs.specs.declared.definition.TableDef.{TableDef}
 use Rattle.table_state.specs.declared.history.Entry.{Entry}
 use Rattle.table_state.specs.declared.history.Entry.TheVariants.{Definition, Foreign, Own}
 use Rattle.table_state.specs.declared.operation.Op.{Op}
@@ -19,7 +19,8 @@ use Rattle.table_state.specs.Histories.{after_entry, no_tables, state_from, stat
 use Rattle.table_state.specs.Independence.{IsWhole}
 use Rattle.table_state.proofs.IndependenceLaws.{entry_whole}
 use Rattle.table_state.specs.Operations.{applied, applied_all, on_table, only_if}
-use Rattle.table_state.specs.Tables.{Table, TableState, fits_columns, key_of}
+use Rattle.indexed_rows.specs.Rows.{Table, key_of}
+use Rattle.table_state.specs.Tables.{TableState, fits_columns}
 use Rattle.table_scan.specs.Keyed.{HasWidth, IsKeyed, IsUnderKeys}
 
 abbrev Row : Type 0

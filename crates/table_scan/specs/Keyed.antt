@@ -4,9 +4,10 @@
 use Rattle.std.specs.Prelude.{◌≡◌, ℕ, List, Some, length, slice_get}
 use Rattle.std.specs.FinMap.{get}
 use Rattle.row_types.specs.declared.value.Value.{Value}
-use Rattle.table_state.specs.declared.definition.TableDef.{TableDef}
-use Rattle.table_state.specs.Tables.{Table, TableState, key_of}
-pub use Rattle.table_state.specs.Children.{has_key}
+use Rattle.table_defs.specs.declared.definition.TableDef.{TableDef}
+use Rattle.indexed_rows.specs.Rows.{Table, key_of}
+use Rattle.table_state.specs.Tables.{TableState}
+pub use Rattle.indexed_rows.specs.Rows.{has_key}
 
 -- the row of each key has that key at these places
 abbrev pub IsUnderKeys : List ℕ → Table → Type 0

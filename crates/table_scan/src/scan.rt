@@ -7,7 +7,8 @@ ghost use Rattle.table_scan.specs.Children.{child_from};
 
 use key_rows::Rows;
 use row_types::{Key, Row};
-use table_state::{BackingSchema, Tables};
+use table_defs::BackingSchema;
+use table_state::Tables;
 use tier_base::TableId;
 
 /// What lends the rows of tables. Clauses see a table state. Nothing is copied, and no call takes memory.

@@ -4,7 +4,7 @@ use Rattle.std.specs.Option.{option_map}
 use Rattle.std.specs.FinMap.{empty}
 use Rattle.tier_base.specs.declared.number.TableId.{TableId}
 use Rattle.table_state.specs.Copies.{is_one_of, only_asked}
-use Rattle.table_state.specs.Tables.{Table}
+use Rattle.indexed_rows.specs.Rows.{Table}
 
 pub asked_length : (asked : List TableId) (place : ℕ) (tables : List Table) → length (only_asked asked place tables) ≡ length tables
 asked_length asked place [] = refl

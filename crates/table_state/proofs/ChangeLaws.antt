@@ -13,11 +13,13 @@ use Rattle.table_state.specs.declared.operation.Op.{Op}
 use Rattle.table_state.specs.declared.operation.Op.TheVariants.{Insert, Update, Delete}
 use Rattle.table_state.specs.declared.refusal.ApplyError.{ApplyError}
 use Rattle.table_state.specs.declared.change.Undo.{Undo}
-use Rattle.table_state.specs.Tables.{Table, TableState, fits_columns, is_found, is_same, is_there, key_of, table_at}
+use Rattle.indexed_rows.specs.Rows.{Table, is_same, key_of, put_in, put_over}
+use Rattle.table_state.specs.Tables.{TableState, fits_columns, is_found, is_there, table_at}
 use Rattle.table_state.specs.Operations.{applied, with_change, with_row, without_row}
 use Rattle.table_state.specs.declared.refusal.ApplyError.TheVariants as error
 use Rattle.table_state.specs.Refusals.{IsFault, SaysNone, broken_by, insert_fault, update_fault, delete_fault}
-use Rattle.table_state.specs.Changes.{AllHaveRoom, HasRoom, IsKeyIn, LeadsBack, all_taken_back, put_in, put_over, taken_back, with_table}
+use Rattle.table_state.specs.Changes.{AllHaveRoom, HasRoom, IsKeyIn, LeadsBack, all_taken_back, taken_back, with_table}
+use Rattle.indexed_rows.proofs.EntryLaws.{same_values}
 use Rattle.table_state.proofs.RefusalLaws.{insert_is, update_is, delete_is, unbroken, stays_out}
 
 abbrev Row : Type 0
@@ -110,14 +112,6 @@ undelete m key old is = ap (λ b. cond b (remove m key) (insert (remove m key) k
     gone = ap is_some (get-remove key_total m key key ∙ ap (λ b. cond b None (get m key)) ((eq_by_cmp_equiv key_total).refl key))
 
 -- only the same values are the same
-
-ordering_equal : (r : Ordering) → is_eq r ≡ true → r ≡ Equal
-ordering_equal Less e = cc
-ordering_equal Equal e = refl
-ordering_equal Greater e = cc
-
-pub same_values : (a b : Row) → is_same a b ≡ true → a ≡ b
-same_values a b e = key_exact a b (ordering_equal (key_order a b) e)
 
 pub row_found : (row : Row) (found : Option Row) → is_found row found ≡ true → found ≡ Some row
 row_found row None e = cc

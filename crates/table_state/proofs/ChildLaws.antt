@@ -6,29 +6,10 @@ use Rattle.std.specs.Option.{option_and_then}
 use Rattle.std.proofs.lemmas.List.{length-map, nil_from_length}
 use Rattle.row_types.specs.declared.value.Value.{Value}
 use Rattle.row_types.specs.Order.{key_order}
-use Rattle.table_state.specs.declared.definition.TableDef.{TableDef}
-use Rattle.table_state.proofs.ListLaws.{drop_at}
-use Rattle.table_state.specs.Children.{first_from, refers_to}
-use Rattle.table_state.specs.Tables.{Table}
-
-module _ {A : Type 0} (p : A → Bool) (xs : List A) (i : ℕ) where
-  step : (x : A) → slice_get xs i ≡ Some x → first_from p i (drop i xs) ≡ cond (p x) (Some i) (first_from p (i + 1) (drop (i + 1) xs))
-  step x at = let next : suc i ≡ i + 1 = omega arith in ap (first_from p i) (drop_at xs i x at) ∙ ap (λ k. cond (p x) (Some i) (first_from p k (drop (i + 1) xs))) next
-
-  pub here : (x : A) → slice_get xs i ≡ Some x → p x ≡ true → first_from p i (drop i xs) ≡ Some i
-  here x at passes = step x at ∙ ap (λ b. cond b (Some i) (first_from p (i + 1) (drop (i + 1) xs))) passes
-
-  pub not_here : (x : A) → slice_get xs i ≡ Some x → p x ≡ false → first_from p i (drop i xs) ≡ first_from p (i + 1) (drop (i + 1) xs)
-  not_here x at fails = step x at ∙ ap (λ b. cond b (Some i) (first_from p (i + 1) (drop (i + 1) xs))) fails
-
-pub no_more : {A : Type 0} (p : A → Bool) (xs : List A) (i : ℕ) → length xs ≤ i → first_from p i (drop i xs) ≡ None
-no_more p xs i past = ap (first_from p i) (gone xs i past)
-  where
-    gone : {A : Type 0} (xs : List A) (i : ℕ) → length xs ≤ i → drop i xs ≡ []
-    gone [] zero h = refl
-    gone [] (suc i) h = refl
-    gone (x ∷ xs) zero h = absurd (omega arith)
-    gone (x ∷ xs) (suc i) h = gone xs i (omega arith)
+use Rattle.table_defs.specs.declared.definition.TableDef.{TableDef}
+use Rattle.indexed_rows.proofs.FirstLaws.{drop_at}
+use Rattle.indexed_rows.specs.Rows.{first_from, Table}
+use Rattle.table_state.specs.Children.{refers_to}
 
 -- a table that isn't there has no rows, and so no child
 

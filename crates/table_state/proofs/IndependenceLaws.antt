@@ -8,14 +8,15 @@ use Rattle.std.proofs.lemmas.List.{nil_from_length, length-append, length-map, l
 use Rattle.row_types.specs.declared.value.Value.{Value}
 use Rattle.row_types.specs.Order.{key_order}
 use Rattle.tier_base.specs.declared.number.TableId.{TableId}
-use Rattle.table_state.specs.declared.definition.ForeignKey.{ForeignKey}
-use Rattle.table_state.specs.declared.definition.TableDef.{TableDef}
+use Rattle.table_defs.specs.declared.definition.ForeignKey.{ForeignKey}
+use Rattle.table_defs.specs.declared.definition.TableDef.{TableDef}
 use Rattle.table_state.specs.declared.operation.Op.{Op}
 use Rattle.table_state.specs.declared.operation.Op.TheVariants.{Insert, Update, Delete}
 use Rattle.table_state.specs.declared.history.Entry.{Entry}
 use Rattle.table_state.specs.declared.history.Entry.TheVariants.{Definition, Foreign, Own}
 use Rattle.table_state.specs.Histories.{after_entry, state_from}
-use Rattle.table_state.specs.Tables.{Table, TableState, fits_columns, has_child_in, has_parent, is_same, is_there, key_of, names_parent, table_at}
+use Rattle.indexed_rows.specs.Rows.{Table, is_same, key_of}
+use Rattle.table_state.specs.Tables.{TableState, fits_columns, has_child_in, has_parent, is_there, names_parent, table_at}
 use Rattle.table_state.specs.Operations.{applied, applied_all, on_table, only_if, table_of, with_change, with_row, without_row}
 use Rattle.table_state.specs.Changes.{with_table}
 use Rattle.table_state.specs.Independence.{AreApart, Commute, IsWhole, is_child_of, refers_to, with_new}

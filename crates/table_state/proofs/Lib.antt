@@ -1,13 +1,8 @@
 pub mod AskedLaws
 pub mod ChangeLaws
 pub mod ChildLaws
-pub mod CopyLaws
-pub mod EntryLaws
 pub mod HistoryLaws
 pub mod IndependenceLaws
-pub mod IndexLaws
 pub mod ListLaws
-pub mod NumberLaws
-pub mod ParentLaws
 pub mod PositionLaws
 pub mod RefusalLaws

@@ -16,11 +16,12 @@ use Rattle.row_types.specs.declared.value.Value.{Value}
 use Rattle.row_types.specs.declared.value.Value.TheVariants.{Null, Integer, Text, Time}
 use Rattle.row_types.specs.Columns.{fit_of, holds}
 use Rattle.row_types.specs.Order.{order_of}
-use Rattle.table_state.specs.declared.definition.TableDef.{TableDef}
+use Rattle.table_defs.specs.declared.definition.TableDef.{TableDef}
 use Rattle.table_state.specs.declared.refusal.ApplyError.{ApplyError}
-use Rattle.table_state.specs.Tables.{Table, TableState, fits_columns, has_child, has_child_in, has_parent, is_same, is_there, key_of, names_parent}
+use Rattle.indexed_rows.specs.Rows.{Table, is_same, key_of, changes}
+use Rattle.table_state.specs.Tables.{TableState, fits_columns, has_child, has_child_in, has_parent, is_there, names_parent}
 use Rattle.table_state.specs.Operations.{on_table, only_if}
-use Rattle.table_state.specs.Refusals.{changed_key, changes, child_of, delete_fault, differing, first_child, first_refused, has_children, in_table, insert_fault, is_code, misfit, missing_parent, refused_at, taken_key, update_fault}
+use Rattle.table_state.specs.Refusals.{changed_key, child_of, delete_fault, differing, first_child, first_refused, has_children, in_table, insert_fault, is_code, misfit, missing_parent, refused_at, taken_key, update_fault}
 
 abbrev Row : Type 0
 Row = List Value

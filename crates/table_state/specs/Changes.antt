@@ -1,25 +1,18 @@
 -- Changes of one row of one table, and how they are taken back.
 
-use Rattle.std.specs.Prelude.{◌≡◌, ◌+◌, ◌<◌, ◌^◌, List, [], ◌∷◌, Some, slice_get, slice_set, if◌then◌else◌}
-use Rattle.std.specs.FinMap.{contains_key, insert, len, remove}
+use Rattle.std.specs.Prelude.{◌≡◌, ◌+◌, ◌<◌, ◌^◌, List, [], ◌∷◌, Some, slice_get, slice_set}
+use Rattle.std.specs.FinMap.{len, remove}
 use Rattle.row_types.specs.declared.value.Value.{Value}
 use Rattle.tier_base.specs.declared.number.TableId.{TableId}
-use Rattle.table_state.specs.declared.definition.TableDef.{TableDef}
+use Rattle.table_defs.specs.declared.definition.TableDef.{TableDef}
 use Rattle.table_state.specs.declared.change.Undo.{Undo}
 use Rattle.table_state.specs.declared.change.Undo.TheVariants.{Inserted, Changed, Deleted}
-use Rattle.table_state.specs.Tables.{Table, TableState, key_of, table_at}
+use Rattle.indexed_rows.specs.Rows.{Table, key_of, put_in, put_over}
+use Rattle.table_state.specs.Tables.{TableState, table_at}
 
 -- one table of the state is another
 abbrev pub with_table : TableState → TableId → Table → TableState
 with_table s t table = record { schema = s.schema; tables = slice_set s.tables t.0 table }
-
--- the row goes in where the key has none
-abbrev pub put_in : Table → List Value → List Value → Table
-put_in table key row = if contains_key table key then table else insert table key row
-
--- the row goes in where the key has one
-abbrev pub put_over : Table → List Value → List Value → Table
-put_over table key row = if contains_key table key then insert table key row else table
 
 -- the key of the row, where the table is there
 abbrev pub IsKeyIn : TableState → TableId → List Value → List Value → Type 0

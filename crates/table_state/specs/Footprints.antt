@@ -4,14 +4,14 @@ use Rattle.std.specs.Prelude.{List, [], ◌∷◌, Option, Some, None, Bool, ◌
 use Rattle.std.specs.List.{flat_map, list_any}
 use Rattle.row_types.specs.declared.value.Value.{Value}
 use Rattle.tier_base.specs.declared.number.TableId.{TableId}
-use Rattle.table_state.specs.declared.definition.ForeignKey.{ForeignKey}
-use Rattle.table_state.specs.declared.definition.TableDef.{TableDef}
+use Rattle.table_defs.specs.declared.definition.ForeignKey.{ForeignKey}
+use Rattle.table_defs.specs.declared.definition.TableDef.{TableDef}
 use Rattle.table_state.specs.declared.footprint.Footprint.{Footprint}
 use Rattle.table_state.specs.declared.footprint.RowKey.{RowKey}
 use Rattle.table_state.specs.declared.operation.Op.{Op}
 use Rattle.table_state.specs.declared.operation.Op.TheVariants.{Insert, Update, Delete}
 use Rattle.table_state.specs.Operations.{table_of}
-use Rattle.table_state.specs.Tables.{is_same, key_of}
+use Rattle.indexed_rows.specs.Rows.{is_same, key_of}
 
 -- the rows of an operation, old and new
 abbrev pub rows_of : Op → List (List Value)

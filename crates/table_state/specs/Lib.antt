@@ -1,12 +1,9 @@
 pub mod Changes
 pub mod Children
 pub mod Copies
-pub mod Declarations
 pub mod Footprints
 pub mod Histories
 pub mod Independence
-pub mod Indexes
-pub mod Names
 pub mod Operations
 pub mod Refusals
 pub mod StateCode

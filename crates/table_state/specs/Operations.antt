@@ -5,10 +5,11 @@ use Rattle.std.specs.Option.{option_and_then, option_map}
 use Rattle.std.specs.FinMap.{contains_key, insert, remove}
 use Rattle.row_types.specs.declared.value.Value.{Value}
 use Rattle.tier_base.specs.declared.number.TableId.{TableId}
-use Rattle.table_state.specs.declared.definition.TableDef.{TableDef}
+use Rattle.table_defs.specs.declared.definition.TableDef.{TableDef}
 use Rattle.table_state.specs.declared.operation.Op.{Op}
 use Rattle.table_state.specs.declared.operation.Op.TheVariants.{Insert, Update, Delete}
-use Rattle.table_state.specs.Tables.{Table, TableState, key_of, is_same, fits_columns, has_parent, has_child, is_there}
+use Rattle.indexed_rows.specs.Rows.{Table, key_of, is_same}
+use Rattle.table_state.specs.Tables.{TableState, fits_columns, has_parent, has_child, is_there}
 
 abbrev pub only_if : {X : Type 0} → Bool → X → Option X
 only_if test x = if test then Some x else None

@@ -1,10 +1,9 @@
 -- Why an operation doesn't apply. (TimesTen SQL Reference, INSERT, UPDATE, DELETE; the codes, their order and what is
 -- told behind them are this project's rule.)
 
-use Rattle.std.specs.Prelude.{◌≡◌, ℕ, List, [], ◌∷◌, Option, Some, None, Bool, false, not, ◌==◌, length, find, take, Result, Ok, Err, slice_get, unwrap_or, if◌then◌else◌}
+use Rattle.std.specs.Prelude.{◌≡◌, ℕ, List, [], ◌∷◌, Option, Some, None, Bool, false, ◌==◌, length, find, take, Result, Ok, Err, slice_get, if◌then◌else◌}
 use Rattle.std.specs.FinMap.{contains_key, entries, get}
 use Rattle.std.specs.Option.{option_and_then, option_map, option_or}
-use Rattle.std.specs.Ordering.{is_eq}
 use Rattle.tier_base.specs.Codes.{number_of}
 use Rattle.tier_base.specs.declared.code.Code.{Code}
 use Rattle.tier_base.specs.declared.code.Code.TheVariants.{UnknownTable, TypeMismatch, OutOfRange, NullNotAllowed, KeyExists, ParentMissing, ChildExists, KeyColumnSet}
@@ -13,18 +12,17 @@ use Rattle.row_types.specs.declared.column.Column.{Column}
 use Rattle.row_types.specs.declared.rule.Detail.{Detail}
 use Rattle.row_types.specs.declared.rule.Detail.TheVariants as detail
 use Rattle.row_types.specs.declared.value.Value.{Value}
-use Rattle.row_types.specs.declared.value.Value.TheVariants.{Null}
 use Rattle.row_types.specs.Columns.{fit_of}
-use Rattle.row_types.specs.Order.{order_of}
-use Rattle.table_state.specs.declared.definition.ForeignKey.{ForeignKey}
-use Rattle.table_state.specs.declared.definition.TableDef.{TableDef}
+use Rattle.table_defs.specs.declared.definition.ForeignKey.{ForeignKey}
+use Rattle.table_defs.specs.declared.definition.TableDef.{TableDef}
 use Rattle.table_state.specs.declared.history.Entry.{Entry}
 use Rattle.table_state.specs.declared.history.Entry.TheVariants.{Definition, Foreign, Own}
 use Rattle.table_state.specs.declared.operation.Op.{Op}
 use Rattle.table_state.specs.declared.operation.Op.TheVariants.{Insert, Update, Delete}
 use Rattle.table_state.specs.declared.refusal.ApplyError.{ApplyError}
 use Rattle.table_state.specs.declared.refusal.ApplyError.TheVariants as error
-use Rattle.table_state.specs.Tables.{Table, TableState, key_of, has_parent, names_parent, is_there}
+use Rattle.indexed_rows.specs.Rows.{Table, changes, key_of}
+use Rattle.table_state.specs.Tables.{TableState, has_parent, names_parent, is_there}
 use Rattle.table_state.specs.Operations.{applied}
 use Rattle.table_state.specs.Histories.{after_entry, state_from}
 
@@ -89,12 +87,6 @@ has_children s t key = option_and_then (λ child. refused ChildExists child) (fi
 abbrev pub differing : TableId → TableDef → List Value → Table → Option ApplyError
 differing t def row table =
     if is_there def row table then None else Some (error.Differs t (key_of def.primary_key row) (get table (key_of def.primary_key row)))
-
-abbrev pub value_at : List Value → ℕ → Value
-value_at row place = unwrap_or (slice_get row place) Null
-
-abbrev pub changes : List Value → List Value → ℕ → Bool
-changes old new place = not (is_eq (order_of (value_at old place) (value_at new place)))
 
 abbrev pub column_name : Option Column → Detail
 column_name None = detail.Nothing

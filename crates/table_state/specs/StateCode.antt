@@ -4,9 +4,10 @@ use Rattle.std.specs.Prelude.{List, refl}
 use Rattle.std.specs.Coded.{Coded, code_by, coded×, coded_list}
 use Rattle.std.specs.FinMap as map
 use Rattle.row_types.specs.contracts.value.Value as one
-use Rattle.table_state.specs.declared.definition.TableDef.{TableDef}
-use Rattle.table_state.specs.contracts.definition.TableDef as definition
-use Rattle.table_state.specs.Tables.{Table, TableState}
+use Rattle.table_defs.specs.declared.definition.TableDef.{TableDef}
+use Rattle.table_defs.specs.contracts.definition.TableDef as definition
+use Rattle.indexed_rows.specs.Rows.{Table}
+use Rattle.table_state.specs.Tables.{TableState}
 
 abbrev pub state_code : Coded TableState
 state_code =

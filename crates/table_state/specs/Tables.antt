@@ -1,35 +1,21 @@
 -- Tables and table states. (TimesTen SQL Reference, "CREATE TABLE": primary keys and foreign keys.)
 
-use Rattle.std.specs.Prelude.{ℕ, List, [], ◌∷◌, Option, Some, None, Bool, true, false, ◌&&◌, ◌||◌, nat_eq, map, slice_get, unwrap_or}
-use Rattle.std.specs.Ordering.{is_eq}
+use Rattle.std.specs.Prelude.{ℕ, List, [], ◌∷◌, Option, Some, None, Bool, true, false, ◌&&◌, ◌||◌, nat_eq, slice_get, unwrap_or}
 use Rattle.std.specs.List.{list_any}
-use Rattle.std.specs.FinMap.{FinMap, empty, contains_key, get, values}
+use Rattle.std.specs.FinMap.{empty, contains_key, get, values}
 use Rattle.std.specs.Result.{is_ok}
 use Rattle.row_types.specs.declared.value.Value.{Value}
-use Rattle.row_types.specs.declared.value.Value.TheVariants.{Null}
 use Rattle.row_types.specs.declared.column.Column.{Column}
 use Rattle.row_types.specs.Columns.{fit_of}
-use Rattle.row_types.specs.Order.{key_order}
 use Rattle.tier_base.specs.declared.number.TableId.{TableId}
-use Rattle.table_state.specs.declared.definition.TableDef.{TableDef}
-use Rattle.table_state.specs.declared.definition.ForeignKey.{ForeignKey}
-
--- the rows of a table by primary key, in key order
-abbrev pub Table : Type 0
-Table = FinMap key_order (List Value)
+use Rattle.indexed_rows.specs.Rows.{Table, is_same, key_of}
+use Rattle.table_defs.specs.declared.definition.TableDef.{TableDef}
+use Rattle.table_defs.specs.declared.definition.ForeignKey.{ForeignKey}
 
 -- a schema, and the rows of each of its tables
 pub record TableState : Type 0 where
   pub schema : List TableDef
   pub tables : List Table
-
--- the values at these places
-abbrev pub key_of : List ℕ → List Value → List Value
-key_of places row = map (λ place. unwrap_or (slice_get row place) Null) places
-
--- the same values
-abbrev pub is_same : List Value → List Value → Bool
-is_same a b = is_eq (key_order a b)
 
 -- as many values as columns, and each column takes its value
 abbrev pub fits_columns : List Column → List Value → Bool

@@ -2,7 +2,8 @@
 
 ghost use Rattle.std.specs.Prelude.{◌≡◌, ◌+◌, ◌<◌, ◌^◌, OnErr, OnOk};
 ghost use Rattle.std.specs.FinMap as map;
-ghost use Rattle.table_state.specs.Changes.{HasRoom, put_in, put_over, taken_back, with_table};
+ghost use Rattle.indexed_rows.specs.Rows.{put_in, put_over};
+ghost use Rattle.table_state.specs.Changes.{HasRoom, taken_back, with_table};
 ghost use Rattle.table_state.specs.Tables.{table_at};
 
 use crate::tables::Tables;

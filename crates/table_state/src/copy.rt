@@ -6,12 +6,11 @@ ghost use Rattle.tier_base.specs.declared.number.TableId.{TableId};
 ghost use Rattle.table_state.specs.Copies.{is_one_of, only_asked};
 ghost use Rattle.table_state.specs.Tables.{table_at};
 
-use crate::definition::{BackingSchema, TableDef};
-use crate::indexed::Indexed;
 use crate::tables::Tables;
-use key_rows::Rows;
+use indexed_rows::IndexedRows;
 use std::alloc::{AllocError, Global};
-use tier_base::{Seq, TableId};
+use table_defs::copied_schema;
+use tier_base::TableId;
 
 impl Tables {
     /// A second copy of the tables. It goes through all rows.
@@ -36,18 +35,7 @@ impl Tables {
     }
 }
 
-/// A second copy of the definitions.
-pub fn copied_schema(alloc: Global, defs: &[TableDef]) -> Result<BackingSchema, AllocError>
-    ensures { IfOk result (λ copies. copies ≡ defs.now) }
-{
-    let mut copies = Vec::with_capacity(alloc, defs.len())?;
-    for def in defs {
-        copies.push(def.copied(alloc)?)?;
-    }
-    Ok(Seq::from_vec(copies))
-}
-
-fn copied_tables(alloc: Global, tables: &[Indexed]) -> Result<Vec<Indexed>, AllocError>
+fn copied_tables(alloc: Global, tables: &[IndexedRows]) -> Result<Vec<IndexedRows>, AllocError>
     ensures { IfOk result (λ copies. copies.items ≡ tables.now) }
 {
     let mut copies = Vec::with_capacity(alloc, tables.len())?;
@@ -59,9 +47,9 @@ fn copied_tables(alloc: Global, tables: &[Indexed]) -> Result<Vec<Indexed>, Allo
 
 fn copied_asked(
     alloc: Global,
-    tables: &[Indexed],
+    tables: &[IndexedRows],
     asked: &[TableId],
-) -> Result<Vec<Indexed>, AllocError>
+) -> Result<Vec<IndexedRows>, AllocError>
     ensures { IfOk result (λ copies. copies.items ≡ only_asked asked.now 0 tables.now) }
 {
     let mut copies = Vec::with_capacity(alloc, tables.len())?;
@@ -77,26 +65,12 @@ fn is_asked(asked: &[TableId], place: usize) -> bool
     asked.iter().any(|one| one.0 as usize == place)
 }
 
-fn copied_where(alloc: Global, rows: &Indexed, asked: bool) -> Result<Indexed, AllocError>
+fn copied_where(alloc: Global, rows: &IndexedRows, asked: bool) -> Result<IndexedRows, AllocError>
     ensures { IfOk result (λ copy. copy ≡ (if asked then rows.now else empty)) }
 {
     if asked {
         rows.copied(alloc)
     } else {
-        Ok(Indexed::bare(alloc))
+        Ok(IndexedRows::new(alloc))
     }
-}
-
-/// A second copy of rows.
-pub(crate) fn copied_rows(alloc: Global, rows: &Rows) -> Result<Rows, AllocError>
-    ensures { IfOk result (λ copies. copies ≡ rows.now) }
-{
-    let mut copies = Rows::new(alloc);
-    for place in 0..rows.len() {
-        let (key, row) = rows.entry_at(place);
-        let key = key.copied(alloc)?;
-        let row = row.copied(alloc)?;
-        let _ = copies.insert(key, row)?;
-    }
-    Ok(copies)
 }

@@ -4,12 +4,12 @@ ghost use Rattle.std.specs.Prelude.{◌≡◌, ◌++◌, [], IfOk, OnOk, map, sl
 ghost use Rattle.std.specs.List.{flat_map, list_any};
 ghost use Rattle.table_state.specs.Footprints.{conflict, footprint_of, is_among, is_in, referred_by, referred_key, same_row_key, written_by, written_key};
 
-use crate::definition::{BackingSchema, TableDef};
-use crate::fitting::is_same_values;
-use crate::lookup::{key_at, key_of_row};
+use crate::lookup::key_of_row;
 use crate::operation::Op;
+use indexed_rows::{is_same_values, key_at};
 use row_types::{Key, Row};
 use std::alloc::{AllocError, Global};
+use table_defs::{BackingSchema, TableDef};
 use tier_base::{Seq, TableId};
 
 /// A row of a table, by its key.

@@ -2,9 +2,9 @@
 
 ghost use Rattle.std.specs.Prelude.{◌≡◌, ◌↔◌, IfOk, IsTrue};
 
-use crate::definition::TableDef;
 use crate::operation::{Ops, copied_ops, same_ops};
 use std::alloc::{AllocError, Global};
+use table_defs::TableDef;
 use tier_base::{Seq, Ticket};
 
 /// What the backing database went through, from its beginning. It only grows.

@@ -6,18 +6,19 @@ ghost use Rattle.std.specs.FinMap as map;
 ghost use Rattle.tier_base.specs.declared.code.Code.TheVariants as code;
 ghost use Rattle.row_types.specs.declared.rule.Detail.TheVariants as detail;
 ghost use Rattle.table_state.specs.declared.refusal.ApplyError.TheVariants as error;
-ghost use Rattle.table_state.specs.Tables.{is_found, key_of, names_parent, table_at};
+ghost use Rattle.indexed_rows.specs.Rows.{key_of};
+ghost use Rattle.table_state.specs.Tables.{is_found, names_parent, table_at};
 ghost use Rattle.table_state.specs.Refusals.{Judges, child_of, delete_fault, differing, first_child, has_children, insert_fault, missing_parent, refused, row_of, update_fault};
 
-use crate::definition::{ForeignKey, TableDef};
-use crate::fitting::{broken, check_fit, check_key_stays, is_same_row};
-use crate::indexed::Indexed;
-use crate::lookup::{key_at, key_of_row};
+use crate::fitting::{broken, check_fit, check_key_stays};
+use crate::lookup::key_of_row;
 use crate::refusal::ApplyError;
 use crate::tables::Tables;
+use indexed_rows::{IndexedRows, is_same_row, key_at};
 use key_rows::Rows;
 use row_types::{Detail, Key, Row};
 use std::alloc::{AllocError, Global};
+use table_defs::{ForeignKey, TableDef};
 use tier_base::{Code, TableId};
 
 impl Tables {
@@ -175,7 +176,7 @@ fn first_child(
     table: TableId,
     key: &Key,
     defs: &[TableDef],
-    tables: &[Indexed],
+    tables: &[IndexedRows],
 ) -> Result<Option<Detail>, AllocError>
     ensures { IfOk result (λ child. child ≡ first_child table key.now defs.now tables.now) }
 {
@@ -193,7 +194,7 @@ fn child_of(
     table: TableId,
     key: &Key,
     def: &TableDef,
-    rows: &Indexed,
+    rows: &IndexedRows,
 ) -> Result<Option<Detail>, AllocError>
     ensures { IfOk result (λ child. child ≡ child_of table key.now def.now rows.now) }
 {
@@ -213,7 +214,7 @@ fn child_place(
     table: TableId,
     key: &Key,
     foreign_key: &Option<ForeignKey>,
-    rows: &Indexed,
+    rows: &IndexedRows,
 ) -> Option<usize>
     ensures found { option_and_then (slice_get (map.entries rows.now)) result ≡ find (λ e. names_parent table key.now foreign_key.now e.1) (map.entries rows.now) }
     ensures within { IfSome result (λ place. place < map.len rows.now) }

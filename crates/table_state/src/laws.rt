@@ -2,7 +2,7 @@
 
 ghost use Rattle.std.specs.Prelude.{◌≡◌, ◌+◌, ◌++◌, ◌≤◌, ◌||◌, ℕ, List, None, Some, is_some, length, slice_get, true};
 ghost use Rattle.std.specs.Option.{option_and_then, option_map, option_or};
-ghost use Rattle.table_state.specs.declared.definition.TableDef.{TableDef};
+ghost use Rattle.table_defs.specs.declared.definition.TableDef.{TableDef};
 ghost use Rattle.table_state.specs.declared.history.Entry.{Entry};
 ghost use Rattle.table_state.specs.declared.operation.Op.{Op};
 ghost use Rattle.table_state.specs.declared.refusal.ApplyError.{ApplyError};

@@ -1,24 +1,24 @@
 //! The tables of a state.
 
-ghost use Rattle.std.specs.Prelude.{◌≡◌, [], ◌∷◌, ◌++◌, Some, OnErr, OnOk, option_copied, slice_get};
+ghost use Rattle.std.specs.Prelude.{◌≡◌, [], ◌∷◌, ◌++◌, Some, IfOk, OnErr, OnOk, option_copied, slice_get};
 ghost use Rattle.std.specs.FinMap as map;
 ghost use Rattle.table_state.specs.Children.{child_from};
-ghost use Rattle.table_state.specs.Declarations.{foreign_places};
+ghost use Rattle.table_defs.specs.Declarations.{foreign_places};
 ghost use Rattle.table_state.specs.Histories.{no_tables};
 
-use crate::definition::{BackingSchema, ForeignKey, TableDef};
-use crate::indexed::Indexed;
+use indexed_rows::IndexedRows;
 use key_rows::Rows;
 use row_types::Key;
 use std::alloc::{AllocError, Global};
 use std::marker::Model;
+use table_defs::{BackingSchema, ForeignKey, TableDef, copied_places};
 use tier_base::{Seq, TableId};
 
 /// The tables with their rows. Clauses see a table state.
 #[derive(Drop)]
 pub struct Tables {
     pub(crate) schema: BackingSchema,
-    pub(crate) rows: Vec<Indexed>,
+    pub(crate) rows: Vec<IndexedRows>,
 }
 
 impl Model for Tables {
@@ -60,7 +60,7 @@ impl Tables {
         }
     }
 
-    fn indexed(&self, table: TableId) -> Option<&Indexed>
+    fn indexed(&self, table: TableId) -> Option<&IndexedRows>
         ensures { option_copied result ≡ slice_get self.now.tables table.0 }
     {
         self.rows.get(table.0 as usize)
@@ -86,7 +86,7 @@ impl Tables {
         ensures ok { OnOk result (self.new ≡ record { schema = self.old.schema ++ def ∷ []; tables = self.old.tables ++ map.empty ∷ [] }) }
         ensures err { OnErr result (self.new ≡ self.old) }
     {
-        let rows = Indexed::new(alloc, &def.foreign_key)?;
+        let rows = bare_rows(alloc, &def.foreign_key)?;
         self.rows.push(rows)?;
         match self.schema.push(def) {
             Ok(()) => Ok(()),
@@ -94,6 +94,19 @@ impl Tables {
                 let _ = self.rows.pop();
                 Err(AllocError::from(failed))
             }
+        }
+    }
+}
+
+// No rows, with an index by parent where there is a foreign key.
+fn bare_rows(alloc: Global, foreign_key: &Option<ForeignKey>) -> Result<IndexedRows, AllocError>
+    ensures { IfOk result (λ rows. rows ≡ map.empty) }
+{
+    match foreign_key {
+        None => Ok(IndexedRows::new(alloc)),
+        Some(foreign) => {
+            let columns = copied_places(alloc, foreign.columns.as_slice())?;
+            Ok(IndexedRows::by_parent(alloc, columns))
         }
     }
 }

@@ -7,7 +7,8 @@ use row_types::{Column, Row, Ty, Value};
 use std::alloc::{AllocError, Global};
 use std::process::Abort;
 use std::test::Fail;
-use table_state::{ForeignKey, Op, TableDef};
+use table_defs::{ForeignKey, TableDef};
+use table_state::Op;
 use tier_base::{Name, Seq, TableId};
 
 fn name(alloc: Global, text: &str) -> Result<Name, AllocError> {

@@ -8,7 +8,7 @@ use Rattle.row_types.specs.declared.value.Value.{Value}
 use Rattle.tier_base.specs.declared.number.TableId.{TableId}
 use Rattle.table_state.specs.declared.operation.Op.{Op}
 use Rattle.table_state.specs.declared.operation.Op.TheVariants.{Insert, Update, Delete}
-use Rattle.table_state.specs.Tables.{Table, key_of}
+use Rattle.indexed_rows.specs.Rows.{Table, key_of}
 use Rattle.tier_engine.specs.declared.tier.Tier.{Tier}
 use Rattle.tier_engine.specs.declared.tier.Group.{Group}
 use Rattle.tier_engine.specs.declared.tier.OwnKey.{OwnKey}

@@ -6,7 +6,7 @@ use Rattle.std.specs.List.{filter}
 use Rattle.std.specs.Option.{option_and_then, IfSome}
 use Rattle.std.proofs.lemmas.List.{append-nil}
 use Rattle.tier_base.specs.declared.number.TableId.{TableId}
-use Rattle.table_state.specs.declared.definition.TableDef.{TableDef}
+use Rattle.table_defs.specs.declared.definition.TableDef.{TableDef}
 use Rattle.table_state.specs.declared.history.Entry.{Entry}
 use Rattle.table_state.specs.declared.history.Entry.TheVariants.{Definition, Foreign, Own}
 use Rattle.table_state.specs.Tables.{TableState}

@@ -13,7 +13,7 @@ use Rattle.tier_base.specs.declared.limit.Limit.TheVariants as limit
 use Rattle.tier_base.specs.Limits.{greatest}
 use Rattle.row_types.specs.declared.value.Value.{Value}
 use Rattle.row_types.proofs.OrderLaws.{key_total, key_exact}
-use Rattle.table_state.specs.declared.definition.TableDef.{TableDef}
+use Rattle.table_defs.specs.declared.definition.TableDef.{TableDef}
 use Rattle.table_state.specs.declared.operation.Op.{Op}
 use Rattle.table_state.specs.declared.history.Entry.{Entry}
 use Rattle.table_state.specs.declared.history.Sealed.{Sealed}

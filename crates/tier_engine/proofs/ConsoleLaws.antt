@@ -8,10 +8,10 @@ use Rattle.std.proofs.lemmas.Option.{slice_get-get_or}
 use Rattle.std.proofs.lemmas.List.Quantifiers.{position-Some}
 use Rattle.tier_base.specs.declared.number.TableId.{TableId}
 use Rattle.row_types.specs.declared.rule.Rule.{Rule}
-use Rattle.table_state.specs.declared.definition.TableDef.{TableDef}
+use Rattle.table_defs.specs.declared.definition.TableDef.{TableDef}
 use Rattle.table_state.specs.declared.operation.Op.{Op}
 use Rattle.table_state.specs.declared.history.Sealed.{Sealed}
-use Rattle.table_state.specs.Names.{place_of_table, same_name, table_id}
+use Rattle.table_defs.specs.Names.{place_of_table, same_name, table_id}
 use Rattle.table_state.specs.Operations.{table_of}
 use Rattle.table_state.specs.Tables.{TableState}
 use Rattle.evaluator.specs.declared.change.Change.{Change}

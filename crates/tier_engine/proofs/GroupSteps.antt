@@ -16,15 +16,16 @@ use Rattle.row_types.proofs.OrderLaws.{key_total, key_exact}
 use Rattle.tier_base.specs.declared.code.Code.TheVariants as code
 use Rattle.tier_base.specs.declared.limit.Limit.TheVariants as limit
 use Rattle.tier_base.specs.declared.number.TableId.{TableId}
-use Rattle.table_state.specs.Declarations.{broken, broken_at, type_fault, wrong_name}
-use Rattle.table_state.specs.Names.{place_of_table}
-use Rattle.table_state.specs.declared.definition.TableDef.{TableDef}
+use Rattle.table_defs.specs.Declarations.{broken, broken_at, type_fault, wrong_name}
+use Rattle.table_defs.specs.Names.{place_of_table}
+use Rattle.table_defs.specs.declared.definition.TableDef.{TableDef}
 use Rattle.table_state.specs.declared.operation.Op.{Op}
 use Rattle.table_state.specs.declared.operation.Op.TheVariants.{Insert, Update, Delete}
 use Rattle.table_state.specs.declared.history.Entry.{Entry}
 use Rattle.table_state.specs.declared.history.Sealed.{Sealed}
 use Rattle.table_state.specs.Histories.{state_of}
-use Rattle.table_state.specs.Tables.{TableState, key_of, is_same}
+use Rattle.indexed_rows.specs.Rows.{key_of, is_same}
+use Rattle.table_state.specs.Tables.{TableState}
 use Rattle.table_state.specs.Operations.{applied_all, table_of}
 use Rattle.sql_subset.specs.declared.stmt.CreateGroup.{CreateGroup}
 use Rattle.instances.specs.Trees.{same_table}

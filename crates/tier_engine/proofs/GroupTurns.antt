@@ -8,10 +8,10 @@ use Rattle.row_types.specs.declared.rule.Rule.{Rule}
 use Rattle.row_types.specs.declared.rule.Refused.TheVariants as refused
 use Rattle.tier_base.specs.declared.code.Code.TheVariants as code
 use Rattle.tier_base.specs.declared.number.TableId.{TableId}
-use Rattle.table_state.specs.declared.definition.TableDef.{TableDef}
+use Rattle.table_defs.specs.declared.definition.TableDef.{TableDef}
 use Rattle.table_state.specs.declared.history.Entry.{Entry}
 use Rattle.table_state.specs.declared.history.Sealed.{Sealed}
-use Rattle.table_state.specs.Names.{place_of_table}
+use Rattle.table_defs.specs.Names.{place_of_table}
 use Rattle.sql_subset.specs.declared.stmt.CreateGroup.{CreateGroup}
 use Rattle.sql_subset.specs.declared.stmt.GroupKind.{GroupKind}
 use Rattle.sql_subset.specs.declared.stmt.GroupKind.TheVariants.{AsynchronousWritethrough, ReadOnly}

@@ -12,14 +12,15 @@ use Rattle.tier_base.specs.declared.code.Code.{Code}
 use Rattle.tier_base.specs.declared.code.Code.TheVariants.{OutOfRange, NullNotAllowed, TypeMismatch, KeyExists, ParentMissing}
 use Rattle.row_types.specs.declared.rule.Detail.TheVariants as detail
 use Rattle.tier_base.specs.declared.number.TableId.{TableId}
-use Rattle.table_state.specs.declared.definition.ForeignKey.{ForeignKey}
-use Rattle.table_state.specs.declared.definition.TableDef.{TableDef}
+use Rattle.table_defs.specs.declared.definition.ForeignKey.{ForeignKey}
+use Rattle.table_defs.specs.declared.definition.TableDef.{TableDef}
 use Rattle.table_state.specs.declared.operation.Op.{Op}
 use Rattle.table_state.specs.declared.operation.Op.TheVariants.{Insert, Update, Delete}
 use Rattle.table_state.specs.declared.refusal.ApplyError.{ApplyError}
 use Rattle.table_state.specs.declared.history.Entry.{Entry}
 use Rattle.table_state.specs.declared.history.Sealed.{Sealed}
-use Rattle.table_state.specs.Tables.{Table, TableState, table_at, key_of, has_parent}
+use Rattle.indexed_rows.specs.Rows.{Table, key_of}
+use Rattle.table_state.specs.Tables.{TableState, table_at, has_parent}
 use Rattle.table_state.specs.Operations.{applied, applied_all}
 use Rattle.table_state.specs.Refusals.{misfit, refused_at, first_refused, taken_key, missing_parent, parent_row, refused, broken_by, in_table, insert_fault as op_fault}
 use Rattle.table_state.specs.Histories.{has_ticket}

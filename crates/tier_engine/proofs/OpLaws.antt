@@ -9,10 +9,11 @@ use Rattle.row_types.specs.declared.value.Value.{Value}
 use Rattle.row_types.specs.Order.{key_order}
 use Rattle.row_types.proofs.OrderLaws.{key_total}
 use Rattle.tier_base.specs.declared.number.TableId.{TableId}
-use Rattle.table_state.specs.declared.definition.TableDef.{TableDef}
+use Rattle.table_defs.specs.declared.definition.TableDef.{TableDef}
 use Rattle.table_state.specs.declared.operation.Op.{Op}
 use Rattle.table_state.specs.declared.operation.Op.TheVariants.{Insert, Update, Delete}
-use Rattle.table_state.specs.Tables.{Table, TableState, table_at, key_of, is_same, fits_columns, has_parent}
+use Rattle.indexed_rows.specs.Rows.{Table, key_of, is_same}
+use Rattle.table_state.specs.Tables.{TableState, table_at, fits_columns, has_parent}
 use Rattle.table_state.specs.Operations.{applied, applied_all, with_row, only_if}
 use Rattle.table_state.specs.Independence.{IsWhole}
 use Rattle.tier_engine.specs.Standing.{is_insert, inserts_at}

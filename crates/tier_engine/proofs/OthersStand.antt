@@ -6,7 +6,7 @@ use Rattle.std.proofs.lemmas.Bool.{eqb-true}
 use Rattle.std.proofs.lemmas.List.{append-nil}
 use Rattle.std.proofs.lemmas.List.Elements.{filter-append}
 use Rattle.tier_base.specs.declared.number.TableId.{TableId}
-use Rattle.table_state.specs.declared.definition.TableDef.{TableDef}
+use Rattle.table_defs.specs.declared.definition.TableDef.{TableDef}
 use Rattle.table_state.specs.declared.operation.Op.{Op}
 use Rattle.table_state.specs.declared.history.Entry.{Entry}
 use Rattle.table_state.specs.declared.history.Entry.TheVariants.{Definition, Foreign, Own}
@@ -137,7 +137,7 @@ shows_same s n log own (g ∷ groups) ops leave go all =
       record {
         defined = ap (λ defs. Rattle.std.specs.List.slice_get defs g.table.0) schema ∙ x.defined;
         alone = ap (Rattle.group_defs.specs.GroupRules.is_joined g.table g.def) schema ∙ x.alone;
-        rows = subst (λ (table : Rattle.table_state.specs.Tables.Table). Rattle.tier_engine.specs.Standing.IsWithin g.rows table) (sym rows) x.rows;
+        rows = subst (λ (table : Rattle.indexed_rows.specs.Rows.Table). Rattle.tier_engine.specs.Standing.IsWithin g.rows table) (sym rows) x.rows;
         writes = x.writes;
         committed = x.committed;
       },

@@ -14,7 +14,8 @@ use Rattle.row_types.proofs.OrderLaws.{key_total, key_exact}
 use Rattle.tier_base.specs.declared.number.TableId.{TableId}
 use Rattle.table_state.specs.declared.operation.Op.{Op}
 use Rattle.table_state.specs.declared.operation.Op.TheVariants.{Insert}
-use Rattle.table_state.specs.Tables.{Table, TableState, table_at, key_of, is_same}
+use Rattle.indexed_rows.specs.Rows.{Table, key_of, is_same}
+use Rattle.table_state.specs.Tables.{TableState, table_at}
 use Rattle.table_state.specs.Operations.{table_of}
 use Rattle.tier_engine.specs.declared.tier.Group.{Group}
 use Rattle.group_defs.specs.GroupRules.{is_joined}

@@ -8,10 +8,10 @@ use Rattle.sql_subset.specs.declared.request.Request.TheVariants as asks_for
 use Rattle.sql_subset.specs.declared.stmt.CreateGroup.{CreateGroup}
 use Rattle.sql_subset.specs.declared.stmt.Select.{Select as OneSelect}
 use Rattle.sql_subset.specs.declared.stmt.Stmt.TheVariants as statement
-use Rattle.table_state.specs.declared.definition.TableDef.{TableDef}
+use Rattle.table_defs.specs.declared.definition.TableDef.{TableDef}
 use Rattle.table_state.specs.declared.operation.Op.{Op}
-use Rattle.table_state.specs.Names.{place_of_table}
-use Rattle.table_state.specs.Tables.{Table}
+use Rattle.table_defs.specs.Names.{place_of_table}
+use Rattle.indexed_rows.specs.Rows.{Table}
 use Rattle.tier_engine.specs.declared.reply.Reply.{Reply}
 use Rattle.tier_engine.specs.declared.reply.Last.TheVariants.{Done}
 use Rattle.tier_engine.specs.TierStates.{TierState, SessionState, GroupState, group_of_table, session_of, seen_rows}

@@ -11,7 +11,8 @@ use Rattle.table_state.specs.declared.operation.Op.TheVariants.{Insert}
 use Rattle.table_state.specs.declared.history.Entry.{Entry}
 use Rattle.table_state.specs.declared.history.Sealed.{Sealed}
 use Rattle.table_state.specs.Histories.{state_of}
-use Rattle.table_state.specs.Tables.{Table, TableState, table_at, key_of}
+use Rattle.indexed_rows.specs.Rows.{Table, key_of}
+use Rattle.table_state.specs.Tables.{TableState, table_at}
 use Rattle.table_state.specs.Refusals.{misfit}
 use Rattle.outside.specs.Bank.{TellsRow}
 use Rattle.outside.specs.Holding.{Held}

@@ -11,7 +11,8 @@ use Rattle.row_types.proofs.OrderLaws.{key_total, key_exact}
 use Rattle.tier_base.specs.declared.number.TableId.{TableId}
 use Rattle.table_state.specs.declared.operation.Op.{Op}
 use Rattle.table_state.specs.declared.operation.Op.TheVariants.{Insert, Update, Delete}
-use Rattle.table_state.specs.Tables.{Table, TableState, table_at, key_of, is_same}
+use Rattle.indexed_rows.specs.Rows.{Table, key_of, is_same}
+use Rattle.table_state.specs.Tables.{TableState, table_at}
 use Rattle.tier_engine.specs.declared.tier.Group.{Group}
 use Rattle.tier_engine.specs.TierStates.{GroupState, keys_after, seen_rows}
 use Rattle.tier_engine.specs.Standing.{AreIn, IsWithin, committed_rows, group_state, inserts_at, is_insert, key_set, rows_before}

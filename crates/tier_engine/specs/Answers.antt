@@ -8,12 +8,12 @@ use Rattle.row_types.specs.declared.rule.Detail.TheVariants as detail
 use Rattle.row_types.specs.declared.value.Value.{Value}
 use Rattle.tier_base.specs.declared.code.Code.{Code}
 use Rattle.tier_base.specs.declared.number.TableId.{TableId}
-use Rattle.table_state.specs.declared.definition.TableDef.{TableDef}
+use Rattle.table_defs.specs.declared.definition.TableDef.{TableDef}
 use Rattle.table_state.specs.declared.operation.Op.{Op}
 use Rattle.table_state.specs.declared.operation.Op.TheVariants.{Insert}
 use Rattle.table_state.specs.declared.history.Sealed.{Sealed}
-use Rattle.table_state.specs.Names.{place_of_table}
-use Rattle.table_state.specs.Tables.{Table}
+use Rattle.table_defs.specs.Names.{place_of_table}
+use Rattle.indexed_rows.specs.Rows.{Table}
 use Rattle.sql_subset.specs.declared.request.OpenOptions.{OpenOptions}
 use Rattle.sql_subset.specs.declared.stmt.Autorefresh.{Autorefresh}
 use Rattle.sql_subset.specs.declared.stmt.CreateGroup.{CreateGroup}

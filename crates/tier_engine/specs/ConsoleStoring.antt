@@ -3,7 +3,7 @@
 use Rattle.std.specs.Prelude.{◌≡◌, ℕ, List, None, Some, Bool, Result, Ok, Err, is_some, map, unwrap_or}
 use Rattle.row_types.specs.declared.rule.Refused.{Refused}
 use Rattle.row_types.specs.declared.rule.Refused.TheVariants as refused
-use Rattle.table_state.specs.declared.definition.TableDef.{TableDef}
+use Rattle.table_defs.specs.declared.definition.TableDef.{TableDef}
 use Rattle.evaluator.specs.declared.change.Change.{Change}
 use Rattle.sql_query.specs.declared.write.Write.{Write}
 use Rattle.resolution.specs.Writes.{change_seen, resolved_writes}

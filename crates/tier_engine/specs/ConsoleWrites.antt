@@ -6,8 +6,8 @@ use Rattle.std.specs.Option.{option_or, option_and_then}
 use Rattle.tier_base.specs.declared.code.Code.TheVariants as code
 use Rattle.row_types.specs.declared.rule.Detail.TheVariants as detail
 use Rattle.row_types.specs.declared.rule.Rule.{Rule}
-use Rattle.table_state.specs.declared.definition.TableDef.{TableDef}
-use Rattle.table_state.specs.Declarations.{broken}
+use Rattle.table_defs.specs.declared.definition.TableDef.{TableDef}
+use Rattle.table_defs.specs.Declarations.{broken}
 use Rattle.sql_query.specs.declared.write.Write.{Write}
 use Rattle.resolution.specs.Writes.{resolved_writes, table_of}
 use Rattle.tier_engine.specs.TierStates.{TierState}

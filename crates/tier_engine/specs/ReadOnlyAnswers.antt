@@ -9,10 +9,10 @@ use Rattle.tier_base.specs.declared.code.Code.TheVariants as code
 use Rattle.tier_base.specs.Names.{folded, is_name}
 use Rattle.row_types.specs.declared.rule.Rule.{Rule}
 use Rattle.row_types.specs.declared.rule.Detail.TheVariants as detail
-use Rattle.table_state.specs.declared.definition.TableDef.{TableDef}
+use Rattle.table_defs.specs.declared.definition.TableDef.{TableDef}
 use Rattle.table_state.specs.declared.history.Entry.{Entry}
 use Rattle.table_state.specs.declared.operation.Op.{Op}
-use Rattle.table_state.specs.Declarations.{broken}
+use Rattle.table_defs.specs.Declarations.{broken}
 use Rattle.sql_subset.specs.declared.stmt.Literal.{Literal}
 use Rattle.sql_subset.specs.declared.stmt.Literal.TheVariants.{Null, Integer, Text}
 use Rattle.sql_subset.specs.declared.stmt.Load.{Load}

@@ -8,10 +8,11 @@ use Rattle.std.specs.Option.{option_and_then}
 use Rattle.std.specs.Cmp.Lexicographic.{pointwise}
 use Rattle.std.specs.FinMap.{empty}
 use Rattle.tier_base.specs.declared.number.TableId.{TableId}
-use Rattle.table_state.specs.declared.definition.TableDef.{TableDef}
+use Rattle.table_defs.specs.declared.definition.TableDef.{TableDef}
 use Rattle.table_state.specs.declared.history.Entry.{Entry}
 use Rattle.table_state.specs.Histories.{state_at}
-use Rattle.table_state.specs.Tables.{Table, TableState}
+use Rattle.indexed_rows.specs.Rows.{Table}
+use Rattle.table_state.specs.Tables.{TableState}
 use Rattle.sql_subset.specs.declared.stmt.RefreshMode.{RefreshMode}
 use Rattle.sql_subset.specs.declared.stmt.RefreshState.{RefreshState}
 use Rattle.sql_subset.specs.declared.stmt.RefreshState.TheVariants.{Off, On, Paused}

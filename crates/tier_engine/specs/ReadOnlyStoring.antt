@@ -9,7 +9,8 @@ use Rattle.tier_base.specs.declared.number.TableId.{TableId}
 use Rattle.row_types.specs.declared.rule.Refused.{Refused}
 use Rattle.row_types.specs.declared.rule.Rule.{Rule}
 use Rattle.row_types.specs.declared.rule.Refused.TheVariants as refused
-use Rattle.table_state.specs.Tables.{Table, TableState}
+use Rattle.indexed_rows.specs.Rows.{Table}
+use Rattle.table_state.specs.Tables.{TableState}
 use Rattle.sql_subset.specs.declared.stmt.Literal.{Literal}
 use Rattle.sql_subset.specs.declared.stmt.RefreshState.{RefreshState}
 use Rattle.sql_subset.specs.declared.stmt.RefreshState.TheVariants.{Off, On, Paused}

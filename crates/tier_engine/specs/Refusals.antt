@@ -16,14 +16,14 @@ use Rattle.row_types.specs.declared.value.Value.{Value}
 use Rattle.sql_subset.specs.declared.request.OpenOptions.{OpenOptions}
 use Rattle.sql_subset.specs.declared.stmt.CreateGroup.{CreateGroup}
 use Rattle.sql_subset.specs.declared.stmt.Literal.{Literal}
-use Rattle.table_state.specs.declared.definition.ForeignKey.{ForeignKey}
-use Rattle.table_state.specs.declared.definition.TableDef.{TableDef}
+use Rattle.table_defs.specs.declared.definition.ForeignKey.{ForeignKey}
+use Rattle.table_defs.specs.declared.definition.TableDef.{TableDef}
 use Rattle.table_state.specs.declared.operation.Op.{Op}
 use Rattle.table_state.specs.declared.refusal.ApplyError.{ApplyError}
 use Rattle.table_state.specs.declared.refusal.ApplyError.TheVariants as error
-use Rattle.table_state.specs.Declarations.{broken, broken_at, fault_of, resolved, limit_of}
+use Rattle.table_defs.specs.Declarations.{broken, broken_at, fault_of, resolved, limit_of}
 use Rattle.table_state.specs.Refusals.{misfit}
-use Rattle.table_state.specs.Tables.{Table}
+use Rattle.indexed_rows.specs.Rows.{Table}
 use Rattle.group_defs.specs.declared.group.Beside.{Beside}
 use Rattle.group_defs.specs.GroupRules.{definition_fault}
 use Rattle.group_defs.specs.Limits.{at_limit, past}

@@ -9,12 +9,13 @@ use Rattle.std.specs.FinSet.{FinSet, from_list}
 use Rattle.row_types.specs.Order.{key_order}
 use Rattle.row_types.specs.declared.value.Value.{Value}
 use Rattle.tier_base.specs.declared.number.TableId.{TableId}
-use Rattle.table_state.specs.declared.definition.TableDef.{TableDef}
+use Rattle.table_defs.specs.declared.definition.TableDef.{TableDef}
 use Rattle.table_state.specs.declared.operation.Op.{Op}
 use Rattle.table_state.specs.declared.operation.Op.TheVariants.{Insert, Update, Delete}
 use Rattle.table_state.specs.declared.history.Entry.{Entry}
 use Rattle.table_state.specs.declared.history.Sealed.{Sealed}
-use Rattle.table_state.specs.Tables.{Table, TableState, table_at, key_of, is_same}
+use Rattle.indexed_rows.specs.Rows.{Table, key_of, is_same}
+use Rattle.table_state.specs.Tables.{TableState, table_at}
 use Rattle.table_state.specs.Operations.{applied_all, table_of}
 use Rattle.table_state.specs.Independence.{IsWhole}
 use Rattle.table_state.specs.Histories.{state_of, entry_of}

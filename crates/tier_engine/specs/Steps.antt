@@ -30,11 +30,12 @@ use Rattle.sql_query.specs.declared.write.Write.{Write}
 use Rattle.console_writes.specs.ConsoleTrees.{trees_of}
 use Rattle.resolution.specs.Writes.{change_seen, resolved_writes, table_of}
 use Rattle.evaluator.specs.declared.change.Change.{Change}
-use Rattle.table_state.specs.declared.definition.TableDef.{TableDef}
+use Rattle.table_defs.specs.declared.definition.TableDef.{TableDef}
 use Rattle.table_state.specs.declared.history.Entry.{Entry}
 use Rattle.table_state.specs.declared.history.Sealed.{Sealed}
-use Rattle.table_state.specs.Declarations.{broken, broken_at, resolved, wrong_name}
-use Rattle.table_state.specs.Tables.{Table, TableState, table_at, key_of}
+use Rattle.table_defs.specs.Declarations.{broken, broken_at, resolved, wrong_name}
+use Rattle.indexed_rows.specs.Rows.{Table, key_of}
+use Rattle.table_state.specs.Tables.{TableState, table_at}
 use Rattle.table_state.specs.Histories.{state_of}
 use Rattle.outside.specs.Bank.{Defines, TellsSchema, TellsRow}
 use Rattle.outside.specs.Console.{WritesForeign}

@@ -15,16 +15,16 @@ use Rattle.row_types.specs.declared.value.Value.{Value}
 use Rattle.tier_base.specs.declared.code.Code.TheVariants as code
 use Rattle.tier_base.specs.declared.limit.Limit.TheVariants as limit
 use Rattle.tier_base.specs.declared.number.TableId.{TableId}
-use Rattle.table_state.specs.declared.definition.TableDef.{TableDef}
+use Rattle.table_defs.specs.declared.definition.TableDef.{TableDef}
 use Rattle.table_state.specs.declared.operation.Op.{Op}
 use Rattle.table_state.specs.declared.operation.Op.TheVariants.{Insert}
 use Rattle.row_types.specs.declared.rule.Rule.{Rule}
 use Rattle.sql_subset.specs.declared.stmt.CreateGroup.{CreateGroup}
 use Rattle.row_types.specs.declared.declaration.TableDeclaration.{TableDeclaration}
-use Rattle.table_state.specs.declared.definition.ForeignKey.{ForeignKey}
-use Rattle.table_state.specs.Declarations.{Tells, IsRefusedBy, broken_at, fault_of, limit_of, resolved}
-use Rattle.table_state.specs.Names.{place_of_table}
-use Rattle.table_state.specs.Tables.{key_of}
+use Rattle.table_defs.specs.declared.definition.ForeignKey.{ForeignKey}
+use Rattle.table_defs.specs.Declarations.{Tells, IsRefusedBy, broken_at, fault_of, limit_of, resolved}
+use Rattle.table_defs.specs.Names.{place_of_table}
+use Rattle.indexed_rows.specs.Rows.{key_of}
 use Rattle.autorefresh.specs.declared.group.ReadOnlyGroup.{ReadOnlyGroup}
 use Rattle.autorefresh.specs.Sets.{covers, is_named as is_called, is_of_table}
 use Rattle.tier_engine.specs.declared.reply.Reply.{Reply}

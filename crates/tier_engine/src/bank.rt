@@ -4,10 +4,10 @@ ghost use Rattle.std.specs.Prelude.{◌≡◌, ◌≤◌, ◌⊎◌, ◌++◌, [
 ghost use Rattle.outside.specs.Faults.{Rose};
 ghost use Rattle.outside.specs.Holding.{Held};
 ghost use Rattle.outside.specs.declared.fault.BankError.{BankError as OneBankError};
-ghost use Rattle.table_state.specs.declared.definition.TableDef.{TableDef as OneDef};
+ghost use Rattle.table_defs.specs.declared.definition.TableDef.{TableDef as OneDef};
 ghost use Rattle.table_state.specs.declared.history.Sealed.{Sealed as OneSealed};
 ghost use Rattle.row_types.specs.declared.rule.Detail.TheVariants as detail;
-ghost use Rattle.table_state.specs.Declarations.{IsRefusedBy, Tells, broken, resolved};
+ghost use Rattle.table_defs.specs.Declarations.{IsRefusedBy, Tells, broken, resolved};
 ghost use Rattle.sql_subset.specs.declared.request.ConsoleRequest.TheVariants as console;
 ghost use Rattle.tier_engine.specs.Standing.{AskServes, IsApart, Made, StandsFor, mark_of};
 ghost use Rattle.tier_engine.specs.Steps.{Asked, DoesConsole, TellsBankFault, WantsMemory, bank_fault, cached_fault, stopped};
@@ -21,7 +21,7 @@ use outside::{BankError, Site};
 use row_types::{Detail, Refused, Rule, TableDeclaration};
 use std::alloc::{AllocError, Global};
 use table_state::laws::later_table_law;
-use table_state::{BackingSchema, TableDef, wrong_name};
+use table_defs::{BackingSchema, TableDef, wrong_name};
 use tier_base::{Code, Name};
 
 impl Tier {

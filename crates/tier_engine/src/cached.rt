@@ -3,7 +3,7 @@
 ghost use Rattle.std.specs.Prelude.{◌≡◌, ◌<◌, ◌≤◌, ◌⊎◌, List, IfErr, IfOk, IfSome, IsSome, Some, length, position, slice_get};
 ghost use Rattle.table_state.specs.declared.history.Entry.{Entry};
 ghost use Rattle.table_state.specs.declared.history.Sealed.{Sealed as OneSealed};
-ghost use Rattle.table_state.specs.Declarations.{Tells};
+ghost use Rattle.table_defs.specs.Declarations.{Tells};
 ghost use Rattle.sql_subset.specs.declared.stmt.Stmt.TheVariants as statement;
 ghost use Rattle.group_defs.specs.LiteralValues.{values_of};
 ghost use Rattle.tier_engine.specs.Refusals.{insert_fault, unknown_table};

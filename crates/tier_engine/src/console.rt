@@ -25,7 +25,7 @@ use row_types::Refused;
 use sql_query::Write;
 use sql_subset::stmt::Write as Spelt;
 use std::alloc::{AllocError, Global};
-use table_state::BackingSchema;
+use table_defs::BackingSchema;
 use tier_base::{Code, Name, Seq};
 use transactions::laws::touch_law;
 

@@ -21,7 +21,7 @@ use key_rows::Rows;
 use row_types::{Refused, TableDeclaration};
 use sql_subset::stmt::{Autorefresh, CreateGroup, GroupKind, RefreshMode, RefreshState};
 use std::alloc::Global;
-use table_state::{TableDef, find_table};
+use table_defs::{TableDef, find_table};
 use tier_base::{Code, Limit, Name, Seq, TableId};
 
 impl Tier {

@@ -2,8 +2,8 @@
 
 ghost use Rattle.std.specs.Prelude.{◌≡◌, ◌++◌, ◌∷◌, [], IfOk, IfErr, OnErr, OnOk, Option, Some, None, false, true, length, List};
 ghost use Rattle.std.specs.FinMap.{contains_key, insert, len};
-ghost use Rattle.table_state.specs.Declarations.{IsRefusedBy, Tells};
-ghost use Rattle.table_state.specs.Tables.{key_of};
+ghost use Rattle.table_defs.specs.Declarations.{IsRefusedBy, Tells};
+ghost use Rattle.indexed_rows.specs.Rows.{key_of};
 ghost use Rattle.table_state.specs.declared.operation.Op.TheVariants.{Insert as InsertOf};
 ghost use Rattle.group_defs.specs.LiteralValues.{values_of};
 ghost use Rattle.tier_engine.specs.Refusals.{insert_fault, key_taken, row_fault};
@@ -17,7 +17,8 @@ use key_rows::Rows;
 use row_types::{Detail, Key, Refused, Row, Rule};
 use sql_subset::stmt::Literal;
 use std::alloc::{AllocError, Global};
-use table_state::{ApplyError, Op, Ops, TableDef, check_row, key_of_row};
+use table_defs::TableDef;
+use table_state::{ApplyError, Op, Ops, check_row, key_of_row};
 use tier_base::{Code, Limit, TableId};
 
 /// A row that was put in, for which the backing database is to be asked.

@@ -5,7 +5,7 @@ ghost use Rattle.std.specs.Option.{option_and_then, option_map};
 ghost use Rattle.autorefresh.specs.Sets.{is_of_table, is_on};
 ghost use Rattle.autorefresh.specs.declared.group.ReadOnlyGroup.{ReadOnlyGroup as OneGroup};
 ghost use Rattle.table_state.specs.declared.history.Sealed.{Sealed as OneSealed};
-ghost use Rattle.table_state.specs.Declarations.{IsRefusedBy, Tells};
+ghost use Rattle.table_defs.specs.Declarations.{IsRefusedBy, Tells};
 ghost use Rattle.tier_engine.specs.ReadOnlyAnswers.{are_past_rows, are_past_threads, is_integer, is_past_range, load_fault, spelt_group, text_in, unfit_group, unknown_group, with_flag, with_owner, write_fault};
 ghost use Rattle.tier_engine.specs.ReadOnlyStoring.{JudgesInterval, JudgesSet, refused_write};
 ghost use Rattle.tier_engine.specs.Standing.{own_in, read_only_state, tier_state};
@@ -19,7 +19,7 @@ use group_defs::{broken, literal_values, takes_all};
 use row_types::{Detail, Refused, Rule};
 use sql_subset::stmt::{Literal, Load, RefreshState};
 use std::alloc::{AllocError, Global};
-use table_state::TableDef;
+use table_defs::TableDef;
 use tier_base::{Code, Name, NameError};
 
 /// The greatest number of rows of COMMIT EVERY.

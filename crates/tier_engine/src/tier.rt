@@ -4,7 +4,8 @@ use autorefresh::ReadOnlyGroups;
 use key_rows::Rows;
 use row_types::Key;
 use std::collections::VecDeque;
-use table_state::{BackingSchema, Ops, Sealed, TableDef};
+use table_defs::{BackingSchema, TableDef};
+use table_state::{Ops, Sealed};
 use tier_base::{Label, Name, Seq, TableId};
 
 /// An asynchronous writethrough group of one table, which no foreign key joins with another.

@@ -7,13 +7,15 @@ use Rattle.row_types.specs.declared.rule.Detail.{Detail}
 use Rattle.row_types.specs.declared.rule.Detail.TheVariants as detail
 use Rattle.row_types.specs.declared.value.Value.{Value}
 use Rattle.tier_base.specs.declared.number.TableId.{TableId}
-use Rattle.table_state.specs.declared.definition.ForeignKey.{ForeignKey}
-use Rattle.table_state.specs.declared.definition.TableDef.{TableDef}
-use Rattle.table_state.specs.Declarations.{foreign_places}
+use Rattle.table_defs.specs.declared.definition.ForeignKey.{ForeignKey}
+use Rattle.table_defs.specs.declared.definition.TableDef.{TableDef}
+use Rattle.table_defs.specs.Declarations.{foreign_places}
 use Rattle.table_state.specs.Independence.{IsWhole, refers_to as refers}
 use Rattle.table_state.specs.Refusals.{child_of, first_child}
-use Rattle.table_state.specs.Tables.{Table, TableState, is_same, key_of, names_parent, table_at}
-use Rattle.table_state.proofs.ListLaws.{drop_at, find_none}
+use Rattle.indexed_rows.specs.Rows.{Table, is_same, key_of}
+use Rattle.table_state.specs.Tables.{TableState, names_parent, table_at}
+use Rattle.indexed_rows.proofs.FirstLaws.{drop_at}
+use Rattle.table_state.proofs.ListLaws.{find_none}
 use Rattle.table_scan.specs.Children.{child_from, first_from, refers_to}
 use Rattle.table_scan.specs.Keyed.{IsUnderKeys, has_key}
 use Rattle.table_scan.proofs.KeyLaws.{entries_under}

@@ -7,13 +7,14 @@ use Rattle.std.proofs.lemmas.Bool.{eqb-true}
 use Rattle.row_types.specs.declared.rule.Rule.{Rule}
 use Rattle.row_types.specs.Order.{key_order}
 use Rattle.tier_base.specs.declared.number.TableId.{TableId}
-use Rattle.table_state.specs.declared.definition.ForeignKey.{ForeignKey}
-use Rattle.table_state.specs.declared.definition.TableDef.{TableDef}
+use Rattle.table_defs.specs.declared.definition.ForeignKey.{ForeignKey}
+use Rattle.table_defs.specs.declared.definition.TableDef.{TableDef}
 use Rattle.table_state.specs.declared.operation.Op.{Op}
 use Rattle.table_state.specs.declared.operation.Op.TheVariants.{Delete}
-use Rattle.table_state.specs.Declarations.{foreign_places}
-use Rattle.table_state.specs.Tables.{Table, TableState, key_of, table_at}
-use Rattle.table_state.proofs.ChangeLaws.{same_values}
+use Rattle.table_defs.specs.Declarations.{foreign_places}
+use Rattle.indexed_rows.specs.Rows.{Table, key_of}
+use Rattle.table_state.specs.Tables.{TableState, table_at}
+use Rattle.indexed_rows.proofs.EntryLaws.{same_values}
 use Rattle.table_scan.specs.Children.{refers_to}
 use Rattle.table_scan.specs.Keyed.{IsKeyed, IsUnderKeys, has_key}
 use Rattle.table_scan.proofs.KeyLaws.{rows_apart, rows_there}

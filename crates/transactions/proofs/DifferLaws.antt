@@ -6,13 +6,14 @@ use Rattle.row_types.specs.declared.truth.Truth.{Truth}
 use Rattle.row_types.specs.declared.truth.Truth.TheVariants.{True, False, Unknown}
 use Rattle.tier_base.specs.declared.limit.Limit.TheVariants.{Operations, Rows}
 use Rattle.tier_base.specs.declared.number.TableId.{TableId}
-use Rattle.table_state.specs.declared.definition.TableDef.{TableDef}
+use Rattle.table_defs.specs.declared.definition.TableDef.{TableDef}
 use Rattle.table_state.specs.declared.operation.Op.{Op}
 use Rattle.table_state.specs.declared.operation.Op.TheVariants as op
 use Rattle.table_state.specs.declared.refusal.ApplyError.{ApplyError}
 use Rattle.table_state.specs.declared.refusal.ApplyError.TheVariants as error
 use Rattle.table_state.specs.Refusals.{broken_by_all}
-use Rattle.table_state.specs.Tables.{TableState, key_of, table_at}
+use Rattle.indexed_rows.specs.Rows.{key_of}
+use Rattle.table_state.specs.Tables.{TableState, table_at}
 use Rattle.table_scan.specs.Keyed.{IsKeyed}
 use Rattle.table_scan.proofs.KeyLaws.{rows_apart, rows_there}
 use Rattle.table_scan.proofs.KeyedLaws.{ops_keyed}

@@ -8,10 +8,10 @@ use Rattle.row_types.specs.declared.declaration.TableDeclaration.{TableDeclarati
 use Rattle.row_types.specs.declared.rule.Rule.{Rule}
 use Rattle.tier_base.specs.declared.code.Code.TheVariants.{UnknownTable}
 use Rattle.tier_base.specs.declared.number.TableId.{TableId}
-use Rattle.table_state.specs.declared.definition.ForeignKey.{ForeignKey}
-use Rattle.table_state.specs.declared.definition.TableDef.{TableDef}
-use Rattle.table_state.specs.Declarations.{broken_at, fault_of, missing_parent, resolved, resolved_reference}
-use Rattle.table_state.specs.Names.{place_of_table, same_name, table_id}
+use Rattle.table_defs.specs.declared.definition.ForeignKey.{ForeignKey}
+use Rattle.table_defs.specs.declared.definition.TableDef.{TableDef}
+use Rattle.table_defs.specs.Declarations.{broken_at, fault_of, missing_parent, resolved, resolved_reference}
+use Rattle.table_defs.specs.Names.{place_of_table, same_name, table_id}
 use Rattle.transactions.specs.Differing.{RefersBack}
 
 same_some : {X : Type 0} {x y : X} → Some x ≡ Some y → x ≡ y

@@ -16,15 +16,16 @@ use Rattle.tier_base.specs.declared.code.Code.TheVariants.{ChildExists, KeyColum
 use Rattle.tier_base.specs.declared.number.TableId.{TableId}
 use Rattle.row_types.specs.declared.rule.Detail.{Detail}
 use Rattle.row_types.specs.declared.rule.Detail.TheVariants as detail
-use Rattle.table_state.specs.declared.definition.TableDef.{TableDef}
+use Rattle.table_defs.specs.declared.definition.TableDef.{TableDef}
 use Rattle.table_state.specs.declared.operation.Op.{Op}
 use Rattle.table_state.specs.declared.operation.Op.TheVariants.{Insert, Update, Delete}
 use Rattle.table_state.specs.declared.refusal.ApplyError.{ApplyError}
 use Rattle.table_state.specs.declared.refusal.ApplyError.TheVariants as error
 use Rattle.table_state.specs.Operations.{applied, on_table, only_if, with_change, with_row, without_row}
-use Rattle.table_state.specs.Refusals.{broken_by, broken_by_all, changed_key, changes, column_name, delete_fault, differing, first_child, first_refused, has_children, in_table, insert_fault, misfit, missing_parent, parent_row, refused, refused_at, taken_key, update_fault}
-use Rattle.table_state.specs.Tables.{Table, TableState, has_parent, is_found, is_there, key_of}
-use Rattle.table_state.proofs.ChangeLaws.{same_values}
+use Rattle.indexed_rows.specs.Rows.{changes, Table, key_of}
+use Rattle.table_state.specs.Refusals.{broken_by, broken_by_all, changed_key, column_name, delete_fault, differing, first_child, first_refused, has_children, in_table, insert_fault, misfit, missing_parent, parent_row, refused, refused_at, taken_key, update_fault}
+use Rattle.table_state.specs.Tables.{TableState, has_parent, is_found, is_there}
+use Rattle.indexed_rows.proofs.EntryLaws.{same_values}
 use Rattle.evaluator.specs.Cascades.{key_in}
 use Rattle.table_scan.proofs.PairLaws.{Every, Pairs}
 use Rattle.transactions.specs.Differing.{is_difference}

@@ -11,14 +11,15 @@ use Rattle.row_types.specs.declared.truth.Truth.TheVariants.{True, False, Unknow
 use Rattle.row_types.specs.declared.value.Value.{Value}
 use Rattle.tier_base.specs.declared.limit.Limit.TheVariants.{Operations, Rows}
 use Rattle.tier_base.specs.declared.number.TableId.{TableId}
-use Rattle.table_state.specs.declared.definition.ForeignKey.{ForeignKey}
-use Rattle.table_state.specs.declared.definition.TableDef.{TableDef}
+use Rattle.table_defs.specs.declared.definition.ForeignKey.{ForeignKey}
+use Rattle.table_defs.specs.declared.definition.TableDef.{TableDef}
 use Rattle.table_state.specs.declared.operation.Op.{Op}
 use Rattle.table_state.specs.declared.operation.Op.TheVariants as op
 use Rattle.table_state.specs.declared.refusal.ApplyError.{ApplyError}
 use Rattle.table_state.specs.Operations.{applied, applied_all, on_table, table_of}
 use Rattle.table_state.specs.Refusals.{broken_by, broken_by_all}
-use Rattle.table_state.specs.Tables.{Table, TableState}
+use Rattle.indexed_rows.specs.Rows.{Table}
+use Rattle.table_state.specs.Tables.{TableState}
 use Rattle.table_state.proofs.ChangeLaws.{applies}
 use Rattle.table_state.proofs.HistoryLaws.{applied_all-append}
 use Rattle.evaluator.specs.declared.change.Action.{Action}

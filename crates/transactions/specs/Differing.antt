@@ -1,8 +1,8 @@
 -- When an operation can find another row than it names.
 
 use Rattle.std.specs.Prelude.{◌≡◌, ◌<◌, ℕ, List, Option, Some, None, Bool, true, false, slice_get}
-use Rattle.table_state.specs.declared.definition.ForeignKey.{ForeignKey}
-use Rattle.table_state.specs.declared.definition.TableDef.{TableDef}
+use Rattle.table_defs.specs.declared.definition.ForeignKey.{ForeignKey}
+use Rattle.table_defs.specs.declared.definition.TableDef.{TableDef}
 use Rattle.table_state.specs.declared.refusal.ApplyError.{ApplyError}
 use Rattle.table_state.specs.declared.refusal.ApplyError.TheVariants as error
 

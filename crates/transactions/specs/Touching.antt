@@ -3,7 +3,7 @@
 
 use Rattle.std.specs.Prelude.{◌≡◌, List, Option, Some, None, Bool, true, false, ◌||◌, is_some, slice_get}
 use Rattle.std.specs.List.{list_all, list_any}
-use Rattle.table_state.specs.declared.definition.TableDef.{TableDef}
+use Rattle.table_defs.specs.declared.definition.TableDef.{TableDef}
 use Rattle.table_state.specs.declared.operation.Op.{Op}
 use Rattle.table_state.specs.Operations.{table_of}
 use Rattle.table_state.specs.Tables.{TableState}

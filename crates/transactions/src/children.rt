@@ -10,7 +10,8 @@ ghost use Rattle.table_scan.specs.Keyed.{IsKeyed};
 use row_types::{Detail, Key};
 use std::alloc::{AllocError, Global};
 use table_scan::Scan;
-use table_state::{ForeignKey, TableDef, key_of_row};
+use table_defs::{ForeignKey, TableDef};
+use table_state::key_of_row;
 use tier_base::TableId;
 
 /// The table and the least key of the first row that refers to the row of this table and key, in the order of the

@@ -2,11 +2,11 @@
 
 ghost use Rattle.std.specs.Prelude.{◌≡◌, ◌<◌, ℕ, ◌∷◌, ◌++◌, [], Err, List, None, Ok, Some, false, length};
 ghost use Rattle.row_types.specs.declared.declaration.TableDeclaration.{TableDeclaration};
-ghost use Rattle.table_state.specs.declared.definition.ForeignKey.{ForeignKey};
-ghost use Rattle.table_state.specs.declared.definition.TableDef.{TableDef};
+ghost use Rattle.table_defs.specs.declared.definition.ForeignKey.{ForeignKey};
+ghost use Rattle.table_defs.specs.declared.definition.TableDef.{TableDef};
 ghost use Rattle.table_state.specs.declared.operation.Op.{Op};
 ghost use Rattle.table_state.specs.declared.refusal.ApplyError.{ApplyError};
-ghost use Rattle.table_state.specs.Declarations.{fault_of, resolved};
+ghost use Rattle.table_defs.specs.Declarations.{fault_of, resolved};
 ghost use Rattle.table_state.specs.Operations.{applied_all};
 ghost use Rattle.table_state.specs.Refusals.{broken_by_all};
 ghost use Rattle.table_state.specs.Tables.{TableState};

@@ -2,7 +2,7 @@ use Rattle.std.proofs.Common.{List, Option, ap, sym, ◌∙◌, unwrap_or}
 use Rattle.std.specs.FinMap.{empty, len, len-empty}
 use Rattle.row_types.specs.declared.value.Value.{Value}
 use Rattle.row_types.specs.Order.{key_order}
-use Rattle.table_state.specs.Tables.{Table}
+use Rattle.indexed_rows.specs.Rows.{Table}
 use Rattle.autorefresh.specs.Sets.{instances_of}
 use Rattle.autorefresh.proofs.groups.instances_of.Goals as goal
 

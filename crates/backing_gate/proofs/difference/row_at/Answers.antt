@@ -1,7 +1,7 @@
 use Rattle.std.proofs.Common.{Option, unwrap_or, sym, ap, ◌∙◌}
 use Rattle.std.specs.FinMap.{empty, get, get-empty}
 use Rattle.row_types.specs.Order.{key_order}
-use Rattle.table_state.specs.Tables.{Table}
+use Rattle.indexed_rows.specs.Rows.{Table}
 use Rattle.backing_gate.proofs.difference.row_at.Goals as goal
 
 pub returns-in-None : goal.returns-in-None

@@ -1,7 +1,7 @@
 -- Between two pieces.
 use Rattle.std.proofs.Common.{◌≡◌, ℕ, List, [], ◌≤◌, ◌<◌, length, Some}
 use Rattle.outside.specs.Holding.{Held}
-use Rattle.table_state.specs.declared.definition.TableDef.{TableDef}
+use Rattle.table_defs.specs.declared.definition.TableDef.{TableDef}
 use Rattle.tier_engine.specs.Standing.{mark_of}
 use Rattle.session_cli.specs.Serving.{IsLeftAlone, IsNew, begins}
 use Rattle.session_cli.proofs.EndsLaws.{Going, Taking}

@@ -3,8 +3,7 @@ use Rattle.std.proofs.lemmas.Grind.{common_steps}
 use Rattle.std.specs.FinMap.{entries, len, values}
 use Rattle.std.specs.List.{find}
 use Rattle.std.specs.Option.{option_and_then}
-use Rattle.table_state.specs.Children.{first_from, has_key}
-use Rattle.table_state.specs.Tables.{is_same, key_of}
+use Rattle.indexed_rows.specs.Rows.{first_from, has_key, is_same, key_of}
 use Rattle.table_state.proofs.ChildLaws.{entry_found, place_within}
 use Rattle.table_state.proofs.ListLaws.{find_none}
 use Rattle.table_state.proofs.judging.child_place.Goals as goal

@@ -2,7 +2,7 @@ use Rattle.std.proofs.Common.{◌≡◌, ◌∙◌, ℕ, List, Option, ap, sym, 
 use Rattle.std.specs.FinMap.{empty, len, len-empty}
 use Rattle.row_types.specs.Order.{key_order}
 use Rattle.row_types.specs.declared.value.Value.{Value}
-use Rattle.table_state.specs.Tables.{Table}
+use Rattle.indexed_rows.specs.Rows.{Table}
 use Rattle.autorefresh.specs.declared.group.ReadOnlyGroup.{ReadOnlyGroup}
 use Rattle.autorefresh.specs.declared.group.Shown.{Shown}
 use Rattle.tier_engine.specs.ReadOnlyStoring.{root_of, root_shown}

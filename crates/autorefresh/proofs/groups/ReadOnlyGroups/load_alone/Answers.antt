@@ -1,5 +1,5 @@
 use Rattle.std.proofs.Common.{◌<◌, List, ap, arith, length, rules, ◌∙◌}
-use Rattle.table_state.specs.Tables.{Table}
+use Rattle.indexed_rows.specs.Rows.{Table}
 use Rattle.autorefresh.specs.Putting.{put_at}
 use Rattle.autorefresh.proofs.PuttingLaws.{put_alone}
 use Rattle.autorefresh.proofs.groups.ReadOnlyGroups.load_alone.Goals as goal

@@ -1,5 +1,5 @@
 use Rattle.std.proofs.Common.{List, Option, ap, sym, ◌∙◌}
-use Rattle.table_state.specs.Tables.{Table}
+use Rattle.indexed_rows.specs.Rows.{Table}
 use Rattle.autorefresh.specs.Putting.{put_all, put_made}
 use Rattle.autorefresh.proofs.PuttingLaws.{put_push}
 use Rattle.autorefresh.proofs.groups.ReadOnlyGroups.put_all.Goals as goal

@@ -1,6 +1,7 @@
 use Rattle.std.proofs.Common.{List, length, ap, ◌∙◌}
 use Rattle.table_state.specs.Copies.{only_asked}
-use Rattle.table_state.specs.Tables.{Table, TableState}
+use Rattle.indexed_rows.specs.Rows.{Table}
+use Rattle.table_state.specs.Tables.{TableState}
 use Rattle.table_state.proofs.AskedLaws.{asked_length, asked_rows}
 use Rattle.table_state.proofs.tables.Tables.copied_of.Goals as goal
 

@@ -1,7 +1,8 @@
 use Rattle.std.proofs.Common.{Some, sym, ap, subst, ◌+◌, ◌<◌, ◌^◌, ◌∙◌}
 use Rattle.std.specs.FinMap.{len}
 use Rattle.table_state.specs.Tables.{table_at}
-use Rattle.table_state.specs.Changes.{put_in, taken_back}
+use Rattle.indexed_rows.specs.Rows.{put_in}
+use Rattle.table_state.specs.Changes.{taken_back}
 use Rattle.table_state.specs.declared.change.Undo.TheVariants.{Deleted}
 use Rattle.table_state.proofs.ChangeLaws.{deleted, deleted_room, state_back}
 use Rattle.table_state.proofs.tables.Tables.delete_kept.Goals as goal

@@ -1,7 +1,8 @@
 use Rattle.std.proofs.Common.{Some, sym, ap, ◌∙◌}
 use Rattle.std.specs.FinMap.{remove}
 use Rattle.table_state.specs.Tables.{table_at}
-use Rattle.table_state.specs.Changes.{put_in, taken_back, with_table}
+use Rattle.indexed_rows.specs.Rows.{put_in}
+use Rattle.table_state.specs.Changes.{taken_back, with_table}
 use Rattle.table_state.specs.declared.change.Undo.TheVariants.{Inserted}
 use Rattle.table_state.proofs.ChangeLaws.{inserted, state_back}
 use Rattle.table_state.proofs.tables.Tables.insert.Goals as goal

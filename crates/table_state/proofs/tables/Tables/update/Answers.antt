@@ -1,6 +1,7 @@
 use Rattle.std.proofs.Common.{Some, sym, ap, ◌∙◌}
 use Rattle.table_state.specs.Tables.{table_at}
-use Rattle.table_state.specs.Changes.{put_over, taken_back, with_table}
+use Rattle.indexed_rows.specs.Rows.{put_over}
+use Rattle.table_state.specs.Changes.{taken_back, with_table}
 use Rattle.table_state.specs.declared.change.Undo.TheVariants.{Changed}
 use Rattle.table_state.proofs.ChangeLaws.{updated, state_back}
 use Rattle.table_state.proofs.tables.Tables.update.Goals as goal

@@ -1,6 +1,6 @@
 use Rattle.std.proofs.Common.{◌∙◌, ap, subst, sym, Err}
 use Rattle.row_types.specs.declared.rule.Refused.{Refused}
-use Rattle.table_state.specs.declared.definition.TableDef.{TableDef}
+use Rattle.table_defs.specs.declared.definition.TableDef.{TableDef}
 use Rattle.tier_engine.specs.declared.reply.Last.TheVariants.{No}
 use Rattle.tier_engine.specs.Answers.{only}
 use Rattle.tier_engine.specs.Refusals.{unknown_table}

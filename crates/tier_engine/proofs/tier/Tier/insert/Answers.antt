@@ -2,7 +2,7 @@ use Rattle.std.proofs.Common.{◌≡◌, ◌∙◌, refl, ap, subst, sym, List, 
 use Rattle.std.specs.Option.{option_and_then}
 use Rattle.row_types.specs.declared.rule.Refused.{Refused}
 use Rattle.row_types.specs.declared.rule.Rule.{Rule}
-use Rattle.table_state.specs.Declarations.{IsRefusedBy}
+use Rattle.table_defs.specs.Declarations.{IsRefusedBy}
 use Rattle.autorefresh.specs.Sets.{is_of_table}
 use Rattle.tier_engine.specs.ReadOnlyStoring.{refused_write}
 use Rattle.tier_engine.specs.declared.tier.Group.{Group}

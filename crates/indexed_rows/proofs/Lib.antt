@@ -1,0 +1,5 @@
+pub mod CopyLaws
+pub mod EntryLaws
+pub mod FirstLaws
+pub mod IndexLaws
+pub mod ParentLaws

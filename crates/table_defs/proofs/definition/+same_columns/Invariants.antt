@@ -1,0 +1,6 @@
+-- The list gets shorter.
+use Rattle.std.proofs.Common.{length}
+use Rattle.table_defs.proofs.definition.+same_columns.Given as goal
+
+abbrev pub decreases-same_columns : goal.decreases-same_columns
+decreases-same_columns l = length l.left.now

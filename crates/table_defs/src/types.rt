@@ -1,0 +1,79 @@
+//! Types of columns as they are declared.
+
+ghost use Rattle.std.specs.Prelude.{◌≡◌, ◌≤◌, min, option_copied, true};
+ghost use Rattle.table_defs.specs.Names.{same_name};
+ghost use Rattle.table_defs.specs.Declarations.{has_type, number_of, same_type, text_type, type_of};
+ghost use Rattle.std.specs.List.{list_all};
+ghost use Rattle.std.specs.Char.{is_ascii_digit};
+
+use row_types::{ColumnDeclaration, Text, Ty, TypeDeclaration};
+
+/// The greatest number of bytes of a VARCHAR2.
+const VARCHAR2_BYTES: u16 = 4000;
+
+/// The declared type, where there is such a type.
+pub(crate) fn type_of(ty: &TypeDeclaration) -> Option<Ty>
+    ensures { result ≡ type_of ty.now }
+{
+    match ty {
+        TypeDeclaration::TtInteger => Some(Ty::TtInteger),
+        TypeDeclaration::TtBigint => Some(Ty::TtBigint),
+        TypeDeclaration::Varchar2(digits) => text_type(digits),
+        TypeDeclaration::Timestamp => Some(Ty::Timestamp),
+    }
+}
+
+fn text_type(digits: &Text) -> Option<Ty>
+    ensures { result ≡ text_type digits.now }
+{
+    let digits = digits.as_bytes();
+    if !are_digits(digits) {
+        return None;
+    }
+    let number = number_up_to(digits);
+    if number >= 1 && number <= VARCHAR2_BYTES {
+        Some(Ty::Varchar2(number))
+    } else {
+        None
+    }
+}
+
+fn are_digits(bytes: &[u8]) -> bool
+    ensures { result ≡ list_all is_ascii_digit bytes.now }
+{
+    bytes.iter().all(|byte| byte.is_ascii_digit())
+}
+
+// The number that the digits write, or 4001 where it is greater than 4000.
+fn number_up_to(digits: &[u8]) -> u16
+    requires { list_all is_ascii_digit digits.now ≡ true }
+    ensures { result ≡ min 4001 (number_of digits.now) }
+{
+    let mut number: u16 = 0;
+    for digit in digits {
+        number = 10 * number + (*digit as u16 - 48);
+        if number > VARCHAR2_BYTES {
+            return VARCHAR2_BYTES + 1;
+        }
+    }
+    number
+}
+
+/// Whether the declared column has the type. None has none.
+pub fn has_type(column: Option<&ColumnDeclaration>, ty: Ty) -> bool
+    ensures { result ≡ has_type (option_copied column.entry) ty }
+{
+    match column {
+        None => false,
+        Some(column) => match type_of(&column.ty) {
+            None => false,
+            Some(declared) => is_same_type(declared, ty),
+        },
+    }
+}
+
+fn is_same_type(a: Ty, b: Ty) -> bool
+    ensures { result ≡ same_type a b }
+{
+    a == b
+}

@@ -1,7 +1,0 @@
--- The number is that of the digits so far.
-use Rattle.std.proofs.Common.{◌≡◌, ◌≤◌, take}
-use Rattle.table_state.specs.Declarations.{number_of}
-use Rattle.table_state.proofs.types.number_up_to.Given as goal
-
-abbrev pub invariant-loop-digit : goal.invariant-loop-digit
-invariant-loop-digit l = record { number : l.number ≡ number_of (take l.digit-index l.digits); small : l.number ≤ 4000 }
