@@ -10,8 +10,8 @@ ghost use Rattle.evaluator.specs.Cascades.{cascades_from, child_at, children_fro
 use crate::capped::Capped;
 use row_types::{Key, Row};
 use std::alloc::{AllocError, Global};
-use table_scan::Scan;
 use table_defs::{ForeignKey, TableDef};
+use table_scan::Scan;
 use table_state::{Op, key_of_row};
 use tier_base::TableId;
 

@@ -19,8 +19,8 @@ use crate::refusing::{over_limit, overflow, unknown_table};
 use expressions::NoColumns;
 use row_types::{Key, Refused, Row, Truth};
 use std::alloc::Global;
-use table_scan::Scan;
 use table_defs::TableDef;
+use table_scan::Scan;
 use table_state::{Op, Ops};
 use tier_base::{Limit, TableId};
 

@@ -10,7 +10,10 @@ use crate::refusal::{broken, refuse_name};
 use row_types::{Column, ColumnDeclaration, Detail, Letter, Refused, TableDeclaration};
 use sql_subset::stmt::{Autorefresh, CreateGroup, GroupKind};
 use std::alloc::{AllocError, Global};
-use table_defs::{BackingSchema, ForeignKey, TableDef, has_one_key, has_type, key_places, refuse_types, wrong_name};
+use table_defs::{
+    BackingSchema, ForeignKey, TableDef, has_one_key, has_type, key_places, refuse_types,
+    wrong_name,
+};
 use tier_base::{Code, Limit, TableId};
 
 /// The greatest interval, in milliseconds: 24 hours.

@@ -8,12 +8,12 @@ ghost use Rattle.instances.specs.Views.{child_rows, kept_at, only, refers_to_one
 
 use crate::tree::{Child, Root};
 use expressions::{Cond, truth_on};
+use indexed_rows::key_at;
 use key_rows::Rows;
 use row_types::{Key, Row, Truth};
 use std::alloc::{AllocError, Global};
-use table_scan::Scan;
-use indexed_rows::key_at;
 use table_defs::{ForeignKey, TableDef};
+use table_scan::Scan;
 use table_state::Tables;
 
 /// The rows of the root table that its WHERE selects.

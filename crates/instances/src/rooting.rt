@@ -7,10 +7,10 @@ ghost use Rattle.instances.specs.Roots.{parent_key, root_of, root_within};
 
 use crate::collecting::foreign_places;
 use crate::tree::{Child, Root, Tree};
+use indexed_rows::key_at;
 use row_types::Key;
 use std::alloc::{AllocError, Global};
 use table_scan::Scan;
-use indexed_rows::key_at;
 use table_state::Tables;
 use tier_base::TableId;
 

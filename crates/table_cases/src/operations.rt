@@ -1,14 +1,20 @@
 // Declared tables, and operations on a parent and a child table.
 
+use indexed_rows::key_at;
 use row_types::{
     ColumnDeclaration, ForeignKeyDeclaration, Refused, Row, TableDeclaration, Text, Ty,
     TypeDeclaration, Value,
 };
 use std::alloc::{AllocError, Global};
 use std::test::Fail;
-use indexed_rows::key_at;
-use table_defs::{TableDef, copied_schema, find_table, has_one_key, has_type, key_places, refuse_types, wrong_name};
-use table_state::{ApplyError, Entry, Footprint, Op, Ops, Sealed, Tables, check_row, conflicts, copied_ops, key_of_row, same_ops};
+use table_defs::{
+    TableDef, copied_schema, find_table, has_one_key, has_type, key_places, refuse_types,
+    wrong_name,
+};
+use table_state::{
+    ApplyError, Entry, Footprint, Op, Ops, Sealed, Tables, check_row, conflicts, copied_ops,
+    key_of_row, same_ops,
+};
 use tier_base::{Name, NameError, Seq, TableId, Ticket};
 
 mod index;

@@ -20,8 +20,8 @@ use group_defs::past;
 use outside::{BankError, Site};
 use row_types::{Detail, Refused, Rule, TableDeclaration};
 use std::alloc::{AllocError, Global};
-use table_state::laws::later_table_law;
 use table_defs::{BackingSchema, TableDef, wrong_name};
+use table_state::laws::later_table_law;
 use tier_base::{Code, Name};
 
 impl Tier {

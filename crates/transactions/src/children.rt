@@ -9,8 +9,8 @@ ghost use Rattle.table_scan.specs.Keyed.{IsKeyed};
 
 use row_types::{Detail, Key};
 use std::alloc::{AllocError, Global};
-use table_scan::Scan;
 use table_defs::{ForeignKey, TableDef};
+use table_scan::Scan;
 use table_state::key_of_row;
 use tier_base::TableId;
 

@@ -13,12 +13,12 @@ ghost use Rattle.table_scan.specs.Keyed.{IsKeyed};
 ghost use Rattle.transactions.specs.Judging.{broken_by_delete, broken_by_insert, broken_by_update};
 
 use crate::children::first_child;
+use indexed_rows::key_at;
 use row_types::{Detail, Key, Row, Rule, order_of_values};
 use std::alloc::{AllocError, Global};
 use std::cmp::Ordering;
-use table_scan::Scan;
-use indexed_rows::key_at;
 use table_defs::TableDef;
+use table_scan::Scan;
 use table_state::{ApplyError, check_key_stays, check_row, key_of_row};
 use tier_base::{Code, TableId};
 
