@@ -2,7 +2,6 @@
 use Rattle.std.proofs.Common.{◌≡◌, ◌+◌, ◌-◌, ◌<◌, ◌^◌, ℕ, zero, suc, subst, arith, Bool, true, false, cond, not, ◌&&◌, Option, Some, None, OnSome, List, [], ◌∷◌, ◌++◌, slice_get, slice_set, unwrap_or, is_some, refl, sym, ap, ◌∙◌}
 use Rattle.std.specs.Cmp.{eq_by_cmp_equiv}
 use Rattle.std.specs.Ordering.{eq_by_cmp, is_eq}
-use Rattle.std.specs.declared.cmp.Ordering.{Ordering}
 use Rattle.std.specs.declared.cmp.Ordering.TheVariants.{Less, Equal, Greater}
 use Rattle.std.specs.FinMap.{empty, contains_key, get, insert, len, remove, get-insert, get-remove, len-remove, same_map}
 use Rattle.row_types.specs.declared.value.Value.{Value}

@@ -7,7 +7,6 @@ use Rattle.std.proofs.lemmas.List.{length-map, nil_from_length}
 use Rattle.row_types.specs.declared.value.Value.{Value}
 use Rattle.row_types.specs.Order.{key_order}
 use Rattle.table_defs.specs.declared.definition.TableDef.{TableDef}
-use Rattle.indexed_rows.proofs.FirstLaws.{drop_at}
 use Rattle.indexed_rows.specs.Rows.{first_from, Table}
 use Rattle.table_state.specs.Children.{refers_to}
 

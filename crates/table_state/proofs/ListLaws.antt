@@ -1,8 +1,7 @@
 -- Laws of looking through a list, and of a table of a state.
-use Rattle.std.proofs.Common.{◌≡◌, ℕ, zero, suc, ◌+◌, ◌≤◌, Bool, true, false, cond, Some, None, List, [], ◌∷◌, length, drop, slice_get, unwrap_or, is_some, refl, sym, ap, ◌∙◌, arith}
+use Rattle.std.proofs.Common.{◌≡◌, ℕ, ◌+◌, ◌≤◌, Bool, false, cond, Some, None, List, [], ◌∷◌, slice_get, unwrap_or, is_some, refl, sym, ap, ◌∙◌}
 use Rattle.std.specs.List.{find}
 use Rattle.std.specs.FinMap.{empty, contains_key, get-empty, len, len-empty}
-use Rattle.std.proofs.lemmas.List.{drop_all}
 use Rattle.row_types.specs.declared.value.Value.{Value}
 use Rattle.row_types.specs.Order.{key_order}
 use Rattle.indexed_rows.specs.Rows.{Table}

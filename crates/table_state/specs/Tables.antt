@@ -1,6 +1,6 @@
 -- Tables and table states. (TimesTen SQL Reference, "CREATE TABLE": primary keys and foreign keys.)
 
-use Rattle.std.specs.Prelude.{ℕ, List, [], ◌∷◌, Option, Some, None, Bool, true, false, ◌&&◌, ◌||◌, nat_eq, slice_get, unwrap_or}
+use Rattle.std.specs.Prelude.{List, [], ◌∷◌, Option, Some, None, Bool, true, false, ◌&&◌, ◌||◌, nat_eq, slice_get, unwrap_or}
 use Rattle.std.specs.List.{list_any}
 use Rattle.std.specs.FinMap.{empty, contains_key, get, values}
 use Rattle.std.specs.Result.{is_ok}
