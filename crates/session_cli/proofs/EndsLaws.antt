@@ -4,7 +4,7 @@ use Rattle.std.specs.Io.KnownBytes.{Consumes, IsAtEnd, Keeps}
 use Rattle.std.proofs.lemmas.List.{length-append, length-take, length-drop}
 use Rattle.std.proofs.lemmas.List.Elements.{filter-append}
 use Rattle.outside.specs.Holding.{Held, Slots}
-use Rattle.tier_engine.specs.Steps.{World}
+use Rattle.abstract_tier.specs.Steps.{World}
 use Rattle.table_state.specs.declared.operation.Op.{Op}
 use Rattle.table_state.specs.declared.history.Entry.{Entry}
 use Rattle.table_state.specs.declared.history.Entry.TheVariants.{Definition, Foreign, Own}
@@ -13,11 +13,11 @@ use Rattle.table_state.specs.Tables.{TableState}
 use Rattle.outside.specs.Calls.{Told}
 use Rattle.outside.specs.Others.{AreOthers}
 use Rattle.tier_base.specs.declared.number.TableId.{TableId}
-use Rattle.tier_engine.specs.Commits.{is_own, own_entries}
+use Rattle.abstract_tier.specs.Commits.{is_own, own_entries}
 use Rattle.tier_engine.specs.Standing.{Mark}
 use Rattle.tier_engine.proofs.OthersStand.{foreign_leaves}
 use Rattle.outside.specs.declared.fault.BankError.{BankError}
-use Rattle.tier_engine.specs.TierStates.{TierState, opened}
+use Rattle.abstract_tier.specs.TierStates.{TierState, opened}
 use Rattle.session_cli.specs.declared.session.Session.{Session}
 use Rattle.session_cli.specs.declared.serving.Status.{Status}
 use Rattle.session_cli.specs.declared.serving.Status.TheVariants.{Finished, SourceFailed, SinkFailed, SchemaFailed, NoMemory, LineUnchecked, InputTooLong}

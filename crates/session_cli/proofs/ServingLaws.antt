@@ -4,10 +4,10 @@ use Rattle.std.specs.Io.KnownBytes.{Appends}
 use Rattle.std.specs.Result.{IsErr, OnOk}
 use Rattle.outside.specs.Holding.{Held}
 use Rattle.tier_engine.specs.declared.tier.Tier.{Tier}
-use Rattle.tier_engine.specs.declared.reply.Reply.{Reply}
-use Rattle.tier_engine.specs.Replying.{reply_bytes, replies_bytes}
+use Rattle.abstract_tier.specs.declared.reply.Reply.{Reply}
+use Rattle.abstract_tier.specs.Replying.{reply_bytes, replies_bytes}
 use Rattle.tier_engine.specs.Standing.{IsApart, Mark, world_of}
-use Rattle.tier_engine.specs.Steps.{World, Run, LineStep}
+use Rattle.abstract_tier.specs.Steps.{World, Run, LineStep}
 use Rattle.session_cli.specs.declared.session.Session.{Session}
 use Rattle.session_cli.specs.Cutting.{cut, front_of, text_of, ended_lines, all_lines}
 use Rattle.session_cli.specs.Output.{Splits, Breaks, Passes}

@@ -11,13 +11,13 @@ use Rattle.outside.specs.Holding.{Held, Slots}
 use Rattle.outside.specs.Others.{AreOthers}
 use Rattle.outside.specs.declared.fault.BankError.{BankError}
 use Rattle.tier_engine.specs.declared.tier.Tier.{Tier}
-use Rattle.tier_engine.specs.declared.reply.Reply.{Reply}
-use Rattle.tier_engine.specs.Replying.{reply_bytes, replies_bytes}
+use Rattle.abstract_tier.specs.declared.reply.Reply.{Reply}
+use Rattle.abstract_tier.specs.Replying.{reply_bytes, replies_bytes}
 use Rattle.tier_engine.specs.Standing.{Mark, StandsFor, Serves, tier_state, world_of}
-use Rattle.tier_engine.specs.Commits.{IsLegal, own_entries}
-use Rattle.tier_engine.specs.ReadOnlyStates.{ShowCommitted}
-use Rattle.tier_engine.specs.Steps.{World, IsUnshared, Run}
-use Rattle.tier_engine.specs.TierStates.{opened}
+use Rattle.abstract_tier.specs.Commits.{IsLegal, own_entries}
+use Rattle.abstract_tier.specs.ReadOnlyStates.{ShowCommitted}
+use Rattle.abstract_tier.specs.Steps.{World, IsUnshared, Run}
+use Rattle.abstract_tier.specs.TierStates.{opened}
 use Rattle.session_cli.specs.declared.session.Session.{Session}
 use Rattle.session_cli.specs.Cutting.{cut, front_of, ended_lines, all_lines}
 use Rattle.session_cli.specs.Output.{Splits, Passes}

@@ -2,21 +2,21 @@
 
 ghost use Rattle.std.specs.Prelude.{◌≡◌, ℕ, List, Option, IfOk};
 ghost use Rattle.sql_subset.specs.Lines.{Means, Saying};
-ghost use Rattle.tier_engine.specs.Answers.{only};
-ghost use Rattle.tier_engine.specs.declared.reply.Last.TheVariants.{No};
-ghost use Rattle.tier_engine.specs.declared.reply.Reply.{Reply as TierReply};
+ghost use Rattle.abstract_tier.specs.Answers.{only};
+ghost use Rattle.abstract_tier.specs.declared.reply.Last.TheVariants.{No};
+ghost use Rattle.abstract_tier.specs.declared.reply.Reply.{Reply as TierReply};
 ghost use Rattle.session_cli.specs.Checking.{AreChecked, CheckHasCause, Checks, Tells};
 
 use crate::line::LineBuffer;
 use crate::output::Output;
 use crate::replies::write_reply;
+use abstract_tier::{Last, Reply};
 use outside::Sink;
 use row_types::{Detail, Rule};
 use sql_subset::line::{one_meaning, parse_line};
 use sql_subset::request::ParseError;
 use std::alloc::{AllocError, Global};
 use tier_base::{Code, Limit};
-use tier_engine::{Last, Reply};
 
 /// The greatest number of bytes of a line.
 const LINE_BYTES: usize = 65_536;

@@ -2,9 +2,9 @@
 
 ghost use Rattle.std.specs.Prelude.{◌≡◌, ◌⊎◌, ℕ, List, Option, MatchResult};
 ghost use Rattle.outside.specs.Faults.{Rose};
-ghost use Rattle.tier_engine.specs.declared.reply.Reply.{Reply};
+ghost use Rattle.abstract_tier.specs.declared.reply.Reply.{Reply};
 ghost use Rattle.tier_engine.specs.Standing.{mark_of};
-ghost use Rattle.tier_engine.specs.Steps.{AreCaused, Run, World};
+ghost use Rattle.abstract_tier.specs.Steps.{AreCaused, Run, World};
 ghost use Rattle.command_line.specs.declared.command.Command.{Command as Task};
 ghost use Rattle.command_line.specs.declared.settings.Settings.{Settings};
 ghost use Rattle.command_line.specs.Keys.{AreBad, IsSetBy};
@@ -15,10 +15,10 @@ ghost use Rattle.session_cli.specs.Ends.{Runs, Takes, Unstarted, number_of};
 use crate::checker::check_law;
 use crate::checking::check;
 use crate::serving::{Status, serve};
+use abstract_tier::fault_law;
 use command_line::{Command, CommandError, SettingsError, read_command, read_settings};
 use outside::{Clock, Sink, Site, Source};
 use std::alloc::Global;
-use tier_engine::fault_law;
 
 /// The status where the words aren't taken.
 const WRONG_WORDS: u8 = 1;

@@ -24,16 +24,16 @@ use Rattle.outside.specs.Holding.{Held}
 use Rattle.outside.specs.Others.{Around}
 use Rattle.outside.specs.declared.fault.BankError.{BankError}
 use Rattle.outside.specs.declared.fault.BankError.TheVariants.{Failed, Memory}
-use Rattle.tier_engine.specs.declared.reply.Reply.{Reply}
+use Rattle.abstract_tier.specs.declared.reply.Reply.{Reply}
 use Rattle.tier_engine.specs.declared.tier.Tier.{Tier}
 use Rattle.tier_engine.specs.declared.tier.Group.{Group}
 use Rattle.tier_engine.specs.declared.tier.Session.{Session}
-use Rattle.tier_engine.specs.Commits.{RiseBetween, virtual_state, pending, applied_sealed, own_entries, is_own, is_other, in_commit_order}
+use Rattle.abstract_tier.specs.Commits.{RiseBetween, virtual_state, pending, applied_sealed, own_entries, is_own, is_other, in_commit_order}
 use Rattle.group_defs.specs.GroupRules.{refers}
-use Rattle.tier_engine.specs.Steps.{Asked, Creates, bank_fault, known_after, stopped}
+use Rattle.abstract_tier.specs.Steps.{Asked, Creates, bank_fault, known_after, stopped}
 use Rattle.tier_engine.specs.Storing.{KnowsAfter, MakesTable}
 use Rattle.tier_engine.specs.Standing.{IsApart, Mark, StandsFor, Shows, ShowAll, HasOwnKeys, Made, group_state, is_stored, ops_of, own_in, read_only_state, session_in, tier_state}
-use Rattle.tier_engine.proofs.CommitLaws.{state_from-append, applied_sealed-state_from, by_option}
+use Rattle.abstract_tier.proofs.CommitLaws.{state_from-append, applied_sealed-state_from, by_option}
 use Rattle.tier_engine.proofs.GroupedLaws.{cover, defined_as, defined_at, distinct_as, front_get}
 use Rattle.tier_engine.proofs.LogLaws.{all_pending, log_schema}
 use Rattle.tier_engine.proofs.OthersStand.{apart_as, stands_around}
@@ -230,7 +230,7 @@ ticket_defined t (x ∷ h) def = ap (λ b. Rattle.table_state.specs.Histories.is
 virtual_defined : LaterLaw → WholeLaw → (h : List Entry) (log : List Sealed) (def : TableDef) (s base : TableState) → state_of h ≡ Some s → virtual_state h log ≡ Some base
     → virtual_state (h ++ Definition def ∷ []) log ≡ Some (with_new def base)
 virtual_defined law whole_law h log def s base is e =
-    ap (λ l. option_and_then (applied_sealed l) (state_of (h ++ Definition def ∷ []))) (Rattle.tier_engine.proofs.OwnLaws.same_pending (h ++ Definition def ∷ []) h log (λ t. ticket_defined t h def))
+    ap (λ l. option_and_then (applied_sealed l) (state_of (h ++ Definition def ∷ []))) (Rattle.abstract_tier.proofs.OwnLaws.same_pending (h ++ Definition def ∷ []) h log (λ t. ticket_defined t h def))
     ∙ ap (option_and_then (applied_sealed (pending h log))) (state_defined h def s is)
     ∙ sealed_later law whole_law def (pending h log) s base (history_whole whole_law h s is) (sym (ap (option_and_then (applied_sealed (pending h log))) is) ∙ e)
 

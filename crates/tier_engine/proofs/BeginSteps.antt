@@ -19,8 +19,8 @@ use Rattle.outside.specs.declared.fault.BankError.{BankError}
 use Rattle.tier_engine.specs.declared.tier.Tier.{Tier}
 use Rattle.tier_engine.specs.declared.tier.Group.{Group}
 use Rattle.tier_engine.specs.declared.tier.Session.{Session}
-use Rattle.tier_engine.specs.Commits.{applied_sealed, is_other, own_entries}
-use Rattle.tier_engine.specs.TierStates.{opened}
+use Rattle.abstract_tier.specs.Commits.{applied_sealed, is_other, own_entries}
+use Rattle.abstract_tier.specs.TierStates.{opened}
 use Rattle.tier_engine.specs.Standing.{Begins, HasOwnKeys, ShowAll, StandsFor, tier_state}
 use Rattle.tier_engine.proofs.BankSteps.{WholeLaw, history_whole}
 use Rattle.tier_engine.proofs.GroupedLaws.{cover, defined_as, defined_none, distinct_as, distinct_none}

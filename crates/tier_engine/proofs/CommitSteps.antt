@@ -21,22 +21,22 @@ use Rattle.table_state.specs.Tables.{TableState}
 use Rattle.table_state.specs.Operations.{applied_all}
 use Rattle.table_state.specs.Histories.{has_ticket, state_of, entry_of}
 use Rattle.sql_subset.specs.declared.stmt.Stmt.TheVariants as statement
-use Rattle.tier_engine.specs.declared.reply.Reply.{Reply}
-use Rattle.tier_engine.specs.declared.reply.Last.TheVariants.{Done, No}
+use Rattle.abstract_tier.specs.declared.reply.Reply.{Reply}
+use Rattle.abstract_tier.specs.declared.reply.Last.TheVariants.{Done, No}
 use Rattle.tier_engine.specs.declared.tier.Tier.{Tier}
 use Rattle.tier_engine.specs.declared.tier.Group.{Group}
 use Rattle.tier_engine.specs.declared.tier.Session.{Session}
-use Rattle.tier_engine.specs.Commits.{RiseBetween, pending, virtual_state, applied_sealed, in_commit_order}
-use Rattle.tier_engine.specs.TierStates.{TierState, SessionState, keys_after}
+use Rattle.abstract_tier.specs.Commits.{RiseBetween, pending, virtual_state, applied_sealed, in_commit_order}
+use Rattle.abstract_tier.specs.TierStates.{TierState, SessionState, keys_after}
 use Rattle.row_types.specs.declared.rule.Rule.{Rule}
 use Rattle.group_defs.specs.Limits.{at_limit, past}
-use Rattle.tier_engine.specs.Refusals.{commit_fault}
-use Rattle.tier_engine.specs.Answers.{Answer, only, committed, commit_answer, commit_of, group_after, refuses, unless}
-use Rattle.tier_engine.specs.Steps.{Quiet, WantsMemory}
+use Rattle.abstract_tier.specs.Refusals.{commit_fault}
+use Rattle.abstract_tier.specs.Answers.{Answer, only, committed, commit_answer, commit_of, group_after, refuses, unless}
+use Rattle.abstract_tier.specs.Steps.{Quiet, WantsMemory}
 use Rattle.tier_engine.specs.Storing.{Seals, SealsOr}
 use Rattle.tier_engine.specs.Standing.{StandsFor, InOpen, Turns, Shows, ShowAll, AreIn, committed_rows, group_state, inserts_at, is_insert, is_stored, key_set, ops_of, own_in, session_state, session_in, tier_state, world_of, HasOwnKeys}
 use Rattle.tier_engine.proofs.GroupedLaws.{cover, defined_as, distinct_as}
-use Rattle.tier_engine.proofs.OwnLaws.{front_tickets}
+use Rattle.abstract_tier.proofs.OwnLaws.{front_tickets}
 use Rattle.tier_engine.proofs.OpLaws.{inserts_schema, inserts_whole}
 use Rattle.tier_engine.proofs.ReadLaws.{reads_as, sets_as}
 use Rattle.tier_engine.proofs.SelectSteps.{IsOpen, opened_step, quiet_same}

@@ -25,12 +25,12 @@ use Rattle.transactions.specs.Touching.{Touches, is_child, is_touched}
 use Rattle.transactions.specs.Transactions.{is_of}
 use Rattle.tier_engine.specs.declared.tier.Group.{Group}
 use Rattle.tier_engine.specs.declared.tier.Tier.{Tier}
-use Rattle.tier_engine.specs.TierStates.{GroupState, is_named}
+use Rattle.abstract_tier.specs.TierStates.{GroupState, is_named}
 use Rattle.group_defs.specs.GroupRules.{is_joined}
-use Rattle.tier_engine.specs.Steps.{is_writethrough, write_uncached}
+use Rattle.abstract_tier.specs.Steps.{is_writethrough, write_uncached}
 use Rattle.tier_engine.specs.Standing.{group_state, is_in_group, own_in, tier_state}
 use Rattle.tier_engine.specs.Storing.{has_table, place_named}
-use Rattle.tier_engine.specs.ConsoleWrites.{first_table, refusal_in, tables_seen, writes_fault, writethrough_table}
+use Rattle.abstract_tier.specs.ConsoleWrites.{first_table, refusal_in, tables_seen, writes_fault, writethrough_table}
 use Rattle.tier_engine.specs.ConsoleStoring.{is_stored_name, tables_known}
 use Rattle.tier_engine.proofs.OthersLaws.{AreAlone, LeaveGroups}
 use Rattle.tier_engine.proofs.ServingLaws.{cached_stored}

@@ -30,14 +30,14 @@ use Rattle.outside.specs.declared.fault.BankError.{BankError}
 use Rattle.outside.specs.declared.fault.BankError.TheVariants.{Failed, Memory}
 use Rattle.outside.specs.declared.site.Done.{Done as Wrote}
 use Rattle.outside.specs.declared.site.Done.TheVariants.{Rows, Broken}
-use Rattle.tier_engine.specs.declared.reply.Reply.{Reply}
-use Rattle.tier_engine.specs.declared.reply.Last.TheVariants.{No}
+use Rattle.abstract_tier.specs.declared.reply.Reply.{Reply}
+use Rattle.abstract_tier.specs.declared.reply.Last.TheVariants.{No}
 use Rattle.tier_engine.specs.declared.tier.Tier.{Tier}
 use Rattle.tier_engine.specs.declared.tier.Group.{Group}
-use Rattle.tier_engine.specs.Answers.{faulty, only}
+use Rattle.abstract_tier.specs.Answers.{faulty, only}
 use Rattle.tier_engine.specs.ConsoleStoring.{JudgesWrites, is_stored_name, tables_known}
-use Rattle.tier_engine.specs.ConsoleWrites.{tables_seen, writes_fault}
-use Rattle.tier_engine.specs.Steps.{DoesWrites, TellsBankFault, WantsMemory, WritesAll, WritesUnless, is_writethrough, writes_reply}
+use Rattle.abstract_tier.specs.ConsoleWrites.{tables_seen, writes_fault}
+use Rattle.abstract_tier.specs.Steps.{DoesWrites, TellsBankFault, WantsMemory, WritesAll, WritesUnless, is_writethrough, writes_reply}
 use Rattle.tier_engine.specs.Standing.{IsApart, Made, Mark, ShowAll, StandsFor, ops_of, own_in, tier_state, world_of}
 use Rattle.tier_engine.proofs.BankSteps.{leaves_state}
 use Rattle.tier_engine.proofs.ConsoleLaws.{AreOnNone, ByName, by_groups, by_schema, leave_groups, on_none, same_tables, same_writes_fault, unrefused}

@@ -18,15 +18,15 @@ use Rattle.outside.specs.Holding.{Held}
 use Rattle.outside.specs.declared.fault.BankError.{BankError}
 use Rattle.outside.specs.declared.fault.BankError.TheVariants.{Failed, Memory}
 use Rattle.sql_subset.specs.declared.request.ConsoleRequest.TheVariants as console
-use Rattle.tier_engine.specs.declared.reply.Reply.{Reply}
-use Rattle.tier_engine.specs.declared.reply.Last.TheVariants.{No}
+use Rattle.abstract_tier.specs.declared.reply.Reply.{Reply}
+use Rattle.abstract_tier.specs.declared.reply.Last.TheVariants.{No}
 use Rattle.tier_engine.specs.declared.tier.Tier.{Tier}
 use Rattle.tier_engine.specs.declared.tier.Group.{Group}
 use Rattle.group_defs.specs.GroupRules.{refers}
 use Rattle.group_defs.specs.Limits.{past}
-use Rattle.tier_engine.specs.Refusals.{refers_to_group, table_fault, writethrough_parent}
-use Rattle.tier_engine.specs.Answers.{faulty, only}
-use Rattle.tier_engine.specs.Steps.{World, Creates, CreatesTable, DoesConsole, DoesDefine, TellsBankFault, WantsMemory, cached_fault, define_reply}
+use Rattle.abstract_tier.specs.Refusals.{refers_to_group, table_fault, writethrough_parent}
+use Rattle.abstract_tier.specs.Answers.{faulty, only}
+use Rattle.abstract_tier.specs.Steps.{World, Creates, CreatesTable, DoesConsole, DoesDefine, TellsBankFault, WantsMemory, cached_fault, define_reply}
 use Rattle.tier_engine.specs.Storing.{IsSame, JudgesTable, Makes, MakesTable, has_table, judged_foreign, judged_parent, judged_table}
 use Rattle.tier_engine.specs.Standing.{IsApart, Mark, Made, StandsFor, group_state, own_in, world_of}
 use Rattle.tier_engine.proofs.BankSteps.{LaterLaw, RefersToNone, WholeLaw, creates_made}

@@ -16,24 +16,24 @@ use Rattle.table_state.specs.Tables.{TableState}
 use Rattle.table_state.specs.Operations.{applied_all}
 use Rattle.table_state.specs.Histories.{state_of, entry_of}
 use Rattle.outside.specs.Holding.{Held}
-use Rattle.tier_engine.specs.declared.reply.Reply.{Reply}
-use Rattle.tier_engine.specs.declared.rounds.RoundFault.{RoundFault}
-use Rattle.tier_engine.specs.declared.rounds.RoundFault.TheVariants as stop
+use Rattle.abstract_tier.specs.declared.reply.Reply.{Reply}
+use Rattle.abstract_tier.specs.declared.rounds.RoundFault.{RoundFault}
+use Rattle.abstract_tier.specs.declared.rounds.RoundFault.TheVariants as stop
 use Rattle.tier_engine.specs.declared.tier.Tier.{Tier}
 use Rattle.tier_engine.specs.declared.tier.Group.{Group}
 use Rattle.tier_engine.specs.declared.tier.Session.{Session}
-use Rattle.tier_engine.specs.Commits.{RiseBetween, pending, in_commit_order, virtual_state, applied_sealed, own_entries}
-use Rattle.tier_engine.specs.Rounds.{DifferedAt, Mixes, Round}
-use Rattle.tier_engine.specs.RoundStates.{RoundAt, RoundOver, RoundGoes}
-use Rattle.tier_engine.specs.Steps.{AreUnshared, Drains, IsDrained, round_reply}
+use Rattle.abstract_tier.specs.Commits.{RiseBetween, pending, in_commit_order, virtual_state, applied_sealed, own_entries}
+use Rattle.abstract_tier.specs.Rounds.{DifferedAt, Mixes, Round}
+use Rattle.abstract_tier.specs.RoundStates.{RoundAt, RoundOver, RoundGoes}
+use Rattle.abstract_tier.specs.Steps.{AreUnshared, Drains, IsDrained, round_reply}
 use Rattle.tier_engine.specs.Standing.{IsApart, Mark, StandsFor, ShowAll, HasOwnKeys, Made, tier_state, group_state, is_stored, ops_of, read_only_state, session_in, own_in}
-use Rattle.tier_engine.proofs.CommitLaws.{state_one}
+use Rattle.abstract_tier.proofs.CommitLaws.{state_one}
 use Rattle.tier_engine.proofs.GroupedLaws.{cover, defined_at, distinct_as}
 use Rattle.tier_engine.proofs.LegalLaws.{ordered_push}
 use Rattle.tier_engine.proofs.OthersStand.{Rests, leave_unshared, rests, rests_foreign}
-use Rattle.tier_engine.proofs.OwnLaws.{front_pending, own_behind}
+use Rattle.abstract_tier.proofs.OwnLaws.{front_pending, own_behind}
 use Rattle.tier_engine.proofs.ReadLaws.{reads_at, sets_as}
-use Rattle.tier_engine.proofs.RoundLaws.{drop_next, makes_round, next_fresh, take_next}
+use Rattle.abstract_tier.proofs.RoundLaws.{drop_next, makes_round, next_fresh, take_next}
 
 -- all but the unsettled transactions stays
 pub record IsSameBeside (t t' : Tier) : Type 0 where

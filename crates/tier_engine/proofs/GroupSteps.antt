@@ -33,19 +33,19 @@ use Rattle.instances.specs.declared.tree.Child.{Child}
 use Rattle.autorefresh.specs.Sets.{is_of_table}
 use Rattle.autorefresh.specs.Sets as stored
 use Rattle.autorefresh.specs.declared.group.ReadOnlyGroup.{ReadOnlyGroup}
-use Rattle.tier_engine.specs.declared.reply.Reply.{Reply}
+use Rattle.abstract_tier.specs.declared.reply.Reply.{Reply}
 use Rattle.tier_engine.specs.declared.tier.Tier.{Tier}
 use Rattle.tier_engine.specs.declared.tier.Group.{Group}
 use Rattle.tier_engine.specs.declared.tier.OwnKey.{OwnKey}
 use Rattle.tier_engine.specs.declared.tier.Session.{Session}
-use Rattle.tier_engine.specs.Commits.{RiseBetween}
-use Rattle.tier_engine.specs.TierStates.{GroupState, SessionState, is_named, group_of_table}
-use Rattle.tier_engine.specs.ReadOnlyStates.{read_only_over}
+use Rattle.abstract_tier.specs.Commits.{RiseBetween}
+use Rattle.abstract_tier.specs.TierStates.{GroupState, SessionState, is_named, group_of_table}
+use Rattle.abstract_tier.specs.ReadOnlyStates.{read_only_over}
 use Rattle.group_defs.specs.declared.group.Beside.{Beside}
 use Rattle.group_defs.specs.GroupRules.{definition_fault, letter_fault, lettered, has_same_key, same_columns, is_asynchronous, is_joined}
 use Rattle.group_defs.specs.Limits.{at_limit}
-use Rattle.tier_engine.specs.Refusals.{beside_groups, group_fault, is_grouped}
-use Rattle.tier_engine.specs.Answers.{new_group, group_over, group_in, group_known, group_cached, group_shown}
+use Rattle.abstract_tier.specs.Refusals.{beside_groups, group_fault, is_grouped}
+use Rattle.abstract_tier.specs.Answers.{new_group, group_over, group_in, group_known, group_cached, group_shown}
 use Rattle.tier_engine.specs.Storing.{Groups, beside_stored, has_group, has_table, is_taken, judged_group, known_or_none, located, located_by, located_in, located_group, located_read, place_named}
 use Rattle.tier_engine.specs.Standing.{StandsFor, Shows, ShowAll, HasOwnKeys, OwnKeys, IsOwnKey, committed_rows, group_state, inserts_at, is_insert, is_in_group, is_stored, key_set, ops_of, own_in, read_only_state, session_in, tier_state}
 use Rattle.tier_engine.proofs.BankSteps.{leaves_state}

@@ -19,16 +19,16 @@ use Rattle.sql_subset.specs.declared.stmt.Stmt.TheVariants as statement
 use Rattle.autorefresh.specs.Sets.{AllShow, OnePosition, is_of_table}
 use Rattle.autorefresh.specs.declared.group.ReadOnlyGroup.{ReadOnlyGroup}
 use Rattle.autorefresh.proofs.KeepingLaws.{add_has_one_position, add_shows}
-use Rattle.tier_engine.specs.declared.reply.Reply.{Reply}
-use Rattle.tier_engine.specs.declared.reply.Last.TheVariants.{Done, No}
+use Rattle.abstract_tier.specs.declared.reply.Reply.{Reply}
+use Rattle.abstract_tier.specs.declared.reply.Last.TheVariants.{Done, No}
 use Rattle.tier_engine.specs.declared.tier.Tier.{Tier}
 use Rattle.tier_engine.specs.declared.tier.Group.{Group}
-use Rattle.tier_engine.specs.TierStates.{SessionState, TierState, group_of_table}
+use Rattle.abstract_tier.specs.TierStates.{SessionState, TierState, group_of_table}
 use Rattle.tier_engine.specs.ReadOnlyStoring.{StaysAround}
 use Rattle.group_defs.specs.GroupRules.{is_asynchronous}
-use Rattle.tier_engine.specs.Refusals.{group_fault, unknown_table}
-use Rattle.tier_engine.specs.Answers.{Answer, faulty, group_answer, group_cached, group_in, group_known, group_over, group_shown, new_read_only, only, refuses, unless, with_group}
-use Rattle.tier_engine.specs.Steps.{Quiet, WantsMemory}
+use Rattle.abstract_tier.specs.Refusals.{group_fault, unknown_table}
+use Rattle.abstract_tier.specs.Answers.{Answer, faulty, group_answer, group_cached, group_in, group_known, group_over, group_shown, new_read_only, only, refuses, unless, with_group}
+use Rattle.abstract_tier.specs.Steps.{Quiet, WantsMemory}
 use Rattle.tier_engine.specs.Storing.{GroupsOrNot, GroupsReadOrNot, JudgesGroup, fresh_read_only, judged_group, known_or_none, located, located_by, located_group, located_in, located_read, place_named}
 use Rattle.tier_engine.specs.Standing.{AreDefined, AreDistinct, InOpen, StandsFor, Turns, own_in, read_only_state, session_state, tier_state, world_of}
 use Rattle.tier_engine.proofs.GroupSteps.{IsLocated, accepted, defined_there, is_located, same_fault, stands_more, state_more}

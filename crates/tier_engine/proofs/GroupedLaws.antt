@@ -23,10 +23,10 @@ use Rattle.autorefresh.specs.Refreshes.{tree_tables}
 use Rattle.autorefresh.specs.Sets.{covers}
 use Rattle.autorefresh.specs.declared.group.ReadOnlyGroup.{ReadOnlyGroup}
 use Rattle.tier_engine.specs.declared.tier.Group.{Group}
-use Rattle.tier_engine.specs.ReadOnlyStates.{ReadOnlyState, Which, shown_at, shown_from}
+use Rattle.abstract_tier.specs.ReadOnlyStates.{ReadOnlyState, Which, shown_at, shown_from}
 use Rattle.tier_engine.specs.Standing.{AreApart, AreDefined, AreDistinct, grouped_tables, read_only_state}
 use Rattle.tier_engine.specs.Storing.{has_table}
-use Rattle.tier_engine.proofs.CommitLaws.{state_from-append}
+use Rattle.abstract_tier.proofs.CommitLaws.{state_from-append}
 use Rattle.tier_engine.proofs.ReadLaws.{got}
 
 pub equal_swap : (a b : ℕ) → nat_eq a b ≡ nat_eq b a

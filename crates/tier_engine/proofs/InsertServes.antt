@@ -27,20 +27,20 @@ use Rattle.outside.specs.declared.fault.BankError.TheVariants.{Failed, Memory}
 use Rattle.autorefresh.specs.Sets.{is_of_table}
 use Rattle.autorefresh.specs.declared.group.ReadOnlyGroup.{ReadOnlyGroup}
 use Rattle.tier_engine.specs.declared.insert.Asked.{Asked}
-use Rattle.tier_engine.specs.declared.reply.Reply.{Reply}
-use Rattle.tier_engine.specs.declared.reply.Last.TheVariants.{Done, No}
+use Rattle.abstract_tier.specs.declared.reply.Reply.{Reply}
+use Rattle.abstract_tier.specs.declared.reply.Last.TheVariants.{Done, No}
 use Rattle.tier_engine.specs.declared.tier.Tier.{Tier}
 use Rattle.tier_engine.specs.declared.tier.Group.{Group}
 use Rattle.tier_engine.specs.declared.tier.Session.{Session}
 use Rattle.group_defs.specs.LiteralValues.{takes_all, values_of}
-use Rattle.tier_engine.specs.ReadOnlyAnswers.{write_fault}
-use Rattle.tier_engine.specs.ReadOnlyStates.{ReadOnlyState}
+use Rattle.abstract_tier.specs.ReadOnlyAnswers.{write_fault}
+use Rattle.abstract_tier.specs.ReadOnlyStates.{ReadOnlyState}
 use Rattle.tier_engine.specs.ReadOnlyStoring.{refused_write}
-use Rattle.tier_engine.specs.TierStates.{SessionState, GroupState, seen_rows}
+use Rattle.abstract_tier.specs.TierStates.{SessionState, GroupState, seen_rows}
 use Rattle.group_defs.specs.Limits.{at_limit}
-use Rattle.tier_engine.specs.Refusals.{insert_fault, key_taken, rule_in, unknown_table, values_fault}
-use Rattle.tier_engine.specs.Answers.{only, faulty, refuses}
-use Rattle.tier_engine.specs.Steps.{World, Finds, Inserts, InsertsRead, InsertsUnless, PutsValues, Quiet, TellsBankFault, WantsMemory}
+use Rattle.abstract_tier.specs.Refusals.{insert_fault, key_taken, rule_in, unknown_table, values_fault}
+use Rattle.abstract_tier.specs.Answers.{only, faulty, refuses}
+use Rattle.abstract_tier.specs.Steps.{World, Finds, Inserts, InsertsRead, InsertsUnless, PutsValues, Quiet, TellsBankFault, WantsMemory}
 use Rattle.tier_engine.specs.Storing.{IsPut, IsSame, Puts, Settles, SettlesTier, StaysBeside, place_named}
 use Rattle.tier_engine.specs.Standing.{Mark, InOpen, ServesPart, StandsFor, group_state, ops_of, own_in, read_only_state, session_in, session_state, tier_state, world_of}
 use Rattle.tier_engine.proofs.InsertSteps.{AppliesLaw, HasPut}

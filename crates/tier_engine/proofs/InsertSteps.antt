@@ -29,9 +29,9 @@ use Rattle.tier_engine.specs.declared.tier.Tier.{Tier}
 use Rattle.tier_engine.specs.declared.tier.Group.{Group}
 use Rattle.tier_engine.specs.declared.tier.OwnKey.{OwnKey}
 use Rattle.tier_engine.specs.declared.tier.Session.{Session}
-use Rattle.tier_engine.specs.Commits.{RiseBetween, pending, applied_sealed}
+use Rattle.abstract_tier.specs.Commits.{RiseBetween, pending, applied_sealed}
 use Rattle.group_defs.specs.GroupRules.{is_joined}
-use Rattle.tier_engine.specs.Refusals.{rule_in}
+use Rattle.abstract_tier.specs.Refusals.{rule_in}
 use Rattle.tier_engine.specs.Standing.{StandsFor, Shows, ShowAll, AreApart, AreIn, HasOwnKeys, OwnKeys, IsOwnKey, committed_rows, group_state, inserts_at, is_insert, is_stored, key_set, ops_of, own_in, session_in, tier_state}
 use Rattle.tier_engine.proofs.BankSteps.{LeavesState}
 use Rattle.tier_engine.proofs.GroupedLaws.{apart_of, cover, defined_as, distinct_as, tables_set}
@@ -322,7 +322,7 @@ state_put t t1 log place g ss row apart p =
     let rows = insert g.rows k row in
     let mine : own ≡ ss.own = ap own_in p.opened in
     let mine1 : own_in t1.session ≡ own ++ op ∷ [] = ap own_in p.session ∙ ap (λ l. l ++ op ∷ []) (sym mine) in
-    let same_keys : (x : Group) (c d : Table) → c ≡ d → (let y : Rattle.tier_engine.specs.TierStates.GroupState = record { name = x.name; table = x.table; def = x.def; keys = key_set c } in y) ≡ record { name = x.name; table = x.table; def = x.def; keys = key_set d } =
+    let same_keys : (x : Group) (c d : Table) → c ≡ d → (let y : Rattle.abstract_tier.specs.TierStates.GroupState = record { name = x.name; table = x.table; def = x.def; keys = key_set c } in y) ≡ record { name = x.name; table = x.table; def = x.def; keys = key_set d } =
     λ x c d e i. record { name = x.name; table = x.table; def = x.def; keys = key_set (e i) }
     in
     let groups : map (group_state (own_in t1.session)) t1.groups.items ≡ map (group_state own) t.groups.items =

@@ -11,29 +11,15 @@ use Rattle.table_state.specs.declared.history.Sealed.{Sealed}
 use Rattle.table_state.specs.Operations.{applied_all}
 use Rattle.table_state.specs.Histories.{has_ticket, entry_of, state_of}
 use Rattle.tier_base.specs.declared.number.Ticket.{Ticket}
-use Rattle.tier_engine.specs.Commits.{RiseBetween, AreOps, HasOps, FollowsLower, KeepsOrder, IsLegal, Once, own_entries, is_other, in_commit_order}
+use Rattle.abstract_tier.specs.Commits.{RiseBetween, AreOps, HasOps, FollowsLower, KeepsOrder, IsLegal, Once, own_entries, is_other, in_commit_order}
 use Rattle.tier_engine.specs.declared.tier.Tier.{Tier}
 use Rattle.tier_engine.specs.Standing.{StandsFor}
-use Rattle.tier_engine.proofs.CommitLaws.{has_ticket-append, nat_eq_same, nat_eq_other, or_true, once_rising, rise_take, state_push, state_one}
-use Rattle.tier_engine.proofs.OwnLaws.{own_ticket}
+use Rattle.abstract_tier.proofs.CommitLaws.{has_ticket-append, nat_eq_same, nat_eq_other, or_true, once_rising, rise_take, state_push, state_one}
+use Rattle.abstract_tier.proofs.OwnLaws.{AllStand, all_stand, own_ticket}
 
 append_nil : {X : Type 0} (xs : List X) → xs ++ [] ≡ xs
 append_nil [] = refl
 append_nil (x ∷ xs) = ap (λ l. x ∷ l) (append_nil xs)
-
--- each of these stands in the history
-abbrev pub AllStand : List Sealed → List Entry → Type 0
-AllStand [] history = Unit {0}
-AllStand (s ∷ ss) history = (has_ticket s.ticket.0 history ≡ true) × AllStand ss history
-
-pub all_stand : (pre : List Entry) (log : List Sealed) → AllStand log (pre ++ map entry_of log)
-all_stand pre [] = tt
-all_stand pre (s ∷ log) = (
-  has_ticket-append s.ticket.0 pre (entry_of s ∷ map entry_of log)
-      ∙ ap (λ b. has_ticket s.ticket.0 pre || (b || has_ticket s.ticket.0 (map entry_of log))) (nat_eq_same s.ticket.0)
-      ∙ or_true (has_ticket s.ticket.0 pre),
-  subst (λ (h : List Entry). AllStand log h) (append_assoc pre (entry_of s ∷ []) (map entry_of log)) (all_stand (pre ++ entry_of s ∷ []) log),
-)
 
 -- a ticket behind a rising front is at least the first
 least : (low : ℕ) (before : List Sealed) (s : Sealed) (ss : List Sealed) (high : ℕ) → RiseBetween low (before ++ s ∷ ss) high → low ≤ s.ticket.0

@@ -5,10 +5,8 @@ pub mod ConsoleSteps
 pub mod CreateSteps
 pub mod GroupTurns
 pub mod BankSteps
-pub mod CommitLaws
 pub mod CommitSteps
 pub mod DrainSteps
-pub mod FaultLaws
 pub mod GroupedLaws
 pub mod GroupSteps
 pub mod PutLaws
@@ -18,7 +16,6 @@ pub mod OpLaws
 pub mod OthersLaws
 pub mod OthersStand
 pub mod OpenSteps
-pub mod OwnLaws
 pub mod LegalLaws
 pub mod LogLaws
 pub mod ReadCalls
@@ -28,9 +25,6 @@ pub mod ReadServes
 pub mod ReadStates
 pub mod ReadSteps
 pub mod ReplyLaws
-pub mod RoundLaws
-pub mod RoundSteps
-pub mod RowLaws
 pub mod SelectSteps
 pub mod ServingLaws
 pub mod SessionSteps

@@ -9,9 +9,9 @@ use Rattle.table_state.specs.Operations.{applied_all}
 use Rattle.table_state.specs.Histories.{has_ticket}
 use Rattle.table_state.proofs.HistoryLaws.{applied_all-append}
 use Rattle.tier_engine.specs.declared.tier.Group.{Group}
-use Rattle.tier_engine.specs.Commits.{pending, applied_sealed}
+use Rattle.abstract_tier.specs.Commits.{pending, applied_sealed}
 use Rattle.tier_engine.specs.Standing.{is_stored, ops_of}
-use Rattle.tier_engine.proofs.CommitLaws.{by_option}
+use Rattle.abstract_tier.proofs.CommitLaws.{by_option}
 use Rattle.tier_engine.proofs.OpLaws.{inserts_schema}
 use Rattle.tier_engine.proofs.StandingLaws.{are_inserts, and_left, and_right, and_true}
 

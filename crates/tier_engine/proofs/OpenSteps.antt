@@ -7,15 +7,15 @@ use Rattle.sql_subset.specs.declared.stmt.Stmt.TheVariants as statement
 use Rattle.row_types.specs.declared.rule.Rule.{Rule}
 use Rattle.table_state.specs.declared.history.Entry.{Entry}
 use Rattle.table_state.specs.declared.history.Sealed.{Sealed}
-use Rattle.tier_engine.specs.declared.reply.Reply.{Reply}
-use Rattle.tier_engine.specs.declared.reply.Last.TheVariants.{Done, No}
+use Rattle.abstract_tier.specs.declared.reply.Reply.{Reply}
+use Rattle.abstract_tier.specs.declared.reply.Last.TheVariants.{Done, No}
 use Rattle.tier_engine.specs.declared.tier.Tier.{Tier}
 use Rattle.tier_engine.specs.declared.tier.Session.{Session}
-use Rattle.tier_engine.specs.TierStates.{TierState, SessionState, is_named, session_of}
+use Rattle.abstract_tier.specs.TierStates.{TierState, SessionState, is_named, session_of}
 use Rattle.group_defs.specs.Limits.{past}
-use Rattle.tier_engine.specs.Refusals.{open_fault, unknown_session}
-use Rattle.tier_engine.specs.Answers.{Answer, only, open_answer, close_answer, rollback_answer, unless}
-use Rattle.tier_engine.specs.Steps.{World, Quiet, Closes, DoesRequest}
+use Rattle.abstract_tier.specs.Refusals.{open_fault, unknown_session}
+use Rattle.abstract_tier.specs.Answers.{Answer, only, open_answer, close_answer, rollback_answer, unless}
+use Rattle.abstract_tier.specs.Steps.{World, Quiet, Closes, DoesRequest}
 use Rattle.tier_engine.specs.Standing.{HasOwnKeys, InOpen, StandsFor, Turns, own_in, session_in, session_state, tier_state, world_of}
 use Rattle.tier_engine.specs.Storing.{TakesBack, emptied}
 use Rattle.tier_engine.proofs.GroupedLaws.{apart_of}

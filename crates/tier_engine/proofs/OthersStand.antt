@@ -20,15 +20,15 @@ use Rattle.outside.specs.Others.{AreOthers, Around, are_on_shared, is_shared}
 use Rattle.autorefresh.specs.Sets.{AllShow}
 use Rattle.tier_engine.specs.declared.tier.Tier.{Tier}
 use Rattle.tier_engine.specs.declared.tier.Group.{Group}
-use Rattle.tier_engine.specs.Commits.{pending, applied_sealed, virtual_state, in_commit_order, own_entries, is_own, is_other}
-use Rattle.tier_engine.specs.Steps.{AreUnshared}
+use Rattle.abstract_tier.specs.Commits.{pending, applied_sealed, virtual_state, in_commit_order, own_entries, is_own, is_other}
+use Rattle.abstract_tier.specs.Steps.{AreUnshared}
 use Rattle.tier_engine.specs.Standing.{AreDefined, IsApart, ShowAll, Shows, StandsFor, group_state, is_in_group, is_stored, ops_of, own_in, tier_state}
-use Rattle.tier_engine.proofs.CommitLaws.{applied_sealed-state_from, by_option, state_from-append}
+use Rattle.abstract_tier.proofs.CommitLaws.{applied_sealed-state_from, by_option, state_from-append}
 use Rattle.tier_engine.proofs.GroupedLaws.{defined_later}
 use Rattle.tier_engine.proofs.LogLaws.{all_pending, all_taken, applied_ops}
 use Rattle.tier_engine.proofs.OpLaws.{inserts_schema}
 use Rattle.tier_engine.proofs.OthersLaws.{AreAlone, LeaveGroups, Leads, leads, leads_back, leads_schema, leads_table, leave_rest, meets, stored_beside, swaps}
-use Rattle.tier_engine.proofs.OwnLaws.{same_pending}
+use Rattle.abstract_tier.proofs.OwnLaws.{same_pending}
 use Rattle.tier_engine.proofs.ReadLaws.{reads_later}
 use Rattle.tier_engine.proofs.StandingLaws.{are_inserts}
 

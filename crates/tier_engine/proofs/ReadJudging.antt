@@ -13,13 +13,13 @@ use Rattle.sql_subset.specs.declared.stmt.Literal.{Literal}
 use Rattle.autorefresh.specs.Sets as stored
 use Rattle.autorefresh.specs.declared.group.ReadOnlyGroup.{ReadOnlyGroup}
 use Rattle.tier_engine.specs.declared.tier.Tier.{Tier}
-use Rattle.tier_engine.specs.ReadOnlyAnswers.{refreshed_set, set_called, set_of, set_spelt, spelt_group, unfit_group, unknown_group, unloaded, wrong_arguments, wrong_state}
-use Rattle.tier_engine.specs.ReadOnlyStates.{ReadOnlyState, read_only_called}
+use Rattle.abstract_tier.specs.ReadOnlyAnswers.{refreshed_set, set_called, set_of, set_spelt, spelt_group, unfit_group, unknown_group, unloaded, wrong_arguments, wrong_state}
+use Rattle.abstract_tier.specs.ReadOnlyStates.{ReadOnlyState, read_only_called}
 use Rattle.tier_engine.specs.ReadOnlyStoring.{JudgesInterval, JudgesSet}
-use Rattle.tier_engine.specs.Refusals.{not_yet}
+use Rattle.abstract_tier.specs.Refusals.{not_yet}
 use Rattle.tier_engine.specs.Standing.{own_in, read_only_state, tier_state}
 use Rattle.tier_engine.specs.Storing.{has_group}
-use Rattle.tier_engine.specs.TierStates.{TierState}
+use Rattle.abstract_tier.specs.TierStates.{TierState}
 use Rattle.tier_engine.proofs.GroupSteps.{same_names}
 use Rattle.tier_engine.proofs.ReadLaws.{found_called}
 

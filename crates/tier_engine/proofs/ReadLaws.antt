@@ -19,10 +19,10 @@ use Rattle.autorefresh.specs.Refreshes.{Choice, is_at, is_refreshed, showing, sh
 use Rattle.autorefresh.specs.Sets.{AllShow, OnePosition, ShowsView, is_in_set as is_set, is_named as is_its_name, is_of_table, is_shown_in_set as is_set_shown}
 use Rattle.autorefresh.specs.Sets as stored
 use Rattle.autorefresh.proofs.KeepingLaws.{shows_later}
-use Rattle.tier_engine.specs.ReadOnlyStates.{ReadOnlyState, Which, alone, covers, is_called, is_in_set, is_over, is_shown_in_set, of_set, read_only_called, read_only_over, root_view, shown_at, shown_from, shown_rows, shows_something, view_rows}
+use Rattle.abstract_tier.specs.ReadOnlyStates.{ReadOnlyState, Which, alone, covers, is_called, is_in_set, is_over, is_shown_in_set, of_set, read_only_called, read_only_over, root_view, shown_at, shown_from, shown_rows, shows_something, view_rows}
 use Rattle.tier_engine.specs.ReadOnlyStoring.{root_of}
 use Rattle.tier_engine.specs.Standing.{read_only_state}
-use Rattle.tier_engine.proofs.CommitLaws.{state_from-append}
+use Rattle.abstract_tier.proofs.CommitLaws.{state_from-append}
 
 -- What they show stays where they stay, and as the history grows.
 pub reads_as : (h : List Entry) (old new : List ReadOnlyGroup) → new ≡ old → AllShow h old → AllShow h new

@@ -23,17 +23,17 @@ use Rattle.outside.specs.Faults.{Rose}
 use Rattle.outside.specs.Holding.{Held}
 use Rattle.outside.specs.declared.fault.BankError.{BankError}
 use Rattle.outside.specs.declared.fault.BankError.TheVariants.{Failed, Memory}
-use Rattle.tier_engine.specs.declared.reply.Reply.{Reply}
-use Rattle.tier_engine.specs.declared.reply.Last.TheVariants.{Done, No}
+use Rattle.abstract_tier.specs.declared.reply.Reply.{Reply}
+use Rattle.abstract_tier.specs.declared.reply.Last.TheVariants.{Done, No}
 use Rattle.tier_engine.specs.declared.tier.Session.{Session}
 use Rattle.tier_engine.specs.declared.tier.Tier.{Tier}
-use Rattle.tier_engine.specs.Answers.{faulty, only}
-use Rattle.tier_engine.specs.ReadOnlyAnswers.{instances_at, load_fault, refreshed_set, unloaded}
-use Rattle.tier_engine.specs.ReadOnlyStates.{ReadOnlyState, Which, is_in_set, loaded_with, of_set}
+use Rattle.abstract_tier.specs.Answers.{faulty, only}
+use Rattle.abstract_tier.specs.ReadOnlyAnswers.{instances_at, load_fault, refreshed_set, unloaded}
+use Rattle.abstract_tier.specs.ReadOnlyStates.{ReadOnlyState, Which, is_in_set, loaded_with, of_set}
 use Rattle.tier_engine.specs.ReadOnlyStoring.{LoadsStored, Reads, load_after, load_tables, load_told, root_shown}
 use Rattle.tier_engine.specs.Standing.{InOpen, Mark, ServesPart, StandsFor, own_in, read_only_state, session_state, tier_state, world_of}
-use Rattle.tier_engine.specs.Steps.{World, Autorefreshes, InSession, Loads, LoadsAt, LoadsGroup, LoadsUnless, Quiet, RefreshesSet, TellsBankFault, WantsMemory, bank_fault, refresh_reply, refreshed_by}
-use Rattle.tier_engine.specs.TierStates.{TierState}
+use Rattle.abstract_tier.specs.Steps.{World, Autorefreshes, InSession, Loads, LoadsAt, LoadsGroup, LoadsUnless, Quiet, RefreshesSet, TellsBankFault, WantsMemory, bank_fault, refresh_reply, refreshed_by}
+use Rattle.abstract_tier.specs.TierStates.{TierState}
 use Rattle.tier_engine.proofs.ReadLaws.{called, got, place_within, set_counts, set_shows}
 use Rattle.tier_engine.proofs.ReadSteps.{Ends, instances_told, joins_none, keeps_load, keeps_set, loads_own, reads_made}
 use Rattle.tier_engine.proofs.SelectSteps.{is_open, opened_step}

@@ -8,7 +8,7 @@ use Rattle.table_state.specs.declared.history.Sealed.{Sealed}
 use Rattle.autorefresh.specs.declared.group.ReadOnlyGroup.{ReadOnlyGroup}
 use Rattle.autorefresh.specs.declared.group.Shown.{Shown}
 use Rattle.tier_engine.specs.declared.tier.Tier.{Tier}
-use Rattle.tier_engine.specs.ReadOnlyStates.{ReadOnlyState, ShowCommitted, is_in_set}
+use Rattle.abstract_tier.specs.ReadOnlyStates.{ReadOnlyState, ShowCommitted, is_in_set}
 use Rattle.tier_engine.specs.Standing.{StandsFor, read_only_state, tier_state}
 use Rattle.tier_engine.proofs.ReadLaws.{got}
 

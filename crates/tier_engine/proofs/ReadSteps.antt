@@ -26,14 +26,14 @@ use Rattle.outside.specs.declared.site.Snapshot.{Snapshot}
 use Rattle.tier_engine.specs.declared.tier.Group.{Group}
 use Rattle.tier_engine.specs.declared.tier.Session.{Session}
 use Rattle.tier_engine.specs.declared.tier.Tier.{Tier}
-use Rattle.tier_engine.specs.Commits.{RiseBetween}
-use Rattle.tier_engine.specs.ReadOnlyStates.{ReadOnlyState, Which, alone, is_shown_in_set, loaded_with, of_set, shown_at, shown_from, shown_rows}
+use Rattle.abstract_tier.specs.Commits.{RiseBetween}
+use Rattle.abstract_tier.specs.ReadOnlyStates.{ReadOnlyState, Which, alone, is_shown_in_set, loaded_with, of_set, shown_at, shown_from, shown_rows}
 use Rattle.tier_engine.specs.ReadOnlyStoring.{Reads, StaysAround, TierRead, after_with, load_after, load_tables, root_shown, tables_with}
 use Rattle.tier_engine.specs.Standing.{AreDefined, AreDistinct, HasOwnKeys, IsApart, Mark, ShowAll, StandsFor, group_state, is_stored, ops_of, own_in, read_only_state, session_in, tier_state, world_of}
-use Rattle.tier_engine.specs.Steps.{Refreshes}
+use Rattle.abstract_tier.specs.Steps.{Refreshes}
 use Rattle.tier_engine.specs.Storing.{IsSame}
 use Rattle.tier_engine.proofs.BankSteps.{WasTold, leaves_state, was_told}
-use Rattle.tier_engine.proofs.CommitLaws.{nat_eq_same, or_true}
+use Rattle.abstract_tier.proofs.CommitLaws.{nat_eq_same, or_true}
 use Rattle.tier_engine.proofs.GroupedLaws.{covers_same, defined_as, distinct_as}
 use Rattle.tier_engine.proofs.OthersStand.{apart_as, stands_others}
 use Rattle.tier_engine.proofs.ReadLaws.{got, refreshed_at, rows_shown, same_alone, same_set, states_from}

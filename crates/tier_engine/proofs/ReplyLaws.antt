@@ -12,13 +12,13 @@ use Rattle.table_defs.specs.declared.definition.TableDef.{TableDef}
 use Rattle.table_state.specs.declared.operation.Op.{Op}
 use Rattle.table_defs.specs.Names.{place_of_table}
 use Rattle.indexed_rows.specs.Rows.{Table}
-use Rattle.tier_engine.specs.declared.reply.Reply.{Reply}
-use Rattle.tier_engine.specs.declared.reply.Last.TheVariants.{Done}
-use Rattle.tier_engine.specs.TierStates.{TierState, SessionState, GroupState, group_of_table, session_of, seen_rows}
-use Rattle.tier_engine.specs.ReadOnlyStates.{ReadOnlyState, read_only_over, shown_rows}
-use Rattle.tier_engine.specs.Refusals.{unknown_session, unknown_table, open_fault, group_fault, select_fault, commit_fault}
-use Rattle.tier_engine.specs.Answers.{Answer, only, refuses, unless, open_answer, close_answer, rollback_answer, group_answer, group_known, group_cached, group_in, group_over, group_shown, select_answer, commit_answer, commit_of}
-use Rattle.tier_engine.specs.Steps.{World, Quiet, DoesRequest, Closes, Selects, SelectsRead, TellsBankFault, WantsMemory}
+use Rattle.abstract_tier.specs.declared.reply.Reply.{Reply}
+use Rattle.abstract_tier.specs.declared.reply.Last.TheVariants.{Done}
+use Rattle.abstract_tier.specs.TierStates.{TierState, SessionState, GroupState, group_of_table, session_of, seen_rows}
+use Rattle.abstract_tier.specs.ReadOnlyStates.{ReadOnlyState, read_only_over, shown_rows}
+use Rattle.abstract_tier.specs.Refusals.{unknown_session, unknown_table, open_fault, group_fault, select_fault, commit_fault}
+use Rattle.abstract_tier.specs.Answers.{Answer, only, refuses, unless, open_answer, close_answer, rollback_answer, group_answer, group_known, group_cached, group_in, group_over, group_shown, select_answer, commit_answer, commit_of}
+use Rattle.abstract_tier.specs.Steps.{World, Quiet, DoesRequest, Closes, Selects, SelectsRead, TellsBankFault, WantsMemory}
 use Rattle.tier_engine.specs.Standing.{InOpen}
 use Rattle.tier_engine.proofs.ServingLaws.{no_refusal, no_memory}
 

@@ -12,17 +12,17 @@ use Rattle.sql_subset.specs.declared.stmt.Stmt.TheVariants as statement
 use Rattle.row_types.specs.declared.rule.Rule.{Rule}
 use Rattle.autorefresh.specs.Sets.{is_of_table}
 use Rattle.autorefresh.specs.declared.group.ReadOnlyGroup.{ReadOnlyGroup}
-use Rattle.tier_engine.specs.declared.reply.Reply.{Reply}
-use Rattle.tier_engine.specs.declared.reply.Last.TheVariants.{No}
+use Rattle.abstract_tier.specs.declared.reply.Reply.{Reply}
+use Rattle.abstract_tier.specs.declared.reply.Last.TheVariants.{No}
 use Rattle.tier_engine.specs.declared.tier.Tier.{Tier}
 use Rattle.tier_engine.specs.declared.tier.Group.{Group}
 use Rattle.tier_engine.specs.declared.tier.Session.{Session}
-use Rattle.tier_engine.specs.TierStates.{TierState, GroupState, seen_rows}
-use Rattle.tier_engine.specs.ReadOnlyStates.{ReadOnlyState, read_only_over, shown_rows}
+use Rattle.abstract_tier.specs.TierStates.{TierState, GroupState, seen_rows}
+use Rattle.abstract_tier.specs.ReadOnlyStates.{ReadOnlyState, read_only_over, shown_rows}
 use Rattle.tier_engine.specs.ReadOnlyStoring.{SelectsShown, root_of}
-use Rattle.tier_engine.specs.Refusals.{unknown_table}
-use Rattle.tier_engine.specs.Answers.{Answer, only, select_answer, refuses}
-use Rattle.tier_engine.specs.Steps.{World, Quiet, InSession, Selects, SelectsRead, WantsMemory}
+use Rattle.abstract_tier.specs.Refusals.{unknown_table}
+use Rattle.abstract_tier.specs.Answers.{Answer, only, select_answer, refuses}
+use Rattle.abstract_tier.specs.Steps.{World, Quiet, InSession, Selects, SelectsRead, WantsMemory}
 use Rattle.tier_engine.specs.Storing.{place_named}
 use Rattle.tier_engine.specs.Standing.{Mark, StandsFor, InOpen, Turns, group_state, own_in, read_only_state, session_state, session_in, tier_state, world_of}
 use Rattle.tier_engine.proofs.BankSteps.{leaves_state}

@@ -13,20 +13,20 @@ use Rattle.outside.specs.declared.fault.BankError.{BankError}
 use Rattle.sql_subset.specs.declared.request.Line.{Line}
 use Rattle.sql_subset.specs.declared.stmt.Stmt.{Stmt}
 use Rattle.sql_subset.specs.Lines.{Says, Means}
-use Rattle.tier_engine.specs.declared.reply.Reply.{Reply}
+use Rattle.abstract_tier.specs.declared.reply.Reply.{Reply}
 use Rattle.tier_engine.specs.declared.tier.Tier.{Tier}
 use Rattle.tier_engine.specs.declared.tier.Group.{Group}
 use Rattle.tier_engine.specs.declared.tier.Session.{Session}
-use Rattle.tier_engine.specs.TierStates.{GroupState, TierState, SessionState, session_of, group_of_table, is_named}
+use Rattle.abstract_tier.specs.TierStates.{GroupState, TierState, SessionState, session_of, group_of_table, is_named}
 use Rattle.row_types.specs.declared.rule.Rule.{Rule}
 use Rattle.table_state.specs.declared.operation.Op.{Op}
-use Rattle.tier_engine.specs.declared.reply.Last.TheVariants.{No}
-use Rattle.tier_engine.specs.ReadOnlyAnswers.{refreshed_set}
-use Rattle.tier_engine.specs.Refusals.{too_long, unknown_session}
-use Rattle.tier_engine.specs.Answers.{only, faulty, refuses}
+use Rattle.abstract_tier.specs.declared.reply.Last.TheVariants.{No}
+use Rattle.abstract_tier.specs.ReadOnlyAnswers.{refreshed_set}
+use Rattle.abstract_tier.specs.Refusals.{too_long, unknown_session}
+use Rattle.abstract_tier.specs.Answers.{only, faulty, refuses}
 use Rattle.sql_subset.specs.declared.stmt.Call.{Call}
 use Rattle.sql_subset.specs.declared.stmt.Stmt.TheVariants as statement
-use Rattle.tier_engine.specs.Steps.{World, AreUnshared, IsUnshared, told, Quiet, Autorefreshes, Calls, call_fault, is_autorefresh, is_long, Drains, Heeds, Asked, Does, ForSession, Parts, TellsBankFault, WantsMemory, asks, stopped}
+use Rattle.abstract_tier.specs.Steps.{World, AreUnshared, IsUnshared, told, Quiet, Autorefreshes, Calls, call_fault, is_autorefresh, is_long, Drains, Heeds, Asked, Does, ForSession, Parts, TellsBankFault, WantsMemory, asks, stopped}
 use Rattle.tier_engine.specs.Storing.{place_named}
 use Rattle.tier_engine.specs.Standing.{IsApart, Mark, StandsFor, InOpen, Made, Turns, Serves, ServesPart, AskServes, AsksWhere, tier_state, group_state, session_in, world_of}
 

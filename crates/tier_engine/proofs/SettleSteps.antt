@@ -18,16 +18,16 @@ use Rattle.outside.specs.Bank.{TellsRow}
 use Rattle.outside.specs.Holding.{Held}
 use Rattle.outside.specs.declared.fault.BankError.{BankError}
 use Rattle.tier_engine.specs.declared.insert.Asked.{Asked}
-use Rattle.tier_engine.specs.declared.reply.Reply.{Reply}
-use Rattle.tier_engine.specs.declared.reply.Last.TheVariants.{No}
+use Rattle.abstract_tier.specs.declared.reply.Reply.{Reply}
+use Rattle.abstract_tier.specs.declared.reply.Last.TheVariants.{No}
 use Rattle.tier_engine.specs.declared.tier.Tier.{Tier}
 use Rattle.tier_engine.specs.declared.tier.Group.{Group}
 use Rattle.tier_engine.specs.declared.tier.OwnKey.{OwnKey}
 use Rattle.tier_engine.specs.declared.tier.Session.{Session}
-use Rattle.tier_engine.specs.TierStates.{GroupState, SessionState, TierState, seen}
-use Rattle.tier_engine.specs.Refusals.{key_taken, rule_in}
-use Rattle.tier_engine.specs.Answers.{Answer, only, inserted, refuses}
-use Rattle.tier_engine.specs.Steps.{Finds, found_answer, put_answer}
+use Rattle.abstract_tier.specs.TierStates.{GroupState, SessionState, TierState, seen}
+use Rattle.abstract_tier.specs.Refusals.{key_taken, rule_in}
+use Rattle.abstract_tier.specs.Answers.{Answer, only, inserted, refuses}
+use Rattle.abstract_tier.specs.Steps.{Finds, found_answer, put_answer}
 use Rattle.tier_engine.specs.Storing.{IsSame, Settles, SettlesTier, TakesOne, TakesOneBack, TakenOff, without}
 use Rattle.tier_engine.specs.Standing.{IsApart, Mark, StandsFor, Made, Shows, group_state, ops_of, own_in, session_state, tier_state}
 use Rattle.tier_engine.proofs.BankSteps.{LeavesState, leaves_state, was_told}

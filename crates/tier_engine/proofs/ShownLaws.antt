@@ -14,7 +14,7 @@ use Rattle.table_state.specs.declared.operation.Op.TheVariants.{Insert, Update, 
 use Rattle.indexed_rows.specs.Rows.{Table, key_of, is_same}
 use Rattle.table_state.specs.Tables.{TableState, table_at}
 use Rattle.tier_engine.specs.declared.tier.Group.{Group}
-use Rattle.tier_engine.specs.TierStates.{GroupState, keys_after, seen_rows}
+use Rattle.abstract_tier.specs.TierStates.{GroupState, keys_after, seen_rows}
 use Rattle.tier_engine.specs.Standing.{AreIn, IsWithin, committed_rows, group_state, inserts_at, is_insert, key_set, rows_before}
 
 -- a key is in the set exactly where the table has it

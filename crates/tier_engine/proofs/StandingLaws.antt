@@ -10,14 +10,14 @@ use Rattle.table_state.specs.declared.history.Entry.{Entry}
 use Rattle.table_state.specs.declared.history.Sealed.{Sealed}
 use Rattle.table_state.specs.Tables.{TableState}
 use Rattle.table_state.specs.Operations.{applied_all}
-use Rattle.tier_engine.specs.declared.reply.Reply.{Reply}
+use Rattle.abstract_tier.specs.declared.reply.Reply.{Reply}
 use Rattle.tier_engine.specs.declared.tier.Tier.{Tier}
 use Rattle.tier_engine.specs.declared.tier.Group.{Group}
 use Rattle.tier_engine.specs.declared.tier.Session.{Session}
-use Rattle.tier_engine.specs.Commits.{RiseBetween}
-use Rattle.tier_engine.specs.TierStates.{TierState, seen, is_named, group_of_table}
-use Rattle.tier_engine.specs.Answers.{faulty}
-use Rattle.tier_engine.specs.Steps.{World, WantsMemory}
+use Rattle.abstract_tier.specs.Commits.{RiseBetween}
+use Rattle.abstract_tier.specs.TierStates.{TierState, seen, is_named, group_of_table}
+use Rattle.abstract_tier.specs.Answers.{faulty}
+use Rattle.abstract_tier.specs.Steps.{World, WantsMemory}
 use Rattle.tier_engine.specs.Storing.{IsSame, place_named}
 use Rattle.tier_engine.specs.Standing.{Mark, StandsFor, HasOwnKeys, Shows, ShowAll, Turns, group_state, is_insert, is_stored, is_in_group, ops_of, own_in, read_only_state, session_in, tier_state}
 use Rattle.tier_engine.proofs.GroupedLaws.{cover, defined_as, distinct_as}

@@ -9,7 +9,7 @@ use Rattle.sql_query.specs.declared.write.Write.{Write}
 use Rattle.resolution.specs.Writes.{change_seen, resolved_writes}
 use Rattle.tier_engine.specs.declared.tier.Group.{Group}
 use Rattle.tier_engine.specs.declared.tier.Tier.{Tier}
-use Rattle.tier_engine.specs.ConsoleWrites.{writes_fault}
+use Rattle.abstract_tier.specs.ConsoleWrites.{writes_fault}
 use Rattle.tier_engine.specs.Storing.{place_named}
 
 -- the table of this name is a stored group's

@@ -1,17 +1,4 @@
-pub mod Answers
-pub mod Commits
 pub mod ConsoleStoring
-pub mod ConsoleWrites
-pub mod ReadOnlyAnswers
-pub mod ReadOnlyStates
 pub mod ReadOnlyStoring
-pub mod RefreshSteps
-pub mod Refusals
-pub mod Replying
-pub mod RoundStates
-pub mod Rounds
 pub mod Standing
-pub mod Steps
 pub mod Storing
-pub mod TierStates
-pub mod Worlds

@@ -26,16 +26,16 @@ use Rattle.outside.specs.declared.fault.BankError.{BankError}
 use Rattle.outside.specs.declared.fault.BankError.TheVariants.{Failed, Memory}
 use Rattle.outside.specs.declared.site.Snapshot.{Snapshot}
 use Rattle.tier_engine.specs.declared.tier.Tier.{Tier}
-use Rattle.tier_engine.specs.declared.reply.Reply.{Reply}
-use Rattle.tier_engine.specs.declared.reply.Last.TheVariants.{Done, No}
-use Rattle.tier_engine.specs.Answers.{faulty, only, select_answer}
-use Rattle.tier_engine.specs.ReadOnlyAnswers.{refreshed_set, set_of, write_fault}
-use Rattle.tier_engine.specs.ReadOnlyStates.{ReadOnlyState}
-use Rattle.tier_engine.specs.Refusals.{unknown_table}
-use Rattle.tier_engine.specs.Steps.{bank_fault}
+use Rattle.abstract_tier.specs.declared.reply.Reply.{Reply}
+use Rattle.abstract_tier.specs.declared.reply.Last.TheVariants.{Done, No}
+use Rattle.abstract_tier.specs.Answers.{faulty, only, select_answer}
+use Rattle.abstract_tier.specs.ReadOnlyAnswers.{refreshed_set, set_of, write_fault}
+use Rattle.abstract_tier.specs.ReadOnlyStates.{ReadOnlyState}
+use Rattle.abstract_tier.specs.Refusals.{unknown_table}
+use Rattle.abstract_tier.specs.Steps.{bank_fault}
 use Rattle.tier_engine.specs.Standing.{Mark}
 use Rattle.tier_engine.specs.Storing.{IsSame}
-use Rattle.tier_engine.specs.TierStates.{TierState}
+use Rattle.abstract_tier.specs.TierStates.{TierState}
 
 -- the rows of its root table that a group shows
 abbrev pub root_of : Option Shown → Table

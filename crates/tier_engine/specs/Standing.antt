@@ -26,18 +26,18 @@ use Rattle.tier_engine.specs.declared.tier.Tier.{Tier}
 use Rattle.tier_engine.specs.declared.tier.Group.{Group}
 use Rattle.tier_engine.specs.declared.tier.OwnKey.{OwnKey}
 use Rattle.tier_engine.specs.declared.tier.Session.{Session}
-use Rattle.tier_engine.specs.declared.reply.Reply.{Reply}
-use Rattle.tier_engine.specs.Commits.{RiseBetween, virtual_state, in_commit_order, own_entries}
+use Rattle.abstract_tier.specs.declared.reply.Reply.{Reply}
+use Rattle.abstract_tier.specs.Commits.{RiseBetween, virtual_state, in_commit_order, own_entries}
 use Rattle.autorefresh.specs.declared.group.ReadOnlyGroup.{ReadOnlyGroup}
 use Rattle.autorefresh.specs.declared.group.Shown.{Shown}
 use Rattle.autorefresh.specs.Refreshes.{tree_tables}
 use Rattle.autorefresh.specs.Sets.{AllShow, OnePosition}
 use Rattle.instances.specs.Trees.{same_table}
-use Rattle.tier_engine.specs.ReadOnlyStates.{ReadOnlyState}
-use Rattle.tier_engine.specs.TierStates.{TierState, GroupState, SessionState, opened}
+use Rattle.abstract_tier.specs.ReadOnlyStates.{ReadOnlyState}
+use Rattle.abstract_tier.specs.TierStates.{TierState, GroupState, SessionState, opened}
 use Rattle.group_defs.specs.GroupRules.{is_joined}
 use Rattle.sql_subset.specs.declared.stmt.Stmt.{Stmt}
-use Rattle.tier_engine.specs.Steps.{World, AreUnshared, LineStep, Asked, InSession, IsCaused, stopped}
+use Rattle.abstract_tier.specs.Steps.{World, AreUnshared, LineStep, Asked, InSession, IsCaused, stopped}
 
 -- the keys of a table's rows
 abbrev pub key_set : Table → FinSet key_order

@@ -27,8 +27,8 @@ use Rattle.table_defs.specs.Names.{place_of_table}
 use Rattle.indexed_rows.specs.Rows.{key_of}
 use Rattle.autorefresh.specs.declared.group.ReadOnlyGroup.{ReadOnlyGroup}
 use Rattle.autorefresh.specs.Sets.{covers, is_named as is_called, is_of_table}
-use Rattle.tier_engine.specs.declared.reply.Reply.{Reply}
-use Rattle.tier_engine.specs.declared.reply.Last.TheVariants.{Done, No}
+use Rattle.abstract_tier.specs.declared.reply.Reply.{Reply}
+use Rattle.abstract_tier.specs.declared.reply.Last.TheVariants.{Done, No}
 use Rattle.tier_engine.specs.declared.tier.Group.{Group}
 use Rattle.tier_engine.specs.declared.tier.OwnKey.{OwnKey}
 use Rattle.tier_engine.specs.declared.tier.Session.{Session}
@@ -39,10 +39,10 @@ use Rattle.row_types.specs.declared.rule.Refused.TheVariants as refused
 use Rattle.group_defs.specs.declared.group.Beside.{Beside}
 use Rattle.group_defs.specs.GroupRules.{definition_fault}
 use Rattle.group_defs.specs.Limits.{at_limit, past}
-use Rattle.tier_engine.specs.Refusals.{key_taken}
-use Rattle.tier_engine.specs.TierStates.{is_named}
-use Rattle.tier_engine.specs.Answers.{only, faulty, only_table, refresh_of}
-use Rattle.tier_engine.specs.Steps.{bank_fault, cached_fault, define_reply}
+use Rattle.abstract_tier.specs.Refusals.{key_taken}
+use Rattle.abstract_tier.specs.TierStates.{is_named}
+use Rattle.abstract_tier.specs.Answers.{only, faulty, only_table, refresh_of}
+use Rattle.abstract_tier.specs.Steps.{bank_fault, cached_fault, define_reply}
 use Rattle.tier_engine.specs.Standing.{Mark, own_in, bare, AreApart, HasOwnKeys}
 
 -- the place of the group that has the table of this name

@@ -7,15 +7,15 @@ ghost use Rattle.outside.specs.declared.fault.BankError.{BankError as OneBankErr
 ghost use Rattle.table_defs.specs.declared.definition.TableDef.{TableDef as OneDef};
 ghost use Rattle.table_state.specs.declared.history.Sealed.{Sealed as OneSealed};
 ghost use Rattle.row_types.specs.declared.rule.Detail.TheVariants as detail;
-ghost use Rattle.table_defs.specs.Declarations.{IsRefusedBy, Tells, broken, resolved};
+ghost use Rattle.table_defs.specs.Declarations.{IsRefusedBy, Tells, resolved};
 ghost use Rattle.sql_subset.specs.declared.request.ConsoleRequest.TheVariants as console;
 ghost use Rattle.tier_engine.specs.Standing.{AskServes, IsApart, Made, StandsFor, mark_of};
-ghost use Rattle.tier_engine.specs.Steps.{Asked, DoesConsole, TellsBankFault, WantsMemory, bank_fault, cached_fault, stopped};
+ghost use Rattle.abstract_tier.specs.Steps.{Asked, DoesConsole, TellsBankFault, WantsMemory, bank_fault, cached_fault, stopped};
 ghost use Rattle.tier_engine.specs.Storing.{JudgesTable, Makes, judged_parent, judged_table};
 
-use crate::reply::Reply;
 use crate::taken::has_table;
 use crate::tier::{Group, Tier};
+use abstract_tier::{Reply, bank_fault, named};
 use group_defs::past;
 use outside::{BankError, Site};
 use row_types::{Detail, Refused, Rule, TableDeclaration};
@@ -155,19 +155,6 @@ fn taken_name(alloc: Global, declaration: &TableDeclaration) -> Refused
     }
 }
 
-/// A rule that this name breaks.
-pub(crate) fn named(alloc: Global, code: Code, name: &Name) -> Refused
-    ensures { IsRefusedBy (broken code (detail.Name name.now)) result }
-{
-    match name.copied(alloc) {
-        Ok(name) => Refused::Rule(Rule {
-            code,
-            detail: Detail::Name(name),
-        }),
-        Err(_) => Refused::Memory,
-    }
-}
-
 /// 121: the foreign key refers to a table of a group.
 fn writethrough_parent(
     alloc: Global,
@@ -186,15 +173,5 @@ fn writethrough_parent(
             }))
         }
         _ => Ok(None),
-    }
-}
-
-/// The reply of a failed call of the bank, or of its want of memory.
-pub fn bank_fault(alloc: Global, error: BankError) -> Reply
-    ensures { result ≡ bank_fault error }
-{
-    match error {
-        BankError::Failed => Reply::faulty(alloc, Code::BackingFault),
-        BankError::Memory => Reply::faulty(alloc, Code::Memory),
     }
 }

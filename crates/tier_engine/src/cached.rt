@@ -1,30 +1,28 @@
 //! Statements on cached tables.
 
-ghost use Rattle.std.specs.Prelude.{◌≡◌, ◌<◌, ◌≤◌, ◌⊎◌, List, IfErr, IfOk, IfSome, IsSome, Some, length, position, slice_get};
+ghost use Rattle.std.specs.Prelude.{◌≡◌, ◌<◌, ◌≤◌, ◌⊎◌, List, IfOk, IfSome, IsSome, Some, length, position, slice_get};
 ghost use Rattle.table_state.specs.declared.history.Entry.{Entry};
 ghost use Rattle.table_state.specs.declared.history.Sealed.{Sealed as OneSealed};
 ghost use Rattle.table_defs.specs.Declarations.{Tells};
 ghost use Rattle.sql_subset.specs.declared.stmt.Stmt.TheVariants as statement;
 ghost use Rattle.group_defs.specs.LiteralValues.{values_of};
-ghost use Rattle.tier_engine.specs.Refusals.{insert_fault, unknown_table};
+ghost use Rattle.abstract_tier.specs.Refusals.{insert_fault, unknown_table};
 ghost use Rattle.std.specs.Option.{option_and_then};
 ghost use Rattle.autorefresh.specs.Sets.{is_of_table};
-ghost use Rattle.tier_engine.specs.Answers.{select_answer};
+ghost use Rattle.abstract_tier.specs.Answers.{select_answer};
 ghost use Rattle.tier_engine.specs.ReadOnlyStoring.{SelectsShown, root_shown};
-ghost use Rattle.tier_engine.specs.TierStates.{TierState};
+ghost use Rattle.abstract_tier.specs.TierStates.{TierState};
 ghost use Rattle.tier_engine.specs.Standing.{InOpen, ServesPart, StandsFor, Turns, mark_of, own_in};
-ghost use Rattle.tier_engine.specs.Steps.{WantsMemory};
+ghost use Rattle.abstract_tier.specs.Steps.{WantsMemory};
 ghost use Rattle.tier_engine.specs.Storing.{Puts, Settles, place_named};
 ghost use Rattle.tier_engine.specs.declared.tier.Group.{Group as OneGroup};
 
-use crate::bank::bank_fault;
 use crate::insert::{Asked, judge_insert, put};
-use crate::reply::Reply;
-use crate::select::select_rows;
 use crate::tier::{Group, Tier};
+use abstract_tier::{Reply, bank_fault, select_rows, unknown_table};
 use key_rows::Rows;
 use outside::Site;
-use row_types::{Detail, Refused, Row, Rule};
+use row_types::{Refused, Row, Rule};
 use sql_subset::stmt::{Insert, Literal, Select};
 use std::alloc::{AllocError, Global};
 use table_state::laws::refusal_law;
@@ -151,16 +149,6 @@ impl Tier {
                 Some(root) => select_rows(alloc, root),
             },
         }
-    }
-}
-
-/// 102: the table isn't there.
-pub fn unknown_table(name: Name) -> Rule
-    ensures { result ≡ unknown_table name }
-{
-    Rule {
-        code: Code::UnknownTable,
-        detail: Detail::Name(name),
     }
 }
 

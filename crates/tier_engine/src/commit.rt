@@ -5,12 +5,12 @@ ghost use Rattle.table_state.specs.declared.history.Entry.{Entry};
 ghost use Rattle.table_state.specs.declared.history.Sealed.{Sealed as OneSealed};
 ghost use Rattle.sql_subset.specs.declared.stmt.Stmt.TheVariants as statement;
 ghost use Rattle.tier_engine.specs.Standing.{InOpen, StandsFor, Turns, own_in};
-ghost use Rattle.tier_engine.specs.Steps.{WantsMemory};
+ghost use Rattle.abstract_tier.specs.Steps.{WantsMemory};
 ghost use Rattle.tier_engine.specs.Storing.{SealsOr};
 ghost use Rattle.tier_engine.specs.declared.tier.Session.{Session as OneSession};
 
-use crate::reply::Reply;
 use crate::tier::{Session, Tier};
+use abstract_tier::Reply;
 use group_defs::{at_limit, past};
 use std::alloc::Global;
 use table_state::Sealed;

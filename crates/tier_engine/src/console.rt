@@ -8,18 +8,17 @@ ghost use Rattle.table_state.specs.declared.history.Sealed.{Sealed as OneSealed}
 ghost use Rattle.sql_subset.specs.declared.request.ConsoleRequest.TheVariants as console;
 ghost use Rattle.console_writes.specs.ConsoleTrees.{tree_of, trees_of};
 ghost use Rattle.resolution.specs.Writes.{table_of};
-ghost use Rattle.tier_engine.specs.ConsoleWrites.{first_table};
+ghost use Rattle.abstract_tier.specs.ConsoleWrites.{first_table};
 ghost use Rattle.tier_engine.specs.Standing.{IsApart, Made, StandsFor, mark_of};
-ghost use Rattle.tier_engine.specs.Steps.{DoesConsole, TellsBankFault, WantsMemory, writes_reply};
+ghost use Rattle.abstract_tier.specs.Steps.{DoesConsole, TellsBankFault, WantsMemory, writes_reply};
 ghost use Rattle.tier_engine.specs.ConsoleStoring.{JudgesWrites, is_stored_name, tables_known};
 
-use crate::bank::{bank_fault, named};
 use crate::cached::place_of_group;
-use crate::reply::Reply;
 use crate::tier::{Group, Tier};
+use abstract_tier::{Reply, named, writes_reply};
 use console_writes::trees_of;
 use evaluator::Change;
-use outside::{BankError, Done, Site};
+use outside::Site;
 use resolution::resolve_writes;
 use row_types::Refused;
 use sql_query::Write;
@@ -151,15 +150,4 @@ fn group_tables(alloc: Global, groups: &[Group]) -> Result<BackingSchema, AllocE
         tables.push(def)?;
     }
     Ok(Seq::from_vec(tables))
-}
-
-/// How the end of the bank's call is answered.
-fn writes_reply(alloc: Global, end: Result<Done, BankError>) -> Reply
-    ensures { result ≡ writes_reply end }
-{
-    match end {
-        Ok(Done::Rows(rows)) => Reply::done(alloc, rows),
-        Ok(Done::Broken(rule)) => Reply::refuses(alloc, rule),
-        Err(error) => bank_fault(alloc, error),
-    }
 }

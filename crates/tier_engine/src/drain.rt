@@ -5,14 +5,12 @@ ghost use Rattle.outside.specs.Faults.{Rose};
 ghost use Rattle.outside.specs.Holding.{Held};
 ghost use Rattle.table_state.specs.declared.history.Sealed.{Sealed as OneSealed};
 ghost use Rattle.tier_engine.specs.Standing.{IsApart, Made, StandsFor, mark_of};
-ghost use Rattle.tier_engine.specs.Steps.{Drains, TellsBankFault, round_reply};
+ghost use Rattle.abstract_tier.specs.Steps.{Drains, TellsBankFault, round_reply};
 
-use crate::reply::Reply;
-use crate::rounds::{RoundFault, round};
 use crate::tier::Tier;
+use abstract_tier::{Reply, round, round_reply};
 use outside::Site;
 use std::alloc::Global;
-use tier_base::Code;
 
 impl Tier {
     /// CALL ttDrain: a round of propagation. Where nothing stops it, all committed transactions stand in the backing
@@ -25,17 +23,5 @@ impl Tier {
     {
         let end = round(site, &mut self.unsettled);
         round_reply(alloc, end)
-    }
-}
-
-/// What the end of a round is answered.
-fn round_reply(alloc: Global, end: Result<u64, RoundFault>) -> Reply
-    ensures { result ≡ round_reply end }
-{
-    match end {
-        Ok(receipts) => Reply::done(alloc, receipts),
-        Err(RoundFault::Failed) => Reply::faulty(alloc, Code::BackingFault),
-        Err(RoundFault::Memory) => Reply::faulty(alloc, Code::Memory),
-        Err(RoundFault::Differs) => Reply::faulty(alloc, Code::RowDiffers),
     }
 }

@@ -1,12 +1,10 @@
 //! INSERT of one row into a stored group.
 
-ghost use Rattle.std.specs.Prelude.{◌≡◌, ◌++◌, ◌∷◌, [], IfOk, IfErr, OnErr, OnOk, Option, Some, None, false, true, length, List};
+ghost use Rattle.std.specs.Prelude.{◌≡◌, ◌++◌, ◌∷◌, [], IfOk, OnErr, OnOk, Some, None, List};
 ghost use Rattle.std.specs.FinMap.{contains_key, insert, len};
-ghost use Rattle.table_defs.specs.Declarations.{IsRefusedBy, Tells};
-ghost use Rattle.indexed_rows.specs.Rows.{key_of};
-ghost use Rattle.table_state.specs.declared.operation.Op.TheVariants.{Insert as InsertOf};
+ghost use Rattle.table_defs.specs.Declarations.{Tells};
 ghost use Rattle.group_defs.specs.LiteralValues.{values_of};
-ghost use Rattle.tier_engine.specs.Refusals.{insert_fault, key_taken, row_fault};
+ghost use Rattle.abstract_tier.specs.Refusals.{insert_fault, key_taken, row_fault};
 ghost use Rattle.tier_engine.specs.Storing.{Put};
 ghost use Rattle.table_state.specs.declared.operation.Op.{Op as OneOp};
 ghost use Rattle.tier_engine.specs.declared.tier.OwnKey.{OwnKey as OneKey};

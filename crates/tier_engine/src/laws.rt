@@ -1,26 +1,19 @@
 //! Laws of the definitions, each on the contract of a function that does nothing.
 
-ghost use Rattle.std.specs.Prelude.{ℕ, ◌++◌, Bool, List, Option};
+ghost use Rattle.std.specs.Prelude.{◌++◌, Bool, List};
 ghost use Rattle.outside.specs.Others.{AreOthers};
 ghost use Rattle.tier_base.specs.declared.number.TableId.{TableId};
 ghost use Rattle.table_state.specs.declared.history.Entry.{Entry};
 ghost use Rattle.table_state.specs.declared.history.Sealed.{Sealed};
-ghost use Rattle.tier_engine.specs.declared.reply.Reply.{Reply};
 ghost use Rattle.tier_engine.specs.declared.tier.Tier.{Tier};
-ghost use Rattle.tier_engine.specs.Commits.{IsLegal};
-ghost use Rattle.tier_engine.specs.ReadOnlyStates.{ShowCommitted};
+ghost use Rattle.abstract_tier.specs.Commits.{IsLegal};
+ghost use Rattle.abstract_tier.specs.ReadOnlyStates.{ShowCommitted};
 ghost use Rattle.tier_engine.specs.Standing.{IsApart, StandsFor, tier_state};
-ghost use Rattle.tier_engine.specs.Steps.{AreCaused, Run, World};
 
 /// Whatever is called a conflict, a tier stands for committed transactions only over a history that has each of them at
 /// most once, with the operations of its commit, and conflicting ones in commit order.
 pub fn legal_law()
     ensures { (tier : Tier) (log : List Sealed) (history : List Entry) → StandsFor tier log history → (conflict : Sealed → Sealed → Bool) → IsLegal conflict history log }
-{}
-
-/// In a run each fault of the bank that is told has a failed call of its own.
-pub fn fault_law()
-    ensures { (w w' : World) (lines : List (List ℕ)) (replies : List (Option Reply)) → Run w lines replies w' → AreCaused w replies w' }
 {}
 
 /// A tier stands for the same committed transactions where others change tables of no writethrough group.

@@ -1,16 +1,15 @@
 //! One request line.
 
-ghost use Rattle.std.specs.Prelude.{◌≡◌, ◌≤◌, List, [], ℕ, Some};
+ghost use Rattle.std.specs.Prelude.{◌≡◌, ◌≤◌, List, [], Some};
 ghost use Rattle.outside.specs.Holding.{Held};
-ghost use Rattle.table_state.specs.declared.history.Entry.{Entry};
 ghost use Rattle.table_state.specs.declared.history.Sealed.{Sealed as OneSealed};
 ghost use Rattle.outside.specs.Calls.{Told};
 ghost use Rattle.outside.specs.Faults.{BankHasCause};
 ghost use Rattle.tier_engine.specs.Standing.{Begins, IsApart, Serves, StandsFor, mark_of};
 ghost use Rattle.sql_subset.specs.Lines.{is_silent};
 
-use crate::reply::Reply;
 use crate::tier::Tier;
+use abstract_tier::Reply;
 use autorefresh::ReadOnlyGroups;
 use group_defs::past;
 use outside::{BankError, Site};

@@ -1,22 +1,21 @@
 //! What a request line says is done.
 
 ghost use Rattle.std.specs.Prelude.{◌≡◌, ◌≤◌, ◌⊎◌, List, false};
-ghost use Rattle.table_state.specs.declared.history.Entry.{Entry};
 ghost use Rattle.table_state.specs.declared.history.Sealed.{Sealed as OneSealed};
 ghost use Rattle.sql_subset.specs.declared.request.ConsoleRequest.TheVariants as console;
 ghost use Rattle.sql_subset.specs.declared.request.Line.TheVariants as says;
 ghost use Rattle.sql_subset.specs.declared.request.Request.TheVariants as asks_for;
 ghost use Rattle.sql_subset.specs.Lines.{is_silent};
-ghost use Rattle.tier_engine.specs.Refusals.{wrong_at};
+ghost use Rattle.abstract_tier.specs.Refusals.{wrong_at};
 ghost use Rattle.tier_engine.specs.Standing.{ServesPart, mark_of, tier_state};
-ghost use Rattle.tier_engine.specs.Steps.{Heeds, Parts, console_asks, request_asks};
+ghost use Rattle.abstract_tier.specs.Steps.{Heeds, Parts, console_asks, request_asks};
 
 use crate::console::writes_uncached;
-use crate::reply::Reply;
 use crate::tier::Tier;
+use abstract_tier::{Reply, wrong_at};
 use group_defs::past;
 use outside::Site;
-use row_types::{Detail, Rule, TableDeclaration};
+use row_types::TableDeclaration;
 use sql_subset::line::parse_line;
 use sql_subset::request::{ConsoleRequest, Line, ParseError, Request};
 use sql_subset::stmt::{Stmt, Write};
@@ -160,15 +159,5 @@ impl Tier {
         ensures { (log : List OneSealed) → result ≡ console_asks (tier_state self.now log) (console.Writes writes.now) }
     {
         self.known.is_none() && writes_uncached(self.groups.as_slice(), writes)
-    }
-}
-
-/// 101: the line is wrong at this byte.
-fn wrong_at(place: usize) -> Rule
-    ensures { result ≡ wrong_at place }
-{
-    Rule {
-        code: Code::Syntax,
-        detail: Detail::Byte(place as u64),
     }
 }

@@ -6,14 +6,14 @@ ghost use Rattle.table_state.specs.declared.history.Entry.{Entry};
 ghost use Rattle.table_state.specs.declared.history.Sealed.{Sealed as OneSealed};
 ghost use Rattle.sql_subset.specs.declared.request.Request.TheVariants as asks_for;
 ghost use Rattle.sql_subset.specs.declared.stmt.Stmt.TheVariants as statement;
-ghost use Rattle.tier_engine.specs.Answers.{open_answer};
-ghost use Rattle.tier_engine.specs.Refusals.{open_fault, unknown_session};
+ghost use Rattle.abstract_tier.specs.Answers.{open_answer};
+ghost use Rattle.abstract_tier.specs.Refusals.{open_fault, unknown_session};
 ghost use Rattle.tier_engine.specs.Standing.{InOpen, StandsFor, Turns, session_in};
-ghost use Rattle.tier_engine.specs.Steps.{DoesRequest, Quiet};
+ghost use Rattle.abstract_tier.specs.Steps.{DoesRequest, Quiet};
 ghost use Rattle.tier_engine.specs.Storing.{TakesBack, TakesOneBack, TakenOff};
 
-use crate::reply::Reply;
 use crate::tier::{OwnKey, Session, Tier};
+use abstract_tier::{Reply, unknown_session};
 use row_types::{Detail, Rule};
 use sql_subset::request::OpenOptions;
 use std::alloc::Global;
@@ -115,15 +115,5 @@ fn judge_open(session: &Option<Session>, label: Label, options: OpenOptions) -> 
             code: Code::Limit,
             detail: Detail::Limit(Limit::Sessions),
         }),
-    }
-}
-
-/// 123: no session is open under this label.
-pub fn unknown_session(label: Label) -> Rule
-    ensures { result ≡ unknown_session label }
-{
-    Rule {
-        code: Code::UnknownSession,
-        detail: Detail::Label(label),
     }
 }

@@ -1,22 +1,19 @@
 //! Statements of a session.
 
-ghost use Rattle.std.specs.Prelude.{◌≡◌, ◌≤◌, ◌⊎◌, List, IfErr, IfOk, IsSome, OnOk, None, Some, is_some};
-ghost use Rattle.table_state.specs.declared.history.Entry.{Entry};
+ghost use Rattle.std.specs.Prelude.{◌≡◌, ◌≤◌, ◌⊎◌, List, IsSome, None, Some, is_some};
 ghost use Rattle.table_state.specs.declared.history.Sealed.{Sealed as OneSealed};
 ghost use Rattle.sql_subset.specs.declared.stmt.Stmt.TheVariants as statement;
 ghost use Rattle.tier_engine.specs.Standing.{InOpen, ServesPart, mark_of, tier_state};
-ghost use Rattle.tier_engine.specs.Steps.{ForSession, WantsMemory, call_fault, is_autorefresh, is_cached, is_writethrough, names_uncached};
-ghost use Rattle.tier_engine.specs.TierStates.{session_of};
+ghost use Rattle.abstract_tier.specs.Steps.{ForSession, WantsMemory, is_autorefresh, is_cached, is_writethrough, names_uncached};
+ghost use Rattle.abstract_tier.specs.TierStates.{session_of};
 
 use crate::cached::place_of_group;
-use crate::reply::Reply;
-use crate::session::unknown_session;
 use crate::tier::Tier;
+use abstract_tier::{Reply, is_autorefresh, judge_call, unknown_session};
 use outside::Site;
-use row_types::{Detail, Rule};
 use sql_subset::stmt::{Call, Stmt};
 use std::alloc::Global;
-use tier_base::{Code, Label, Name};
+use tier_base::{Label, Name};
 
 impl Tier {
     /// Executes a statement under this label. 123 where no session is open under it.
@@ -112,33 +109,4 @@ impl Tier {
             Stmt::Rollback => false,
         }
     }
-}
-
-fn is_autorefresh(procedure: &Name) -> bool
-    ensures { result ≡ is_autorefresh procedure.now }
-{
-    procedure.as_bytes() == b"TTCACHEAUTOREFRESH".as_slice()
-}
-
-/// What refuses the call of another procedure than ttCacheAutorefresh.
-fn judge_call(call: Call) -> Option<Rule>
-    ensures { result ≡ call_fault call.procedure call.arguments }
-{
-    let Call {
-        procedure,
-        arguments,
-    } = call;
-    if procedure.as_bytes() != b"TTDRAIN".as_slice() {
-        return Some(Rule {
-            code: Code::UnknownColumn,
-            detail: Detail::Name(procedure),
-        });
-    }
-    if arguments.is_empty() {
-        return None;
-    }
-    Some(Rule {
-        code: Code::TypeMismatch,
-        detail: Detail::Nothing,
-    })
 }

@@ -1,6 +1,6 @@
 use Rattle.std.proofs.Common.{◌∙◌, ap, subst, sym, Err}
 use Rattle.row_types.specs.declared.rule.Refused.{Refused}
-use Rattle.tier_engine.specs.ReadOnlyAnswers.{refreshed_set}
+use Rattle.abstract_tier.specs.ReadOnlyAnswers.{refreshed_set}
 use Rattle.tier_engine.specs.ReadOnlyStoring.{JudgesSet}
 use Rattle.tier_engine.specs.Standing.{tier_state}
 use Rattle.tier_engine.proofs.ReadServes.{set_goes, set_refused}

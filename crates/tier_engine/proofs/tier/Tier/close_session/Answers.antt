@@ -1,7 +1,7 @@
 use Rattle.std.proofs.Common.{ap, refl, sym, ◌∙◌}
 use Rattle.row_types.specs.declared.rule.Rule.{Rule}
-use Rattle.tier_engine.specs.Answers.{only}
-use Rattle.tier_engine.specs.declared.reply.Last.TheVariants.{No}
+use Rattle.abstract_tier.specs.Answers.{only}
+use Rattle.abstract_tier.specs.declared.reply.Last.TheVariants.{No}
 use Rattle.tier_engine.proofs.OpenSteps.{close_refused, closes_turns}
 use Rattle.tier_engine.proofs.tier.Tier.close_session.Goals as goal
 

@@ -1,9 +1,9 @@
 use Rattle.std.proofs.Common.{◌∙◌, ap, subst, sym, Err}
 use Rattle.row_types.specs.declared.rule.Refused.{Refused}
 use Rattle.table_defs.specs.declared.definition.TableDef.{TableDef}
-use Rattle.tier_engine.specs.declared.reply.Last.TheVariants.{No}
-use Rattle.tier_engine.specs.Answers.{only}
-use Rattle.tier_engine.specs.Refusals.{unknown_table}
+use Rattle.abstract_tier.specs.declared.reply.Last.TheVariants.{No}
+use Rattle.abstract_tier.specs.Answers.{only}
+use Rattle.abstract_tier.specs.Refusals.{unknown_table}
 use Rattle.tier_engine.specs.Storing.{GroupsOrNot, GroupsReadOrNot, JudgesGroup}
 use Rattle.tier_engine.proofs.GroupTurns.{group_added, group_read, group_refused, group_unknown}
 use Rattle.tier_engine.proofs.tier.Tier.create_group.Goals as goal

@@ -1,4 +1,4 @@
-use Rattle.tier_engine.specs.Steps.{WantsMemory}
+use Rattle.abstract_tier.specs.Steps.{WantsMemory}
 use Rattle.tier_engine.proofs.ServingLaws.{quiet_statement, statement_as}
 use Rattle.tier_engine.proofs.StandingLaws.{turns_first}
 use Rattle.tier_engine.proofs.ReplyLaws.{commit_tells, group_tells, rollback_tells, select_tells}

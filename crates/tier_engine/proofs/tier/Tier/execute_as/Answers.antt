@@ -1,6 +1,6 @@
 use Rattle.std.proofs.Common.{[], ap, sym, ◌∙◌}
-use Rattle.tier_engine.specs.declared.reply.Last.TheVariants.{No}
-use Rattle.tier_engine.specs.Answers.{only}
+use Rattle.abstract_tier.specs.declared.reply.Last.TheVariants.{No}
+use Rattle.abstract_tier.specs.Answers.{only}
 use Rattle.tier_engine.proofs.ServingLaws.{closed_part, open_some, opened_part}
 use Rattle.tier_engine.proofs.tier.Tier.execute_as.Goals as goal
 

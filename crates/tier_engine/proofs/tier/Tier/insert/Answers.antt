@@ -7,7 +7,7 @@ use Rattle.autorefresh.specs.Sets.{is_of_table}
 use Rattle.tier_engine.specs.ReadOnlyStoring.{refused_write}
 use Rattle.tier_engine.specs.declared.tier.Group.{Group}
 use Rattle.group_defs.specs.LiteralValues.{values_of}
-use Rattle.tier_engine.specs.Refusals.{insert_fault}
+use Rattle.abstract_tier.specs.Refusals.{insert_fault}
 use Rattle.tier_engine.specs.Standing.{own_in}
 use Rattle.tier_engine.specs.Storing.{Puts, place_named}
 use Rattle.tier_engine.proofs.InsertServes.{insert_asked, insert_memory, insert_read, insert_refused, insert_taken, put_memory}

@@ -1,6 +1,6 @@
 use Rattle.std.proofs.Common.{ap, is_some, sym, ◌∙◌, ◌||◌}
 use Rattle.std.specs.Prelude.{position}
-use Rattle.tier_engine.specs.ReadOnlyStates.{is_over}
+use Rattle.abstract_tier.specs.ReadOnlyStates.{is_over}
 use Rattle.tier_engine.specs.Standing.{tier_state}
 use Rattle.tier_engine.proofs.ReadLaws.{over_table}
 use Rattle.tier_engine.proofs.tier.Tier.is_cached.Goals as goal

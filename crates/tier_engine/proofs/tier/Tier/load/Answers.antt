@@ -1,7 +1,7 @@
 use Rattle.std.proofs.Common.{◌∙◌, subst, sym}
 use Rattle.row_types.specs.declared.rule.Refused.{Refused}
 use Rattle.table_defs.specs.Declarations.{IsRefusedBy}
-use Rattle.tier_engine.specs.ReadOnlyAnswers.{load_fault}
+use Rattle.abstract_tier.specs.ReadOnlyAnswers.{load_fault}
 use Rattle.tier_engine.specs.Standing.{own_in, read_only_state}
 use Rattle.tier_engine.proofs.ReadServes.{load_done, load_refused, load_unknown}
 use Rattle.tier_engine.proofs.tier.Tier.load.Goals as goal

@@ -1,6 +1,6 @@
 use Rattle.std.proofs.Common.{ap, not, sym, ◌∙◌}
 use Rattle.tier_engine.specs.Standing.{tier_state}
-use Rattle.tier_engine.specs.Steps.{names_uncached}
+use Rattle.abstract_tier.specs.Steps.{names_uncached}
 use Rattle.tier_engine.proofs.tier.Tier.names_uncached.Goals as goal
 
 pub returns-in-CreateGroup : goal.returns-in-CreateGroup

@@ -1,8 +1,8 @@
 use Rattle.std.proofs.Common.{◌∙◌, List, ap, sym}
 use Rattle.row_types.specs.declared.rule.Rule.{Rule}
-use Rattle.tier_engine.specs.declared.reply.Last.TheVariants.{No}
+use Rattle.abstract_tier.specs.declared.reply.Last.TheVariants.{No}
 use Rattle.tier_engine.specs.declared.tier.Group.{Group}
-use Rattle.tier_engine.specs.Answers.{only}
+use Rattle.abstract_tier.specs.Answers.{only}
 use Rattle.tier_engine.specs.Storing.{has_group}
 use Rattle.tier_engine.proofs.ReadJudging.{unloaded_is}
 use Rattle.tier_engine.proofs.tier.Tier.refuse_load.Goals as goal

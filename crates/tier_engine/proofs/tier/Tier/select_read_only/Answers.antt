@@ -3,10 +3,10 @@ use Rattle.std.specs.Option.{option_and_then}
 use Rattle.tier_base.specs.declared.code.Code.TheVariants as code
 use Rattle.autorefresh.specs.Sets.{is_of_table}
 use Rattle.autorefresh.specs.declared.group.ReadOnlyGroup.{ReadOnlyGroup}
-use Rattle.tier_engine.specs.declared.reply.Reply.{Reply}
-use Rattle.tier_engine.specs.Answers.{faulty, select_answer}
+use Rattle.abstract_tier.specs.declared.reply.Reply.{Reply}
+use Rattle.abstract_tier.specs.Answers.{faulty, select_answer}
 use Rattle.tier_engine.specs.ReadOnlyStoring.{SelectsShown, root_shown}
-use Rattle.tier_engine.specs.TierStates.{TierState}
+use Rattle.abstract_tier.specs.TierStates.{TierState}
 use Rattle.tier_engine.proofs.ReadLaws.{place_within}
 use Rattle.tier_engine.proofs.tier.Tier.select_read_only.Goals as goal
 

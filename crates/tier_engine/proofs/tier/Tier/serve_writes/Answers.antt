@@ -2,7 +2,7 @@ use Rattle.std.proofs.Common.{List, ap, ◌∙◌}
 use Rattle.sql_subset.specs.declared.request.ConsoleRequest.TheVariants as console
 use Rattle.sql_subset.specs.declared.stmt.Write.{Write}
 use Rattle.tier_engine.specs.Standing.{tier_state}
-use Rattle.tier_engine.specs.Steps.{console_asks}
+use Rattle.abstract_tier.specs.Steps.{console_asks}
 use Rattle.tier_engine.proofs.ServingLaws.{stopped_part, through_part, caused_serves}
 use Rattle.tier_engine.proofs.tier.Tier.serve_writes.Goals as goal
 

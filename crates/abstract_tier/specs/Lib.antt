@@ -1,0 +1,13 @@
+pub mod Answers
+pub mod Commits
+pub mod ConsoleWrites
+pub mod ReadOnlyAnswers
+pub mod ReadOnlyStates
+pub mod RefreshSteps
+pub mod Refusals
+pub mod Replying
+pub mod RoundStates
+pub mod Rounds
+pub mod Steps
+pub mod TierStates
+pub mod Worlds

@@ -1,0 +1,81 @@
+//! Rules that a line breaks, each with what is told behind its code.
+
+ghost use Rattle.std.specs.Prelude.{◌≡◌, Some};
+ghost use Rattle.row_types.specs.declared.rule.Detail.TheVariants as detail;
+ghost use Rattle.table_defs.specs.Declarations.{IsRefusedBy, broken};
+ghost use Rattle.abstract_tier.specs.Refusals.{unknown_session, unknown_table, wrong_at};
+ghost use Rattle.abstract_tier.specs.ReadOnlyAnswers.{unknown_group, write_fault};
+
+use group_defs::{broken, literal_values, takes_all};
+use row_types::{Detail, Refused, Rule};
+use sql_subset::stmt::Literal;
+use std::alloc::Global;
+use table_defs::TableDef;
+use tier_base::{Code, Label, Name};
+
+/// 101: the line is wrong at this byte.
+pub fn wrong_at(place: usize) -> Rule
+    ensures { result ≡ wrong_at place }
+{
+    Rule {
+        code: Code::Syntax,
+        detail: Detail::Byte(place as u64),
+    }
+}
+
+/// 102: the table isn't there.
+pub fn unknown_table(name: Name) -> Rule
+    ensures { result ≡ unknown_table name }
+{
+    Rule {
+        code: Code::UnknownTable,
+        detail: Detail::Name(name),
+    }
+}
+
+/// 112: there is no group of this name.
+pub fn unknown_group(name: Name) -> Rule
+    ensures { result ≡ unknown_group name }
+{
+    Rule {
+        code: Code::UnknownGroup,
+        detail: Detail::Name(name),
+    }
+}
+
+/// 123: no session is open under this label.
+pub fn unknown_session(label: Label) -> Rule
+    ensures { result ≡ unknown_session label }
+{
+    Rule {
+        code: Code::UnknownSession,
+        detail: Detail::Label(label),
+    }
+}
+
+/// A rule that this name breaks.
+pub fn named(alloc: Global, code: Code, name: &Name) -> Refused
+    ensures { IsRefusedBy (broken code (detail.Name name.now)) result }
+{
+    match name.copied(alloc) {
+        Ok(name) => Refused::Rule(Rule {
+            code,
+            detail: Detail::Name(name),
+        }),
+        Err(_) => Refused::Memory,
+    }
+}
+
+/// What refuses an INSERT into the table of a READONLY group.
+pub fn refuse_write(alloc: Global, def: &TableDef, literals: &[Literal]) -> Refused
+    ensures { IsRefusedBy (Some (write_fault def.now literals.now)) result }
+{
+    if !takes_all(def.columns.as_slice(), literals) {
+        return broken(Code::TypeMismatch, Detail::Nothing);
+    }
+    match literal_values(alloc, literals) {
+        Err(_) => Refused::Memory,
+        Ok(None) => broken(Code::OutOfRange, Detail::NoType),
+        Ok(Some(_)) => named(alloc, Code::ReadOnly, &def.name),
+    }
+}
