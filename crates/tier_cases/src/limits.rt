@@ -59,7 +59,7 @@ impl Case {
     fn define(&mut self, alloc: Global, from: u64, below: u64) -> Result<(), AllocError> {
         for number in from..below {
             let line = format!(in alloc;
-                "backing: CREATE TABLE T{number} (ID TT_BIGINT PRIMARY KEY)"
+                "backing: CREATE TABLE TAB{number} (ID TT_BIGINT PRIMARY KEY)"
             )?;
             self.push(&line, "ok 0")?;
         }
@@ -69,7 +69,7 @@ impl Case {
     // A group of the table with this number.
     fn group(&mut self, alloc: Global, number: u64, reply: &str) -> Result<(), AllocError> {
         let line = format!(in alloc;
-            "s1: CREATE ASYNCHRONOUS WRITETHROUGH CACHE GROUP G{number} FROM T{number} (ID TT_BIGINT PRIMARY KEY)"
+            "s1: CREATE ASYNCHRONOUS WRITETHROUGH CACHE GROUP G{number} FROM TAB{number} (ID TT_BIGINT PRIMARY KEY)"
         )?;
         self.push(&line, reply)
     }
@@ -171,8 +171,8 @@ fn there_are_256_tables_of_32_columns(rt: HostRuntime) -> Result<(), Fail> {
     case.define(alloc, 2, 256)?;
     // 119 of the tables comes before that of the columns, and 113 and 104 before both.
     case.widen(alloc, 33, "no 119 tables")?;
-    case.push("backing: CREATE TABLE T2 (ID TT_BIGINT)", "no 113 T2")?;
-    case.push("backing: CREATE TABLE T1 (ID TT_BIGINT)", "no 104")?;
+    case.push("backing: CREATE TABLE TAB2 (ID TT_BIGINT)", "no 113 TAB2")?;
+    case.push("backing: CREATE TABLE TAB1 (ID TT_BIGINT)", "no 104")?;
     let mut site = MemorySite::new(alloc)?;
     expect_replies(&rt, alloc, &mut site, case.input, case.replies.as_slice())?;
     Ok(())
