@@ -23,7 +23,8 @@ pub fn is_autorefresh(procedure: &Name) -> bool
     procedure.as_bytes() == b"TTCACHEAUTOREFRESH".as_slice()
 }
 
-/// What refuses the call of another procedure than ttCacheAutorefresh.
+/// What refuses the call of another procedure than ttCacheAutorefresh: 103 of one that there isn't, 104 of arguments to
+/// ttDrain, which takes none.
 pub fn judge_call(call: Call) -> Option<Rule>
     ensures { result ≡ call_fault call.procedure call.arguments }
 {
@@ -72,7 +73,7 @@ fn are_past_threads(threads: Option<u64>) -> bool
 }
 
 /// The name that the arguments of ttCacheAutorefresh spell: one text, or an owner's and another, and then perhaps an
-/// integer. None where they are others.
+/// integer. None where they are others. It fails for want of memory alone.
 pub fn spelt_group(alloc: Global, arguments: &[Literal]) -> Result<Option<Vec<u8>>, AllocError>
     ensures { IfOk result (λ name. option_map vec_items name ≡ spelt_group arguments.now) }
 {

@@ -53,7 +53,7 @@ pub fn unknown_session(label: Label) -> Rule
     }
 }
 
-/// A rule that this name breaks.
+/// The refusal that tells this rule of the name, or want of memory for the name.
 pub fn named(alloc: Global, code: Code, name: &Name) -> Refused
     ensures { IsRefusedBy (broken code (detail.Name name.now)) result }
 {
@@ -66,7 +66,9 @@ pub fn named(alloc: Global, code: Code, name: &Name) -> Refused
     }
 }
 
-/// What refuses an INSERT into the table of a READONLY group.
+/// What refuses an INSERT into the table of a READONLY group: 104 where the literals aren't as many as its columns, each
+/// of a kind that its column takes; 105 of a literal that no type holds; else 110. Want of memory may come in the place
+/// of 105 and 110.
 pub fn refuse_write(alloc: Global, def: &TableDef, literals: &[Literal]) -> Refused
     ensures { IsRefusedBy (Some (write_fault def.now literals.now)) result }
 {
