@@ -54,30 +54,46 @@ fn to_first(alloc: Global, cascade: bool) -> Result<ForeignKey, AllocError> {
     })
 }
 
+fn define(
+    rt: &impl Abort,
+    site: &mut MemorySite,
+    def: Result<TableDef, AllocError>,
+) -> Result<(), AllocError> {
+    let def = def?;
+    assert!(rt; site.define(&def).is_ok());
+    Ok(())
+}
+
+// A table of ID and a number.
+fn with_number(alloc: Global, text: &str) -> Result<TableDef, AllocError> {
+    let second = column(alloc, "N", Ty::TtInteger, false)?;
+    table(alloc, text, second, None)
+}
+
+// A table of ID and a short text.
+fn with_text(alloc: Global, text: &str) -> Result<TableDef, AllocError> {
+    let second = column(alloc, "X", Ty::Varchar2(3), false)?;
+    table(alloc, text, second, None)
+}
+
+// A table of ID and a reference to the first table.
+fn with_parent(alloc: Global, text: &str, cascade: bool) -> Result<TableDef, AllocError> {
+    let second = column(alloc, "PID", Ty::TtInteger, true)?;
+    let foreign_key = to_first(alloc, cascade)?;
+    table(alloc, text, second, Some(foreign_key))
+}
+
 // The tables P, C, which refers to P, V, which has a text, T, and K, which refers to P and cascades.
 pub(crate) fn define_tables(
     rt: &impl Abort,
     alloc: Global,
     site: &mut MemorySite,
 ) -> Result<(), AllocError> {
-    let parent = table(alloc, "P", column(alloc, "N", Ty::TtInteger, false)?, None)?;
-    assert!(rt; site.define(&parent).is_ok());
-    let second = column(alloc, "PID", Ty::TtInteger, true)?;
-    let child = table(alloc, "C", second, Some(to_first(alloc, false)?))?;
-    assert!(rt; site.define(&child).is_ok());
-    let texts = table(
-        alloc,
-        "V",
-        column(alloc, "X", Ty::Varchar2(3), false)?,
-        None,
-    )?;
-    assert!(rt; site.define(&texts).is_ok());
-    let last = table(alloc, "T", column(alloc, "N", Ty::TtInteger, false)?, None)?;
-    assert!(rt; site.define(&last).is_ok());
-    let second = column(alloc, "PID", Ty::TtInteger, true)?;
-    let cascading = table(alloc, "K", second, Some(to_first(alloc, true)?))?;
-    assert!(rt; site.define(&cascading).is_ok());
-    Ok(())
+    define(rt, site, with_number(alloc, "P"))?;
+    define(rt, site, with_parent(alloc, "C", false))?;
+    define(rt, site, with_text(alloc, "V"))?;
+    define(rt, site, with_number(alloc, "T"))?;
+    define(rt, site, with_parent(alloc, "K", true))
 }
 
 // Others insert a row into T.
