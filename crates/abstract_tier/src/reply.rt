@@ -5,7 +5,6 @@ use std::alloc::Global;
 use tier_base::{Code, Seq, Ticket};
 
 /// What a request line is answered.
-#[derive(Drop)]
 pub struct Reply {
     /// What was done before the statement.
     pub notes: Seq<Note>,
@@ -13,6 +12,12 @@ pub struct Reply {
     pub rows: Seq<u8>,
     /// The last line.
     pub last: Last,
+}
+
+impl Drop for Reply {
+    fn drop(self) {
+        let Self { notes: _, rows: _, last: _ } = self;
+    }
 }
 
 /// What due work tells.
@@ -29,7 +34,6 @@ pub enum Note {
 }
 
 /// The last line of a reply.
-#[derive(Drop)]
 pub enum Last {
     /// It was done: rows, groups, instances or a ticket, as the statement says.
     Done(u64),
@@ -37,6 +41,16 @@ pub enum Last {
     No(Rule),
     /// A call of the outside failed, a backing row differs, or memory was wanting.
     Fault(Rule),
+}
+
+impl Drop for Last {
+    fn drop(self) {
+        match self {
+            Self::Done(_) => {}
+            Self::No(_) => {}
+            Self::Fault(_) => {}
+        }
+    }
 }
 
 impl Reply {

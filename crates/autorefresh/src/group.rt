@@ -7,7 +7,6 @@ use table_defs::TableDef;
 use tier_base::{Name, Position, Seq};
 
 /// What a loaded group shows.
-#[derive(Drop)]
 pub struct Shown {
     /// The position in the backing history whose state the rows are from.
     pub position: Position,
@@ -15,10 +14,15 @@ pub struct Shown {
     pub rows: Seq<Rows>,
 }
 
+impl Drop for Shown {
+    fn drop(self) {
+        let Self { position: _, rows: _ } = self;
+    }
+}
+
 /// An explicit READONLY cache group.
 ///
 /// (TimesTen Cache User's Guide, "Read-only cache groups".)
-#[derive(Drop)]
 pub struct ReadOnlyGroup {
     /// Its name.
     pub name: Name,
@@ -34,4 +38,10 @@ pub struct ReadOnlyGroup {
     pub state: RefreshState,
     /// What it shows, where it is loaded.
     pub shown: Option<Shown>,
+}
+
+impl Drop for ReadOnlyGroup {
+    fn drop(self) {
+        let Self { name: _, tree: _, def: _, mode: _, interval: _, state: _, shown: _ } = self;
+    }
 }

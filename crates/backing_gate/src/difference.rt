@@ -77,7 +77,7 @@ fn difference_of(
         ApplyError::Memory => return Err(AllocError),
         ApplyError::Differs(table, key, row) => return Ok(Difference { table, key, row }),
         ApplyError::Rule(rule) => {
-            let (table, key) = place_of(alloc, tables, op, rule.detail)?;
+            let (table, key) = place_of(alloc, tables, op, rule.into_detail())?;
             let row = row_at(alloc, tables, table, &key)?;
             return Ok(Difference { table, key, row });
         }
@@ -93,9 +93,10 @@ fn place_of(
 ) -> Result<(TableId, Key), AllocError>
     ensures { IfOk result (λ place. place ≡ place_of op.now tables.now detail) }
 {
-    match detail {
+    match &detail {
         Detail::Row(name, key) => {
-            let table = find_table(tables.schema(), &name).unwrap_or(op.table());
+            let table = find_table(tables.schema(), name).unwrap_or(op.table());
+            let key = key.copied(alloc)?;
             Ok((table, key))
         }
         _ => {

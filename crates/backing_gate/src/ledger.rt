@@ -14,11 +14,16 @@ use table_state::{Entry, History, Ops};
 use tier_base::{Seq, Ticket};
 
 /// The backing history, in which a ticket is found without going through it. Clauses see the entries.
-#[derive(Drop)]
 pub(crate) struct Ledger {
     entries: History,
     // The position of each ticket.
     positions: BTreeMap<u64, u64>,
+}
+
+impl Drop for Ledger {
+    fn drop(self) {
+        let Self { entries: _, positions: _ } = self;
+    }
 }
 
 impl Model for Ledger {
@@ -111,11 +116,8 @@ impl Ledger {
         requires { (front : List Entry) (last : Entry) → self.old ≡ front ++ last ∷ [] → IsNewIn front last }
         ensures { (front : List Entry) (last : Entry) → self.old ≡ front ++ last ∷ [] → self.new ≡ front }
     {
-        match self.entries.pop() {
-            None => {}
-            Some(Entry::Definition(_)) => {}
-            Some(Entry::Foreign(_)) => {}
-            Some(Entry::Own(ticket, _)) => {
+        if let Some(entry) = self.entries.pop() {
+            if let Entry::Own(ticket, _) = &entry {
                 let _ = self.positions.remove(&ticket.0);
             }
         }

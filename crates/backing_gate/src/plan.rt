@@ -106,10 +106,15 @@ impl CallCounts {
 }
 
 /// The plans, and the calls so far.
-#[derive(Drop)]
 pub(crate) struct Plans {
     plans: Vec<Plan>,
     calls: CallCounts,
+}
+
+impl Drop for Plans {
+    fn drop(self) {
+        let Self { plans: _, calls: _ } = self;
+    }
 }
 
 impl Model for Plans {

@@ -13,7 +13,6 @@ pub enum Side {
 }
 
 /// That a transaction of others comes in the bank call of this number, from 0.
-#[derive(Drop)]
 pub struct Visit {
     /// The number of the call.
     pub number: u64,
@@ -21,4 +20,10 @@ pub struct Visit {
     pub side: Side,
     /// Its writes.
     pub changes: Seq<Change>,
+}
+
+impl Drop for Visit {
+    fn drop(self) {
+        let Self { number: _, side: _, changes: _ } = self;
+    }
 }

@@ -10,11 +10,16 @@ use std::marker::Model;
 use tier_base::{Seq, TableId};
 
 /// The transactions of others that are planned, the tables that they name, and the bank calls so far.
-#[derive(Drop)]
 pub(crate) struct Visits {
     visits: Vec<Visit>,
     shared: Vec<TableId>,
     calls: u64,
+}
+
+impl Drop for Visits {
+    fn drop(self) {
+        let Self { visits: _, shared: _, calls: _ } = self;
+    }
 }
 
 impl Model for Visits {

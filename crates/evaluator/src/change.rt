@@ -7,7 +7,6 @@ use expressions::{Cond, Expr};
 use tier_base::{Seq, TableId};
 
 /// A write of one table, with places in place of names.
-#[derive(Drop)]
 pub struct Change {
     /// The table.
     pub table: TableId,
@@ -15,8 +14,13 @@ pub struct Change {
     pub action: Action,
 }
 
+impl Drop for Change {
+    fn drop(self) {
+        let Self { table: _, action: _ } = self;
+    }
+}
+
 /// What a write does to the rows of its table.
-#[derive(Drop)]
 pub enum Action {
     /// One new row: an expression for each column, read on no columns.
     Insert(Seq<Expr>),
@@ -24,6 +28,16 @@ pub enum Action {
     Update(Seq<Expr>, Option<Cond>),
     /// Each selected row leaves, behind the rows that refer to it by a foreign key with ON DELETE CASCADE.
     Delete(Option<Cond>),
+}
+
+impl Drop for Action {
+    fn drop(self) {
+        match self {
+            Self::Insert(_) => {}
+            Self::Update(_, _) => {}
+            Self::Delete(_) => {}
+        }
+    }
 }
 
 impl Action {

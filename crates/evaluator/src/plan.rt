@@ -5,7 +5,6 @@ use row_types::Row;
 use tier_base::{Seq, TableId};
 
 /// A query with places in place of names. A place is one in the rows of the FROM tables side by side.
-#[derive(Drop)]
 pub struct Plan {
     /// The tables in FROM, at most four.
     pub tables: Seq<TableId>,
@@ -17,6 +16,12 @@ pub struct Plan {
     pub order: Seq<usize>,
     /// Which of them are descending.
     pub descending: Seq<bool>,
+}
+
+impl Drop for Plan {
+    fn drop(self) {
+        let Self { tables: _, filter: _, listed: _, order: _, descending: _ } = self;
+    }
 }
 
 /// What a selected combination of rows gives.

@@ -32,7 +32,6 @@ pub enum Comparator {
 }
 
 /// A condition over the columns of a row. IS NOT NULL, NOT BETWEEN and NOT IN are negations.
-#[derive(Drop)]
 pub enum Cond {
     /// A comparison. It is unknown where a side is NULL.
     Compared(Comparator, Expr, Expr),
@@ -48,6 +47,20 @@ pub enum Cond {
     And(Box<Cond>, Box<Cond>),
     /// OR
     Or(Box<Cond>, Box<Cond>),
+}
+
+impl Drop for Cond {
+    fn drop(self) {
+        match self {
+            Self::Compared(_, _, _) => {}
+            Self::IsNull(_) => {}
+            Self::Between(_, _, _) => {}
+            Self::In(_, _) => {}
+            Self::Not(_) => {}
+            Self::And(_, _) => {}
+            Self::Or(_, _) => {}
+        }
+    }
 }
 
 /// What the condition is on these columns. None where a number leaves 64 signed bits in any part of it: each operand

@@ -24,7 +24,6 @@ pub enum Arithmetic {
 }
 
 /// An expression over the columns of a row.
-#[derive(Drop)]
 pub enum Expr {
     /// A literal's value.
     Literal(Value),
@@ -32,6 +31,16 @@ pub enum Expr {
     Column(usize),
     /// An operation on two expressions.
     Binary(Arithmetic, Box<Expr>, Box<Expr>),
+}
+
+impl Drop for Expr {
+    fn drop(self) {
+        match self {
+            Self::Literal(_) => {}
+            Self::Column(_) => {}
+            Self::Binary(_, _, _) => {}
+        }
+    }
 }
 
 /// What the expression is on these columns. None where a number leaves 64 signed bits in any part of it.

@@ -16,10 +16,15 @@ use tier_base::Seq;
 ///
 /// A call that doesn't fail gives the index up where memory for it is wanting. The rows are then gone through where
 /// they would be looked up.
-#[derive(Drop)]
 pub struct IndexedRows {
     rows: Rows,
     parents: Option<Parents>,
+}
+
+impl Drop for IndexedRows {
+    fn drop(self) {
+        let Self { rows: _, parents: _ } = self;
+    }
 }
 
 impl Model for IndexedRows {

@@ -14,12 +14,17 @@ use std::alloc::{AllocError, Global};
 use tier_base::Seq;
 
 /// An index of the rows of a table by parent.
-#[derive(Drop)]
 pub(crate) struct Parents {
     /// The places of the foreign key's columns.
     pub(crate) columns: Seq<usize>,
     /// An entry for each row, by the parent's key with the row's own key behind it. It has no values.
     pub(crate) entries: Rows,
+}
+
+impl Drop for Parents {
+    fn drop(self) {
+        let Self { columns: _, entries: _ } = self;
+    }
 }
 
 impl Parents {

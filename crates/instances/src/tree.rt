@@ -9,7 +9,6 @@ use table_defs::{BackingSchema, ForeignKey};
 use tier_base::{Seq, TableId};
 
 /// The root table of a group.
-#[derive(Drop)]
 pub struct Root {
     /// The table.
     pub table: TableId,
@@ -17,8 +16,13 @@ pub struct Root {
     pub filter: Option<Cond>,
 }
 
+impl Drop for Root {
+    fn drop(self) {
+        let Self { table: _, filter: _ } = self;
+    }
+}
+
 /// A child table of a group.
-#[derive(Drop)]
 pub struct Child {
     /// The table.
     pub table: TableId,
@@ -28,15 +32,26 @@ pub struct Child {
     pub parent: usize,
 }
 
+impl Drop for Child {
+    fn drop(self) {
+        let Self { table: _, filter: _, parent: _ } = self;
+    }
+}
+
 /// What a group covers: a root table, and child tables, each behind the one that it refers to.
 ///
 /// (TimesTen Cache User's Guide, "Cache groups".)
-#[derive(Drop)]
 pub struct Tree {
     /// The root table, at place 0.
     pub root: Root,
     /// The child tables, from place 1 on.
     pub children: Seq<Child>,
+}
+
+impl Drop for Tree {
+    fn drop(self) {
+        let Self { root: _, children: _ } = self;
+    }
 }
 
 impl Tree {

@@ -27,8 +27,13 @@ impl<'a> Probe<(Key, Row)> for ByKey<'a> {
 }
 
 // The entry of the key that two lists make, one behind the other.
-#[derive(Drop)]
 struct ByParts<'a>(&'a [Value], &'a [Value]);
+
+impl<'a> Drop for ByParts<'a> {
+    fn drop(self) {
+        let Self(_, _) = self;
+    }
+}
 
 impl<'a> Probe<(Key, Row)> for ByParts<'a> {
     ghost order_gives = { λ sought entry. key_order entry.0 (sought.0.now ++ sought.1.now) };

@@ -7,13 +7,18 @@ use crate::sink::Sink;
 use std::alloc::Global;
 
 /// A sink that tells everything: it takes a given number of bytes at a time, and fails at chosen calls.
-#[derive(Drop)]
 pub struct MemorySink {
     bytes: Vec<u8>,
     piece: usize,
     calls: u64,
     failing: Vec<u64>,
     faults: u64,
+}
+
+impl Drop for MemorySink {
+    fn drop(self) {
+        let Self { bytes: _, piece: _, calls: _, failing: _, faults: _ } = self;
+    }
 }
 
 impl MemorySink {

@@ -7,10 +7,15 @@ use crate::clock::Clock;
 use tier_base::Moment;
 
 /// A clock that gives the moments of a list, and then the last of them again and again; 0 where there is none.
-#[derive(Drop)]
 pub struct ScriptClock {
     moments: Vec<Moment>,
     place: usize,
+}
+
+impl Drop for ScriptClock {
+    fn drop(self) {
+        let Self { moments: _, place: _ } = self;
+    }
 }
 
 impl ScriptClock {

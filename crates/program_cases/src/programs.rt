@@ -8,10 +8,15 @@ use std::process::Abort;
 use std::test::Fail;
 
 // A run over an input: what comes of it.
-#[derive(Drop)]
 struct Ran {
     status: u8,
     sink: MemorySink,
+}
+
+impl Drop for Ran {
+    fn drop(self) {
+        let Self { status: _, sink: _ } = self;
+    }
 }
 
 // How source and sink behave: the sizes of their pieces, and their calls that fail.

@@ -8,11 +8,19 @@ use tier_base::Seq;
 pub(crate) type Judged<T> = Result<T, Rule>;
 
 /// A query with places in place of names.
-#[derive(Drop)]
 pub enum ResolvedQuery {
     /// A query whose answer is rows.
     Rows(Plan),
     /// A query whose answer is one row of totals. The select list of the plan has an operand for each; that of
     /// `COUNT(*)` is NULL.
     Totals(Seq<Aggregate>, Plan),
+}
+
+impl Drop for ResolvedQuery {
+    fn drop(self) {
+        match self {
+            Self::Rows(_) => {}
+            Self::Totals(_, _) => {}
+        }
+    }
 }

@@ -46,7 +46,6 @@ fn is_within(first: i64, last: i64, number: i64) -> bool
 }
 
 /// A column of a table.
-#[derive(Drop)]
 pub struct Column {
     /// Its name, one identifier.
     pub name: Name,
@@ -54,6 +53,12 @@ pub struct Column {
     pub ty: Ty,
     /// Whether it refuses NULL.
     pub not_null: bool,
+}
+
+impl Drop for Column {
+    fn drop(self) {
+        let Self { name: _, ty: _, not_null: _ } = self;
+    }
 }
 
 impl Column {

@@ -11,15 +11,28 @@ use std::slice::from_ref;
 
 /// The values of a primary key, in its order. A key of one value takes no memory of its own. Clauses see the list
 /// of its values.
-#[derive(Drop)]
 pub struct Key {
     form: KeyForm,
 }
 
-#[derive(Drop)]
+impl Drop for Key {
+    fn drop(self) {
+        let Self { form: _ } = self;
+    }
+}
+
 enum KeyForm {
     One(Value),
     Many(Vec<Value>),
+}
+
+impl Drop for KeyForm {
+    fn drop(self) {
+        match self {
+            Self::One(_) => {}
+            Self::Many(_) => {}
+        }
+    }
 }
 
 impl Model for Key {

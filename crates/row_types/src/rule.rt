@@ -5,7 +5,6 @@ use std::alloc::AllocError;
 use tier_base::{Code, Label, Limit, Name};
 
 /// A rule that a request breaks: its code, and what the reply prints behind it.
-#[derive(Drop)]
 pub struct Rule {
     /// The code.
     pub code: Code,
@@ -13,8 +12,23 @@ pub struct Rule {
     pub detail: Detail,
 }
 
+impl Rule {
+    /// What the reply prints behind the code.
+    pub fn into_detail(self) -> Detail
+        ensures { result ≡ self.now.detail }
+    {
+        let Self { code: _, detail } = self;
+        detail
+    }
+}
+
+impl Drop for Rule {
+    fn drop(self) {
+        let Self { code: _, detail: _ } = self;
+    }
+}
+
 /// What a reply prints behind a code.
-#[derive(Drop)]
 pub enum Detail {
     /// Nothing.
     Nothing,
@@ -32,6 +46,21 @@ pub enum Detail {
     Limit(Limit),
     /// A literal that no type holds, printed as `-`.
     NoType,
+}
+
+impl Drop for Detail {
+    fn drop(self) {
+        match self {
+            Self::Nothing => {}
+            Self::Byte(_) => {}
+            Self::Name(_) => {}
+            Self::Row(_, _) => {}
+            Self::Label(_) => {}
+            Self::Letter(_) => {}
+            Self::Limit(_) => {}
+            Self::NoType => {}
+        }
+    }
 }
 
 /// The rules of a cache group's definition, by letter, in the order in which they are tested.

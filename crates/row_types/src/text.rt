@@ -9,15 +9,28 @@ use std::marker::Model;
 const SHORT_BYTES: usize = 22;
 
 /// A text, as its bytes. Up to 22 bytes take no memory of their own. Clauses see the list of its bytes.
-#[derive(Drop)]
 pub struct Text {
     form: TextForm,
 }
 
-#[derive(Drop)]
+impl Drop for Text {
+    fn drop(self) {
+        let Self { form: _ } = self;
+    }
+}
+
 enum TextForm {
     Short(u8, [u8; 22]),
     Long(Vec<u8>),
+}
+
+impl Drop for TextForm {
+    fn drop(self) {
+        match self {
+            Self::Short(_, _) => {}
+            Self::Long(_) => {}
+        }
+    }
 }
 
 impl Model for Text {

@@ -94,12 +94,17 @@ fn tell<K: Sink>(
 }
 
 /// What is kept between the pieces of the input.
-#[derive(Drop)]
 pub struct Checker {
     /// The line that hasn't ended.
     pub line: LineBuffer,
     /// The reply bytes that aren't written.
     pub output: Output,
+}
+
+impl Drop for Checker {
+    fn drop(self) {
+        let Self { line: _, output: _ } = self;
+    }
 }
 
 impl Checker {

@@ -8,7 +8,6 @@ use std::alloc::Global;
 use tier_engine::{Tier, committed_law, legal_law};
 
 /// What is kept between the pieces of the input.
-#[derive(Drop)]
 pub struct Session {
     /// The tier.
     pub tier: Tier,
@@ -16,6 +15,12 @@ pub struct Session {
     pub line: LineBuffer,
     /// The reply bytes that aren't written.
     pub output: Output,
+}
+
+impl Drop for Session {
+    fn drop(self) {
+        let Self { tier: _, line: _, output: _ } = self;
+    }
 }
 
 impl Session {

@@ -11,15 +11,19 @@ use tier_base::Seq;
 
 /// A condition with the names of columns. Clauses see a tree without boxes, a `ConditionTree`.
 #[cycle(condition)]
-#[derive(Drop)]
 pub struct Condition {
     /// What stands at the top of it.
     pub node: ConditionNode,
 }
 
+impl Drop for Condition {
+    fn drop(self) {
+        let Self { node: _ } = self;
+    }
+}
+
 /// What stands at the top of a condition. A `bool` tells whether NOT is written inside of it, as in IS NOT NULL.
 #[cycle(condition)]
-#[derive(Drop)]
 pub enum ConditionNode {
     /// A comparison.
     Compared(Comparator, Expression, Expression),
@@ -35,6 +39,20 @@ pub enum ConditionNode {
     All(Box<Condition>, Box<Condition>),
     /// OR.
     Any(Box<Condition>, Box<Condition>),
+}
+
+impl Drop for ConditionNode {
+    fn drop(self) {
+        match self {
+            Self::Compared(_, _, _) => {}
+            Self::Missing(_, _) => {}
+            Self::Between(_, _, _, _) => {}
+            Self::Among(_, _, _) => {}
+            Self::Not(_) => {}
+            Self::All(_, _) => {}
+            Self::Any(_, _) => {}
+        }
+    }
 }
 
 impl Model for Condition {

@@ -11,15 +11,19 @@ use tier_base::Name;
 
 /// An expression with the names of columns. Clauses see a tree without boxes, an `ExpressionTree`.
 #[cycle(expression)]
-#[derive(Drop)]
 pub struct Expression {
     /// What stands at the top of it.
     pub node: ExpressionNode,
 }
 
+impl Drop for Expression {
+    fn drop(self) {
+        let Self { node: _ } = self;
+    }
+}
+
 /// What stands at the top of an expression.
 #[cycle(expression)]
-#[derive(Drop)]
 pub enum ExpressionNode {
     /// A literal.
     Literal(Literal),
@@ -27,6 +31,16 @@ pub enum ExpressionNode {
     Column(Name),
     /// An operation on two expressions.
     Binary(Arithmetic, Box<Expression>, Box<Expression>),
+}
+
+impl Drop for ExpressionNode {
+    fn drop(self) {
+        match self {
+            Self::Literal(_) => {}
+            Self::Column(_) => {}
+            Self::Binary(_, _, _) => {}
+        }
+    }
 }
 
 impl Model for Expression {

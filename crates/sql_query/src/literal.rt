@@ -10,7 +10,6 @@ use row_types::{Text, Time, Value, held_text, parse_integer};
 use std::alloc::{AllocError, Global};
 
 /// An integer as it is written. Blanks between its sign and its digits don't count.
-#[derive(Drop)]
 pub struct IntegerLiteral {
     /// Whether a `-` stands before it.
     pub negative: bool,
@@ -18,8 +17,13 @@ pub struct IntegerLiteral {
     pub digits: Text,
 }
 
+impl Drop for IntegerLiteral {
+    fn drop(self) {
+        let Self { negative: _, digits: _ } = self;
+    }
+}
+
 /// A literal as it is written.
-#[derive(Drop)]
 pub enum Literal {
     /// NULL.
     Null,
@@ -29,6 +33,17 @@ pub enum Literal {
     Text(Text),
     /// TIMESTAMP: the text behind it, without its quotes.
     Time(Text),
+}
+
+impl Drop for Literal {
+    fn drop(self) {
+        match self {
+            Self::Null => {}
+            Self::Integer(_) => {}
+            Self::Text(_) => {}
+            Self::Time(_) => {}
+        }
+    }
 }
 
 impl Literal {

@@ -5,7 +5,6 @@ use crate::expression::Expression;
 use tier_base::{Name, Seq};
 
 /// `SELECT list FROM table [alias], .. [WHERE condition] [ORDER BY column [ASC|DESC], ..]`
-#[derive(Drop)]
 pub struct Query {
     /// The select list.
     pub selected: SelectList,
@@ -17,8 +16,13 @@ pub struct Query {
     pub order: Seq<OrderItem>,
 }
 
+impl Drop for Query {
+    fn drop(self) {
+        let Self { selected: _, tables: _, filter: _, order: _ } = self;
+    }
+}
+
 /// A table in FROM.
-#[derive(Drop)]
 pub struct FromTable {
     /// Its name.
     pub table: Name,
@@ -26,8 +30,13 @@ pub struct FromTable {
     pub alias: Option<Name>,
 }
 
+impl Drop for FromTable {
+    fn drop(self) {
+        let Self { table: _, alias: _ } = self;
+    }
+}
+
 /// A select list.
-#[derive(Drop)]
 pub enum SelectList {
     /// `*`: all columns of the tables, in the order of the tables.
     Everything,
@@ -37,8 +46,17 @@ pub enum SelectList {
     Aggregates(Seq<Aggregate>),
 }
 
+impl Drop for SelectList {
+    fn drop(self) {
+        match self {
+            Self::Everything => {}
+            Self::Expressions(_) => {}
+            Self::Aggregates(_) => {}
+        }
+    }
+}
+
 /// An aggregate.
-#[derive(Drop)]
 pub enum Aggregate {
     /// `COUNT(*)`
     Rows,
@@ -52,11 +70,28 @@ pub enum Aggregate {
     Greatest(Expression),
 }
 
+impl Drop for Aggregate {
+    fn drop(self) {
+        match self {
+            Self::Rows => {}
+            Self::Count(_) => {}
+            Self::Sum(_) => {}
+            Self::Least(_) => {}
+            Self::Greatest(_) => {}
+        }
+    }
+}
+
 /// A column in ORDER BY.
-#[derive(Drop)]
 pub struct OrderItem {
     /// The column, with or without the name of a table and a dot before it.
     pub column: Name,
     /// Whether DESC stands behind it.
     pub descending: bool,
+}
+
+impl Drop for OrderItem {
+    fn drop(self) {
+        let Self { column: _, descending: _ } = self;
+    }
 }

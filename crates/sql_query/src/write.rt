@@ -5,7 +5,6 @@ use crate::expression::Expression;
 use tier_base::{Name, Seq};
 
 /// A statement that writes rows.
-#[derive(Drop)]
 pub enum Write {
     /// INSERT
     Insert(Insert),
@@ -15,8 +14,17 @@ pub enum Write {
     Delete(Delete),
 }
 
+impl Drop for Write {
+    fn drop(self) {
+        match self {
+            Self::Insert(_) => {}
+            Self::Update(_) => {}
+            Self::Delete(_) => {}
+        }
+    }
+}
+
 /// `INSERT INTO table [(column, ..)] VALUES (expression, ..)`
-#[derive(Drop)]
 pub struct Insert {
     /// The table.
     pub table: Name,
@@ -26,8 +34,13 @@ pub struct Insert {
     pub values: Seq<Expression>,
 }
 
+impl Drop for Insert {
+    fn drop(self) {
+        let Self { table: _, columns: _, values: _ } = self;
+    }
+}
+
 /// `UPDATE table SET column = expression, .. [WHERE condition]`
-#[derive(Drop)]
 pub struct Update {
     /// The table.
     pub table: Name,
@@ -37,8 +50,13 @@ pub struct Update {
     pub filter: Option<Condition>,
 }
 
+impl Drop for Update {
+    fn drop(self) {
+        let Self { table: _, assignments: _, filter: _ } = self;
+    }
+}
+
 /// `column = expression` behind SET.
-#[derive(Drop)]
 pub struct Assignment {
     /// The column, one identifier.
     pub column: Name,
@@ -46,11 +64,22 @@ pub struct Assignment {
     pub value: Expression,
 }
 
+impl Drop for Assignment {
+    fn drop(self) {
+        let Self { column: _, value: _ } = self;
+    }
+}
+
 /// `DELETE FROM table [WHERE condition]`
-#[derive(Drop)]
 pub struct Delete {
     /// The table.
     pub table: Name,
     /// Which rows; all where there is none.
     pub filter: Option<Condition>,
+}
+
+impl Drop for Delete {
+    fn drop(self) {
+        let Self { table: _, filter: _ } = self;
+    }
 }

@@ -10,11 +10,16 @@ use std::marker::Model;
 
 /// The tokens that are still to be read, with their line. Clauses see the list of tokens with their
 /// bytes.
-#[derive(Drop)]
 pub struct Reader<'t> {
     alloc: Global,
     line: &'t [u8],
     tokens: &'t [Token],
+}
+
+impl<'t> Drop for Reader<'t> {
+    fn drop(self) {
+        let Self { alloc: _, line: _, tokens: _ } = self;
+    }
 }
 
 impl<'t> Model for Reader<'t> {

@@ -10,7 +10,6 @@ use tier_base::{Name, Seq, TableId};
 pub type BackingSchema = Seq<TableDef>;
 
 /// A foreign key: these columns name the whole primary key of an earlier table.
-#[derive(Drop)]
 pub struct ForeignKey {
     /// The places of the columns, in the order of the parent's primary key.
     pub columns: Seq<usize>,
@@ -18,6 +17,12 @@ pub struct ForeignKey {
     pub parent: TableId,
     /// Whether deleting a parent row deletes its children (ON DELETE CASCADE).
     pub cascade: bool,
+}
+
+impl Drop for ForeignKey {
+    fn drop(self) {
+        let Self { columns: _, parent: _, cascade: _ } = self;
+    }
 }
 
 impl ForeignKey {
@@ -44,7 +49,6 @@ impl ForeignKey {
 }
 
 /// The definition of a backing table.
-#[derive(Drop)]
 pub struct TableDef {
     /// Its name.
     pub name: Name,
@@ -54,6 +58,12 @@ pub struct TableDef {
     pub primary_key: Seq<usize>,
     /// Its foreign key, where it has one.
     pub foreign_key: Option<ForeignKey>,
+}
+
+impl Drop for TableDef {
+    fn drop(self) {
+        let Self { name: _, columns: _, primary_key: _, foreign_key: _ } = self;
+    }
 }
 
 impl TableDef {

@@ -13,7 +13,6 @@ use table_defs::{BackingSchema, TableDef};
 use tier_base::{Seq, TableId};
 
 /// A row of a table, by its key.
-#[derive(Drop)]
 pub struct RowKey {
     /// The table.
     pub table: TableId,
@@ -21,13 +20,24 @@ pub struct RowKey {
     pub key: Key,
 }
 
+impl Drop for RowKey {
+    fn drop(self) {
+        let Self { table: _, key: _ } = self;
+    }
+}
+
 /// The rows that a transaction writes, and those that it refers to.
-#[derive(Drop)]
 pub struct Footprint {
     /// The keys of all rows in the operations, old and new.
     pub written: Seq<RowKey>,
     /// The keys of the parents that old or new rows name.
     pub referred: Seq<RowKey>,
+}
+
+impl Drop for Footprint {
+    fn drop(self) {
+        let Self { written: _, referred: _ } = self;
+    }
 }
 
 /// Whether a key is in both footprints and written in one, so that the order of the transactions matters. It takes

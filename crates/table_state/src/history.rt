@@ -11,7 +11,6 @@ use tier_base::{Seq, Ticket};
 pub type History = Seq<Entry>;
 
 /// One step of the backing database.
-#[derive(Drop)]
 pub enum Entry {
     /// A table was defined.
     Definition(TableDef),
@@ -19,6 +18,16 @@ pub enum Entry {
     Foreign(Ops),
     /// A transaction of the tier, with its ticket.
     Own(Ticket, Ops),
+}
+
+impl Drop for Entry {
+    fn drop(self) {
+        match self {
+            Self::Definition(_) => {}
+            Self::Foreign(_) => {}
+            Self::Own(_, _) => {}
+        }
+    }
 }
 
 impl Entry {

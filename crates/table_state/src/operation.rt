@@ -11,7 +11,6 @@ use tier_base::{Seq, TableId};
 pub type Ops = Seq<Op>;
 
 /// One change of one row.
-#[derive(Drop)]
 pub enum Op {
     /// The row is new.
     Insert(TableId, Row),
@@ -19,6 +18,16 @@ pub enum Op {
     Update(TableId, Row, Row),
     /// The row leaves.
     Delete(TableId, Row),
+}
+
+impl Drop for Op {
+    fn drop(self) {
+        match self {
+            Self::Insert(_, _) => {}
+            Self::Update(_, _, _) => {}
+            Self::Delete(_, _) => {}
+        }
+    }
 }
 
 impl Op {

@@ -15,10 +15,15 @@ use table_defs::{BackingSchema, ForeignKey, TableDef, copied_places};
 use tier_base::{Seq, TableId};
 
 /// The tables with their rows. Clauses see a table state.
-#[derive(Drop)]
 pub struct Tables {
     pub(crate) schema: BackingSchema,
     pub(crate) rows: Vec<IndexedRows>,
+}
+
+impl Drop for Tables {
+    fn drop(self) {
+        let Self { schema: _, rows: _ } = self;
+    }
 }
 
 impl Model for Tables {

@@ -6,10 +6,15 @@ use std::alloc::{AllocError, Global};
 use std::test::Fail;
 
 // Lines, and the replies that are wanted of them.
-#[derive(Drop)]
 struct Case {
     input: Vec<u8>,
     replies: Vec<u8>,
+}
+
+impl Drop for Case {
+    fn drop(self) {
+        let Self { input: _, replies: _ } = self;
+    }
 }
 
 impl Case {

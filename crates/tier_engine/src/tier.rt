@@ -9,7 +9,6 @@ use table_state::{Ops, Sealed};
 use tier_base::{Label, Name, Seq, TableId};
 
 /// An asynchronous writethrough group of one table, which no foreign key joins with another.
-#[derive(Drop)]
 pub struct Group {
     /// Its name.
     pub name: Name,
@@ -21,13 +20,24 @@ pub struct Group {
     pub rows: Rows,
 }
 
+impl Drop for Group {
+    fn drop(self) {
+        let Self { name: _, table: _, def: _, rows: _ } = self;
+    }
+}
+
 /// Where an uncommitted insert stands, so that it can be taken back without memory.
-#[derive(Drop)]
 pub struct OwnKey {
     /// The place of the group.
     pub group: usize,
     /// The key of the row.
     pub key: Key,
+}
+
+impl Drop for OwnKey {
+    fn drop(self) {
+        let Self { group: _, key: _ } = self;
+    }
 }
 
 /// An open session.
@@ -43,7 +53,6 @@ pub struct Session {
 
 /// The tier: what it keeps between request lines. It stands for the list of all committed transactions, of which it
 /// stores those alone whose receipt it hasn't seen.
-#[derive(Drop)]
 pub struct Tier {
     /// The backing schema, where the tier knows it.
     pub known: Option<BackingSchema>,
@@ -57,4 +66,10 @@ pub struct Tier {
     pub unsettled: VecDeque<Sealed>,
     /// The next ticket.
     pub next: u64,
+}
+
+impl Drop for Tier {
+    fn drop(self) {
+        let Self { known: _, groups: _, read_only: _, session: _, unsettled: _, next: _ } = self;
+    }
 }
