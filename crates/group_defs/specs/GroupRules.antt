@@ -1,7 +1,7 @@
 -- The first rule that the definition of a cache group breaks. (TimesTen SQL Reference, "CREATE CACHE GROUP"; the codes, the
 -- letters and their order are this project's rule.)
 
-use Rattle.std.specs.Prelude.{List, [], ◌∷◌, ◌==◌, Bool, true, false, ◌&&◌, ◌||◌, not, nat_eq, nat_lt, Option, Some, None, if◌then◌else◌, is_some}
+use Rattle.std.specs.Prelude.{ℕ, List, [], ◌∷◌, ◌==◌, Bool, true, false, ◌&&◌, ◌||◌, not, nat_eq, nat_lt, Option, Some, None, if◌then◌else◌, is_some, slice_get}
 use Rattle.std.specs.List.{list_any}
 use Rattle.std.specs.Option.{option_or}
 use Rattle.std.specs.Cmp.Lexicographic.{pointwise}
@@ -32,9 +32,22 @@ same_columns (a ∷ as_declared) (b ∷ columns) = pointwise nat_eq a.name b.nam
 same_columns [] (b ∷ columns) = false
 same_columns (a ∷ as_declared) [] = false
 
--- there is one primary key, and it is the backing table's
+-- both columns are there, and have the same name
+abbrev pub has_same_name : Option ColumnDeclaration → Option Column → Bool
+has_same_name (Some a) (Some b) = pointwise nat_eq a.name b.name
+has_same_name None b = false
+has_same_name (Some a) None = false
+
+-- the declared columns at these places have the names of the backing columns at those, in this order
+abbrev pub same_names : List ColumnDeclaration → List Column → List ℕ → List ℕ → Bool
+same_names declared columns [] [] = true
+same_names declared columns (a ∷ places) (b ∷ key) = has_same_name (slice_get declared a) (slice_get columns b) && same_names declared columns places key
+same_names declared columns [] (b ∷ key) = false
+same_names declared columns (a ∷ places) [] = false
+
+-- there is one primary key, and its columns have the names of those of the backing table's, in its order
 abbrev pub has_same_key : TableDeclaration → TableDef → Bool
-has_same_key d def = key_count d == 1 && pointwise nat_eq (key_places d) def.primary_key
+has_same_key d def = key_count d == 1 && same_names d.columns def.columns (key_places d) def.primary_key
 
 abbrev pub refers : TableId → Option ForeignKey → Bool
 refers table None = false

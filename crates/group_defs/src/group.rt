@@ -1,9 +1,9 @@
 //! What refuses the definition of a cache group.
 
-ghost use Rattle.std.specs.Prelude.{◌≡◌, IfOk};
+ghost use Rattle.std.specs.Prelude.{◌≡◌, IfOk, option_copied};
 ghost use Rattle.std.specs.List.{list_any};
 ghost use Rattle.table_defs.specs.Declarations.{Tells};
-ghost use Rattle.group_defs.specs.GroupRules.{definition_fault, has_same_key, is_asynchronous, is_joined, is_out_of_range, letter_fault, refers, same_columns};
+ghost use Rattle.group_defs.specs.GroupRules.{definition_fault, has_same_key, has_same_name, is_asynchronous, is_joined, is_out_of_range, letter_fault, refers, same_columns, same_names};
 
 use crate::limit::past;
 use crate::refusal::{broken, refuse_name};
@@ -95,7 +95,7 @@ fn judge_letters(
     Ok(())
 }
 
-/// Whether there is one primary key, and it is the backing table's.
+/// Whether there is one primary key, and its columns have the names of those of the backing table's, in its order.
 fn has_same_key(
     alloc: Global,
     declaration: &TableDeclaration,
@@ -107,7 +107,37 @@ fn has_same_key(
         return Ok(false);
     }
     let places = key_places(alloc, declaration)?;
-    Ok(places.as_slice() == def.primary_key.as_slice())
+    let declared = declaration.columns.as_slice();
+    Ok(same_names(declared, def.columns.as_slice(), places.as_slice(), def.primary_key.as_slice()))
+}
+
+/// Whether the declared columns at these places have the names of the backing columns at those, in this order.
+fn same_names(
+    declared: &[ColumnDeclaration],
+    columns: &[Column],
+    places: &[usize],
+    key: &[usize],
+) -> bool
+    ensures { result ≡ same_names declared.now columns.now places.now key.now }
+{
+    match (places.split_first(), key.split_first()) {
+        (None, None) => true,
+        (Some((place, places)), Some((other, key))) => {
+            has_same_name(declared.get(*place), columns.get(*other))
+                && same_names(declared, columns, places, key)
+        }
+        _ => false,
+    }
+}
+
+/// Whether both columns are there, and have the same name.
+fn has_same_name(a: Option<&ColumnDeclaration>, b: Option<&Column>) -> bool
+    ensures { result ≡ has_same_name (option_copied a.entry) (option_copied b.entry) }
+{
+    match (a, b) {
+        (Some(a), Some(b)) => a.name.as_bytes() == b.name.as_bytes(),
+        _ => false,
+    }
 }
 
 /// Whether the columns have the same names and types.

@@ -13,9 +13,11 @@ pub struct Rule {
 }
 
 impl Rule {
+    ghost use Rattle.std.specs.Prelude.{◌≡◌};
+
     /// What the reply prints behind the code.
     pub fn into_detail(self) -> Detail
-        ensures { result ≡ self.now.detail }
+        ensures { result ≡ self.detail }
     {
         let Self { code: _, detail } = self;
         detail

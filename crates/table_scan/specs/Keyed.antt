@@ -5,13 +5,10 @@ use Rattle.std.specs.Prelude.{◌≡◌, ℕ, List, Some, length, slice_get}
 use Rattle.std.specs.FinMap.{get}
 use Rattle.row_types.specs.declared.value.Value.{Value}
 use Rattle.table_defs.specs.declared.definition.TableDef.{TableDef}
-use Rattle.indexed_rows.specs.Rows.{Table, key_of}
+use Rattle.indexed_rows.specs.Rows.{Table}
 use Rattle.table_state.specs.Tables.{TableState}
 pub use Rattle.indexed_rows.specs.Rows.{has_key}
-
--- the row of each key has that key at these places
-abbrev pub IsUnderKeys : List ℕ → Table → Type 0
-IsUnderKeys places table = (key row : List Value) → get table key ≡ Some row → key_of places row ≡ key
+pub use Rattle.table_state.specs.Sound.{IsUnderKeys}
 
 -- each row has so many values
 abbrev pub HasWidth : ℕ → Table → Type 0

@@ -1,3 +1,4 @@
+pub mod AppliedLaws
 pub mod AskedLaws
 pub mod ChangeLaws
 pub mod ChildLaws
@@ -6,3 +7,4 @@ pub mod IndependenceLaws
 pub mod ListLaws
 pub mod PositionLaws
 pub mod RefusalLaws
+pub mod SoundLaws

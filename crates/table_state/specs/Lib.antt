@@ -6,5 +6,6 @@ pub mod Histories
 pub mod Independence
 pub mod Operations
 pub mod Refusals
+pub mod Sound
 pub mod StateCode
 pub mod Tables

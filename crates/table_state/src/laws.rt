@@ -6,10 +6,11 @@ ghost use Rattle.table_defs.specs.declared.definition.TableDef.{TableDef};
 ghost use Rattle.table_state.specs.declared.history.Entry.{Entry};
 ghost use Rattle.table_state.specs.declared.operation.Op.{Op};
 ghost use Rattle.table_state.specs.declared.refusal.ApplyError.{ApplyError};
-ghost use Rattle.table_state.specs.Histories.{has_ticket, is_of, position_of, state_from, state_of};
+ghost use Rattle.table_state.specs.Histories.{has_ticket, is_of, no_tables, position_of, state_from, state_of};
 ghost use Rattle.table_state.specs.Independence.{AreApart, Commute, IsWhole, with_new};
 ghost use Rattle.table_state.specs.Operations.{applied, applied_all, table_of};
 ghost use Rattle.table_state.specs.Refusals.{broken_by, broken_by_all};
+ghost use Rattle.table_state.specs.Sound.{IsTableState, RefersBack};
 ghost use Rattle.table_state.specs.Tables.{TableState};
 
 /// An operation, and a list of them, applies exactly where it breaks no rule.
@@ -47,4 +48,14 @@ pub fn later_table_law()
     ensures one { (op : Op) (def : TableDef) (s n : TableState) → IsWhole s → applied op s ≡ Some n → applied op (with_new def s) ≡ Some (with_new def n) }
     ensures all { (ops : List Op) (def : TableDef) (s n : TableState) → IsWhole s → applied_all ops s ≡ Some n → applied_all ops (with_new def s) ≡ Some (with_new def n) }
     ensures whole { (entries : List Entry) (s n : TableState) → state_from entries s ≡ Some n → IsWhole s → IsWhole n }
+{}
+
+/// No tables are a table state, and operations and definitions leave one: rows stand under their primary keys and fit
+/// their columns, and each foreign key names a row of an earlier table. A definition refers to an earlier table, as
+/// `TableDef::check` finds.
+pub fn table_state_law()
+    ensures none { IsTableState no_tables }
+    ensures one { (op : Op) (s n : TableState) → applied op s ≡ Some n → IsTableState s → IsTableState n }
+    ensures all { (ops : List Op) (s n : TableState) → applied_all ops s ≡ Some n → IsTableState s → IsTableState n }
+    ensures define { (def : TableDef) (s : TableState) → RefersBack (length s.schema) def → IsTableState s → IsTableState (with_new def s) }
 {}
