@@ -359,13 +359,13 @@ is_undone t (says.Session label request) = is_undone_request t request
 is_undone t (says.Console request) = false
 
 -- what a line is answered that the tier may do
-abbrev pub Serves : Line → World → World → Reply → Type 0
-Serves line w w' reply = MatchBool (is_undone w.tier line) (Quiet w (refuses w.tier not_yet) w' reply) (Parts line w w' reply)
+abbrev pub DoesLine : Line → World → World → Reply → Type 0
+DoesLine line w w' reply = MatchBool (is_undone w.tier line) (Quiet w (refuses w.tier not_yet) w' reply) (Parts line w w' reply)
 
 -- what a line is answered by what it says
 abbrev pub Answers : Saying → World → World → Reply → Type 0
 Answers Silent w w' reply = ⊥
-Answers (Says line) w w' reply = Serves line w w' reply
+Answers (Says line) w w' reply = DoesLine line w w' reply
 Answers (WrongAt place) w w' reply = Quiet w (refuses w.tier (wrong_at place)) w' reply
 Answers TooDeep w w' reply = Quiet w (refuses w.tier too_deep) w' reply
 
