@@ -8,7 +8,7 @@ use Rattle.outside.specs.Calls.{Told}
 use Rattle.outside.specs.Holding.{Held}
 use Rattle.outside.specs.declared.fault.BankError.{BankError}
 use Rattle.tier_engine.specs.declared.tier.Tier.{Tier}
-use Rattle.abstract_tier.specs.Commits.{IsLegal}
+use Rattle.order_laws.specs.Commits.{IsLegal}
 use Rattle.abstract_tier.specs.ReadOnlyStates.{ShowCommitted}
 use Rattle.tier_engine.specs.Standing.{Begins, StandsFor, tier_state}
 use Rattle.session_cli.specs.declared.session.Session.{Session}

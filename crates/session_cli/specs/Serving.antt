@@ -14,7 +14,8 @@ use Rattle.tier_engine.specs.declared.tier.Tier.{Tier}
 use Rattle.abstract_tier.specs.declared.reply.Reply.{Reply}
 use Rattle.abstract_tier.specs.Replying.{reply_bytes, replies_bytes}
 use Rattle.tier_engine.specs.Standing.{Mark, StandsFor, Serves, tier_state, world_of}
-use Rattle.abstract_tier.specs.Commits.{IsLegal, own_entries}
+use Rattle.order_laws.specs.Commits.{IsLegal}
+use Rattle.abstract_tier.specs.Commits.{own_entries}
 use Rattle.abstract_tier.specs.ReadOnlyStates.{ShowCommitted}
 use Rattle.abstract_tier.specs.Steps.{World, IsUnshared, Run}
 use Rattle.abstract_tier.specs.TierStates.{opened}

@@ -6,7 +6,7 @@ ghost use Rattle.tier_base.specs.declared.number.TableId.{TableId};
 ghost use Rattle.table_state.specs.declared.history.Entry.{Entry};
 ghost use Rattle.table_state.specs.declared.history.Sealed.{Sealed};
 ghost use Rattle.tier_engine.specs.declared.tier.Tier.{Tier};
-ghost use Rattle.abstract_tier.specs.Commits.{IsLegal};
+ghost use Rattle.order_laws.specs.Commits.{IsLegal};
 ghost use Rattle.abstract_tier.specs.ReadOnlyStates.{ShowCommitted};
 ghost use Rattle.tier_engine.specs.Standing.{IsApart, StandsFor, tier_state};
 
