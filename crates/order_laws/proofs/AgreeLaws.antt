@@ -1,5 +1,5 @@
 -- The virtual state and a group's order agree on the group's tables.
-use Rattle.std.proofs.Common.{◌≡◌, ℕ, zero, suc, Bool, true, false, not, ◌&&◌, ◌||◌, nat_eq, Option, Some, None, List, [], ◌∷◌, ◌++◌, length, map, slice_get, unwrap_or, refl, sym, ap, ◌∙◌, arith}
+use Rattle.std.proofs.Common.{◌≡◌, ℕ, zero, suc, true, false, not, ◌&&◌, ◌||◌, nat_eq, Option, Some, None, List, [], ◌∷◌, ◌++◌, length, map, slice_get, unwrap_or, refl, sym, ap, ◌∙◌, arith}
 use Rattle.std.specs.List.{filter, list_any}
 use Rattle.std.specs.FinMap.{empty}
 use Rattle.std.proofs.lemmas.List.Folds.{list_any-append}
@@ -19,6 +19,7 @@ use Rattle.order_laws.specs.Sides.{AgreeOn, IsClosed, are_off}
 use Rattle.order_laws.specs.Standing.{GroupStands, GroupsStand, StandOver, live_tables, progress_of}
 use Rattle.order_laws.proofs.OrderLaws.{ordered_schema, virtual_in_order, virtual_is, virtual_schema}
 use Rattle.order_laws.proofs.StepLaws.{or_none}
+use Rattle.order_laws.proofs.TruthLaws.{both_true, untrue}
 
 pub no_element : {X Y : Type 0} (xs : List X) (ys : List Y) (i : ℕ) → slice_get xs i ≡ None → length ys ≡ length xs → slice_get ys i ≡ None
 no_element [] [] i e size = refl
@@ -72,11 +73,3 @@ off_part a b (op ∷ ops) off =
     let (here, there) = or_none (is_op_on a op) (is_op_on b op) (sym (list_any-append (λ (one : TableId). nat_eq one.0 (table_of op).0) a b) ∙ untrue (is_op_on (a ++ b) op) first) in
     let (more, last) = off_part a b ops rest in
     ((λ i. (here i || more i)), (λ i. not (there i) && last i))
-  where
-    both_true : (a b : Bool) → (a && b) ≡ true → (a ≡ true) × (b ≡ true)
-    both_true true b e = (refl, e)
-    both_true false b e = cc
-
-    untrue : (b : Bool) → not b ≡ true → b ≡ false
-    untrue true e = cc
-    untrue false e = refl

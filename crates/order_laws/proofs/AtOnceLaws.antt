@@ -20,17 +20,14 @@ use Rattle.order_laws.proofs.CommittingLaws.{commits}
 use Rattle.order_laws.proofs.NextLaws.{sealed_parted}
 use Rattle.order_laws.proofs.PairLaws.{Apart}
 use Rattle.order_laws.proofs.SideLaws.{OnSide, side_on, sides_apart}
-use Rattle.order_laws.proofs.StepLaws.{both_true, same_key}
+use Rattle.order_laws.proofs.StepLaws.{same_key}
+use Rattle.order_laws.proofs.TruthLaws.{both_true, or_true}
 
 -- where no key is in both, the test says so
 
 none_met : (q : RowKey → Bool) (xs : List RowKey) → ((w : RowKey) → is_among xs w ≡ true → q w ≡ false) → list_any q xs ≡ false
 none_met q [] h = refl
 none_met q (x ∷ xs) h = λ i. h x (ap (λ b. b || is_among xs x) (same_key x.table x.key x.key refl)) i || none_met q xs (λ w e. h w (ap (λ b. same_row_key w x || b) e ∙ or_true (same_row_key w x))) i
-  where
-    or_true : (b : Bool) → (b || true) ≡ true
-    or_true true = refl
-    or_true false = refl
 
 pub conflict_none : (f g : Footprint) → Apart f g → conflict f g ≡ false
 conflict_none f g apart = λ i. none_met (is_in g) f.written apart.here i || none_met (is_in f) g.written apart.there i

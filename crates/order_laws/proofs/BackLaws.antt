@@ -28,8 +28,9 @@ use Rattle.order_laws.proofs.CountLaws.{defs_of, get_front, rows_later}
 use Rattle.order_laws.proofs.EffectLaws.{all_parted}
 use Rattle.order_laws.proofs.NextLaws.{all_defined}
 use Rattle.order_laws.proofs.PairLaws.{Parted}
-use Rattle.order_laws.proofs.StepLaws.{Applies, after, asks, both_true, parts, whole}
+use Rattle.order_laws.proofs.StepLaws.{Applies, after, asks, parts, whole}
 use Rattle.order_laws.proofs.TableLaws.{footprint_later, get_same, known_where_applied}
+use Rattle.order_laws.proofs.TruthLaws.{both_true, same_some}
 
 abbrev Row : Type 0
 Row = List Value
@@ -63,9 +64,6 @@ op_before op d s m is_whole known is =
     let (y, y_is) = by a defined (slice_get s.tables (table_of op).0) refl in
     (y, y_is, same_some (sym is ∙ applied_later op d s y is_whole y_is))
   where
-    same_some : {X : Type 0} {x y : X} → Some x ≡ Some y → x ≡ y
-    same_some e = cc
-
     by : (a : Applies op (with_new d s) m) → slice_get s.schema (table_of op).0 ≡ Some a.def → (o : Option Table) → slice_get s.tables (table_of op).0 ≡ o → (y : TableState) × (applied op s ≡ Some y)
     by a defined None e = let none : slice_get s.schema (table_of op).0 ≡ None = no_element s.tables s.schema (table_of op).0 e (sym is_whole) in cc
     by a defined (Some table) e =
@@ -118,9 +116,6 @@ past_one whole more own ops s t z whole_is known none own_is ops_is =
     in
     by (all_parted own ops s here) (applied_all ops s) refl
   where
-    same_some : {X : Type 0} {x y : X} → Some x ≡ Some y → x ≡ y
-    same_some e = cc
-
     by : Parted (applied_all own) (applied_all ops) s → (o : Option TableState) → applied_all ops s ≡ o → (y : TableState) × (applied_all ops s ≡ Some y) × (applied_all own y ≡ Some z)
     by p None e = let none : applied_all ops t ≡ None = p.first t own_is e in let both : None ≡ Some z = sym none ∙ ops_is in cc
     by p (Some y) e = let (w, behind, own_behind) = p.both t y own_is e in (y, e, own_behind ∙ ap Some (same_some (sym behind ∙ ops_is)))

@@ -14,7 +14,7 @@ use Rattle.order_laws.specs.Commits.{FollowsLower, HasOps, KeepsOrder, Once, con
 use Rattle.order_laws.specs.Sides.{AgreeOn, IsClosed, are_on}
 use Rattle.order_laws.specs.Standing.{StandOver, progress_of}
 use Rattle.order_laws.proofs.SideLaws.{restricted}
-use Rattle.order_laws.proofs.StepLaws.{both_true}
+use Rattle.order_laws.proofs.TruthLaws.{both_true}
 
 -- with no transactions yet
 

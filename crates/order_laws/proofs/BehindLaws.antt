@@ -16,8 +16,8 @@ use Rattle.order_laws.specs.Steps.{ops_in}
 use Rattle.order_laws.proofs.AtOnceLaws.{conflict_none}
 use Rattle.order_laws.proofs.ComingLaws.{none_on}
 use Rattle.order_laws.proofs.LeavingLaws.{conflict_on}
-use Rattle.order_laws.proofs.PairLaws.{never_both, not_both}
 use Rattle.order_laws.proofs.RoundLaws.{follows_at, in_log, once_before}
+use Rattle.order_laws.proofs.TruthLaws.{never_both, not_both}
 
 -- nothing conflicts with no operations
 empty_apart : (schema : List TableDef) (ops : List Op) → conflict (footprint_of schema []) (footprint_of schema ops) ≡ false

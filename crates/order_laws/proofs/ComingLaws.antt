@@ -18,8 +18,8 @@ use Rattle.order_laws.specs.Commits.{IsCommitted, IsLegal, LiveGroup, MayCome, N
 use Rattle.order_laws.specs.Sides.{are_on}
 use Rattle.order_laws.specs.Standing.{GroupsStand, PendingIsLive, StandOver, live_tables, progress_of}
 use Rattle.order_laws.proofs.NextLaws.{all_defined, by_option, legal_behind, nat_eq_other, virtual_stays}
-use Rattle.order_laws.proofs.PairLaws.{never_both, not_both}
-use Rattle.order_laws.proofs.StepLaws.{both_true, or_none}
+use Rattle.order_laws.proofs.StepLaws.{or_none}
+use Rattle.order_laws.proofs.TruthLaws.{both_true, never_both, not_both, once_more, or_true, some_none}
 
 -- an entry without operations does nothing
 
@@ -39,10 +39,6 @@ kept_has p (x ∷ xs) j ys kept =
       | true ↦ ap (λ b. nat_eq x.ticket.0 j.ticket.0 || b) (kept_has p xs j ys kept) ∙ or_true (nat_eq x.ticket.0 j.ticket.0)
       | false ↦ kept_has p xs j ys kept
     ]
-  where
-    or_true : (b : Bool) → (b || true) ≡ true
-    or_true true = refl
-    or_true false = refl
 
 none_at : (g : LiveGroup) (h : List Entry) (xs : List Sealed) (j : Sealed) (ys : List Sealed) → NoneBelow g h (xs ++ j ∷ ys) → is_pending h j ≡ true → list_any (is_op_on g.tables) j.ops ≡ true → g.first ≤ j.ticket.0
 none_at g h [] j ys none = none.0
@@ -133,19 +129,12 @@ comes_leaving groups h log next j over may = by (applied_all j.ops over.backing)
   where
     state : state_of (h ++ entry_of j ∷ []) ≡ applied_all j.ops over.backing
     state = state_of-append h (entry_of j ∷ []) ∙ ap (option_and_then (state_from (entry_of j ∷ []))) over.leaves ∙ once_more (applied_all j.ops over.backing)
-      where
-        once_more : (o : Option TableState) → option_and_then (state_from []) o ≡ o
-        once_more None = refl
-        once_more (Some x) = refl
 
     virtual : virtual_state (h ++ entry_of j ∷ []) log ≡ Some over.virtual
     virtual = virtual_stays h over.backing 1 log next j over.leaves over.rise may ∙ over.virtual_is
 
     by : (o : Option TableState) → applied_all j.ops over.backing ≡ o → (now : StandOver (progress_of groups (h ++ entry_of j ∷ []) log next)) × (now.virtual ≡ over.virtual)
     by None e = let none : None ≡ Some over.virtual = sym (ap (option_and_then (applied_sealed (pending (h ++ entry_of j ∷ []) log))) (state ∙ e)) ∙ virtual in absurd (some_none none)
-      where
-        some_none : {X : Type 0} {x : X} → None ≡ Some x → ⊥
-        some_none e = cc
     by (Some b) e =
         let same : b.schema ≡ over.backing.schema = all_defined j.ops over.backing b e in (
           record {

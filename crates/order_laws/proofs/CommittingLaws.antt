@@ -1,5 +1,5 @@
 -- A transaction is committed: it stands behind the others, pending.
-use Rattle.std.proofs.Common.{◌≡◌, ℕ, ◌+◌, ◌≤◌, ◌<◌, Bool, true, false, cond, not, ◌&&◌, ◌||◌, nat_eq, Option, Some, None, List, [], ◌∷◌, ◌++◌, map, refl, sym, ap, subst, ◌∙◌, arith, append_assoc, append-nil, eq-eqb, lt_of_not-le}
+use Rattle.std.proofs.Common.{◌≡◌, ℕ, ◌+◌, ◌≤◌, ◌<◌, Bool, true, false, cond, not, ◌&&◌, ◌||◌, nat_eq, Some, List, [], ◌∷◌, ◌++◌, map, refl, sym, ap, subst, ◌∙◌, arith, append_assoc, append-nil, eq-eqb, lt_of_not-le}
 use Rattle.std.specs.List.{filter}
 use Rattle.std.specs.Option.{option_and_then}
 use Rattle.std.proofs.lemmas.List.{map-append}
@@ -19,15 +19,11 @@ use Rattle.order_laws.specs.Sides.{IsClosed, all_on, are_on}
 use Rattle.order_laws.specs.Standing.{GroupStands, GroupsStand, PendingIsLive, StandOver, live_tables, progress_of}
 use Rattle.order_laws.proofs.AgreeLaws.{same_on_group}
 use Rattle.order_laws.proofs.NextLaws.{by_option, nat_eq_other, sealed-append}
-use Rattle.order_laws.proofs.PairLaws.{never_both}
 use Rattle.order_laws.proofs.SideLaws.{restricted}
 use Rattle.order_laws.proofs.StepLaws.{or_none}
 use Rattle.order_laws.proofs.OrderLaws.{virtual_schema}
 use Rattle.order_laws.proofs.CountLaws.{schema_after}
-
-or_false : (b : Bool) → (b || false) ≡ b
-or_false true = refl
-or_false false = refl
+use Rattle.order_laws.proofs.TruthLaws.{never_both, once_more, or_false}
 
 pub rise_last : (low : ℕ) (log : List Sealed) (next : ℕ) (s : Sealed) → RiseBetween low log next → next ≤ s.ticket.0 → RiseBetween low (log ++ s ∷ []) (s.ticket.0 + 1)
 rise_last low [] next s rise le = (let first : low ≤ next = rise in let more : next ≤ s.ticket.0 = le in omega arith, omega arith)
@@ -107,10 +103,6 @@ order_longer g h log s fresh mine =
     ∙ ap state_of (map-append (entry_on g.tables) (front ++ map entry_of group) (entry_of s ∷ []))
     ∙ state_of-append (map (entry_on g.tables) (front ++ map entry_of group)) (entry_on g.tables (entry_of s) ∷ [])
     ∙ by_option (state_from (entry_on g.tables (entry_of s) ∷ [])) (applied_all (ops_on g.tables s.ops)) (λ x. once_more (applied_all (ops_on g.tables s.ops) x)) (state_of (map (entry_on g.tables) (front ++ map entry_of group)))
-  where
-    once_more : (o : Option TableState) → option_and_then (state_from []) o ≡ o
-    once_more None = refl
-    once_more (Some x) = refl
 
 order_grows : (g : LiveGroup) (h : List Entry) (log : List Sealed) (s : Sealed) (o : TableState) → has_ticket s.ticket.0 h ≡ false → in_order g h log ≡ Some o → is_of_group g s ≡ true
     → in_order g h (log ++ s ∷ []) ≡ applied_all (ops_on g.tables s.ops) o

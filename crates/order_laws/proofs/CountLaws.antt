@@ -22,7 +22,8 @@ use Rattle.table_state.proofs.IndependenceLaws.{stays_defined}
 use Rattle.order_laws.specs.Effects.{row_left_by, row_at}
 use Rattle.order_laws.specs.Steps.{ops_in}
 use Rattle.order_laws.proofs.NextLaws.{all_defined}
-use Rattle.order_laws.proofs.StepLaws.{Applies, asks, both_true, is_none, key_in, parts, row_after}
+use Rattle.order_laws.proofs.StepLaws.{Applies, asks, is_none, key_in, parts, row_after}
+use Rattle.order_laws.proofs.TruthLaws.{both_true}
 
 abbrev Row : Type 0
 Row = List Value

@@ -14,9 +14,8 @@ use Rattle.order_laws.specs.Commits.{LiveGroup, NoneBelow, RiseBetween, entry_on
 use Rattle.order_laws.specs.Sides.{AgreeOn, IsClosed, are_off}
 use Rattle.order_laws.specs.Standing.{StandOver, all_off, progress_of}
 use Rattle.order_laws.proofs.CountLaws.{rows_later, stays_known}
-use Rattle.order_laws.proofs.PairLaws.{never_both, not_both}
 use Rattle.order_laws.proofs.SideLaws.{restricted}
-use Rattle.order_laws.proofs.StepLaws.{both_true}
+use Rattle.order_laws.proofs.TruthLaws.{both_true, never_both, not_both, untrue}
 
 module _ (tables : List TableId) where
   entry_restricted : (e : Entry) (s t m : TableState) → IsClosed tables s.schema → AgreeOn tables s m → after_entry e s ≡ Some t → (u : TableState) × (after_entry (entry_on tables e) m ≡ Some u) × AgreeOn tables t u
@@ -72,10 +71,6 @@ off_none tables [] off = refl
 off_none tables (op ∷ ops) off =
     let (first, rest) = both_true (not (is_op_on tables op)) (are_off tables ops) off in
     λ i. untrue (is_op_on tables op) first i || off_none tables ops rest i
-  where
-    untrue : (b : Bool) → not b ≡ true → b ≡ false
-    untrue true e = cc
-    untrue false e = refl
 
 none_writes : (g : LiveGroup) (h : List Entry) (log : List Sealed) → all_off g.tables (pending h log) ≡ true → NoneBelow g h log
 none_writes g h [] off = tt

@@ -22,14 +22,11 @@ use Rattle.order_laws.proofs.ChainLaws.{applies_as_before, commutes, lists_parte
 use Rattle.order_laws.proofs.NextLaws.{sealed_parted}
 use Rattle.order_laws.proofs.PairLaws.{Parted, apart_of, first_part, ops_parted, part_apart, print_of, same_place, turned}
 use Rattle.order_laws.proofs.SideLaws.{restricted, side_off, side_on, sides_apart}
-use Rattle.order_laws.proofs.StepLaws.{asks, both_true, child_after, key_in, parts, row_after, row_stays, written_is}
+use Rattle.order_laws.proofs.StepLaws.{asks, child_after, key_in, parts, row_after, row_stays, written_is}
+use Rattle.order_laws.proofs.TruthLaws.{both_true, or_false}
 
 abbrev Row : Type 0
 Row = List Value
-
-or_false : (b : Bool) → (b || false) ≡ b
-or_false true = refl
-or_false false = refl
 
 -- the key that it writes is the one
 key_is : (op : Op) (s : TableState) (def : TableDef) (table : Table) (w : RowKey) → asks op s def table ≡ true → is_among (flat_map (written_key (table_of op) (Some def)) (rows_of op)) w ≡ true

@@ -9,6 +9,7 @@ use Rattle.order_laws.specs.Commits.{LiveGroup, applied_sealed, in_order, pendin
 use Rattle.order_laws.specs.Sides.{AgreeOn}
 use Rattle.order_laws.specs.Standing.{GroupStands, GroupsStand, HasGroup, StandOver, progress_of}
 use Rattle.order_laws.proofs.AgreeLaws.{same_on_group}
+use Rattle.order_laws.proofs.TruthLaws.{same_some}
 
 one_ordered : (before : List LiveGroup) (g : LiveGroup) (behind : List LiveGroup) (h : List Entry) (log : List Sealed) (schema : List TableDef) (next : ℕ) → GroupsStand (before ++ g ∷ behind) h log schema next → GroupStands g h log schema next
 one_ordered [] g behind h log schema next ordered = ordered.0
@@ -31,9 +32,6 @@ backing_is_order groups h log next over none g among =
     let (o, o_is, agree) = virtual_is_order groups h log next over g among in
     let all : Some over.backing ≡ Some over.virtual = sym (λ i. option_and_then (applied_sealed (none i)) (over.leaves i)) ∙ over.virtual_is in
     (o, o_is, subst (λ (x : TableState). AgreeOn g.tables x o) (sym (same_some all)) agree)
-  where
-    same_some : {X : Type 0} {x y : X} → Some x ≡ Some y → x ≡ y
-    same_some e = cc
 
 -- a group that is dropped
 pub group_dropped : (before : List LiveGroup) (g : LiveGroup) (behind : List LiveGroup) (h : List Entry) (log : List Sealed) (next : ℕ) → StandOver (progress_of (before ++ g ∷ behind) h log next) → StandOver (progress_of (before ++ behind) h log next)

@@ -27,14 +27,11 @@ use Rattle.order_laws.proofs.BackLaws.{NoneMeets, goes_before}
 use Rattle.order_laws.proofs.CountLaws.{defs_of, schema_after}
 use Rattle.order_laws.proofs.NextLaws.{HasNot, before_has_not, behind_has_not, nat_eq_other}
 use Rattle.order_laws.proofs.OrderLaws.{defs-append, defs_on, defs_other, defs_sealed, ordered_schema}
-use Rattle.order_laws.proofs.PairLaws.{IsPart, apart_of, never_both, part_apart, turned}
+use Rattle.order_laws.proofs.PairLaws.{IsPart, apart_of, part_apart, turned}
 use Rattle.order_laws.proofs.RoundLaws.{once_before}
-use Rattle.order_laws.proofs.StepLaws.{among_left, among_right, both_true, or_none}
+use Rattle.order_laws.proofs.StepLaws.{among_left, among_right, or_none}
 use Rattle.order_laws.proofs.TableLaws.{known_where_applied}
-
-or_true : (b : Bool) → (b || true) ≡ true
-or_true true = refl
-or_true false = refl
+use Rattle.order_laws.proofs.TruthLaws.{both_true, never_both, or_true}
 
 -- a shorter log
 

@@ -1,3 +1,4 @@
+pub mod TruthLaws
 pub mod MapLaws
 pub mod StepLaws
 pub mod PairLaws

@@ -16,7 +16,8 @@ use Rattle.table_state.proofs.HistoryLaws.{has_ticket-append, state_of-append}
 use Rattle.table_state.proofs.IndependenceLaws.{stays_defined}
 use Rattle.order_laws.specs.Commits.{AreOps, FollowsLower, HasOps, IsLegal, KeepsOrder, MayCome, NoneConflicts, Once, RiseBetween, applied_sealed, conflicting, is_pending, pending, virtual_state}
 use Rattle.order_laws.proofs.ChainLaws.{commutes, lists_parted, nothing_parted, then_parted, turn}
-use Rattle.order_laws.proofs.PairLaws.{Parted, apart_of, never_both, not_both}
+use Rattle.order_laws.proofs.PairLaws.{Parted, apart_of}
+use Rattle.order_laws.proofs.TruthLaws.{never_both, not_both, once_more, or_false, or_true}
 
 -- a transaction past others
 
@@ -62,10 +63,6 @@ goes_first xs j ys s none =
 
 pub nat_eq_other : (a b : ℕ) → (a ≡ b → ⊥) → nat_eq a b ≡ false
 nat_eq_other a b differ = not_both (nat_eq a b) (λ e. differ (eqb-true a b e))
-
-or_false : (b : Bool) → (b || false) ≡ b
-or_false true = refl
-or_false false = refl
 
 -- with the entry of a transaction behind, another ticket stands as before
 pub ticket_behind : (h : List Entry) (j : Sealed) (t : ℕ) → (j.ticket.0 ≡ t → ⊥) → has_ticket t (h ++ entry_of j ∷ []) ≡ has_ticket t h
@@ -151,14 +148,6 @@ virtual_stays h s low log high j is rise may =
     (λ i. option_and_then (applied_sealed (new i)) (state i))
     ∙ sym (goes_first (pending h xs) j (pending h ys) s none)
     ∙ sym (λ i. option_and_then (applied_sealed (now i)) (is i))
-  where
-    or_true : (b : Bool) → (b || true) ≡ true
-    or_true true = refl
-    or_true false = refl
-
-    once_more : (o : Option TableState) → option_and_then (state_from []) o ≡ o
-    once_more None = refl
-    once_more (Some x) = refl
 
 -- and the history stays legal
 

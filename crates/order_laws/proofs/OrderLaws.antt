@@ -16,7 +16,7 @@ use Rattle.table_state.proofs.HistoryLaws.{state_of-append}
 use Rattle.order_laws.specs.Commits.{AreOps, HasOps, LiveGroup, NoneBelow, Once, RiseBetween, applied_sealed, entry_on, in_order, is_of_group, is_op_on, is_other, is_pending, of_group, ops_on, pending, virtual_state}
 use Rattle.order_laws.proofs.CountLaws.{defs_of, same_table, schema_after, total, weigh, weigh-append}
 use Rattle.order_laws.proofs.NextLaws.{HasNot, above_has_not, by_option, nat_eq_other}
-use Rattle.order_laws.proofs.PairLaws.{never_both, not_both}
+use Rattle.order_laws.proofs.TruthLaws.{never_both, not_both}
 
 -- the virtual state is what a longer history leaves
 

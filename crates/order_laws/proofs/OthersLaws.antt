@@ -23,7 +23,7 @@ use Rattle.order_laws.proofs.ComingLaws.{empty_own, none_below_more, none_on}
 use Rattle.order_laws.proofs.NextLaws.{all_defined}
 use Rattle.order_laws.proofs.PairLaws.{Parted}
 use Rattle.order_laws.proofs.SideLaws.{OnSide, off_step, side_off, side_on, sides_apart}
-use Rattle.order_laws.proofs.StepLaws.{both_true}
+use Rattle.order_laws.proofs.TruthLaws.{both_true, or_false}
 
 -- transactions on one side, operations on the other
 pub sealed_sides : (tables : List TableId) (xs : List Sealed) (ops : List Op) (s : TableState) → IsClosed tables s.schema → all_on tables xs ≡ true → OnSide tables false ops → Parted (applied_sealed xs) (applied_all ops) s
@@ -39,10 +39,6 @@ sealed_sides tables (x ∷ xs) ops s closed on off =
 module _ (e : Entry) (none : (t : ℕ) → is_of t e ≡ false) where
   pub ticket_stays : (h : List Entry) (t : ℕ) → has_ticket t (h ++ e ∷ []) ≡ has_ticket t h
   ticket_stays h t = has_ticket-append t h (e ∷ []) ∙ ap (λ b. has_ticket t h || (b || false)) (none t) ∙ or_false (has_ticket t h)
-    where
-      or_false : (b : Bool) → (b || false) ≡ b
-      or_false true = refl
-      or_false false = refl
 
   pub pending_stays : (h : List Entry) (log : List Sealed) → pending (h ++ e ∷ []) log ≡ pending h log
   pending_stays h [] = refl

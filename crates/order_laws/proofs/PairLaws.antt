@@ -15,6 +15,7 @@ use Rattle.table_state.specs.Operations.{applied, table_of}
 use Rattle.order_laws.specs.Effects.{AgreeFor, row_left_by}
 use Rattle.order_laws.proofs.MapLaws.{over, over_apart}
 use Rattle.order_laws.proofs.StepLaws.{Applies, after, applies_alike, among_left, among_right, child_after, goes_over, key_in, or_none, parts, row_stays, same_length, same_schema, whole, writes_key}
+use Rattle.order_laws.proofs.TruthLaws.{never_both, not_both, same_some}
 
 abbrev Row : Type 0
 Row = List Value
@@ -27,14 +28,6 @@ pub record Apart (f g : Footprint) : Type 0 where
 
 pub turned : (f g : Footprint) → Apart f g → Apart g f
 turned f g apart = record { here = apart.there; there = apart.here }
-
-pub not_both : (b : Bool) → (b ≡ true → ⊥) → b ≡ false
-not_both true h = absurd (h refl)
-not_both false h = refl
-
-pub never_both : (b : Bool) → b ≡ true → b ≡ false → ⊥
-never_both true e f = cc
-never_both false e f = cc
 
 pub same_place : (w x : RowKey) → same_row_key w x ≡ true → x ≡ w
 same_place w x e = by (nat_eq w.table.0 x.table.0) refl e
@@ -143,9 +136,6 @@ refused_behind a b s x apart is none = by (applied b x) refl
 
 pub gives_as : (op : Op) (s n : TableState) (is : Applies op s n) (def : TableDef) → slice_get s.schema (table_of op).0 ≡ Some def → n ≡ after op def s
 gives_as op s n is def defined = let same : is.def ≡ def = same_some (sym is.defined ∙ defined) in is.gives ∙ ap (λ d. after op d s) same
-  where
-    same_some : {X : Type 0} {x y : X} → Some x ≡ Some y → x ≡ y
-    same_some e = cc
 
 keys_apart : (a b : Op) (schema : List TableDef) (da db : TableDef) → slice_get schema (table_of a).0 ≡ Some da → slice_get schema (table_of b).0 ≡ Some db → Apart (print_of schema a) (print_of schema b)
     → (table_of a).0 ≡ (table_of b).0 → is_same (key_in da a) (key_in db b) ≡ false

@@ -1,5 +1,5 @@
 -- The events, in the words of the contracts.
-use Rattle.std.proofs.Common.{◌≡◌, ℕ, ◌≤◌, Bool, true, false, not, is_some, List, [], ◌∷◌, ◌++◌, refl, sym, ap, subst, ◌∙◌}
+use Rattle.std.proofs.Common.{◌≡◌, ℕ, ◌≤◌, true, is_some, List, [], ◌∷◌, ◌++◌, sym, ap, subst, ◌∙◌}
 use Rattle.std.specs.Option.{option_and_then}
 use Rattle.table_defs.specs.declared.definition.TableDef.{TableDef}
 use Rattle.table_state.specs.declared.history.Entry.{Entry}
@@ -17,6 +17,7 @@ use Rattle.order_laws.specs.Steps.{after_coming, after_commit, after_entries, be
 use Rattle.order_laws.proofs.EffectLaws.{past_apart}
 use Rattle.order_laws.proofs.GroupLaws.{backing_is_order, virtual_is_order}
 use Rattle.order_laws.proofs.WholeLaws.{stand_at_once, stand_begins, stand_comes, stand_commits, stand_dropped, stand_group, stand_leaves, stand_loses, stand_others, stand_round, stand_skips, stand_table}
+use Rattle.order_laws.proofs.TruthLaws.{untrue}
 
 pub begins : (history : List Entry) (next : ℕ) → MayBegin history next → Stand (begun history next)
 begins history next may = stand_begins history next may.state may.leaves may.once may.first may.below
@@ -58,10 +59,6 @@ group_goes p g one stand live =
 
 pub last_goes : (p : Progress) (s : Sealed) → is_pending p.history s ≡ true → Stand (with_last p s) → Stand p
 last_goes p s pends stand = stand_loses p.groups p.history p.log s p.next (untrue (has_ticket s.ticket.0 p.history) pends) stand
-  where
-    untrue : (b : Bool) → not b ≡ true → b ≡ false
-    untrue true e = cc
-    untrue false e = refl
 
 pub ticket_goes : (p : Progress) (later : ℕ) → p.next ≤ later → Stand p → Stand (with_next p later)
 ticket_goes p later le stand = stand_skips p.groups p.history p.log p.next later le stand

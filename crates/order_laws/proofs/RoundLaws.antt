@@ -20,11 +20,7 @@ use Rattle.order_laws.proofs.ComingLaws.{comes_leaving, live_comes}
 use Rattle.order_laws.proofs.CommittingLaws.{schemas_same}
 use Rattle.order_laws.proofs.NextLaws.{nat_eq_other}
 use Rattle.order_laws.proofs.OthersLaws.{others_come}
-use Rattle.order_laws.proofs.PairLaws.{never_both}
-
-or_true : (b : Bool) → (b || true) ≡ true
-or_true true = refl
-or_true false = refl
+use Rattle.order_laws.proofs.TruthLaws.{never_both, once_more, or_true}
 
 pub once_before : (xs : List Entry) (ticket : Ticket) (ops : List Op) (ys : List Entry) → Once (xs ++ Own ticket ops ∷ ys) → has_ticket ticket.0 xs ≡ false
 once_before [] ticket ops ys once = refl
@@ -65,10 +61,6 @@ front_leaves h e tail n is = by (state_of (h ++ e ∷ [])) refl (sym (state_of-a
 others_step : (groups : List LiveGroup) (h : List Entry) (log : List Sealed) (next : ℕ) (over : StandOver (progress_of groups h log next)) (ops : List Op) (t : TableState) → state_of (h ++ Foreign ops ∷ []) ≡ Some t → applied_all ops over.backing ≡ Some t
 others_step groups h log next over ops t is =
     sym (once_more (applied_all ops over.backing)) ∙ sym (state_of-append h (Foreign ops ∷ []) ∙ ap (option_and_then (state_from (Foreign ops ∷ []))) over.leaves) ∙ is
-  where
-    once_more : (o : Option TableState) → option_and_then (state_from []) o ≡ o
-    once_more None = refl
-    once_more (Some x) = refl
 
 agree_through : (groups : List LiveGroup) (s t u : TableState) → AgreeOn (live_tables groups) s t → AgreeOn (live_tables groups) t u → AgreeOn (live_tables groups) s u
 agree_through groups s t u a b = record { schema = b.schema ∙ a.schema; size = b.size ∙ a.size; rows = λ v on. b.rows v on ∙ a.rows v on }

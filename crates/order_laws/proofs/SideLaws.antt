@@ -21,18 +21,15 @@ use Rattle.table_state.proofs.IndependenceLaws.{stays_beside, stays_defined}
 use Rattle.order_laws.specs.Commits.{is_op_on, ops_on}
 use Rattle.order_laws.specs.Effects.{AgreeFor, row_left_by}
 use Rattle.order_laws.specs.Sides.{AgreeOn, IsClosed, are_off, are_on}
-use Rattle.order_laws.proofs.PairLaws.{Apart, never_both, not_both}
-use Rattle.order_laws.proofs.StepLaws.{Applies, both_true, goes_over, key_in, parts, row_after, same_length, same_schema, whole}
+use Rattle.order_laws.proofs.PairLaws.{Apart}
+use Rattle.order_laws.proofs.StepLaws.{Applies, goes_over, key_in, parts, row_after, same_length, same_schema, whole}
+use Rattle.order_laws.proofs.TruthLaws.{both_true, first_true, never_both, not_both, same_some, untrue}
 
 abbrev Row : Type 0
 Row = List Value
 
 same_one : (tables : List TableId) (a b : TableId) → a.0 ≡ b.0 → is_one_of tables a ≡ is_one_of tables b
 same_one tables a b e = λ i. list_any (λ (one : TableId). nat_eq one.0 (e i)) tables
-
-first_true : (a b : Bool) → (a && b) ≡ true → a ≡ true
-first_true true b e = refl
-first_true false b e = cc
 
 -- each key of an operation's footprint is on the operation's side
 
@@ -75,10 +72,6 @@ side_on tables (op ∷ ops) e = let (first, rest) = both_true (is_op_on tables o
 pub side_off : (tables : List TableId) (ops : List Op) → are_off tables ops ≡ true → OnSide tables false ops
 side_off tables [] e = tt
 side_off tables (op ∷ ops) e = let (first, rest) = both_true (not (is_op_on tables op)) (are_off tables ops) e in (untrue (is_op_on tables op) first, side_off tables ops rest)
-  where
-    untrue : (b : Bool) → not b ≡ true → b ≡ false
-    untrue true e = cc
-    untrue false e = refl
 
 module _ (tables : List TableId) (schema : List TableDef) (closed : IsClosed tables schema) where
   written_side : (op : Op) (w : RowKey) → is_among (written_by schema op) w ≡ true → is_one_of tables w.table ≡ is_op_on tables op
@@ -179,9 +172,6 @@ module _ (tables : List TableId) where
         },
       )
     where
-      same_some : {X : Type 0} {x y : X} → Some x ≡ Some y → x ≡ y
-      same_some e = cc
-
       rows_alike : (u : TableState) (p : Applies op s t) (q : Applies op n u) (v : TableId) → table_at n v ≡ table_at s v → table_at u v ≡ table_at t v
       rows_alike u p q v same = fm.same_map key_total key_exact (table_at u v) (table_at t v) (λ k.
           let def_is : q.def ≡ p.def = same_some (sym q.defined ∙ ap (λ l. slice_get l (table_of op).0) agree.schema ∙ p.defined) in

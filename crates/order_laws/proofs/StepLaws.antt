@@ -21,6 +21,7 @@ use Rattle.table_state.specs.Operations.{applied, only_if, table_of}
 use Rattle.table_state.proofs.ChangeLaws.{row_found}
 use Rattle.order_laws.specs.Effects.{AgreeFor, row_left_by, row_at}
 use Rattle.order_laws.proofs.MapLaws.{any_over, get_over, over, passes}
+use Rattle.order_laws.proofs.TruthLaws.{both_true, or_true}
 
 abbrev Row : Type 0
 Row = List Value
@@ -88,14 +89,6 @@ whole op s n a =
     ∙ ap Some (after_is op a.def s a.table a.there ∙ sym a.gives)
 
 -- keys among others
-
-pub or_true : (b : Bool) → (b || true) ≡ true
-or_true true = refl
-or_true false = refl
-
-pub both_true : (a b : Bool) → (a && b) ≡ true → (a ≡ true) × (b ≡ true)
-both_true true b e = (refl, e)
-both_true false b e = cc
 
 pub is_none : {X : Type 0} (o : Option X) → not (is_some o) ≡ true → o ≡ None
 is_none None e = refl

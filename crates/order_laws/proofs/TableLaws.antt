@@ -22,7 +22,8 @@ use Rattle.order_laws.specs.Commits.{AreOps, FollowsLower, HasOps, KeepsOrder, L
 use Rattle.order_laws.specs.Standing.{AreClosed, AreOnDefined, GroupsStand, StandOver, are_on_defined, progress_of}
 use Rattle.order_laws.proofs.ComingLaws.{none_below_more}
 use Rattle.order_laws.proofs.OthersLaws.{pending_stays, ticket_stays}
-use Rattle.order_laws.proofs.StepLaws.{both_true, parts}
+use Rattle.order_laws.proofs.StepLaws.{parts}
+use Rattle.order_laws.proofs.TruthLaws.{both_true}
 
 -- footprints of operations on tables that are there
 

@@ -11,8 +11,8 @@ use Rattle.table_state.specs.Independence.{AreApart, is_child_of, refers_to}
 use Rattle.table_state.specs.Operations.{table_of}
 use Rattle.order_laws.specs.Commits.{ops_conflict}
 use Rattle.order_laws.proofs.AtOnceLaws.{conflict_none}
-use Rattle.order_laws.proofs.PairLaws.{never_both, not_both}
 use Rattle.order_laws.proofs.SideLaws.{no_keys, no_parents, referred_table, written_table}
+use Rattle.order_laws.proofs.TruthLaws.{never_both, not_both}
 
 -- a key that it writes is of its own table
 on_table : (schema : List TableDef) (op : Op) (w : RowKey) → is_among (flat_map (written_by schema) (op ∷ [])) w ≡ true → w.table.0 ≡ (table_of op).0

@@ -1,5 +1,5 @@
 -- The whole of it: each event keeps that the transactions stand.
-use Rattle.std.proofs.Common.{◌≡◌, ℕ, ◌+◌, ◌≤◌, Bool, true, false, cond, not, ◌&&◌, ◌||◌, nat_eq, Some, List, [], ◌∷◌, ◌++◌, refl, sym, ap, subst, ◌∙◌, append-nil, eq-eqb}
+use Rattle.std.proofs.Common.{◌≡◌, ℕ, ◌+◌, ◌≤◌, true, false, cond, not, ◌&&◌, ◌||◌, nat_eq, Some, List, [], ◌∷◌, ◌++◌, refl, sym, ap, subst, ◌∙◌, append-nil, eq-eqb}
 use Rattle.std.specs.List.{list_all}
 use Rattle.std.proofs.lemmas.List.Elements.{filter-append}
 use Rattle.std.proofs.lemmas.List.Folds.{list_all-append, list_any-append}
@@ -30,8 +30,8 @@ use Rattle.order_laws.proofs.LeavingLaws.{leaves, pending_without, placed, there
 use Rattle.order_laws.proofs.NextLaws.{all_defined}
 use Rattle.order_laws.proofs.OthersLaws.{others_come}
 use Rattle.order_laws.proofs.RoundLaws.{round_comes}
-use Rattle.order_laws.proofs.StepLaws.{both_true}
 use Rattle.order_laws.proofs.TableLaws.{known_where_applied, table_defined}
+use Rattle.order_laws.proofs.TruthLaws.{both_true, or_true, same_some}
 
 -- defined tables
 
@@ -63,10 +63,6 @@ live_at_once groups h log s live =
     has_ticket-append s.ticket.0 h (entry_of s ∷ []) ∙ ap (λ b. has_ticket s.ticket.0 h || (b || false)) (eq-eqb s.ticket.0 s.ticket.0 refl) ∙ or_true (has_ticket s.ticket.0 h)
     in
     ap (all_on (live_tables groups)) (filter-append (is_pending now) log (s ∷ []) ∙ ap (λ b. pending now log ++ cond (not b) (s ∷ []) []) here ∙ append-nil (pending now log)) ∙ live_comes groups h (entry_of s ∷ []) log live
-  where
-    or_true : (b : Bool) → (b || true) ≡ true
-    or_true true = refl
-    or_true false = refl
 
 live_front : (groups : List LiveGroup) (h : List Entry) (log : List Sealed) (s : Sealed) → has_ticket s.ticket.0 h ≡ false → PendingIsLive groups h (log ++ s ∷ []) → PendingIsLive groups h log
 live_front groups h log s fresh live =
@@ -79,10 +75,6 @@ on_more a b (op ∷ ops) on =
     let (first, rest) = both_true (is_op_on b op) (are_on b ops) on in
     let here : is_op_on (a ++ b) op ≡ true = list_any-append (λ (one : TableId). nat_eq one.0 (table_of op).0) a b ∙ ap (λ c. is_op_on a op || c) first ∙ or_true (is_op_on a op) in
     λ i. here i && on_more a b ops rest i
-  where
-    or_true : (b : Bool) → (b || true) ≡ true
-    or_true true = refl
-    or_true false = refl
 
 all_more : (a b : List TableId) (xs : List Sealed) → all_on b xs ≡ true → all_on (a ++ b) xs ≡ true
 all_more a b [] on = refl
@@ -97,9 +89,6 @@ backing_schema groups others h i log more next later over now same =
 
 same_backing : (h : List Entry) (a b : TableState) → state_of h ≡ Some a → state_of h ≡ Some b → a.schema ≡ b.schema
 same_backing h a b a_is b_is = ap (λ x. x.schema) (same_some (sym a_is ∙ b_is))
-  where
-    same_some : {X : Type 0} {x y : X} → Some x ≡ Some y → x ≡ y
-    same_some e = cc
 
 -- the events
 
