@@ -16,7 +16,7 @@ use Rattle.table_state.specs.Operations.{table_of}
 use Rattle.table_state.proofs.IndependenceLaws.{history_whole}
 use Rattle.order_laws.specs.Commits.{HasOps, LiveGroup, NoneBelow, Once, RiseBetween, entry_on, in_order, is_op_on, is_other, of_group, pending, virtual_state}
 use Rattle.order_laws.specs.Sides.{AgreeOn, IsClosed, are_off}
-use Rattle.order_laws.specs.Standing.{GroupStands, GroupsStand, StandOver, live_tables, progress_of}
+use Rattle.order_laws.specs.Standing.{GroupIsOrdered, GroupsAreOrdered, StandOver, live_tables, progress_of}
 use Rattle.order_laws.proofs.OrderLaws.{ordered_schema, virtual_in_order, virtual_is, virtual_schema}
 use Rattle.order_laws.proofs.StepLaws.{or_none}
 use Rattle.order_laws.proofs.TruthLaws.{both_true, untrue}
@@ -52,13 +52,13 @@ same_in_order g h low log high v o once ops rise none_below v_is o_is = record {
         ap (λ x. unwrap_or x empty) (mine ∙ sym its)
     by t on (Some def) d = virtual_in_order g h low log high v o once ops rise none_below v_is o_is t def on d
 
-pub same_on_group : (groups : List LiveGroup) (h : List Entry) (log : List Sealed) (next : ℕ) (over : StandOver (progress_of groups h log next)) (g : LiveGroup) → GroupStands g h log over.backing.schema next
+pub same_on_group : (groups : List LiveGroup) (h : List Entry) (log : List Sealed) (next : ℕ) (over : StandOver (progress_of groups h log next)) (g : LiveGroup) → GroupIsOrdered g h log over.backing.schema next
     → (o : TableState) → in_order g h log ≡ Some o → AgreeOn g.tables over.virtual o
 same_on_group groups h log next over g ordered o o_is = same_in_order g h 1 log next over.virtual o over.legal.once over.legal.ops over.rise ordered.none_below over.virtual_is o_is
 
 -- the tables of all live groups
 
-pub all_closed : (groups : List LiveGroup) (h : List Entry) (log : List Sealed) (schema : List TableDef) (next : ℕ) → GroupsStand groups h log schema next → IsClosed (live_tables groups) schema
+pub all_closed : (groups : List LiveGroup) (h : List Entry) (log : List Sealed) (schema : List TableDef) (next : ℕ) → GroupsAreOrdered groups h log schema next → IsClosed (live_tables groups) schema
 all_closed [] h log schema next ordered t def f d f_is = refl
 all_closed (g ∷ groups) h log schema next ordered t def f d f_is =
     list_any-append (λ (one : TableId). nat_eq one.0 f.parent.0) g.tables (live_tables groups)

@@ -11,7 +11,7 @@ use Rattle.table_state.specs.Footprints.{conflict, footprint_of}
 use Rattle.table_state.specs.Histories.{entry_of, has_ticket}
 use Rattle.table_state.proofs.HistoryLaws.{has_ticket-append}
 use Rattle.order_laws.proofs.StepLaws.{or_none}
-use Rattle.order_laws.specs.Commits.{FollowsLower, IsCommitted, IsLegal, KeepsOrder, LiveGroup, Once, is_op_on, ops_on}
+use Rattle.order_laws.specs.Commits.{FollowsLower, IsInLog, IsLegal, KeepsOrder, LiveGroup, Once, is_op_on, ops_on}
 use Rattle.order_laws.specs.Steps.{ops_in}
 use Rattle.order_laws.proofs.AtOnceLaws.{conflict_none}
 use Rattle.order_laws.proofs.ComingLaws.{none_on}
@@ -37,7 +37,7 @@ behind_by g schema s e (inr none) = conflict_on g.tables schema (ops_in e) s.ops
 
 -- of a legal history a lower transaction that stands behind a higher one doesn't conflict with it
 
-follows_one : (conflict : Sealed → Sealed → Bool) (log : List Sealed) (s x : Sealed) (front : List Entry) → IsCommitted log x → FollowsLower conflict log s front → x.ticket.0 < s.ticket.0 → conflict x s ≡ true → has_ticket x.ticket.0 front ≡ true
+follows_one : (conflict : Sealed → Sealed → Bool) (log : List Sealed) (s x : Sealed) (front : List Entry) → IsInLog log x → FollowsLower conflict log s front → x.ticket.0 < s.ticket.0 → conflict x s ≡ true → has_ticket x.ticket.0 front ≡ true
 follows_one conflict log s x front one follows = at one.before (subst (λ (l : List Sealed). FollowsLower conflict l s front) one.is follows)
   where
     at : (before : List Sealed) → FollowsLower conflict (before ++ x ∷ one.behind) s front → x.ticket.0 < s.ticket.0 → conflict x s ≡ true → has_ticket x.ticket.0 front ≡ true
@@ -52,7 +52,7 @@ once_front front e mid ticket ops end once =
     first_part : (xs ys : List Entry) (t : Ticket) → has_ticket t.0 (xs ++ ys) ≡ false → has_ticket t.0 xs ≡ false
     first_part xs ys t none = (or_none (has_ticket t.0 xs) (has_ticket t.0 ys) (sym (has_ticket-append t.0 xs ys) ∙ none)).0
 
-pub lower_behind : (conflict : Sealed → Sealed → Bool) (h : List Entry) (log : List Sealed) (front mid end : List Entry) (s x : Sealed) → IsLegal conflict h log → h ≡ front ++ entry_of s ∷ (mid ++ entry_of x ∷ end) → IsCommitted log s → IsCommitted log x
+pub lower_behind : (conflict : Sealed → Sealed → Bool) (h : List Entry) (log : List Sealed) (front mid end : List Entry) (s x : Sealed) → IsLegal conflict h log → h ≡ front ++ entry_of s ∷ (mid ++ entry_of x ∷ end) → IsInLog log s → IsInLog log x
     → x.ticket.0 < s.ticket.0 → conflict x s ≡ false
 lower_behind conflict h log front mid end s x legal is s_in x_in less = not_both (conflict x s) (λ meets.
     let once : Once (front ++ entry_of s ∷ (mid ++ entry_of x ∷ end)) = subst (λ (l : List Entry). Once l) is legal.once in

@@ -14,9 +14,9 @@ use Rattle.table_state.specs.Histories.{entry_of, has_ticket, state_from, state_
 use Rattle.table_state.specs.Tables.{TableState}
 use Rattle.table_state.specs.Operations.{applied_all}
 use Rattle.table_state.proofs.HistoryLaws.{has_ticket-append, state_of-append}
-use Rattle.order_laws.specs.Commits.{IsCommitted, IsLegal, LiveGroup, MayCome, NoneBelow, RiseBetween, applied_sealed, conflicting, entry_on, in_order, is_of_group, is_op_on, is_other, is_pending, of_group, ops_on, pending, virtual_state}
+use Rattle.order_laws.specs.Commits.{IsInLog, IsLegal, LiveGroup, MayCome, NoneBelow, RiseBetween, applied_sealed, conflicting, entry_on, in_order, is_of_group, is_op_on, is_other, is_pending, of_group, ops_on, pending, virtual_state}
 use Rattle.order_laws.specs.Sides.{are_on}
-use Rattle.order_laws.specs.Standing.{GroupsStand, PendingIsLive, StandOver, live_tables, progress_of}
+use Rattle.order_laws.specs.Standing.{GroupsAreOrdered, PendingIsLive, StandOver, live_tables, progress_of}
 use Rattle.order_laws.proofs.NextLaws.{all_defined, by_option, legal_behind, nat_eq_other, virtual_stays}
 use Rattle.order_laws.proofs.StepLaws.{or_none}
 use Rattle.order_laws.proofs.TruthLaws.{both_true, never_both, not_both, once_more, or_true, some_none}
@@ -45,7 +45,7 @@ none_at g h [] j ys none = none.0
 none_at g h (x ∷ xs) j ys none = none_at g h xs j ys none.1
 
 -- the group's order stays
-pub order_stays : (g : LiveGroup) (h : List Entry) (log : List Sealed) (j : Sealed) → IsCommitted log j → has_ticket j.ticket.0 h ≡ false → NoneBelow g h log → in_order g (h ++ entry_of j ∷ []) log ≡ in_order g h log
+pub order_stays : (g : LiveGroup) (h : List Entry) (log : List Sealed) (j : Sealed) → IsInLog log j → has_ticket j.ticket.0 h ≡ false → NoneBelow g h log → in_order g (h ++ entry_of j ∷ []) log ≡ in_order g h log
 order_stays g h log j one fresh none =
     ap (λ l. state_of (map (entry_on g.tables) (l ++ map entry_of group))) (filter-append (is_other group) h (entry_of j ∷ []))
     ∙ by (has_ticket j.ticket.0 (map entry_of group)) refl
@@ -109,8 +109,8 @@ live_comes groups h more log live = all_fewer (λ s. are_on (live_tables groups)
 
 -- all of it
 
-groups_come : (groups : List LiveGroup) (h : List Entry) (log : List Sealed) (schema : List TableDef) (next : ℕ) (j : Sealed) → IsCommitted log j → has_ticket j.ticket.0 h ≡ false → GroupsStand groups h log schema next
-    → GroupsStand groups (h ++ entry_of j ∷ []) log schema next
+groups_come : (groups : List LiveGroup) (h : List Entry) (log : List Sealed) (schema : List TableDef) (next : ℕ) (j : Sealed) → IsInLog log j → has_ticket j.ticket.0 h ≡ false → GroupsAreOrdered groups h log schema next
+    → GroupsAreOrdered groups (h ++ entry_of j ∷ []) log schema next
 groups_come [] h log schema next j one fresh ordered = tt
 groups_come (g ∷ groups) h log schema next j one fresh ordered = (
   record {
@@ -147,7 +147,7 @@ comes_leaving groups h log next j over may = by (applied_all j.ops over.backing)
                 let lt : j.ticket.0 + 1 ≤ next = below_high 1 may.one.before j may.one.behind next (subst (λ (l : List Sealed). RiseBetween 1 l next) may.one.is over.rise) in
                 has_ticket-append t h (entry_of j ∷ []) ∙ (λ i. over.below t le i || (nat_eq_other j.ticket.0 t (λ e. absurd (let n : next ≤ t = le in omega arith)) i || false));
             legal = subst (λ (l : List TableDef). IsLegal (conflicting l) (h ++ entry_of j ∷ []) log) (sym same) (legal_behind (conflicting over.backing.schema) h 1 log next j over.rise over.legal may);
-            ordered = subst (λ (l : List TableDef). GroupsStand groups (h ++ entry_of j ∷ []) log l next) (sym same) (groups_come groups h log over.backing.schema next j may.one may.fresh over.ordered);
+            ordered = subst (λ (l : List TableDef). GroupsAreOrdered groups (h ++ entry_of j ∷ []) log l next) (sym same) (groups_come groups h log over.backing.schema next j may.one may.fresh over.ordered);
           },
           refl,
         )

@@ -16,7 +16,7 @@ use Rattle.table_state.specs.Operations.{applied_all}
 use Rattle.table_state.proofs.HistoryLaws.{has_ticket-append, state_of-append}
 use Rattle.order_laws.specs.Commits.{AreOps, FollowsLower, HasOps, IsLegal, KeepsOrder, LiveGroup, NoneBelow, RiseBetween, applied_sealed, conflicting, entry_on, in_order, is_of_group, is_other, is_pending, of_group, ops_on, pending, virtual_state}
 use Rattle.order_laws.specs.Sides.{IsClosed, all_on, are_on}
-use Rattle.order_laws.specs.Standing.{GroupStands, GroupsStand, PendingIsLive, StandOver, live_tables, progress_of}
+use Rattle.order_laws.specs.Standing.{GroupIsOrdered, GroupsAreOrdered, PendingIsLive, StandOver, live_tables, progress_of}
 use Rattle.order_laws.proofs.AgreeLaws.{same_on_group}
 use Rattle.order_laws.proofs.NextLaws.{by_option, nat_eq_other, sealed-append}
 use Rattle.order_laws.proofs.SideLaws.{restricted}
@@ -121,13 +121,13 @@ pub schemas_same : (h : List Entry) (log : List Sealed) (b v : TableState) → s
 schemas_same h log b v leaves is = virtual_schema h log v is ∙ sym (schema_after h (record { schema = []; tables = [] }) b leaves)
 
 group_grows : (all : List LiveGroup) (h : List Entry) (log : List Sealed) (next : ℕ) (over : StandOver (progress_of all h log next)) (s : Sealed) (v : TableState) → next ≤ s.ticket.0 → applied_all s.ops over.virtual ≡ Some v
-    → (g : LiveGroup) → GroupStands g h log over.backing.schema next → GroupStands g h (log ++ s ∷ []) over.backing.schema (s.ticket.0 + 1)
+    → (g : LiveGroup) → GroupIsOrdered g h log over.backing.schema next → GroupIsOrdered g h (log ++ s ∷ []) over.backing.schema (s.ticket.0 + 1)
 group_grows all h log next over s v le is g ordered = by (is_of_group g s) refl
   where
     fresh : has_ticket s.ticket.0 h ≡ false
     fresh = over.below s.ticket.0 le
 
-    by : (b : Bool) → is_of_group g s ≡ b → GroupStands g h (log ++ s ∷ []) over.backing.schema (s.ticket.0 + 1)
+    by : (b : Bool) → is_of_group g s ≡ b → GroupIsOrdered g h (log ++ s ∷ []) over.backing.schema (s.ticket.0 + 1)
     by true mine =
         let closed : IsClosed g.tables over.virtual.schema = subst (IsClosed g.tables) (sym (schemas_same h log over.backing over.virtual over.leaves over.virtual_is)) ordered.closed in
         let (u, u_is, agree) = restricted g.tables s.ops over.virtual v ordered.state closed (same_on_group all h log next over g ordered ordered.state ordered.ordered) is in
@@ -147,7 +147,7 @@ group_grows all h log next over s v le is g ordered = by (is_of_group g s) refl
     }
 
 groups_grow : (all groups : List LiveGroup) (h : List Entry) (log : List Sealed) (next : ℕ) (over : StandOver (progress_of all h log next)) (s : Sealed) (v : TableState) → next ≤ s.ticket.0 → applied_all s.ops over.virtual ≡ Some v
-    → GroupsStand groups h log over.backing.schema next → GroupsStand groups h (log ++ s ∷ []) over.backing.schema (s.ticket.0 + 1)
+    → GroupsAreOrdered groups h log over.backing.schema next → GroupsAreOrdered groups h (log ++ s ∷ []) over.backing.schema (s.ticket.0 + 1)
 groups_grow all [] h log next over s v le is ordered = tt
 groups_grow all (g ∷ groups) h log next over s v le is ordered = (group_grows all h log next over s v le is g ordered.0, groups_grow all groups h log next over s v le is ordered.1)
 

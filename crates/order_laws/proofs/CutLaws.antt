@@ -11,7 +11,7 @@ use Rattle.table_state.specs.Histories.{has_ticket}
 use Rattle.table_state.specs.Tables.{TableState}
 use Rattle.table_state.specs.Operations.{applied_all}
 use Rattle.order_laws.specs.Commits.{AreOps, FollowsLower, HasOps, KeepsOrder, LiveGroup, NoneBelow, RiseBetween, applied_sealed, conflicting, in_order, is_of_group, ops_on, pending}
-use Rattle.order_laws.specs.Standing.{GroupStands, GroupsStand, StandOver, progress_of}
+use Rattle.order_laws.specs.Standing.{GroupIsOrdered, GroupsAreOrdered, StandOver, progress_of}
 use Rattle.order_laws.proofs.CommittingLaws.{has_ticket_last, order_longer, order_without, pending_last}
 use Rattle.order_laws.proofs.NextLaws.{sealed-append}
 
@@ -50,7 +50,7 @@ some_before : {X Y : Type 0} (f : X → Option Y) (o : Option X) (y : Y) → opt
 some_before f None y e = cc
 some_before f (Some x) y e = (x, refl)
 
-group_front : (g : LiveGroup) (h : List Entry) (log : List Sealed) (s : Sealed) (schema : List TableDef) (next : ℕ) → has_ticket s.ticket.0 h ≡ false → GroupStands g h (log ++ s ∷ []) schema next → GroupStands g h log schema next
+group_front : (g : LiveGroup) (h : List Entry) (log : List Sealed) (s : Sealed) (schema : List TableDef) (next : ℕ) → has_ticket s.ticket.0 h ≡ false → GroupIsOrdered g h (log ++ s ∷ []) schema next → GroupIsOrdered g h log schema next
 group_front g h log s schema next fresh ordered =
     let (o, o_is) = by (is_of_group g s) refl in
     record { closed = ordered.closed; first = ordered.first; none_below = below_front g h log s ordered.none_below; state = o; ordered = o_is }
@@ -59,7 +59,7 @@ group_front g h log s schema next fresh ordered =
     by true mine = some_before (applied_all (ops_on g.tables s.ops)) (in_order g h log) ordered.state (sym (order_longer g h log s fresh mine) ∙ ordered.ordered)
     by false other = (ordered.state, sym (order_without g h log s other) ∙ ordered.ordered)
 
-groups_front : (groups : List LiveGroup) (h : List Entry) (log : List Sealed) (s : Sealed) (schema : List TableDef) (next : ℕ) → has_ticket s.ticket.0 h ≡ false → GroupsStand groups h (log ++ s ∷ []) schema next → GroupsStand groups h log schema next
+groups_front : (groups : List LiveGroup) (h : List Entry) (log : List Sealed) (s : Sealed) (schema : List TableDef) (next : ℕ) → has_ticket s.ticket.0 h ≡ false → GroupsAreOrdered groups h (log ++ s ∷ []) schema next → GroupsAreOrdered groups h log schema next
 groups_front [] h log s schema next fresh ordered = tt
 groups_front (g ∷ groups) h log s schema next fresh ordered = (group_front g h log s schema next fresh ordered.0, groups_front groups h log s schema next fresh ordered.1)
 
@@ -101,7 +101,7 @@ tickets_skipped groups h log next later le over = record {
     higher low [] rise = let a : low ≤ next = rise in let b : next ≤ later = le in omega arith
     higher low (s ∷ ss) rise = (rise.0, higher (s.ticket.0 + 1) ss rise.1)
 
-    more : (gs : List LiveGroup) → GroupsStand gs h log over.backing.schema next → GroupsStand gs h log over.backing.schema later
+    more : (gs : List LiveGroup) → GroupsAreOrdered gs h log over.backing.schema next → GroupsAreOrdered gs h log over.backing.schema later
     more [] ordered = tt
     more (g ∷ gs) ordered = (
       record {

@@ -7,22 +7,22 @@ use Rattle.table_state.specs.declared.history.Sealed.{Sealed}
 use Rattle.table_state.specs.Tables.{TableState}
 use Rattle.order_laws.specs.Commits.{LiveGroup, applied_sealed, in_order, pending}
 use Rattle.order_laws.specs.Sides.{AgreeOn}
-use Rattle.order_laws.specs.Standing.{GroupStands, GroupsStand, HasGroup, StandOver, progress_of}
+use Rattle.order_laws.specs.Standing.{GroupIsOrdered, GroupsAreOrdered, HasGroup, StandOver, progress_of}
 use Rattle.order_laws.proofs.AgreeLaws.{same_on_group}
 use Rattle.order_laws.proofs.TruthLaws.{same_some}
 
-one_ordered : (before : List LiveGroup) (g : LiveGroup) (behind : List LiveGroup) (h : List Entry) (log : List Sealed) (schema : List TableDef) (next : ℕ) → GroupsStand (before ++ g ∷ behind) h log schema next → GroupStands g h log schema next
+one_ordered : (before : List LiveGroup) (g : LiveGroup) (behind : List LiveGroup) (h : List Entry) (log : List Sealed) (schema : List TableDef) (next : ℕ) → GroupsAreOrdered (before ++ g ∷ behind) h log schema next → GroupIsOrdered g h log schema next
 one_ordered [] g behind h log schema next ordered = ordered.0
 one_ordered (x ∷ before) g behind h log schema next ordered = one_ordered before g behind h log schema next ordered.1
 
-others_ordered : (before : List LiveGroup) (g : LiveGroup) (behind : List LiveGroup) (h : List Entry) (log : List Sealed) (schema : List TableDef) (next : ℕ) → GroupsStand (before ++ g ∷ behind) h log schema next → GroupsStand (before ++ behind) h log schema next
+others_ordered : (before : List LiveGroup) (g : LiveGroup) (behind : List LiveGroup) (h : List Entry) (log : List Sealed) (schema : List TableDef) (next : ℕ) → GroupsAreOrdered (before ++ g ∷ behind) h log schema next → GroupsAreOrdered (before ++ behind) h log schema next
 others_ordered [] g behind h log schema next ordered = ordered.1
 others_ordered (x ∷ before) g behind h log schema next ordered = (ordered.0, others_ordered before g behind h log schema next ordered.1)
 
 -- on each live group the virtual state is the group's order
 pub virtual_is_order : (groups : List LiveGroup) (h : List Entry) (log : List Sealed) (next : ℕ) (over : StandOver (progress_of groups h log next)) (g : LiveGroup) → HasGroup groups g → (o : TableState) × (in_order g h log ≡ Some o) × AgreeOn g.tables over.virtual o
 virtual_is_order groups h log next over g among =
-    let ordered = one_ordered among.before g among.behind h log over.backing.schema next (subst (λ (l : List LiveGroup). GroupsStand l h log over.backing.schema next) among.is over.ordered) in
+    let ordered = one_ordered among.before g among.behind h log over.backing.schema next (subst (λ (l : List LiveGroup). GroupsAreOrdered l h log over.backing.schema next) among.is over.ordered) in
     (ordered.state, ordered.ordered, same_on_group groups h log next over g ordered ordered.state ordered.ordered)
 
 -- and so is the backing state once nothing is pending

@@ -16,7 +16,7 @@ use Rattle.table_state.specs.Operations.{applied, applied_all}
 use Rattle.table_state.proofs.HistoryLaws.{has_ticket-append, state_of-append}
 use Rattle.order_laws.specs.Commits.{HasOps, IsLegal, KeepsOrder, LiveGroup, Once, applied_sealed, conflicting, entry_on, in_order, is_op_on, is_other, of_group, pending}
 use Rattle.order_laws.specs.Sides.{AgreeOn, IsClosed, all_on, are_off, are_on}
-use Rattle.order_laws.specs.Standing.{GroupsStand, PendingIsLive, StandOver, live_tables, progress_of}
+use Rattle.order_laws.specs.Standing.{GroupsAreOrdered, PendingIsLive, StandOver, live_tables, progress_of}
 use Rattle.order_laws.proofs.AgreeLaws.{all_closed, off_part}
 use Rattle.order_laws.proofs.ChainLaws.{lists_parted, nothing_parted, then_parted, turn}
 use Rattle.order_laws.proofs.ComingLaws.{empty_own, none_below_more, none_on}
@@ -73,8 +73,8 @@ order_others g h log ops off =
     ∙ empty_own (map (entry_on g.tables) front) (Foreign []) (map (entry_on g.tables) (map entry_of group)) (λ s. refl)
     ∙ ap state_of (sym (map-append (entry_on g.tables) front (map entry_of group)))
 
-groups_stay : (groups : List LiveGroup) (h : List Entry) (log : List Sealed) (schema : List TableDef) (next : ℕ) (ops : List Op) → are_off (live_tables groups) ops ≡ true → GroupsStand groups h log schema next
-    → GroupsStand groups (h ++ Foreign ops ∷ []) log schema next
+groups_stay : (groups : List LiveGroup) (h : List Entry) (log : List Sealed) (schema : List TableDef) (next : ℕ) (ops : List Op) → are_off (live_tables groups) ops ≡ true → GroupsAreOrdered groups h log schema next
+    → GroupsAreOrdered groups (h ++ Foreign ops ∷ []) log schema next
 groups_stay [] h log schema next ops off ordered = tt
 groups_stay (g ∷ groups) h log schema next ops off ordered =
     let (mine, rest) = off_part g.tables (live_tables groups) ops off in (
@@ -126,7 +126,7 @@ others_come groups h log next over ops b live is off =
           ops = ops_other log h ops over.legal.ops;
           order = order_other (conflicting over.backing.schema) log [] h ops over.legal.order;
         });
-        ordered = subst (λ (l : List TableDef). GroupsStand groups (h ++ Foreign ops ∷ []) log l next) (sym same) (groups_stay groups h log over.backing.schema next ops off over.ordered);
+        ordered = subst (λ (l : List TableDef). GroupsAreOrdered groups (h ++ Foreign ops ∷ []) log l next) (sym same) (groups_stay groups h log over.backing.schema next ops off over.ordered);
       },
       agree_turned (live_tables groups) z over.virtual (beside (live_tables groups) ops over.virtual z over.virtual (side_off (live_tables groups) ops off) ops_behind (agree_itself (live_tables groups) over.virtual)),
     )

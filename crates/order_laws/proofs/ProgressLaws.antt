@@ -10,25 +10,25 @@ use Rattle.table_state.specs.Histories.{entry_of, has_ticket}
 use Rattle.table_state.specs.Independence.{with_new}
 use Rattle.table_state.specs.Operations.{applied_all}
 use Rattle.table_state.specs.Tables.{TableState}
-use Rattle.order_laws.specs.Commits.{IsCommitted, LiveGroup, NoneConflicts, applied_sealed, is_pending, pending}
-use Rattle.order_laws.specs.Standing.{AreInOrder, HasGroup, PendingIsLive, Progress, Stand, StandOver, StandsAs, StandsWithLive, progress_of}
+use Rattle.order_laws.specs.Commits.{IsInLog, LiveGroup, NoneConflicts, applied_sealed, is_pending, pending}
+use Rattle.order_laws.specs.Standing.{HasGroupOrders, HasGroup, PendingIsLive, Progress, Stand, StandOver, StandsAs, StandsWithLive, progress_of}
 use Rattle.order_laws.specs.Steps.{AreOfOthers, ComesNext, IsRound, JoinsNone, MayBegin, MayComeAtOnce, MayCommit, MayDefine, MayLeave, MeetsNone, NoneBehind}
-use Rattle.order_laws.specs.Steps.{after_coming, after_commit, after_entries, begun, with_group, with_last, with_next, without_group, without_one}
+use Rattle.order_laws.specs.Steps.{after_coming, after_committing, after_entries, at_begin, with_live_group, longer_by, with_next, without_live_group, without_one}
 use Rattle.order_laws.proofs.EffectLaws.{past_apart}
 use Rattle.order_laws.proofs.GroupLaws.{backing_is_order, virtual_is_order}
 use Rattle.order_laws.proofs.WholeLaws.{stand_at_once, stand_begins, stand_comes, stand_commits, stand_dropped, stand_group, stand_leaves, stand_loses, stand_others, stand_round, stand_skips, stand_table}
 use Rattle.order_laws.proofs.TruthLaws.{untrue}
 
-pub begins : (history : List Entry) (next : ℕ) → MayBegin history next → Stand (begun history next)
+pub begins : (history : List Entry) (next : ℕ) → MayBegin history next → Stand (at_begin history next)
 begins history next may = stand_begins history next may.state may.leaves may.once may.first may.below
 
-pub virtual_in_groups : (p : Progress) (over : StandOver p) → AreInOrder p over.virtual
+pub virtual_in_groups : (p : Progress) (over : StandOver p) → HasGroupOrders p over.virtual
 virtual_in_groups p over g one = let (o, o_is, agree) = virtual_is_order p.groups p.history p.log p.next over g one in record { ordered = o; leaves = o_is; agree = agree }
 
-pub backing_in_groups : (p : Progress) (over : StandOver p) → pending p.history p.log ≡ [] → AreInOrder p over.backing
+pub backing_in_groups : (p : Progress) (over : StandOver p) → pending p.history p.log ≡ [] → HasGroupOrders p over.backing
 backing_in_groups p over none g one = let (o, o_is, agree) = backing_is_order p.groups p.history p.log p.next over none g one in record { ordered = o; leaves = o_is; agree = agree }
 
-pub commits : (p : Progress) (stand : Stand p) (s : Sealed) (v : TableState) → MayCommit p stand.over s v → StandsAs (after_commit p s) v
+pub commits : (p : Progress) (stand : Stand p) (s : Sealed) (v : TableState) → MayCommit p stand.over s v → StandsAs (after_committing p s) v
 commits p stand s v may = let (now, same) = stand_commits p.groups p.history p.log p.next stand s v may.ticket may.leads may.live in record { stand = now; same = same }
 
 pub comes_at_once : (p : Progress) (stand : Stand p) (s : Sealed) (v : TableState) → MayComeAtOnce p stand.over s v → StandsAs (after_coming p s) v
@@ -50,14 +50,14 @@ round_comes p stand entries round = stand_round p.groups entries p.history p.log
 pub table_comes : (p : Progress) (stand : Stand p) (def : TableDef) → JoinsNone p stand.over def → StandsAs (after_entries p (Definition def ∷ [])) (with_new def stand.over.virtual)
 table_comes p stand def joins = let (now, same) = stand_table p.groups p.history p.log p.next stand def joins in record { stand = now; same = same }
 
-pub group_comes : (p : Progress) (stand : Stand p) (g : LiveGroup) → MayDefine p stand.over g → Stand (with_group p g)
+pub group_comes : (p : Progress) (stand : Stand p) (g : LiveGroup) → MayDefine p stand.over g → Stand (with_live_group p g)
 group_comes p stand g may = stand_group p.groups p.history p.log p.next stand g may.closed may.first may.untouched
 
-pub group_goes : (p : Progress) (g : LiveGroup) (one : HasGroup p.groups g) → Stand p → PendingIsLive (one.before ++ one.behind) p.history p.log → Stand (without_group p g one)
+pub group_goes : (p : Progress) (g : LiveGroup) (one : HasGroup p.groups g) → Stand p → PendingIsLive (one.before ++ one.behind) p.history p.log → Stand (without_live_group p g one)
 group_goes p g one stand live =
     stand_dropped one.before g one.behind p.history p.log p.next (subst (λ (l : List LiveGroup). Stand (progress_of l p.history p.log p.next)) one.is stand) live
 
-pub last_goes : (p : Progress) (s : Sealed) → is_pending p.history s ≡ true → Stand (with_last p s) → Stand p
+pub last_goes : (p : Progress) (s : Sealed) → is_pending p.history s ≡ true → Stand (longer_by p s) → Stand p
 last_goes p s pends stand = stand_loses p.groups p.history p.log s p.next (untrue (has_ticket s.ticket.0 p.history) pends) stand
 
 pub ticket_goes : (p : Progress) (later : ℕ) → p.next ≤ later → Stand p → Stand (with_next p later)
@@ -74,6 +74,6 @@ leaves_between p before s behind stand front tail stands above none =
     let (now, same) = stand_leaves p.groups p.history before s behind p.next stand (record { front = front; tail = tail; stands = stands; above = above; behind = none }) in
     record { stand = now; same = same }
 
-pub one_leaves : (p : Progress) (stand : Stand p) (s : Sealed) (one : IsCommitted p.log s) → MayLeave p stand.over s one → StandsAs (without_one p s one) stand.over.virtual
+pub one_leaves : (p : Progress) (stand : Stand p) (s : Sealed) (one : IsInLog p.log s) → MayLeave p stand.over s one → StandsAs (without_one p s one) stand.over.virtual
 one_leaves p stand s one may =
     subst (Leaves p one.before s one.behind) (sym one.is) (leaves_between p one.before s one.behind) stand may.front may.tail may.stands may.above may.behind

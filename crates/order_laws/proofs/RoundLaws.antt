@@ -12,7 +12,7 @@ use Rattle.table_state.specs.Histories.{entry_of, has_ticket, state_from, state_
 use Rattle.table_state.specs.Tables.{TableState}
 use Rattle.table_state.specs.Operations.{applied_all}
 use Rattle.table_state.proofs.HistoryLaws.{has_ticket-append, state_of-append}
-use Rattle.order_laws.specs.Commits.{FollowsLower, IsCommitted, IsLegal, KeepsOrder, LiveGroup, MayCome, Once, conflicting}
+use Rattle.order_laws.specs.Commits.{FollowsLower, IsInLog, IsLegal, KeepsOrder, LiveGroup, MayCome, Once, conflicting}
 use Rattle.order_laws.specs.Sides.{AgreeOn}
 use Rattle.order_laws.specs.Standing.{PendingIsLive, StandOver, live_tables, progress_of}
 use Rattle.order_laws.specs.Steps.{AreRoundEntries}
@@ -43,7 +43,7 @@ follows_at conflict log front (Foreign more ∷ xs) ticket ops ys stands keeps =
 follows_at conflict log front (Own t more ∷ xs) ticket ops ys stands keeps =
     subst (λ (l : List Entry). FollowsLower conflict log (record { ticket = ticket; ops = ops }) l) (append_assoc front (Own t more ∷ []) xs) (follows_at conflict log (front ++ Own t more ∷ []) xs ticket ops ys stands keeps.1)
 
-pub in_log : (log : List Sealed) (s : Sealed) → IsCommitted log s → has_ticket s.ticket.0 (map entry_of log) ≡ true
+pub in_log : (log : List Sealed) (s : Sealed) → IsInLog log s → has_ticket s.ticket.0 (map entry_of log) ≡ true
 in_log log s one =
     ap (λ l. has_ticket s.ticket.0 (map entry_of l)) one.is
     ∙ ap (has_ticket s.ticket.0) (map-append entry_of one.before (s ∷ one.behind))

@@ -19,7 +19,7 @@ use Rattle.table_state.specs.Operations.{applied, applied_all, table_of}
 use Rattle.table_state.proofs.HistoryLaws.{state_of-append}
 use Rattle.table_state.proofs.IndependenceLaws.{all_later, all_whole, history_whole, stays_defined}
 use Rattle.order_laws.specs.Commits.{AreOps, FollowsLower, HasOps, KeepsOrder, LiveGroup, Once, applied_sealed, conflicting, entry_on, in_order, is_other, of_group, ops_on, pending}
-use Rattle.order_laws.specs.Standing.{AreClosed, AreOnDefined, GroupsStand, StandOver, are_on_defined, progress_of}
+use Rattle.order_laws.specs.Standing.{AreClosed, AreOnDefined, GroupsAreOrdered, StandOver, are_on_defined, progress_of}
 use Rattle.order_laws.proofs.ComingLaws.{none_below_more}
 use Rattle.order_laws.proofs.OthersLaws.{pending_stays, ticket_stays}
 use Rattle.order_laws.proofs.StepLaws.{parts}
@@ -142,8 +142,8 @@ order_with g h log def o is =
     by None e h = cc
     by (Some a) e h = own_later def g.tables group a o (history_whole first no_tables a e refl) h
 
-groups_with : (groups : List LiveGroup) (h : List Entry) (log : List Sealed) (schema : List TableDef) (next : ℕ) (def : TableDef) → AreClosed groups (schema ++ def ∷ []) → GroupsStand groups h log schema next
-    → GroupsStand groups (h ++ Definition def ∷ []) log (schema ++ def ∷ []) next
+groups_with : (groups : List LiveGroup) (h : List Entry) (log : List Sealed) (schema : List TableDef) (next : ℕ) (def : TableDef) → AreClosed groups (schema ++ def ∷ []) → GroupsAreOrdered groups h log schema next
+    → GroupsAreOrdered groups (h ++ Definition def ∷ []) log (schema ++ def ∷ []) next
 groups_with [] h log schema next def closed ordered = tt
 groups_with (g ∷ groups) h log schema next def closed ordered = (
   record {

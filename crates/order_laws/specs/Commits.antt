@@ -98,8 +98,12 @@ pub record IsLegal (conflict : Sealed → Sealed → Bool) (history : List Entry
   pub ops : HasOps log history
   pub order : KeepsOrder conflict log [] history
 
+-- where the history leaves a state, it is legal for the log by the conflicts of that state's schema
+abbrev pub KeepsCommitOrder : List Entry → List Sealed → Type 0
+KeepsCommitOrder history log = (s : TableState) → state_of history ≡ Some s → IsLegal (conflicting s.schema) history log
+
 -- the transaction is one of the log's
-pub record IsCommitted (log : List Sealed) (s : Sealed) : Type 0 where
+pub record IsInLog (log : List Sealed) (s : Sealed) : Type 0 where
   pub before : List Sealed
   pub behind : List Sealed
   pub is : log ≡ before ++ s ∷ behind
@@ -107,7 +111,7 @@ pub record IsCommitted (log : List Sealed) (s : Sealed) : Type 0 where
 -- a pending transaction may come next: each lower one of the log that it conflicts with stands in the history
 pub record MayCome (conflict : Sealed → Sealed → Bool) (history : List Entry) (log : List Sealed) (s : Sealed)
     : Type 0 where
-  pub one : IsCommitted log s
+  pub one : IsInLog log s
   pub fresh : has_ticket s.ticket.0 history ≡ false
   pub follows : FollowsLower conflict log s history
 

@@ -9,7 +9,7 @@ use Rattle.table_state.specs.declared.history.Sealed.{Sealed}
 use Rattle.table_state.specs.Histories.{entry_of, state_of}
 use Rattle.table_state.specs.Operations.{applied_all}
 use Rattle.table_state.specs.Tables.{TableState}
-use Rattle.order_laws.specs.Commits.{FollowsLower, HasOps, IsCommitted, IsLegal, LiveGroup, MayCome, NoneBelow, NoneConflicts, Once, RiseBetween, applied_sealed, conflicting, in_order, is_op_on, ops_conflict, ops_on, virtual_state}
+use Rattle.order_laws.specs.Commits.{FollowsLower, HasOps, IsInLog, IsLegal, LiveGroup, MayCome, NoneBelow, NoneConflicts, Once, RiseBetween, applied_sealed, conflicting, in_order, is_op_on, ops_conflict, ops_on, virtual_state}
 use Rattle.order_laws.specs.Steps.{ops_in}
 
 -- a transaction that conflicts with none of those before it in a list may as well be the first
@@ -73,4 +73,4 @@ LowerBehind =
     (conflict : Sealed → Sealed → Bool) (history : List Entry) (log : List Sealed)
     (front mid end : List Entry) (s x : Sealed)
     → IsLegal conflict history log → history ≡ front ++ entry_of s ∷ (mid ++ entry_of x ∷ end)
-    → IsCommitted log s → IsCommitted log x → x.ticket.0 < s.ticket.0 → conflict x s ≡ false
+    → IsInLog log s → IsInLog log x → x.ticket.0 < s.ticket.0 → conflict x s ≡ false

@@ -43,7 +43,7 @@ AreClosed (g ∷ groups) schema = IsClosed g.tables schema × AreClosed groups s
 
 -- a live group stands over the history: no foreign key joins its tables with others, its first ticket isn't above the
 -- next one, no pending transaction on its tables is below the first, and its transactions apply in ticket order
-pub record GroupStands (g : LiveGroup) (history : List Entry) (log : List Sealed) (schema : List TableDef) (next : ℕ)
+pub record GroupIsOrdered (g : LiveGroup) (history : List Entry) (log : List Sealed) (schema : List TableDef) (next : ℕ)
     : Type 0 where
   pub closed : IsClosed g.tables schema
   pub first : g.first ≤ next
@@ -51,10 +51,10 @@ pub record GroupStands (g : LiveGroup) (history : List Entry) (log : List Sealed
   pub state : TableState
   pub ordered : in_order g history log ≡ Some state
 
-abbrev pub GroupsStand : List LiveGroup → List Entry → List Sealed → List TableDef → ℕ → Type 0
-GroupsStand [] history log schema next = Unit {0}
-GroupsStand (g ∷ groups) history log schema next =
-    GroupStands g history log schema next × GroupsStand groups history log schema next
+abbrev pub GroupsAreOrdered : List LiveGroup → List Entry → List Sealed → List TableDef → ℕ → Type 0
+GroupsAreOrdered [] history log schema next = Unit {0}
+GroupsAreOrdered (g ∷ groups) history log schema next =
+    GroupIsOrdered g history log schema next × GroupsAreOrdered groups history log schema next
 
 -- the transactions stand over the history: it leaves a state, and what is pending applies to that; tickets rise and
 -- are below the next one, as those of the history are; the history is legal; each live group stands
@@ -66,7 +66,7 @@ pub record StandOver (p : Progress) : Type 0 where
   pub rise : RiseBetween 1 p.log p.next
   pub below : (t : ℕ) → p.next ≤ t → has_ticket t p.history ≡ false
   pub legal : IsLegal (conflicting backing.schema) p.history p.log
-  pub ordered : GroupsStand p.groups p.history p.log backing.schema p.next
+  pub ordered : GroupsAreOrdered p.groups p.history p.log backing.schema p.next
 
 -- what is pending is on tables of live groups
 abbrev pub PendingIsLive : List LiveGroup → List Entry → List Sealed → Type 0
@@ -101,10 +101,10 @@ pub record StandsWithLive (p : Progress) (virtual : TableState) : Type 0 where
   pub same : AgreeOn (live_tables p.groups) virtual stand.over.virtual
 
 -- in the tables of each live group the state has what the group's order leaves
-pub record IsInOrder (p : Progress) (s : TableState) (g : LiveGroup) : Type 0 where
+pub record HasGroupOrder (p : Progress) (s : TableState) (g : LiveGroup) : Type 0 where
   pub ordered : TableState
   pub leaves : in_order g p.history p.log ≡ Some ordered
   pub agree : AgreeOn g.tables s ordered
 
-abbrev pub AreInOrder : Progress → TableState → Type 0
-AreInOrder p s = (g : LiveGroup) → HasGroup p.groups g → IsInOrder p s g
+abbrev pub HasGroupOrders : Progress → TableState → Type 0
+HasGroupOrders p s = (g : LiveGroup) → HasGroup p.groups g → HasGroupOrder p s g

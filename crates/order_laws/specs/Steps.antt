@@ -10,7 +10,7 @@ use Rattle.table_state.specs.declared.operation.Op.{Op}
 use Rattle.table_state.specs.Histories.{entry_of, has_ticket, state_of}
 use Rattle.table_state.specs.Operations.{applied_all}
 use Rattle.table_state.specs.Tables.{TableState}
-use Rattle.order_laws.specs.Commits.{IsCommitted, IsLegal, LiveGroup, MayCome, NoneConflicts, Once, conflicting, is_other, of_group, ops_conflict, ops_on, pending}
+use Rattle.order_laws.specs.Commits.{IsInLog, IsLegal, LiveGroup, MayCome, NoneConflicts, Once, conflicting, is_other, of_group, ops_conflict, ops_on, pending}
 use Rattle.order_laws.specs.Sides.{IsClosed, are_off, are_on}
 use Rattle.order_laws.specs.Standing.{AreClosed, HasGroup, Progress, StandOver, all_off, live_tables, progress_of}
 
@@ -22,27 +22,27 @@ pub record MayBegin (history : List Entry) (next : ℕ) : Type 0 where
   pub first : 1 ≤ next
   pub below : (t : ℕ) → next ≤ t → has_ticket t history ≡ false
 
-abbrev pub begun : List Entry → ℕ → Progress
-begun history next = progress_of [] history [] next
+abbrev pub at_begin : List Entry → ℕ → Progress
+at_begin history next = progress_of [] history [] next
 
 -- entries come
 abbrev pub after_entries : Progress → List Entry → Progress
 after_entries p entries = progress_of p.groups (p.history ++ entries) p.log p.next
 
 -- a transaction is the last of the log
-abbrev pub with_last : Progress → Sealed → Progress
-with_last p s = progress_of p.groups p.history (p.log ++ s ∷ []) p.next
+abbrev pub longer_by : Progress → Sealed → Progress
+longer_by p s = progress_of p.groups p.history (p.log ++ s ∷ []) p.next
 
 abbrev pub with_next : Progress → ℕ → Progress
 with_next p next = progress_of p.groups p.history p.log next
 
 -- a transaction commits, and is pending then
-abbrev pub after_commit : Progress → Sealed → Progress
-after_commit p s = with_next (with_last p s) (s.ticket.0 + 1)
+abbrev pub after_committing : Progress → Sealed → Progress
+after_committing p s = with_next (longer_by p s) (s.ticket.0 + 1)
 
 -- a transaction commits and comes at once
 abbrev pub after_coming : Progress → Sealed → Progress
-after_coming p s = after_entries (after_commit p s) (entry_of s ∷ [])
+after_coming p s = after_entries (after_committing p s) (entry_of s ∷ [])
 
 -- no pending transaction conflicts with it
 abbrev pub MeetsNone : (p : Progress) → StandOver p → Sealed → Type 0
@@ -77,7 +77,7 @@ AreRoundEntries groups log (Definition def ∷ entries) = ⊥
 AreRoundEntries groups log (Foreign ops ∷ entries) =
     (are_off (live_tables groups) ops ≡ true) × AreRoundEntries groups log entries
 AreRoundEntries groups log (Own ticket ops ∷ entries) =
-    IsCommitted log (record { ticket = ticket; ops = ops }) × AreRoundEntries groups log entries
+    IsInLog log (record { ticket = ticket; ops = ops }) × AreRoundEntries groups log entries
 
 -- a round: such entries come, the history behind them leaves a state and is legal
 pub record IsRound (p : Progress) (over : StandOver p) (entries : List Entry) : Type 0 where
@@ -97,15 +97,15 @@ pub record MayDefine (p : Progress) (over : StandOver p) (g : LiveGroup) : Type 
   pub first : g.first ≡ p.next
   pub untouched : all_off g.tables (pending p.history p.log) ≡ true
 
-abbrev pub with_group : Progress → LiveGroup → Progress
-with_group p g = progress_of (g ∷ p.groups) p.history p.log p.next
+abbrev pub with_live_group : Progress → LiveGroup → Progress
+with_live_group p g = progress_of (g ∷ p.groups) p.history p.log p.next
 
 -- a group is dropped
-abbrev pub without_group : (p : Progress) (g : LiveGroup) → HasGroup p.groups g → Progress
-without_group p g one = progress_of (one.before ++ one.behind) p.history p.log p.next
+abbrev pub without_live_group : (p : Progress) (g : LiveGroup) → HasGroup p.groups g → Progress
+without_live_group p g one = progress_of (one.before ++ one.behind) p.history p.log p.next
 
 -- a transaction leaves the log
-abbrev pub without_one : (p : Progress) (s : Sealed) → IsCommitted p.log s → Progress
+abbrev pub without_one : (p : Progress) (s : Sealed) → IsInLog p.log s → Progress
 without_one p s one = progress_of p.groups p.history (one.before ++ one.behind) p.next
 
 -- the operations of an entry
@@ -124,7 +124,7 @@ NoneBehind g schema log s (e ∷ entries) =
 
 -- a transaction may leave the log: it stands in the history, it conflicts with no lower one of the log, and, on the
 -- tables of each live group, with no entry behind it that isn't one of the group's transactions
-pub record MayLeave (p : Progress) (over : StandOver p) (s : Sealed) (one : IsCommitted p.log s) : Type 0 where
+pub record MayLeave (p : Progress) (over : StandOver p) (s : Sealed) (one : IsInLog p.log s) : Type 0 where
   pub front : List Entry
   pub tail : List Entry
   pub stands : p.history ≡ front ++ entry_of s ∷ tail

@@ -10,28 +10,29 @@ ghost use Rattle.table_state.specs.Histories.{entry_of};
 ghost use Rattle.table_state.specs.Independence.{with_new};
 ghost use Rattle.table_state.specs.Operations.{applied_all};
 ghost use Rattle.table_state.specs.Tables.{TableState};
-ghost use Rattle.order_laws.specs.Commits.{IsCommitted, LiveGroup, is_pending, pending};
+ghost use Rattle.order_laws.specs.Commits.{IsInLog, LiveGroup, is_pending, pending};
 ghost use Rattle.order_laws.specs.Laws.{FollowsAfterCommit, FollowsLater, IsNoHindrance, LowerBehind};
-ghost use Rattle.order_laws.specs.Standing.{AreInOrder, HasGroup, PendingIsLive, Progress, Stand, StandOver, StandsAs, StandsWithLive};
+ghost use Rattle.order_laws.specs.Standing.{HasGroupOrders, HasGroup, PendingIsLive, Progress, Stand, StandOver, StandsAs, StandsWithLive};
 ghost use Rattle.order_laws.specs.Steps.{AreOfOthers, ComesNext, IsRound, JoinsNone, MayBegin, MayComeAtOnce, MayCommit, MayDefine, MayLeave, MeetsNone};
-ghost use Rattle.order_laws.specs.Steps.{after_coming, after_commit, after_entries, begun, with_group, with_last, with_next, without_group, without_one};
+ghost use Rattle.order_laws.specs.Steps.{after_coming, after_committing, after_entries, at_begin, with_live_group, longer_by, with_next, without_live_group, without_one};
 
 /// It begins over a history in which each ticket stands once, with no group and no transaction.
 pub fn begin_law()
-    ensures { (history : List Entry) (next : ℕ) → MayBegin history next → Stand (begun history next) }
+    ensures { (history : List Entry) (next : ℕ) → MayBegin history next → Stand (at_begin history next) }
 {}
 
 /// In each live group's tables the virtual state is what the group's order leaves (`order`), and so is the backing
 /// state once nothing is pending (`drained`).
 pub fn group_law()
-    ensures order { (p : Progress) (over : StandOver p) → AreInOrder p over.virtual }
-    ensures drained { (p : Progress) (over : StandOver p) → pending p.history p.log ≡ [] → AreInOrder p over.backing }
+    ensures order { (p : Progress) (over : StandOver p) → HasGroupOrders p over.virtual }
+    ensures drained { (p : Progress) (over : StandOver p) → pending p.history p.log ≡ []
+        → HasGroupOrders p over.backing }
 {}
 
 /// A transaction commits, and is pending then. The virtual state is what it leaves.
 pub fn commit_law()
     ensures { (p : Progress) (stand : Stand p) (s : Sealed) (v : TableState) → MayCommit p stand.over s v
-        → StandsAs (after_commit p s) v }
+        → StandsAs (after_committing p s) v }
 {}
 
 /// A transaction commits and comes at once, as a synchronous one or one that is passed on, where no pending one
@@ -72,16 +73,16 @@ pub fn define_law()
     ensures table { (p : Progress) (stand : Stand p) (def : TableDef) → JoinsNone p stand.over def
         → StandsAs (after_entries p (Definition def ∷ [])) (with_new def stand.over.virtual) }
     ensures group { (p : Progress) (stand : Stand p) (g : LiveGroup) → MayDefine p stand.over g
-        → Stand (with_group p g) }
+        → Stand (with_live_group p g) }
     ensures dropped { (p : Progress) (g : LiveGroup) (one : HasGroup p.groups g) → Stand p
-        → PendingIsLive (one.before ++ one.behind) p.history p.log → Stand (without_group p g one) }
+        → PendingIsLive (one.before ++ one.behind) p.history p.log → Stand (without_live_group p g one) }
 {}
 
 /// The last transaction is lost in a crash, where it is pending (`transaction`). A ticket is given to nothing
 /// (`ticket`).
 pub fn lost_law()
     ensures transaction { (p : Progress) (s : Sealed) → is_pending p.history s ≡ true
-        → Stand (with_last p s) → Stand p }
+        → Stand (longer_by p s) → Stand p }
     ensures ticket { (p : Progress) (later : ℕ) → p.next ≤ later → Stand p → Stand (with_next p later) }
 {}
 
@@ -89,7 +90,7 @@ pub fn lost_law()
 /// one of others' (`stands`). An entry behind it is no hindrance where it is on no table of the group, or has no
 /// conflict with it (`behind`); a lower one of a legal history has none (`lower`).
 pub fn leave_law()
-    ensures stands { (p : Progress) (stand : Stand p) (s : Sealed) (one : IsCommitted p.log s)
+    ensures stands { (p : Progress) (stand : Stand p) (s : Sealed) (one : IsInLog p.log s)
         → MayLeave p stand.over s one → StandsAs (without_one p s one) stand.over.virtual }
     ensures behind { IsNoHindrance }
     ensures lower { LowerBehind }
