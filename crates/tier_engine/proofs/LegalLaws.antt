@@ -11,7 +11,7 @@ use Rattle.table_state.specs.declared.history.Sealed.{Sealed}
 use Rattle.table_state.specs.Operations.{applied_all}
 use Rattle.table_state.specs.Histories.{has_ticket, entry_of, state_of}
 use Rattle.tier_base.specs.declared.number.Ticket.{Ticket}
-use Rattle.order_laws.specs.Commits.{RiseBetween, AreOps, HasOps, FollowsLower, KeepsOrder, IsLegal, Once, is_other}
+use Rattle.order_laws.specs.Commits.{RiseBetween, AreOps, HasOps, FollowsLower, KeepsCommitOrder, KeepsOrder, IsLegal, Once, conflicting, is_other}
 use Rattle.abstract_tier.specs.Commits.{own_entries, in_commit_order}
 use Rattle.tier_engine.specs.declared.tier.Tier.{Tier}
 use Rattle.tier_engine.specs.Standing.{StandsFor}
@@ -128,8 +128,8 @@ legal_owns conflict h low n log high rise owns = record {
 }
 
 -- what a tier stands for is legal
-pub legal_standing : (t : Tier) (log : List Sealed) (history : List Entry) → StandsFor t log history → (conflict : Sealed → Sealed → Bool) → IsLegal conflict history log
-legal_standing t log history s conflict = legal_owns conflict history 1 s.came log t.next s.rise s.owns
+pub legal_standing : (t : Tier) (log : List Sealed) (history : List Entry) → StandsFor t log history → KeepsCommitOrder history log
+legal_standing t log history s x is = legal_owns (conflicting x.schema) history 1 s.came log t.next s.rise s.owns
 
 -- a log of which a ticket is the last has it
 last_ticket : (t : ℕ) (log : List Sealed) (s : Sealed) → has_ticket t (map entry_of (log ++ s ∷ [])) ≡ (has_ticket t (map entry_of log) || nat_eq s.ticket.0 t)
