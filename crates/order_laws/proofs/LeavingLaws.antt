@@ -19,7 +19,7 @@ use Rattle.table_state.specs.Tables.{TableState}
 use Rattle.table_state.specs.Operations.{applied_all, table_of}
 use Rattle.table_state.proofs.HistoryLaws.{has_ticket-append, state_from-append, state_of-append}
 use Rattle.table_state.proofs.IndependenceLaws.{history_whole}
-use Rattle.order_laws.specs.Commits.{IsInLog, AreOps, FollowsLower, HasOps, KeepsOrder, LiveGroup, NoneBelow, NoneConflicts, Once, RiseBetween, applied_sealed, conflicting, entry_on, in_order, is_of_group, is_op_on, is_other, is_pending, of_group, ops_on, pending}
+use Rattle.order_laws.specs.Commits.{AreOps, FollowsLower, HasOps, KeepsOrder, LiveGroup, NoneBelow, NoneConflicts, Once, RiseBetween, applied_sealed, conflicting, entry_on, in_order, is_of_group, is_op_on, is_other, is_pending, of_group, ops_on, pending}
 use Rattle.order_laws.specs.Standing.{GroupIsOrdered, GroupsAreOrdered, HasGroup, StandOver, are_on_defined, progress_of}
 use Rattle.order_laws.specs.Steps.{MayLeave, NoneBehind, ops_in}
 use Rattle.order_laws.proofs.AtOnceLaws.{conflict_none}
@@ -301,11 +301,7 @@ module _ (g : LiveGroup) (h front tail : List Entry) (xs : List Sealed) (j : Sea
       in
       ap (λ l. are_on_defined l (ops_on g.tables j.ops)) schemas ∙ known_kept g.tables p.schema j.ops (known_where_applied j.ops p q q_is)
 
--- a transaction is one of a list, at this place
-abbrev pub placed : (xs : List Sealed) (j : Sealed) (ys : List Sealed) → IsInLog (xs ++ j ∷ ys) j
-placed xs j ys = record { before = xs; behind = ys; is = refl }
-
-group_leaves : (groups : List LiveGroup) (h : List Entry) (xs : List Sealed) (j : Sealed) (ys : List Sealed) (next : ℕ) (over : StandOver (progress_of groups h (xs ++ j ∷ ys) next)) → MayLeave (progress_of groups h (xs ++ j ∷ ys) next) over j (placed xs j ys) → (g : LiveGroup) → HasGroup groups g
+group_leaves : (groups : List LiveGroup) (h : List Entry) (xs : List Sealed) (j : Sealed) (ys : List Sealed) (next : ℕ) (over : StandOver (progress_of groups h (xs ++ j ∷ ys) next)) → MayLeave groups over.backing.schema h xs j ys → (g : LiveGroup) → HasGroup groups g
     → GroupIsOrdered g h (xs ++ j ∷ ys) over.backing.schema next → GroupIsOrdered g h (xs ++ ys) over.backing.schema next
 group_leaves groups h xs j ys next over may g among ordered = record {
   closed = ordered.closed;
@@ -334,7 +330,7 @@ group_leaves groups h xs j ys next over may g among ordered = record {
         in
         ap (λ l. state_of (map (entry_on g.tables) (filter (is_other l) h ++ map entry_of l))) same ∙ ordered.ordered
 
-groups_leave : (groups : List LiveGroup) (h : List Entry) (xs : List Sealed) (j : Sealed) (ys : List Sealed) (next : ℕ) (over : StandOver (progress_of groups h (xs ++ j ∷ ys) next)) → MayLeave (progress_of groups h (xs ++ j ∷ ys) next) over j (placed xs j ys)
+groups_leave : (groups : List LiveGroup) (h : List Entry) (xs : List Sealed) (j : Sealed) (ys : List Sealed) (next : ℕ) (over : StandOver (progress_of groups h (xs ++ j ∷ ys) next)) → MayLeave groups over.backing.schema h xs j ys
     → (before behind : List LiveGroup) → groups ≡ before ++ behind → GroupsAreOrdered behind h (xs ++ j ∷ ys) over.backing.schema next → GroupsAreOrdered behind h (xs ++ ys) over.backing.schema next
 groups_leave groups h xs j ys next over may before [] is ordered = tt
 groups_leave groups h xs j ys next over may before (g ∷ behind) is ordered = (
@@ -342,7 +338,7 @@ groups_leave groups h xs j ys next over may before (g ∷ behind) is ordered = (
   groups_leave groups h xs j ys next over may (before ++ g ∷ []) behind (is ∙ sym (append_assoc before (g ∷ []) behind)) ordered.1,
 )
 
-pub leaves : (groups : List LiveGroup) (h : List Entry) (xs : List Sealed) (j : Sealed) (ys : List Sealed) (next : ℕ) (over : StandOver (progress_of groups h (xs ++ j ∷ ys) next)) → MayLeave (progress_of groups h (xs ++ j ∷ ys) next) over j (placed xs j ys)
+pub leaves : (groups : List LiveGroup) (h : List Entry) (xs : List Sealed) (j : Sealed) (ys : List Sealed) (next : ℕ) (over : StandOver (progress_of groups h (xs ++ j ∷ ys) next)) → MayLeave groups over.backing.schema h xs j ys
     → (now : StandOver (progress_of groups h (xs ++ ys) next)) × (now.virtual ≡ over.virtual)
 leaves groups h xs j ys next over may =
     let stands = there h may.front may.tail j may.stands in (

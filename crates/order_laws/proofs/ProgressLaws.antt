@@ -10,9 +10,9 @@ use Rattle.table_state.specs.Histories.{entry_of, has_ticket}
 use Rattle.table_state.specs.Independence.{with_new}
 use Rattle.table_state.specs.Operations.{applied_all}
 use Rattle.table_state.specs.Tables.{TableState}
-use Rattle.order_laws.specs.Commits.{IsInLog, LiveGroup, NoneConflicts, applied_sealed, is_pending, pending}
+use Rattle.order_laws.specs.Commits.{IsInLog, LiveGroup, applied_sealed, is_pending, pending}
 use Rattle.order_laws.specs.Standing.{HasGroupOrders, HasGroup, PendingIsLive, Progress, Stand, StandOver, StandsAs, StandsWithLive, progress_of}
-use Rattle.order_laws.specs.Steps.{AreOfOthers, ComesNext, IsRound, JoinsNone, MayBegin, MayComeAtOnce, MayCommit, MayDefine, MayLeave, MeetsNone, NoneBehind}
+use Rattle.order_laws.specs.Steps.{AreOfOthers, ComesNext, IsRound, JoinsNone, LeavesLog, MayBegin, MayComeAtOnce, MayCommit, MayDefine, MayLeave, MeetsNone}
 use Rattle.order_laws.specs.Steps.{after_coming, after_committing, after_entries, at_begin, with_live_group, longer_by, with_next, without_live_group, without_one}
 use Rattle.order_laws.proofs.EffectLaws.{past_apart}
 use Rattle.order_laws.proofs.GroupLaws.{backing_is_order, virtual_is_order}
@@ -65,15 +65,12 @@ ticket_goes p later le stand = stand_skips p.groups p.history p.log p.next later
 
 -- what leaving says of a log in which the transaction stands between these
 abbrev Leaves : Progress → List Sealed → Sealed → List Sealed → List Sealed → Type 0
-Leaves p before s behind log =
-    (stand : Stand (progress_of p.groups p.history log p.next)) (front tail : List Entry) → p.history ≡ front ++ entry_of s ∷ tail → NoneConflicts stand.over.backing.schema before s
-    → ((g : LiveGroup) → HasGroup p.groups g → NoneBehind g stand.over.backing.schema log s tail) → StandsAs (progress_of p.groups p.history (before ++ behind) p.next) stand.over.virtual
+Leaves p lower s higher log =
+    (stand : Stand (progress_of p.groups p.history log p.next)) → MayLeave p.groups stand.over.backing.schema p.history lower s higher
+    → StandsAs (progress_of p.groups p.history (lower ++ higher) p.next) stand.over.virtual
 
-leaves_between : (p : Progress) (before : List Sealed) (s : Sealed) (behind : List Sealed) → Leaves p before s behind (before ++ s ∷ behind)
-leaves_between p before s behind stand front tail stands above none =
-    let (now, same) = stand_leaves p.groups p.history before s behind p.next stand (record { front = front; tail = tail; stands = stands; above = above; behind = none }) in
-    record { stand = now; same = same }
+leaves_between : (p : Progress) (lower : List Sealed) (s : Sealed) (higher : List Sealed) → Leaves p lower s higher (lower ++ s ∷ higher)
+leaves_between p lower s higher stand may = let (now, same) = stand_leaves p.groups p.history lower s higher p.next stand may in record { stand = now; same = same }
 
-pub one_leaves : (p : Progress) (stand : Stand p) (s : Sealed) (one : IsInLog p.log s) → MayLeave p stand.over s one → StandsAs (without_one p s one) stand.over.virtual
-one_leaves p stand s one may =
-    subst (Leaves p one.before s one.behind) (sym one.is) (leaves_between p one.before s one.behind) stand may.front may.tail may.stands may.above may.behind
+pub one_leaves : (p : Progress) (stand : Stand p) (s : Sealed) (one : IsInLog p.log s) → LeavesLog p stand.over s one → StandsAs (without_one p s one) stand.over.virtual
+one_leaves p stand s one may = subst (Leaves p one.before s one.behind) (sym one.is) (leaves_between p one.before s one.behind) stand may

@@ -26,7 +26,7 @@ use Rattle.order_laws.proofs.CommittingLaws.{commits, live_commits, pending_last
 use Rattle.order_laws.proofs.CutLaws.{last_lost, tickets_skipped}
 use Rattle.order_laws.proofs.DefiningLaws.{group_defined}
 use Rattle.order_laws.proofs.GroupLaws.{group_dropped}
-use Rattle.order_laws.proofs.LeavingLaws.{leaves, pending_without, placed, there}
+use Rattle.order_laws.proofs.LeavingLaws.{leaves, pending_without, there}
 use Rattle.order_laws.proofs.NextLaws.{all_defined}
 use Rattle.order_laws.proofs.OthersLaws.{others_come}
 use Rattle.order_laws.proofs.RoundLaws.{round_comes}
@@ -194,7 +194,7 @@ stand_skips groups h log next later le stand =
     let now = tickets_skipped groups h log next later le stand.over in
     record { over = now; live = stand.live; known = subst (λ (l : List TableDef). AreOnDefined l log) (same_backing h stand.over.backing now.backing stand.over.leaves now.leaves) stand.known }
 
-pub stand_leaves : (groups : List LiveGroup) (h : List Entry) (lower : List Sealed) (s : Sealed) (higher : List Sealed) (next : ℕ) (stand : Stand (progress_of groups h (lower ++ s ∷ higher) next)) → MayLeave (progress_of groups h (lower ++ s ∷ higher) next) stand.over s (placed lower s higher)
+pub stand_leaves : (groups : List LiveGroup) (h : List Entry) (lower : List Sealed) (s : Sealed) (higher : List Sealed) (next : ℕ) (stand : Stand (progress_of groups h (lower ++ s ∷ higher) next)) → MayLeave groups stand.over.backing.schema h lower s higher
     → (now : Stand (progress_of groups h (lower ++ higher) next)) × (now.over.virtual ≡ stand.over.virtual)
 stand_leaves groups h lower s higher next stand may =
     let (now, same) = leaves groups h lower s higher next stand.over may in (

@@ -122,11 +122,17 @@ NoneBehind g schema log s (e ∷ entries) =
     → ops_conflict schema (ops_on g.tables (ops_in e)) (ops_on g.tables s.ops) ≡ false)
     × NoneBehind g schema log s entries
 
--- a transaction may leave the log: it stands in the history, it conflicts with no lower one of the log, and, on the
--- tables of each live group, with no entry behind it that isn't one of the group's transactions
-pub record MayLeave (p : Progress) (over : StandOver p) (s : Sealed) (one : IsInLog p.log s) : Type 0 where
+-- a transaction may leave the log, where these are the lower and the higher ones: it stands in the history, it
+-- conflicts with no lower one, and, on the tables of each live group, with no entry behind it that isn't one of the
+-- group's transactions
+pub record MayLeave (groups : List LiveGroup) (schema : List TableDef) (history : List Entry)
+    (lower : List Sealed) (s : Sealed) (higher : List Sealed) : Type 0 where
   pub front : List Entry
   pub tail : List Entry
-  pub stands : p.history ≡ front ++ entry_of s ∷ tail
-  pub above : NoneConflicts over.backing.schema one.before s
-  pub behind : (g : LiveGroup) → HasGroup p.groups g → NoneBehind g over.backing.schema p.log s tail
+  pub stands : history ≡ front ++ entry_of s ∷ tail
+  pub above : NoneConflicts schema lower s
+  pub behind : (g : LiveGroup) → HasGroup groups g → NoneBehind g schema (lower ++ s ∷ higher) s tail
+
+-- a transaction of the log may leave it, as the schema of the backing state has it
+abbrev pub LeavesLog : (p : Progress) → StandOver p → (s : Sealed) → IsInLog p.log s → Type 0
+LeavesLog p over s one = MayLeave p.groups over.backing.schema p.history one.before s one.behind

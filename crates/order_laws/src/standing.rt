@@ -13,7 +13,7 @@ ghost use Rattle.table_state.specs.Tables.{TableState};
 ghost use Rattle.order_laws.specs.Commits.{IsInLog, LiveGroup, is_pending, pending};
 ghost use Rattle.order_laws.specs.Laws.{FollowsAfterCommit, FollowsLater, IsNoHindrance, LowerBehind};
 ghost use Rattle.order_laws.specs.Standing.{HasGroupOrders, HasGroup, PendingIsLive, Progress, Stand, StandOver, StandsAs, StandsWithLive};
-ghost use Rattle.order_laws.specs.Steps.{AreOfOthers, ComesNext, IsRound, JoinsNone, MayBegin, MayComeAtOnce, MayCommit, MayDefine, MayLeave, MeetsNone};
+ghost use Rattle.order_laws.specs.Steps.{AreOfOthers, ComesNext, IsRound, JoinsNone, LeavesLog, MayBegin, MayComeAtOnce, MayCommit, MayDefine, MeetsNone};
 ghost use Rattle.order_laws.specs.Steps.{after_coming, after_committing, after_entries, at_begin, with_live_group, longer_by, with_next, without_live_group, without_one};
 
 /// It begins over a history in which each ticket stands once, with no group and no transaction.
@@ -91,7 +91,7 @@ pub fn lost_law()
 /// conflict with it (`behind`); a lower one of a legal history has none (`lower`).
 pub fn leave_law()
     ensures stands { (p : Progress) (stand : Stand p) (s : Sealed) (one : IsInLog p.log s)
-        → MayLeave p stand.over s one → StandsAs (without_one p s one) stand.over.virtual }
+        → LeavesLog p stand.over s one → StandsAs (without_one p s one) stand.over.virtual }
     ensures behind { IsNoHindrance }
     ensures lower { LowerBehind }
 {}
