@@ -51,7 +51,8 @@ use Rattle.abstract_tier.specs.declared.reply.Last.{Last}
 use Rattle.abstract_tier.specs.declared.reply.Last.TheVariants.{Done, No, Fault}
 use Rattle.abstract_tier.specs.declared.rounds.RoundFault.{RoundFault}
 use Rattle.abstract_tier.specs.declared.rounds.RoundFault.TheVariants as stop
-use Rattle.abstract_tier.specs.Commits.{pending, in_commit_order}
+use Rattle.order_laws.specs.Commits.{pending}
+use Rattle.abstract_tier.specs.Commits.{in_commit_order}
 use Rattle.abstract_tier.specs.Rounds.{Round, DifferedAt}
 use Rattle.abstract_tier.specs.TierStates.{TierState, SessionState, GroupState, session_of, group_of_table, seen, seen_rows, table_name, is_named}
 use Rattle.group_defs.specs.LiteralValues.{values_of}

@@ -22,7 +22,8 @@ use Rattle.abstract_tier.specs.declared.rounds.RoundFault.TheVariants as stop
 use Rattle.tier_engine.specs.declared.tier.Tier.{Tier}
 use Rattle.tier_engine.specs.declared.tier.Group.{Group}
 use Rattle.tier_engine.specs.declared.tier.Session.{Session}
-use Rattle.abstract_tier.specs.Commits.{RiseBetween, pending, in_commit_order, virtual_state, applied_sealed, own_entries}
+use Rattle.order_laws.specs.Commits.{RiseBetween, pending, virtual_state, applied_sealed}
+use Rattle.abstract_tier.specs.Commits.{in_commit_order, own_entries}
 use Rattle.row_types.specs.declared.value.Value.{Value}
 use Rattle.abstract_tier.specs.Answers.{only}
 use Rattle.abstract_tier.specs.declared.reply.Last.TheVariants.{Fault}
