@@ -9,6 +9,7 @@ pub mod CommitSteps
 pub mod DrainSteps
 pub mod GroupedLaws
 pub mod GroupSteps
+pub mod PlainLaws
 pub mod PutLaws
 pub mod InsertServes
 pub mod InsertSteps

@@ -22,13 +22,13 @@ use Rattle.tier_engine.specs.Standing.{InOpen}
 use Rattle.tier_engine.proofs.ServingLaws.{no_refusal, no_memory}
 
 -- the answer tells no fault of the bank
-abbrev IsClean : Answer → Type 0
+abbrev pub IsClean : Answer → Type 0
 IsClean a = TellsBankFault a.1 → ⊥
 
 clean_refuses : (t : TierState) (rule : Rule) → IsClean (refuses t rule)
 clean_refuses t rule = no_refusal rule
 
-clean_done : (n : ℕ) → TellsBankFault (only (Done n)) → ⊥
+pub clean_done : (n : ℕ) → TellsBankFault (only (Done n)) → ⊥
 clean_done n x = Prim.cc x.last
 
 clean_unless : (t : TierState) (o : Option Rule) (a : Answer) → IsClean a → IsClean (unless t o a)
@@ -58,7 +58,7 @@ clean_known t s d (Some schema) = clean_in t s d schema (place_of_table schema d
 clean_group : (t : TierState) (s : SessionState) (d : CreateGroup) → IsClean (group_answer t s d)
 clean_group t s d = clean_known t s d t.known
 
-clean_select : (t : TierState) (rows : Table) → IsClean (select_answer t rows)
+pub clean_select : (t : TierState) (rows : Table) → IsClean (select_answer t rows)
 clean_select t rows = clean_unless t (select_fault rows) _ (λ x. Prim.cc x.last)
 
 clean_commit : (t : TierState) (s : SessionState) (own : List Op) → IsClean (commit_of t s own)

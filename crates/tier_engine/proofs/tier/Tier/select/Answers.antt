@@ -3,6 +3,7 @@ use Rattle.std.specs.List.{slice_get}
 use Rattle.std.proofs.lemmas.Option.{slice_get-get_or}
 use Rattle.tier_engine.specs.Storing.{place_named}
 use Rattle.tier_engine.specs.declared.tier.Group.{Group}
+use Rattle.tier_engine.proofs.PlainLaws.{rows_plain, shown_plain}
 use Rattle.tier_engine.proofs.SelectSteps.{select_read, select_rows_step}
 use Rattle.tier_engine.proofs.tier.Tier.select.Goals as goal
 
@@ -16,6 +17,7 @@ returns-in_default c = record {
       select_read c.args.self.now log history c.args.select c.select_read_only.result c.requires
       (ap (λ (l : List Group). place_named l c.args.select.table) (sym c.as_slice.ensures.value) ∙ sym c.place_of_group.ensures.place ∙ c.in_default.is)
       c.select_read_only.ensures stands;
+  plain = shown_plain _ _ c.select_read_only.result c.select_read_only.ensures;
 }
 
 pub returns-in-Ok : goal.returns-in-Ok
@@ -27,4 +29,5 @@ returns-in-Ok c = record {
       select_rows_step c.args.self.now log history c.args.select c.in-Ok.reply c.in-Some.place c.index-group.result.now.rows c.requires
       (ap (λ (l : List Group). place_named l c.args.select.table) (sym c.as_slice.ensures.value) ∙ sym c.place_of_group.ensures.place ∙ c.in-Some.is)
       (λ g e. rows_same groups c.in-Some.place c.index-group.result.now g there e) c.in-Ok.ensures stands;
+  plain = rows_plain _ c.in-Ok.reply c.in-Ok.ensures;
 }
