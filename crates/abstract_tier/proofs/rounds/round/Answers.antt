@@ -1,6 +1,9 @@
-use Rattle.std.proofs.Common.{arith, rules, ◌≡◌, ◌∷◌, ◌∙◌, sym, drop, length, ap}
+use Rattle.std.proofs.Common.{arith, rules, ℕ, ◌≡◌, ◌∷◌, ◌∙◌, Err, subst, sym, drop, length, ap}
+use Rattle.std.specs.Prelude.{Result}
 use Rattle.std.proofs.lemmas.List.{length-drop}
-use Rattle.abstract_tier.specs.Rounds.{doubts_at}
+use Rattle.abstract_tier.specs.Rounds.{doubts, doubts_at}
+use Rattle.abstract_tier.specs.RoundStates.{RoundGoes}
+use Rattle.abstract_tier.specs.declared.rounds.RoundFault.{RoundFault}
 use Rattle.abstract_tier.proofs.RoundSteps.{first_leaves, goes_on, settled_goes, shared_call, stopped_goes, told_stays, first_differs}
 use Rattle.abstract_tier.proofs.rounds.round.Goals as goal
 
@@ -9,9 +12,12 @@ returns-in_err-settle-clause-goes g c =
     let items = c.loop-sealed.unsettled.items in
     let s = c.in-Some.sealed.now in
     let is : items ≡ s ∷ drop 1 items = first_leaves items s c.in-Some.ensures.item.3.0 c.in-Some.ensures.lookup in
-    goes_on (doubts_at c.in_err-settle.field-0.0) (g.P.Disk.shared c.args.site.now) (g.P.Disk.held c.args.site.now) (g.P.Disk.held c.loop-sealed.site) (g.P.Disk.held c.settle.new.site) c.args.unsettled.now.items items items
+    let told : Err c.in_err-settle.field-0.0 ≡ c.from_residual.result = Prim.search rules in
+    subst
+    (λ (r : Result ℕ RoundFault). RoundGoes (doubts r) (g.P.Disk.shared c.args.site.now) (g.P.Disk.held c.args.site.now) (g.P.Disk.held c.settle.new.site) c.args.unsettled.now.items items) told
+    (goes_on (doubts_at c.in_err-settle.field-0.0) (g.P.Disk.shared c.args.site.now) (g.P.Disk.held c.args.site.now) (g.P.Disk.held c.loop-sealed.site) (g.P.Disk.held c.settle.new.site) c.args.unsettled.now.items items items
     c.loop-sealed.invariant.goes
-    (stopped_goes (g.P.Disk.shared c.args.site.now) (g.P.Disk.held c.loop-sealed.site) (g.P.Disk.held c.settle.new.site) items (drop 1 items) s c.in_err-settle.field-0.0 is (shared_call _ _ _ _ _ c.loop-sealed.invariant.shares c.in_err-settle.ensures.told))
+    (stopped_goes (g.P.Disk.shared c.args.site.now) (g.P.Disk.held c.loop-sealed.site) (g.P.Disk.held c.settle.new.site) items (drop 1 items) s c.in_err-settle.field-0.0 is (shared_call _ _ _ _ _ c.loop-sealed.invariant.shares c.in_err-settle.ensures.told)))
 
 pub loop-sealed-preserved : goal.loop-sealed-preserved
 loop-sealed-preserved g c =
