@@ -199,3 +199,14 @@ pub fn put_entry(out: &mut Vec<u8>, entry: &Entry)
         }
     }
 }
+
+/// Puts the bytes of several entries behind the others.
+pub fn put_entries(out: &mut Vec<u8>, entries: &[Entry])
+    requires room { vec_len out.old + length (flat_map entry_bytes entries.now) ≤ vec_capacity out.old }
+    requires entries { AllByRecursion (IsEntry 2) entries.now }
+    ensures { Writes out.old out.new (flat_map entry_bytes entries.now) }
+{
+    for entry in entries {
+        put_entry(out, entry);
+    }
+}
