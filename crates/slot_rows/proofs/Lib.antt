@@ -1,0 +1,4 @@
+mod LeadLaws
+mod SlotLaws
+mod OrderLaws
+mod ManyLaws
