@@ -2,3 +2,4 @@ mod LeadLaws
 mod SlotLaws
 mod OrderLaws
 mod ManyLaws
+mod FrontLaws

@@ -21,10 +21,10 @@ use Rattle.slot_rows.proofs.SlotLaws.{entries_left, inserted, kept_of, left_slot
 abbrev Row : Type 0
 Row = List Value
 
-abbrev no_entry : Entry
+abbrev pub no_entry : Entry
 no_entry = record { lead = 0; slot = 0 }
 
-abbrev slot_in : Entry → ℕ
+abbrev pub slot_in : Entry → ℕ
 slot_in e = e.slot
 
 pub same_len : (entries : List Entry) → length (slots_of entries) ≡ length entries

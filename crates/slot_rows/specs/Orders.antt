@@ -1,5 +1,5 @@
 -- Several orders of the same rows (this project's rule).
-use Rattle.std.specs.Prelude.{◌≡◌, ◌≢◌, ℕ, ◌+◌, ◌<◌, ◌≤◌, ◌^◌, ◌++◌, List, [], ◌∷◌, Option, None, Some, Bool, true, false, insert, remove, is_some, length, map, slice_get, refl}
+use Rattle.std.specs.Prelude.{◌≡◌, ◌≢◌, ℕ, ◌+◌, ◌<◌, ◌≤◌, ◌^◌, ◌++◌, List, [], ◌∷◌, Option, None, Some, Bool, true, false, insert, remove, is_some, length, map, take, slice_get, slice_index_or, refl}
 use Rattle.std.specs.Coded.{Coded, code_by, coded×, coded_list, coded_ℕ}
 use Rattle.std.specs.FinMap as fm
 use Rattle.slab.specs.Slab.{Slab, get}
@@ -71,6 +71,25 @@ pub record Leaves (slot : ℕ) (old new : Order) : Type 0 where
   pub entries : new.entries ≡ remove old.entries at
   pub long : length new.entries + 1 ≡ length old.entries
   pub room : new.room ≡ old.room
+
+-- a slot whose row has these values at these columns; none where no row has
+abbrev pub IsSlotWith : Slab (List Value) → List ℕ → List ℕ → List Value → Option ℕ → Type 0
+IsSlotWith slab slots columns values None = (i slot : ℕ) → slice_get slots i ≡ Some slot → key_of columns (row_in slab slot) ≢ values
+IsSlotWith slab slots columns values (Some slot) = (i : ℕ) × (slice_get slots i ≡ Some slot) × (key_of columns (row_in slab slot) ≡ values)
+
+-- a row of the table with these values at these columns; none where no row has
+abbrev pub IsRowWith : Table → List ℕ → List ℕ → List Value → Option (List Value) → Type 0
+IsRowWith table places columns values None = (key row : List Value) → fm.get table key ≡ Some row → key_of columns row ≢ values
+IsRowWith table places columns values (Some row) = (fm.get table (key_of places row) ≡ Some row) × (key_of columns row ≡ values)
+
+-- so many columns at the front of another order's
+abbrev pub front_of : List (List ℕ) → ℕ → ℕ → List ℕ
+front_of orders order n = take n (slice_index_or orders order [])
+
+-- the row of a key was taken out
+pub record TakesRow (old new : Table) (key : List Value) (row : Option (List Value)) : Type 0 where
+  pub was : row ≡ fm.get old key
+  pub now : new ≡ fm.remove old key
 
 -- the order is as it was, with no less room
 pub record KeepsOrder (old new : Order) : Type 0 where

@@ -6,5 +6,7 @@ mod lead;
 mod order;
 mod orders;
 mod rows;
+#[cfg(test)]
+mod tests;
 
 pub use rows::SlotRows;

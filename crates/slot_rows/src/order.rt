@@ -1,11 +1,11 @@
 //! An order of rows in slots.
 
-ghost use Rattle.std.specs.Prelude.{◌≡◌, ◌≤◌, ◌<◌, ◌+◌, ◌^◌, [], length, IfOk, IfErr, OnOk, Some, slice_get, insert, remove};
+ghost use Rattle.std.specs.Prelude.{◌≡◌, ◌≤◌, ◌<◌, ◌+◌, ◌^◌, [], length, IfOk, IfErr, OnOk, Some, slice_get, take, insert, remove};
 ghost use Rattle.std.specs.List.Sorted.{IsSearchInRange};
 ghost use Rattle.std.specs.FinMap as map;
 ghost use Rattle.key_rows.specs.Places.{IsGapFor, IsKeyAt};
 ghost use Rattle.indexed_rows.specs.Rows.{key_of};
-ghost use Rattle.slot_rows.specs.Orders.{Awaits, Enters, Includes, KeepsOrder, Leaves};
+ghost use Rattle.slot_rows.specs.Orders.{Awaits, Enters, Includes, IsSlotWith, KeepsOrder, Leaves};
 ghost use Rattle.slot_rows.specs.Slots.{AreOrdered, slots_of, table_in};
 
 use crate::compare::{ByKey, ByRow, values_in};
@@ -81,6 +81,25 @@ impl Order {
             row,
             lead: lead_of_row(places, row),
         })
+    }
+
+    // A slot whose row has these values at the first columns.
+    pub(crate) fn search_front(&self, rows: &Slab<Row>, values: &[Value]) -> Option<usize>
+        requires ordered { AreOrdered rows.now self.now.places self.now.entries }
+        requires some { 0 < length values.now }
+        requires columns { length values.now ≤ length self.now.places }
+        ensures { IsSlotWith rows.now (slots_of self.now.entries) (take (length values.now) self.now.places) values.now result }
+    {
+        let (places, _) = self.places.as_slice().split_at(values.len());
+        match self.entries.search(&ByKey {
+            rows,
+            places,
+            key: values,
+            lead: lead_of_key(values),
+        }) {
+            Ok(place) => Some(self.slot_at(place)),
+            Err(_) => None,
+        }
     }
 
     // The slot at a place, which is below the length.

@@ -1,8 +1,11 @@
 //! The rows of a table in slots.
 
-ghost use Rattle.std.specs.Prelude.{◌≡◌, ◌≤◌, ◌<◌, ◌+◌, ◌^◌, [], OnOk, OnErr, option_copied, slice_get};
+ghost use Rattle.std.specs.Prelude.{◌≡◌, ◌≤◌, ◌<◌, ◌+◌, ◌^◌, ◌++◌, List, [], ◌∷◌, length, OnOk, OnErr, option_copied, slice_get, slice_index_or};
 ghost use Rattle.std.specs.FinMap as map;
-ghost use Rattle.indexed_rows.specs.Rows.{key_of, put_in};
+ghost use Rattle.key_rows.specs.Places.{IsKeyAt};
+ghost use Rattle.indexed_rows.specs.Rows.{key_of, put_in, put_over};
+ghost use Rattle.row_types.specs.declared.value.Value.{Value as OneValue};
+ghost use Rattle.slot_rows.specs.Orders.{IsRowWith, IsWider, TakesRow, front_of};
 
 use crate::lead::lead_of_row;
 use crate::order::Order;
@@ -83,12 +86,40 @@ impl SlotRows {
         }
     }
 
+    /// A row that has these values at the first columns of another order. It costs O(log n) comparisons.
+    pub fn find(&self, order: usize, values: &[Value]) -> Option<&Row>
+        requires there { order < length self.now.orders }
+        requires some { 0 < length values.now }
+        requires columns { length values.now ≤ length (slice_index_or self.now.orders order []) }
+        ensures { IsRowWith self.now.table self.now.places (front_of self.now.orders order (length values.now)) values.now (option_copied result) }
+    {
+        match self.others[order].search_front(&self.rows, values) {
+            None => None,
+            Some(slot) => self.rows.get(slot),
+        }
+    }
+
     /// The row at a place in key order, which is below the length.
     pub fn row_at(&self, place: usize) -> Option<&Row>
         requires { place < map.len self.now.table }
         ensures { option_copied result ≡ slice_get (map.values self.now.table) place }
     {
         self.rows.get(self.by_key.slot_at(place))
+    }
+
+    /// Another order of the rows, which are none yet: by some columns and then the key's.
+    ///
+    /// It fails for want of memory alone, and the rows then are as they were.
+    pub fn add_order(&mut self, alloc: Global, columns: Seq<usize>) -> Result<(), AllocError>
+        requires empty { map.len self.old.table ≡ 0 }
+        requires wider { IsWider columns self.old.places }
+        ensures ok { OnOk result (self.new ≡ record self.old { orders = self.old.orders ++ columns ∷ [] }) }
+        ensures err { OnErr result (self.new ≡ self.old) }
+    {
+        let mut order = Order::new(alloc, columns);
+        order.reserve(alloc, self.by_key.room.len())?;
+        self.others.push(order)?;
+        Ok(())
     }
 
     /// Makes room for so many more rows, so that they go in without memory.
@@ -146,6 +177,24 @@ impl SlotRows {
         Ok(())
     }
 
+    /// Puts a row over the one that its key has. It takes no memory.
+    pub fn replace_reserved(&mut self, row: Row)
+        requires room { 0 < self.old.spare }
+        ensures table { self.new.table ≡ put_over self.old.table (key_of self.old.places row) row }
+        ensures places { self.new.places ≡ self.old.places }
+        ensures orders { self.new.orders ≡ self.old.orders }
+        ensures spare { self.old.spare ≤ self.new.spare + 1 }
+    {
+        match self.by_key.search_row(&self.rows, row.values()) {
+            Err(_) => {}
+            Ok(place) => {
+                let _held = self.len();
+                let _ = self.take(place);
+                self.insert_reserved(row);
+            }
+        }
+    }
+
     /// Takes out the row of a key. It takes no memory.
     pub fn remove(&mut self, key: &[Value]) -> Option<Row>
         ensures old { result ≡ map.get self.old.table key.now }
@@ -156,12 +205,21 @@ impl SlotRows {
     {
         match self.by_key.search(&self.rows, key) {
             Err(_) => None,
-            Ok(place) => {
-                let slot = self.by_key.slot_at(place);
-                leave_all(&mut self.others, &self.rows, slot);
-                let _ = self.by_key.leave(place);
-                self.rows.try_remove(slot)
-            }
+            Ok(place) => self.take(place),
         }
+    }
+
+    // Takes out the row at a place in key order. It takes no memory.
+    fn take(&mut self, place: usize) -> Option<Row>
+        requires { place < map.len self.old.table }
+        ensures taken { (key : List OneValue) → IsKeyAt (map.entries self.old.table) key place → TakesRow self.old.table self.new.table key result }
+        ensures places { self.new.places ≡ self.old.places }
+        ensures orders { self.new.orders ≡ self.old.orders }
+        ensures spare { self.new.spare ≡ self.old.spare }
+    {
+        let slot = self.by_key.slot_at(place);
+        leave_all(&mut self.others, &self.rows, slot);
+        let _ = self.by_key.leave(place);
+        self.rows.try_remove(slot)
     }
 }
