@@ -15,7 +15,7 @@ use Rattle.key_rows.proofs.MapLaws.{entries_of}
 use Rattle.key_rows.proofs.Sorted.{sorted_tail}
 use Rattle.indexed_rows.specs.Rows.{Table, key_of, put_over}
 use Rattle.slot_rows.specs.Leads.{lead_first, lead_of}
-use Rattle.slot_rows.specs.Orders.{AreIn, Each, IsOther, IsRowWith, IsSlotWith, IsWider}
+use Rattle.slot_rows.specs.Orders.{AllIn, Each, IsOther, IsRowWith, IsSlotWith, IsWider}
 use Rattle.slot_rows.specs.Slots.{AreOrdered, entries_in, entry_in, row_in, slots_of, table_in}
 use Rattle.slot_rows.specs.declared.order.Entry.{Entry}
 use Rattle.slot_rows.specs.declared.order.Order.{Order}
@@ -186,8 +186,8 @@ not_left m k = ap is_some (fm.get-remove key_total m k k) ∙ ap (λ r. is_some 
 pub first_order : (slab : Slab Row) (places : List ℕ) (entries : List Entry) (spare : ℕ) (order : Order) → entries ≡ [] → order.entries ≡ [] → IsWider order.places places → spare ≤ length order.room.items → IsOther slab places entries spare order
 first_order slab places entries spare order none empty wider room = record {
   ordered = subst (AreOrdered slab order.places) (sym empty) (record { slots = record { live = λ i s e. cc; sorted = tt }; led = λ i e x. cc });
-  entered = subst (λ es. AreIn (slots_of es) (slots_of order.entries)) (sym none) (λ i s e. cc);
-  only = subst (λ es. AreIn (slots_of es) (slots_of entries)) (sym empty) (λ i s e. cc);
+  entered = subst (λ es. AllIn (slots_of es) (slots_of order.entries)) (sym none) (λ i s e. cc);
+  only = subst (λ es. AllIn (slots_of es) (slots_of entries)) (sym empty) (λ i s e. cc);
   long = ap length empty ∙ ap length (sym none);
   wider = wider;
   room = room;

@@ -13,7 +13,7 @@ use Rattle.key_rows.proofs.MapLaws.{entries_of, has_key, no_key}
 use Rattle.key_rows.proofs.Sorted.{sorted_tail}
 use Rattle.indexed_rows.specs.Rows.{key_of}
 use Rattle.slot_rows.specs.Leads.{lead_of}
-use Rattle.slot_rows.specs.Orders.{AreIn, Awaits, Each, EachNow, Enters, HasRoom, Includes, IsOther, IsWider, KeepsOrder, Leaves}
+use Rattle.slot_rows.specs.Orders.{AllIn, Awaits, Each, EachNow, EntersOrder, HasSpare, Includes, IsOther, IsWider, SameOrder, LeavesOrder}
 use Rattle.slot_rows.specs.Slots.{AreOrdered, entries_in, entry_in, row_in, slots_of, table_in}
 use Rattle.slot_rows.specs.declared.order.Entry.{Entry}
 use Rattle.slot_rows.specs.declared.order.Order.{Order}
@@ -65,7 +65,7 @@ member_old (y ∷ xs) zero x j s e = (suc j, e)
 member_old (y ∷ xs) (suc p) x zero s e = (0, e)
 member_old (y ∷ xs) (suc p) x (suc j) s e = let m = member_old xs p x j s e in (suc m.0, m.1)
 
-both_grown : (xs ys : List ℕ) (p q x : ℕ) → AreIn xs ys → AreIn (insert xs p x) (insert ys q x)
+both_grown : (xs ys : List ℕ) (p q x : ℕ) → AllIn xs ys → AllIn (insert xs p x) (insert ys q x)
 both_grown xs ys p q x sub i s e = elim (inserted xs p x i s e) [
   | inl w ↦ let m = member_new ys q x in (m.0, m.1 ∙ ap Some w)
   | inr w ↦ let o = sub w.0 s w.1 in member_old ys q x o.0 s o.1
@@ -142,17 +142,17 @@ module _ (slab new : Slab Row) (places : List ℕ) (entries : List Entry) (spare
   each_awaits some fits (order ∷ orders) are = (awaits some fits order are.0, each_awaits some fits orders are.1)
 
   module _ (now : List Entry) (slots : slots_of now ≡ insert (slots_of entries) at slot) (long : length now ≡ length entries + 1) (left : ℕ) (fewer : spare ≡ left + 1) where
-    entered : (order after : Order) → IsOther slab places entries spare order → Enters new slot order after → IsOther new places now left after
+    entered : (order after : Order) → IsOther slab places entries spare order → EntersOrder new slot order after → IsOther new places now left after
     entered order after is e = record {
       ordered = e.ordered;
-      entered = subst (λ xs. AreIn xs (slots_of after.entries)) (sym slots) (subst (AreIn (insert (slots_of entries) at slot)) (sym e.slots) (both_grown (slots_of entries) (slots_of order.entries) at e.at slot is.entered));
-      only = subst (AreIn (slots_of after.entries)) (sym slots) (subst (λ xs. AreIn xs (insert (slots_of entries) at slot)) (sym e.slots) (both_grown (slots_of order.entries) (slots_of entries) e.at at slot is.only));
+      entered = subst (λ xs. AllIn xs (slots_of after.entries)) (sym slots) (subst (AllIn (insert (slots_of entries) at slot)) (sym e.slots) (both_grown (slots_of entries) (slots_of order.entries) at e.at slot is.entered));
+      only = subst (AllIn (slots_of after.entries)) (sym slots) (subst (λ xs. AllIn xs (insert (slots_of entries) at slot)) (sym e.slots) (both_grown (slots_of order.entries) (slots_of entries) e.at at slot is.only));
       long = e.long ∙ ap (λ n. n + 1) is.long ∙ sym long;
       wider = subst (λ ps. IsWider ps places) (sym e.places) is.wider;
       room = omega (arith, fewer, is.room, e.room);
     }
 
-    pub each_entered : (orders after : List Order) → Each (IsOther slab places entries spare) orders → EachNow (Enters new slot) orders after → Each (IsOther new places now left) after
+    pub each_entered : (orders after : List Order) → Each (IsOther slab places entries spare) orders → EachNow (EntersOrder new slot) orders after → Each (IsOther new places now left) after
     each_entered [] [] are e = tt
     each_entered [] (a ∷ after) are e = absurd e
     each_entered (order ∷ orders) [] are e = absurd e
@@ -168,21 +168,21 @@ module _ (slab : Slab Row) (places : List ℕ) (entries : List Entry) (spare : �
     slots_now : slots_of now ≡ remove (slots_of entries) at
     slots_now = ap slots_of left ∙ slots_left slab new slot places entries at u are there
 
-    has_left : (order after : Order) → IsOther slab places entries spare order → Leaves slot order after → IsOther new places now spare after
+    has_left : (order after : Order) → IsOther slab places entries spare order → LeavesOrder slot order after → IsOther new places now spare after
     has_left order after is e =
         let gone : slots_of after.entries ≡ remove (slots_of order.entries) e.at = ap slots_of e.entries ∙ slots_left slab new slot order.places order.entries e.at u is.ordered e.was in
         record {
           ordered = subst (λ ps. AreOrdered new ps after.entries) (sym e.places) (subst (AreOrdered new order.places) (sym e.entries) (left_order slab new slot order.places order.entries e.at u is.ordered e.was));
-          entered = subst (λ xs. AreIn xs (slots_of after.entries)) (sym slots_now) (subst (AreIn (remove (slots_of entries) at)) (sym gone)
+          entered = subst (λ xs. AllIn xs (slots_of after.entries)) (sym slots_now) (subst (AllIn (remove (slots_of entries) at)) (sym gone)
             (λ x s q. let k = kept_of (slots_of entries) at x s q in let o = is.entered k.0 s k.1 in member_left (slots_of order.entries) e.at o.0 s slot o.1 e.was (others_differ slab places (slots_of entries) are.slots.sorted at slot there x s q)));
-          only = subst (AreIn (slots_of after.entries)) (sym slots_now) (subst (λ xs. AreIn xs (remove (slots_of entries) at)) (sym gone)
+          only = subst (AllIn (slots_of after.entries)) (sym slots_now) (subst (λ xs. AllIn xs (remove (slots_of entries) at)) (sym gone)
             (λ x s q. let k = kept_of (slots_of order.entries) e.at x s q in let o = is.only k.0 s k.1 in member_left (slots_of entries) at o.0 s slot o.1 there (others_differ slab order.places (slots_of order.entries) is.ordered.slots.sorted e.at slot e.was x s q)));
           long = omega (arith, e.long, is.long, long);
           wider = subst (λ ps. IsWider ps places) (sym e.places) is.wider;
           room = subst (λ r. spare ≤ length r.items) (sym e.room) is.room;
         }
 
-    pub each_left : (orders after : List Order) → Each (IsOther slab places entries spare) orders → EachNow (Leaves slot) orders after → Each (IsOther new places now spare) after
+    pub each_left : (orders after : List Order) → Each (IsOther slab places entries spare) orders → EachNow (LeavesOrder slot) orders after → Each (IsOther new places now spare) after
     each_left [] [] is e = tt
     each_left [] (a ∷ after) is e = absurd e
     each_left (order ∷ orders) [] is e = absurd e
@@ -199,12 +199,12 @@ module _ (R : Order → Order → Type 0) (keeps : (x y : Order) → R x y → y
   columns_stay (o ∷ orders) [] e = absurd e
   columns_stay (o ∷ orders) (a ∷ after) e = let first = keeps o a e.0 in let rest = columns_stay orders after e.1 in λ i. first i ∷ rest i
 
-kept_same : (orders : List Order) → EachNow KeepsOrder orders orders
+kept_same : (orders : List Order) → EachNow SameOrder orders orders
 kept_same [] = tt
 kept_same (o ∷ orders) = (record { places = refl; entries = refl; room = omega arith }, kept_same orders)
 
-pub first_kept : (whole : List Order) (o a : Order) (rest : List Order) → whole ≡ o ∷ rest → KeepsOrder o a → EachNow KeepsOrder whole (a ∷ rest)
-first_kept whole o a rest e k = subst (λ l. EachNow KeepsOrder l (a ∷ rest)) (sym e) (k, kept_same rest)
+pub first_kept : (whole : List Order) (o a : Order) (rest : List Order) → whole ≡ o ∷ rest → SameOrder o a → EachNow SameOrder whole (a ∷ rest)
+first_kept whole o a rest e k = subst (λ l. EachNow SameOrder l (a ∷ rest)) (sym e) (k, kept_same rest)
 
 -- a slice of the whole list, given back
 pub each_long : (R : Order → Order → Type 0) (orders after : List Order) → EachNow R orders after → length after ≡ length orders
@@ -251,25 +251,25 @@ module _ (slab new : Slab Row) (same : (s : ℕ) → get new s ≡ get slab s) w
       , each_same places entries spare orders are.1)
 
 module _ (slab : Slab Row) (places : List ℕ) (entries : List Entry) where
-  has_kept : (spare more : ℕ) (order after : Order) → IsOther slab places entries spare order → KeepsOrder order after → more ≤ length after.room.items → IsOther slab places entries more after
+  has_kept : (spare more : ℕ) (order after : Order) → IsOther slab places entries spare order → SameOrder order after → more ≤ length after.room.items → IsOther slab places entries more after
   has_kept spare more order after is k room = record {
     ordered = subst (λ ps. AreOrdered slab ps after.entries) (sym k.places) (subst (AreOrdered slab order.places) (sym k.entries) is.ordered);
-    entered = subst (λ es. AreIn (slots_of entries) (slots_of es)) (sym k.entries) is.entered;
-    only = subst (λ es. AreIn (slots_of es) (slots_of entries)) (sym k.entries) is.only;
+    entered = subst (λ es. AllIn (slots_of entries) (slots_of es)) (sym k.entries) is.entered;
+    only = subst (λ es. AllIn (slots_of es) (slots_of entries)) (sym k.entries) is.only;
     long = ap length k.entries ∙ is.long;
     wider = subst (λ ps. IsWider ps places) (sym k.places) is.wider;
     room = room;
   }
 
   -- the orders stay, with no less room
-  pub each_kept : (spare : ℕ) (orders after : List Order) → Each (IsOther slab places entries spare) orders → EachNow KeepsOrder orders after → Each (IsOther slab places entries spare) after
+  pub each_kept : (spare : ℕ) (orders after : List Order) → Each (IsOther slab places entries spare) orders → EachNow SameOrder orders after → Each (IsOther slab places entries spare) after
   each_kept spare [] [] is k = tt
   each_kept spare [] (a ∷ after) is k = absurd k
   each_kept spare (o ∷ orders) [] is k = absurd k
   each_kept spare (o ∷ orders) (a ∷ after) is k = (has_kept spare spare o a is.0 k.0 (omega (arith, is.0.room, k.0.room)), each_kept spare orders after is.1 k.1)
 
   -- the orders stay, with so much room
-  pub each_filled : (spare more least : ℕ) (orders after : List Order) → least ≤ more → Each (IsOther slab places entries spare) orders → EachNow KeepsOrder orders after → Each (HasRoom more) after → Each (IsOther slab places entries least) after
+  pub each_filled : (spare more least : ℕ) (orders after : List Order) → least ≤ more → Each (IsOther slab places entries spare) orders → EachNow SameOrder orders after → Each (HasSpare more) after → Each (IsOther slab places entries least) after
   each_filled spare more least [] [] le is k room = tt
   each_filled spare more least [] (a ∷ after) le is k room = absurd k
   each_filled spare more least (o ∷ orders) [] le is k room = absurd k

@@ -24,8 +24,8 @@ EachNow R (x ∷ xs) [] = ⊥
 EachNow R (x ∷ xs) (y ∷ ys) = R x y × EachNow R xs ys
 
 -- each slot of the first list is in the second
-abbrev pub AreIn : List ℕ → List ℕ → Type 0
-AreIn xs ys = (i slot : ℕ) → slice_get xs i ≡ Some slot → (j : ℕ) × (slice_get ys j ≡ Some slot)
+abbrev pub AllIn : List ℕ → List ℕ → Type 0
+AllIn xs ys = (i slot : ℕ) → slice_get xs i ≡ Some slot → (j : ℕ) × (slice_get ys j ≡ Some slot)
 
 -- some columns and then these
 abbrev pub IsWider : List ℕ → List ℕ → Type 0
@@ -34,8 +34,8 @@ IsWider wide places = (columns : List ℕ) × (wide ≡ columns ++ places)
 -- another order has the same slots as the order by key, by some columns and then the key's, and room for as many more
 pub record IsOther (slab : Slab (List Value)) (places : List ℕ) (entries : List Entry) (spare : ℕ) (order : Order) : Type 0 where
   pub ordered : AreOrdered slab order.places order.entries
-  pub entered : AreIn (slots_of entries) (slots_of order.entries)
-  pub only : AreIn (slots_of order.entries) (slots_of entries)
+  pub entered : AllIn (slots_of entries) (slots_of order.entries)
+  pub only : AllIn (slots_of order.entries) (slots_of entries)
   pub long : length order.entries ≡ length entries
   pub wider : IsWider order.places places
   pub room : spare ≤ length order.room.items
@@ -49,7 +49,7 @@ pub record Awaits (slab : Slab (List Value)) (slot : ℕ) (order : Order) : Type
   pub room : 0 < length order.room.items
 
 -- a slot was entered into the order
-pub record Enters (slab : Slab (List Value)) (slot : ℕ) (old new : Order) : Type 0 where
+pub record EntersOrder (slab : Slab (List Value)) (slot : ℕ) (old new : Order) : Type 0 where
   pub ordered : AreOrdered slab new.places new.entries
   pub places : new.places ≡ old.places
   pub at : ℕ
@@ -64,7 +64,7 @@ pub record Includes (slab : Slab (List Value)) (slot : ℕ) (order : Order) : Ty
   pub there : slice_get (slots_of order.entries) place ≡ Some slot
 
 -- a slot was taken out of the order
-pub record Leaves (slot : ℕ) (old new : Order) : Type 0 where
+pub record LeavesOrder (slot : ℕ) (old new : Order) : Type 0 where
   pub places : new.places ≡ old.places
   pub at : ℕ
   pub was : slice_get (slots_of old.entries) at ≡ Some slot
@@ -83,8 +83,8 @@ IsRowWith table places columns values None = (key row : List Value) → fm.get t
 IsRowWith table places columns values (Some row) = (fm.get table (key_of places row) ≡ Some row) × (key_of columns row ≡ values)
 
 -- so many columns at the front of another order's
-abbrev pub front_of : List (List ℕ) → ℕ → ℕ → List ℕ
-front_of orders order n = take n (slice_index_or orders order [])
+abbrev pub first_columns : List (List ℕ) → ℕ → ℕ → List ℕ
+first_columns orders order n = take n (slice_index_or orders order [])
 
 -- the row of a key was taken out
 pub record TakesRow (old new : Table) (key : List Value) (row : Option (List Value)) : Type 0 where
@@ -92,23 +92,23 @@ pub record TakesRow (old new : Table) (key : List Value) (row : Option (List Val
   pub now : new ≡ fm.remove old key
 
 -- the order is as it was, with no less room
-pub record KeepsOrder (old new : Order) : Type 0 where
+pub record SameOrder (old new : Order) : Type 0 where
   pub places : new.places ≡ old.places
   pub entries : new.entries ≡ old.entries
   pub room : length old.room.items ≤ length new.room.items
 
-abbrev pub HasRoom : ℕ → Order → Type 0
-HasRoom more order = more ≤ length order.room.items
+abbrev pub HasSpare : ℕ → Order → Type 0
+HasSpare more order = more ≤ length order.room.items
 
 -- what clauses see: the rows by key, the columns of the key, those of each other order, and how many more rows go in
 -- without memory
-pub record Held : Type 0 where
+pub record RowsHeld : Type 0 where
   pub table : Table
   pub places : List ℕ
   pub orders : List (List ℕ)
   pub spare : ℕ
 
-abbrev pub held_code : Coded Held
-held_code =
+abbrev pub rows_held_code : Coded RowsHeld
+rows_held_code =
     code_by (Table × (List ℕ × (List (List ℕ) × ℕ))) (coded× (fm.code (coded_list one.the_row.coded) (coded_list one.the_row.coded)) (coded× (coded_list coded_ℕ) (coded× (coded_list (coded_list coded_ℕ)) coded_ℕ))) (λ h. (h.table, (h.places, (h.orders, h.spare))))
     (λ p. record { table = p.0; places = p.1.0; orders = p.1.1.0; spare = p.1.1.1 }) (λ _. refl)

@@ -5,7 +5,7 @@ ghost use Rattle.std.specs.List.Sorted.{IsSearchInRange};
 ghost use Rattle.std.specs.FinMap as map;
 ghost use Rattle.key_rows.specs.Places.{IsGapFor, IsKeyAt};
 ghost use Rattle.indexed_rows.specs.Rows.{key_of};
-ghost use Rattle.slot_rows.specs.Orders.{Awaits, Enters, Includes, IsSlotWith, KeepsOrder, Leaves};
+ghost use Rattle.slot_rows.specs.Orders.{Awaits, EntersOrder, Includes, IsSlotWith, SameOrder, LeavesOrder};
 ghost use Rattle.slot_rows.specs.Slots.{AreOrdered, slots_of, table_in};
 
 use crate::compare::{ByKey, ByRow, values_in};
@@ -114,7 +114,7 @@ impl Order {
     //
     // It fails for want of memory alone.
     pub(crate) fn reserve(&mut self, alloc: Global, more: usize) -> Result<(), AllocError>
-        ensures kept { KeepsOrder self.old self.new }
+        ensures kept { SameOrder self.old self.new }
         ensures most { length self.old.room.items ≤ more → length self.new.room.items ≤ more }
         ensures ok { OnOk result (more ≤ length self.new.room.items) }
     {
@@ -154,7 +154,7 @@ impl Order {
     // Enters a slot with a row where it goes. It takes no memory.
     pub(crate) fn enter_row(&mut self, rows: &Slab<Row>, slot: usize)
         requires { Awaits rows.now slot self.old }
-        ensures { Enters rows.now slot self.old self.new }
+        ensures { EntersOrder rows.now slot self.old self.new }
     {
         let row = values_in(rows, slot);
         match self.search_row(rows, row) {
@@ -169,7 +169,7 @@ impl Order {
     // Takes out a slot with a row. It takes no memory.
     pub(crate) fn leave_row(&mut self, rows: &Slab<Row>, slot: usize)
         requires { Includes rows.now slot self.old }
-        ensures { Leaves slot self.old self.new }
+        ensures { LeavesOrder slot self.old self.new }
     {
         match self.search_row(rows, values_in(rows, slot)) {
             Ok(place) => {

@@ -1,7 +1,7 @@
 //! Several orders of the same rows.
 
 ghost use Rattle.std.specs.Prelude.{OnOk};
-ghost use Rattle.slot_rows.specs.Orders.{Awaits, Each, EachNow, Enters, HasRoom, Includes, KeepsOrder, Leaves};
+ghost use Rattle.slot_rows.specs.Orders.{Awaits, Each, EachNow, EntersOrder, HasSpare, Includes, SameOrder, LeavesOrder};
 
 use crate::order::Order;
 use row_types::Row;
@@ -12,8 +12,8 @@ use std::alloc::{AllocError, Global};
 //
 // It fails for want of memory alone.
 fn reserve_each(orders: &mut [Order], alloc: Global, more: usize) -> Result<(), AllocError>
-    ensures kept { EachNow KeepsOrder orders.old orders.new }
-    ensures ok { OnOk result (Each (HasRoom more) orders.new) }
+    ensures kept { EachNow SameOrder orders.old orders.new }
+    ensures ok { OnOk result (Each (HasSpare more) orders.new) }
 {
     match orders.split_first_mut() {
         None => Ok(()),
@@ -27,7 +27,7 @@ fn reserve_each(orders: &mut [Order], alloc: Global, more: usize) -> Result<(), 
 // Enters a slot with a row into each. It takes no memory.
 fn enter_each(orders: &mut [Order], rows: &Slab<Row>, slot: usize)
     requires { Each (Awaits rows.now slot) orders.old }
-    ensures { EachNow (Enters rows.now slot) orders.old orders.new }
+    ensures { EachNow (EntersOrder rows.now slot) orders.old orders.new }
 {
     match orders.split_first_mut() {
         None => {}
@@ -41,7 +41,7 @@ fn enter_each(orders: &mut [Order], rows: &Slab<Row>, slot: usize)
 // Takes a slot with a row out of each. It takes no memory.
 fn leave_each(orders: &mut [Order], rows: &Slab<Row>, slot: usize)
     requires { Each (Includes rows.now slot) orders.old }
-    ensures { EachNow (Leaves slot) orders.old orders.new }
+    ensures { EachNow (LeavesOrder slot) orders.old orders.new }
 {
     match orders.split_first_mut() {
         None => {}
@@ -56,8 +56,8 @@ fn leave_each(orders: &mut [Order], rows: &Slab<Row>, slot: usize)
 //
 // It fails for want of memory alone.
 pub(crate) fn reserve_all(orders: &mut Vec<Order>, alloc: Global, more: usize) -> Result<(), AllocError>
-    ensures kept { EachNow KeepsOrder orders.old.items orders.new.items }
-    ensures ok { OnOk result (Each (HasRoom more) orders.new.items) }
+    ensures kept { EachNow SameOrder orders.old.items orders.new.items }
+    ensures ok { OnOk result (Each (HasSpare more) orders.new.items) }
 {
     reserve_each(orders.as_mut_slice(), alloc, more)
 }
@@ -65,7 +65,7 @@ pub(crate) fn reserve_all(orders: &mut Vec<Order>, alloc: Global, more: usize) -
 // Enters a slot with a row into all. It takes no memory.
 pub(crate) fn enter_all(orders: &mut Vec<Order>, rows: &Slab<Row>, slot: usize)
     requires { Each (Awaits rows.now slot) orders.old.items }
-    ensures { EachNow (Enters rows.now slot) orders.old.items orders.new.items }
+    ensures { EachNow (EntersOrder rows.now slot) orders.old.items orders.new.items }
 {
     enter_each(orders.as_mut_slice(), rows, slot);
 }
@@ -73,7 +73,7 @@ pub(crate) fn enter_all(orders: &mut Vec<Order>, rows: &Slab<Row>, slot: usize)
 // Takes a slot with a row out of all. It takes no memory.
 pub(crate) fn leave_all(orders: &mut Vec<Order>, rows: &Slab<Row>, slot: usize)
     requires { Each (Includes rows.now slot) orders.old.items }
-    ensures { EachNow (Leaves slot) orders.old.items orders.new.items }
+    ensures { EachNow (LeavesOrder slot) orders.old.items orders.new.items }
 {
     leave_each(orders.as_mut_slice(), rows, slot);
 }

@@ -5,7 +5,7 @@ ghost use Rattle.std.specs.FinMap as map;
 ghost use Rattle.key_rows.specs.Places.{IsKeyAt};
 ghost use Rattle.indexed_rows.specs.Rows.{key_of, put_in, put_over};
 ghost use Rattle.row_types.specs.declared.value.Value.{Value as OneValue};
-ghost use Rattle.slot_rows.specs.Orders.{IsRowWith, IsWider, TakesRow, front_of};
+ghost use Rattle.slot_rows.specs.Orders.{IsRowWith, IsWider, TakesRow, first_columns};
 
 use crate::lead::lead_of_row;
 use crate::order::Order;
@@ -42,12 +42,12 @@ impl Drop for SlotRows {
 impl Model for SlotRows {
     ghost use Rattle.std.specs.Prelude.{length, map};
     ghost use Rattle.slab.specs.Slab.{HasRoomFor};
-    ghost use Rattle.slot_rows.specs.Orders.{Each, Held, held_code, IsOther};
+    ghost use Rattle.slot_rows.specs.Orders.{Each, RowsHeld, rows_held_code, IsOther};
     ghost use Rattle.slot_rows.specs.Slots.{AreOrdered, table_in};
 
-    ghost Value = { Held };
+    ghost Value = { RowsHeld };
 
-    ghost coded = { held_code };
+    ghost coded = { rows_held_code };
 
     ghost view = { λ r. record { table = table_in r.rows r.by_key.places r.by_key.entries; places = r.by_key.places; orders = map (λ o. o.places) r.others.items; spare = length r.by_key.room.items } };
 
@@ -91,7 +91,7 @@ impl SlotRows {
         requires there { order < length self.now.orders }
         requires some { 0 < length values.now }
         requires columns { length values.now ≤ length (slice_index_or self.now.orders order []) }
-        ensures { IsRowWith self.now.table self.now.places (front_of self.now.orders order (length values.now)) values.now (option_copied result) }
+        ensures { IsRowWith self.now.table self.now.places (first_columns self.now.orders order (length values.now)) values.now (option_copied result) }
     {
         match self.others[order].search_front(&self.rows, values) {
             None => None,
