@@ -8,6 +8,7 @@
 
 mod backing;
 mod error;
+mod joined;
 mod plan;
 mod script;
 mod stage;

@@ -24,6 +24,10 @@ pub enum Plan<'a> {
     Settings(&'a str),
     /// `words TEXT`: the words behind the program's name, in place of `run`.
     Words(&'a str),
+    /// `joined`: tables that foreign keys join stand in the history before the run, as `joined` defines them.
+    Joined,
+    /// `note TEXT`: what the script is about. It plans nothing.
+    Note,
 }
 
 impl<'a> Plan<'a> {
@@ -40,6 +44,8 @@ impl<'a> Plan<'a> {
             "sink" => parse_call(rest).map(Plan::Sink),
             "settings" => Some(Plan::Settings(rest)),
             "words" => Some(Plan::Words(rest)),
+            "joined" => Some(Plan::Joined),
+            "note" => Some(Plan::Note),
             _ => None,
         }
     }

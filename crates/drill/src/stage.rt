@@ -2,6 +2,7 @@
 
 use crate::backing::{asked_behind_label, changes_of, defined};
 use crate::error::DrillError;
+use crate::joined::joined_tables;
 use crate::plan::Plan;
 use crate::script::{Planned, Script};
 use backing_gate::{CallKind, MemorySite};
@@ -9,7 +10,7 @@ use outside::{Done, MemorySink, MemorySource, ScriptClock, Site};
 use session_cli::top;
 use sql_subset::request::ConsoleRequest;
 use std::alloc::{AllocError, Global};
-use table_defs::{BackingSchema, TableDef, copied_schema};
+use table_defs::{BackingSchema, TableDef};
 use tier_base::Seq;
 
 /// The objects, before the run.
@@ -74,17 +75,28 @@ impl<'a> Stage<'a> {
     }
 
     fn do_before(&mut self, alloc: Global, planned: &Planned<'a>) -> Result<(), DrillError> {
-        let Plan::Before(text) = planned.plan else {
-            return Ok(());
-        };
+        match planned.plan {
+            Plan::Before(text) => self.play(alloc, text, planned.line),
+            Plan::Joined => {
+                for def in joined_tables(alloc)? {
+                    self.define(def, planned.line)?;
+                }
+                Ok(())
+            }
+            _ => Ok(()),
+        }
+    }
+
+    // Makes the table, or does the writes, that the text asks for.
+    fn play(&mut self, alloc: Global, text: &str, line: usize) -> Result<(), DrillError> {
         match asked_behind_label(alloc, text)? {
             Some(ConsoleRequest::CreateTable(table)) => {
                 match TableDef::check(alloc, &table, &self.schema) {
-                    Ok(def) => self.define(def, planned.line),
-                    Err(_) => Err(DrillError::Line(planned.line)),
+                    Ok(def) => self.define(def, line),
+                    Err(_) => Err(DrillError::Line(line)),
                 }
             }
-            _ => self.write(alloc, text, planned.line),
+            _ => self.write(alloc, text, line),
         }
     }
 
@@ -129,7 +141,7 @@ impl<'a> Stage<'a> {
                 let changes = changes_of(alloc, &self.schema, text, planned.line)?;
                 self.site.foreign_at(call, side, changes)?;
             }
-            Plan::Before(_) => {}
+            Plan::Before(_) | Plan::Joined | Plan::Note => {}
             Plan::Pieces(piece) => self.piece = piece,
             Plan::Source(call) => self.source_fails.push(call).map_err(AllocError::from)?,
             Plan::Sink(call) => self.sink_fails.push(call).map_err(AllocError::from)?,

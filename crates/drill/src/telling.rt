@@ -1,6 +1,5 @@
 //! What is told of a run: the replies, the history and the tables.
 
-use crate::error::DrillError;
 use itoa::Buffer;
 use row_types::{Row, print_values_into};
 use std::alloc::{AllocError, Global};
