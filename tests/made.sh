@@ -173,3 +173,90 @@ for number in $(seq 2 255); do line "backing: CREATE TABLE T$number (ID TT_BIGIN
 wide 33 'no 119 tables'
 line 'backing: CREATE TABLE T2 (ID TT_BIGINT)' 'no 113 T2'
 line 'backing: CREATE TABLE T1 (ID TT_BIGINT)' 'no 104'
+
+# Transactions of three writes, each from the same rows, against a list of rows that awk keeps: P (ID, N); C (ID, PID), which
+# leaves with nothing; K (ID, PID), which leaves with its parent. All of 12 writes in each place: 1,728 transactions.
+awk '
+function has(table, id) { return (table, id) in row }
+function orphan(table, parent) { return table != "P" && !has("P", parent) }
+# The rows of a table in key order, into found; how many.
+function find(table,   id, count) {
+  for (id = 0; id < 10; id++) if (has(table, id)) found[++count] = id
+  return count + 0
+}
+function told(verb, table, id) { return "  " verb " " table " " id "|" row[table, id] "\n" }
+function insert(table, id, other) { row[table, id] = other; done = done told("insert", table, id) }
+function leave(table, id) { done = done told("delete", table, id); delete row[table, id] }
+function leave_all(table,   count, i) { count = find(table); for (i = 1; i <= count; i++) leave(table, found[i]); return count }
+# The rows that each transaction begins with. What was there leaves first.
+function begin() {
+  rows = leave_all("C") + leave_all("K") + leave_all("P")
+  insert("P", 1, 10); insert("P", 2, "NULL"); insert("P", 3, 4)
+  insert("C", 4, 1); insert("C", 5, 3); insert("K", 6, 1); insert("K", 7, 2)
+  rows += 7
+}
+# Does a write, or tells the rule that it breaks.
+function write(verb, table, id, other,   i, count) {
+  if (verb == "insert") {
+    if (has(table, id)) return "no 107 " table " " id
+    if (orphan(table, other)) return "no 108 P " other
+    insert(table, id, other); rows++
+  } else if (verb == "update" && has(table, id)) {
+    if (orphan(table, other)) return "no 108 P " other
+    done = done "  update " table " " id "|" row[table, id] " to " id "|" other "\n"
+    row[table, id] = other; rows++
+  } else if (verb == "delete" && has(table, id)) {
+    if (table == "P") {
+      count = find("C")
+      for (i = 1; i <= count; i++) if (row["C", found[i]] == id) return "no 109 C " found[i]
+      count = find("K")
+      for (i = 1; i <= count; i++) if (row["K", found[i]] == id) leave("K", found[i])
+    }
+    leave(table, id); rows++
+  }
+  return ""
+}
+function spelt(verb, table, id, other) {
+  if (verb == "insert") return "INSERT INTO " table " VALUES (" id "," other ")"
+  if (verb == "delete") return "DELETE FROM " table " WHERE ID = " id
+  return "UPDATE " table " SET " (table == "P" ? "N" : "PID") " = " other " WHERE ID = " id
+}
+function entry(reply) {
+  print reply >"three_writes.expected"
+  if (reply ~ /^ok/) printf "%d others\n%s", ++entries, done >"history"
+  done = ""
+}
+# The three writes, and what is left: all of it, or what was there before.
+function transact(a, b, c,   line, saved, key, broken, i, part) {
+  print "backing: DELETE FROM C; DELETE FROM K; DELETE FROM P; INSERT INTO P VALUES (1,10); INSERT INTO P VALUES (2,NULL); INSERT INTO P VALUES (3,4); INSERT INTO C VALUES (4,1); INSERT INTO C VALUES (5,3); INSERT INTO K VALUES (6,1); INSERT INTO K VALUES (7,2)" >"three_writes.drill"
+  begin(); entry("ok " rows)
+  for (key in row) saved[key] = row[key]
+  rows = 0
+  line = "backing: "
+  place[1] = a; place[2] = b; place[3] = c
+  for (i = 1; i <= 3; i++) {
+    split(writes[place[i]], part, " ")
+    line = line (i > 1 ? "; " : "") spelt(part[1], part[2], part[3], part[4])
+    if (broken == "") broken = write(part[1], part[2], part[3], part[4])
+  }
+  print line >"three_writes.drill"
+  if (broken == "") { entry("ok " rows); return }
+  delete row
+  for (key in saved) row[key] = saved[key]
+  entry(broken)
+}
+BEGIN {
+  count = split("insert P 4 40,insert P 1 1,insert C 8 4,insert K 8 1,update P 2 5,update C 4 2,update K 7 9,delete P 1,delete P 2,delete P 4,delete C 4,delete K 7", writes, ",")
+  print "! joined" >"three_writes.drill"
+  entries = split("P C V T K", tables, " ")
+  print "-- history" >"history"
+  for (i = 1; i <= entries; i++) print i " definition of " tables[i] >"history"
+  for (a = 1; a <= count; a++) for (b = 1; b <= count; b++) for (c = 1; c <= count; c++) transact(a, b, c)
+  print "-- tables" >"history"
+  for (i = 1; i <= 5; i++) {
+    print tables[i] >"history"
+    count = find(tables[i])
+    for (b = 1; b <= count; b++) print "= " found[b] "|" row[tables[i], found[b]] >"history"
+  }
+}'
+cat history >>three_writes.expected
