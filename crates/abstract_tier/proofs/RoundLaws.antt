@@ -13,7 +13,8 @@ use Rattle.table_state.specs.declared.history.Sealed.{Sealed}
 use Rattle.table_state.specs.Histories.{has_ticket, entry_of}
 use Rattle.outside.specs.Others.{AreOthers}
 use Rattle.abstract_tier.specs.Commits.{RiseBetween, pending, own_entries, is_own}
-use Rattle.abstract_tier.specs.Rounds.{Mixes, Round}
+use Rattle.abstract_tier.specs.declared.rounds.RoundFault.{RoundFault}
+use Rattle.abstract_tier.specs.Rounds.{Mixes, Round, doubts}
 use Rattle.abstract_tier.proofs.CommitLaws.{has_ticket-append, nat_eq_same, or_true}
 use Rattle.abstract_tier.proofs.OwnLaws.{AllStand, all_stand}
 use Rattle.abstract_tier.proofs.OwnLaws.{front_tickets, front_pending}
@@ -138,8 +139,8 @@ receipts_settled h r k n log owns below =
     ∙ sym parted ∙ front_settled h (r + k) n log owns below
 
 -- a round from this history on
-pub makes_round : {E : Type 0} (shared : List TableId) (h tail : List Entry) (low r i j k : ℕ) (log : List Sealed) (high : ℕ) (new : List Sealed) (result : Result ℕ E) → own_entries h ≡ map entry_of (take i log) → RiseBetween low log high
-    → Mixes shared (take j (drop i log)) h tail → r ≤ i → i + j ≤ (r + k) + 1 → r + k ≤ i + j → new ≡ drop (r + k) log → OnOk result (new ≡ []) → IfOk result (λ n. n ≡ length (drop r log))
+pub makes_round : (shared : List TableId) (h tail : List Entry) (low r i j k : ℕ) (log : List Sealed) (high : ℕ) (new : List Sealed) (result : Result ℕ RoundFault) → own_entries h ≡ map entry_of (take i log) → RiseBetween low log high
+    → Mixes shared (take j (drop i log)) h tail → r ≤ i → j ≤ k + doubts result → r + k ≤ i + j → new ≡ drop (r + k) log → OnOk result (new ≡ []) → IfOk result (λ n. n ≡ length (drop r log))
     → Round shared (drop r log) h new (h ++ tail) result
 makes_round shared h tail low r i j k log high new result owns rise mixes below most least rest all told = record {
   receipts = k;
@@ -149,7 +150,7 @@ makes_round shared h tail low r i j k log high new result owns rise mixes below 
   came = refl;
   mixes = subst (λ (l : List Sealed). Mixes shared (take j l) h tail) (sym (waiting_rest h low r i log high owns rise below)) mixes;
   settled = receipts_settled (h ++ tail) r k (i + j) log (tail_owns shared h tail i j log owns mixes) least;
-  at_most = let a : r ≤ i = below in let b : i + j ≤ (r + k) + 1 = most in Prim.omega arith;
+  at_most = most;
   all = all;
   told = told;
 }

@@ -3,6 +3,7 @@ use Rattle.std.proofs.Common.{◌≡◌, ℕ, zero, suc, ◌+◌, ◌≤◌, ◌
 use Rattle.std.specs.Prelude.{Ok, Err}
 use Rattle.std.specs.Option.{IsSome}
 use Rattle.std.proofs.lemmas.List.{append-nil, drop-drop}
+use Rattle.row_types.specs.declared.value.Value.{Value}
 use Rattle.tier_base.specs.declared.number.TableId.{TableId}
 use Rattle.table_state.specs.declared.history.Entry.{Entry}
 use Rattle.table_state.specs.declared.history.Sealed.{Sealed}
@@ -14,7 +15,7 @@ use Rattle.outside.specs.Others.{AreOthers}
 use Rattle.abstract_tier.specs.declared.rounds.RoundFault.{RoundFault}
 use Rattle.abstract_tier.specs.declared.rounds.RoundFault.TheVariants as stop
 use Rattle.abstract_tier.specs.Commits.{RiseBetween, own_entries}
-use Rattle.abstract_tier.specs.Rounds.{DifferedAt, FirstDiffers, Mixes}
+use Rattle.abstract_tier.specs.Rounds.{DifferedAt, FirstDiffers, Mixes, doubts_at}
 use Rattle.abstract_tier.specs.RoundStates.{Settles, RoundAt, RoundOver, GoesFrom, RoundGoes}
 use Rattle.abstract_tier.proofs.RoundLaws.{drop_next, mixes_next, mixes_others, next_fresh, next_there, next_within, tail_owns, take_next}
 
@@ -40,26 +41,29 @@ by_place (suc c) (suc r) a b = elim (by_place c r (Prim.omega arith) (Prim.omega
 differ : {b : Bool} → b ≡ true → b ≡ false → ⊥
 differ {b} t f = let e : true ≡ false = sym t ∙ f in Prim.cc
 
-pub goes_same : (shared : List TableId) (told : Option Held) (unsettled : List Sealed) → RoundGoes shared told told unsettled unsettled
+pub goes_same : (shared : List TableId) (told : Option Held) (unsettled : List Sealed) → RoundGoes 0 shared told told unsettled unsettled
 goes_same shared told unsettled log front slots began added received low high rise owns at =
-    record { added' = added; received' = received; more_added = Prim.omega arith; more_received = Prim.omega arith; at = at }
+    record { added' = added; received' = received; more_added = Prim.omega arith; more_received = Prim.omega arith; few_more = Prim.omega arith; at = at }
 
-pub goes_on : (shared : List TableId) (a b c : Option Held) (x y z : List Sealed) → RoundGoes shared a b x y → RoundGoes shared b c y z → RoundGoes shared a c x z
-goes_on shared a b c x y z first second log front slots began added received low high rise owns at =
+pub goes_on : (few : ℕ) (shared : List TableId) (a b c : Option Held) (x y z : List Sealed) → RoundGoes 0 shared a b x y → RoundGoes few shared b c y z → RoundGoes few shared a c x z
+goes_on few shared a b c x y z first second log front slots began added received low high rise owns at =
     let f = first log front slots began added received low high rise owns at in
     let s = second log front slots began f.added' f.received' low high rise owns f.at in
     let c1 : added ≤ f.added' = f.more_added in
     let c2 : f.added' ≤ s.added' = s.more_added in
     let r1 : received ≤ f.received' = f.more_received in
     let r2 : f.received' ≤ s.received' = s.more_received in
-    record { added' = s.added'; received' = s.received'; more_added = Prim.omega arith; more_received = Prim.omega arith; at = s.at }
+    let d1 : f.added' + received ≤ added + f.received' + 0 = f.few_more in
+    let d2 : s.added' + f.received' ≤ f.added' + s.received' + few = s.few_more in
+    record { added' = s.added'; received' = s.received'; more_added = Prim.omega arith; more_received = Prim.omega arith; few_more = Prim.omega arith; at = s.at }
 
 -- Behind its own step a call leaves the round somewhere further on.
-record Further (shared : List TableId) (unsettled log : List Sealed) (front history : List Entry) (began added received : ℕ) : Type 0 where
+record Further (few : ℕ) (shared : List TableId) (unsettled log : List Sealed) (front history : List Entry) (began added received : ℕ) : Type 0 where
   added' : ℕ
   received' : ℕ
   more_added : added ≤ added'
   more_received : received ≤ received'
+  few_more : added' + received ≤ added + received' + few
   over : RoundOver shared unsettled log front history began added' received'
 
 -- transactions of others came
@@ -76,12 +80,13 @@ others_over shared old log front h more began added received over o = record {
 }
 
 -- nothing of the log came
-stays : (shared : List TableId) (old log : List Sealed) (front h h' : List Entry) (began added received : ℕ) → RoundOver shared old log front h began added received → h' ≡ h ++ [] → Further shared old log front h' began added received
-stays shared old log front h h' began added received over grows = record {
+stays : (few : ℕ) (shared : List TableId) (old log : List Sealed) (front h h' : List Entry) (began added received : ℕ) → RoundOver shared old log front h began added received → h' ≡ h ++ [] → Further few shared old log front h' began added received
+stays few shared old log front h h' began added received over grows = record {
   added' = added;
   received' = received;
   more_added = Prim.omega arith;
   more_received = Prim.omega arith;
+  few_more = Prim.omega arith;
   over = subst (λ (l : List Entry). RoundOver shared old log front l began added received) (sym (grows ∙ append-nil h)) over;
 }
 
@@ -91,10 +96,10 @@ owned : (shared : List TableId) (old log : List Sealed) (front h : List Entry) (
 owned shared old log front h began added received over owns = ap own_entries over.is ∙ tail_owns shared front over.tail began added log owns over.mixes
 
 -- The next one came: it wasn't there before, so all before it have their receipts. Its own receipt is there or not.
-comes : (n : ℕ) (shared : List TableId) (old new log : List Sealed) (front h h' : List Entry) (began added received low high : ℕ) (s : Sealed) (rest : List Sealed) → n ≤ 1 → RiseBetween low log high
+comes : (few n : ℕ) (shared : List TableId) (old new log : List Sealed) (front h h' : List Entry) (began added received low high : ℕ) (s : Sealed) (rest : List Sealed) → n ≤ 1 → 1 ≤ n + few → RiseBetween low log high
     → own_entries front ≡ map entry_of (take began log) → (over : RoundOver shared old log front h began added received) → drop received log ≡ s ∷ rest → new ≡ drop (received + n) log
-    → Comes s [] h h' → Further shared new log front h' began added received
-comes n shared old new log front h h' began added received low high s rest few rise owns over here left c =
+    → Comes s [] h h' → Further few shared new log front h' began added received
+comes few n shared old new log front h h' began added received low high s rest at_most one rise owns over here left c =
     let a : received ≤ began + added = over.at_least in
     let b : began + added ≤ received + 1 = over.at_most in
     let mine = owned shared old log front h began added received over owns in
@@ -108,6 +113,7 @@ comes n shared old new log front h h' began added received low high s rest few r
             received' = received + n;
             more_added = Prim.omega arith;
             more_received = Prim.omega arith;
+            few_more = Prim.omega arith;
             over = record {
               tail = over.tail ++ entry_of s ∷ [];
               is = c.grows ∙ ap (λ l. l ++ entry_of s ∷ []) over.is ∙ append_assoc front over.tail (entry_of s ∷ []);
@@ -125,7 +131,7 @@ comes n shared old new log front h h' began added received low high s rest few r
 -- the next one came before
 came_before : (shared : List TableId) (old log : List Sealed) (front h h' : List Entry) (began added received low high : ℕ) (s : Sealed) (rest : List Sealed) → RiseBetween low log high
     → own_entries front ≡ map entry_of (take began log) → (over : RoundOver shared old log front h began added received) → drop received log ≡ s ∷ rest
-    → has_ticket s.ticket.0 h ≡ true → h' ≡ h ++ [] → Further shared rest log front h' began added received
+    → has_ticket s.ticket.0 h ≡ true → h' ≡ h ++ [] → Further 0 shared rest log front h' began added received
 came_before shared old log front h h' began added received low high s rest rise owns over here there grows =
     let a : received ≤ began + added = over.at_least in
     let b : began + added ≤ received + 1 = over.at_most in
@@ -138,6 +144,7 @@ came_before shared old log front h h' began added received low high s rest rise 
             received' = received + 1;
             more_added = Prim.omega arith;
             more_received = Prim.omega arith;
+            few_more = Prim.omega arith;
             over = record {
               tail = over.tail;
               is = grows ∙ append-nil h ∙ over.is;
@@ -151,11 +158,11 @@ came_before shared old log front h h' began added received low high s rest rise 
     ]
 
 -- a call, with transactions of others before and behind its own step
-around : (shared : List TableId) (told told' : Option Held) (old new log : List Sealed) (front : List Entry) (slots : Slots) (began added received : ℕ) (step : List Entry → List Entry → Type 0)
+around : (few : ℕ) (shared : List TableId) (told told' : Option Held) (old new log : List Sealed) (front : List Entry) (slots : Slots) (began added received : ℕ) (step : List Entry → List Entry → Type 0)
     (at : RoundAt shared told old log front slots began added received) → Told told told' (BankCall shared step)
-    → ((h h' : List Entry) → RoundOver shared old log front h began added received → step h h' → Further shared new log front h' began added received)
-    → GoesFrom shared told' new log front slots began added received
-around shared told told' old new log front slots began added received step at call own =
+    → ((h h' : List Entry) → RoundOver shared old log front h began added received → step h h' → Further few shared new log front h' began added received)
+    → GoesFrom few shared told' new log front slots began added received
+around few shared told told' old new log front slots began added received step at call own =
     let x = called told told' at.held (BankCall shared step) at.tells call in
     let a = x.is.history in
     let begin = others_over shared old log front at.held.history a.before began added received at.over a.came_before in
@@ -165,6 +172,7 @@ around shared told told' old new log front slots began added received step at ca
       received' = f.received';
       more_added = f.more_added;
       more_received = f.more_received;
+      few_more = f.few_more;
       at = record {
         held = x.held';
         tells = x.tells;
@@ -179,27 +187,27 @@ pub shared_call : (x y : List TableId) (told told' : Option Held) (step : List E
 shared_call x y told told' step e call = subst (λ (l : List TableId). Told told told' (BankCall l step)) e call
 
 -- one that got its receipt leaves
-pub settled_goes : (shared : List TableId) (told told' : Option Held) (old rest : List Sealed) (s : Sealed) (done : Unit {0}) → old ≡ s ∷ rest → Told told told' (BankCall shared (Settles s (Ok done))) → RoundGoes shared told told' old rest
+pub settled_goes : (shared : List TableId) (told told' : Option Held) (old rest : List Sealed) (s : Sealed) (done : Unit {0}) → old ≡ s ∷ rest → Told told told' (BankCall shared (Settles s (Ok done))) → RoundGoes 0 shared told told' old rest
 settled_goes shared told told' old rest s done e call log front slots began added received low high rise owns at =
     let here : drop received log ≡ s ∷ rest = sym at.over.rest ∙ e in
-    around shared told told' old rest log front slots began added received (Settles s (Ok done)) at call (λ h h' over step. elim step [
-      | inl c ↦ comes 1 shared old rest log front h h' began added received low high s rest (Prim.omega arith) rise owns over here (sym (drop_next received log s rest here)) c
+    around 0 shared told told' old rest log front slots began added received (Settles s (Ok done)) at call (λ h h' over step. elim step [
+      | inl c ↦ comes 0 1 shared old rest log front h h' began added received low high s rest (Prim.omega arith) (Prim.omega arith) rise owns over here (sym (drop_next received log s rest here)) c
       | inr p ↦ came_before shared old log front h h' began added received low high s rest rise owns over here p.0 p.1
     ])
 
 -- at a fault nothing leaves
-pub stopped_goes : (shared : List TableId) (told told' : Option Held) (old rest : List Sealed) (s : Sealed) (fault : RoundFault) → old ≡ s ∷ rest → Told told told' (BankCall shared (Settles s (Err fault))) → RoundGoes shared told told' old old
+pub stopped_goes : (shared : List TableId) (told told' : Option Held) (old rest : List Sealed) (s : Sealed) (fault : RoundFault) → old ≡ s ∷ rest → Told told told' (BankCall shared (Settles s (Err fault))) → RoundGoes (doubts_at fault) shared told told' old old
 stopped_goes shared told told' old rest s stop.Failed e call log front slots began added received low high rise owns at =
     let here : drop received log ≡ s ∷ rest = sym at.over.rest ∙ e in
     let same : received ≡ received + 0 = Prim.omega arith in
-    around shared told told' old old log front slots began added received (Settles s (Err stop.Failed)) at call (λ h h' over step. elim step [
-      | inl grows ↦ stays shared old log front h h' began added received over grows
-      | inr c ↦ comes 0 shared old old log front h h' began added received low high s rest (Prim.omega arith) rise owns over here (at.over.rest ∙ ap (λ n. drop n log) same) c
+    around 1 shared told told' old old log front slots began added received (Settles s (Err stop.Failed)) at call (λ h h' over step. elim step [
+      | inl grows ↦ stays 1 shared old log front h h' began added received over grows
+      | inr c ↦ comes 1 0 shared old old log front h h' began added received low high s rest (Prim.omega arith) (Prim.omega arith) rise owns over here (at.over.rest ∙ ap (λ n. drop n log) same) c
     ])
 stopped_goes shared told told' old rest s stop.Memory e call log front slots began added received low high rise owns at =
-    around shared told told' old old log front slots began added received (Settles s (Err stop.Memory)) at call (λ h h' over step. stays shared old log front h h' began added received over step)
-stopped_goes shared told told' old rest s stop.Differs e call log front slots began added received low high rise owns at =
-    around shared told told' old old log front slots began added received (Settles s (Err stop.Differs)) at call (λ h h' over step. stays shared old log front h h' began added received over step.1)
+    around 0 shared told told' old old log front slots began added received (Settles s (Err stop.Memory)) at call (λ h h' over step. stays 0 shared old log front h h' began added received over step)
+stopped_goes shared told told' old rest s (stop.Differs table key) e call log front slots began added received low high rise owns at =
+    around 0 shared told told' old old log front slots began added received (Settles s (Err (stop.Differs table key))) at call (λ h h' over step. stays 0 shared old log front h h' began added received over step.1)
 
 pub first_leaves : (xs : List Sealed) (s : Sealed) → 0 < length xs → s ≡ get_or xs 0 s → xs ≡ s ∷ drop 1 xs
 first_leaves [] s some e = absurd (Prim.omega arith)
@@ -211,20 +219,20 @@ told_stays (Some held) None step t some = absurd t
 told_stays (Some held) (Some held') step t some = refl
 
 -- where a row differs, the first one left is the one that differs
-pub first_differs : (shared : List TableId) (told told' : Option Held) (old rest : List Sealed) (s : Sealed) (fault : RoundFault) → old ≡ s ∷ rest → Told told told' (BankCall shared (Settles s (Err fault))) → fault ≡ stop.Differs → IsSome told
-    → (held : Held) → told' ≡ Some held → DifferedAt shared old held.history
-first_differs shared None told' old rest s fault e call is some held tells = Prim.cc
-first_differs shared (Some before) None old rest s fault e call is some held tells = absurd call
-first_differs shared (Some before) (Some after) old rest s fault e call is some held tells =
-    let done : BankCall shared (Settles s (Err stop.Differs)) before after = subst (λ (f : RoundFault). BankCall shared (Settles s (Err f)) before after) is call in
+pub first_differs : (shared : List TableId) (told told' : Option Held) (old rest : List Sealed) (s : Sealed) (fault : RoundFault) (table : TableId) (key : List Value) → old ≡ s ∷ rest → Told told told' (BankCall shared (Settles s (Err fault))) → fault ≡ stop.Differs table key → IsSome told
+    → (held : Held) → told' ≡ Some held → DifferedAt shared table key old held.history
+first_differs shared None told' old rest s fault table key e call is some held tells = Prim.cc
+first_differs shared (Some before) None old rest s fault table key e call is some held tells = absurd call
+first_differs shared (Some before) (Some after) old rest s fault table key e call is some held tells =
+    let done : BankCall shared (Settles s (Err (stop.Differs table key))) before after = subst (λ (f : RoundFault). BankCall shared (Settles s (Err f)) before after) is call in
     let a = done.history in
     let h = before.history ++ a.before in
     let tried : h ≡ a.middle = sym (append-nil h) ∙ sym a.own.1 in
-    let first : FirstDiffers (s ∷ rest) a.middle = subst (λ (l : List Entry). FirstDiffers (s ∷ rest) l) tried a.own.0 in
+    let first : FirstDiffers table key (s ∷ rest) a.middle = subst (λ (l : List Entry). FirstDiffers table key (s ∷ rest) l) tried a.own.0 in
     record {
       front = a.middle;
       behind = a.behind;
       is = ap (λ (o : Option Held). (unwrap_or o after).history) (sym tells) ∙ a.is;
       others = a.came_behind;
-      first = subst (λ (l : List Sealed). FirstDiffers l a.middle) (sym e) first;
+      first = subst (λ (l : List Sealed). FirstDiffers table key l a.middle) (sym e) first;
     }

@@ -14,7 +14,6 @@ use Rattle.table_state.specs.declared.operation.Op.TheVariants.{Insert}
 use Rattle.table_state.specs.declared.history.Sealed.{Sealed}
 use Rattle.table_defs.specs.Names.{place_of_table}
 use Rattle.indexed_rows.specs.Rows.{Table}
-use Rattle.sql_subset.specs.declared.request.OpenOptions.{OpenOptions}
 use Rattle.sql_subset.specs.declared.stmt.Autorefresh.{Autorefresh}
 use Rattle.sql_subset.specs.declared.stmt.CreateGroup.{CreateGroup}
 use Rattle.sql_subset.specs.declared.stmt.GroupKind.{GroupKind}
@@ -54,8 +53,8 @@ abbrev pub with_own : TierState → SessionState → List Op → TierState
 with_own t s own = record t { session = Some (record { label = s.label; own = own }) }
 
 -- OPEN
-abbrev pub open_answer : TierState → List ℕ → OpenOptions → Answer
-open_answer t label options = unless t (open_fault t.session label options) (record t { session = Some (record { label = label; own = [] }) }, only (Done 0))
+abbrev pub open_answer : TierState → List ℕ → Answer
+open_answer t label = unless t (open_fault t.session label) (record t { session = Some (record { label = label; own = [] }) }, only (Done 0))
 
 -- CLOSE rolls back
 abbrev pub close_answer : TierState → Answer

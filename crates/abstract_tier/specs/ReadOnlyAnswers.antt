@@ -19,7 +19,7 @@ use Rattle.sql_subset.specs.declared.stmt.Load.{Load}
 use Rattle.autorefresh.specs.Sets.{is_on}
 use Rattle.group_defs.specs.LiteralValues.{takes_all, values_of}
 use Rattle.abstract_tier.specs.ReadOnlyStates.{ReadOnlyState, read_only_called, shown_at, shown_from, shown_rows, Which}
-use Rattle.abstract_tier.specs.Refusals.{not_yet, open_writes}
+use Rattle.abstract_tier.specs.Refusals.{open_writes}
 use Rattle.abstract_tier.specs.TierStates.{GroupState, TierState, is_named}
 
 -- 112: there is no group of this name
@@ -50,10 +50,6 @@ is_written_through groups name = list_any (λ g. is_named g.name name) groups
 abbrev pub write_fault : TableDef → List Literal → Rule
 write_fault def literals =
     if takes_all def.columns literals then (if is_some (values_of literals) then read_only_table def.name else held_by_none) else wrong_arguments
-
--- LOAD of a name that no READONLY group has: a writethrough group isn't loaded yet; else 112
-abbrev pub unloaded : List GroupState → List ℕ → Rule
-unloaded groups name = if is_written_through groups name then not_yet else unknown_group name
 
 -- COMMIT EVERY is past its range, from 0 to 1,000,000 rows
 abbrev pub are_past_rows : Option ℕ → Bool

@@ -12,7 +12,7 @@ use Rattle.outside.specs.declared.fault.BankError.{BankError}
 use Rattle.abstract_tier.specs.declared.reply.Reply.{Reply}
 use Rattle.abstract_tier.specs.declared.reply.Last.TheVariants.{Done}
 use Rattle.abstract_tier.specs.TierStates.{TierState, SessionState}
-use Rattle.abstract_tier.specs.ReadOnlyAnswers.{instances_at, load_fault, refreshed_tier, unloaded}
+use Rattle.abstract_tier.specs.ReadOnlyAnswers.{instances_at, load_fault, refreshed_tier, unknown_group}
 use Rattle.abstract_tier.specs.ReadOnlyStates.{ReadOnlyState, Which, is_in_set, loaded_with, of_set, shows_something}
 use Rattle.abstract_tier.specs.Answers.{only, refuses}
 use Rattle.abstract_tier.specs.Worlds.{World, GoesOn, Quiet, bank_fault}
@@ -55,7 +55,7 @@ LoadsGroup s load place (Some g) w w' reply = LoadsUnless (load_fault s.own load
 
 -- LOAD CACHE GROUP
 abbrev pub LoadsAt : SessionState → Load → Option ℕ → World → World → Reply → Type 0
-LoadsAt s load None w w' reply = Quiet w (refuses w.tier (unloaded w.tier.groups load.group)) w' reply
+LoadsAt s load None w w' reply = Quiet w (refuses w.tier (unknown_group load.group)) w' reply
 LoadsAt s load (Some place) w w' reply = LoadsGroup s load place (slice_get w.tier.read_only place) w w' reply
 
 -- a refresh of the set of an interval: how many groups it has

@@ -31,7 +31,7 @@ use Rattle.group_defs.specs.LiteralValues.{takes_all, values_of}
 use Rattle.abstract_tier.specs.ReadOnlyStates.{ReadOnlyState, covers, is_called}
 use Rattle.abstract_tier.specs.TierStates.{TierState, SessionState, GroupState, is_named}
 
--- No statement is answered so that is there already. The others are, until they come.
+-- 101 of a line that is read and that the tier doesn't do yet
 abbrev pub not_yet : Rule
 not_yet = record { code = code.Syntax; detail = detail.Byte 0 }
 
@@ -58,10 +58,14 @@ unknown_table name = record { code = code.UnknownTable; detail = detail.Name nam
 abbrev pub key_taken : TableDef → List Value → Rule
 key_taken def key = record { code = code.KeyExists; detail = detail.Row def.name key }
 
--- OPEN: 113 of the label of an open session, 119. For now one session may be open, without options.
-abbrev pub open_fault : Option SessionState → List ℕ → OpenOptions → Option Rule
-open_fault None label options = if nat_eq options.passthrough 0 && not options.durable then None else Some not_yet
-open_fault (Some s) label options = if is_named s.label label then broken code.NameInUse (detail.Label label) else past limit.Sessions
+-- OPEN says something beside the label
+abbrev pub has_options : OpenOptions → Bool
+has_options options = not (nat_eq options.passthrough 0) || options.durable
+
+-- OPEN: 113 of the label of an open session, 119. For now one session may be open.
+abbrev pub open_fault : Option SessionState → List ℕ → Option Rule
+open_fault None label = None
+open_fault (Some s) label = if is_named s.label label then broken code.NameInUse (detail.Label label) else past limit.Sessions
 
 -- the table is a group's
 abbrev pub is_grouped : List GroupState → TableId → Bool

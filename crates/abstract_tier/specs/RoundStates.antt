@@ -10,7 +10,12 @@ use Rattle.outside.specs.Holding.{Held, Slots}
 use Rattle.abstract_tier.specs.declared.rounds.RoundFault.{RoundFault}
 use Rattle.abstract_tier.specs.declared.rounds.RoundFault.TheVariants as stop
 use Rattle.abstract_tier.specs.Commits.{RiseBetween, own_entries}
+use Rattle.abstract_tier.specs.Answers.{faulty, only}
 use Rattle.abstract_tier.specs.Rounds.{FirstDiffers, Mixes}
+use Rattle.abstract_tier.specs.Steps.{difference}
+use Rattle.abstract_tier.specs.declared.reply.Last.TheVariants.{Done, Fault}
+use Rattle.abstract_tier.specs.declared.reply.Reply.{Reply}
+use Rattle.tier_base.specs.declared.code.Code.TheVariants as code
 
 -- What the bank does for one unsettled transaction: it comes now, or it came before; at a fault it may have come, and for
 -- want of memory, or where a row differs, it doesn't.
@@ -18,7 +23,7 @@ abbrev pub Settles : Sealed → Result (Unit {0}) RoundFault → List Entry → 
 Settles s (Ok done) old new = Comes s [] old new ⊎ ((has_ticket s.ticket.0 old ≡ true) × Grows [] old new)
 Settles s (Err stop.Failed) old new = Grows [] old new ⊎ Comes s [] old new
 Settles s (Err stop.Memory) old new = Grows [] old new
-Settles s (Err stop.Differs) old new = FirstDiffers (s ∷ []) old × Grows [] old new
+Settles s (Err (stop.Differs table key)) old new = FirstDiffers table key (s ∷ []) old × Grows [] old new
 
 -- The history is the one at the round's begin, in which so many of the log's transactions stood, with so many more of the
 -- log's behind it, and transactions of others between. The unsettled ones are those without a receipt, and at most one of
@@ -39,17 +44,26 @@ pub record RoundAt (shared : List TableId) (told : Option Held) (unsettled log :
   pub same_slots : held.slots ≡ slots
   pub over : RoundOver shared unsettled log front held.history began added received
 
--- a round that stood so stands somewhere further on
-pub record GoesFrom (shared : List TableId) (told : Option Held) (unsettled log : List Sealed) (front : List Entry) (slots : Slots) (began added received : ℕ) : Type 0 where
+-- A round that stood so stands somewhere further on. Only so many entries more came without a receipt.
+pub record GoesFrom (few : ℕ) (shared : List TableId) (told : Option Held) (unsettled log : List Sealed) (front : List Entry) (slots : Slots) (began added received : ℕ) : Type 0 where
   pub added' : ℕ
   pub received' : ℕ
   pub more_added : added ≤ added'
   pub more_received : received ≤ received'
+  pub few_more : added' + received ≤ added + received' + few
   pub at : RoundAt shared told unsettled log front slots began added' received'
 
 -- A round goes on from wherever it stands, of a log whose tickets rise, and over a history at whose begin just a front of
--- the log stood.
-abbrev pub RoundGoes : List TableId → Option Held → Option Held → List Sealed → List Sealed → Type 0
-RoundGoes shared told told' old new =
+-- the log stood; so many entries more at most come without a receipt.
+abbrev pub RoundGoes : ℕ → List TableId → Option Held → Option Held → List Sealed → List Sealed → Type 0
+RoundGoes few shared told told' old new =
     (log : List Sealed) (front : List Entry) (slots : Slots) (began added received low high : ℕ) → RiseBetween low log high → own_entries front ≡ map entry_of (take began log)
-    → RoundAt shared told old log front slots began added received → GoesFrom shared told' new log front slots began added received
+    → RoundAt shared told old log front slots began added received → GoesFrom few shared told' new log front slots began added received
+
+-- how a round's end is answered by the name of the table whose row differs: a difference, where memory is wanting for
+-- its name, as want of memory
+abbrev pub AnswersRound : Option (List ℕ) → Result ℕ RoundFault → Reply → Type 0
+AnswersRound name (Ok n) reply = reply ≡ only (Done n)
+AnswersRound name (Err stop.Failed) reply = reply ≡ faulty code.BackingFault
+AnswersRound name (Err stop.Memory) reply = reply ≡ faulty code.Memory
+AnswersRound name (Err (stop.Differs table key)) reply = (reply ≡ only (Fault (difference key name))) ⊎ (reply ≡ faulty code.Memory)

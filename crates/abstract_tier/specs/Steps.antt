@@ -5,8 +5,9 @@ use Rattle.std.specs.Option.{option_map, unwrap_or}
 use Rattle.std.specs.FinMap.{contains_key}
 use Rattle.std.specs.Bool.{MatchBool}
 use Rattle.std.specs.List.{list_any}
-use Rattle.std.specs.Result.{IsErrOf, OnOk}
+use Rattle.std.specs.Result.{OnOk}
 use Rattle.tier_base.specs.declared.limit.Limit.TheVariants as limit
+use Rattle.tier_base.specs.declared.number.TableId.{TableId}
 use Rattle.tier_base.specs.Limits.{greatest}
 use Rattle.tier_base.specs.declared.code.Code.TheVariants as code
 use Rattle.tier_base.specs.Codes.{number_of}
@@ -52,12 +53,12 @@ use Rattle.abstract_tier.specs.declared.rounds.RoundFault.{RoundFault}
 use Rattle.abstract_tier.specs.declared.rounds.RoundFault.TheVariants as stop
 use Rattle.abstract_tier.specs.Commits.{pending, in_commit_order}
 use Rattle.abstract_tier.specs.Rounds.{Round, DifferedAt}
-use Rattle.abstract_tier.specs.TierStates.{TierState, SessionState, GroupState, session_of, group_of_table, seen, seen_rows, is_named}
+use Rattle.abstract_tier.specs.TierStates.{TierState, SessionState, GroupState, session_of, group_of_table, seen, seen_rows, table_name, is_named}
 use Rattle.group_defs.specs.LiteralValues.{values_of}
-use Rattle.abstract_tier.specs.ReadOnlyAnswers.{refreshed_set, write_fault}
+use Rattle.abstract_tier.specs.ReadOnlyAnswers.{is_written_through, refreshed_set, write_fault}
 use Rattle.abstract_tier.specs.ReadOnlyStates.{ReadOnlyState, is_called, is_over, read_only_over, shown_rows}
 use Rattle.abstract_tier.specs.ConsoleWrites.{tables_seen, writes_fault}
-use Rattle.abstract_tier.specs.Refusals.{wrong_at, too_deep, too_long, unknown_session, unknown_table, key_taken, table_fault, insert_fault}
+use Rattle.abstract_tier.specs.Refusals.{wrong_at, has_options, not_yet, too_deep, too_long, unknown_session, unknown_table, key_taken, table_fault, insert_fault}
 use Rattle.abstract_tier.specs.Answers.{Answer, only, faulty, refuses, open_answer, close_answer, rollback_answer, group_answer, select_answer, commit_answer, inserted}
 pub use Rattle.abstract_tier.specs.RefreshSteps.{Autorefreshes, Loads, LoadsAt, LoadsGroup, LoadsUnless, Refreshes, RefreshesSet, TellsPosition, refresh_reply, refreshed_by}
 pub use Rattle.abstract_tier.specs.Worlds.{World, AreUnshared, GoesOn, IsUnshared, Quiet, bank_fault}
@@ -174,12 +175,17 @@ WritesUnless None writes w w' reply = WritesAll writes w w' reply
 abbrev pub DoesWrites : List Write → World → World → Reply → Type 0
 DoesWrites writes w w' reply = WritesUnless (writes_fault (is_writethrough w.tier) (tables_seen w.tier) writes) writes w w' reply
 
--- how a round's end is answered
-abbrev pub round_reply : Result ℕ RoundFault → Reply
-round_reply (Ok n) = only (Done n)
-round_reply (Err stop.Failed) = faulty code.BackingFault
-round_reply (Err stop.Memory) = faulty code.Memory
-round_reply (Err stop.Differs) = faulty code.RowDiffers
+-- 210 of the row at this key of the table of this name
+abbrev pub difference : List Value → Option (List ℕ) → Rule
+difference key None = record { code = code.RowDiffers; detail = detail.Nothing }
+difference key (Some name) = record { code = code.RowDiffers; detail = detail.Row name key }
+
+-- how a round's end is answered, by the names of tables
+abbrev pub round_reply : (TableId → Option (List ℕ)) → Result ℕ RoundFault → Reply
+round_reply name (Ok n) = only (Done n)
+round_reply name (Err stop.Failed) = faulty code.BackingFault
+round_reply name (Err stop.Memory) = faulty code.Memory
+round_reply name (Err (stop.Differs table key)) = only (Fault (difference key (name table)))
 
 -- nothing is pending, and the backing state is all committed transactions applied in their order
 pub record IsDrained (history : List Entry) (log : List Sealed) : Type 0 where
@@ -194,8 +200,8 @@ pub record Drains (w w' : World) (reply : Reply) : Type 0 where
   pub tier : w'.tier ≡ record w.tier { unsettled = w'.tier.unsettled }
   pub on : GoesOn w w'
   pub drained : OnOk result (IsDrained w'.history w'.tier.log)
-  pub differs : IsErrOf result stop.Differs → DifferedAt w.shared w'.tier.unsettled w'.history
-  pub answer : reply ≡ round_reply result
+  pub differs : (table : TableId) (key : List Value) → result ≡ Err (stop.Differs table key) → DifferedAt w.shared table key w'.tier.unsettled w'.history
+  pub answer : reply ≡ round_reply (table_name w.tier) result
 
 -- the answer of the bank to a question for a row, or the fault of the question
 abbrev pub found_answer : Result (Option (List Value)) BankError → TierState → Answer → Answer
@@ -287,7 +293,7 @@ Closes label None w w' reply = Quiet w (refuses w.tier (unknown_session label)) 
 Closes label (Some s) w w' reply = Quiet w (close_answer w.tier) w' reply
 
 abbrev pub DoesRequest : List ℕ → Request → World → World → Reply → Type 0
-DoesRequest label (asks_for.Open options) w w' reply = Quiet w (open_answer w.tier label options) w' reply
+DoesRequest label (asks_for.Open options) w w' reply = Quiet w (open_answer w.tier label) w' reply
 DoesRequest label asks_for.Close w w' reply = Closes label (session_of w.tier label) w w' reply
 DoesRequest label (asks_for.Statement s) w w' reply = ForSession label (session_of w.tier label) s w w' reply
 
@@ -333,10 +339,33 @@ pub record Counts (w w' : World) (reply : Reply) : Type 0 where
   pub later : w.bank_faults ≤ w'.bank_faults
   pub caused : IsCaused w w' reply
 
+-- what the tier doesn't do yet of what is read: OPEN with options, LOAD of a writethrough group
+abbrev pub is_undone_statement : TierState → Stmt → Bool
+is_undone_statement t (statement.CreateGroup d) = false
+is_undone_statement t (statement.Insert insert) = false
+is_undone_statement t (statement.Select select) = false
+is_undone_statement t (statement.Load load) = is_written_through t.groups load.group
+is_undone_statement t (statement.Call call) = false
+is_undone_statement t statement.Commit = false
+is_undone_statement t statement.Rollback = false
+
+abbrev pub is_undone_request : TierState → Request → Bool
+is_undone_request t (asks_for.Open options) = has_options options
+is_undone_request t asks_for.Close = false
+is_undone_request t (asks_for.Statement s) = is_undone_statement t s
+
+abbrev pub is_undone : TierState → Line → Bool
+is_undone t (says.Session label request) = is_undone_request t request
+is_undone t (says.Console request) = false
+
+-- what a line is answered that the tier may do
+abbrev pub Serves : Line → World → World → Reply → Type 0
+Serves line w w' reply = MatchBool (is_undone w.tier line) (Quiet w (refuses w.tier not_yet) w' reply) (Parts line w w' reply)
+
 -- what a line is answered by what it says
 abbrev pub Answers : Saying → World → World → Reply → Type 0
 Answers Silent w w' reply = ⊥
-Answers (Says line) w w' reply = Parts line w w' reply
+Answers (Says line) w w' reply = Serves line w w' reply
 Answers (WrongAt place) w w' reply = Quiet w (refuses w.tier (wrong_at place)) w' reply
 Answers TooDeep w w' reply = Quiet w (refuses w.tier too_deep) w' reply
 

@@ -1,7 +1,8 @@
 -- What the tier keeps, and what it shows. (TimesTen Cache User's Guide: cache groups, cache instances and writethrough.)
 
-use Rattle.std.specs.Prelude.{ℕ, List, [], ◌∷◌, Bool, nat_eq, Option, Some, None, if◌then◌else◌}
-use Rattle.std.specs.Option.{option_and_then}
+use Rattle.std.specs.Prelude.{ℕ, List, [], ◌∷◌, Bool, nat_eq, Option, Some, None, if◌then◌else◌, slice_get}
+use Rattle.std.specs.List.{find}
+use Rattle.std.specs.Option.{option_and_then, option_map, option_or}
 use Rattle.std.specs.Cmp.Lexicographic.{pointwise}
 use Rattle.std.specs.FinMap.{retain_keys}
 use Rattle.std.specs.FinSet.{FinSet}
@@ -58,6 +59,11 @@ session_of t label = option_and_then (λ s. if is_named s.label label then Some 
 abbrev pub group_of_table : List GroupState → List ℕ → Option GroupState
 group_of_table [] name = None
 group_of_table (g ∷ groups) name = if is_named g.def.name name then Some g else group_of_table groups name
+
+-- the name of a backing table: by the groups' definitions of it, else by the schema that the tier knows
+abbrev pub table_name : TierState → TableId → Option (List ℕ)
+table_name t table =
+    option_or (option_map (λ g. g.def.name) (find (λ g. nat_eq g.table.0 table.0) t.groups)) (option_and_then (λ schema. option_map (λ def. def.name) (slice_get schema table.0)) t.known)
 
 -- the key of a row enters the list of its table's group where the row is inserted, and leaves it where it is deleted
 abbrev pub keys_behind : GroupState → Op → FinSet key_order → FinSet key_order

@@ -95,6 +95,13 @@ impl Reply {
         Reply::refuses(alloc, rule)
     }
 
+    /// The fault with this code, and what stands behind it. It takes no memory.
+    pub fn fault(alloc: Global, rule: Rule) -> Reply
+        ensures { result ≡ only (Last.Fault rule) }
+    {
+        Reply::only(alloc, Last::Fault(rule))
+    }
+
     /// A fault, or want of memory. It takes no memory.
     pub fn faulty(alloc: Global, code: Code) -> Reply
         ensures { result ≡ faulty code }

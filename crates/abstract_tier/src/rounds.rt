@@ -1,37 +1,42 @@
 //! Rounds of propagation.
 
-ghost use Rattle.std.specs.Prelude.{◌≡◌, ◌≤◌, [], length, IfOk, IsSome, Some};
+ghost use Rattle.std.specs.Prelude.{◌≡◌, ◌≤◌, [], List, length, IfOk, IsSome, Some, Err};
 ghost use Rattle.std.specs.Result.{IsErrOf, OnOk};
 ghost use Rattle.outside.specs.Calls.{BankCall, Told};
 ghost use Rattle.outside.specs.Faults.{Rose};
 ghost use Rattle.outside.specs.Holding.{Held};
-ghost use Rattle.abstract_tier.specs.Rounds.{DifferedAt};
+ghost use Rattle.row_types.specs.declared.value.Value.{Value};
+ghost use Rattle.abstract_tier.specs.Rounds.{DifferedAt, doubts};
 ghost use Rattle.abstract_tier.specs.RoundStates.{RoundGoes, Settles};
 ghost use Rattle.abstract_tier.specs.declared.rounds.RoundFault.TheVariants as stop;
 
 use outside::{Applied, BankError, Site};
+use row_types::Key;
 use std::collections::VecDeque;
 use table_state::Sealed;
+use tier_base::TableId;
 
 /// Why a round ended early.
-#[derive(Clone, Copy, Debug, PartialEq, Eq)]
+#[derive(Drop)]
 pub enum RoundFault {
     /// A call of the bank failed.
     Failed,
     /// Memory was wanting.
     Memory,
-    /// A backing row differs from what a committed transaction tells of it.
-    Differs,
+    /// A backing row differs from what a committed transaction tells of it. Of the first operation that doesn't apply: the
+    /// table and the key of the row that isn't as it should be.
+    Differs(TableId, Key),
 }
 
 /// Applies the unsettled transactions in turn, and lets those go whose receipt it sees. It gives their number.
 ///
-/// After a fault those without a receipt stay, in their order; the first of them may have come where the bank failed.
+/// After a fault those without a receipt stay, in their order; the first of them may have come where the bank failed, and
+/// in no other case.
 pub fn round<P: Site>(site: &mut P, unsettled: &mut VecDeque<Sealed>) -> Result<u64, RoundFault>
-    ensures goes { RoundGoes (P.Disk.shared site.old) (P.Disk.held site.old) (P.Disk.held site.new) unsettled.old.items unsettled.new.items }
+    ensures goes { RoundGoes (doubts result) (P.Disk.shared site.old) (P.Disk.held site.old) (P.Disk.held site.new) unsettled.old.items unsettled.new.items }
     ensures all { OnOk result (unsettled.new.items ≡ []) }
     ensures told { IfOk result (λ n. n ≡ length unsettled.old.items) }
-    ensures differs { IsErrOf result stop.Differs → IsSome (P.Disk.held site.old) → (held : Held) → P.Disk.held site.new ≡ Some held → DifferedAt (P.Disk.shared site.old) unsettled.new.items held.history }
+    ensures differs { (table : TableId) (key : List Value) → result ≡ Err (stop.Differs table key) → IsSome (P.Disk.held site.old) → (held : Held) → P.Disk.held site.new ≡ Some held → DifferedAt (P.Disk.shared site.old) table key unsettled.new.items held.history }
     ensures faults { P.bank_faults site.old ≤ P.bank_faults site.new }
     ensures moment { P.Disk.moment site.old ≤ P.Disk.moment site.new }
     ensures shares { P.Disk.shared site.new ≡ P.Disk.shared site.old }
@@ -57,8 +62,9 @@ fn settle<P: Site>(site: &mut P, sealed: &Sealed) -> Result<(), RoundFault>
     match site.apply_once(sealed, &[]) {
         Ok(Applied::Now(_)) => Ok(()),
         Ok(Applied::Before(_)) => Ok(()),
-        Ok(Applied::NotReady(_)) => Err(RoundFault::Differs),
-        Ok(Applied::Differs(_, _, _)) => Err(RoundFault::Differs),
+        // It waits for no other.
+        Ok(Applied::NotReady(_)) => unreachable!(),
+        Ok(Applied::Differs(table, key, _)) => Err(RoundFault::Differs(table, key)),
         Err(BankError::Failed) => Err(RoundFault::Failed),
         Err(BankError::Memory) => Err(RoundFault::Memory),
     }

@@ -9,7 +9,7 @@ use Rattle.table_state.specs.declared.history.Entry.TheVariants.{Definition, For
 use Rattle.table_state.specs.declared.history.Sealed.{Sealed}
 use Rattle.table_state.specs.Histories.{entry_of}
 use Rattle.evaluator.specs.declared.change.Change.{Change}
-use Rattle.outside.specs.Bank.{AppliesOnce, Defines, TellsRow, TellsSchema}
+use Rattle.outside.specs.Bank.{AppliesOnce, Defines, TellsRow, TellsSchema, WaitsForOne}
 use Rattle.outside.specs.Console.{TakesSnapshot, WritesForeign}
 use Rattle.outside.specs.declared.fault.BankError.{BankError}
 use Rattle.outside.specs.declared.fault.BankError.TheVariants.{Failed, Memory}
@@ -36,6 +36,14 @@ apply_grows s after (Ok (NotReady ticket)) old new h = ([], h.3)
 apply_grows s after (Ok (Differs table key row)) old new h = ([], h.3)
 apply_grows s after (Err Memory) old new h = ([], h)
 apply_grows s after (Err Failed) old new h = elim h [ inl e ↦ ([], e) | inr comes ↦ (entry_of s ∷ [], comes.grows) ]
+
+-- who waits, waits for one of the tickets
+pub apply_waits : (s : Sealed) (after : List Ticket) (result : Result Applied BankError) (old new : List Entry) → AppliesOnce s after result old new → WaitsForOne after result
+apply_waits s after (Ok (Now receipt)) old new h = tt
+apply_waits s after (Ok (Before receipt)) old new h = tt
+apply_waits s after (Ok (NotReady ticket)) old new h = h.1
+apply_waits s after (Ok (Differs table key row)) old new h = tt
+apply_waits s after (Err e) old new h = tt
 
 pub find_grows : (table : TableId) (key : List Value) (result : Result (Option (List Value)) BankError) (old new : List Entry) → TellsRow table key result old new → Extends old new
 find_grows table key (Ok row) old new h = ([], h.0)

@@ -56,6 +56,14 @@ AppliesOnce s after (Ok (Differs table key row)) old new = (has_ticket s.ticket.
 AppliesOnce s after (Err Memory) old new = Grows [] old new
 AppliesOnce s after (Err Failed) old new = Grows [] old new ⊎ Comes s after old new
 
+-- one that has to wait waits for one of these tickets
+abbrev pub WaitsForOne : List Ticket → Result Applied BankError → Type 0
+WaitsForOne after (Ok (Now receipt)) = Unit {0}
+WaitsForOne after (Ok (Before receipt)) = Unit {0}
+WaitsForOne after (Ok (NotReady ticket)) = Contains after ticket
+WaitsForOne after (Ok (Differs table key row)) = Unit {0}
+WaitsForOne after (Err e) = Unit {0}
+
 -- a table is made
 abbrev pub Defines : TableDef → Result (Unit {0}) BankError → List Entry → List Entry → Type 0
 Defines def (Ok done) old new = Grows (Definition def ∷ []) old new

@@ -1,10 +1,11 @@
 //! The backing database, with the journal's disk beside it.
 
 ghost use Rattle.std.specs.Prelude.{◌≡◌};
-ghost use Rattle.outside.specs.Bank.{AppliesOnce, Defines, TellsRow, TellsSchema};
+ghost use Rattle.outside.specs.Bank.{AppliesOnce, Defines, TellsRow, TellsSchema, WaitsForOne};
 ghost use Rattle.outside.specs.Calls.{BankCall, GoesOn, MayApply, Told};
 ghost use Rattle.outside.specs.Console.{TakesSnapshot, WritesForeign};
 ghost use Rattle.outside.specs.Faults.{BankHasCause};
+ghost use Rattle.table_defs.specs.Declarations.{IsChecked};
 
 use crate::disk::Disk;
 use crate::fault::BankError;
@@ -76,18 +77,20 @@ pub trait Site: Disk {
         ensures shares { Self.shared self.new ≡ Self.shared self.old }
         ensures cause { BankHasCause (bank_faults self.old) (bank_faults self.new) result };
 
-    /// Makes a table, which is behind the others then. The caller has checked that it fits the schema.
+    /// Makes a table, which is behind the others then. A condition is that the definition passed `TableDef::check`.
     fn define(&mut self, def: &TableDef) -> Result<(), BankError>
+        requires checked { IsChecked def.now }
         ensures told { Told (Self.held self.old) (Self.held self.new) (BankCall (Self.shared self.old) (Defines def.now result)) }
         ensures crash { GoesOn Self.moment Self.possible self.old self.new (MayApply (Self.shared self.old) (Self.held self.old) (Defines def.now result)) }
         ensures shares { Self.shared self.new ≡ Self.shared self.old }
         ensures cause { BankHasCause (bank_faults self.old) (bank_faults self.new) result };
 
     /// Applies and records a transaction, in one transaction of the bank, where its ticket isn't recorded yet and
-    /// those of `after` are.
+    /// those of `after` are. What it waits for is one of `after`, also where the site tells nothing.
     fn apply_once(&mut self, sealed: &Sealed, after: &[Ticket]) -> Result<Applied, BankError>
         ensures told { Told (Self.held self.old) (Self.held self.new) (BankCall (Self.shared self.old) (AppliesOnce sealed.now after.now result)) }
         ensures crash { GoesOn Self.moment Self.possible self.old self.new (MayApply (Self.shared self.old) (Self.held self.old) (AppliesOnce sealed.now after.now result)) }
+        ensures waits { WaitsForOne after.now result }
         ensures shares { Self.shared self.new ≡ Self.shared self.old }
         ensures cause { BankHasCause (bank_faults self.old) (bank_faults self.new) result };
 

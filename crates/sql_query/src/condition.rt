@@ -16,12 +16,6 @@ pub struct Condition {
     pub node: ConditionNode,
 }
 
-impl Drop for Condition {
-    fn drop(self) {
-        let Self { node: _ } = self;
-    }
-}
-
 /// What stands at the top of a condition. A `bool` tells whether NOT is written inside of it, as in IS NOT NULL.
 #[cycle(condition)]
 pub enum ConditionNode {
@@ -41,7 +35,15 @@ pub enum ConditionNode {
     Any(Box<Condition>, Box<Condition>),
 }
 
+impl Drop for Condition {
+    #[cycle(drop_condition)]
+    fn drop(self) {
+        let Self { node: _ } = self;
+    }
+}
+
 impl Drop for ConditionNode {
+    #[cycle(drop_condition)]
     fn drop(self) {
         match self {
             Self::Compared(_, _, _) => {}

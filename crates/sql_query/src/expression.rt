@@ -16,12 +16,6 @@ pub struct Expression {
     pub node: ExpressionNode,
 }
 
-impl Drop for Expression {
-    fn drop(self) {
-        let Self { node: _ } = self;
-    }
-}
-
 /// What stands at the top of an expression.
 #[cycle(expression)]
 pub enum ExpressionNode {
@@ -33,7 +27,15 @@ pub enum ExpressionNode {
     Binary(Arithmetic, Box<Expression>, Box<Expression>),
 }
 
+impl Drop for Expression {
+    #[cycle(drop_expression)]
+    fn drop(self) {
+        let Self { node: _ } = self;
+    }
+}
+
 impl Drop for ExpressionNode {
+    #[cycle(drop_expression)]
     fn drop(self) {
         match self {
             Self::Literal(_) => {}

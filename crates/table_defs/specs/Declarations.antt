@@ -190,6 +190,13 @@ resolved d schema = record {
   foreign_key = option_map (resolved_reference d schema) d.foreign_key;
 }
 
+-- a declaration that breaks no rule over some schema made the definition
+pub record IsChecked (def : TableDef) : Type 0 where
+  pub declaration : TableDeclaration
+  pub schema : List TableDef
+  pub sound : fault_of declaration schema ≡ None
+  pub is : def ≡ resolved declaration schema
+
 -- the columns of the foreign key
 abbrev pub foreign_places : Option ForeignKey → List ℕ
 foreign_places None = []

@@ -56,9 +56,9 @@ inserted s new t def row is d = by (slice_get s.tables t.0) refl (sym (ap (optio
     test : Table → Bool
     test table = fits_columns def.columns row && not (contains_key table (key_of def.primary_key row)) && has_parent s def.foreign_key row
 
-    first_of : (a b : Bool) → (a && b) ≡ true → a ≡ true
-    first_of true b e = refl
-    first_of false b e = cc
+    first_of : (a b c : Bool) → (a && not b && c) ≡ true → a ≡ true
+    first_of true b c e = refl
+    first_of false b c e = cc
 
     free : (a b c : Bool) → (a && not b && c) ≡ true → b ≡ false
     free true true c e = cc
@@ -86,7 +86,7 @@ inserted s new t def row is d = by (slice_get s.tables t.0) refl (sym (ap (optio
           others = λ u n. ap (λ x. unwrap_or (slice_get x.tables u.0) empty) (sym same) ∙ ap (λ o. unwrap_or o empty) (get_set_other s.tables t.0 u.0 (insert table k row) n);
           absent = ap (λ x. get x k) it ∙ none_of (get table k) (free (fits_columns def.columns row) (contains_key table k) (has_parent s def.foreign_key row) good);
           parent = λ f e. let x : Some def ≡ Some f = sym d ∙ e in let y : def ≡ f = cc in ap (λ (z : TableDef). has_parent s z.foreign_key row) (sym y) ∙ last_of (fits_columns def.columns row) (contains_key table k) (has_parent s def.foreign_key row) good;
-          fits = λ f e. let x : Some def ≡ Some f = sym d ∙ e in let y : def ≡ f = cc in ap (λ (z : TableDef). fits_columns z.columns row) (sym y) ∙ first_of (fits_columns def.columns row) (not (contains_key table k) && has_parent s def.foreign_key row) good;
+          fits = λ f e. let x : Some def ≡ Some f = sym d ∙ e in let y : def ≡ f = cc in ap (λ (z : TableDef). fits_columns z.columns row) (sym y) ∙ first_of (fits_columns def.columns row) (contains_key table k) (has_parent s def.foreign_key row) good;
         }
     at_table table m false bad e = cc
 
@@ -157,9 +157,9 @@ same_is a b e = by (key_order a b) refl e
 pub updated : (s new : TableState) (t : TableId) (def : TableDef) (old row : Row) → applied (Update t old row) s ≡ Some new → slice_get s.schema t.0 ≡ Some def → Updated s new t (key_of def.primary_key row) row
 updated s new t def old row is d = by (slice_get s.tables t.0) refl (sym (ap (option_and_then (λ (f : TableDef). option_and_then (λ table. option_map (λ next. record { schema = s.schema; tables = slice_set s.tables t.0 next }) (with_change s old row f table)) (slice_get s.tables t.0))) d) ∙ is)
   where
-    first_of : (a b : Bool) → (a && b) ≡ true → a ≡ true
-    first_of true b e = refl
-    first_of false b e = cc
+    first_of : (a b c e : Bool) → (a && b && c && e) ≡ true → a ≡ true
+    first_of true b c e h = refl
+    first_of false b c e h = cc
 
     parts : (a b c e : Bool) → (a && b && c && e) ≡ true → (b ≡ true) × (c ≡ true) × (e ≡ true)
     parts true true true e h = (refl, refl, h)
@@ -187,7 +187,7 @@ updated s new t def old row is d = by (slice_get s.tables t.0) refl (sym (ap (op
           old = there.0;
           was = ap (λ x. get x k) it ∙ ap (get table) (sym keys) ∙ there.1;
           parent = λ f e. let x : Some def ≡ Some f = sym d ∙ e in let y : def ≡ f = cc in ap (λ (z : TableDef). has_parent s z.foreign_key row) (sym y) ∙ both.2;
-          fits = λ f e. let x : Some def ≡ Some f = sym d ∙ e in let y : def ≡ f = cc in ap (λ (z : TableDef). fits_columns z.columns row) (sym y) ∙ first_of (fits_columns def.columns row) (is_same (key_of def.primary_key old) k && is_there def old table && has_parent s def.foreign_key row) good;
+          fits = λ f e. let x : Some def ≡ Some f = sym d ∙ e in let y : def ≡ f = cc in ap (λ (z : TableDef). fits_columns z.columns row) (sym y) ∙ first_of (fits_columns def.columns row) (is_same (key_of def.primary_key old) k) (is_there def old table) (has_parent s def.foreign_key row) good;
         }
     at_table table m false bad e = cc
 

@@ -1,5 +1,6 @@
 use Rattle.std.proofs.Common.{arith, rules, ◌≡◌, ◌∷◌, ◌∙◌, sym, drop, length, ap}
 use Rattle.std.proofs.lemmas.List.{length-drop}
+use Rattle.abstract_tier.specs.Rounds.{doubts_at}
 use Rattle.abstract_tier.proofs.RoundSteps.{first_leaves, goes_on, settled_goes, shared_call, stopped_goes, told_stays, first_differs}
 use Rattle.abstract_tier.proofs.rounds.round.Goals as goal
 
@@ -8,7 +9,7 @@ returns-in_err-settle-clause-goes g c =
     let items = c.loop-sealed.unsettled.items in
     let s = c.in-Some.sealed.now in
     let is : items ≡ s ∷ drop 1 items = first_leaves items s c.in-Some.ensures.item.3.0 c.in-Some.ensures.lookup in
-    goes_on (g.P.Disk.shared c.args.site.now) (g.P.Disk.held c.args.site.now) (g.P.Disk.held c.loop-sealed.site) (g.P.Disk.held c.settle.new.site) c.args.unsettled.now.items items items
+    goes_on (doubts_at c.in_err-settle.field-0.0) (g.P.Disk.shared c.args.site.now) (g.P.Disk.held c.args.site.now) (g.P.Disk.held c.loop-sealed.site) (g.P.Disk.held c.settle.new.site) c.args.unsettled.now.items items items
     c.loop-sealed.invariant.goes
     (stopped_goes (g.P.Disk.shared c.args.site.now) (g.P.Disk.held c.loop-sealed.site) (g.P.Disk.held c.settle.new.site) items (drop 1 items) s c.in_err-settle.field-0.0 is (shared_call _ _ _ _ _ c.loop-sealed.invariant.shares c.in_err-settle.ensures.told))
 
@@ -23,7 +24,7 @@ loop-sealed-preserved g c =
     let left : items ≡ s ∷ new = is ∙ ap (λ l. s ∷ l) (sym rest) in
     let shorter : length new ≡ length (drop 1 items) = ap length rest in
     record {
-      goes = goes_on (g.P.Disk.shared c.args.site.now) (g.P.Disk.held c.args.site.now) (g.P.Disk.held c.loop-sealed.site) (g.P.Disk.held c.settle.new.site) c.args.unsettled.now.items items new
+      goes = goes_on 0 (g.P.Disk.shared c.args.site.now) (g.P.Disk.held c.args.site.now) (g.P.Disk.held c.loop-sealed.site) (g.P.Disk.held c.settle.new.site) c.args.unsettled.now.items items new
           c.loop-sealed.invariant.goes
           (settled_goes (g.P.Disk.shared c.args.site.now) (g.P.Disk.held c.loop-sealed.site) (g.P.Disk.held c.settle.new.site) items new s c.in_ok-settle.field-0 left (shared_call _ _ _ _ _ c.loop-sealed.invariant.shares c.in_ok-settle.ensures.told));
       count = Prim.omega (arith, shorter, length-drop 1 items, some, c.loop-sealed.invariant.count);
@@ -34,8 +35,8 @@ loop-sealed-preserved g c =
     }
 
 pub returns-in_err-settle-clause-differs : goal.returns-in_err-settle-clause-differs
-returns-in_err-settle-clause-differs g c = λ is some held tells.
+returns-in_err-settle-clause-differs g c = λ table key is some held tells.
     let items = c.loop-sealed.unsettled.items in
     let s = c.in-Some.sealed.now in
     let e : items ≡ s ∷ drop 1 items = first_leaves items s c.in-Some.ensures.item.3.0 c.in-Some.ensures.lookup in
-    first_differs (g.P.Disk.shared c.args.site.now) (g.P.Disk.held c.loop-sealed.site) (g.P.Disk.held c.settle.new.site) items (drop 1 items) s c.in_err-settle.field-0.0 e (shared_call _ _ _ _ _ c.loop-sealed.invariant.shares c.in_err-settle.ensures.told) (Prim.search rules) (c.loop-sealed.invariant.tells some) held tells
+    first_differs (g.P.Disk.shared c.args.site.now) (g.P.Disk.held c.loop-sealed.site) (g.P.Disk.held c.settle.new.site) items (drop 1 items) s c.in_err-settle.field-0.0 table key e (shared_call _ _ _ _ _ c.loop-sealed.invariant.shares c.in_err-settle.ensures.told) (Prim.search rules) (c.loop-sealed.invariant.tells some) held tells

@@ -6,7 +6,7 @@ use Rattle.abstract_tier.proofs.rounds.round.Given as goal
 
 abbrev pub invariant-loop-sealed : goal.invariant-loop-sealed
 invariant-loop-sealed g l = record {
-  goes : RoundGoes (g.P.Disk.shared l.fn.site) (g.P.Disk.held l.fn.site) (g.P.Disk.held l.site) l.fn.unsettled.items l.unsettled.items;
+  goes : RoundGoes 0 (g.P.Disk.shared l.fn.site) (g.P.Disk.held l.fn.site) (g.P.Disk.held l.site) l.fn.unsettled.items l.unsettled.items;
   count : l.receipts + length l.unsettled.items ≡ length l.fn.unsettled.items;
   tells : IsSome (g.P.Disk.held l.fn.site) → IsSome (g.P.Disk.held l.site);
   faults : g.P.Site.bank_faults l.fn.site ≤ g.P.Site.bank_faults l.site;

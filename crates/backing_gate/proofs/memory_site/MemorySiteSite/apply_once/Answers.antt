@@ -5,7 +5,7 @@ use Rattle.backing_gate.specs.declared.plan.CallKind.TheVariants.{ApplyOnce}
 use Rattle.backing_gate.specs.Heeding.{Heeds, bank_of}
 use Rattle.backing_gate.specs.Plans.{planned_next}
 use Rattle.backing_gate.proofs.CallLaws.{cause, counted, crash, goes, heeds_all, idle_all, moment, shares, told, visits}
-use Rattle.backing_gate.proofs.GrowthLaws.{apply_grows}
+use Rattle.backing_gate.proofs.GrowthLaws.{apply_grows, apply_waits}
 use Rattle.backing_gate.proofs.memory_site.MemorySiteSite.apply_once.Goals as goal
 
 pub returns-clause-told : goal.returns-clause-told
@@ -42,3 +42,7 @@ returns-clause-counted c = counted ApplyOnce c.begin-begun.result c.args.self.no
 
 pub returns-clause-visits : goal.returns-clause-visits
 returns-clause-visits c = visits ApplyOnce c.begin-begun.result c.args.self.now c.begin-begun.new.self c.apply_once_as-answer.new.self c.end.new.self c.begin-begun.ensures c.apply_once_as-answer.ensures.kept c.end.ensures
+
+pub returns-clause-waits : goal.returns-clause-waits
+returns-clause-waits c =
+    apply_waits c.args.sealed.now c.args.after.now c.apply_once_as-answer.result c.begin-begun.new.self.history c.apply_once_as-answer.new.self.history c.apply_once_as-answer.ensures.own
