@@ -6,7 +6,7 @@ use row_types::{
 };
 use std::alloc::{AllocError, Global};
 use std::test::Fail;
-use table_defs::{BackingSchema, TableDef};
+use table_defs::TableDef;
 use table_state::{Entry, Footprint, Op, Sealed, Tables, conflicts};
 use tier_base::{Seq, Ticket};
 
@@ -47,19 +47,18 @@ fn child(alloc: Global, digits: &str, column: &str) -> Result<TableDeclaration, 
     })
 }
 
-// 0, or the code that refuses the child.
-fn checked(
-    alloc: Global,
-    schema: &BackingSchema,
-    digits: &str,
-    column: &str,
-) -> Result<u16, AllocError> {
-    let declaration = child(alloc, digits, column)?;
-    Ok(match TableDef::check(alloc, &declaration, schema) {
+// 0, or the code that refuses the declaration.
+fn code(alloc: Global, declaration: &TableDeclaration, tables: &Tables) -> u16 {
+    match TableDef::check(alloc, declaration, tables.schema()) {
         Ok(_) => 0,
         Err(Refused::Rule(rule)) => rule.code.number(),
         Err(Refused::Memory) => 299,
-    })
+    }
+}
+
+fn checked(alloc: Global, tables: &Tables, digits: &str, column: &str) -> Result<u16, AllocError> {
+    let declaration = child(alloc, digits, column)?;
+    Ok(code(alloc, &declaration, tables))
 }
 
 #[test]
@@ -73,7 +72,7 @@ fn texts_times_and_foreign_keys_are_declared(rt: HostRuntime) -> Result<(), Fail
         ("20", "N", 104),
         ("20", "NOPE", 104),
     ] {
-        assert!(rt; checked(rt.alloc(), tables.schema(), digits, column)? == code);
+        assert!(rt; checked(rt.alloc(), &tables, digits, column)? == code);
     }
     Ok(())
 }
