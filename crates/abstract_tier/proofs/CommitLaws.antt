@@ -8,7 +8,7 @@ use Rattle.table_state.specs.declared.history.Sealed.{Sealed}
 use Rattle.table_state.specs.Tables.{TableState}
 use Rattle.table_state.specs.Operations.{applied_all}
 use Rattle.table_state.specs.Histories.{has_ticket, is_of, entry_of, state_from, state_of, after_entry, no_tables}
-use Rattle.abstract_tier.specs.Commits.{RiseBetween, pending, applied_sealed, Once}
+use Rattle.order_laws.specs.Commits.{RiseBetween, pending, applied_sealed, Once}
 
 or_assoc : (a b c : Bool) → (a || (b || c)) ≡ ((a || b) || c)
 or_assoc true b c = refl

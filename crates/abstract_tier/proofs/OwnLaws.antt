@@ -5,7 +5,8 @@ use Rattle.table_state.specs.declared.history.Entry.{Entry}
 use Rattle.table_state.specs.declared.history.Entry.TheVariants.{Definition, Foreign, Own}
 use Rattle.table_state.specs.declared.history.Sealed.{Sealed}
 use Rattle.table_state.specs.Histories.{has_ticket, entry_of}
-use Rattle.abstract_tier.specs.Commits.{RiseBetween, pending, own_entries, is_own}
+use Rattle.order_laws.specs.Commits.{RiseBetween, pending}
+use Rattle.abstract_tier.specs.Commits.{own_entries, is_own}
 use Rattle.abstract_tier.proofs.CommitLaws.{has_ticket-append, nat_eq_same, or_true, pending_front}
 
 -- only own entries have tickets

@@ -14,7 +14,8 @@ use Rattle.outside.specs.Holding.{Held, Slots}
 use Rattle.outside.specs.Others.{AreOthers}
 use Rattle.abstract_tier.specs.declared.rounds.RoundFault.{RoundFault}
 use Rattle.abstract_tier.specs.declared.rounds.RoundFault.TheVariants as stop
-use Rattle.abstract_tier.specs.Commits.{RiseBetween, own_entries}
+use Rattle.order_laws.specs.Commits.{RiseBetween}
+use Rattle.abstract_tier.specs.Commits.{own_entries}
 use Rattle.abstract_tier.specs.Rounds.{DifferedAt, FirstDiffers, Mixes, doubts_at}
 use Rattle.abstract_tier.specs.RoundStates.{Settles, RoundAt, RoundOver, GoesFrom, RoundGoes}
 use Rattle.abstract_tier.proofs.RoundLaws.{drop_next, mixes_next, mixes_others, next_fresh, next_there, next_within, tail_owns, take_next}

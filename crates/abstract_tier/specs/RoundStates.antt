@@ -9,7 +9,8 @@ use Rattle.outside.specs.Bank.{Comes, Grows}
 use Rattle.outside.specs.Holding.{Held, Slots}
 use Rattle.abstract_tier.specs.declared.rounds.RoundFault.{RoundFault}
 use Rattle.abstract_tier.specs.declared.rounds.RoundFault.TheVariants as stop
-use Rattle.abstract_tier.specs.Commits.{RiseBetween, own_entries}
+use Rattle.order_laws.specs.Commits.{RiseBetween}
+use Rattle.abstract_tier.specs.Commits.{own_entries}
 use Rattle.abstract_tier.specs.Answers.{faulty, only}
 use Rattle.abstract_tier.specs.Rounds.{FirstDiffers, Mixes}
 use Rattle.abstract_tier.specs.Steps.{difference}

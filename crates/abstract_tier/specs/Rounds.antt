@@ -13,7 +13,7 @@ use Rattle.outside.specs.Differences.{IsFirstDifference}
 use Rattle.outside.specs.Others.{AreOthers}
 use Rattle.abstract_tier.specs.declared.rounds.RoundFault.{RoundFault}
 use Rattle.abstract_tier.specs.declared.rounds.RoundFault.TheVariants as stop
-use Rattle.abstract_tier.specs.Commits.{pending}
+use Rattle.order_laws.specs.Commits.{pending}
 
 -- Behind the front come the entries of these transactions, in their order, and transactions of others between them.
 abbrev pub Mixes : List TableId → List Sealed → List Entry → List Entry → Type 0

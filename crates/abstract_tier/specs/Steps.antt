@@ -51,7 +51,8 @@ use Rattle.abstract_tier.specs.declared.reply.Last.{Last}
 use Rattle.abstract_tier.specs.declared.reply.Last.TheVariants.{Done, No, Fault}
 use Rattle.abstract_tier.specs.declared.rounds.RoundFault.{RoundFault}
 use Rattle.abstract_tier.specs.declared.rounds.RoundFault.TheVariants as stop
-use Rattle.abstract_tier.specs.Commits.{pending, in_commit_order}
+use Rattle.order_laws.specs.Commits.{pending}
+use Rattle.abstract_tier.specs.Commits.{in_commit_order}
 use Rattle.abstract_tier.specs.Rounds.{Round, DifferedAt}
 use Rattle.abstract_tier.specs.TierStates.{TierState, SessionState, GroupState, session_of, group_of_table, seen, seen_rows, table_name, is_named}
 use Rattle.group_defs.specs.LiteralValues.{values_of}
@@ -359,13 +360,13 @@ is_undone t (says.Session label request) = is_undone_request t request
 is_undone t (says.Console request) = false
 
 -- what a line is answered that the tier may do
-abbrev pub Serves : Line → World → World → Reply → Type 0
-Serves line w w' reply = MatchBool (is_undone w.tier line) (Quiet w (refuses w.tier not_yet) w' reply) (Parts line w w' reply)
+abbrev pub DoesLine : Line → World → World → Reply → Type 0
+DoesLine line w w' reply = MatchBool (is_undone w.tier line) (Quiet w (refuses w.tier not_yet) w' reply) (Parts line w w' reply)
 
 -- what a line is answered by what it says
 abbrev pub Answers : Saying → World → World → Reply → Type 0
 Answers Silent w w' reply = ⊥
-Answers (Says line) w w' reply = Serves line w w' reply
+Answers (Says line) w w' reply = DoesLine line w w' reply
 Answers (WrongAt place) w w' reply = Quiet w (refuses w.tier (wrong_at place)) w' reply
 Answers TooDeep w w' reply = Quiet w (refuses w.tier too_deep) w' reply
 

@@ -17,7 +17,7 @@ use Rattle.table_state.specs.declared.history.Sealed.{Sealed}
 use Rattle.indexed_rows.specs.Rows.{Table, key_of}
 use Rattle.table_state.specs.Tables.{TableState, table_at}
 use Rattle.table_state.specs.Operations.{applied_all}
-use Rattle.abstract_tier.specs.Commits.{virtual_state}
+use Rattle.order_laws.specs.Commits.{virtual_state}
 use Rattle.abstract_tier.specs.ReadOnlyStates.{ReadOnlyState}
 
 -- an asynchronous writethrough group: its name, its table with the backing definition, and the keys of its instances

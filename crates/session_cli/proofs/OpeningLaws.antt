@@ -8,7 +8,7 @@ use Rattle.outside.specs.Calls.{Told}
 use Rattle.outside.specs.Holding.{Held}
 use Rattle.outside.specs.declared.fault.BankError.{BankError}
 use Rattle.tier_engine.specs.declared.tier.Tier.{Tier}
-use Rattle.abstract_tier.specs.Commits.{IsLegal}
+use Rattle.order_laws.specs.Commits.{KeepsCommitOrder}
 use Rattle.abstract_tier.specs.ReadOnlyStates.{ShowCommitted}
 use Rattle.tier_engine.specs.Standing.{Begins, StandsFor, tier_state}
 use Rattle.session_cli.specs.declared.session.Session.{Session}
@@ -21,7 +21,7 @@ not_called shared (Some held) e = record { slots = refl; others = []; came = tt;
 
 -- the tier was opened, and the session has been given nothing
 pub with_tier : (shared : List TableId) (session : Session) (tier : Tier) (before after : Option Held) → session.tier ≡ tier → session.line ≡ [] → session.output ≡ []
-    → ((t : Tier) (log : List Sealed) (history : List Entry) → StandsFor t log history → (conflict : Sealed → Sealed → Bool) → IsLegal conflict history log)
+    → ((t : Tier) (log : List Sealed) (history : List Entry) → StandsFor t log history → KeepsCommitOrder history log)
     → ((t : Tier) (log : List Sealed) (history : List Entry) → StandsFor t log history → ShowCommitted history (tier_state t log).read_only)
     → Told before after (Begins shared (Ok tier)) → Told before after (Opens shared (Ok session))
 with_tier shared session tier None after is line output legal committed told = tt

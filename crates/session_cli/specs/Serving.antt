@@ -14,7 +14,8 @@ use Rattle.tier_engine.specs.declared.tier.Tier.{Tier}
 use Rattle.abstract_tier.specs.declared.reply.Reply.{Reply}
 use Rattle.abstract_tier.specs.Replying.{reply_bytes, replies_bytes}
 use Rattle.tier_engine.specs.Standing.{Mark, StandsFor, Serves, tier_state, world_of}
-use Rattle.abstract_tier.specs.Commits.{IsLegal, own_entries}
+use Rattle.order_laws.specs.Commits.{KeepsCommitOrder}
+use Rattle.abstract_tier.specs.Commits.{own_entries}
 use Rattle.abstract_tier.specs.ReadOnlyStates.{ShowCommitted}
 use Rattle.abstract_tier.specs.Steps.{World, IsUnshared, Run}
 use Rattle.abstract_tier.specs.TierStates.{opened}
@@ -46,16 +47,11 @@ begins held schema written faults mark = record {
 abbrev pub IsLeftAlone : Origin → List ℕ → Type 0
 IsLeftAlone o input = (given left : List ℕ) (replies : List (Option Reply)) (w : World) → input ≡ given ++ left → Run o.world (ended_lines given) replies w → IsUnshared w
 
--- Whatever is called a conflict, each of these committed transactions stands in the history once at most, with the
--- operations of its commit, and conflicting ones in commit order.
-abbrev pub AreLegal : List Entry → List Sealed → Type 0
-AreLegal history log = (conflict : Sealed → Sealed → Bool) → IsLegal conflict history log
-
 -- One line was answered: the request was served, and its reply passed on to the sink.
 pub record Responds {E : Type 0} (result : Result (Unit {0}) E) (sink sink' : Option (List ℕ)) (waiting waiting' : List ℕ) (site' : Option Held) (faults faults' : ℕ) (mark mark' : Mark) (tier tier' : Tier) (log : List Sealed) (held : Held) (line : List ℕ) : Type 0 where
   pub reply : Option Reply
   pub served : Serves site' faults faults' mark mark' tier tier' log held line reply
-  pub legal : AreLegal served.held'.history served.log'
+  pub legal : KeepsCommitOrder served.held'.history served.log'
   pub committed : ShowCommitted served.held'.history (tier_state tier' served.log').read_only
   pub passed : Passes result sink sink' waiting waiting' (reply_bytes reply)
 
@@ -68,7 +64,7 @@ pub record Serving (o : Origin) (given : List ℕ) (sink : Option (List ℕ)) (s
   pub tells : site ≡ Some held
   pub slots : held.slots ≡ o.slots
   pub stands : StandsFor session.tier log held.history
-  pub legal : AreLegal held.history log
+  pub legal : KeepsCommitOrder held.history log
   pub committed : ShowCommitted held.history (tier_state session.tier log).read_only
   pub run : Run o.world (ended_lines given) replies (world_of session.tier log held.history faults mark)
   pub line : session.line ≡ front_of (cut given).1
@@ -86,7 +82,7 @@ pub record Answered (o : Origin) (lines : List (List ℕ)) (replies : List (Opti
   pub counted : last.bank_faults ≡ faults
   pub now : last.moment ≡ mark.moment
   pub shares : last.shared ≡ mark.shared
-  pub legal : AreLegal last.history last.tier.log
+  pub legal : KeepsCommitOrder last.history last.tier.log
   pub committed : ShowCommitted last.history last.tier.read_only
 
 -- The lines are answered, and all replies written.
@@ -125,7 +121,7 @@ Finishes (Err e) o given sink site faults mark = CutShort o (all_lines given) si
 -- A session that has been given nothing, over a tier that was opened over this history, whose tables have this schema.
 pub record IsNew (session : Session) (history : List Entry) (schema : List TableDef) : Type 0 where
   pub stands : StandsFor session.tier [] history
-  pub legal : AreLegal history []
+  pub legal : KeepsCommitOrder history []
   pub committed : ShowCommitted history (tier_state session.tier []).read_only
   pub tier : tier_state session.tier [] ≡ opened schema
   pub line : session.line ≡ []

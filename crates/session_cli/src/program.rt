@@ -39,16 +39,16 @@ const NO_MEMORY: u8 = 7;
 /// - 4: the sink failed in this call, or took nothing of something. A front of the replies is written.
 /// - 6: in `run`, the site failed in this call as the tier asked it for its schema at the opening. No line is answered,
 ///   and neither source nor sink is touched.
-/// - 7: want of memory before the first request, the words', the settings' and the opening's included; neither source nor
-///   sink is then touched. In `check` also want of memory for a line. A front of the replies is then written.
+/// - 7: want of memory before the first request, the words', the settings' and the opening's included; no line is answered
+///   then. In `check` also want of memory for a line. A front of the replies is then written.
 /// - 10: exactly where 2^32 bytes were taken from the source without an end, and the sink took all replies. All lines
 ///   that ended in them are answered.
 ///
 /// `run` opens a tier over the site and lets it answer each line, and `check` says of each line whether it is spelt right.
 /// For now no setting acts, and the clock isn't asked. `check` doesn't call the site.
 ///
-/// Others may change tables of the backing database in each of the site's calls. Of `run` something is said where they
-/// change no table of a cache group: those are the tier's to write.
+/// Others may change tables of the backing database in each of the site's calls. Of `run` something is said where no
+/// writethrough group is over a table that others change in the run: those are the tier's to write.
 pub fn top<'a, S: Source, K: Sink, P: Site, C: Clock>(
     alloc: Global,
     words: &'a [&'a str],

@@ -19,7 +19,7 @@ use Rattle.indexed_rows.specs.Rows.{Table, is_same, key_of}
 use Rattle.table_state.specs.Tables.{TableState, fits_columns, has_child_in, has_parent, is_there, names_parent, table_at}
 use Rattle.table_state.specs.Operations.{applied, applied_all, on_table, only_if, table_of, with_change, with_row, without_row}
 use Rattle.table_state.specs.Changes.{with_table}
-use Rattle.table_state.specs.Independence.{AreApart, Commute, IsWhole, is_child_of, refers_to, with_new}
+use Rattle.table_state.specs.Independence.{AreApart, IsWhole, is_child_of, refers_to, with_new}
 
 abbrev Row : Type 0
 Row = List Value
@@ -112,6 +112,10 @@ same_new op s t new ne apart childless =
     by None m e = refl
     by (Some def) None e = refl
     by (Some def) (Some table) e = same_change op s t new def table e childless
+
+-- in both orders the same comes of it
+abbrev pub Commute : Op → Op → TableState → Type 0
+Commute a b s = option_and_then (applied b) (applied a s) ≡ option_and_then (applied a) (applied b s)
 
 -- operations on tables that have nothing to do with one another commute
 pub applied_commute : (a b : Op) (s : TableState) → AreApart s.schema (table_of a) (table_of b) → Commute a b s

@@ -2,13 +2,10 @@
 
 use Rattle.std.specs.Prelude.{◌≡◌, List, [], ◌∷◌, ◌++◌, Option, Some, None, Bool, false, nat_eq, length, slice_get}
 use Rattle.std.specs.FinMap.{empty}
-use Rattle.std.specs.Option.{option_and_then}
 use Rattle.tier_base.specs.declared.number.TableId.{TableId}
 use Rattle.table_defs.specs.declared.definition.ForeignKey.{ForeignKey}
 use Rattle.table_defs.specs.declared.definition.TableDef.{TableDef}
-use Rattle.table_state.specs.declared.operation.Op.{Op}
 use Rattle.table_state.specs.Tables.{TableState}
-use Rattle.table_state.specs.Operations.{applied}
 
 -- the foreign key refers to the table
 abbrev pub refers_to : TableId → Option ForeignKey → Bool
@@ -24,10 +21,6 @@ pub record AreApart (schema : List TableDef) (a b : TableId) : Type 0 where
   pub different : nat_eq a.0 b.0 ≡ false
   pub one : is_child_of b (slice_get schema a.0) ≡ false
   pub other : is_child_of a (slice_get schema b.0) ≡ false
-
--- in both orders the same comes of it
-abbrev pub Commute : Op → Op → TableState → Type 0
-Commute a b s = option_and_then (applied b) (applied a s) ≡ option_and_then (applied a) (applied b s)
 
 -- each table has its rows
 abbrev pub IsWhole : TableState → Type 0

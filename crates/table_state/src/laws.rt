@@ -7,8 +7,8 @@ ghost use Rattle.table_state.specs.declared.history.Entry.{Entry};
 ghost use Rattle.table_state.specs.declared.operation.Op.{Op};
 ghost use Rattle.table_state.specs.declared.refusal.ApplyError.{ApplyError};
 ghost use Rattle.table_state.specs.Histories.{has_ticket, is_of, no_tables, position_of, state_from, state_of};
-ghost use Rattle.table_state.specs.Independence.{AreApart, Commute, IsWhole, with_new};
-ghost use Rattle.table_state.specs.Operations.{applied, applied_all, table_of};
+ghost use Rattle.table_state.specs.Independence.{IsWhole, with_new};
+ghost use Rattle.table_state.specs.Operations.{applied, applied_all};
 ghost use Rattle.table_state.specs.Refusals.{broken_by, broken_by_all};
 ghost use Rattle.table_state.specs.Sound.{IsTableState, RefersBack};
 ghost use Rattle.table_state.specs.Tables.{TableState};
@@ -35,11 +35,6 @@ pub fn position_law()
     ensures within { (ticket : ℕ) (h : List Entry) (n : ℕ) → position_of ticket h ≡ Some n → n ≤ length h }
     ensures entry { (ticket : ℕ) (h : List Entry) (n : ℕ) → position_of ticket h ≡ Some n → (k : ℕ) × (entry : Entry) × (n ≡ k + 1) × (slice_get h k ≡ Some entry) × (is_of ticket entry ≡ true) }
     ensures append { (ticket : ℕ) (xs ys : List Entry) → position_of ticket (xs ++ ys) ≡ option_or (position_of ticket xs) (option_map (λ n. length xs + n) (position_of ticket ys)) }
-{}
-
-/// Operations on different tables, of which none refers to the other, commute.
-pub fn commute_law()
-    ensures { (a b : Op) (s : TableState) → AreApart s.schema (table_of a) (table_of b) → Commute a b s }
 {}
 
 /// What applies to a state does so with a table without rows behind the others, and gives the same with that table. A

@@ -28,7 +28,8 @@ use Rattle.abstract_tier.specs.declared.reply.Reply.{Reply}
 use Rattle.tier_engine.specs.declared.tier.Tier.{Tier}
 use Rattle.tier_engine.specs.declared.tier.Group.{Group}
 use Rattle.tier_engine.specs.declared.tier.Session.{Session}
-use Rattle.abstract_tier.specs.Commits.{RiseBetween, virtual_state, pending, applied_sealed, own_entries, is_own, is_other, in_commit_order}
+use Rattle.order_laws.specs.Commits.{RiseBetween, virtual_state, pending, applied_sealed, is_other}
+use Rattle.abstract_tier.specs.Commits.{own_entries, is_own, in_commit_order}
 use Rattle.group_defs.specs.GroupRules.{refers}
 use Rattle.abstract_tier.specs.Steps.{Asked, Creates, bank_fault, known_after, stopped}
 use Rattle.tier_engine.specs.Storing.{KnowsAfter, MakesTable}

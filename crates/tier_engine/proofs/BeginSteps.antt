@@ -19,7 +19,8 @@ use Rattle.outside.specs.declared.fault.BankError.{BankError}
 use Rattle.tier_engine.specs.declared.tier.Tier.{Tier}
 use Rattle.tier_engine.specs.declared.tier.Group.{Group}
 use Rattle.tier_engine.specs.declared.tier.Session.{Session}
-use Rattle.abstract_tier.specs.Commits.{applied_sealed, is_other, own_entries}
+use Rattle.order_laws.specs.Commits.{applied_sealed, is_other}
+use Rattle.abstract_tier.specs.Commits.{own_entries}
 use Rattle.abstract_tier.specs.TierStates.{opened}
 use Rattle.tier_engine.specs.Standing.{Begins, HasOwnKeys, ShowAll, StandsFor, tier_state}
 use Rattle.tier_engine.proofs.BankSteps.{WholeLaw, history_whole}

@@ -26,7 +26,8 @@ use Rattle.abstract_tier.specs.declared.reply.Last.TheVariants.{Done, No}
 use Rattle.tier_engine.specs.declared.tier.Tier.{Tier}
 use Rattle.tier_engine.specs.declared.tier.Group.{Group}
 use Rattle.tier_engine.specs.declared.tier.Session.{Session}
-use Rattle.abstract_tier.specs.Commits.{RiseBetween, pending, virtual_state, applied_sealed, in_commit_order}
+use Rattle.order_laws.specs.Commits.{RiseBetween, pending, virtual_state, applied_sealed}
+use Rattle.abstract_tier.specs.Commits.{in_commit_order}
 use Rattle.abstract_tier.specs.TierStates.{TierState, SessionState, keys_after}
 use Rattle.row_types.specs.declared.rule.Rule.{Rule}
 use Rattle.group_defs.specs.Limits.{at_limit, past}

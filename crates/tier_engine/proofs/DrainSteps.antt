@@ -1,7 +1,7 @@
 -- CALL ttDrain is a step of the tier.
-use Rattle.std.proofs.Common.{◌≡◌, ℕ, suc, ◌+◌, ◌-◌, ◌≤◌, List, [], ◌∷◌, ◌++◌, map, take, drop, length, Option, Some, None, true, refl, sym, ◌∙◌, ap, subst, arith, length-drop, append_assoc}
+use Rattle.std.proofs.Common.{◌≡◌, ℕ, suc, ◌+◌, ◌-◌, ◌≤◌, ◌⊎◌, inl, inr, List, [], ◌∷◌, ◌++◌, map, take, drop, length, Option, Some, None, true, refl, sym, ◌∙◌, ap, subst, arith, length-drop, append_assoc}
 use Rattle.std.specs.Prelude.{◌^◌, Result, Ok, Err}
-use Rattle.std.specs.Result.{IfOk, IsErrOf, OnOk}
+use Rattle.std.specs.Result.{IfOk, OnOk}
 use Rattle.std.specs.Option.{option_and_then, IfSome, IsSome}
 use Rattle.std.specs.List.{list_all}
 use Rattle.std.proofs.lemmas.List.{take-append-drop, append-nil, length-take-le, map-append}
@@ -22,10 +22,16 @@ use Rattle.abstract_tier.specs.declared.rounds.RoundFault.TheVariants as stop
 use Rattle.tier_engine.specs.declared.tier.Tier.{Tier}
 use Rattle.tier_engine.specs.declared.tier.Group.{Group}
 use Rattle.tier_engine.specs.declared.tier.Session.{Session}
-use Rattle.abstract_tier.specs.Commits.{RiseBetween, pending, in_commit_order, virtual_state, applied_sealed, own_entries}
-use Rattle.abstract_tier.specs.Rounds.{DifferedAt, Mixes, Round}
-use Rattle.abstract_tier.specs.RoundStates.{RoundAt, RoundOver, RoundGoes}
-use Rattle.abstract_tier.specs.Steps.{AreUnshared, Drains, IsDrained, round_reply}
+use Rattle.order_laws.specs.Commits.{RiseBetween, pending, virtual_state, applied_sealed}
+use Rattle.abstract_tier.specs.Commits.{in_commit_order, own_entries}
+use Rattle.row_types.specs.declared.value.Value.{Value}
+use Rattle.abstract_tier.specs.Answers.{only}
+use Rattle.abstract_tier.specs.declared.reply.Last.TheVariants.{Fault}
+use Rattle.abstract_tier.specs.TierStates.{TierState, table_name}
+use Rattle.abstract_tier.specs.Rounds.{DifferedAt, Mixes, Round, doubts}
+use Rattle.abstract_tier.specs.RoundStates.{AnswersRound, RoundAt, RoundOver, RoundGoes}
+use Rattle.abstract_tier.specs.Steps.{AreUnshared, Drains, IsDrained, difference, round_reply}
+use Rattle.tier_engine.specs.Storing.{NamesDifference}
 use Rattle.tier_engine.specs.Standing.{IsApart, Mark, StandsFor, ShowAll, HasOwnKeys, Made, tier_state, group_state, is_stored, ops_of, read_only_state, session_in, own_in}
 use Rattle.abstract_tier.proofs.CommitLaws.{state_one}
 use Rattle.tier_engine.proofs.GroupedLaws.{cover, defined_at, distinct_as}
@@ -169,11 +175,11 @@ state_after t t' log e = λ i. record {
 }
 
 round_after : (shared : List TableId) (h tail : List Entry) (r i r' j : ℕ) (log : List Sealed) (high : ℕ) (result : Result ℕ RoundFault) (old new : List Sealed) (h' : List Entry) → RiseBetween 1 log high → own_entries h ≡ map entry_of (take i log)
-    → Mixes shared (take j (drop i log)) h tail → r ≤ i → r ≤ r' → r' ≤ i + j → i + j ≤ r' + 1 → old ≡ drop r log → new ≡ drop r' log → h' ≡ h ++ tail
+    → Mixes shared (take j (drop i log)) h tail → r ≤ i → r ≤ r' → r' ≤ i + j → j + r ≤ r' + doubts result → old ≡ drop r log → new ≡ drop r' log → h' ≡ h ++ tail
     → OnOk result (new ≡ []) → IfOk result (λ n. n ≡ length old) → Round shared old h new h' result
 round_after shared h tail r i r' j log high result old new h' rise owns mixes below more_receipts least most was rest is' all told =
     let k : r + (r' - r) ≡ r' = Prim.omega arith in
-    let bound : i + j ≤ (r + (r' - r)) + 1 = Prim.omega arith in
+    let bound : j ≤ (r' - r) + doubts result = Prim.omega arith in
     let over : r + (r' - r) ≤ i + j = Prim.omega arith in
     let made : Round shared (drop r log) h new (h ++ tail) result =
     makes_round shared h tail 1 r i j (r' - r) log high new result owns rise mixes below bound over (rest ∙ ap (λ n. drop n log) (sym k)) all
@@ -203,12 +209,13 @@ is_drained t log h s none =
       defined = defined_of log h s.base s.virtual;
     }
 
-pub drains : (t t' : Tier) (log : List Sealed) (held : Held) (told told' : Option Held) (f f' : ℕ) (m m' : Mark) (result : Result ℕ RoundFault) (reply : Reply) → IsSameBeside t t' → told ≡ Some held
-    → StandsFor t log held.history → IsApart t log m.shared → RoundGoes m.shared told told' t.unsettled.items t'.unsettled.items → OnOk result (t'.unsettled.items ≡ []) → IfOk result (λ n. n ≡ length t.unsettled.items)
-    → (IsErrOf result stop.Differs → IsSome told → (last : Held) → told' ≡ Some last → DifferedAt m.shared t'.unsettled.items last.history) → f ≤ f' → m.moment ≤ m'.moment → m'.shared ≡ m.shared → reply ≡ round_reply result
-    → Made told' f f' m m' t t' log held (λ w w'. Drains w w' reply)
+-- The tier is a drained one, where the round ended so and is told so.
+drains_as : (t t' : Tier) (log : List Sealed) (held : Held) (told told' : Option Held) (f f' : ℕ) (m m' : Mark) (result : Result ℕ RoundFault) (reply : Reply) → IsSameBeside t t' → told ≡ Some held
+    → StandsFor t log held.history → IsApart t log m.shared → RoundGoes (doubts result) m.shared told told' t.unsettled.items t'.unsettled.items → OnOk result (t'.unsettled.items ≡ []) → IfOk result (λ n. n ≡ length t.unsettled.items)
+    → ((table : TableId) (key : List Value) → result ≡ Err (stop.Differs table key) → IsSome told → (last : Held) → told' ≡ Some last → DifferedAt m.shared table key t'.unsettled.items last.history) → f ≤ f' → m.moment ≤ m'.moment → m'.shared ≡ m.shared
+    → reply ≡ round_reply (table_name (tier_state t log)) result → Made told' f f' m m' t t' log held (λ w w'. Drains w w' reply)
 unfolding stands_after
-drains t t' log held told told' f f' m m' result reply e tells s apart goes all number differs faults moment shares answer =
+drains_as t t' log held told told' f f' m m' result reply e tells s apart goes all number differs faults moment shares answer =
     let x = goes log held.history held.slots s.came 0 s.received 1 t.next s.rise s.owns (at_start t log held m.shared told s tells) in
     let at = x.at in
     let over = at.over in
@@ -223,11 +230,43 @@ drains t t' log held told told' f f' m m' result reply e tells s apart goes all 
       made = record {
         result = result;
         round = round_after m.shared held.history over.tail s.received s.came x.received' x.added' log t.next result t.unsettled.items t'.unsettled.items h' s.rise s.owns
-            over.mixes s.at_least x.more_received over.at_least over.at_most s.rest over.rest over.is all number;
+            over.mixes s.at_least x.more_received over.at_least x.few_more s.rest over.rest over.is all number;
         tier = state_after t t' log e;
         on = record { faults = faults; moment = moment; shared = shares };
         drained = on_ok result (λ none. is_drained t' log h' s' none) all;
-        differs = λ is. differs is (subst (λ (o : Option Held). IsSome o) (sym tells) refl) at.held at.tells;
+        differs = λ table key is. differs table key is (subst (λ (o : Option Held). IsSome o) (sym tells) refl) at.held at.tells;
         answer = answer;
       };
     }
+
+-- a round is told as it ended, or, where memory was wanting for the name of a table, as one that wanted memory
+abbrev IsToldAs : Result ℕ RoundFault → Result ℕ RoundFault → Type 0
+IsToldAs end result = (end ≡ result) ⊎ ((result ≡ Err stop.Memory) × (table : TableId) × (key : List Value) × (end ≡ Err (stop.Differs table key)))
+
+record Told (names : TableId → Option (List ℕ)) (end : Result ℕ RoundFault) (reply : Reply) : Type 0 where
+  result : Result ℕ RoundFault
+  as : IsToldAs end result
+  answer : reply ≡ round_reply names result
+
+told_of : (names : TableId → Option (List ℕ)) (name : Option (List ℕ)) (end : Result ℕ RoundFault) (reply : Reply) → NamesDifference names end name → AnswersRound name end reply → Told names end reply
+told_of names name (Ok n) reply named answer = record { result = Ok n; as = inl refl; answer = answer }
+told_of names name (Err stop.Failed) reply named answer = record { result = Err stop.Failed; as = inl refl; answer = answer }
+told_of names name (Err stop.Memory) reply named answer = record { result = Err stop.Memory; as = inl refl; answer = answer }
+told_of names name (Err (stop.Differs table key)) reply named answer = elim answer [
+  | inl e ↦ record { result = Err (stop.Differs table key); as = inl refl; answer = e ∙ ap (λ o. only (Fault (difference key o))) named }
+  | inr e ↦ record { result = Err stop.Memory; as = inr (refl, table, key, refl); answer = e }
+]
+
+pub drains : (t t' : Tier) (log : List Sealed) (held : Held) (told told' : Option Held) (f f' : ℕ) (m m' : Mark) (end : Result ℕ RoundFault) (name : Option (List ℕ)) (reply : Reply) → IsSameBeside t t' → told ≡ Some held
+    → StandsFor t log held.history → IsApart t log m.shared → RoundGoes (doubts end) m.shared told told' t.unsettled.items t'.unsettled.items → OnOk end (t'.unsettled.items ≡ []) → IfOk end (λ n. n ≡ length t.unsettled.items)
+    → ((table : TableId) (key : List Value) → end ≡ Err (stop.Differs table key) → IsSome told → (last : Held) → told' ≡ Some last → DifferedAt m.shared table key t'.unsettled.items last.history) → f ≤ f' → m.moment ≤ m'.moment → m'.shared ≡ m.shared
+    → NamesDifference (table_name (tier_state t' log)) end name → AnswersRound name end reply → Made told' f f' m m' t t' log held (λ w w'. Drains w w' reply)
+drains t t' log held told told' f f' m m' end name reply e tells s apart goes all number differs faults moment shares named answers =
+    let x = told_of (table_name (tier_state t log)) name end reply (subst (λ (x : TierState). NamesDifference (table_name x) end name) (state_after t t' log e) named) answers in
+    elim x.as [
+      | inl is ↦ drains_as t t' log held told told' f f' m m' end reply e tells s apart goes all number differs faults moment shares (x.answer ∙ ap (round_reply (table_name (tier_state t log))) (sym is))
+      | inr is ↦
+          drains_as t t' log held told told' f f' m m' (Err stop.Memory) reply e tells s apart
+          (subst (λ (r : Result ℕ RoundFault). RoundGoes (doubts r) m.shared told told' t.unsettled.items t'.unsettled.items) is.3 goes) tt tt
+          (λ table key no. Prim.cc) faults moment shares (x.answer ∙ ap (round_reply (table_name (tier_state t log))) is.0)
+    ]

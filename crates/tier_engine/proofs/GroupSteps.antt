@@ -38,7 +38,7 @@ use Rattle.tier_engine.specs.declared.tier.Tier.{Tier}
 use Rattle.tier_engine.specs.declared.tier.Group.{Group}
 use Rattle.tier_engine.specs.declared.tier.OwnKey.{OwnKey}
 use Rattle.tier_engine.specs.declared.tier.Session.{Session}
-use Rattle.abstract_tier.specs.Commits.{RiseBetween}
+use Rattle.order_laws.specs.Commits.{RiseBetween}
 use Rattle.abstract_tier.specs.TierStates.{GroupState, SessionState, is_named, group_of_table}
 use Rattle.abstract_tier.specs.ReadOnlyStates.{read_only_over}
 use Rattle.group_defs.specs.declared.group.Beside.{Beside}

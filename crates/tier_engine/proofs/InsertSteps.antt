@@ -29,7 +29,7 @@ use Rattle.tier_engine.specs.declared.tier.Tier.{Tier}
 use Rattle.tier_engine.specs.declared.tier.Group.{Group}
 use Rattle.tier_engine.specs.declared.tier.OwnKey.{OwnKey}
 use Rattle.tier_engine.specs.declared.tier.Session.{Session}
-use Rattle.abstract_tier.specs.Commits.{RiseBetween, pending, applied_sealed}
+use Rattle.order_laws.specs.Commits.{RiseBetween, pending, applied_sealed}
 use Rattle.group_defs.specs.GroupRules.{is_joined}
 use Rattle.abstract_tier.specs.Refusals.{rule_in}
 use Rattle.tier_engine.specs.Standing.{StandsFor, Shows, ShowAll, AreApart, AreIn, HasOwnKeys, OwnKeys, IsOwnKey, committed_rows, group_state, inserts_at, is_insert, is_stored, key_set, ops_of, own_in, session_in, tier_state}

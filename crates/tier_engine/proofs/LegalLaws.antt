@@ -11,7 +11,8 @@ use Rattle.table_state.specs.declared.history.Sealed.{Sealed}
 use Rattle.table_state.specs.Operations.{applied_all}
 use Rattle.table_state.specs.Histories.{has_ticket, entry_of, state_of}
 use Rattle.tier_base.specs.declared.number.Ticket.{Ticket}
-use Rattle.abstract_tier.specs.Commits.{RiseBetween, AreOps, HasOps, FollowsLower, KeepsOrder, IsLegal, Once, own_entries, is_other, in_commit_order}
+use Rattle.order_laws.specs.Commits.{RiseBetween, AreOps, HasOps, FollowsLower, KeepsCommitOrder, KeepsOrder, IsLegal, Once, conflicting, is_other}
+use Rattle.abstract_tier.specs.Commits.{own_entries, in_commit_order}
 use Rattle.tier_engine.specs.declared.tier.Tier.{Tier}
 use Rattle.tier_engine.specs.Standing.{StandsFor}
 use Rattle.abstract_tier.proofs.CommitLaws.{has_ticket-append, nat_eq_same, nat_eq_other, or_true, once_rising, rise_take, state_push, state_one}
@@ -74,7 +75,7 @@ keeps_order conflict pre low before (suc n) (s ∷ log) high rise =
     let front : pre ++ map entry_of (before ++ s ∷ []) ≡ (pre ++ map entry_of before) ++ entry_of s ∷ [] =
     ap (λ l. pre ++ l) (map-append entry_of before (s ∷ [])) ∙ sym (append_assoc pre (map entry_of before) (entry_of s ∷ []))
     in (
-      follows conflict low before s log high (pre ++ map entry_of before) rise (all_stand pre before),
+      λ on_log. follows conflict low before s log high (pre ++ map entry_of before) rise (all_stand pre before),
       subst (λ (h : List Entry). KeepsOrder conflict (before ++ s ∷ log) h (map entry_of (take n log))) front
           (subst (λ (l : List Sealed). KeepsOrder conflict l (pre ++ map entry_of (before ++ s ∷ [])) (map entry_of (take n log))) same
           (keeps_order conflict pre low (before ++ s ∷ []) n log high (subst (λ (l : List Sealed). RiseBetween low l high) (sym same) rise))),
@@ -114,7 +115,7 @@ order_same conflict log f g [] same keeps = tt
 order_same conflict log f g (Definition def ∷ h) same keeps = order_same conflict log (f ++ Definition def ∷ []) g h (other_behind f g (Definition def) (λ t. refl) same) keeps
 order_same conflict log f g (Foreign ops ∷ h) same keeps = order_same conflict log (f ++ Foreign ops ∷ []) g h (other_behind f g (Foreign ops) (λ t. refl) same) keeps
 order_same conflict log f g (Own ticket ops ∷ h) same keeps = (
-  follows_same conflict log (record { ticket = ticket; ops = ops }) f g same keeps.0,
+  λ on_log. follows_same conflict log (record { ticket = ticket; ops = ops }) f g same (keeps.0 on_log),
   order_same conflict log (f ++ Own ticket ops ∷ []) (g ++ Own ticket ops ∷ []) h (same_behind f g (Own ticket ops ∷ []) same) keeps.1,
 )
 
@@ -127,8 +128,8 @@ legal_owns conflict h low n log high rise owns = record {
 }
 
 -- what a tier stands for is legal
-pub legal_standing : (t : Tier) (log : List Sealed) (history : List Entry) → StandsFor t log history → (conflict : Sealed → Sealed → Bool) → IsLegal conflict history log
-legal_standing t log history s conflict = legal_owns conflict history 1 s.came log t.next s.rise s.owns
+pub legal_standing : (t : Tier) (log : List Sealed) (history : List Entry) → StandsFor t log history → KeepsCommitOrder history log
+legal_standing t log history s x is = legal_owns (conflicting x.schema) history 1 s.came log t.next s.rise s.owns
 
 -- a log of which a ticket is the last has it
 last_ticket : (t : ℕ) (log : List Sealed) (s : Sealed) → has_ticket t (map entry_of (log ++ s ∷ [])) ≡ (has_ticket t (map entry_of log) || nat_eq s.ticket.0 t)

@@ -9,7 +9,7 @@ use Rattle.table_state.specs.Operations.{applied_all}
 use Rattle.table_state.specs.Histories.{has_ticket}
 use Rattle.table_state.proofs.HistoryLaws.{applied_all-append}
 use Rattle.tier_engine.specs.declared.tier.Group.{Group}
-use Rattle.abstract_tier.specs.Commits.{pending, applied_sealed}
+use Rattle.order_laws.specs.Commits.{pending, applied_sealed}
 use Rattle.tier_engine.specs.Standing.{is_stored, ops_of}
 use Rattle.abstract_tier.proofs.CommitLaws.{by_option}
 use Rattle.tier_engine.proofs.OpLaws.{inserts_schema}

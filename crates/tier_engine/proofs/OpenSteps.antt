@@ -1,7 +1,6 @@
 -- OPEN, CLOSE and ROLLBACK are steps of the tier: what the calls do.
 use Rattle.std.proofs.Common.{◌≡◌, List, [], map, Option, Some, None, Bool, true, false, cond, refl, sym, ◌∙◌, ap, subst}
 use Rattle.std.specs.Option.{option_map, IsSome, is_some}
-use Rattle.sql_subset.specs.declared.request.OpenOptions.{OpenOptions}
 use Rattle.sql_subset.specs.declared.request.Request.TheVariants as asks_for
 use Rattle.sql_subset.specs.declared.stmt.Stmt.TheVariants as statement
 use Rattle.row_types.specs.declared.rule.Rule.{Rule}
@@ -24,24 +23,24 @@ use Rattle.tier_engine.proofs.SessionSteps.{stands_bare, state_bare}
 use Rattle.tier_engine.proofs.SelectSteps.{is_open, opened_step, quiet_same, refuses_quiet}
 
 -- OPEN is refused where a session is open
-no_session : (o : Option Session) (label : List _) (options : OpenOptions) → open_fault (session_in o) label options ≡ None → o ≡ None
-no_session None label options e = refl
-no_session (Some s) label options e = by_name (is_named s.label label) e
+no_session : (o : Option Session) (label : List _) → open_fault (session_in o) label ≡ None → o ≡ None
+no_session None label e = refl
+no_session (Some s) label e = by_name (is_named s.label label) e
   where
     by_name : (b : Bool) → cond b (Some (record { code = Rattle.tier_base.specs.declared.code.Code.TheVariants.NameInUse; detail = Rattle.row_types.specs.declared.rule.Detail.TheVariants.Label label })) (past Rattle.tier_base.specs.declared.limit.Limit.TheVariants.Sessions) ≡ None → Some s ≡ None
     by_name true p = Prim.cc
     by_name false p = Prim.cc
 
 -- OPEN
-pub opens_turns : (t t' : Tier) (log : List Sealed) (h : List Entry) (label : List _) (options : OpenOptions) (reply : Reply) → t'.known ≡ t.known → t'.groups.items ≡ t.groups.items → t'.read_only ≡ t.read_only → t'.unsettled.items ≡ t.unsettled.items → t'.next ≡ t.next
-    → t'.session ≡ Some (record { label = label; own = []; keys = [] }) → open_fault (session_in t.session) label options ≡ None → reply ≡ only (Done 0) → StandsFor t log h
-    → Turns t t' log h (λ w w'. Quiet w (open_answer w.tier label options) w' reply)
-opens_turns t t' log h label options reply known groups read_only unsettled next session sound told s =
-    let closed : t.session ≡ None = no_session t.session label options sound in
+pub opens_turns : (t t' : Tier) (log : List Sealed) (h : List Entry) (label : List _) (reply : Reply) → t'.known ≡ t.known → t'.groups.items ≡ t.groups.items → t'.read_only ≡ t.read_only → t'.unsettled.items ≡ t.unsettled.items → t'.next ≡ t.next
+    → t'.session ≡ Some (record { label = label; own = []; keys = [] }) → open_fault (session_in t.session) label ≡ None → reply ≡ only (Done 0) → StandsFor t log h
+    → Turns t t' log h (λ w w'. Quiet w (open_answer w.tier label) w' reply)
+opens_turns t t' log h label reply known groups read_only unsettled next session sound told s =
+    let closed : t.session ≡ None = no_session t.session label sound in
     let own : own_in t'.session ≡ own_in t.session = ap own_in session ∙ sym (ap own_in closed) in
     let stands : StandsFor t' log h = stands_beside t t' log h s known unsettled next groups read_only own (subst (λ (o : Option Session). HasOwnKeys t.groups.items o) (sym session) tt) in
     let after : Answer = (record (tier_state t log) { session = Some (record { label = label; own = [] }) }, only (Done 0)) in
-    let answered : open_answer (tier_state t log) label options ≡ after = ap (λ o. unless (tier_state t log) o after) sound in
+    let answered : open_answer (tier_state t log) label ≡ after = ap (λ o. unless (tier_state t log) o after) sound in
     let state : tier_state t' log ≡ after.0 = λ i. record {
       known = known i;
       groups = map (Rattle.tier_engine.specs.Standing.group_state (own i)) (groups i);
@@ -55,12 +54,12 @@ opens_turns t t' log h label options reply known groups read_only unsettled next
       log' = log;
       stands = stands;
       made = λ faults mark.
-          (same_world (tier_state t' log) (open_answer (tier_state t log) label options).0 h faults mark (state ∙ sym (ap (λ (a : Answer). a.0) answered)), told ∙ sym (ap (λ (a : Answer). a.1) answered));
+          (same_world (tier_state t' log) (open_answer (tier_state t log) label).0 h faults mark (state ∙ sym (ap (λ (a : Answer). a.0) answered)), told ∙ sym (ap (λ (a : Answer). a.1) answered));
     }
 
-pub open_refused : (t : Tier) (log : List Sealed) (h : List Entry) (label : List _) (options : OpenOptions) (reply : Reply) (rule : Rule) → open_fault (session_in t.session) label options ≡ Some rule → reply ≡ only (No rule) → StandsFor t log h
-    → Turns t t log h (λ w w'. Quiet w (open_answer w.tier label options) w' reply)
-open_refused t log h label options reply rule e told s = quiet_same t log h _ s (λ faults mark.
+pub open_refused : (t : Tier) (log : List Sealed) (h : List Entry) (label : List _) (reply : Reply) (rule : Rule) → open_fault (session_in t.session) label ≡ Some rule → reply ≡ only (No rule) → StandsFor t log h
+    → Turns t t log h (λ w w'. Quiet w (open_answer w.tier label) w' reply)
+open_refused t log h label reply rule e told s = quiet_same t log h _ s (λ faults mark.
     let w = world_of t log h faults mark in
     let after : Answer = (record w.tier { session = Some (record { label = label; own = [] }) }, only (Done 0)) in
     subst (λ (o : Option Rule). Quiet w (unless w.tier o after) w reply) (sym e) (refuses_quiet w rule reply told))

@@ -20,7 +20,8 @@ use Rattle.outside.specs.Others.{AreOthers, Around, are_on_shared, is_shared}
 use Rattle.autorefresh.specs.Sets.{AllShow}
 use Rattle.tier_engine.specs.declared.tier.Tier.{Tier}
 use Rattle.tier_engine.specs.declared.tier.Group.{Group}
-use Rattle.abstract_tier.specs.Commits.{pending, applied_sealed, virtual_state, in_commit_order, own_entries, is_own, is_other}
+use Rattle.order_laws.specs.Commits.{pending, applied_sealed, virtual_state, is_other}
+use Rattle.abstract_tier.specs.Commits.{in_commit_order, own_entries, is_own}
 use Rattle.abstract_tier.specs.Steps.{AreUnshared}
 use Rattle.tier_engine.specs.Standing.{AreDefined, IsApart, ShowAll, Shows, StandsFor, group_state, is_in_group, is_stored, ops_of, own_in, tier_state}
 use Rattle.abstract_tier.proofs.CommitLaws.{applied_sealed-state_from, by_option, state_from-append}

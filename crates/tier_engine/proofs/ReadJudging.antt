@@ -13,19 +13,14 @@ use Rattle.sql_subset.specs.declared.stmt.Literal.{Literal}
 use Rattle.autorefresh.specs.Sets as stored
 use Rattle.autorefresh.specs.declared.group.ReadOnlyGroup.{ReadOnlyGroup}
 use Rattle.tier_engine.specs.declared.tier.Tier.{Tier}
-use Rattle.abstract_tier.specs.ReadOnlyAnswers.{refreshed_set, set_called, set_of, set_spelt, spelt_group, unfit_group, unknown_group, unloaded, wrong_arguments, wrong_state}
+use Rattle.abstract_tier.specs.ReadOnlyAnswers.{refreshed_set, set_called, set_of, set_spelt, spelt_group, unfit_group, unknown_group, wrong_arguments, wrong_state}
 use Rattle.abstract_tier.specs.ReadOnlyStates.{ReadOnlyState, read_only_called}
 use Rattle.tier_engine.specs.ReadOnlyStoring.{JudgesInterval, JudgesSet}
-use Rattle.abstract_tier.specs.Refusals.{not_yet}
 use Rattle.tier_engine.specs.Standing.{own_in, read_only_state, tier_state}
 use Rattle.tier_engine.specs.Storing.{has_group}
 use Rattle.abstract_tier.specs.TierStates.{TierState}
 use Rattle.tier_engine.proofs.GroupSteps.{same_names}
 use Rattle.tier_engine.proofs.ReadLaws.{found_called}
-
--- LOAD of a name that no READONLY group has
-pub unloaded_is : (t : Tier) (log : List Sealed) (name : List ℕ) (b : Bool) → has_group t.groups.items name ≡ b → unloaded (tier_state t log).groups name ≡ cond b not_yet (unknown_group name)
-unloaded_is t log name b e = ap (λ c. cond c not_yet (unknown_group name)) (sym (same_names (own_in t.session) t.groups.items name) ∙ e)
 
 -- ttCacheAutorefresh of such a name
 pub unfit_is : (t : Tier) (log : List Sealed) (name : List ℕ) (b : Bool) → has_group t.groups.items name ≡ b → unfit_group (tier_state t log).groups name ≡ cond b (wrong_state name) (unknown_group name)

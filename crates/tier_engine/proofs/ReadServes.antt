@@ -28,7 +28,7 @@ use Rattle.abstract_tier.specs.declared.reply.Last.TheVariants.{Done, No}
 use Rattle.tier_engine.specs.declared.tier.Session.{Session}
 use Rattle.tier_engine.specs.declared.tier.Tier.{Tier}
 use Rattle.abstract_tier.specs.Answers.{faulty, only}
-use Rattle.abstract_tier.specs.ReadOnlyAnswers.{instances_at, load_fault, refreshed_set, unloaded}
+use Rattle.abstract_tier.specs.ReadOnlyAnswers.{instances_at, load_fault, refreshed_set, unknown_group}
 use Rattle.abstract_tier.specs.ReadOnlyStates.{ReadOnlyState, Which, is_in_set, loaded_with, of_set}
 use Rattle.tier_engine.specs.ReadOnlyStoring.{LoadsStored, Reads, load_after, load_tables, load_told, root_shown}
 use Rattle.tier_engine.specs.Standing.{InOpen, Mark, ServesPart, StandsFor, own_in, read_only_state, session_state, tier_state, world_of}
@@ -63,13 +63,13 @@ idle_wants before f m t reply P told log held e stands apart =
 
 -- LOAD of a name that no READONLY group has
 pub load_unknown : (before : Option Held) (f : ℕ) (m : Mark) (t : Tier) (load : Load) (reply : Reply) → IsSome t.session → position (stored.is_named load.group) t.read_only ≡ None
-    → ((log : List Sealed) → reply ≡ only (No (unloaded (tier_state t log).groups load.group))) → ServesPart before before f f m m t t reply (λ w w'. InOpen w.tier.session (statement.Load load) w w' reply ⊎ WantsMemory w w' reply)
+    → reply ≡ only (No (unknown_group load.group)) → ServesPart before before f f m m t t reply (λ w w'. InOpen w.tier.session (statement.Load load) w w' reply ⊎ WantsMemory w w' reply)
 load_unknown before f m t load reply some none told =
     idle_statement before f m t reply (statement.Load load) some
     (λ log h s is.
     let w = world_of t log h f m in
-    subst (λ (p : Option ℕ). LoadsAt (session_state s) load p w w reply) (sym (called t.read_only load.group ∙ none)) (refl, told log))
-    (λ b. no_refusal (unloaded (tier_state t []).groups load.group) (subst TellsBankFault (told []) b))
+    subst (λ (p : Option ℕ). LoadsAt (session_state s) load p w w reply) (sym (called t.read_only load.group ∙ none)) (refl, told))
+    (λ b. no_refusal (unknown_group load.group) (subst TellsBankFault told b))
 
 -- what is done at the place of a stored READONLY group is done to that of the abstract tier
 at_place : (t : Tier) (log : List Sealed) (h : List Entry) (f : ℕ) (m : Mark) (w' : World) (load : Load) (place : ℕ) (g : ReadOnlyGroup) (s : Session) (reply : Reply) → t.session ≡ Some s

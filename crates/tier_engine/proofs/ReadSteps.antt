@@ -26,7 +26,7 @@ use Rattle.outside.specs.declared.site.Snapshot.{Snapshot}
 use Rattle.tier_engine.specs.declared.tier.Group.{Group}
 use Rattle.tier_engine.specs.declared.tier.Session.{Session}
 use Rattle.tier_engine.specs.declared.tier.Tier.{Tier}
-use Rattle.abstract_tier.specs.Commits.{RiseBetween}
+use Rattle.order_laws.specs.Commits.{RiseBetween}
 use Rattle.abstract_tier.specs.ReadOnlyStates.{ReadOnlyState, Which, alone, is_shown_in_set, loaded_with, of_set, shown_at, shown_from, shown_rows}
 use Rattle.tier_engine.specs.ReadOnlyStoring.{Reads, StaysAround, TierRead, after_with, load_after, load_tables, root_shown, tables_with}
 use Rattle.tier_engine.specs.Standing.{AreDefined, AreDistinct, HasOwnKeys, IsApart, Mark, ShowAll, StandsFor, group_state, is_stored, ops_of, own_in, read_only_state, session_in, tier_state, world_of}

@@ -3,7 +3,6 @@ use Rattle.std.proofs.Common.{ℕ, ◌⊎◌, List, [], ◌∷◌, Option, Some,
 use Rattle.std.specs.List.{slice_get}
 use Rattle.tier_base.specs.declared.number.TableId.{TableId}
 use Rattle.row_types.specs.declared.rule.Rule.{Rule}
-use Rattle.sql_subset.specs.declared.request.OpenOptions.{OpenOptions}
 use Rattle.sql_subset.specs.declared.request.Request.TheVariants as asks_for
 use Rattle.sql_subset.specs.declared.stmt.CreateGroup.{CreateGroup}
 use Rattle.sql_subset.specs.declared.stmt.Select.{Select as OneSelect}
@@ -73,8 +72,8 @@ by_quiet w w' a reply clean q x = clean (subst TellsBankFault q.1 x)
 pub by_memory : (w w' : World) (reply : Reply) → WantsMemory w w' reply → TellsBankFault reply → ⊥
 by_memory w w' reply q x = no_memory (subst TellsBankFault q.1 x)
 
-pub open_tells : (label : List ℕ) (options : OpenOptions) (reply : Reply) (w w' : World) → Quiet w (open_answer w.tier label options) w' reply → TellsBankFault reply → ⊥
-open_tells label options reply w w' q = by_quiet w w' (open_answer w.tier label options) reply (clean_unless w.tier (open_fault w.tier.session label options) _ (clean_done 0)) q
+pub open_tells : (label : List ℕ) (reply : Reply) (w w' : World) → Quiet w (open_answer w.tier label) w' reply → TellsBankFault reply → ⊥
+open_tells label reply w w' q = by_quiet w w' (open_answer w.tier label) reply (clean_unless w.tier (open_fault w.tier.session label) _ (clean_done 0)) q
 
 pub close_tells : (label : List ℕ) (reply : Reply) (w w' : World) → DoesRequest label asks_for.Close w w' reply → TellsBankFault reply → ⊥
 close_tells label reply w w' q = by_session (session_of w.tier label) q

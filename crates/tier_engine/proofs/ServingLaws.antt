@@ -22,11 +22,11 @@ use Rattle.row_types.specs.declared.rule.Rule.{Rule}
 use Rattle.table_state.specs.declared.operation.Op.{Op}
 use Rattle.abstract_tier.specs.declared.reply.Last.TheVariants.{No}
 use Rattle.abstract_tier.specs.ReadOnlyAnswers.{refreshed_set}
-use Rattle.abstract_tier.specs.Refusals.{too_long, unknown_session}
+use Rattle.abstract_tier.specs.Refusals.{not_yet, too_long, unknown_session}
 use Rattle.abstract_tier.specs.Answers.{only, faulty, refuses}
 use Rattle.sql_subset.specs.declared.stmt.Call.{Call}
 use Rattle.sql_subset.specs.declared.stmt.Stmt.TheVariants as statement
-use Rattle.abstract_tier.specs.Steps.{World, AreUnshared, IsUnshared, told, Quiet, Autorefreshes, Calls, call_fault, is_autorefresh, is_long, Drains, Heeds, Asked, Does, ForSession, Parts, TellsBankFault, WantsMemory, asks, stopped}
+use Rattle.abstract_tier.specs.Steps.{World, AreUnshared, DoesLine, IsUnshared, is_undone, told, Quiet, Autorefreshes, Calls, call_fault, is_autorefresh, is_long, Drains, Heeds, Asked, Does, ForSession, Parts, TellsBankFault, WantsMemory, asks, stopped}
 use Rattle.tier_engine.specs.Storing.{place_named}
 use Rattle.tier_engine.specs.Standing.{IsApart, Mark, StandsFor, InOpen, Made, Turns, Serves, ServesPart, AskServes, AsksWhere, tier_state, group_state, session_in, world_of}
 
@@ -310,11 +310,32 @@ opened_part before now f f' m m' t t' reply st label opened part =
       | inr q ↦ inr q
     ]) part
 
+-- A line that the tier doesn't do yet.
+pub undone_part : (before : Option Held) (f : ℕ) (m : Mark) (t : Tier) (reply : Reply) (line : Line) → ((log : List Sealed) → true ≡ is_undone (tier_state t log) line) → reply ≡ only (No not_yet)
+    → ServesPart before before f f m m t t reply (λ w w'. DoesLine line w w' reply)
+undone_part before f m t reply line undone e log held told stands apart =
+    let w = world_of t log held.history f m in
+    record {
+      log' = log;
+      held' = held;
+      tells = told;
+      slots = refl;
+      stands = stands;
+      made = (subst (λ (b : Bool). MatchBool b (Quiet w (refuses w.tier not_yet) w reply) (Parts line w w reply)) (undone log) (refl, e), λ b. absurd (no_refusal not_yet (subst TellsBankFault e b)));
+    }
+
+-- A line that it does.
+pub done_part : (before now : Option Held) (f f' : ℕ) (m m' : Mark) (t t' : Tier) (reply : Reply) (line : Line) → ((log : List Sealed) → false ≡ is_undone (tier_state t log) line)
+    → ServesPart before now f f' m m' t t' reply (λ w w'. Parts line w w' reply) → ServesPart before now f f' m m' t t' reply (λ w w'. DoesLine line w w' reply)
+done_part before now f f' m m' t t' reply line does part =
+    part_as before now f f' m m' t t' reply (λ w w'. Parts line w w' reply) (λ w w'. DoesLine line w w' reply)
+    (λ log h w' p. subst (λ (b : Bool). MatchBool b (Quiet (world_of t log h f m) (refuses (tier_state t log) not_yet) w' reply) (Parts line (world_of t log h f m) w' reply)) (does log) p) part
+
 -- What a line says was served.
 pub heeds_part : (before now : Option Held) (f f' : ℕ) (m m' : Mark) (t t' : Tier) (reply : Reply) (bytes : List ℕ) (line : Line) → Means bytes (Says line)
-    → ServesPart before now f f' m m' t t' reply (λ w w'. Parts line w w' reply) → ServesPart before now f f' m m' t t' reply (λ w w'. Heeds w bytes w' reply)
+    → ServesPart before now f f' m m' t t' reply (λ w w'. DoesLine line w w' reply) → ServesPart before now f f' m m' t t' reply (λ w w'. Heeds w bytes w' reply)
 heeds_part before now f f' m m' t t' reply bytes line means part =
-    part_as before now f f' m m' t t' reply (λ w w'. Parts line w w' reply) (λ w w'. Heeds w bytes w' reply) (λ log h w' p. inl (Says line, means, p)) part
+    part_as before now f f' m m' t t' reply (λ w w'. DoesLine line w w' reply) (λ w w'. Heeds w bytes w' reply) (λ log h w' p. inl (Says line, means, p)) part
 
 pub not_true : (b : Bool) → not b ≡ true → b ≡ false
 not_true true p = sym p

@@ -13,7 +13,7 @@ use Rattle.table_state.specs.Tables.{TableState, table_at}
 use Rattle.table_state.specs.Operations.{applied_all, table_of}
 use Rattle.tier_engine.specs.declared.tier.Tier.{Tier}
 use Rattle.tier_engine.specs.declared.tier.Group.{Group}
-use Rattle.abstract_tier.specs.Commits.{RiseBetween}
+use Rattle.order_laws.specs.Commits.{RiseBetween}
 use Rattle.group_defs.specs.GroupRules.{is_joined}
 use Rattle.tier_engine.specs.Standing.{StandsFor, Shows, ShowAll, HasOwnKeys, bare, group_state, inserts_at, is_insert, is_in_group, is_stored, ops_of, own_in, tier_state, session_in}
 use Rattle.tier_engine.proofs.GroupedLaws.{cover, defined_as, distinct_as}

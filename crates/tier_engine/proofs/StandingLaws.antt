@@ -14,7 +14,7 @@ use Rattle.abstract_tier.specs.declared.reply.Reply.{Reply}
 use Rattle.tier_engine.specs.declared.tier.Tier.{Tier}
 use Rattle.tier_engine.specs.declared.tier.Group.{Group}
 use Rattle.tier_engine.specs.declared.tier.Session.{Session}
-use Rattle.abstract_tier.specs.Commits.{RiseBetween}
+use Rattle.order_laws.specs.Commits.{RiseBetween}
 use Rattle.abstract_tier.specs.TierStates.{TierState, seen, is_named, group_of_table}
 use Rattle.abstract_tier.specs.Answers.{faulty}
 use Rattle.abstract_tier.specs.Steps.{World, WantsMemory}

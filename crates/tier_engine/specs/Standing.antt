@@ -27,7 +27,8 @@ use Rattle.tier_engine.specs.declared.tier.Group.{Group}
 use Rattle.tier_engine.specs.declared.tier.OwnKey.{OwnKey}
 use Rattle.tier_engine.specs.declared.tier.Session.{Session}
 use Rattle.abstract_tier.specs.declared.reply.Reply.{Reply}
-use Rattle.abstract_tier.specs.Commits.{RiseBetween, virtual_state, in_commit_order, own_entries}
+use Rattle.order_laws.specs.Commits.{RiseBetween, virtual_state}
+use Rattle.abstract_tier.specs.Commits.{in_commit_order, own_entries}
 use Rattle.autorefresh.specs.declared.group.ReadOnlyGroup.{ReadOnlyGroup}
 use Rattle.autorefresh.specs.declared.group.Shown.{Shown}
 use Rattle.autorefresh.specs.Refreshes.{tree_tables}

@@ -28,6 +28,8 @@ use Rattle.indexed_rows.specs.Rows.{key_of}
 use Rattle.autorefresh.specs.declared.group.ReadOnlyGroup.{ReadOnlyGroup}
 use Rattle.autorefresh.specs.Sets.{covers, is_named as is_called, is_of_table}
 use Rattle.abstract_tier.specs.declared.reply.Reply.{Reply}
+use Rattle.abstract_tier.specs.declared.rounds.RoundFault.{RoundFault}
+use Rattle.abstract_tier.specs.declared.rounds.RoundFault.TheVariants as stop
 use Rattle.abstract_tier.specs.declared.reply.Last.TheVariants.{Done, No}
 use Rattle.tier_engine.specs.declared.tier.Group.{Group}
 use Rattle.tier_engine.specs.declared.tier.OwnKey.{OwnKey}
@@ -134,6 +136,13 @@ pub record Settles (told told' : Option Held) (faults faults' : ℕ) (mark mark'
   pub later : mark.moment ≤ mark'.moment
   pub shares : mark'.shared ≡ mark.shared
   pub cause : IsErrOf result Failed → Rose faults faults'
+
+-- the name, by these names of tables, of the one whose row differs
+abbrev pub NamesDifference : (TableId → Option (List ℕ)) → Result ℕ RoundFault → Option (List ℕ) → Type 0
+NamesDifference names (Ok n) name = Unit {0}
+NamesDifference names (Err stop.Failed) name = Unit {0}
+NamesDifference names (Err stop.Memory) name = Unit {0}
+NamesDifference names (Err (stop.Differs table key)) name = name ≡ names table
 
 -- a writethrough group has this name
 abbrev pub has_group : List Group → List ℕ → Bool

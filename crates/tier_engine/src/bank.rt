@@ -7,7 +7,7 @@ ghost use Rattle.outside.specs.declared.fault.BankError.{BankError as OneBankErr
 ghost use Rattle.table_defs.specs.declared.definition.TableDef.{TableDef as OneDef};
 ghost use Rattle.table_state.specs.declared.history.Sealed.{Sealed as OneSealed};
 ghost use Rattle.row_types.specs.declared.rule.Detail.TheVariants as detail;
-ghost use Rattle.table_defs.specs.Declarations.{IsRefusedBy, Tells, resolved};
+ghost use Rattle.table_defs.specs.Declarations.{IsChecked, IsRefusedBy, Tells, resolved};
 ghost use Rattle.sql_subset.specs.declared.request.ConsoleRequest.TheVariants as console;
 ghost use Rattle.tier_engine.specs.Standing.{AskServes, IsApart, Made, StandsFor, mark_of};
 ghost use Rattle.abstract_tier.specs.Steps.{Asked, DoesConsole, TellsBankFault, WantsMemory, bank_fault, cached_fault, stopped};
@@ -89,7 +89,8 @@ impl Tier {
 
     /// Makes a table. All memory is taken before the call of the bank.
     fn define<P: Site>(&mut self, alloc: Global, site: &mut P, def: TableDef) -> Reply
-        requires { IsSome self.old.known }
+        requires known { IsSome self.old.known }
+        requires checked { IsChecked def }
         ensures { Makes (P.Disk.held site.old) (P.Disk.held site.new) (P.bank_faults site.old) (P.bank_faults site.new) (mark_of (P.Disk.moment site.old) (P.Disk.shared site.old)) (mark_of (P.Disk.moment site.new) (P.Disk.shared site.new)) self.old self.new def result }
     {
         let Some(known) = &mut self.known else {

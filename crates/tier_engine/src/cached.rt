@@ -1,6 +1,6 @@
 //! Statements on cached tables.
 
-ghost use Rattle.std.specs.Prelude.{◌≡◌, ◌<◌, ◌≤◌, ◌⊎◌, List, IfOk, IfSome, IsSome, Some, length, position, slice_get};
+ghost use Rattle.std.specs.Prelude.{◌≡◌, ⊥, ◌<◌, ◌≤◌, ◌⊎◌, List, IfOk, IfSome, IsSome, Some, length, position, slice_get};
 ghost use Rattle.table_state.specs.declared.history.Entry.{Entry};
 ghost use Rattle.table_state.specs.declared.history.Sealed.{Sealed as OneSealed};
 ghost use Rattle.table_defs.specs.Declarations.{Tells};
@@ -13,7 +13,8 @@ ghost use Rattle.abstract_tier.specs.Answers.{select_answer};
 ghost use Rattle.tier_engine.specs.ReadOnlyStoring.{SelectsShown, root_shown};
 ghost use Rattle.abstract_tier.specs.TierStates.{TierState};
 ghost use Rattle.tier_engine.specs.Standing.{InOpen, ServesPart, StandsFor, Turns, mark_of, own_in};
-ghost use Rattle.abstract_tier.specs.Steps.{WantsMemory};
+ghost use Rattle.outside.specs.Faults.{Rose};
+ghost use Rattle.abstract_tier.specs.Steps.{TellsBankFault, WantsMemory};
 ghost use Rattle.tier_engine.specs.Storing.{Puts, Settles, place_named};
 ghost use Rattle.tier_engine.specs.declared.tier.Group.{Group as OneGroup};
 
@@ -38,6 +39,7 @@ impl Tier {
         ensures step { ServesPart (P.Disk.held site.old) (P.Disk.held site.new) (P.bank_faults site.old) (P.bank_faults site.new) (mark_of (P.Disk.moment site.old) (P.Disk.shared site.old)) (mark_of (P.Disk.moment site.new) (P.Disk.shared site.new)) self.old self.new result (λ w w'. InOpen w.tier.session (statement.Insert insert) w w' result ⊎ WantsMemory w w' result) }
         ensures later { P.bank_faults site.old ≤ P.bank_faults site.new }
         ensures shares { P.Disk.shared site.new ≡ P.Disk.shared site.old }
+        ensures cause { TellsBankFault result → Rose (P.bank_faults site.old) (P.bank_faults site.new) }
     {
         let Insert { table, values } = insert;
         let Some(place) = place_of_group(self.groups.as_slice(), &table) else {
@@ -112,6 +114,7 @@ impl Tier {
     pub fn select(&self, alloc: Global, select: Select) -> Reply
         requires { IsSome self.now.session }
         ensures step { (log : List OneSealed) (history : List Entry) → StandsFor self.now log history → Turns self.now self.now log history (λ w w'. InOpen w.tier.session (statement.Select select) w w' result ⊎ WantsMemory w w' result) }
+        ensures plain { TellsBankFault result → ⊥ }
     {
         let Select { table } = select;
         let Some(place) = place_of_group(self.groups.as_slice(), &table) else {

@@ -1,11 +1,11 @@
 //! COMMIT.
 
-ghost use Rattle.std.specs.Prelude.{◌≡◌, ◌+◌, ◌<◌, ◌≤◌, ◌⊎◌, List, IsSome, Some, length};
+ghost use Rattle.std.specs.Prelude.{◌≡◌, ⊥, ◌+◌, ◌<◌, ◌≤◌, ◌⊎◌, List, IsSome, Some, length};
 ghost use Rattle.table_state.specs.declared.history.Entry.{Entry};
 ghost use Rattle.table_state.specs.declared.history.Sealed.{Sealed as OneSealed};
 ghost use Rattle.sql_subset.specs.declared.stmt.Stmt.TheVariants as statement;
 ghost use Rattle.tier_engine.specs.Standing.{InOpen, StandsFor, Turns, own_in};
-ghost use Rattle.abstract_tier.specs.Steps.{WantsMemory};
+ghost use Rattle.abstract_tier.specs.Steps.{TellsBankFault, WantsMemory};
 ghost use Rattle.tier_engine.specs.Storing.{SealsOr};
 ghost use Rattle.tier_engine.specs.declared.tier.Session.{Session as OneSession};
 
@@ -24,6 +24,7 @@ impl Tier {
     pub fn commit(&mut self, alloc: Global) -> Reply
         requires { IsSome self.old.session }
         ensures step { (log : List OneSealed) (history : List Entry) → StandsFor self.old log history → Turns self.old self.new log history (λ w w'. InOpen w.tier.session statement.Commit w w' result ⊎ WantsMemory w w' result) }
+        ensures plain { TellsBankFault result → ⊥ }
     {
         if self.written() == 0 {
             return Reply::done(alloc, 0);

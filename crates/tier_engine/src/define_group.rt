@@ -1,13 +1,13 @@
 //! CREATE CACHE GROUP.
 
-ghost use Rattle.std.specs.Prelude.{◌≡◌, ◌⊎◌, List, IsSome, option_map, position};
+ghost use Rattle.std.specs.Prelude.{◌≡◌, ⊥, ◌⊎◌, List, IsSome, option_map, position};
 ghost use Rattle.table_state.specs.declared.history.Entry.{Entry};
 ghost use Rattle.table_state.specs.declared.history.Sealed.{Sealed as OneSealed};
 ghost use Rattle.sql_subset.specs.declared.stmt.Stmt.TheVariants as statement;
 ghost use Rattle.autorefresh.specs.Sets.{is_of_table};
 ghost use Rattle.abstract_tier.specs.Answers.{refresh_of};
 ghost use Rattle.tier_engine.specs.Standing.{InOpen, StandsFor, Turns};
-ghost use Rattle.abstract_tier.specs.Steps.{WantsMemory};
+ghost use Rattle.abstract_tier.specs.Steps.{TellsBankFault, WantsMemory};
 ghost use Rattle.tier_engine.specs.Storing.{GroupsOrNot, GroupsReadOrNot, JudgesGroup, beside_stored, is_full, located, located_read};
 
 use crate::cached::place_of_group;
@@ -32,6 +32,7 @@ impl Tier {
     pub fn create_group(&mut self, alloc: Global, declaration: CreateGroup) -> Reply
         requires { IsSome self.old.session }
         ensures step { (log : List OneSealed) (history : List Entry) → StandsFor self.old log history → Turns self.old self.new log history (λ w w'. InOpen w.tier.session (statement.CreateGroup declaration) w w' result ⊎ WantsMemory w w' result) }
+        ensures plain { TellsBankFault result → ⊥ }
     {
         let Some((table, def)) = self.locate(&declaration.table.name) else {
             return Reply::refuses(alloc, unknown_table(table_name(declaration)));

@@ -1,19 +1,20 @@
 //! Laws of the definitions, each on the contract of a function that does nothing.
 
-ghost use Rattle.std.specs.Prelude.{◌++◌, Bool, List};
+ghost use Rattle.std.specs.Prelude.{◌++◌, List};
 ghost use Rattle.outside.specs.Others.{AreOthers};
 ghost use Rattle.tier_base.specs.declared.number.TableId.{TableId};
 ghost use Rattle.table_state.specs.declared.history.Entry.{Entry};
 ghost use Rattle.table_state.specs.declared.history.Sealed.{Sealed};
 ghost use Rattle.tier_engine.specs.declared.tier.Tier.{Tier};
-ghost use Rattle.abstract_tier.specs.Commits.{IsLegal};
+ghost use Rattle.order_laws.specs.Commits.{KeepsCommitOrder};
 ghost use Rattle.abstract_tier.specs.ReadOnlyStates.{ShowCommitted};
 ghost use Rattle.tier_engine.specs.Standing.{IsApart, StandsFor, tier_state};
 
-/// Whatever is called a conflict, a tier stands for committed transactions only over a history that has each of them at
-/// most once, with the operations of its commit, and conflicting ones in commit order.
+/// A tier stands for committed transactions only over a history that has each of them at most once, with the operations
+/// of its commit, and those that conflict in commit order. This project's rule.
 pub fn legal_law()
-    ensures { (tier : Tier) (log : List Sealed) (history : List Entry) → StandsFor tier log history → (conflict : Sealed → Sealed → Bool) → IsLegal conflict history log }
+    ensures { (tier : Tier) (log : List Sealed) (history : List Entry) → StandsFor tier log history
+        → KeepsCommitOrder history log }
 {}
 
 /// A tier stands for the same committed transactions where others change tables of no writethrough group.

@@ -5,14 +5,12 @@ ghost use Rattle.std.specs.FinMap.{len};
 ghost use Rattle.autorefresh.specs.Refreshes.{loaded_alone, refreshed, tables_alone, tables_read};
 ghost use Rattle.sql_subset.specs.declared.stmt.Stmt.TheVariants as statement;
 ghost use Rattle.table_state.specs.declared.history.Sealed.{Sealed as OneSealed};
-ghost use Rattle.abstract_tier.specs.Answers.{only};
-ghost use Rattle.abstract_tier.specs.ReadOnlyAnswers.{refreshed_set, unloaded};
+ghost use Rattle.abstract_tier.specs.ReadOnlyAnswers.{refreshed_set};
 ghost use Rattle.tier_engine.specs.ReadOnlyStoring.{LoadsStored, Reads, load_after, load_tables, root_shown};
 ghost use Rattle.tier_engine.specs.Standing.{InOpen, ServesPart, mark_of, tier_state};
-ghost use Rattle.abstract_tier.specs.Steps.{Autorefreshes, WantsMemory};
-ghost use Rattle.abstract_tier.specs.declared.reply.Last.TheVariants.{No};
+ghost use Rattle.outside.specs.Faults.{Rose};
+ghost use Rattle.abstract_tier.specs.Steps.{Autorefreshes, TellsBankFault, WantsMemory};
 
-use crate::taken::has_group;
 use crate::tier::Tier;
 use abstract_tier::{Reply, bank_fault, named, unknown_group};
 use autorefresh::ReadOnlyGroups;
@@ -28,33 +26,23 @@ impl Tier {
     /// The reply tells how many instances the group shows.
     ///
     /// 112 where no group has the name; 115 where COMMIT EVERY isn't from 0 to 1,000,000 rows or PARALLEL from 1 to 128
-    /// threads, which else change nothing; 116 where the group is loaded; 122 where the session has uncommitted writes. A
-    /// writethrough group isn't loaded yet. Where the snapshot fails, or memory is wanting, each group shows what it
-    /// showed.
+    /// threads, which else change nothing; 116 where the group is loaded; 122 where the session has uncommitted writes.
+    /// Where the snapshot fails, or memory is wanting, each group shows what it showed.
     pub fn load<P: Site>(&mut self, alloc: Global, site: &mut P, load: Load) -> Reply
         requires { IsSome self.old.session }
         ensures step { ServesPart (P.Disk.held site.old) (P.Disk.held site.new) (P.bank_faults site.old) (P.bank_faults site.new) (mark_of (P.Disk.moment site.old) (P.Disk.shared site.old)) (mark_of (P.Disk.moment site.new) (P.Disk.shared site.new)) self.old self.new result (λ w w'. InOpen w.tier.session (statement.Load load) w w' result ⊎ WantsMemory w w' result) }
         ensures later { P.bank_faults site.old ≤ P.bank_faults site.new }
         ensures shares { P.Disk.shared site.new ≡ P.Disk.shared site.old }
+        ensures cause { TellsBankFault result → Rose (P.bank_faults site.old) (P.bank_faults site.new) }
     {
         let Some(place) = self.read_only.find(&load.group) else {
-            return self.refuse_load(alloc, load.group);
+            return Reply::refuses(alloc, unknown_group(load.group));
         };
         match self.judge_load(alloc, place, &load) {
             Err(Refused::Rule(rule)) => Reply::refuses(alloc, rule),
             Err(Refused::Memory) => Reply::faulty(alloc, Code::Memory),
             Ok(()) => self.load_at(alloc, site, place),
         }
-    }
-
-    /// What refuses LOAD of a name that no READONLY group has.
-    fn refuse_load(&self, alloc: Global, name: Name) -> Reply
-        ensures { (log : List OneSealed) → result ≡ only (No (unloaded (tier_state self.now log).groups name)) }
-    {
-        if has_group(self.groups.as_slice(), &name) {
-            return Reply::not_yet(alloc);
-        }
-        Reply::refuses(alloc, unknown_group(name))
     }
 
     /// Loads the READONLY group at a place, and answers how many instances it shows.
@@ -161,6 +149,7 @@ impl Tier {
         ensures step { ServesPart (P.Disk.held site.old) (P.Disk.held site.new) (P.bank_faults site.old) (P.bank_faults site.new) (mark_of (P.Disk.moment site.old) (P.Disk.shared site.old)) (mark_of (P.Disk.moment site.new) (P.Disk.shared site.new)) self.old self.new result (λ w w'. Autorefreshes (refreshed_set w.tier arguments.now) w w' result ⊎ WantsMemory w w' result) }
         ensures later { P.bank_faults site.old ≤ P.bank_faults site.new }
         ensures shares { P.Disk.shared site.new ≡ P.Disk.shared site.old }
+        ensures cause { TellsBankFault result → Rose (P.bank_faults site.old) (P.bank_faults site.new) }
     {
         match self.judge_set(alloc, arguments.as_slice()) {
             Err(Refused::Rule(rule)) => Reply::refuses(alloc, rule),
@@ -174,6 +163,7 @@ impl Tier {
         ensures step { ServesPart (P.Disk.held site.old) (P.Disk.held site.new) (P.bank_faults site.old) (P.bank_faults site.new) (mark_of (P.Disk.moment site.old) (P.Disk.shared site.old)) (mark_of (P.Disk.moment site.new) (P.Disk.shared site.new)) self.old self.new result (λ w w'. Autorefreshes (Ok interval) w w' result) }
         ensures later { P.bank_faults site.old ≤ P.bank_faults site.new }
         ensures shares { P.Disk.shared site.new ≡ P.Disk.shared site.old }
+        ensures cause { TellsBankFault result → Rose (P.bank_faults site.old) (P.bank_faults site.new) }
     {
         let count = self.read_only.count_of_set(interval);
         if !self.read_only.has_something_to_show(interval) {

@@ -8,9 +8,11 @@ ghost use Rattle.sql_subset.specs.declared.request.Request.TheVariants as asks_f
 ghost use Rattle.sql_subset.specs.Lines.{is_silent};
 ghost use Rattle.abstract_tier.specs.Refusals.{wrong_at};
 ghost use Rattle.tier_engine.specs.Standing.{ServesPart, mark_of, tier_state};
-ghost use Rattle.abstract_tier.specs.Steps.{Heeds, Parts, console_asks, request_asks};
+ghost use Rattle.outside.specs.Faults.{Rose};
+ghost use Rattle.abstract_tier.specs.Steps.{DoesLine, Heeds, Parts, TellsBankFault, console_asks, is_undone, request_asks};
 
 use crate::console::writes_uncached;
+use crate::taken::has_group;
 use crate::tier::Tier;
 use abstract_tier::{Reply, wrong_at};
 use group_defs::past;
@@ -29,6 +31,7 @@ impl Tier {
         ensures step { ServesPart (P.Disk.held site.old) (P.Disk.held site.new) (P.bank_faults site.old) (P.bank_faults site.new) (mark_of (P.Disk.moment site.old) (P.Disk.shared site.old)) (mark_of (P.Disk.moment site.new) (P.Disk.shared site.new)) self.old self.new result (λ w w'. Heeds w line.now w' result) }
         ensures later { P.bank_faults site.old ≤ P.bank_faults site.new }
         ensures shares { P.Disk.shared site.new ≡ P.Disk.shared site.old }
+        ensures cause { TellsBankFault result → Rose (P.bank_faults site.old) (P.bank_faults site.new) }
     {
         match parse_line(alloc, line) {
             Ok(None) => unreachable!(),
@@ -39,10 +42,37 @@ impl Tier {
         }
     }
 
+    /// Answers what a line says: 101 at byte 0 where the tier doesn't do it yet.
     fn serve_line<P: Site>(&mut self, alloc: Global, site: &mut P, line: Line) -> Reply
+        ensures step { ServesPart (P.Disk.held site.old) (P.Disk.held site.new) (P.bank_faults site.old) (P.bank_faults site.new) (mark_of (P.Disk.moment site.old) (P.Disk.shared site.old)) (mark_of (P.Disk.moment site.new) (P.Disk.shared site.new)) self.old self.new result (λ w w'. DoesLine line w w' result) }
+        ensures later { P.bank_faults site.old ≤ P.bank_faults site.new }
+        ensures shares { P.Disk.shared site.new ≡ P.Disk.shared site.old }
+        ensures cause { TellsBankFault result → Rose (P.bank_faults site.old) (P.bank_faults site.new) }
+    {
+        if self.is_undone(&line) {
+            return Reply::not_yet(alloc);
+        }
+        self.serve_parts(alloc, site, line)
+    }
+
+    /// Whether the tier doesn't do yet what the line says.
+    fn is_undone(&self, line: &Line) -> bool
+        ensures { (log : List OneSealed) → result ≡ is_undone (tier_state self.now log) line.now }
+    {
+        match line {
+            Line::Session(_, Request::Open(options)) => options.passthrough != 0 || options.durable,
+            Line::Session(_, Request::Statement(Stmt::Load(load))) => {
+                has_group(self.groups.as_slice(), &load.group)
+            }
+            _ => false,
+        }
+    }
+
+    fn serve_parts<P: Site>(&mut self, alloc: Global, site: &mut P, line: Line) -> Reply
         ensures step { ServesPart (P.Disk.held site.old) (P.Disk.held site.new) (P.bank_faults site.old) (P.bank_faults site.new) (mark_of (P.Disk.moment site.old) (P.Disk.shared site.old)) (mark_of (P.Disk.moment site.new) (P.Disk.shared site.new)) self.old self.new result (λ w w'. Parts line w w' result) }
         ensures later { P.bank_faults site.old ≤ P.bank_faults site.new }
         ensures shares { P.Disk.shared site.new ≡ P.Disk.shared site.old }
+        ensures cause { TellsBankFault result → Rose (P.bank_faults site.old) (P.bank_faults site.new) }
     {
         match line {
             Line::Session(label, request) => self.serve_request(alloc, site, label, request),
@@ -60,9 +90,10 @@ impl Tier {
         ensures step { ServesPart (P.Disk.held site.old) (P.Disk.held site.new) (P.bank_faults site.old) (P.bank_faults site.new) (mark_of (P.Disk.moment site.old) (P.Disk.shared site.old)) (mark_of (P.Disk.moment site.new) (P.Disk.shared site.new)) self.old self.new result (λ w w'. Parts (says.Session label request) w w' result) }
         ensures later { P.bank_faults site.old ≤ P.bank_faults site.new }
         ensures shares { P.Disk.shared site.new ≡ P.Disk.shared site.old }
+        ensures cause { TellsBankFault result → Rose (P.bank_faults site.old) (P.bank_faults site.new) }
     {
         match request {
-            Request::Open(options) => self.open_session(alloc, label, options),
+            Request::Open(_) => self.open_session(alloc, label),
             Request::Close => self.close_session(alloc, label),
             Request::Statement(statement) => self.serve_statement(alloc, site, label, statement),
         }
@@ -77,6 +108,7 @@ impl Tier {
         ensures step { ServesPart (P.Disk.held site.old) (P.Disk.held site.new) (P.bank_faults site.old) (P.bank_faults site.new) (mark_of (P.Disk.moment site.old) (P.Disk.shared site.old)) (mark_of (P.Disk.moment site.new) (P.Disk.shared site.new)) self.old self.new result (λ w w'. Parts (says.Console request) w w' result) }
         ensures later { P.bank_faults site.old ≤ P.bank_faults site.new }
         ensures shares { P.Disk.shared site.new ≡ P.Disk.shared site.old }
+        ensures cause { TellsBankFault result → Rose (P.bank_faults site.old) (P.bank_faults site.new) }
     {
         match request {
             ConsoleRequest::CreateTable(declaration) => self.serve_create(
@@ -98,6 +130,7 @@ impl Tier {
         ensures step { ServesPart (P.Disk.held site.old) (P.Disk.held site.new) (P.bank_faults site.old) (P.bank_faults site.new) (mark_of (P.Disk.moment site.old) (P.Disk.shared site.old)) (mark_of (P.Disk.moment site.new) (P.Disk.shared site.new)) self.old self.new result (λ w w'. Parts (says.Session label (asks_for.Statement statement)) w w' result) }
         ensures later { P.bank_faults site.old ≤ P.bank_faults site.new }
         ensures shares { P.Disk.shared site.new ≡ P.Disk.shared site.old }
+        ensures cause { TellsBankFault result → Rose (P.bank_faults site.old) (P.bank_faults site.new) }
     {
         let asks = self.asks_before(&label, &statement);
         match self.ask_where(alloc, site, asks) {
@@ -115,6 +148,7 @@ impl Tier {
         ensures step { ServesPart (P.Disk.held site.old) (P.Disk.held site.new) (P.bank_faults site.old) (P.bank_faults site.new) (mark_of (P.Disk.moment site.old) (P.Disk.shared site.old)) (mark_of (P.Disk.moment site.new) (P.Disk.shared site.new)) self.old self.new result (λ w w'. Parts (says.Console (console.CreateTable declaration.now)) w w' result) }
         ensures later { P.bank_faults site.old ≤ P.bank_faults site.new }
         ensures shares { P.Disk.shared site.new ≡ P.Disk.shared site.old }
+        ensures cause { TellsBankFault result → Rose (P.bank_faults site.old) (P.bank_faults site.new) }
     {
         let asks = self.asks_before_create(declaration);
         match self.ask_where(alloc, site, asks) {
@@ -127,6 +161,7 @@ impl Tier {
         ensures step { ServesPart (P.Disk.held site.old) (P.Disk.held site.new) (P.bank_faults site.old) (P.bank_faults site.new) (mark_of (P.Disk.moment site.old) (P.Disk.shared site.old)) (mark_of (P.Disk.moment site.new) (P.Disk.shared site.new)) self.old self.new result (λ w w'. Parts (says.Console (console.Writes writes)) w w' result) }
         ensures later { P.bank_faults site.old ≤ P.bank_faults site.new }
         ensures shares { P.Disk.shared site.new ≡ P.Disk.shared site.old }
+        ensures cause { TellsBankFault result → Rose (P.bank_faults site.old) (P.bank_faults site.new) }
     {
         let asks = self.asks_before_writes(writes.as_slice());
         match self.ask_where(alloc, site, asks) {

@@ -1,6 +1,6 @@
 //! OPEN, CLOSE and ROLLBACK.
 
-ghost use Rattle.std.specs.Prelude.{◌≡◌, List, IfErr, IfOk, IsSome, None, Some};
+ghost use Rattle.std.specs.Prelude.{◌≡◌, ⊥, List, IfErr, IfOk, IsSome, None, Some};
 ghost use Rattle.std.specs.Result.{OnOk};
 ghost use Rattle.table_state.specs.declared.history.Entry.{Entry};
 ghost use Rattle.table_state.specs.declared.history.Sealed.{Sealed as OneSealed};
@@ -9,22 +9,22 @@ ghost use Rattle.sql_subset.specs.declared.stmt.Stmt.TheVariants as statement;
 ghost use Rattle.abstract_tier.specs.Answers.{open_answer};
 ghost use Rattle.abstract_tier.specs.Refusals.{open_fault, unknown_session};
 ghost use Rattle.tier_engine.specs.Standing.{InOpen, StandsFor, Turns, session_in};
-ghost use Rattle.abstract_tier.specs.Steps.{DoesRequest, Quiet};
+ghost use Rattle.abstract_tier.specs.Steps.{DoesRequest, Quiet, TellsBankFault};
 ghost use Rattle.tier_engine.specs.Storing.{TakesBack, TakesOneBack, TakenOff};
 
 use crate::tier::{OwnKey, Session, Tier};
 use abstract_tier::{Reply, unknown_session};
 use row_types::{Detail, Rule};
-use sql_subset::request::OpenOptions;
 use std::alloc::Global;
 use tier_base::{Code, Label, Limit, Seq};
 
 impl Tier {
     /// OPEN. 113 where the session is open, 119 where another one is. It takes no memory.
-    pub fn open_session(&mut self, alloc: Global, label: Label, options: OpenOptions) -> Reply
-        ensures step { (log : List OneSealed) (history : List Entry) → StandsFor self.old log history → Turns self.old self.new log history (λ w w'. Quiet w (open_answer w.tier label options) w' result) }
+    pub fn open_session(&mut self, alloc: Global, label: Label) -> Reply
+        ensures step { (log : List OneSealed) (history : List Entry) → StandsFor self.old log history → Turns self.old self.new log history (λ w w'. Quiet w (open_answer w.tier label) w' result) }
+        ensures plain { TellsBankFault result → ⊥ }
     {
-        match judge_open(&self.session, label, options) {
+        match judge_open(&self.session, label) {
             Err(rule) => Reply::refuses(alloc, rule),
             Ok(label) => {
                 self.session = Some(Session {
@@ -40,6 +40,7 @@ impl Tier {
     /// CLOSE: rolls back and ends the session. 123 where it isn't open. It takes no memory.
     pub fn close_session(&mut self, alloc: Global, label: Label) -> Reply
         ensures step { (log : List OneSealed) (history : List Entry) → StandsFor self.old log history → Turns self.old self.new log history (λ w w'. DoesRequest label asks_for.Close w w' result) }
+        ensures plain { TellsBankFault result → ⊥ }
     {
         if !self.is_open(&label) {
             return Reply::refuses(alloc, unknown_session(label));
@@ -53,6 +54,7 @@ impl Tier {
     pub fn rollback(&mut self, alloc: Global) -> Reply
         requires { IsSome self.old.session }
         ensures step { (log : List OneSealed) (history : List Entry) → StandsFor self.old log history → Turns self.old self.new log history (λ w w'. InOpen w.tier.session statement.Rollback w w' result) }
+        ensures plain { TellsBankFault result → ⊥ }
     {
         self.take_back();
         Reply::done(alloc, 0)
@@ -96,17 +98,13 @@ fn take_off(session: &mut Option<Session>) -> Option<OwnKey>
 }
 
 /// Why OPEN is refused, or else the label.
-fn judge_open(session: &Option<Session>, label: Label, options: OpenOptions) -> Result<Label, Rule>
+fn judge_open(session: &Option<Session>, label: Label) -> Result<Label, Rule>
     ensures taken { IfOk result (λ same. same ≡ label) }
-    ensures sound { OnOk result (open_fault (session_in session.now) label options ≡ None) }
-    ensures refused { IfErr result (λ rule. open_fault (session_in session.now) label options ≡ Some rule) }
+    ensures sound { OnOk result (open_fault (session_in session.now) label ≡ None) }
+    ensures refused { IfErr result (λ rule. open_fault (session_in session.now) label ≡ Some rule) }
 {
     match session {
-        None if options.passthrough == 0 && !options.durable => Ok(label),
-        None => Err(Rule {
-            code: Code::Syntax,
-            detail: Detail::Byte(0),
-        }),
+        None => Ok(label),
         Some(session) if session.label.as_bytes() == label.as_bytes() => Err(Rule {
             code: Code::NameInUse,
             detail: Detail::Label(label),

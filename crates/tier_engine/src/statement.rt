@@ -4,7 +4,8 @@ ghost use Rattle.std.specs.Prelude.{◌≡◌, ◌≤◌, ◌⊎◌, List, IsSom
 ghost use Rattle.table_state.specs.declared.history.Sealed.{Sealed as OneSealed};
 ghost use Rattle.sql_subset.specs.declared.stmt.Stmt.TheVariants as statement;
 ghost use Rattle.tier_engine.specs.Standing.{InOpen, ServesPart, mark_of, tier_state};
-ghost use Rattle.abstract_tier.specs.Steps.{ForSession, WantsMemory, is_autorefresh, is_cached, is_writethrough, names_uncached};
+ghost use Rattle.outside.specs.Faults.{Rose};
+ghost use Rattle.abstract_tier.specs.Steps.{ForSession, TellsBankFault, WantsMemory, is_autorefresh, is_cached, is_writethrough, names_uncached};
 ghost use Rattle.abstract_tier.specs.TierStates.{session_of};
 
 use crate::cached::place_of_group;
@@ -27,6 +28,7 @@ impl Tier {
         ensures step { ServesPart (P.Disk.held site.old) (P.Disk.held site.new) (P.bank_faults site.old) (P.bank_faults site.new) (mark_of (P.Disk.moment site.old) (P.Disk.shared site.old)) (mark_of (P.Disk.moment site.new) (P.Disk.shared site.new)) self.old self.new result (λ w w'. ForSession label (session_of w.tier label) statement w w' result ⊎ WantsMemory w w' result) }
         ensures later { P.bank_faults site.old ≤ P.bank_faults site.new }
         ensures shares { P.Disk.shared site.new ≡ P.Disk.shared site.old }
+        ensures cause { TellsBankFault result → Rose (P.bank_faults site.old) (P.bank_faults site.new) }
     {
         if !self.is_open(&label) {
             return Reply::refuses(alloc, unknown_session(label));
@@ -39,6 +41,7 @@ impl Tier {
         ensures step { ServesPart (P.Disk.held site.old) (P.Disk.held site.new) (P.bank_faults site.old) (P.bank_faults site.new) (mark_of (P.Disk.moment site.old) (P.Disk.shared site.old)) (mark_of (P.Disk.moment site.new) (P.Disk.shared site.new)) self.old self.new result (λ w w'. InOpen w.tier.session statement w w' result ⊎ WantsMemory w w' result) }
         ensures later { P.bank_faults site.old ≤ P.bank_faults site.new }
         ensures shares { P.Disk.shared site.new ≡ P.Disk.shared site.old }
+        ensures cause { TellsBankFault result → Rose (P.bank_faults site.old) (P.bank_faults site.new) }
     {
         match statement {
             Stmt::Select(select) => self.select(alloc, select),
@@ -58,6 +61,7 @@ impl Tier {
         ensures step { ServesPart (P.Disk.held site.old) (P.Disk.held site.new) (P.bank_faults site.old) (P.bank_faults site.new) (mark_of (P.Disk.moment site.old) (P.Disk.shared site.old)) (mark_of (P.Disk.moment site.new) (P.Disk.shared site.new)) self.old self.new result (λ w w'. InOpen w.tier.session (statement.Call call) w w' result ⊎ WantsMemory w w' result) }
         ensures later { P.bank_faults site.old ≤ P.bank_faults site.new }
         ensures shares { P.Disk.shared site.new ≡ P.Disk.shared site.old }
+        ensures cause { TellsBankFault result → Rose (P.bank_faults site.old) (P.bank_faults site.new) }
     {
         if is_autorefresh(&call.procedure) {
             return self.autorefresh(alloc, site, &call.arguments);

@@ -2,7 +2,7 @@
 //!
 //! `ttcache run` reads request lines from standard input and writes replies to standard output; `ttcache check` says of
 //! each line whether it is spelt right. It ends with the status that `session_cli::top` answers, or with 11 where the
-//! settings can't be read.
+//! settings can't be read. Of each status other than 0 it says on standard error in one line what happened.
 #![tactic(auto)]
 
 mod streams;
@@ -34,15 +34,32 @@ fn main(rt: HostRuntime) -> ExitCode {
 }
 
 fn status(rt: &HostRuntime) -> u8 {
-    let Some(settings) = settings(rt) else {
-        let _ = eprintln!(rt; "ttcache: cannot open {SETTINGS}");
-        return CANNOT_OPEN;
+    let status = match settings(rt) {
+        Some(settings) => run(rt, settings.as_slice()),
+        None => CANNOT_OPEN,
     };
-    let status = run(rt, settings.as_slice());
-    if status == WRONG_WORDS {
-        let _ = eprintln!(rt; "usage: ttcache run | check");
+    if let Some(meaning) = meaning(status) {
+        let _ = eprintln!(rt; "{meaning}");
     }
     status
+}
+
+// What a status other than 0 says.
+fn meaning(status: u8) -> Option<&'static str> {
+    match status {
+        0 => None,
+        WRONG_WORDS => Some("usage: ttcache run | check"),
+        2 => Some(
+            "ttcache: ttcache.toml has an unknown key, a wrong type or a value out of range",
+        ),
+        3 => Some("ttcache: standard input failed"),
+        4 => Some("ttcache: standard output failed"),
+        6 => Some("ttcache: the backing database failed as it was asked for its tables"),
+        NO_MEMORY => Some("ttcache: memory is wanting"),
+        10 => Some("ttcache: standard input is longer than 4294967296 bytes"),
+        CANNOT_OPEN => Some("ttcache: cannot open ttcache.toml"),
+        _ => Some("ttcache: unknown status"),
+    }
 }
 
 // The bytes of the settings file, none where there is no file.

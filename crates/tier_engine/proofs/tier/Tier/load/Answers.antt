@@ -7,7 +7,7 @@ use Rattle.tier_engine.proofs.ReadServes.{load_done, load_refused, load_unknown}
 use Rattle.tier_engine.proofs.tier.Tier.load.Goals as goal
 
 pub returns-in_default-clause-step : goal.returns-in_default-clause-step
-returns-in_default-clause-step g c = load_unknown _ _ _ c.args.self.now c.args.load c.refuse_load.result c.requires (sym c.find.ensures.place ∙ c.in_default.is) c.refuse_load.ensures
+returns-in_default-clause-step g c = load_unknown _ _ _ c.args.self.now c.args.load c.refuses-in_default.result c.requires (sym c.find.ensures.place ∙ c.in_default.is) (c.refuses-in_default.ensures ∙ ap (λ (r : Rule). only (No r)) c.unknown_group.ensures)
 
 pub returns-in-Err-Rule-clause-step : goal.returns-in-Err-Rule-clause-step
 returns-in-Err-Rule-clause-step g c =

@@ -8,7 +8,7 @@ use Rattle.tier_engine.proofs.tier.Tier.serve_request.Goals as goal
 pub returns-in-Open-clause-step : goal.returns-in-Open-clause-step
 returns-in-Open-clause-step g c =
     parts_as _ _ _ _ _ _ _ _ _ _ _ (ap (says.Session c.args.label) c.in-Open.is)
-    (plain_quiet (says.Session c.args.label (asks_for.Open c.in-Open.options)) _ _ _ _ _ _ (λ x. refl) c.open_session.ensures.step (open_tells c.args.label c.in-Open.options c.open_session.result))
+    (plain_quiet (says.Session c.args.label (asks_for.Open c.in-Open.field-0)) _ _ _ _ _ _ (λ x. refl) c.open_session.ensures.step (open_tells c.args.label c.open_session.result))
 
 pub returns-in-Close-clause-step : goal.returns-in-Close-clause-step
 returns-in-Close-clause-step g c =
