@@ -39,9 +39,18 @@ impl<'a> Plan<'a> {
             "refuse" => parse_refuse(rest),
             "foreign" => parse_foreign(rest),
             "before" => Some(Plan::Before(rest)),
-            "pieces" => rest.parse::<usize>().ok().map(Plan::Pieces),
-            "source" => parse_call(rest).map(Plan::Source),
-            "sink" => parse_call(rest).map(Plan::Sink),
+            "pieces" => {
+                let size = rest.parse::<usize>().ok()?;
+                Some(Plan::Pieces(size))
+            }
+            "source" => {
+                let call = parse_call(rest)?;
+                Some(Plan::Source(call))
+            }
+            "sink" => {
+                let call = parse_call(rest)?;
+                Some(Plan::Sink(call))
+            }
             "settings" => Some(Plan::Settings(rest)),
             "words" => Some(Plan::Words(rest)),
             "joined" => Some(Plan::Joined),

@@ -135,8 +135,14 @@ impl<'a> Stage<'a> {
 
     fn plan(&mut self, alloc: Global, planned: &Planned<'a>) -> Result<(), DrillError> {
         match planned.plan {
-            Plan::Fail(kind, call, when) => self.site.fail(kind, self.number(kind, call), when)?,
-            Plan::Refuse(kind, call) => self.site.refuse(kind, self.number(kind, call))?,
+            Plan::Fail(kind, call, when) => {
+                let number = self.number(kind, call);
+                self.site.fail(kind, number, when)?;
+            }
+            Plan::Refuse(kind, call) => {
+                let number = self.number(kind, call);
+                self.site.refuse(kind, number)?;
+            }
             Plan::Foreign(call, side, text) => {
                 let changes = changes_of(alloc, &self.schema, text, planned.line)?;
                 self.site.foreign_at(call, side, changes)?;
