@@ -28,7 +28,11 @@ pub struct OwnRows {
 
 impl Drop for OwnRows {
     fn drop(self) {
-        let Self { live: _, fresh: _, gone: _ } = self;
+        let Self {
+            live: _,
+            fresh: _,
+            gone: _,
+        } = self;
     }
 }
 

@@ -38,30 +38,30 @@ more_after m k v = by (contains_key m k) (len-insert key_total m k v)
 -- a key takes the room of one
 pub room_mark : (n : ℕ) (keys : List Table) (mark : Mark) → KeysHaveRoom (suc n) keys → KeysHaveRoom n (with_mark mark keys)
 room_mark n keys mark room i m at = elim (cases_eq mark.table.0 i) as (λ d. len m + n < 2 ^ 63) [
-    | inl here ↦ by (slice_get keys mark.table.0) refl here
-    | inr apart ↦
-        let same : slice_get keys i ≡ Some m = sym (set_other keys mark.table.0 i (put_in (keys_at keys mark.table) mark.key.0 mark.key.1) apart) ∙ at in
-        let r = room i m same in omega arith
-  ]
-    where
-      gone : {X : Type 0} (xs : List X) (j : ℕ) (y : X) → slice_get xs j ≡ None → slice_get (slice_set xs j y) j ≡ None
-      gone [] j y e = refl
-      gone (x ∷ xs) zero y e = cc
-      gone (x ∷ xs) (suc j) y e = gone xs j y e
+  | inl here ↦ by (slice_get keys mark.table.0) refl here
+  | inr apart ↦
+      let same : slice_get keys i ≡ Some m = sym (set_other keys mark.table.0 i (put_in (keys_at keys mark.table) mark.key.0 mark.key.1) apart) ∙ at in
+      let r = room i m same in omega arith
+]
+  where
+    gone : {X : Type 0} (xs : List X) (j : ℕ) (y : X) → slice_get xs j ≡ None → slice_get (slice_set xs j y) j ≡ None
+    gone [] j y e = refl
+    gone (x ∷ xs) zero y e = cc
+    gone (x ∷ xs) (suc j) y e = gone xs j y e
 
-      by : (o : Option Table) → slice_get keys mark.table.0 ≡ o → mark.table.0 ≡ i → len m + n < 2 ^ 63
-      by None none here =
-          let e : slice_get (with_mark mark keys) i ≡ None = ap (slice_get (with_mark mark keys)) (sym here) ∙ gone keys mark.table.0 (put_in (keys_at keys mark.table) mark.key.0 mark.key.1) none in
-          let f : slice_get (with_mark mark keys) i ≡ Some m = at in cc
-      by (Some old) old_is here =
-          let at_old : keys_at keys mark.table ≡ old = ap (λ o. unwrap_or o empty) old_is in
-          let f : slice_get (with_mark mark keys) i ≡ Some m = at in
-          let g : slice_get (with_mark mark keys) i ≡ Some (put_in (keys_at keys mark.table) mark.key.0 mark.key.1) = ap (slice_get (with_mark mark keys)) (sym here) ∙ set_here keys mark.table.0 old (put_in (keys_at keys mark.table) mark.key.0 mark.key.1) old_is in
-          let m_is : m ≡ put_in (keys_at keys mark.table) mark.key.0 mark.key.1 = same_some m (put_in (keys_at keys mark.table) mark.key.0 mark.key.1) (sym f ∙ g) in
-          let grew = more_after (keys_at keys mark.table) mark.key.0 mark.key.1 in
-          let lens : len m ≡ len (put_in (keys_at keys mark.table) mark.key.0 mark.key.1) = ap len m_is in
-          let olds : len (keys_at keys mark.table) ≡ len old = ap len at_old in
-          let r = room mark.table.0 old old_is in omega arith
+    by : (o : Option Table) → slice_get keys mark.table.0 ≡ o → mark.table.0 ≡ i → len m + n < 2 ^ 63
+    by None none here =
+        let e : slice_get (with_mark mark keys) i ≡ None = ap (slice_get (with_mark mark keys)) (sym here) ∙ gone keys mark.table.0 (put_in (keys_at keys mark.table) mark.key.0 mark.key.1) none in
+        let f : slice_get (with_mark mark keys) i ≡ Some m = at in cc
+    by (Some old) old_is here =
+        let at_old : keys_at keys mark.table ≡ old = ap (λ o. unwrap_or o empty) old_is in
+        let f : slice_get (with_mark mark keys) i ≡ Some m = at in
+        let g : slice_get (with_mark mark keys) i ≡ Some (put_in (keys_at keys mark.table) mark.key.0 mark.key.1) = ap (slice_get (with_mark mark keys)) (sym here) ∙ set_here keys mark.table.0 old (put_in (keys_at keys mark.table) mark.key.0 mark.key.1) old_is in
+        let m_is : m ≡ put_in (keys_at keys mark.table) mark.key.0 mark.key.1 = same_some m (put_in (keys_at keys mark.table) mark.key.0 mark.key.1) (sym f ∙ g) in
+        let grew = more_after (keys_at keys mark.table) mark.key.0 mark.key.1 in
+        let lens : len m ≡ len (put_in (keys_at keys mark.table) mark.key.0 mark.key.1) = ap len m_is in
+        let olds : len (keys_at keys mark.table) ≡ len old = ap len at_old in
+        let r = room mark.table.0 old old_is in omega arith
 
 pub keys_room_less : (m n : ℕ) (keys : List Table) → n ≤ m → KeysHaveRoom m keys → KeysHaveRoom n keys
 keys_room_less m n keys le room i t at = let r = room i t at in omega arith

@@ -62,9 +62,8 @@ fn first_keeper<'a>(
 ) -> Option<&'a Session>
     ensures { option_copied result ≡ find (λ s. is_other but (seen_of s) && (is_held s.written (record { table = table; key = key_of places.now row.now }) || is_held s.referred (record { table = table; key = key_of places.now row.now }))) sessions.now }
 {
-    sessions
-        .iter()
-        .find(|session| is_other(but, session) && is_held_by(session, table, places, row))
+    sessions.iter().find(|session| is_other(but, session)
+        && is_held_by(session, table, places, row))
 }
 
 // Of the sessions but one, the first that holds the key.
@@ -76,9 +75,7 @@ fn first_with_key<'a>(
 ) -> Option<&'a Session>
     ensures { option_copied result ≡ find (λ s. is_other but (seen_of s) && (is_held s.written (record { table = table; key = key.now }) || is_held s.referred (record { table = table; key = key.now }))) sessions.now }
 {
-    sessions
-        .iter()
-        .find(|session| is_other(but, session) && holds_key(session, table, key))
+    sessions.iter().find(|session| is_other(but, session) && holds_key(session, table, key))
 }
 
 fn number_of(session: Option<&Session>) -> Option<SessionId>

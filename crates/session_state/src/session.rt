@@ -45,13 +45,7 @@ impl Session {
     ghost use Rattle.session_state.specs.Sessions.{at_rest, begun, with_flag, with_ops};
 
     /// A session that has written nothing. It takes no memory.
-    pub fn start(
-        alloc: Global,
-        id: SessionId,
-        label: Label,
-        level: u8,
-        durable: bool,
-    ) -> Session
+    pub fn start(alloc: Global, id: SessionId, label: Label, level: u8, durable: bool) -> Session
         ensures seen { seen_of result ≡ begun id label level durable }
         ensures kept { (schema : List Def) → IsKept schema result }
     {

@@ -46,7 +46,10 @@ pub struct Footprint {
 
 impl Drop for Footprint {
     fn drop(self) {
-        let Self { written: _, referred: _ } = self;
+        let Self {
+            written: _,
+            referred: _,
+        } = self;
     }
 }
 

@@ -20,7 +20,7 @@ lay-requires c =
     record {
       ready = steps_ready c.args.schema.now c.args.ops c.into_parts-steps.result.0 _ c.in_ok-widen.ensures.own are;
       room = own_room_for c.args.schema.now c.widen.new.self (length c.args.self.now.ops.items) (length c.args.ops) (length c.into_parts-steps.result.0) c.widen.ensures.kept
-      (ap (λ (s : OpenSession). length s.ops) c.widen.ensures.seen) (as_many c.args.schema.now c.args.ops c.into_parts-steps.result.0 are) c.requires.few;
+          (ap (λ (s : OpenSession). length s.ops) c.widen.ensures.seen) (as_many c.args.schema.now c.args.ops c.into_parts-steps.result.0 are) c.requires.few;
     }
 
 pub hold-requires : goal.hold-requires
