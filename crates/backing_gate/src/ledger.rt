@@ -116,10 +116,15 @@ impl Ledger {
         requires { (front : List Entry) (last : Entry) → self.old ≡ front ++ last ∷ [] → IsNewIn front last }
         ensures { (front : List Entry) (last : Entry) → self.old ≡ front ++ last ∷ [] → self.new ≡ front }
     {
-        if let Some(entry) = self.entries.pop() {
-            if let Entry::Own(ticket, _) = &entry {
-                let _ = self.positions.remove(&ticket.0);
-            }
+        match self.entries.pop() {
+            None => {}
+            Some(entry) => match &entry {
+                Entry::Definition(_) => {}
+                Entry::Foreign(_) => {}
+                Entry::Own(ticket, _) => {
+                    let _ = self.positions.remove(&ticket.0);
+                }
+            },
         }
     }
 }

@@ -1,2 +1,2 @@
-mod Sorted
-mod MapLaws
+pub mod Sorted
+pub mod MapLaws

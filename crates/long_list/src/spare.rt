@@ -5,6 +5,7 @@ ghost use Rattle.std.specs.Prelude.{◌≡◌, length, IfOk, [], ◌∷◌};
 use std::alloc::{AllocError, Global};
 use std::collections::LinkedList;
 use std::marker::Model;
+use std::mem;
 
 /// An element, and the room that it takes to put it back. Clauses see a list of that one element.
 #[derive(Drop)]
@@ -39,6 +40,14 @@ impl<T> Spare<T> {
         ensures { self.now ≡ result.now ∷ [] }
     {
         self.node.front().unwrap()
+    }
+
+    /// Puts another element in, and gives back the old one. It takes no memory.
+    pub fn replace(&mut self, element: T) -> T
+        ensures old { self.old ≡ result ∷ [] }
+        ensures new { self.new ≡ element ∷ [] }
+    {
+        mem::replace(self.node.front_mut().unwrap(), element)
     }
 
     // The node with the element.

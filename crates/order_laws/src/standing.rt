@@ -1,4 +1,5 @@
-//! What keeps that transactions stand over a history: a law for each event.
+//! What keeps that transactions stand over a history: a law for each event. All are this project's rules, over the
+//! writethrough cache groups of the TimesTen Cache User's Guide.
 
 ghost use Rattle.std.specs.Prelude.{◌≡◌, ◌≤◌, ◌++◌, ℕ, List, [], ◌∷◌, true, is_some};
 ghost use Rattle.table_defs.specs.declared.definition.TableDef.{TableDef};
@@ -16,7 +17,7 @@ ghost use Rattle.order_laws.specs.Standing.{HasGroupOrders, HasGroup, PendingIsL
 ghost use Rattle.order_laws.specs.Steps.{AreOfOthers, ComesNext, IsRound, JoinsNone, LeavesLog, MayBegin, MayComeAtOnce, MayCommit, MayDefine, MeetsNone};
 ghost use Rattle.order_laws.specs.Steps.{after_coming, after_committing, after_entries, at_begin, with_live_group, longer_by, with_next, without_live_group, without_one};
 
-/// It begins over a history in which each ticket stands once, with no group and no transaction.
+/// It begins over a history in which each ticket stands at most once, with no group and no transaction.
 pub fn begin_law()
     ensures { (history : List Entry) (next : ℕ) → MayBegin history next → Stand (at_begin history next) }
 {}

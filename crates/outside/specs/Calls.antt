@@ -1,11 +1,11 @@
 -- What one call, or several, may do to a site that holds something. (This project's model of disk and crash.)
 
-use Rattle.std.specs.Prelude.{◌≡◌, ℕ, ◌≤◌, ◌<◌, Option, Some, None, List, Result, length}
+use Rattle.std.specs.Prelude.{◌≡◌, ℕ, ◌+◌, ◌-◌, ◌≤◌, ◌<◌, min, max, Option, Some, None, List, ◌++◌, Result, Ok, Err, length, take, drop}
 use Rattle.std.specs.Result.{IfOk}
 use Rattle.tier_base.specs.declared.number.TableId.{TableId}
 use Rattle.table_state.specs.declared.history.Entry.{Entry}
 use Rattle.outside.specs.declared.disk.Slot.{Slot}
-use Rattle.outside.specs.Holding.{Held, slot_of}
+use Rattle.outside.specs.Holding.{Held, slot_of, with_slot, with_bytes}
 use Rattle.outside.specs.Others.{Around}
 
 -- what is told before a call is told after it, and the call is this step of it
@@ -25,8 +25,73 @@ pub record GoesOn {D : Type 0} (moment : D → ℕ) (possible : D → ℕ → He
 abbrev pub Stays : Held → Held → Type 0
 Stays old new = new ≡ old
 
+-- what is told stays
+abbrev pub Same : Held → Held → Type 0
+Same old new = new ≡ old
+
+-- ---- calls of the disk
+
+-- these bytes at this place
+abbrev pub patched : ℕ → List ℕ → List ℕ → List ℕ
+patched at bytes old = take at old ++ (bytes ++ drop (at + length bytes) old)
+
+-- a write of n bytes that isn't synced: any bytes in the range and past the old end, the same elsewhere
+pub record Torn (at n : ℕ) (old new : List ℕ) : Type 0 where
+  pub before : take at new ≡ take at old
+  pub after : drop (at + n) new ≡ drop (at + n) old
+  pub no_shorter : length old ≤ length new
+  pub no_longer : length new ≤ max (length old) (at + n)
+
+-- a cut that isn't synced: some length between
+pub record Cut (n : ℕ) (old new : List ℕ) : Type 0 where
+  pub no_shorter : min n (length old) ≤ length new
+  pub front : take (length new) old ≡ new
+
+-- one slot changes by a step, all else stays
+pub record Changes (slot : Slot) (step : List ℕ → List ℕ → Type 0) (old new : Held) : Type 0 where
+  pub there : step (slot_of slot old.slots) (slot_of slot new.slots)
+  pub elsewhere : new.slots ≡ with_slot slot (slot_of slot new.slots) old.slots
+  pub beside : new.history ≡ old.history
+
+-- what a crash may leave of a write within the slot, or at its end; of another nothing is said
+abbrev pub MayWrite : Option Held → Slot → ℕ → List ℕ → Held → Held → Type 0
+MayWrite None slot at bytes old new = Unit {0}
+MayWrite (Some seen) slot at bytes old new = at ≤ length (slot_of slot seen.slots) → Changes slot (Torn at (length bytes)) old new
+
+-- what a read gives after such a write; after a fault only what is kept beside the slots is told to stay
+abbrev pub Wrote : {T E : Type 0} → Slot → ℕ → List ℕ → Result T E → Held → Held → Type 0
+Wrote slot at bytes (Ok done) old new =
+    at ≤ length (slot_of slot old.slots) → new ≡ with_bytes slot (patched at bytes (slot_of slot old.slots)) old
+Wrote slot at bytes (Err e) old new = new.history ≡ old.history
+
+-- what a crash may leave of a cut within the slot
+abbrev pub MayCut : Option Held → Slot → ℕ → Held → Held → Type 0
+MayCut None slot len old new = Unit {0}
+MayCut (Some seen) slot len old new = len ≤ length (slot_of slot seen.slots) → Changes slot (Cut len) old new
+
+-- what a read gives after a cut
+abbrev pub WasCut : {T E : Type 0} → Slot → ℕ → Result T E → Held → Held → Type 0
+WasCut slot len (Ok done) old new =
+    len ≤ length (slot_of slot old.slots) → new ≡ with_bytes slot (take len (slot_of slot old.slots)) old
+WasCut slot len (Err e) old new = new.history ≡ old.history
+
+-- after a sync a crash leaves what a read gives of the slot
+abbrev pub Durable : {T E : Type 0} → Option Held → Slot → Result T E → (Held → Type 0) → Type 0
+Durable (Some seen) slot (Ok done) possible = (p : Held) → possible p → slot_of slot p.slots ≡ slot_of slot seen.slots
+Durable None slot result possible = Unit {0}
+Durable (Some seen) slot (Err e) possible = Unit {0}
+
+-- the number is the slot's length
 abbrev pub HasLength : {E : Type 0} → Slot → Result ℕ E → Held → Held → Type 0
 HasLength slot result old new = (new ≡ old) × IfOk result (λ n. n ≡ length (slot_of slot old.slots))
+
+-- the buffer begins with the slot's bytes from the place on, as many as both have
+abbrev pub ReadsFrom : {E : Type 0} → Slot → ℕ → List ℕ → Result ℕ E → Held → Held → Type 0
+ReadsFrom slot at buf result old new =
+    (new ≡ old)
+    × IfOk result (λ n. (n ≡ min (length buf) (length (slot_of slot old.slots) - at)) × (take n buf ≡ take n (drop at (slot_of slot old.slots))))
+
+-- ---- calls of the backing database
 
 -- A call of the backing database keeps the slots, and the history takes this step, with transactions of others before
 -- and behind it.
@@ -38,3 +103,22 @@ pub record BankCall (shared : List TableId) (step : List Entry → List Entry �
 abbrev pub MayApply : List TableId → Option Held → (List Entry → List Entry → Type 0) → Held → Held → Type 0
 MayApply shared None step old new = Unit {0}
 MayApply shared (Some seen) step old new = BankCall shared step old new
+
+-- ---- several calls
+
+-- it tells what it holds, and a crash now leaves that
+pub record Certain {D : Type 0} (held : D → Option Held) (moment : D → ℕ) (possible : D → ℕ → Held → Type 0) (d : D) (seen : Held) : Type 0 where
+  pub told : held d ≡ Some seen
+  pub only : (p : Held) → possible d (moment d) p → p ≡ seen
+
+-- a crash at any moment from the old to the new leaves a pair that has P, and no earlier moment's pairs change
+pub record Leaves {D : Type 0} (moment : D → ℕ) (possible : D → ℕ → Held → Type 0) (old new : D) (P : Held → Type 0) : Type 0 where
+  pub later : moment old ≤ moment new
+  pub past : (k : ℕ) (p : Held) → k ≤ moment old → possible new k p → possible old k p
+  pub kept : (k : ℕ) (p : Held) → k ≤ moment old → possible old k p → possible new k p
+  pub each : (k : ℕ) (p : Held) → moment old ≤ k → k ≤ moment new → possible new k p → P p
+
+-- what was certain is certain still, at each moment between
+abbrev pub Rests : {D : Type 0} → (D → Option Held) → (D → ℕ) → (D → ℕ → Held → Type 0) → D → D → Type 0
+Rests held moment possible old new =
+    (o : Held) → Certain held moment possible old o → Certain held moment possible new o × Leaves moment possible old new (λ p. p ≡ o)

@@ -18,3 +18,16 @@ pub record Held : Type 0 where
 abbrev pub slot_of : Slot → Slots → List ℕ
 slot_of First slots = slots.first
 slot_of Second slots = slots.second
+
+-- the slot beside this one
+abbrev pub other : Slot → Slot
+other First = Second
+other Second = First
+
+-- the slots with these bytes in one of them
+abbrev pub with_slot : Slot → List ℕ → Slots → Slots
+with_slot First bytes slots = record { first = bytes; second = slots.second }
+with_slot Second bytes slots = record { first = slots.first; second = bytes }
+
+abbrev pub with_bytes : Slot → List ℕ → Held → Held
+with_bytes slot bytes old = record { slots = with_slot slot bytes old.slots; history = old.history }

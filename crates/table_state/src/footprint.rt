@@ -20,6 +20,16 @@ pub struct RowKey {
     pub key: Key,
 }
 
+impl RowKey {
+    /// The primary key.
+    pub fn into_key(self) -> Key
+        ensures { result ≡ self.key }
+    {
+        let Self { table: _, key } = self;
+        key
+    }
+}
+
 impl Drop for RowKey {
     fn drop(self) {
         let Self { table: _, key: _ } = self;
@@ -36,7 +46,10 @@ pub struct Footprint {
 
 impl Drop for Footprint {
     fn drop(self) {
-        let Self { written: _, referred: _ } = self;
+        let Self {
+            written: _,
+            referred: _,
+        } = self;
     }
 }
 
@@ -67,6 +80,15 @@ impl Footprint {
             footprint.add(alloc, schema, op)?;
         }
         Ok(footprint)
+    }
+
+    /// The rows that are written, and those that are referred to.
+    pub fn into_parts(self) -> (Seq<RowKey>, Seq<RowKey>)
+        ensures written { result.0 ≡ self.written }
+        ensures referred { result.1 ≡ self.referred }
+    {
+        let Self { written, referred } = self;
+        (written, referred)
     }
 
     /// Whether the key is written or referred to.

@@ -1,0 +1,10 @@
+pub mod ShownLaws
+pub mod JoinLaws
+pub mod GrowthLaws
+pub mod MoveLaws
+pub mod CoverLaws
+pub mod InsertLaws
+pub mod DeleteLaws
+pub mod UpdateLaws
+pub mod OwnLaws
+pub mod TieLaws

@@ -1,0 +1,315 @@
+-- What the slots say while a journal is opened.
+use Rattle.std.proofs.Common.{◌≡◌, ◌≢◌, ℕ, suc, ◌+◌, ◌≤◌, ◌<◌, ◌^◌, ◌⊎◌, Bool, true, false, List, [], ◌∷◌, ◌++◌, length, get_or, drop, refl, sym, ap, subst, ◌∙◌, append_assoc, arith, inl, inr, Option, Some, None}
+use Rattle.std.specs.Int.{w64, to_be_bytes}
+use Rattle.std.proofs.lemmas.List.{length-append, append-nil, drop_all}
+use Rattle.outside.specs.declared.disk.Slot.{Slot}
+use Rattle.outside.specs.declared.disk.Slot.TheVariants.{First, Second}
+use Rattle.outside.specs.Holding.{Slots, Held, slot_of, other, with_slot, with_bytes}
+use Rattle.outside.specs.Calls.{Certain, Leaves, Rests, Changes, Torn, patched}
+use Rattle.outside.proofs.Moments.{slot_with, other_with, other_stays, weaker, and_then, rests_then, same_held, slots_from}
+use Rattle.journal_entries.specs.declared.entry.Entry.{Entry}
+use Rattle.journal_entries.specs.Bodies.{beginning, ends}
+use Rattle.commit_journal.specs.declared.head.Head.{Head}
+use Rattle.commit_journal.specs.declared.head.Head.TheVariants.{Dead, Faulty, Live}
+use Rattle.commit_journal.specs.declared.journal.Journal.{Journal}
+use Rattle.commit_journal.specs.declared.opening.Opened.{Opened}
+use Rattle.commit_journal.specs.Layout.{Placed, entries_of, head_of, Outcome, Closed, Damaged, Batches, closed, Beats, Reads, new, faulty, counts, place_of, Gives}
+use Rattle.commit_journal.specs.Resting.{IsFront, AtRest}
+use Rattle.commit_journal.specs.Batching.{MidBatch, HasBatch}
+use Rattle.commit_journal.specs.Opening.{Finds, Keeps, Opens, HaveBytes}
+use Rattle.commit_journal.proofs.TurnLaws.{other_other, is_one, head_split}
+use Rattle.commit_journal.proofs.BatchLaws.{PutCrash, PutCertain}
+use Rattle.commit_journal.proofs.Pieces.{torn_gate, put_gate}
+use Rattle.commit_journal.proofs.RotateLaws.{dead_from, dead_first, live_first, header, header_front}
+
+pub keeps_same : (o p : Held) → p ≡ o → Keeps o p
+keeps_same o p e = rw e (record { beside = refl; reads = λ entries damaged r. r })
+
+pub dead_at : (slots : Slots) → head_of slots.first ≡ Dead → head_of slots.second ≡ Dead → (slot : Slot) → head_of (slot_of slot slots) ≡ Dead
+dead_at slots a b First = a
+dead_at slots a b Second = b
+
+pub no_faulty : (h : Head) (p : ℕ) → h ≡ Dead → h ≡ Faulty p → ⊥
+no_faulty h p a b = let z : ◌≡◌ {A = Head} Dead (Faulty p) = sym a ∙ b in absurd cc
+
+no_live : (h : Head) (v g : ℕ) → h ≡ Dead → h ≡ Live v g → ⊥
+no_live h v g a b = let z : ◌≡◌ {A = Head} Dead (Live v g) = sym a ∙ b in absurd cc
+
+-- where no slot is live nothing is read
+pub reads_none : {slots : Slots} {entries : List Placed} {damaged : Option (Slot × ℕ)} → Reads slots entries damaged → head_of slots.first ≡ Dead → head_of slots.second ≡ Dead → (entries ≡ []) × (damaged ≡ None)
+reads_none (new a b) first second = (refl, refl)
+reads_none {slots} (faulty slot place h is) first second = absurd (no_faulty (head_of (slot_of slot slots)) place (dead_at slots first second slot) h)
+reads_none {slots} (counts slot v g out h beats b) first second = absurd (no_live (head_of (slot_of slot slots)) v g (dead_at slots first second slot) h)
+
+abbrev pub new_bytes : List ℕ
+new_bytes = 2 ∷ 0 ∷ 0 ∷ 0 ∷ 0 ∷ 0 ∷ 0 ∷ 0 ∷ 1 ∷ 0 ∷ []
+
+-- making a journal
+module _ (o : Held) (gate : ℕ) (junk : List ℕ) (there : o.slots.first ≡ gate ∷ junk) (first : head_of o.slots.first ≡ Dead) (second : head_of o.slots.second ≡ Dead) where
+  shut : gate ≢ 1
+  shut e = dead_first o.slots.first first (ap (λ (l : List ℕ). get_or l 0 0) there ∙ e)
+
+  dead_reads : (p : Held) → p.slots.second ≡ o.slots.second → get_or p.slots.first 0 0 ≢ 1 → Reads p.slots [] None
+  dead_reads p same none = new (dead_from p.slots.first none) (ap (λ (l : List ℕ). head_of l) same ∙ second)
+
+  made_batches : (junk' : List ℕ) → Batches 2 beginning 10 (0 ∷ junk') [] (Closed 10 beginning)
+  made_batches junk' = closed 0 junk' refl (λ (e : ◌≡◌ {A = ℕ} 0 1). absurd (omega arith))
+
+  live_reads : (p : Held) (junk' : List ℕ) → p.slots.second ≡ o.slots.second → p.slots.first ≡ 1 ∷ (new_bytes ++ junk') → Reads p.slots [] None
+  live_reads p junk' same is =
+      let head : head_of p.slots.first ≡ Live 2 1 = ap (λ (l : List ℕ). head_of l) is ∙ (header_front 1 (omega arith)).head (0 ∷ junk') (omega arith) in
+      let beats : Beats First 1 (head_of p.slots.second) = subst (λ (h : Head). Beats First 1 h) (sym (ap (λ (l : List ℕ). head_of l) same ∙ second)) tt in
+      let bs : Batches 2 beginning 10 (drop 10 p.slots.first) [] (Closed 10 beginning) = subst (λ (l : List ℕ). Batches 2 beginning 10 (drop 10 l) [] (Closed 10 beginning)) (sym is) (made_batches junk') in
+      counts First 2 1 (Closed 10 beginning) head beats bs
+
+  pub make_keeps : (p : Held) → MidBatch First [] gate new_bytes o p → Keeps o p
+  make_keeps p m =
+      let here : Reads p.slots [] None = elim m.there [
+          | inl h ↦ dead_reads p m.other_same (λ e. shut (sym (ap (λ (l : List ℕ). get_or l 0 0) h.1) ∙ e))
+          | inr h ↦ is_one (Reads p.slots [] None) h.0
+              (λ one. live_reads p h.1 m.other_same (h.2 ∙ ap (λ (x : ℕ). x ∷ (new_bytes ++ h.1)) one))
+              (λ none. dead_reads p m.other_same (λ e. none (sym (ap (λ (l : List ℕ). get_or l 0 0) h.2) ∙ e)))
+        ] in
+      record {
+        beside = m.beside;
+        reads = λ entries damaged r.
+          let z = reads_none r first second in
+          subst (λ (d : Option (Slot × ℕ)). Reads p.slots entries d) (sym z.1) (subst (λ (l : List Placed). Reads p.slots l None) (sym z.0) here);
+      }
+
+  pub made : {D : Type 0} (held : D → Option Held) (moment : D → ℕ) (possible : D → ℕ → Held → Type 0) (d : D) (r : Opened) → 1 ≤ length o.slots.second → HasBatch held moment possible d First [] new_bytes o
+      → r.entries.items ≡ [] → r.damaged ≡ None → r.journal.slot ≡ First → r.journal.version ≡ 2 → r.journal.generation ≡ 1 → r.journal.gate ≡ 10 → r.journal.standing ≡ beginning → length r.journal.staged.items ≤ 4 → Opens held moment possible d o r
+  made held moment possible d r some h entries damaged slot version generation gate-is standing short = record {
+    now = h.now;
+    certain = h.certain;
+    beside = h.beside;
+    reads = rw (entries, damaged) (new first second);
+    rests = λ e.
+      let second' : slot_of (other r.journal.slot) h.now.slots ≡ o.slots.second = ap (λ (s : Slot). slot_of (other s) h.now.slots) slot ∙ h.other_same in
+      record {
+        front = header 1; gate = 0; junk = h.junk; placed = []; before = beginning; tail_placed = [];
+        bytes = ap (λ (s : Slot). slot_of s h.now.slots) slot ∙ h.there;
+        shut = λ (z : ◌≡◌ {A = ℕ} 0 1). absurd (omega arith);
+        place = gate-is;
+        is_front = rw (version, generation) (header_front 1 (omega arith));
+        flushed_are = rw entries refl;
+        other_dead = ap (λ (l : List ℕ). head_of l) second' ∙ second;
+        other_some = subst (λ (l : List ℕ). 1 ≤ length l) (sym second') some;
+        staged = drop_all 4 r.journal.staged.items short;
+        small = omega arith;
+        tail_reads = rw standing ends;
+        tail_are = refl;
+      };
+  }
+
+some_split : (xs : List ℕ) → 1 ≤ length xs → (x : ℕ) × (rest : List ℕ) × (xs ≡ x ∷ rest)
+some_split [] h = absurd (omega arith)
+some_split (x ∷ xs) h = (x, xs, refl)
+
+module _ {D : Type 0} (held : D → Option Held) (moment : D → ℕ) (possible : D → ℕ → Held → Type 0) (a b : D) (o : Held) (h : Certain held moment possible a o) (have : HaveBytes o.slots) (first : head_of o.slots.first ≡ Dead) (second : head_of o.slots.second ≡ Dead) where
+  pub make_crash : ((o : Held) (front junk : List ℕ) (g : ℕ) → Certain held moment possible a o → slot_of First o.slots ≡ front ++ g ∷ junk → 0 ≡ length front → Leaves moment possible a b (MidBatch First front g new_bytes o)) → Leaves moment possible a b (Keeps o)
+  make_crash crash =
+    let s = some_split o.slots.first have.first in
+    weaker moment possible a b (MidBatch First [] s.0 new_bytes o) (Keeps o) (make_keeps o s.0 s.1 s.2 first second) (crash o [] s.1 s.0 h s.2 refl)
+
+  pub make_done : ((o : Held) (front junk : List ℕ) (g : ℕ) → Certain held moment possible a o → slot_of First o.slots ≡ front ++ g ∷ junk → 0 ≡ length front → HasBatch held moment possible b First front new_bytes o)
+      → (r : Opened) → r.entries.items ≡ [] → r.damaged ≡ None → r.journal.slot ≡ First → r.journal.version ≡ 2 → r.journal.generation ≡ 1 → r.journal.gate ≡ 10 → r.journal.standing ≡ beginning → length r.journal.staged.items ≤ 4 → Opens held moment possible b o r
+  make_done batch r entries damaged slot version generation gate standing short =
+    let s = some_split o.slots.first have.first in
+    made o s.0 s.1 s.2 first second held moment possible b r have.second (batch o [] s.1 s.0 h s.2 refl) entries damaged slot version generation gate standing short
+
+-- ---- the slot that counts
+
+live_faulty : (P : Type 0) (h : Head) (v g p : ℕ) → h ≡ Live v g → h ≡ Faulty p → P
+live_faulty P h v g p a b = let z : ◌≡◌ {A = Head} (Live v g) (Faulty p) = sym a ∙ b in absurd cc
+
+live_dead : (P : Type 0) (h : Head) (v g : ℕ) → h ≡ Live v g → h ≡ Dead → P
+live_dead P h v g a b = let z : ◌≡◌ {A = Head} (Live v g) Dead = sym a ∙ b in absurd cc
+
+abbrev version_in : Head → ℕ → ℕ
+version_in Dead d = d
+version_in (Faulty p) d = d
+version_in (Live v g) d = v
+
+abbrev generation_in : Head → ℕ → ℕ
+generation_in Dead d = d
+generation_in (Faulty p) d = d
+generation_in (Live v g) d = g
+
+same_version : (h : Head) (v g v' g' : ℕ) → h ≡ Live v g → h ≡ Live v' g' → v' ≡ v
+same_version h v g v' g' a b = ap (λ (x : Head). version_in x 0) (sym b ∙ a)
+
+same_generation : (h : Head) (v g v' g' : ℕ) → h ≡ Live v g → h ≡ Live v' g' → g' ≡ g
+same_generation h v g v' g' a b = ap (λ (x : Head). generation_in x 0) (sym b ∙ a)
+
+-- what one slot gives
+pub record Given (slots : Slots) (slot : Slot) (version : ℕ) (entries : List Placed) (damaged : Option (Slot × ℕ)) : Type 0 where
+  pub outcome : Outcome
+  pub batches : Batches version beginning 10 (drop 10 (slot_of slot slots)) entries outcome
+  pub place : damaged ≡ place_of slot outcome
+
+pub reads_counts : (slot : Slot) {slots : Slots} {entries : List Placed} {damaged : Option (Slot × ℕ)} (v g : ℕ) (h : Head) → head_of (slot_of slot slots) ≡ Live v g → head_of (slot_of (other slot) slots) ≡ h → Beats slot g h → Reads slots entries damaged
+    → Given slots slot v entries damaged
+reads_counts First {slots} {entries} {damaged} v g h mine their wins (new a b) = live_dead (Given slots First v entries damaged) (head_of slots.first) v g mine a
+reads_counts Second {slots} {entries} {damaged} v g h mine their wins (new a b) = live_dead (Given slots Second v entries damaged) (head_of slots.second) v g mine b
+reads_counts First {slots} {entries} {damaged} v g h mine their wins (faulty First p f is) = live_faulty (Given slots First v entries damaged) (head_of slots.first) v g p mine f
+reads_counts First {slots} {entries} {damaged} v g h mine their wins (faulty Second p f is) = absurd (subst (λ (x : Head). Beats First g x) (sym their ∙ f) wins)
+reads_counts Second {slots} {entries} {damaged} v g h mine their wins (faulty First p f is) = absurd (subst (λ (x : Head). Beats Second g x) (sym their ∙ f) wins)
+reads_counts Second {slots} {entries} {damaged} v g h mine their wins (faulty Second p f is) = live_faulty (Given slots Second v entries damaged) (head_of slots.second) v g p mine f
+reads_counts First {slots} {entries} v g h mine their wins (counts First v' g' out f beats b) =
+    record { outcome = out; batches = subst (λ (x : ℕ). Batches x beginning 10 (drop 10 slots.first) entries out) (same_version (head_of slots.first) v g v' g' mine f) b; place = refl }
+reads_counts First {slots} v g h mine their wins (counts Second v' g' out f beats b) =
+    let one : g' ≤ g = subst (λ (x : Head). Beats First g x) (sym their ∙ f) wins in
+    let two : g < g' = subst (λ (x : Head). Beats Second g' x) mine beats in
+    absurd (omega arith)
+reads_counts Second {slots} v g h mine their wins (counts First v' g' out f beats b) =
+    let one : g' < g = subst (λ (x : Head). Beats Second g x) (sym their ∙ f) wins in
+    let two : g ≤ g' = subst (λ (x : Head). Beats First g' x) mine beats in
+    absurd (omega arith)
+reads_counts Second {slots} {entries} v g h mine their wins (counts Second v' g' out f beats b) =
+    record { outcome = out; batches = subst (λ (x : ℕ). Batches x beginning 10 (drop 10 slots.second) entries out) (same_version (head_of slots.second) v g v' g' mine f) b; place = refl }
+
+pub given_reads : (slot : Slot) (slots : Slots) (entries : List Placed) (damaged : Option (Slot × ℕ)) (v g : ℕ) → head_of (slot_of slot slots) ≡ Live v g → Beats slot g (head_of (slot_of (other slot) slots)) → Given slots slot v entries damaged → Reads slots entries damaged
+given_reads slot slots entries damaged v g mine beats x = subst (λ (d : Option (Slot × ℕ)). Reads slots entries d) (sym x.place) (counts slot v g x.outcome mine beats x.batches)
+
+given_same : (slot : Slot) (a b : Slots) (v : ℕ) (entries : List Placed) (damaged : Option (Slot × ℕ)) → slot_of slot b ≡ slot_of slot a → Given a slot v entries damaged → Given b slot v entries damaged
+given_same slot a b v entries damaged same x = record { outcome = x.outcome; batches = subst (λ (l : List ℕ). Batches v beginning 10 (drop 10 l) entries x.outcome) (sym same) x.batches; place = x.place }
+
+beats_dead' : (slot : Slot) (g : ℕ) (h : Head) → h ≡ Dead → Beats slot g h
+beats_dead' slot g h e = subst (λ (x : Head). Beats slot g x) (sym e) tt
+
+with_same : (slot : Slot) (bytes : List ℕ) (slots : Slots) → bytes ≡ slot_of slot slots → with_slot slot bytes slots ≡ slots
+with_same First bytes slots e = ap (λ (l : List ℕ). slots_from l slots.second) e
+with_same Second bytes slots e = ap (λ (l : List ℕ). slots_from slots.first l) e
+
+-- closing the slot that doesn't count
+module _ (slot u : Slot) (u-is : u ≡ other slot) (o : Held) (v g w k : ℕ) (mine : head_of (slot_of slot o.slots) ≡ Live v g) (their : head_of (slot_of (other slot) o.slots) ≡ Live w k) (wins : Beats slot g (Live w k)) where
+  theirs : (rest : List ℕ) × (slot_of (other slot) o.slots ≡ 1 ∷ rest)
+  theirs = head_split (slot_of (other slot) o.slots) (live_first (slot_of (other slot) o.slots) w k their)
+
+  keeps_dead : (p : Held) → p.history ≡ o.history → slot_of slot p.slots ≡ slot_of slot o.slots → head_of (slot_of (other slot) p.slots) ≡ Dead → Keeps o p
+  keeps_dead p beside same dead = record {
+    beside = beside;
+    reads = λ entries damaged r.
+      given_reads slot p.slots entries damaged v g (ap (λ (l : List ℕ). head_of l) same ∙ mine) (beats_dead' slot g (head_of (slot_of (other slot) p.slots)) dead)
+        (given_same slot o.slots p.slots v entries damaged same (reads_counts slot v g (Live w k) mine their wins r));
+  }
+
+  pub close_keeps : (p : Held) → (p ≡ o) ⊎ Changes (other slot) (Torn 0 1) o p → Keeps o p
+  close_keeps p (inl e) = keeps_same o p e
+  close_keeps p (inr c) =
+      let torn : Torn 0 1 (1 ∷ theirs.0) (slot_of (other slot) p.slots) = subst (λ (l : List ℕ). Torn 0 1 l (slot_of (other slot) p.slots)) theirs.1 c.there in
+      let is : slot_of (other slot) p.slots ≡ get_or (slot_of (other slot) p.slots) 0 0 ∷ theirs.0 = torn_gate [] 1 theirs.0 (slot_of (other slot) p.slots) torn in
+      let same : slot_of slot p.slots ≡ slot_of slot o.slots = subst (λ (s : Slot). slot_of s p.slots ≡ slot_of s o.slots) (other_other slot) (other_stays (other slot) (Torn 0 1) o p c) in
+      is_one (Keeps o p) (get_or (slot_of (other slot) p.slots) 0 0)
+        (λ one.
+          let whole : slot_of (other slot) p.slots ≡ slot_of (other slot) o.slots = is ∙ ap (λ (x : ℕ). x ∷ theirs.0) one ∙ sym theirs.1 in
+          let slots-same : p.slots ≡ o.slots = c.elsewhere ∙ with_same (other slot) (slot_of (other slot) p.slots) o.slots whole in
+          keeps_same o p (same_held p o slots-same c.beside))
+        (λ none. keeps_dead p c.beside same (dead_from (slot_of (other slot) p.slots) none))
+
+  abbrev pub shut_held : Held
+  shut_held = with_bytes (other slot) (patched 0 (0 ∷ []) (slot_of (other slot) o.slots)) o
+
+  shut_is : slot_of (other slot) shut_held.slots ≡ 0 ∷ theirs.0
+  shut_is = slot_with (other slot) (patched 0 (0 ∷ []) (slot_of (other slot) o.slots)) o.slots ∙ ap (λ (l : List ℕ). patched 0 (0 ∷ []) l) theirs.1 ∙ put_gate [] 1 theirs.0 0
+
+  pub shut_mine : slot_of slot shut_held.slots ≡ slot_of slot o.slots
+  shut_mine = subst (λ (s : Slot). slot_of s shut_held.slots ≡ slot_of s o.slots) (other_other slot) (other_with (other slot) (patched 0 (0 ∷ []) (slot_of (other slot) o.slots)) o.slots)
+
+  pub shut_dead : head_of (slot_of (other slot) shut_held.slots) ≡ Dead
+  shut_dead = dead_from (slot_of (other slot) shut_held.slots) (λ e. let z : ◌≡◌ {A = ℕ} 0 1 = sym (ap (λ (l : List ℕ). get_or l 0 0) shut_is) ∙ e in absurd (omega arith))
+
+  pub shut_some : 1 ≤ length (slot_of (other slot) shut_held.slots)
+  shut_some = let l : length (slot_of (other slot) shut_held.slots) ≡ suc (length theirs.0) = ap length shut_is in omega arith
+
+  -- what is read of the slots afterwards was read of them before
+  pub shut_reads : (entries : List Placed) (damaged : Option (Slot × ℕ)) → Reads shut_held.slots entries damaged → Reads o.slots entries damaged
+  shut_reads entries damaged r =
+      let x = reads_counts slot v g Dead (ap (λ (l : List ℕ). head_of l) shut_mine ∙ mine) shut_dead tt r in
+      given_reads slot o.slots entries damaged v g mine (subst (λ (y : Head). Beats slot g y) (sym their) wins) (given_same slot shut_held.slots o.slots v entries damaged (sym shut_mine) x)
+
+  module _ {D : Type 0} (held : D → Option Held) (moment : D → ℕ) (possible : D → ℕ → Held → Type 0) (a b : D) (h : Certain held moment possible a o) where
+    pub newer_crash : PutCrash held moment possible u a b 0 (0 ∷ []) → Leaves moment possible a b (Keeps o)
+    newer_crash crash =
+      let crash' : PutCrash held moment possible (other slot) a b 0 (0 ∷ []) = subst (λ (s : Slot). PutCrash held moment possible s a b 0 (0 ∷ [])) u-is crash in
+      weaker moment possible a b (λ p. (p ≡ o) ⊎ Changes (other slot) (Torn 0 1) o p) (Keeps o) close_keeps (crash' o h (omega arith))
+
+    pub newer_certain : PutCertain held moment possible u a b 0 (0 ∷ []) → Certain held moment possible b shut_held
+    newer_certain certain =
+      let certain' : PutCertain held moment possible (other slot) a b 0 (0 ∷ []) = subst (λ (s : Slot). PutCertain held moment possible s a b 0 (0 ∷ [])) u-is certain in
+      certain' o h (omega arith)
+
+    pub newer_then : (c : D) → PutCrash held moment possible u a b 0 (0 ∷ []) → PutCertain held moment possible u a b 0 (0 ∷ []) → Rests held moment possible b c → Leaves moment possible a c (Keeps o)
+    newer_then c crash certain rests =
+      and_then moment possible a b c (Keeps o) (newer_crash crash)
+        (weaker moment possible b c (λ p. p ≡ shut_held) (Keeps o)
+          (λ p e. subst (λ (x : Held). Keeps o x) (sym e) (keeps_dead shut_held refl shut_mine shut_dead))
+          (rests shut_held (newer_certain certain)).1)
+
+    pub newer_opens : (c : D) (r : Opened) → PutCertain held moment possible u a b 0 (0 ∷ []) → Rests held moment possible b c → Finds shut_held.slots r → Opens held moment possible c o r
+    newer_opens c r certain rests found = record {
+      now = shut_held;
+      certain = (rests shut_held (newer_certain certain)).0;
+      beside = refl;
+      reads = shut_reads r.entries.items r.damaged found.reads;
+      rests = found.rests;
+    }
+
+module _ {D : Type 0} (held : D → Option Held) (moment : D → ℕ) (possible : D → ℕ → Held → Type 0) (a b : D) (o : Held) (h : Certain held moment possible a o) where
+  pub rest_keeps : Rests held moment possible a b → Leaves moment possible a b (Keeps o)
+  rest_keeps rests = weaker moment possible a b (λ p. p ≡ o) (Keeps o) (keeps_same o) (rests o h).1
+
+  pub rest_opens : (r : Opened) → Rests held moment possible a b → Finds o.slots r → Opens held moment possible b o r
+  rest_opens r rests found = record { now = o; certain = (rests o h).0; beside = refl; reads = found.reads; rests = found.rests }
+
+  pub damage_opens : (r : Opened) (slot : Slot) (place : ℕ) → Reads o.slots [] (Some (slot, place)) → r.entries.items ≡ [] → r.damaged ≡ Some (slot, place) → Opens held moment possible a o r
+  damage_opens r slot place read entries damaged = record {
+    now = o; certain = h; beside = refl;
+    reads = subst (λ (d : Option (Slot × ℕ)). Reads o.slots r.entries.items d) (sym damaged) (subst (λ (l : List Placed). Reads o.slots l (Some (slot, place))) (sym entries) read);
+    rests = λ e. let no : ◌≡◌ {A = Option (Slot × ℕ)} (Some (slot, place)) None = sym damaged ∙ e in absurd cc;
+  }
+
+  pub second_damage : (r : Opened) (place : ℕ) (mine second : Head) → head_of o.slots.first ≡ mine → ((p : ℕ) → mine ≡ Faulty p → ⊥) → head_of o.slots.second ≡ second → second ≡ Faulty place → (r.entries.items ≡ []) × (r.damaged ≡ Some (Second, place)) → Opens held moment possible a o r
+  second_damage r place mine second first-is sound second-is is e = damage_opens r Second place (faulty Second place (second-is ∙ is) (λ p f. sound p (sym first-is ∙ f))) e.0 e.1
+
+  pub first_damage : (r : Opened) (place : ℕ) (first : Head) → head_of o.slots.first ≡ first → first ≡ Faulty place → (r.entries.items ≡ []) × (r.damaged ≡ Some (First, place)) → Opens held moment possible a o r
+  first_damage r place first first-is is e = damage_opens r First place (faulty First place (first-is ∙ is) tt) e.0 e.1
+
+-- ---- an opening from its first call on
+
+module _ {D : Type 0} (held : D → Option Held) (moment : D → ℕ) (possible : D → ℕ → Held → Type 0) (a b c e f i : D) (crash : (o : Held) → held a ≡ Some o → Leaves moment possible a b (possible a (moment a))) (settled : (o : Held) → held a ≡ Some o → Certain held moment possible b o)
+    (r1 : Rests held moment possible b c) (r2 : Rests held moment possible c e) (r3 : Rests held moment possible e f) (r4 : Rests held moment possible f i) where
+  pub to_third : Rests held moment possible b e
+  to_third = rests_then moment possible held b c e r1 r2
+
+  pub to_fourth : Rests held moment possible b f
+  to_fourth = rests_then moment possible held b e f to_third r3
+
+  pub to_last : Rests held moment possible b i
+  to_last = rests_then moment possible held b f i to_fourth r4
+
+  pub steps_crash : (o : Held) → Certain held moment possible a o → Leaves moment possible a i (Keeps o)
+  steps_crash o h = and_then moment possible a b i (Keeps o)
+    (weaker moment possible a b (possible a (moment a)) (Keeps o) (λ p now. keeps_same o p (h.only p now)) (crash o h.told))
+    (rest_keeps held moment possible b i o (settled o h.told) to_last)
+
+  module _ (o : Held) (told : held a ≡ Some o) (first second : Head) (first_len second_len : ℕ)
+      (first-len : (o : Held) → Certain held moment possible b o → first_len ≡ length (slot_of First o.slots))
+      (first-is : (o : Held) → Certain held moment possible c o → length (slot_of First o.slots) ≡ first_len → first ≡ head_of (slot_of First o.slots))
+      (second-len : (o : Held) → Certain held moment possible e o → second_len ≡ length (slot_of Second o.slots))
+      (second-is : (o : Held) → Certain held moment possible f o → length (slot_of Second o.slots) ≡ second_len → second ≡ head_of (slot_of Second o.slots)) where
+    pub at_last : Certain held moment possible i o
+    at_last = (to_last o (settled o told)).0
+
+    pub len_1 : length o.slots.first ≡ first_len
+    len_1 = sym (first-len o (settled o told))
+
+    pub len_2 : length o.slots.second ≡ second_len
+    len_2 = sym (second-len o (to_third o (settled o told)).0)
+
+    pub head_1 : head_of o.slots.first ≡ first
+    head_1 = sym (first-is o (r1 o (settled o told)).0 len_1)
+
+    pub head_2 : head_of o.slots.second ≡ second
+    head_2 = sym (second-is o (to_fourth o (settled o told)).0 len_2)

@@ -1,0 +1,13 @@
+pub mod Pieces
+pub mod FrontLaws
+pub mod BatchLaws
+pub mod TailLaws
+pub mod TurnLaws
+pub mod RotateLaws
+pub mod ScanLaws
+pub mod OpenLaws
+pub mod FindLaws
+pub mod KeepLaws
+pub mod OneReading
+pub mod OneJournal
+pub mod StandingLaws

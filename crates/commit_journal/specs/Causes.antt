@@ -1,0 +1,19 @@
+-- When a call of the journal may tell a fault of the disk. (This project's rule: each fault has a failed call of its own.)
+
+use Rattle.std.specs.Prelude.{ℕ, ◌≤◌, Result}
+use Rattle.std.specs.Result.{IsErrOf}
+use Rattle.outside.specs.Faults.{Rose}
+use Rattle.commit_journal.specs.declared.fault.OpenError.{OpenError}
+use Rattle.commit_journal.specs.declared.fault.OpenError.TheVariants as open_error
+use Rattle.commit_journal.specs.declared.fault.RotateError.{RotateError}
+use Rattle.commit_journal.specs.declared.fault.RotateError.TheVariants as rotate_error
+
+-- a failed disk call has its cause; want of memory needs none
+pub record OpenHasCause {T : Type 0} (before now : ℕ) (result : Result T OpenError) : Type 0 where
+  pub later : before ≤ now
+  pub failed : IsErrOf result open_error.Disk → Rose before now
+
+-- the same; the limit has a clause of its own
+pub record RotateHasCause {T : Type 0} (before now : ℕ) (result : Result T RotateError) : Type 0 where
+  pub later : before ≤ now
+  pub failed : IsErrOf result rotate_error.Disk → Rose before now

@@ -1,0 +1,40 @@
+-- What an opening finds.
+
+use Rattle.std.specs.Prelude.{◌≡◌, ◌≤◌, ℕ, List, length, Option, None, []}
+use Rattle.outside.specs.declared.disk.Slot.{Slot}
+use Rattle.outside.specs.Holding.{Slots, Held}
+use Rattle.outside.specs.Calls.{Certain}
+use Rattle.commit_journal.specs.declared.head.Head.{Head}
+use Rattle.commit_journal.specs.declared.head.Head.TheVariants.{Dead, Faulty, Live}
+use Rattle.commit_journal.specs.declared.opening.Opened.{Opened}
+use Rattle.commit_journal.specs.Layout.{Placed, Reads, entries_of}
+use Rattle.commit_journal.specs.Resting.{AtRest}
+
+-- the entries and the first damaged place of the slots; where there is none, a journal at rest
+pub record Finds (slots : Slots) (found : Opened) : Type 0 where
+  pub reads : Reads slots found.entries.items found.damaged
+  pub rests : found.damaged ≡ None → AtRest found.journal slots (entries_of found.entries.items) []
+
+-- what the slots said they say still; the rest stays
+pub record Keeps (o p : Held) : Type 0 where
+  pub beside : p.history ≡ o.history
+  pub reads : (entries : List Placed) (damaged : Option (Slot × ℕ)) → Reads o.slots entries damaged → Reads p.slots entries damaged
+
+-- An opened journal has what the slots said. Where no place is damaged it is at rest over a certain disk.
+pub record Opens {D : Type 0} (held : D → Option Held) (moment : D → ℕ) (possible : D → ℕ → Held → Type 0) (d : D) (o : Held) (r : Opened) : Type 0 where
+  pub now : Held
+  pub certain : Certain held moment possible d now
+  pub beside : now.history ≡ o.history
+  pub reads : Reads o.slots r.entries.items r.damaged
+  pub rests : r.damaged ≡ None → AtRest r.journal now.slots (entries_of r.entries.items) []
+
+-- no slot is without bytes
+pub record HaveBytes (slots : Slots) : Type 0 where
+  pub first : 1 ≤ length slots.first
+  pub second : 1 ≤ length slots.second
+
+-- a live head has its bytes
+abbrev pub HeadFits : ℕ → Head → Type 0
+HeadFits len Dead = Unit {0}
+HeadFits len (Faulty place) = Unit {0}
+HeadFits len (Live version generation) = 11 ≤ len

@@ -1,0 +1,61 @@
+-- What moving on to the other slot leaves.
+
+use Rattle.std.specs.Prelude.{◌≡◌, ◌≢◌, ℕ, ◌-◌, ◌^◌, ◌<◌, ◌≤◌, ◌⊎◌, Option, List, [], ◌∷◌, ◌++◌, length, slice_index}
+use Rattle.std.specs.List.{flat_map}
+use Rattle.std.specs.Int.{w32, w64, to_be_bytes}
+use Rattle.outside.specs.declared.disk.Slot.{Slot}
+use Rattle.outside.specs.Holding.{Slots, Held, slot_of, other}
+use Rattle.outside.specs.Calls.{Certain}
+use Rattle.journal_entries.specs.declared.entry.Entry.{Entry}
+use Rattle.journal_entries.specs.Spelling.{entry_bytes}
+use Rattle.commit_journal.specs.declared.journal.Journal.{Journal}
+use Rattle.commit_journal.specs.Layout.{Gives}
+
+-- while a slot is filled behind its first byte
+pub record Filling (slot : Slot) (o p : Held) : Type 0 where
+  pub beside : p.history ≡ o.history
+  pub other_same : slot_of (other slot) p.slots ≡ slot_of (other slot) o.slots
+  pub first_same : slice_index (slot_of slot p.slots) 0 ≡ slice_index (slot_of slot o.slots) 0
+
+pub record Filled {D : Type 0} (held : D → Option Held) (moment : D → ℕ) (possible : D → ℕ → Held → Type 0) (d : D) (slot : Slot) (bytes : List ℕ) (o : Held) : Type 0 where
+  pub now : Held
+  pub certain : Certain held moment possible d now
+  pub beside : now.history ≡ o.history
+  pub other_same : slot_of (other slot) now.slots ≡ slot_of (other slot) o.slots
+  pub there : slot_of slot now.slots ≡ slice_index (slot_of slot o.slots) 0 ∷ bytes
+
+-- The new slot isn't live and the old one is as it was; or the new one is whole, and the old one as it was or not live.
+pub record MidTurn (target : Slot) (bytes : List ℕ) (o p : Held) : Type 0 where
+  pub beside : p.history ≡ o.history
+  pub there : ((slice_index (slot_of target p.slots) 0 ≢ 1) × (slot_of (other target) p.slots ≡ slot_of (other target) o.slots))
+    ⊎ ((slot_of target p.slots ≡ 1 ∷ bytes) × ((slot_of (other target) p.slots ≡ slot_of (other target) o.slots) ⊎ (slice_index (slot_of (other target) p.slots) 0 ≢ 1)))
+
+pub record Turned {D : Type 0} (held : D → Option Held) (moment : D → ℕ) (possible : D → ℕ → Held → Type 0) (d : D) (target : Slot) (bytes : List ℕ) (o : Held) : Type 0 where
+  pub now : Held
+  pub certain : Certain held moment possible d now
+  pub beside : now.history ≡ o.history
+  pub there : slot_of target now.slots ≡ 1 ∷ bytes
+  pub old : (rest : List ℕ) × (slot_of (other target) now.slots ≡ 0 ∷ rest)
+
+-- an open gate, the body's length, and the body
+abbrev pub batch_of : List ℕ → List ℕ
+batch_of body = 1 ∷ (to_be_bytes w32 (length body) ++ body)
+
+-- a slot of version 2 behind its first byte: the generation, one batch, and a closed gate
+abbrev pub slot_bytes : ℕ → List ℕ → List ℕ
+slot_bytes generation body = 2 ∷ (to_be_bytes w64 generation ++ (batch_of body ++ 0 ∷ []))
+
+-- the old entries count, or the new ones
+pub record MidRotation (o : Held) (entries others : List Entry) (p : Held) : Type 0 where
+  pub beside : p.history ≡ o.history
+  pub gives : Gives p.slots entries ⊎ Gives p.slots others
+
+-- the entries are too many for one batch, or no generation is left
+abbrev pub IsPastRotation : Journal → List Entry → Type 0
+IsPastRotation j entries = (j.generation ≡ 2 ^ 64 - 1) ⊎ (2 ^ 24 < length (flat_map entry_bytes entries))
+
+-- the target has a byte and isn't live, and the other slot is
+pub record CanTurn (target : Slot) (o : Held) : Type 0 where
+  pub some : 1 ≤ length (slot_of target o.slots)
+  pub dead : slice_index (slot_of target o.slots) 0 ≢ 1
+  pub live : slice_index (slot_of (other target) o.slots) 0 ≡ 1

@@ -1,0 +1,58 @@
+//! Reading the heads of slots.
+
+ghost use Rattle.std.specs.Prelude.{◌≡◌, ◌^◌, length, IfOk};
+ghost use Rattle.commit_journal.specs.Causes.{OpenHasCause};
+ghost use Rattle.outside.specs.Calls.{Certain, Rests};
+ghost use Rattle.outside.specs.Holding.{Held, slot_of};
+ghost use Rattle.commit_journal.specs.Layout.{head_of};
+ghost use Rattle.commit_journal.specs.Opening.{HeadFits};
+
+use crate::fault::OpenError;
+use crate::head::Head;
+use crate::reading::read_bytes;
+use outside::{Disk, Slot};
+use std::alloc::Global;
+
+/// What the first bytes of a slot say.
+#[tactic(auto, unfolding(crate::specs::Layout::head_of))]
+fn head_in(front: &[u8]) -> Head
+    ensures head { result ≡ head_of front.now }
+    ensures fits { HeadFits (length front.now) result }
+{
+    if front.is_empty() {
+        return Head::Dead;
+    }
+    if front[0] != 1 {
+        return Head::Dead;
+    }
+    if front.len() < 11 {
+        return Head::Faulty(1);
+    }
+    let (start, rest) = front.split_at(2);
+    let (number, _) = rest.split_at(8);
+    let generation = u64::from_be_bytes([
+        number[0], number[1], number[2], number[3], number[4], number[5], number[6], number[7],
+    ]);
+    if start[1] == 2 {
+        return Head::Live(2, generation);
+    }
+    if start[1] != 1 {
+        return Head::Faulty(1);
+    }
+    if generation == u64::MAX {
+        return Head::Faulty(2);
+    }
+    Head::Live(1, generation)
+}
+
+/// The head of a slot of this length.
+pub(crate) fn head_at<D: Disk>(alloc: Global, d: &mut D, slot: Slot, len: u64) -> Result<Head, OpenError>
+    ensures head { IfOk result (λ head. (o : Held) → Certain D.held D.moment D.possible d.old o → length (slot_of slot o.slots) ≡ len → head ≡ head_of (slot_of slot o.slots)) }
+    ensures fits { IfOk result (λ head. HeadFits len head) }
+    ensures rests { Rests D.held D.moment D.possible d.old d.new }
+    ensures shares { D.shared d.new ≡ D.shared d.old }
+    ensures cause { OpenHasCause (D.disk_faults d.old) (D.disk_faults d.new) result }
+{
+    let front = read_bytes(alloc, d, slot, 0, len.min(11) as usize)?;
+    Ok(head_in(&front))
+}

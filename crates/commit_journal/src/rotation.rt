@@ -1,0 +1,94 @@
+//! Rotation: moving on to the other slot.
+
+ghost use Rattle.std.specs.Prelude.{◌≡◌, ◌↔◌, ◌+◌, ◌^◌, ◌<◌, ◌≤◌, ℕ, List, [], length, Err, IfOk, OnOk};
+ghost use Rattle.std.specs.List.{AllByRecursion, flat_map};
+ghost use Rattle.outside.specs.Calls.{Certain, Leaves};
+ghost use Rattle.outside.specs.Faults.{HasCause};
+ghost use Rattle.outside.specs.Holding.{Held};
+ghost use Rattle.journal_entries.specs.declared.entry.Entry.{Entry as OneEntry};
+ghost use Rattle.journal_entries.specs.declared.standing.Ending.TheVariants.{Whole};
+ghost use Rattle.journal_entries.specs.Bodies.{AllFollow, Body, beginning};
+ghost use Rattle.journal_entries.specs.Spelling.{entry_bytes, IsEntry};
+ghost use Rattle.commit_journal.specs.Causes.{RotateHasCause};
+ghost use Rattle.commit_journal.specs.declared.fault.RotateError.TheVariants.{Limit};
+ghost use Rattle.commit_journal.specs.Layout.{Placed, entries_of};
+ghost use Rattle.commit_journal.specs.Resting.{AtRest, Rested};
+ghost use Rattle.commit_journal.specs.Turning.{IsPastRotation, MidRotation, slot_bytes};
+
+use crate::adopting::slot_image;
+use crate::fault::RotateError;
+use crate::journal::Journal;
+use crate::placing::{other, turn_over};
+use journal_entries::writing::put_entries;
+use journal_entries::{Entry, Standing, entries_size};
+use outside::{Disk, DiskFault};
+use std::alloc::{AllocError, Global};
+
+/// The bytes of the entries.
+fn spelled(alloc: Global, entries: &[Entry]) -> Result<Vec<u8>, AllocError>
+    requires small { length (flat_map entry_bytes entries.now) ≤ 2 ^ 24 }
+    requires entries { AllByRecursion (IsEntry 2) entries.now }
+    ensures { IfOk result (λ bytes. bytes.items ≡ flat_map entry_bytes entries.now) }
+{
+    let mut bytes = Vec::with_capacity(alloc, entries_size(entries) as usize)?;
+    put_entries(&mut bytes, entries);
+    Ok(bytes)
+}
+
+impl Journal {
+    /// Moves on to the other slot, with these entries as its only batch, in version 2 and with the next generation. A mark
+    /// may be the first of them.
+    ///
+    /// `Limit` exactly where the entries take more than 2^24 bytes, or the generation is 2^64 - 1. `Memory` for want of
+    /// memory. In both the disk isn't called.
+    pub fn rotate<D: Disk>(
+        &mut self,
+        alloc: Global,
+        d: &mut D,
+        entries: &[Entry],
+    ) -> Result<(), RotateError>
+        requires entries { AllByRecursion (IsEntry 2) entries.now }
+        requires order { AllFollow beginning entries.now }
+        ensures crash { (o : Held) (flushed tail : List OneEntry) → Certain D.held D.moment D.possible d.old o → AtRest self.old o.slots flushed tail →
+            Leaves D.moment D.possible d.old d.new (MidRotation o flushed entries.now) }
+        ensures moved { OnOk result ((o : Held) (flushed tail : List OneEntry) → Certain D.held D.moment D.possible d.old o → AtRest self.old o.slots flushed tail →
+            Rested D.held D.moment D.possible d.new self.new o entries.now []) }
+        ensures limit { (result ≡ Err Limit) ↔ IsPastRotation self.old entries.now }
+        ensures shares { D.shared d.new ≡ D.shared d.old }
+        ensures cause { RotateHasCause (D.disk_faults d.old) (D.disk_faults d.new) result }
+    {
+        if self.generation == u64::MAX {
+            return Err(RotateError::Limit);
+        }
+        if entries_size(entries) > 16_777_216 {
+            return Err(RotateError::Limit);
+        }
+        let generation = self.generation + 1;
+        let standing = Standing::beginning().behind_all(entries);
+        let body = spelled(alloc, entries)?;
+        let bytes = slot_image(alloc, generation, &body)?;
+        self.move_on(d, generation, standing, &bytes)?;
+        Ok(())
+    }
+
+    /// Moves on to the other slot, with these bytes behind its first: a header, a batch and a closed gate. The standing is
+    /// that behind the batch.
+    pub(crate) fn move_on<D: Disk>(&mut self, d: &mut D, generation: u64, standing: Standing, bytes: &[u8]) -> Result<(), DiskFault>
+        ensures crash { (o : Held) (flushed tail : List OneEntry) (body : List ℕ) (placed : List Placed) → Certain D.held D.moment D.possible d.old o → AtRest self.old o.slots flushed tail → self.old.generation < generation →
+            bytes.now ≡ slot_bytes generation body → length body ≤ 2 ^ 24 → Body 2 beginning 15 body placed (Whole standing) → Leaves D.moment D.possible d.old d.new (MidRotation o flushed (entries_of placed)) }
+        ensures moved { OnOk result ((o : Held) (flushed tail : List OneEntry) (body : List ℕ) (placed : List Placed) → Certain D.held D.moment D.possible d.old o → AtRest self.old o.slots flushed tail → self.old.generation < generation →
+            bytes.now ≡ slot_bytes generation body → length body ≤ 2 ^ 24 → Body 2 beginning 15 body placed (Whole standing) → Rested D.held D.moment D.possible d.new self.new o (entries_of placed) []) }
+        ensures cause { HasCause (D.disk_faults d.old) (D.disk_faults d.new) result }
+        ensures shares { D.shared d.new ≡ D.shared d.old }
+    {
+        let target = other(self.slot);
+        turn_over(d, target, bytes)?;
+        self.slot = target;
+        self.version = 2;
+        self.generation = generation;
+        self.gate = bytes.len() as u64;
+        self.standing = standing;
+        self.staged.truncate(4);
+        Ok(())
+    }
+}

@@ -1,0 +1,94 @@
+//! The tail: entries that are noted, and flushed as one batch.
+
+ghost use Rattle.std.specs.Prelude.{◌≡◌, ◌↔◌, ◌+◌, ◌-◌, ◌*◌, ◌^◌, ◌<◌, ◌≤◌, ◌⊎◌, ℕ, List, [], ◌∷◌, ◌++◌, true, length, drop, Ok, Err, OnOk, OnErr, vec_len, vec_capacity};
+ghost use Rattle.std.specs.Int.{w32, to_be_bytes};
+ghost use Rattle.outside.specs.Calls.{Certain, Leaves};
+ghost use Rattle.outside.specs.Faults.{HasCause};
+ghost use Rattle.outside.specs.Holding.{Held, Slots};
+ghost use Rattle.journal_entries.specs.declared.entry.Entry.{Entry as OneEntry};
+ghost use Rattle.journal_entries.specs.Spelling.{entry_bytes, IsEntry};
+ghost use Rattle.journal_entries.specs.Bodies.{behind, follows};
+ghost use Rattle.commit_journal.specs.Resting.{AtRest, HasRoom, HasSameEntries, IsPastLimit, IsSameSlot, MidFlush, Rested};
+
+use crate::fault::ReserveError;
+use crate::journal::Journal;
+use crate::placing::write_batch;
+use outside::{Disk, DiskFault};
+use journal_entries::Entry;
+use journal_entries::writing::put_entry;
+
+/// The bytes of a batch behind its gate: the length in the place for it, the body, and the next gate, closed.
+fn seal(staged: &mut Vec<u8>)
+    requires least { 4 ≤ length staged.old.items }
+    requires room { length staged.old.items < vec_capacity staged.old }
+    requires small { length staged.old.items ≤ 2 ^ 30 }
+    ensures items { staged.new.items ≡ to_be_bytes w32 (length staged.old.items - 4) ++ (drop 4 staged.old.items ++ 0 ∷ []) }
+    ensures capacity { vec_capacity staged.old ≤ vec_capacity staged.new }
+{
+    let [a, b, c, d] = ((staged.len() - 4) as u32).to_be_bytes();
+    staged[0] = a;
+    staged[1] = b;
+    staged[2] = c;
+    staged[3] = d;
+    staged.push_reserved(0);
+}
+
+impl Journal {
+    /// Makes room for an entry of so many bytes behind the tail.
+    ///
+    /// `Limit` where the batch's body would pass 2^24 bytes, or the slot 2^30.
+    pub fn reserve(&mut self, bytes: usize) -> Result<(), ReserveError>
+        ensures room { OnOk result (HasRoom self.new bytes) }
+        ensures rest { (slots : Slots) (flushed tail : List OneEntry) → AtRest self.old slots flushed tail → AtRest self.new slots flushed tail }
+        ensures limit { (result ≡ Err ReserveError.Limit) ↔ IsPastLimit self.old bytes }
+        ensures same { HasSameEntries self.old self.new }
+    {
+        let len = self.staged.len();
+        if len > 16_777_220 || bytes > 16_777_220 - len {
+            return Err(ReserveError::Limit);
+        }
+        if self.gate > 1_073_741_822 || (len + bytes) as u64 > 1_073_741_822 - self.gate {
+            return Err(ReserveError::Limit);
+        }
+        match self.staged.reserve(bytes + 1) {
+            Ok(()) => Ok(()),
+            Err(_) => Err(ReserveError::Memory),
+        }
+    }
+
+    /// Puts the entry behind the tail. It takes no memory.
+    pub fn note(&mut self, entry: Entry)
+        requires room { HasRoom self.old (length (entry_bytes entry)) }
+        requires entry { IsEntry 2 entry }
+        requires order { follows self.old.standing entry ≡ true }
+        ensures rest { (slots : Slots) (flushed tail : List OneEntry) → IsEntry self.old.version entry → AtRest self.old slots flushed tail → AtRest self.new slots flushed (tail ++ entry ∷ []) }
+        ensures room { (more : ℕ) → HasRoom self.old (length (entry_bytes entry) + more) → HasRoom self.new more }
+        ensures standing { self.new.standing ≡ behind self.old.standing entry }
+        ensures same { IsSameSlot self.old self.new }
+    {
+        put_entry(&mut self.staged, &entry);
+        self.standing = self.standing.behind(&entry);
+    }
+
+    /// Puts the tail on the disk as one batch. It takes no memory.
+    pub fn flush<D: Disk>(&mut self, d: &mut D) -> Result<(), DiskFault>
+        ensures crash { (o : Held) (flushed tail : List OneEntry) → Certain D.held D.moment D.possible d.old o → AtRest self.old o.slots flushed tail →
+            Leaves D.moment D.possible d.old d.new (MidFlush o flushed tail) }
+        ensures flushed { OnOk result ((o : Held) (flushed tail : List OneEntry) → Certain D.held D.moment D.possible d.old o → AtRest self.old o.slots flushed tail →
+            Rested D.held D.moment D.possible d.new self.new o (flushed ++ tail) []) }
+        ensures standing { self.new.standing ≡ self.old.standing }
+        ensures shares { D.shared d.new ≡ D.shared d.old }
+        ensures cause { HasCause (D.disk_faults d.old) (D.disk_faults d.new) result }
+    {
+        if self.staged.len() == 4 {
+            return Ok(());
+        }
+        seal(&mut self.staged);
+        let outcome = write_batch(d, self.slot, self.gate, &self.staged);
+        let size = self.staged.len() as u64;
+        self.staged.truncate(4);
+        outcome?;
+        self.gate += size;
+        Ok(())
+    }
+}

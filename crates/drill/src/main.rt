@@ -1,0 +1,54 @@
+//! `drill`: the program over objects in memory, with faults as a script plans them. It is for tests.
+//!
+//! It reads a script from standard input. Lines that begin with `!` plan what goes wrong, as `plan` lists them; the other
+//! lines are the program's input. It writes the replies, then the entries of the backing history, then the rows of the
+//! backing tables. Its status is the program's, or 99 where a plan isn't understood: then one line on standard error says
+//! which, and nothing is run.
+#![tactic(auto)]
+
+mod backing;
+mod error;
+mod joined;
+mod plan;
+mod script;
+mod stage;
+mod telling;
+
+use error::DrillError;
+use script::Script;
+use stage::Stage;
+use std::alloc::Global;
+use std::io::{Read, Write};
+use std::process::ExitCode;
+use telling::told;
+
+/// The status where nothing was run.
+const NOT_RUN: u8 = 99;
+
+fn main(rt: HostRuntime) -> ExitCode {
+    match run(&rt) {
+        Ok(status) => ExitCode::from(status),
+        Err(error) => {
+            let _ = eprintln!(rt; "drill: {error}");
+            ExitCode::from(NOT_RUN)
+        }
+    }
+}
+
+fn run(rt: &HostRuntime) -> Result<u8, DrillError> {
+    let mut bytes = Vec::new(rt.alloc());
+    rt.stdin().read_to_end(&mut bytes)?;
+    let (status, text) = drilled(rt.alloc(), bytes.as_slice())?;
+    rt.stdout().write_all(text.as_slice())?;
+    Ok(status)
+}
+
+// The status of the script's run, and what is told of it.
+fn drilled(alloc: Global, bytes: &[u8]) -> Result<(u8, Vec<u8>), DrillError> {
+    let script = Script::read(alloc, bytes)?;
+    let mut stage = Stage::new(alloc)?;
+    stage.plan_all(alloc, &script)?;
+    let (status, sink) = stage.run(alloc, script.input.as_slice())?;
+    let text = told(alloc, sink.bytes(), stage.site.history().as_slice())?;
+    Ok((status, text))
+}

@@ -1,0 +1,116 @@
+//! What a line that begins with `!` plans.
+
+use backing_gate::{CallKind, Side, When};
+
+/// What a line that begins with `!` plans. Calls are counted from 1 in a script, and from 0 here.
+#[derive(Clone, Copy)]
+pub enum Plan<'a> {
+    /// `fail KIND N before` or `fail KIND N after`: the call of this kind fails before its effect or after it.
+    Fail(CallKind, u64, When),
+    /// `refuse KIND N`: memory is wanting in the call of this kind.
+    Refuse(CallKind, u64),
+    /// `foreign N WRITES` or `foreign N behind WRITES`: a transaction of others comes in this call of the bank, of all
+    /// kinds together, before the call's own step or behind it.
+    Foreign(u64, Side, &'a str),
+    /// `before TABLE` or `before WRITES`: a definition or a transaction of others stands in the history before the run.
+    Before(&'a str),
+    /// `pieces N`: the source gives and the sink takes so many bytes at once. With 0 the sink takes none.
+    Pieces(usize),
+    /// `source N`: this call of the source fails.
+    Source(u64),
+    /// `sink N`: this call of the sink fails.
+    Sink(u64),
+    /// `settings TEXT`: a line of the settings.
+    Settings(&'a str),
+    /// `words TEXT`: the words behind the program's name, in place of `run`.
+    Words(&'a str),
+    /// `joined`: tables that foreign keys join stand in the history before the run, as `joined` defines them.
+    Joined,
+    /// `note TEXT`: what the script is about. It plans nothing.
+    Note,
+}
+
+impl<'a> Plan<'a> {
+    /// What the text behind `!` plans, none where it isn't understood.
+    pub fn parse(text: &'a str) -> Option<Plan<'a>> {
+        let (word, rest) = first_word(text);
+        match word {
+            "fail" => parse_fail(rest),
+            "refuse" => parse_refuse(rest),
+            "foreign" => parse_foreign(rest),
+            "before" => Some(Plan::Before(rest)),
+            "pieces" => {
+                let size = rest.parse::<usize>().ok()?;
+                Some(Plan::Pieces(size))
+            }
+            "source" => {
+                let call = parse_call(rest)?;
+                Some(Plan::Source(call))
+            }
+            "sink" => {
+                let call = parse_call(rest)?;
+                Some(Plan::Sink(call))
+            }
+            "settings" => Some(Plan::Settings(rest)),
+            "words" => Some(Plan::Words(rest)),
+            "joined" => Some(Plan::Joined),
+            "note" => Some(Plan::Note),
+            _ => None,
+        }
+    }
+}
+
+// The text up to its first blank, and what stands behind that.
+fn first_word(text: &str) -> (&str, &str) {
+    text.split_once(' ').unwrap_or((text, ""))
+}
+
+fn parse_fail(text: &str) -> Option<Plan<'_>> {
+    let (kind, rest) = first_word(text);
+    let (number, when) = first_word(rest);
+    let kind = parse_kind(kind)?;
+    let call = parse_call(number)?;
+    let when = parse_when(when)?;
+    Some(Plan::Fail(kind, call, when))
+}
+
+fn parse_refuse(text: &str) -> Option<Plan<'_>> {
+    let (kind, number) = first_word(text);
+    let kind = parse_kind(kind)?;
+    let call = parse_call(number)?;
+    Some(Plan::Refuse(kind, call))
+}
+
+fn parse_foreign(text: &str) -> Option<Plan<'_>> {
+    let (number, rest) = first_word(text);
+    let call = parse_call(number)?;
+    match first_word(rest) {
+        ("behind", writes) => Some(Plan::Foreign(call, Side::Behind, writes)),
+        _ => Some(Plan::Foreign(call, Side::Before, rest)),
+    }
+}
+
+fn parse_kind(word: &str) -> Option<CallKind> {
+    match word {
+        "schema" => Some(CallKind::Schema),
+        "define" => Some(CallKind::Define),
+        "apply_once" => Some(CallKind::ApplyOnce),
+        "find" => Some(CallKind::Find),
+        "foreign" => Some(CallKind::Foreign),
+        "snapshot" => Some(CallKind::Snapshot),
+        _ => None,
+    }
+}
+
+fn parse_when(word: &str) -> Option<When> {
+    match word {
+        "before" => Some(When::Before),
+        "after" => Some(When::After),
+        _ => None,
+    }
+}
+
+// The number of a call, from 0; the text has it from 1.
+fn parse_call(text: &str) -> Option<u64> {
+    text.parse::<u64>().ok()?.checked_sub(1)
+}

@@ -1,0 +1,7 @@
+-- Sizes of entries. (This project's rule.)
+
+use Rattle.std.specs.Prelude.{ℕ, ◌-◌, ◌^◌, min}
+
+-- a size, or the greatest number of 64 bits where it is more
+abbrev pub capped : ℕ → ℕ
+capped n = min n (2 ^ 64 - 1)

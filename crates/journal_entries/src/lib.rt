@@ -1,0 +1,22 @@
+//! Entries of the commit journal, and their bytes.
+#![tactic(auto)]
+
+pub mod bodies;
+pub mod entry;
+pub mod fault;
+mod fields;
+mod reading;
+pub mod size;
+pub mod standing;
+#[cfg(test)]
+mod tests;
+pub mod value;
+pub mod vectors;
+pub mod writing;
+
+pub use bodies::{read_body, read_entry};
+pub use entry::{Bytes, Entry, GroupState, Op, Row};
+pub use fault::ReadError;
+pub use size::{entries_size, entry_size};
+pub use standing::{Ending, Standing};
+pub use value::{Number, Value};

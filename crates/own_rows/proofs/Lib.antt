@@ -1,0 +1,13 @@
+pub mod ChildLaws
+pub mod ChildSteps
+pub mod LayingLaws
+pub mod LyingLaws
+pub mod NextLaws
+pub mod OverLaws
+pub mod OverlayLaws
+pub mod RankLaws
+pub mod RowsLaws
+pub mod SeekLaws
+pub mod StandLaws
+pub mod StepLaws
+pub mod TableLaws

@@ -1,0 +1,11 @@
+pub mod Knowing
+pub mod Laying
+pub mod Next
+pub mod Over
+pub mod Overlays
+pub mod OwnCode
+pub mod OwnTables
+pub mod Ranks
+pub mod Seeking
+pub mod Stands
+pub mod Starts

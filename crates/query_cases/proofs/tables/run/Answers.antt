@@ -1,6 +1,0 @@
-use Rattle.std.proofs.Common.{rules}
-use Rattle.table_scan.proofs.KeyedLaws.{history_keyed}
-use Rattle.query_cases.proofs.tables.run.Goals as goal
-
-pub returns-in-Ok : goal.returns-in-Ok
-returns-in-Ok c = history_keyed c.args.entries.now c.run.new.self (search rules)

@@ -1,0 +1,5 @@
+pub mod ApartLaws
+pub mod HoldingLaws
+pub mod KeptLaws
+pub mod ListLaws
+pub mod LockLaws

@@ -1,0 +1,4 @@
+pub mod Holding
+pub mod Kept
+pub mod Locks
+pub mod Sessions

@@ -1,0 +1,53 @@
+-- Leads rise with keys.
+use Rattle.std.proofs.Common.{◌≡◌, ℕ, zero, suc, ◌+◌, ◌-◌, ◌<◌, ◌≤◌, ◌^◌, ℤ, pos, negsuc, ◌<ℤ◌, int_lt, List, [], ◌∷◌, Less, Equal, Greater, Ordering, cond, refl, sym, ap, ◌∙◌, arith}
+use Rattle.std.specs.Ordering.{int_cmp, nat_cmp, ordering_then, ordering_reverse, MatchOrdering}
+use Rattle.std.proofs.lemmas.Cmp.{int_ranked, ranked}
+use Rattle.std.proofs.lemmas.Int.{ints}
+use Rattle.row_types.proofs.OrderLaws.{key_total}
+use Rattle.row_types.specs.declared.value.Value.{Value}
+use Rattle.row_types.specs.declared.value.Value.TheVariants.{Null, Integer, Text, Time}
+use Rattle.row_types.specs.Order.{key_order, order_of}
+use Rattle.slot_rows.specs.Leads.{lead, lead_first, lead_of, near}
+
+near_below : (x : ℤ) → near x < 2 ^ 62
+near_below (pos n) = grind arith
+near_below (negsuc n) = grind arith
+
+near_rises : (x y : ℤ) → near x < near y → int_cmp x y ≡ Less
+near_rises (pos m) (pos n) h = grind (arith, ints)
+near_rises (pos m) (negsuc n) h = grind (arith, ints)
+near_rises (negsuc m) (pos n) h = grind (arith, ints)
+near_rises (negsuc m) (negsuc n) h = grind (arith, ints)
+
+pub lead_rises : (v w : Value) → lead v < lead w → order_of v w ≡ Less
+lead_rises (Integer x) (Integer y) h = ap (λ r. ordering_then r Equal) (near_rises x y h)
+lead_rises (Integer x) (Time y) h = refl
+lead_rises (Integer x) (Text y) h = refl
+lead_rises (Integer x) Null h = refl
+lead_rises (Time x) (Integer y) h = absurd (omega (arith, near_below y, h))
+lead_rises (Time x) (Time y) h = ap (λ r. ordering_then r Equal) (near_rises x y (omega (arith, h)))
+lead_rises (Time x) (Text y) h = refl
+lead_rises (Time x) Null h = refl
+lead_rises (Text x) (Integer y) h = absurd (omega (arith, near_below y, h))
+lead_rises (Text x) (Time y) h = absurd (omega (arith, near_below y, h))
+lead_rises (Text x) (Text y) h = absurd (omega (arith, h))
+lead_rises (Text x) Null h = refl
+lead_rises Null (Integer y) h = absurd (omega (arith, near_below y, h))
+lead_rises Null (Time y) h = absurd (omega (arith, near_below y, h))
+lead_rises Null (Text y) h = absurd (omega (arith, h))
+lead_rises Null Null h = absurd (omega (arith, h))
+
+key_rises : (k l : List Value) → lead_of k < lead_of l → key_order k l ≡ Less
+key_rises [] [] h = absurd (omega (arith, h))
+key_rises [] (w ∷ l) h = refl
+key_rises (v ∷ k) [] h = absurd (omega (arith, h))
+key_rises (v ∷ k) (w ∷ l) h = ap (λ r. ordering_then r (key_order k l)) (lead_rises v w h)
+
+-- to compare leads first changes nothing
+pub lead_agrees : (k l : List Value) → lead_first (lead_of k) (lead_of l) (key_order k l) ≡ key_order k l
+lead_agrees k l = by (nat_cmp (lead_of k) (lead_of l)) (ranked (lead_of k) (lead_of l) (nat_cmp (lead_of k) (lead_of l)) refl)
+  where
+    by : (r : Ordering) → MatchOrdering r (lead_of k < lead_of l) (lead_of k ≡ lead_of l) (lead_of l < lead_of k) → ordering_then r (key_order k l) ≡ key_order k l
+    by Less h = sym (key_rises k l h)
+    by Equal h = refl
+    by Greater h = sym (key_total.antisymm k l ∙ ap ordering_reverse (key_rises l k h))

@@ -1,0 +1,5 @@
+mod LeadLaws
+mod SlotLaws
+mod OrderLaws
+mod ManyLaws
+mod FrontLaws

@@ -1,0 +1,28 @@
+use Rattle.std.proofs.Common.{◌≡◌, ◌<◌, ap, sym, subst, ◌∙◌}
+use Rattle.std.specs.FinMap as fm
+use Rattle.key_rows.specs.Places.{IsKeyAt}
+use Rattle.key_rows.proofs.MapLaws.{no_row, not_removed}
+use Rattle.slot_rows.specs.Slots.{table_in}
+use Rattle.slot_rows.proofs.OrderLaws.{table_len}
+use Rattle.slot_rows.proofs.rows.SlotRows.remove.Goals as goal
+
+pub take-requires : goal.take-requires
+take-requires c =
+    let l = c.self.inside in
+    subst (λ n. c.in-Ok.place < n) (sym (table_len l.rows l.by_key.places l.by_key.entries c.self.invariant.0) ∙ ap (λ h. fm.len h.table) c.self.view_is) c.in-Ok.ensures.bound
+
+pub returns-in-Err-clause-old : goal.returns-in-Err-clause-old
+returns-in-Err-clause-old c =
+    let o = c.self.inside.by_key in
+    sym (no_row (table_in c.self.inside.rows o.places o.entries) c.args.key.now c.in-Err.field-0 c.in-Err.ensures.absent) ∙ ap (λ h. fm.get h.table c.args.key.now) c.self.view_is
+
+pub returns-in-Err-clause-table : goal.returns-in-Err-clause-table
+returns-in-Err-clause-table c =
+    let o = c.self.inside.by_key in
+    subst (λ h. h.table ≡ fm.remove h.table c.args.key.now) c.self.view_is (not_removed (table_in c.self.inside.rows o.places o.entries) c.args.key.now c.in-Err.field-0 c.in-Err.ensures.absent)
+
+pub returns-in-Ok-clause-old : goal.returns-in-Ok-clause-old
+returns-in-Ok-clause-old c = (c.take.ensures.taken c.args.key.now (subst (λ h. IsKeyAt (fm.entries h.table) c.args.key.now c.in-Ok.place) c.self.view_is c.in-Ok.ensures.found)).was
+
+pub returns-in-Ok-clause-table : goal.returns-in-Ok-clause-table
+returns-in-Ok-clause-table c = (c.take.ensures.taken c.args.key.now (subst (λ h. IsKeyAt (fm.entries h.table) c.args.key.now c.in-Ok.place) c.self.view_is c.in-Ok.ensures.found)).now

@@ -1,0 +1,43 @@
+-- The rows of a table in slots, and orders of their slots (this project's rule).
+use Rattle.std.specs.Prelude.{◌≡◌, ℕ, List, [], Option, Some, true, T, map, is_some, slice_get, unwrap_or, refl}
+use Rattle.std.specs.Coded.{Coded, code_by, coded×, coded_list, coded_ℕ}
+use Rattle.std.specs.FinMap as fm
+use Rattle.slab.specs.Slab.{Slab, get}
+use Rattle.row_types.specs.declared.value.Value.{Value}
+use Rattle.row_types.specs.Order.{key_order}
+use Rattle.row_types.specs.contracts.value.Value as one
+use Rattle.indexed_rows.specs.Rows.{Table, key_of}
+use Rattle.slot_rows.specs.Leads.{lead_of}
+use Rattle.slot_rows.specs.declared.order.Entry.{Entry}
+
+-- the row in a slot
+abbrev pub row_in : Slab (List Value) → ℕ → List Value
+row_in slab slot = unwrap_or (get slab slot) []
+
+-- the key and the row of a slot
+abbrev pub entry_in : Slab (List Value) → List ℕ → ℕ → List Value × List Value
+entry_in slab places slot = (key_of places (row_in slab slot), row_in slab slot)
+
+abbrev pub entries_in : Slab (List Value) → List ℕ → List ℕ → List (List Value × List Value)
+entries_in slab places slots = map (entry_in slab places) slots
+
+abbrev pub slots_of : List Entry → List ℕ
+slots_of entries = map (λ e. e.slot) entries
+
+-- the rows by the values at some columns, as an order of their slots has them
+abbrev pub table_in : Slab (List Value) → List ℕ → List Entry → Table
+table_in slab places entries = fm.from_sorted (entries_in slab places (slots_of entries))
+
+-- each of the slots has a row, and their keys rise
+pub record AreSlots (slab : Slab (List Value)) (places slots : List ℕ) : Type 0 where
+  pub live : (i slot : ℕ) → slice_get slots i ≡ Some slot → is_some (get slab slot) ≡ true
+  pub sorted : T (fm.is_sorted key_order (entries_in slab places slots))
+
+-- each entry has the lead of its row's key
+abbrev pub AreLed : Slab (List Value) → List ℕ → List Entry → Type 0
+AreLed slab places entries = (i : ℕ) (entry : Entry) → slice_get entries i ≡ Some entry → entry.lead ≡ lead_of (key_of places (row_in slab entry.slot))
+
+-- entries of slots that have rows, in the order of keys, each with its lead
+pub record AreOrdered (slab : Slab (List Value)) (places : List ℕ) (entries : List Entry) : Type 0 where
+  pub slots : AreSlots slab places (slots_of entries)
+  pub led : AreLed slab places entries

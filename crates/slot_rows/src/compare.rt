@@ -1,0 +1,107 @@
+//! Rows compared by their keys, where they lie.
+
+ghost use Rattle.std.specs.Prelude.{◌≡◌, slice_get, unwrap_or};
+ghost use Rattle.row_types.specs.declared.value.Value.TheVariants.{Null};
+ghost use Rattle.row_types.specs.Order.{key_order};
+ghost use Rattle.slot_rows.specs.Leads.{lead_first};
+ghost use Rattle.indexed_rows.specs.Rows.{key_of};
+ghost use Rattle.slot_rows.specs.Slots.{row_in};
+
+use crate::order::Entry;
+use long_list::Probe;
+use row_types::{Row, Value, order};
+use slab::Slab;
+use std::cmp::Ordering;
+
+pub(crate) fn value_at<'a>(values: &'a [Value], place: usize, null: &'a Value) -> &'a Value
+    requires { null.now ≡ Null }
+    ensures { result.now ≡ unwrap_or (slice_get values.now place) Null }
+{
+    match values.get(place) {
+        None => null,
+        Some(value) => value,
+    }
+}
+
+// How the key of a row stands to a key.
+fn order_to_key(places: &[usize], row: &[Value], key: &[Value]) -> Ordering
+    ensures { result ≡ key_order (key_of places.now row.now) key.now }
+{
+    match (places.split_first(), key.split_first()) {
+        (None, None) => Ordering::Equal,
+        (None, Some(_)) => Ordering::Less,
+        (Some(_), None) => Ordering::Greater,
+        (Some((place, places)), Some((value, key))) => {
+            let null = Value::Null;
+            match order(value_at(row, *place, &null), value) {
+                Ordering::Equal => order_to_key(places, row, key),
+                decided => decided,
+            }
+        }
+    }
+}
+
+// How the key of a row stands to that of another.
+fn order_of_rows(places: &[usize], row: &[Value], other: &[Value]) -> Ordering
+    ensures { result ≡ key_order (key_of places.now row.now) (key_of places.now other.now) }
+{
+    match places.split_first() {
+        None => Ordering::Equal,
+        Some((place, places)) => {
+            let null = Value::Null;
+            match order(value_at(row, *place, &null), value_at(other, *place, &null)) {
+                Ordering::Equal => order_of_rows(places, row, other),
+                decided => decided,
+            }
+        }
+    }
+}
+
+pub(crate) fn values_in(rows: &Slab<Row>, slot: usize) -> &[Value]
+    ensures { result.now ≡ row_in rows.now slot }
+{
+    match rows.get(slot) {
+        None => &[],
+        Some(row) => row.values(),
+    }
+}
+
+// The entry of a key, whose lead is beside it.
+#[derive(Drop)]
+pub(crate) struct ByKey<'a> {
+    pub(crate) rows: &'a Slab<Row>,
+    pub(crate) places: &'a [usize],
+    pub(crate) key: &'a [Value],
+    pub(crate) lead: u64,
+}
+
+impl<'a> Probe<Entry> for ByKey<'a> {
+    ghost order_gives = { λ sought entry. lead_first entry.lead sought.lead (key_order (key_of sought.places.now (row_in sought.rows.now entry.slot)) sought.key.now) };
+
+    fn order(&self, entry: &Entry) -> Ordering {
+        match entry.lead.cmp(&self.lead) {
+            Ordering::Equal => order_to_key(self.places, values_in(self.rows, entry.slot), self.key),
+            decided => decided,
+        }
+    }
+}
+
+// The entry of a row's key, whose lead is beside it.
+#[derive(Drop)]
+pub(crate) struct ByRow<'a> {
+    pub(crate) rows: &'a Slab<Row>,
+    pub(crate) places: &'a [usize],
+    pub(crate) row: &'a [Value],
+    pub(crate) lead: u64,
+}
+
+impl<'a> Probe<Entry> for ByRow<'a> {
+    ghost order_gives = { λ sought entry. lead_first entry.lead sought.lead (key_order (key_of sought.places.now (row_in sought.rows.now entry.slot)) (key_of sought.places.now sought.row.now)) };
+
+    fn order(&self, entry: &Entry) -> Ordering {
+        match entry.lead.cmp(&self.lead) {
+            Ordering::Equal => order_of_rows(self.places, values_in(self.rows, entry.slot), self.row),
+            decided => decided,
+        }
+    }
+}

@@ -1,0 +1,12 @@
+//! The rows of a table in slots: no key is copied, and a row goes in without memory where room was made for it.
+#![tactic(auto)]
+
+mod compare;
+mod lead;
+mod order;
+mod orders;
+mod rows;
+#[cfg(test)]
+mod tests;
+
+pub use rows::SlotRows;

@@ -1,0 +1,225 @@
+//! The rows of a table in slots.
+
+ghost use Rattle.std.specs.Prelude.{◌≡◌, ◌≤◌, ◌<◌, ◌+◌, ◌^◌, ◌++◌, List, [], ◌∷◌, length, OnOk, OnErr, option_copied, slice_get, slice_index_or};
+ghost use Rattle.std.specs.FinMap as map;
+ghost use Rattle.key_rows.specs.Places.{IsKeyAt};
+ghost use Rattle.indexed_rows.specs.Rows.{key_of, put_in, put_over};
+ghost use Rattle.row_types.specs.declared.value.Value.{Value as OneValue};
+ghost use Rattle.slot_rows.specs.Orders.{IsRowWith, IsWider, TakesRow, first_columns};
+
+use crate::lead::lead_of_row;
+use crate::order::Order;
+use crate::orders::{enter_all, leave_all, reserve_all};
+use row_types::{Row, Value};
+use slab::Slab;
+use std::alloc::{AllocError, Global};
+use std::marker::Model;
+use tier_base::Seq;
+
+// One more than the most rows that a table holds.
+const LIMIT: usize = 0x8000_0000_0000_0000;
+
+/// The rows of a table by their values at some columns, the key. Clauses see the rows by key, these columns, and how
+/// many more rows go in without memory.
+///
+/// A look-up, an insert and a removal cost O(log n) comparisons, most of which read no row. This project's rule.
+pub struct SlotRows {
+    rows: Slab<Row>,
+    by_key: Order,
+    others: Vec<Order>,
+}
+
+impl Drop for SlotRows {
+    fn drop(self) {
+        let Self {
+            rows: _,
+            by_key: _,
+            others: _,
+        } = self;
+    }
+}
+
+impl Model for SlotRows {
+    ghost use Rattle.std.specs.Prelude.{length, map};
+    ghost use Rattle.slab.specs.Slab.{HasRoomFor};
+    ghost use Rattle.slot_rows.specs.Orders.{Each, RowsHeld, rows_held_code, IsOther};
+    ghost use Rattle.slot_rows.specs.Slots.{AreOrdered, table_in};
+
+    ghost Value = { RowsHeld };
+
+    ghost coded = { rows_held_code };
+
+    ghost view = { λ r. record { table = table_in r.rows r.by_key.places r.by_key.entries; places = r.by_key.places; orders = map (λ o. o.places) r.others.items; spare = length r.by_key.room.items } };
+
+    ghost invariant = { λ r. AreOrdered r.rows r.by_key.places r.by_key.entries × HasRoomFor r.rows (length r.by_key.room.items) × Each (IsOther r.rows r.by_key.places r.by_key.entries (length r.by_key.room.items)) r.others.items };
+}
+
+impl SlotRows {
+    /// No rows, whose key is the values at these columns. It takes no memory.
+    pub fn new(alloc: Global, places: Seq<usize>) -> SlotRows
+        ensures table { result.table ≡ map.empty }
+        ensures places { result.places ≡ places }
+        ensures orders { result.orders ≡ [] }
+    {
+        SlotRows {
+            rows: Slab::new(alloc),
+            by_key: Order::new(alloc, places),
+            others: Vec::new(alloc),
+        }
+    }
+
+    /// How many rows there are.
+    pub fn len(&self) -> usize
+        ensures value { result ≡ map.len self.now.table }
+        ensures fits { result < 2 ^ 63 }
+    {
+        self.by_key.entries.len()
+    }
+
+    /// The row of a key.
+    pub fn get(&self, key: &[Value]) -> Option<&Row>
+        ensures { option_copied result ≡ map.get self.now.table key.now }
+    {
+        match self.by_key.search(&self.rows, key) {
+            Ok(place) => self.rows.get(self.by_key.slot_at(place)),
+            Err(_) => None,
+        }
+    }
+
+    /// A row that has these values at the first columns of another order. It costs O(log n) comparisons.
+    pub fn find(&self, order: usize, values: &[Value]) -> Option<&Row>
+        requires there { order < length self.now.orders }
+        requires some { 0 < length values.now }
+        requires columns { length values.now ≤ length (slice_index_or self.now.orders order []) }
+        ensures { IsRowWith self.now.table self.now.places (first_columns self.now.orders order (length values.now)) values.now (option_copied result) }
+    {
+        match self.others[order].search_front(&self.rows, values) {
+            None => None,
+            Some(slot) => self.rows.get(slot),
+        }
+    }
+
+    /// The row at a place in key order, which is below the length.
+    pub fn row_at(&self, place: usize) -> Option<&Row>
+        requires { place < map.len self.now.table }
+        ensures { option_copied result ≡ slice_get (map.values self.now.table) place }
+    {
+        self.rows.get(self.by_key.slot_at(place))
+    }
+
+    /// Another order of the rows, which are none yet: by some columns and then the key's.
+    ///
+    /// It fails for want of memory alone, and the rows then are as they were.
+    pub fn add_order(&mut self, alloc: Global, columns: Seq<usize>) -> Result<(), AllocError>
+        requires empty { map.len self.old.table ≡ 0 }
+        requires wider { IsWider columns self.old.places }
+        ensures ok { OnOk result (self.new ≡ record self.old { orders = self.old.orders ++ columns ∷ [] }) }
+        ensures err { OnErr result (self.new ≡ self.old) }
+    {
+        let mut order = Order::new(alloc, columns);
+        order.reserve(alloc, self.by_key.room.len())?;
+        self.others.push(order)?;
+        Ok(())
+    }
+
+    /// Makes room for so many more rows, so that they go in without memory.
+    ///
+    /// It fails for want of memory alone.
+    pub fn reserve(&mut self, alloc: Global, more: usize) -> Result<(), AllocError>
+        ensures table { self.new.table ≡ self.old.table }
+        ensures places { self.new.places ≡ self.old.places }
+        ensures orders { self.new.orders ≡ self.old.orders }
+        ensures ok { OnOk result (more ≤ self.new.spare) }
+        ensures spare { self.old.spare ≤ self.new.spare }
+    {
+        if self.by_key.room.len() >= more {
+            return Ok(());
+        }
+        self.rows.reserve(more)?;
+        reserve_all(&mut self.others, alloc, more)?;
+        self.by_key.reserve(alloc, more)
+    }
+
+    /// Puts in a row where its key has none. It takes no memory.
+    pub fn insert_reserved(&mut self, row: Row)
+        requires room { 0 < self.old.spare }
+        requires fits { map.len self.old.table + 1 < 2 ^ 63 }
+        ensures table { self.new.table ≡ put_in self.old.table (key_of self.old.places row) row }
+        ensures places { self.new.places ≡ self.old.places }
+        ensures orders { self.new.orders ≡ self.old.orders }
+        ensures spare { self.old.spare ≤ self.new.spare + 1 }
+    {
+        match self.by_key.search_row(&self.rows, row.values()) {
+            Ok(_) => {}
+            Err(place) => {
+                let lead = lead_of_row(self.by_key.places.as_slice(), row.values());
+                let slot = self.rows.insert_reserved(row);
+                self.by_key.enter(place, lead, slot);
+                enter_all(&mut self.others, &self.rows, slot);
+            }
+        }
+    }
+
+    /// Puts in a row where its key has none.
+    ///
+    /// It fails for want of memory alone, and the rows then are as they were.
+    pub fn insert(&mut self, alloc: Global, row: Row) -> Result<(), AllocError>
+        ensures ok { OnOk result (self.new.table ≡ put_in self.old.table (key_of self.old.places row) row) }
+        ensures err { OnErr result (self.new.table ≡ self.old.table) }
+        ensures places { self.new.places ≡ self.old.places }
+        ensures orders { self.new.orders ≡ self.old.orders }
+    {
+        if self.len() >= LIMIT - 1 {
+            return Err(AllocError);
+        }
+        self.reserve(alloc, 1)?;
+        self.insert_reserved(row);
+        Ok(())
+    }
+
+    /// Puts a row over the one that its key has. It takes no memory.
+    pub fn replace_reserved(&mut self, row: Row)
+        requires room { 0 < self.old.spare }
+        ensures table { self.new.table ≡ put_over self.old.table (key_of self.old.places row) row }
+        ensures places { self.new.places ≡ self.old.places }
+        ensures orders { self.new.orders ≡ self.old.orders }
+        ensures spare { self.old.spare ≤ self.new.spare + 1 }
+    {
+        match self.by_key.search_row(&self.rows, row.values()) {
+            Err(_) => {}
+            Ok(place) => {
+                let _held = self.len();
+                let _ = self.take(place);
+                self.insert_reserved(row);
+            }
+        }
+    }
+
+    /// Takes out the row of a key. It takes no memory.
+    pub fn remove(&mut self, key: &[Value]) -> Option<Row>
+        ensures old { result ≡ map.get self.old.table key.now }
+        ensures table { self.new.table ≡ map.remove self.old.table key.now }
+        ensures places { self.new.places ≡ self.old.places }
+        ensures orders { self.new.orders ≡ self.old.orders }
+        ensures spare { self.new.spare ≡ self.old.spare }
+    {
+        match self.by_key.search(&self.rows, key) {
+            Err(_) => None,
+            Ok(place) => self.take(place),
+        }
+    }
+
+    // Takes out the row at a place in key order. It takes no memory.
+    fn take(&mut self, place: usize) -> Option<Row>
+        requires { place < map.len self.old.table }
+        ensures taken { (key : List OneValue) → IsKeyAt (map.entries self.old.table) key place → TakesRow self.old.table self.new.table key result }
+        ensures places { self.new.places ≡ self.old.places }
+        ensures orders { self.new.orders ≡ self.old.orders }
+        ensures spare { self.new.spare ≡ self.old.spare }
+    {
+        let slot = self.by_key.slot_at(place);
+        leave_all(&mut self.others, &self.rows, slot);
+        let _ = self.by_key.leave(place);
+        self.rows.try_remove(slot)
+    }
+}

@@ -1,0 +1,262 @@
+#!/usr/bin/env bash
+# Writes scripts that are too many or too long to keep, each with what it gives, into the folder that is named: NAME.ttc or
+# NAME.drill, NAME.expected, and NAME.status where the status isn't 0.
+set -eu
+cd "$1"
+
+table='backing: CREATE TABLE A (ID TT_BIGINT PRIMARY KEY)'
+group='s1: CREATE ASYNCHRONOUS WRITETHROUGH CACHE GROUP GA FROM A (ID TT_BIGINT PRIMARY KEY)'
+nothing=$'-- history\n-- tables'
+
+# A byte, so many times.
+many() { head -c "$2" /dev/zero | tr '\0' "$1"; }
+
+# A drill that plans the lines of the second argument and then has the input of the file, its status, and what it gives.
+drill() {
+  { printf '%s\n' "$2"; cat "$3"; } >"$1.drill"
+  [ "$4" = 0 ] || printf '%s\n' "$4" >"$1.status"
+  printf '%s\n' "$5" >"$1.expected"
+}
+
+# Words and settings that are refused, and that aren't. A comment has no reply.
+printf '#\n' >comment
+drill no_words '! words' comment 1 "$nothing"
+drill other_words $'! words fly\n! settings x = 1' comment 1 "$nothing"
+drill check_words '! words check' comment 0 "$nothing"
+drill no_workers '! settings workers = 0' comment 2 "$nothing"
+drill unknown_setting $'! words check\n! settings x = 1' comment 2 "$nothing"
+drill sixteen_workers '! settings workers = 16' comment 0 "$nothing"
+printf '\n\r\n# a comment\r\n\n#' >silent
+: >empty
+drill no_input '! note Nothing comes.' empty 0 "$nothing"
+
+# A line of each kind, checked: taken, wrong at a byte, without a label, silent. The last has no line feed.
+printf '%s\n' 's1: OPEN' 's9: COMMIT' 's1: SELEC * FROM A' 's1: SELECT * FROM' '' '# SELEC' 's1 COMMIT' 's1:' COMMIT \
+  $'backing: INSERT INTO A VALUES (1, 2);\r' 'backing: COMMIT' >lines
+printf 's1: COMMIT' >>lines
+ended=$'ok 0\nok 0\nno 101 4\nno 101 17\nno 101 3\nno 101 3\nno 101 0\nok 0\nno 101 9'
+check=$'! words check\n! pieces'
+for size in 1 2 7; do
+  drill "silent_$size" "! pieces $size" silent 0 "$nothing"
+  drill "checked_$size" "$check $size" lines 0 "$ended"$'\nok 0\n'"$nothing"
+done
+drill checked_with_a_broken_sink "$check 1"$'\n! sink 14' lines 4 $'ok 0\nok 0\nno <cut>\n'"$nothing"
+drill checked_with_a_broken_source $'! words check\n! source 2' lines 3 "$ended"$'\n'"$nothing"
+
+# Lines of 65,536 bytes and of one more.
+{ many '#' 65536; echo; } >within
+{ many '#' 65537; echo; } >past
+{ cat past; many - 65537; } >unended
+{ many x 70000; echo; many y 70000; echo; } >two
+long='no 119 line'
+drill line_of_65536 '! pieces 65536' within 0 "$nothing"
+for size in 7 65536; do
+  drill "line_of_65537_$size" "! pieces $size" past 0 "$long"$'\n'"$nothing"
+done
+drill the_end_ends_a_line '! pieces 65536' unended 0 "$long"$'\n'"$long"$'\n'"$nothing"
+drill a_fault_ends_no_line '! source 4' unended 3 "$long"$'\n'"$nothing"
+drill no_line '! source 1' within 3 "$nothing"
+drill a_slow_sink '! pieces 1' two 0 "$long"$'\n'"$long"$'\n'"$nothing"
+drill a_broken_sink $'! pieces 1\n! sink 12' two 4 "$long"$'<cut>\n'"$nothing"
+drill a_full_sink '! pieces 0' two 4 "$nothing"
+{ cat past; echo 's1: OPEN'; } >behind
+drill behind_a_long_line '! pieces 65536' behind 0 "$long"$'\nok 0\n'"$nothing"
+{ cat within past; echo 's1: OPEN'; } >behind
+drill checked_behind_a_long_line '! words check' behind 0 "$long"$'\nok 0\n'"$nothing"
+
+# The first run, in pieces, and with a sink that fails at each byte. A line whose reply breaks off was answered.
+{
+  echo 'backing: CREATE TABLE A (ID TT_INTEGER, N TT_INTEGER, PRIMARY KEY (ID))'
+  echo 's1: OPEN'
+  echo 's1: CREATE ASYNCHRONOUS WRITETHROUGH CACHE GROUP GA FROM A (ID TT_INTEGER, N TT_INTEGER, PRIMARY KEY (ID))'
+  printf 's1: %s\n' 'INSERT INTO A VALUES (3, 30)' COMMIT 'SELECT * FROM A' 'CALL ttDrain' 'CALL ttDrain'
+} >first
+replies=$'ok 0\nok 0\nok 0\nok 1\nok 1\n= 3|30\nok 1\nok 1\nok 0\n'
+defined=$'-- history\n1 definition of A\n'
+undrained="$defined"$'-- tables\nA'
+drained="$defined"$'2 ticket 1\n  insert A 3|30\n-- tables\nA\n= 3|30'
+for size in 1 2 7 65536; do
+  drill "first_run_$size" "! pieces $size" first 0 "$replies$drained"
+done
+for ((byte = 1; byte <= ${#replies}; byte++)); do
+  front=${replies:0:byte-1}
+  case $front in '' | *$'\n') ;; *) front+=$'<cut>\n' ;; esac
+  # Those before the drain's reply are 37.
+  if [ "$byte" -le 37 ]; then left=$undrained; else left=$drained; fi
+  drill "first_run_sink_$byte" $'! pieces 1\n! sink '"$byte" first 4 "$front$left"
+done
+
+# Three transactions, of which each in turn fails before its effect, after it, or wants memory. The next drain goes on.
+{
+  printf '%s\n' "$table" 's1: OPEN' "$group"
+  for ticket in 1 2 3; do printf 's1: INSERT INTO A VALUES (%s)\ns1: COMMIT\n' "$ticket"; done
+  printf 's1: CALL ttDrain\ns1: CALL ttDrain\ns1: CALL ttDrain\n'
+} >drains
+begun=$'ok 0\nok 0\nok 0\nok 1\nok 1\nok 1\nok 2\nok 1\nok 3\n'
+three=$'1 definition of A\n2 ticket 1\n  insert A 1\n3 ticket 2\n  insert A 2\n4 ticket 3\n  insert A 3\n'
+settled=$'-- history\n'"$three"$'-- tables\nA\n= 1\n= 2\n= 3'
+for call in 1 2 3; do
+  ends=$'\nok '$((4 - call))$'\nok 0\n'"$settled"
+  drill "drain_${call}_before" "! fail apply_once $call before" drains 0 "${begun}fault 201$ends"
+  drill "drain_${call}_after" "! fail apply_once $call after" drains 0 "${begun}fault 201$ends"
+  drill "drain_${call}_memory" "! refuse apply_once $call" drains 0 "${begun}fault 299$ends"
+done
+
+# A script, whose lines and replies follow; it begins with one table, a session and a group.
+script() {
+  name=$1
+  : >"$name.ttc"
+  : >"$name.expected"
+  line "$table" 'ok 0'
+  line 's1: OPEN' 'ok 0'
+  line "$group" 'ok 0'
+}
+line() { printf '%s\n' "$1" >>"$name.ttc"; printf '%s\n' "$2" >>"$name.expected"; }
+
+# Inserts of the numbers from one on up to another.
+inserts() {
+  seq -f 's1: INSERT INTO A VALUES (%.0f)' "$1" "$2" >>"$name.ttc"
+  seq "$1" "$2" | sed 's/.*/ok 1/' >>"$name.expected"
+}
+
+# A transaction has 10,000 operations. 106 comes before 119, and 107 behind it.
+script limit_of_operations
+inserts 0 9999
+line 's1: INSERT INTO A VALUES (10000)' 'no 119 ops'
+line 's1: INSERT INTO A VALUES (NULL)' 'no 106 ID'
+line 's1: INSERT INTO A VALUES (0)' 'no 119 ops'
+line 's1: COMMIT' 'ok 1'
+inserts 10000 10000
+
+# An answer has 100,000 rows.
+script limit_of_an_answer
+for ticket in 1 2 3 4 5 6 7 8 9 10; do
+  inserts $((10000 * ticket - 10000)) $((10000 * ticket - 1))
+  line 's1: COMMIT' "ok $ticket"
+done
+echo 's1: SELECT * FROM A' >>"$name.ttc"
+seq -f '= %.0f' 0 99999 >>"$name.expected"
+echo 'ok 100000' >>"$name.expected"
+inserts 100000 100000
+line 's1: SELECT * FROM A' 'no 119 answer'
+
+# 4,096 tickets are pending.
+script limit_of_tickets
+seq -f $'s1: INSERT INTO A VALUES (%.0f)\ns1: COMMIT' 1 4096 >>"$name.ttc"
+seq -f $'ok 1\nok %.0f' 1 4096 >>"$name.expected"
+line 's1: COMMIT' 'ok 0'
+inserts 0 0
+line 's1: COMMIT' 'no 119 pending'
+line 's1: CALL ttDrain' 'ok 4096'
+line 's1: COMMIT' 'ok 4097'
+
+# There are 64 groups. 113 and 114 come before the limit.
+script limit_of_groups
+for number in $(seq 1 64); do line "backing: CREATE TABLE T$number (ID TT_BIGINT PRIMARY KEY)" 'ok 0'; done
+kind='s1: CREATE ASYNCHRONOUS WRITETHROUGH CACHE GROUP'
+for number in $(seq 1 63); do line "$kind G$number FROM T$number (ID TT_BIGINT PRIMARY KEY)" 'ok 0'; done
+line "$kind G64 FROM T64 (ID TT_BIGINT PRIMARY KEY)" 'no 119 groups'
+line "$kind G63 FROM T63 (ID TT_BIGINT PRIMARY KEY)" 'no 113 G63'
+line "$kind G FROM A (ID TT_BIGINT PRIMARY KEY)" 'no 114 d'
+
+# A table of so many columns, and its reply.
+wide() {
+  columns=$(seq -f ', C%.0f TT_INTEGER' 1 $(($1 - 1)) | tr -d '\n')
+  line "backing: CREATE TABLE W$1 (C0 TT_INTEGER PRIMARY KEY$columns)" "$2"
+}
+
+# There are 256 tables of 32 columns. 119 of the tables comes before that of the columns, and 113 and 104 before both.
+script limit_of_tables
+wide 32 'ok 0'
+wide 33 'no 119 columns'
+for number in $(seq 2 255); do line "backing: CREATE TABLE T$number (ID TT_BIGINT PRIMARY KEY)" 'ok 0'; done
+wide 33 'no 119 tables'
+line 'backing: CREATE TABLE T2 (ID TT_BIGINT)' 'no 113 T2'
+line 'backing: CREATE TABLE T1 (ID TT_BIGINT)' 'no 104'
+
+# Transactions of three writes, each from the same rows, against a list of rows that awk keeps: P (ID, N); C (ID, PID), which
+# leaves with nothing; K (ID, PID), which leaves with its parent. All of 12 writes in each place: 1,728 transactions.
+awk '
+function has(table, id) { return (table, id) in row }
+function orphan(table, parent) { return table != "P" && !has("P", parent) }
+# The rows of a table in key order, into found; how many.
+function find(table,   id, count) {
+  for (id = 0; id < 10; id++) if (has(table, id)) found[++count] = id
+  return count + 0
+}
+function told(verb, table, id) { return "  " verb " " table " " id "|" row[table, id] "\n" }
+function insert(table, id, other) { row[table, id] = other; done = done told("insert", table, id) }
+function leave(table, id) { done = done told("delete", table, id); delete row[table, id] }
+function leave_all(table,   count, i) { count = find(table); for (i = 1; i <= count; i++) leave(table, found[i]); return count }
+# The rows that each transaction begins with. What was there leaves first.
+function begin() {
+  rows = leave_all("C") + leave_all("K") + leave_all("P")
+  insert("P", 1, 10); insert("P", 2, "NULL"); insert("P", 3, 4)
+  insert("C", 4, 1); insert("C", 5, 3); insert("K", 6, 1); insert("K", 7, 2)
+  rows += 7
+}
+# Does a write, or tells the rule that it breaks.
+function write(verb, table, id, other,   i, count) {
+  if (verb == "insert") {
+    if (has(table, id)) return "no 107 " table " " id
+    if (orphan(table, other)) return "no 108 P " other
+    insert(table, id, other); rows++
+  } else if (verb == "update" && has(table, id)) {
+    if (orphan(table, other)) return "no 108 P " other
+    done = done "  update " table " " id "|" row[table, id] " to " id "|" other "\n"
+    row[table, id] = other; rows++
+  } else if (verb == "delete" && has(table, id)) {
+    if (table == "P") {
+      count = find("C")
+      for (i = 1; i <= count; i++) if (row["C", found[i]] == id) return "no 109 C " found[i]
+      count = find("K")
+      for (i = 1; i <= count; i++) if (row["K", found[i]] == id) leave("K", found[i])
+    }
+    leave(table, id); rows++
+  }
+  return ""
+}
+function spelt(verb, table, id, other) {
+  if (verb == "insert") return "INSERT INTO " table " VALUES (" id "," other ")"
+  if (verb == "delete") return "DELETE FROM " table " WHERE ID = " id
+  return "UPDATE " table " SET " (table == "P" ? "N" : "PID") " = " other " WHERE ID = " id
+}
+function entry(reply) {
+  print reply >"three_writes.expected"
+  if (reply ~ /^ok/) printf "%d others\n%s", ++entries, done >"history"
+  done = ""
+}
+# The three writes, and what is left: all of it, or what was there before.
+function transact(a, b, c,   line, saved, key, broken, i, part) {
+  print "backing: DELETE FROM C; DELETE FROM K; DELETE FROM P; INSERT INTO P VALUES (1,10); INSERT INTO P VALUES (2,NULL); INSERT INTO P VALUES (3,4); INSERT INTO C VALUES (4,1); INSERT INTO C VALUES (5,3); INSERT INTO K VALUES (6,1); INSERT INTO K VALUES (7,2)" >"three_writes.drill"
+  begin(); entry("ok " rows)
+  for (key in row) saved[key] = row[key]
+  rows = 0
+  line = "backing: "
+  place[1] = a; place[2] = b; place[3] = c
+  for (i = 1; i <= 3; i++) {
+    split(writes[place[i]], part, " ")
+    line = line (i > 1 ? "; " : "") spelt(part[1], part[2], part[3], part[4])
+    if (broken == "") broken = write(part[1], part[2], part[3], part[4])
+  }
+  print line >"three_writes.drill"
+  if (broken == "") { entry("ok " rows); return }
+  delete row
+  for (key in saved) row[key] = saved[key]
+  entry(broken)
+}
+BEGIN {
+  count = split("insert P 4 40,insert P 1 1,insert C 8 4,insert K 8 1,update P 2 5,update C 4 2,update K 7 9,delete P 1,delete P 2,delete P 4,delete C 4,delete K 7", writes, ",")
+  print "! joined" >"three_writes.drill"
+  entries = split("P C V T K", tables, " ")
+  print "-- history" >"history"
+  for (i = 1; i <= entries; i++) print i " definition of " tables[i] >"history"
+  for (a = 1; a <= count; a++) for (b = 1; b <= count; b++) for (c = 1; c <= count; c++) transact(a, b, c)
+  print "-- tables" >"history"
+  for (i = 1; i <= 5; i++) {
+    print tables[i] >"history"
+    count = find(tables[i])
+    for (b = 1; b <= count; b++) print "= " found[b] "|" row[tables[i], found[b]] >"history"
+  }
+}'
+cat history >>three_writes.expected
