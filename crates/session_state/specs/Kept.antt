@@ -1,4 +1,4 @@
--- What a session keeps of its open operations, and what is true of all sessions. (This project's rule.)
+-- What a session keeps of its open operations. (This project's rule.)
 
 use Rattle.std.specs.Prelude.{◌≡◌, ℕ, ◌+◌, ◌≤◌, ◌*◌, List, Option, Some, None, Bool, true, false, length, nat_lt, slice_get}
 use Rattle.std.specs.List.{list_all}
