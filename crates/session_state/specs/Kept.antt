@@ -1,6 +1,6 @@
--- What a session keeps of its open operations, and what is true of all sessions. (This project's rule.)
+-- What a session keeps of its open operations. (This project's rule.)
 
-use Rattle.std.specs.Prelude.{◌≡◌, ℕ, ◌+◌, ◌≤◌, ◌*◌, List, Option, Some, None, Bool, true, false, All, AllPairs, length, map, nat_lt, slice_get}
+use Rattle.std.specs.Prelude.{◌≡◌, ℕ, ◌+◌, ◌≤◌, ◌*◌, List, Option, Some, None, Bool, true, false, length, nat_lt, slice_get}
 use Rattle.std.specs.List.{list_all}
 use Rattle.tier_base.specs.declared.limit.Limit.TheVariants as limit
 use Rattle.tier_base.specs.Limits.{greatest}

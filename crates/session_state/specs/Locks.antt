@@ -1,6 +1,6 @@
 -- Row locks: the keys that sessions hold by their open operations. (This project's rule: a lock is never waited for.)
 
-use Rattle.std.specs.Prelude.{◌≡◌, List, [], ◌∷◌, Option, Some, None, Bool, true, false, not, ◌&&◌, All, AllPairs, find}
+use Rattle.std.specs.Prelude.{◌≡◌, List, [], ◌∷◌, Option, Some, None, Bool, true, false, not, ◌&&◌, All, find}
 use Rattle.std.specs.Option.{option_map, option_or}
 use Rattle.tier_base.specs.declared.number.SessionId.{SessionId}
 use Rattle.table_defs.specs.declared.definition.TableDef.{TableDef}
@@ -55,7 +55,3 @@ IsApart schema ops others = conflict (footprint_of schema ops) (footprint_of sch
 -- the operations conflict with those of no session but one
 abbrev pub AreApart : Option SessionId → List TableDef → List OpenSession → List Op → Type 0
 AreApart but schema sessions ops = All (λ s. is_other but s ≡ true → IsApart schema ops s.ops) sessions
-
--- no two sessions conflict
-abbrev pub NoConflicts : List TableDef → List OpenSession → Type 0
-NoConflicts schema sessions = AllPairs (λ a b. IsApart schema a.ops b.ops) sessions
