@@ -148,9 +148,9 @@ module _ (own s : TableState) (tree : Tree) (p : Row → Bool) (o : Owns own s t
         let long : length (shown_of s tree p) ≡ length (shown_of s tree q) = shown_length s tree p ∙ sym (shown_length s tree q) in
         ap (tables_without (shown_of s tree p)) instance_is
         ∙ same_tables (tables_without (shown_of s tree p) (shown_of s tree q)) (shown_of s tree (λ k. p k && not (is_same k root))) (length_less (shown_of s tree p) (shown_of s tree q) long ∙ shown_length s tree p ∙ sym (shown_length s tree (λ k. p k && not (is_same k root))))
-          (λ i key. get_less (shown_of s tree p) (shown_of s tree q) long i key
-            ∙ ap (λ v. cond (is_some (get (kept_at (shown_of s tree q) i) key)) None v) (gets_chosen s tree p i key) ∙ ap (λ v. cond (is_some v) None (cond (has_root p (root_at s tree i key)) (get (kept_at (view_of s tree) i) key) None)) (gets_chosen s tree q i key)
-            ∙ rest_not (root_at s tree i key) (get (kept_at (view_of s tree) i) key) ∙ sym (gets_chosen s tree (λ k. p k && not (is_same k root)) i key))
+        (λ i key. get_less (shown_of s tree p) (shown_of s tree q) long i key
+        ∙ ap (λ v. cond (is_some (get (kept_at (shown_of s tree q) i) key)) None v) (gets_chosen s tree p i key) ∙ ap (λ v. cond (is_some v) None (cond (has_root p (root_at s tree i key)) (get (kept_at (view_of s tree) i) key) None)) (gets_chosen s tree q i key)
+        ∙ rest_not (root_at s tree i key) (get (kept_at (view_of s tree) i) key) ∙ sym (gets_chosen s tree (λ k. p k && not (is_same k root)) i key))
 
 pub drops_own : (own s : TableState) (tree : Tree) → DropsOwn own s tree
 drops_own own s tree p root o = (instance_is own s tree p o root, drop_is own s tree p o root)

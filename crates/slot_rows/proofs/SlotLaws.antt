@@ -27,15 +27,17 @@ module _ {X Y : Type 0} (f : X → Y) where
   mapped_search first order xs x agree (Ok i) h p = λ d. ap order (get_or-map f xs i x d h) ∙ sym (agree i x h) ∙ p x
   mapped_search first order xs x agree (Err i) h p = λ rises.
       let point = p (λ a b d low high. let s = rises a b (f d) low (subst (λ n. b < n) (sym (length-map xs f)) high) in
-        let one = ap (λ y. ordering_index (order y)) (get_or-map f xs a d (f d) (below a b low high)) in
-        let two = ap (λ y. ordering_index (order y)) (get_or-map f xs b d (f d) high) in
-        let three = ap ordering_index (agree a d (below a b low high)) in
-        let four = ap ordering_index (agree b d high) in omega (arith, s, one, two, three, four)) in
-      ( (λ k d low high. let lt : k < length xs = inside k high h in ap order (get_or-map f xs k x d lt) ∙ sym (agree k x lt) ∙ point.0 k x low high)
-      , (λ k d low high. let lt : k < length xs = subst (λ n. k < n) (length-map xs f) high in ap order (get_or-map f xs k x d lt) ∙ sym (agree k x lt) ∙ point.1 k x low lt))
+      let one = ap (λ y. ordering_index (order y)) (get_or-map f xs a d (f d) (below a b low high)) in
+      let two = ap (λ y. ordering_index (order y)) (get_or-map f xs b d (f d) high) in
+      let three = ap ordering_index (agree a d (below a b low high)) in
+      let four = ap ordering_index (agree b d high) in omega (arith, s, one, two, three, four)) in (
+        (λ k d low high. let lt : k < length xs = inside k high h in ap order (get_or-map f xs k x d lt) ∙ sym (agree k x lt) ∙ point.0 k x low high),
+        (λ k d low high. let lt : k < length xs = subst (λ n. k < n) (length-map xs f) high in ap order (get_or-map f xs k x d lt) ∙ sym (agree k x lt) ∙ point.1 k x low lt),
+      )
     where
       below : (a b : ℕ) → a ≤ b → b < length xs → a < length xs
       below a b low high = omega arith
+
       inside : (k : ℕ) → k < i → i ≤ length xs → k < length xs
       inside k lt le = omega arith
 

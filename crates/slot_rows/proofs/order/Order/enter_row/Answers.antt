@@ -25,7 +25,7 @@ returns-in-Err c =
     let leads : c.lead_of_row-lead.result ≡ lead_of (key_of o.places (row_in slab c.args.slot)) = c.lead_of_row-lead.ensures ∙ ap (λ ps. lead_of (key_of ps c.values_in-row.result.now)) c.as_slice.ensures ∙ ap (λ v. lead_of (key_of o.places v)) c.values_in-row.ensures in
     record {
       ordered = subst (λ ps. AreOrdered slab ps c.enter.new.self.entries) (sym c.enter.ensures.places) (subst (AreOrdered slab o.places) (sym c.enter.ensures.entries)
-        (order_entered slab o.places o.entries c.in-Err.place e (row_in slab c.args.slot) there c.requires.ordered gap leads));
+          (order_entered slab o.places o.entries c.in-Err.place e (row_in slab c.args.slot) there c.requires.ordered gap leads));
       places = c.enter.ensures.places;
       at = c.in-Err.place;
       slots = ap slots_of c.enter.ensures.entries ∙ slots_now slab o.places o.entries c.in-Err.place e (row_in slab c.args.slot) there c.requires.ordered gap;
