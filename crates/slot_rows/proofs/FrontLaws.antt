@@ -1,10 +1,10 @@
 -- Rows found by the first columns of an order, and rows put over others.
-use Rattle.std.proofs.Common.{◌≡◌, ◌≢◌, ℕ, zero, suc, ◌+◌, ◌<◌, ◌≤◌, List, [], ◌∷◌, ◌++◌, length, map, take, get_or, slice_get, Option, Some, None, is_some, unwrap_or, Bool, true, false, cond, T, Result, Ok, Err, Less, Equal, Greater, Ordering, refl, sym, ap, subst, ◌∙◌, ◌⊎◌, inl, inr, arith}
+use Rattle.std.proofs.Common.{◌≡◌, ◌≢◌, ℕ, zero, suc, ◌<◌, ◌≤◌, List, [], ◌∷◌, ◌++◌, length, map, take, get_or, slice_get, Option, Some, None, is_some, Bool, true, false, cond, T, Result, Ok, Err, Less, Equal, Greater, Ordering, refl, sym, ap, subst, ◌∙◌, inl, inr, arith}
 use Rattle.std.proofs.lemmas.Bool.{cases_lt}
 use Rattle.std.proofs.lemmas.Cmp.{alike_right, tied_itself}
-use Rattle.std.proofs.lemmas.List.{get_or-map, length-map}
+use Rattle.std.proofs.lemmas.List.{get_or-map}
 use Rattle.std.proofs.lemmas.Option.{slice_get-get_or}
-use Rattle.std.specs.List.Sorted.{IsBinarySearchResult, IsPartitionPoint, IsSearchInRange}
+use Rattle.std.specs.List.Sorted.{IsBinarySearchResult, IsSearchInRange}
 use Rattle.std.specs.Ordering.{eq_by_cmp, is_eq, ordering_index, ordering_then}
 use Rattle.std.specs.FinMap as fm
 use Rattle.slab.specs.Slab.{Slab, get}
@@ -22,7 +22,7 @@ use Rattle.slot_rows.specs.declared.order.Order.{Order}
 use Rattle.slot_rows.proofs.LeadLaws.{lead_agrees}
 use Rattle.slot_rows.proofs.ManyLaws.{key_of_slot}
 use Rattle.slot_rows.proofs.OrderLaws.{is_live, no_entry, row_at_key, same_len, slot_in}
-use Rattle.slot_rows.proofs.SlotLaws.{above, mapped_range, mapped_search}
+use Rattle.slot_rows.proofs.SlotLaws.{above, mapped_search}
 
 abbrev Row : Type 0
 Row = List Value

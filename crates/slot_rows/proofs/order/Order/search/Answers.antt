@@ -1,7 +1,7 @@
-use Rattle.std.proofs.Common.{ap, subst, ◌∙◌}
+use Rattle.std.proofs.Common.{subst}
 use Rattle.std.specs.List.Sorted.{IsBinarySearchResult}
 use Rattle.row_types.specs.Order.{key_order}
-use Rattle.slot_rows.specs.Leads.{lead_first, lead_of}
+use Rattle.slot_rows.specs.Leads.{lead_first}
 use Rattle.indexed_rows.specs.Rows.{key_of}
 use Rattle.slot_rows.specs.Slots.{row_in}
 use Rattle.slot_rows.proofs.OrderLaws.{sought_gap, sought_key}

@@ -1,4 +1,4 @@
-use Rattle.std.proofs.Common.{rules, length, take, ap, sym, subst, ◌∙◌}
+use Rattle.std.proofs.Common.{rules, length, take, ap, subst, ◌∙◌}
 use Rattle.std.specs.List.Sorted.{IsBinarySearchResult}
 use Rattle.row_types.specs.Order.{key_order}
 use Rattle.indexed_rows.specs.Rows.{key_of}

@@ -1,8 +1,7 @@
-use Rattle.std.proofs.Common.{◌≡◌, ◌≤◌, [], length, slice_get, refl, ap, sym, subst, ◌∙◌, arith}
+use Rattle.std.proofs.Common.{◌≡◌, ◌≤◌, [], length, ap, sym, subst, ◌∙◌, arith}
 use Rattle.std.proofs.lemmas.List.{nil_from_length}
 use Rattle.std.specs.FinMap as fm
 use Rattle.slot_rows.specs.Orders.{Each, IsOther, IsWider}
-use Rattle.slot_rows.specs.Slots.{AreOrdered}
 use Rattle.slot_rows.proofs.FrontLaws.{each_more, first_order}
 use Rattle.slot_rows.proofs.OrderLaws.{table_len}
 use Rattle.slot_rows.proofs.rows.SlotRows.add_order.Goals as goal

@@ -1,6 +1,5 @@
-use Rattle.std.proofs.Common.{◌≡◌, ◌≤◌, ◌<◌, ◌+◌, true, ap, sym, subst, cond, length, ◌∙◌, arith}
+use Rattle.std.proofs.Common.{◌≡◌, ◌<◌, ◌+◌, true, ap, sym, subst, cond, length, ◌∙◌, arith}
 use Rattle.std.proofs.lemmas.List.Edits.{length-insert}
-use Rattle.std.specs.List.{insert}
 use Rattle.std.specs.FinMap as fm
 use Rattle.key_rows.specs.Places.{IsGapFor, IsKeyAt}
 use Rattle.key_rows.proofs.MapLaws.{has_key, no_key}

@@ -1,4 +1,4 @@
-use Rattle.std.proofs.Common.{◌≡◌, ◌<◌, ◌≤◌, ◌+◌, ◌-◌, true, cond, ap, sym, subst, ◌∙◌, arith}
+use Rattle.std.proofs.Common.{◌≡◌, ◌<◌, ◌-◌, cond, ap, sym, subst, ◌∙◌, arith}
 use Rattle.std.specs.FinMap as fm
 use Rattle.row_types.proofs.OrderLaws.{key_total}
 use Rattle.key_rows.specs.Places.{IsGapFor, IsKeyAt}
