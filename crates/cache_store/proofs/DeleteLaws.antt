@@ -1,11 +1,11 @@
 -- What is shown after a delete: the growth law read backwards.
-use Rattle.std.proofs.Common.{◌≡◌, ℕ, ◌+◌, ◌<◌, ◌≤◌, Bool, true, false, ◌&&◌, not, cond, Option, Some, None, is_some, List, [], ◌∷◌, ◌⊎◌, inl, inr, length, map, slice_get, slice_set, unwrap_or, nat_eq, refl, sym, ap, subst, ◌∙◌, arith}
+use Rattle.std.proofs.Common.{◌≡◌, ℕ, ◌<◌, Bool, true, false, ◌&&◌, not, cond, Option, Some, None, List, inl, inr, length, slice_get, slice_set, unwrap_or, nat_eq, refl, sym, ap, ◌∙◌, arith}
 use Rattle.std.proofs.lemmas.Bool.{eq-eqb, eqb-true}
 use Rattle.std.specs.Option.{option_and_then, option_map}
 use Rattle.std.specs.Ordering.{is_eq}
 use Rattle.std.specs.declared.cmp.Ordering.{Ordering}
 use Rattle.std.specs.declared.cmp.Ordering.TheVariants.{Less, Equal, Greater}
-use Rattle.std.specs.FinMap.{empty, get, get-empty, get-remove, remove}
+use Rattle.std.specs.FinMap.{empty, get, get-remove, remove}
 use Rattle.row_types.specs.declared.value.Value.{Value}
 use Rattle.row_types.specs.Order.{key_order}
 use Rattle.row_types.proofs.OrderLaws.{key_exact, key_total}

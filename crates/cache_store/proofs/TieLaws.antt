@@ -1,9 +1,9 @@
 -- Recency over slots is recency over their keys.
-use Rattle.std.proofs.Common.{◌≡◌, ℕ, zero, suc, Bool, true, false, not, cond, List, [], ◌∷◌, ◌++◌, Some, map, filter, nat_eq, slice_get, refl, sym, ap, ◌∙◌}
+use Rattle.std.proofs.Common.{◌≡◌, ℕ, suc, Bool, true, false, not, cond, List, [], ◌∷◌, ◌++◌, Some, map, filter, nat_eq, slice_get, refl, sym, ap, ◌∙◌}
 use Rattle.row_types.specs.declared.value.Value.{Value}
 use Rattle.indexed_rows.specs.Rows.{is_same}
-use Rattle.recency.specs.Rings.{touched, keys_without}
-use Rattle.cache_store.specs.Tying.{HasOwnKey, TiesKeys}
+use Rattle.recency.specs.Rings.{keys_without}
+use Rattle.cache_store.specs.Tying.{TiesKeys}
 
 map_filter : {X Y : Type 0} (f : X → Y) (t : Y → Bool) (u : X → Bool) (xs : List X) → ((i : ℕ) (x : X) → slice_get xs i ≡ Some x → t (f x) ≡ u x) → map f (filter u xs) ≡ filter t (map f xs)
 map_filter f t u [] h = refl
