@@ -1,11 +1,11 @@
 -- What is shown after a delete: the growth law read backwards.
-use Rattle.std.proofs.Common.{◌≡◌, ℕ, ◌+◌, ◌<◌, ◌≤◌, Bool, true, false, ◌&&◌, not, cond, Option, Some, None, is_some, List, [], ◌∷◌, ◌⊎◌, inl, inr, length, map, slice_get, slice_set, unwrap_or, nat_eq, refl, sym, ap, subst, ◌∙◌, arith}
+use Rattle.std.proofs.Common.{◌≡◌, ℕ, ◌<◌, Bool, true, false, ◌&&◌, not, cond, Option, Some, None, List, inl, inr, length, slice_get, slice_set, unwrap_or, nat_eq, refl, sym, ap, ◌∙◌, arith}
 use Rattle.std.proofs.lemmas.Bool.{eq-eqb, eqb-true}
 use Rattle.std.specs.Option.{option_and_then, option_map}
 use Rattle.std.specs.Ordering.{is_eq}
 use Rattle.std.specs.declared.cmp.Ordering.{Ordering}
 use Rattle.std.specs.declared.cmp.Ordering.TheVariants.{Less, Equal, Greater}
-use Rattle.std.specs.FinMap.{empty, get, get-empty, get-remove, remove}
+use Rattle.std.specs.FinMap.{empty, get, get-remove, remove}
 use Rattle.row_types.specs.declared.value.Value.{Value}
 use Rattle.row_types.specs.Order.{key_order}
 use Rattle.row_types.proofs.OrderLaws.{key_exact, key_total}
@@ -106,7 +106,7 @@ module _ (s new : TableState) (tree : Tree) (t : TableId) (key : Row) (at : ℕ)
         let same : place ≡ at = stands.alone place u e x in
         ap (λ y. get y other) (table_in s tree place u e) ∙ ap (λ j. get (unwrap_or (slice_get s.tables j) empty) other) x ∙ before other (key_order other key) refl
         ∙ sym (ap (λ b. cond (b && is_same other key) (Some i.row) (get (kept_at (tables_of new tree) place) other)) (eq-eqb at place (sym same))
-          ∙ ap (λ v. cond (is_same other key) (Some i.row) v) (ap (λ y. get y other) (table_in new tree place u e) ∙ ap (λ j. get (unwrap_or (slice_get new.tables j) empty) other) x))
+        ∙ ap (λ v. cond (is_same other key) (Some i.row) v) (ap (λ y. get y other) (table_in new tree place u e) ∙ ap (λ j. get (unwrap_or (slice_get new.tables j) empty) other) x))
     | inr n ↦
         let apart : nat_eq at place ≡ false = nat_eq_other at place (λ x. let y : Some t ≡ Some u = sym stands.there ∙ ap (table_of tree) x ∙ e in let z : t ≡ u = cc in n (ap (λ w. w.0) (sym z))) in
         ap (λ y. get y other) (table_in s tree place u e) ∙ ap (λ y. get y other) (sym (i.others u n))
@@ -136,7 +136,7 @@ module _ (s new : TableState) (tree : Tree) (t : TableId) (key : Row) (at : ℕ)
         let old : List Table = shown_of s tree p in
         let within : at < length old = omega (arith, shown_length s tree p, place_in tree at t stands.there) in
         same_tables (shown_of new tree q) (change_at at (λ table. remove table key) old) (shown_length new tree q ∙ sym (length_change (λ table. remove table key) old at ∙ shown_length s tree p))
-          (λ place other. parted place other (nat_eq at place) refl (is_same other key) refl ∙ sym (ap (λ x. get x other) (get_change (λ table. remove table key) old at place within)))
+        (λ place other. parted place other (nat_eq at place) refl (is_same other key) refl ∙ sym (ap (λ x. get x other) (get_change (λ table. remove table key) old at place within)))
       where
         more_is : (place : ℕ) (other : Row) → get (kept_at (shown_of s tree p) place) other ≡ cond (is_new at key place other) (Some i.row) (get (kept_at (shown_of new tree q) place) other)
         more_is place other = shows_more new s tree at key i.row grows q p agree passes place other
@@ -149,8 +149,8 @@ module _ (s new : TableState) (tree : Tree) (t : TableId) (key : Row) (at : ℕ)
             ∙ sym (ap (λ c. get (cond c (remove (kept_at (shown_of s tree p) at) key) (kept_at (shown_of s tree p) place)) other) x ∙ get-remove key_total (kept_at (shown_of s tree p) at) key other ∙ ap (λ c. cond c None (get (kept_at (shown_of s tree p) at) other)) y)
         parted place other true x false y =
             sym (ap (λ c. get (cond c (remove (kept_at (shown_of s tree p) at) key) (kept_at (shown_of s tree p) place)) other) x ∙ get-remove key_total (kept_at (shown_of s tree p) at) key other ∙ ap (λ c. cond c None (get (kept_at (shown_of s tree p) at) other)) y
-              ∙ ap (λ j. get (kept_at (shown_of s tree p) j) other) (eqb-true at place x) ∙ more_is place other
-              ∙ ap (λ c. cond (c && is_same other key) (Some i.row) (get (kept_at (shown_of new tree q) place) other)) x ∙ ap (λ c. cond c (Some i.row) (get (kept_at (shown_of new tree q) place) other)) y)
+            ∙ ap (λ j. get (kept_at (shown_of s tree p) j) other) (eqb-true at place x) ∙ more_is place other
+            ∙ ap (λ c. cond (c && is_same other key) (Some i.row) (get (kept_at (shown_of new tree q) place) other)) x ∙ ap (λ c. cond c (Some i.row) (get (kept_at (shown_of new tree q) place) other)) y)
 
 pub shows_delete : (s new : TableState) (tree : Tree) → ShowsDelete s new tree
 shows_delete s new tree t def row at p q a agree passes = delete_shown s new tree t (key_of def.primary_key row) at (deleted s new t def row a.applies a.defined) a.stands a.before a.after p q agree passes

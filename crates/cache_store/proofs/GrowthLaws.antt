@@ -30,8 +30,8 @@ module _ (s new : TableState) (tree : Tree) (at : ℕ) (key row : Row) (g : Gain
   parent_stays : (c : Child) (q above : Row) → parent_key s c q ≡ Some above → parent_key new c q ≡ Some above
   parent_stays c q above e =
       option_and_then_some (λ (r : Row). option_map (λ (def : TableDef). key_of (foreign_places def.foreign_key) r) (slice_get s.schema c.table.0)) (get (table_at s c.table) q) above e (λ found is h.
-        ap (option_and_then (λ (r : Row). option_map (λ (def : TableDef). key_of (foreign_places def.foreign_key) r) (slice_get new.schema c.table.0))) (g.more c.table q found is)
-        ∙ ap (λ (schema : List TableDef). option_map (λ (def : TableDef). key_of (foreign_places def.foreign_key) found) (slice_get schema c.table.0)) g.schema ∙ h)
+      ap (option_and_then (λ (r : Row). option_map (λ (def : TableDef). key_of (foreign_places def.foreign_key) r) (slice_get new.schema c.table.0))) (g.more c.table q found is)
+      ∙ ap (λ (schema : List TableDef). option_map (λ (def : TableDef). key_of (foreign_places def.foreign_key) found) (slice_get schema c.table.0)) g.schema ∙ h)
 
   -- and is reached from its root
   root_stays : (n j : ℕ) (q root : Row) → root_within n s tree j q ≡ Some root → root_within n new tree j q ≡ Some root
@@ -43,10 +43,10 @@ module _ (s new : TableState) (tree : Tree) (at : ℕ) (key row : Row) (g : Gain
   root_stays zero (suc j) q root e = cc
   root_stays (suc n) (suc j) q root e =
       option_and_then_some (λ (c : Child). option_and_then (root_within n s tree c.parent) (parent_key s c q)) (slice_get tree.children j) root e (λ c is h.
-        option_and_then_some (root_within n s tree c.parent) (parent_key s c q) root h (λ above up k.
-          ap (option_and_then (λ (c : Child). option_and_then (root_within n new tree c.parent) (parent_key new c q))) is
-          ∙ ap (option_and_then (root_within n new tree c.parent)) (parent_stays c q above up)
-          ∙ root_stays n c.parent above root k))
+      option_and_then_some (root_within n s tree c.parent) (parent_key s c q) root h (λ above up k.
+      ap (option_and_then (λ (c : Child). option_and_then (root_within n new tree c.parent) (parent_key new c q))) is
+      ∙ ap (option_and_then (root_within n new tree c.parent)) (parent_stays c q above up)
+      ∙ root_stays n c.parent above root k))
 
   module _ (p q : Row → Bool) (agree : Agree s tree p q) (passes : has_root q (root_at new tree at key) ≡ true) (place : ℕ) (other : Row) where
     abbrev seen : Option Row

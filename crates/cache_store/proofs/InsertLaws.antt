@@ -1,11 +1,11 @@
 -- What is shown after an insert.
-use Rattle.std.proofs.Common.{◌≡◌, ◌≢◌, ℕ, zero, suc, ◌+◌, ◌<◌, ◌≤◌, Bool, true, false, ◌&&◌, not, cond, Option, Some, None, is_some, List, [], ◌∷◌, ◌++◌, ◌⊎◌, inl, inr, length, map, slice_get, slice_set, unwrap_or, nat_eq, refl, sym, ap, subst, ◌∙◌, arith}
+use Rattle.std.proofs.Common.{◌≡◌, ℕ, zero, suc, ◌<◌, ◌≤◌, Bool, true, false, ◌&&◌, not, cond, Option, Some, None, is_some, List, [], ◌∷◌, ◌⊎◌, inl, inr, length, map, slice_get, slice_set, unwrap_or, nat_eq, refl, sym, ap, ◌∙◌, arith}
 use Rattle.std.proofs.lemmas.Bool.{eq-eqb, eqb-true}
 use Rattle.std.specs.Option.{option_and_then, option_map, option_or}
 use Rattle.std.specs.Ordering.{is_eq}
 use Rattle.std.specs.declared.cmp.Ordering.{Ordering}
 use Rattle.std.specs.declared.cmp.Ordering.TheVariants.{Less, Equal, Greater}
-use Rattle.std.specs.FinMap.{contains_key, empty, get, get-empty, get-insert, insert}
+use Rattle.std.specs.FinMap.{contains_key, empty, get, get-insert, insert}
 use Rattle.row_types.specs.declared.value.Value.{Value}
 use Rattle.row_types.specs.Order.{key_order}
 use Rattle.row_types.proofs.OrderLaws.{key_exact, key_total}
@@ -183,7 +183,7 @@ module _ (s new : TableState) (tree : Tree) (t : TableId) (key row : Row) (at : 
         let same : place ≡ at = stands.alone place u e x in
         ap (λ y. get y other) (table_in new tree place u e) ∙ ap (λ j. get (unwrap_or (slice_get new.tables j) empty) other) x ∙ ap (λ y. get y other) i.here ∙ get-insert key_total (table_at s t) key row other
         ∙ sym (ap (λ b. cond (b && is_same other key) (Some row) (get (kept_at (tables_of s tree) place) other)) (eq-eqb at place (sym same))
-          ∙ ap (λ v. cond (is_same other key) (Some row) v) (ap (λ y. get y other) (table_in s tree place u e) ∙ ap (λ j. get (unwrap_or (slice_get s.tables j) empty) other) x))
+        ∙ ap (λ v. cond (is_same other key) (Some row) v) (ap (λ y. get y other) (table_in s tree place u e) ∙ ap (λ j. get (unwrap_or (slice_get s.tables j) empty) other) x))
     | inr n ↦
         let apart : nat_eq at place ≡ false = nat_eq_other at place (λ x. let y : Some t ≡ Some u = sym stands.there ∙ ap (table_of tree) x ∙ e in let z : t ≡ u = cc in n (ap (λ w. w.0) (sym z))) in
         ap (λ y. get y other) (table_in new tree place u e) ∙ ap (λ y. get y other) (i.others u n)
@@ -225,8 +225,8 @@ module _ (s new : TableState) (tree : Tree) (t : TableId) (key row : Row) (at : 
         let old : List Table = shown_of s tree p in
         let within : at < length old = omega (arith, shown_length s tree p, place_in tree at t stands.there) in
         same_tables (shown_of new tree q) (change_at at (λ table. put_in table key row) old) (shown_length new tree q ∙ sym (length_change (λ table. put_in table key row) old at ∙ shown_length s tree p))
-          (λ place other. shows_more s new tree at key row grows p q agree passes place other
-            ∙ sym (ap (λ x. get x other) (get_change (λ table. put_in table key row) old at place within) ∙ parted place other (nat_eq at place) refl))
+        (λ place other. shows_more s new tree at key row grows p q agree passes place other
+        ∙ sym (ap (λ x. get x other) (get_change (λ table. put_in table key row) old at place within) ∙ parted place other (nat_eq at place) refl))
       where
         parted : (place : ℕ) (other : Row) (b : Bool) → nat_eq at place ≡ b → get (cond (nat_eq at place) (put_in (kept_at (shown_of s tree p) at) key row) (kept_at (shown_of s tree p) place)) other ≡ cond (is_new at key place other) (Some row) (get (kept_at (shown_of s tree p) place) other)
         parted place other true e =

@@ -1,10 +1,10 @@
 -- What is shown of more roots or of fewer.
-use Rattle.std.proofs.Common.{◌≡◌, ℕ, zero, suc, ◌+◌, Bool, true, false, ◌&&◌, ◌||◌, not, cond, Option, Some, None, is_some, List, [], ◌∷◌, length, refl, sym, ap, ◌∙◌, arith}
+use Rattle.std.proofs.Common.{◌≡◌, ℕ, zero, suc, Bool, true, false, ◌&&◌, ◌||◌, not, cond, Option, Some, None, is_some, List, [], ◌∷◌, length, refl, sym, ap, ◌∙◌, arith}
 use Rattle.std.specs.Option.{option_or}
-use Rattle.std.specs.Ordering.{is_eq, eq_by_cmp}
+use Rattle.std.specs.Ordering.{is_eq}
 use Rattle.std.specs.declared.cmp.Ordering.{Ordering}
 use Rattle.std.specs.declared.cmp.Ordering.TheVariants.{Less, Equal, Greater}
-use Rattle.std.specs.FinMap.{contains_key, empty, entries, find, get, get-empty, get-entries, get-insert, get-retain_keys, insert, retain_keys, same_map}
+use Rattle.std.specs.FinMap.{contains_key, empty, entries, find, get, get-empty, get-entries, get-insert, get-retain_keys, insert, same_map}
 use Rattle.row_types.specs.declared.value.Value.{Value}
 use Rattle.row_types.specs.Order.{key_order}
 use Rattle.row_types.proofs.OrderLaws.{key_total, key_exact}
@@ -133,15 +133,15 @@ module _ (s : TableState) (tree : Tree) where
       let q : Row → Bool = λ k. is_same k root in
       let long : length (shown_of s tree p) ≡ length (shown_of s tree q) = shown_length s tree p ∙ sym (shown_length s tree q) in
       same_tables (tables_with (shown_of s tree p) (instance_of s tree root)) (shown_of s tree (λ k. p k || q k)) (length_joined (shown_of s tree p) (shown_of s tree q) long ∙ shown_length s tree p ∙ sym (shown_length s tree (λ k. p k || q k)))
-        (λ i key. get_joined (shown_of s tree p) (shown_of s tree q) long i key
-          ∙ ap (λ v. option_or v (get (kept_at (shown_of s tree q) i) key)) (gets_chosen s tree p i key) ∙ ap (option_or (cond (has_root p (root_at s tree i key)) (get (kept_at (view_of s tree) i) key) None)) (gets_chosen s tree q i key)
-          ∙ either p q (root_at s tree i key) (get (kept_at (view_of s tree) i) key) ∙ sym (gets_chosen s tree (λ k. p k || q k) i key))
+      (λ i key. get_joined (shown_of s tree p) (shown_of s tree q) long i key
+      ∙ ap (λ v. option_or v (get (kept_at (shown_of s tree q) i) key)) (gets_chosen s tree p i key) ∙ ap (option_or (cond (has_root p (root_at s tree i key)) (get (kept_at (view_of s tree) i) key) None)) (gets_chosen s tree q i key)
+      ∙ either p q (root_at s tree i key) (get (kept_at (view_of s tree) i) key) ∙ sym (gets_chosen s tree (λ k. p k || q k) i key))
 
   pub drop_shown : (p : Row → Bool) (root : Row) → tables_without (shown_of s tree p) (instance_of s tree root) ≡ shown_of s tree (λ k. p k && not (is_same k root))
   drop_shown p root =
       let q : Row → Bool = λ k. is_same k root in
       let long : length (shown_of s tree p) ≡ length (shown_of s tree q) = shown_length s tree p ∙ sym (shown_length s tree q) in
       same_tables (tables_without (shown_of s tree p) (instance_of s tree root)) (shown_of s tree (λ k. p k && not (q k))) (length_less (shown_of s tree p) (shown_of s tree q) long ∙ shown_length s tree p ∙ sym (shown_length s tree (λ k. p k && not (q k))))
-        (λ i key. get_less (shown_of s tree p) (shown_of s tree q) long i key
-          ∙ ap (λ v. cond (is_some (get (kept_at (shown_of s tree q) i) key)) None v) (gets_chosen s tree p i key) ∙ ap (λ v. cond (is_some v) None (cond (has_root p (root_at s tree i key)) (get (kept_at (view_of s tree) i) key) None)) (gets_chosen s tree q i key)
-          ∙ one_not p q (root_at s tree i key) (get (kept_at (view_of s tree) i) key) ∙ sym (gets_chosen s tree (λ k. p k && not (q k)) i key))
+      (λ i key. get_less (shown_of s tree p) (shown_of s tree q) long i key
+      ∙ ap (λ v. cond (is_some (get (kept_at (shown_of s tree q) i) key)) None v) (gets_chosen s tree p i key) ∙ ap (λ v. cond (is_some v) None (cond (has_root p (root_at s tree i key)) (get (kept_at (view_of s tree) i) key) None)) (gets_chosen s tree q i key)
+      ∙ one_not p q (root_at s tree i key) (get (kept_at (view_of s tree) i) key) ∙ sym (gets_chosen s tree (λ k. p k && not (q k)) i key))

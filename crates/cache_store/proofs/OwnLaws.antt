@@ -1,5 +1,5 @@
 -- The instance of a root among a store's own rows.
-use Rattle.std.proofs.Common.{◌≡◌, ℕ, zero, suc, ◌+◌, ◌<◌, ◌≤◌, Bool, true, false, ◌&&◌, not, cond, Option, Some, None, is_some, List, [], ◌∷◌, ◌++◌, ◌⊎◌, inl, inr, length, map, drop, slice_get, refl, sym, ap, subst, ◌∙◌, arith}
+use Rattle.std.proofs.Common.{◌≡◌, ℕ, zero, suc, ◌<◌, Bool, true, false, ◌&&◌, not, cond, Option, Some, None, is_some, List, [], ◌∷◌, ◌++◌, inl, inr, length, map, drop, slice_get, refl, sym, ap, ◌∙◌, arith}
 use Rattle.std.specs.Option.{option_map}
 use Rattle.std.specs.FinMap.{contains_key, get, get-retain_keys, retain_keys, same_map}
 use Rattle.row_types.specs.declared.value.Value.{Value}
@@ -12,14 +12,14 @@ use Rattle.instances.specs.declared.tree.Child.{Child}
 use Rattle.instances.specs.declared.tree.Tree.{Tree}
 use Rattle.instances.specs.Instances.{IsIn}
 use Rattle.instances.specs.Roots.{root_at}
-use Rattle.instances.specs.Views.{child_rows, instance_of, is_kept, kept_at, only, passes, refers_to_one, root_rows, rows_where, selects, view_of, with_children}
+use Rattle.instances.specs.Views.{child_rows, instance_of, is_kept, kept_at, only, passes, refers_to_one, root_rows, selects, view_of, with_children}
 use Rattle.instances.proofs.Gathering.{get_where}
 use Rattle.instances.proofs.OnlyLaws.{get_only}
 use Rattle.cache_store.specs.Shown.{has_root, tables_without, shown_of}
 use Rattle.cache_store.specs.Owning.{DropsOwn, Owns, plain, plain_child}
 use Rattle.cache_store.proofs.CoverLaws.{all_pass}
 use Rattle.cache_store.proofs.JoinLaws.{get_less, length_less, same_tables}
-use Rattle.cache_store.proofs.ShownLaws.{Spot, at_drop, at_end, at_front, gets_chosen, length_more, past_drop, shown_length, spot, to_end, to_front}
+use Rattle.cache_store.proofs.ShownLaws.{at_drop, at_end, at_front, gets_chosen, length_more, past_drop, shown_length, spot, to_end, to_front}
 
 abbrev Row : Type 0
 Row = List Value
@@ -148,9 +148,9 @@ module _ (own s : TableState) (tree : Tree) (p : Row → Bool) (o : Owns own s t
         let long : length (shown_of s tree p) ≡ length (shown_of s tree q) = shown_length s tree p ∙ sym (shown_length s tree q) in
         ap (tables_without (shown_of s tree p)) instance_is
         ∙ same_tables (tables_without (shown_of s tree p) (shown_of s tree q)) (shown_of s tree (λ k. p k && not (is_same k root))) (length_less (shown_of s tree p) (shown_of s tree q) long ∙ shown_length s tree p ∙ sym (shown_length s tree (λ k. p k && not (is_same k root))))
-          (λ i key. get_less (shown_of s tree p) (shown_of s tree q) long i key
-            ∙ ap (λ v. cond (is_some (get (kept_at (shown_of s tree q) i) key)) None v) (gets_chosen s tree p i key) ∙ ap (λ v. cond (is_some v) None (cond (has_root p (root_at s tree i key)) (get (kept_at (view_of s tree) i) key) None)) (gets_chosen s tree q i key)
-            ∙ rest_not (root_at s tree i key) (get (kept_at (view_of s tree) i) key) ∙ sym (gets_chosen s tree (λ k. p k && not (is_same k root)) i key))
+        (λ i key. get_less (shown_of s tree p) (shown_of s tree q) long i key
+        ∙ ap (λ v. cond (is_some (get (kept_at (shown_of s tree q) i) key)) None v) (gets_chosen s tree p i key) ∙ ap (λ v. cond (is_some v) None (cond (has_root p (root_at s tree i key)) (get (kept_at (view_of s tree) i) key) None)) (gets_chosen s tree q i key)
+        ∙ rest_not (root_at s tree i key) (get (kept_at (view_of s tree) i) key) ∙ sym (gets_chosen s tree (λ k. p k && not (is_same k root)) i key))
 
 pub drops_own : (own s : TableState) (tree : Tree) → DropsOwn own s tree
 drops_own own s tree p root o = (instance_is own s tree p o root, drop_is own s tree p o root)

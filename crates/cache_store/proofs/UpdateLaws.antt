@@ -1,5 +1,5 @@
 -- What is shown after an update.
-use Rattle.std.proofs.Common.{◌≡◌, ℕ, ◌+◌, ◌<◌, ◌≤◌, suc, zero, Bool, true, false, ◌&&◌, not, cond, Option, Some, None, is_some, List, [], ◌∷◌, ◌⊎◌, inl, inr, length, map, slice_get, slice_set, unwrap_or, nat_eq, refl, sym, ap, subst, ◌∙◌, arith}
+use Rattle.std.proofs.Common.{◌≡◌, ℕ, ◌<◌, suc, Bool, true, false, ◌&&◌, cond, Option, Some, None, is_some, List, inl, inr, length, slice_get, slice_set, unwrap_or, nat_eq, refl, sym, ap, ◌∙◌, arith}
 use Rattle.std.proofs.lemmas.Bool.{eq-eqb, eqb-true}
 use Rattle.std.specs.Option.{option_and_then, option_map}
 use Rattle.std.specs.Ordering.{is_eq}
@@ -158,8 +158,8 @@ module _ (s new : TableState) (tree : Tree) (t : TableId) (key row : Row) (at : 
         let old : List Table = shown_of s tree p in
         let within : at < length old = omega (arith, shown_length s tree p, place_in tree at t stands.there) in
         same_tables (shown_of new tree p) (change_at at (λ table. put_over table key row) old) (shown_length new tree p ∙ sym (length_change (λ table. put_over table key row) old at ∙ shown_length s tree p))
-          (λ place other. shows_moved s new tree at key row moves p before behind place other
-            ∙ sym (ap (λ x. get x other) (get_change (λ table. put_over table key row) old at place within) ∙ parted place other (nat_eq at place) refl))
+        (λ place other. shows_moved s new tree at key row moves p before behind place other
+        ∙ sym (ap (λ x. get x other) (get_change (λ table. put_over table key row) old at place within) ∙ parted place other (nat_eq at place) refl))
       where
         parted : (place : ℕ) (other : Row) (b : Bool) → nat_eq at place ≡ b → get (cond (nat_eq at place) (put_over (kept_at (shown_of s tree p) at) key row) (kept_at (shown_of s tree p) place)) other ≡ cond (is_new at key place other) (Some row) (get (kept_at (shown_of s tree p) place) other)
         parted place other true e =

@@ -1,5 +1,5 @@
 -- What one operation makes of what is shown.
-use Rattle.std.specs.Prelude.{◌≡◌, ◌≤◌, ℕ, suc, List, Option, Some, None, Bool, true, false, ◌&&◌, nat_eq, slice_get, if◌then◌else◌}
+use Rattle.std.specs.Prelude.{◌≡◌, ◌≤◌, ℕ, suc, List, Some, Bool, true, false, ◌&&◌, nat_eq, slice_get, if◌then◌else◌}
 use Rattle.std.specs.FinMap.{contains_key, get}
 use Rattle.row_types.specs.declared.value.Value.{Value}
 use Rattle.tier_base.specs.declared.number.TableId.{TableId}

@@ -1,5 +1,5 @@
 -- An insert, and what it makes of what is shown.
-use Rattle.std.specs.Prelude.{◌≡◌, ◌≤◌, ℕ, zero, suc, List, [], ◌∷◌, Option, Some, Bool, true, slice_get}
+use Rattle.std.specs.Prelude.{◌≡◌, ◌≤◌, ℕ, zero, suc, List, [], ◌∷◌, Some, Bool, true, slice_get}
 use Rattle.std.specs.FinMap.{remove}
 use Rattle.row_types.specs.declared.value.Value.{Value}
 use Rattle.tier_base.specs.declared.number.TableId.{TableId}

@@ -1,6 +1,6 @@
 -- What a cache group shows of a state: the instances of the roots that pass a test. (TimesTen Cache User's Guide, "Cache
 -- instances": loading, unloading and aging act on whole instances.)
-use Rattle.std.specs.Prelude.{◌≡◌, ℕ, List, [], ◌∷◌, Option, Some, None, Bool, true, false, ◌&&◌, ◌||◌, not, is_some, if◌then◌else◌}
+use Rattle.std.specs.Prelude.{◌≡◌, ℕ, List, [], ◌∷◌, Option, Some, None, Bool, false, ◌&&◌, ◌||◌, not, if◌then◌else◌}
 use Rattle.std.specs.List.{list_any}
 use Rattle.std.specs.FinMap.{contains_key, entries, get, retain_keys}
 use Rattle.row_types.specs.declared.value.Value.{Value}

@@ -1,10 +1,10 @@
 -- Rows found by the first columns of an order, and rows put over others.
-use Rattle.std.proofs.Common.{◌≡◌, ◌≢◌, ℕ, zero, suc, ◌+◌, ◌<◌, ◌≤◌, List, [], ◌∷◌, ◌++◌, length, map, take, get_or, slice_get, Option, Some, None, is_some, unwrap_or, Bool, true, false, cond, T, Result, Ok, Err, Less, Equal, Greater, Ordering, refl, sym, ap, subst, ◌∙◌, ◌⊎◌, inl, inr, arith}
+use Rattle.std.proofs.Common.{◌≡◌, ◌≢◌, ℕ, zero, suc, ◌<◌, ◌≤◌, List, [], ◌∷◌, ◌++◌, length, map, take, get_or, slice_get, Option, Some, None, is_some, Bool, true, false, cond, T, Result, Ok, Err, Less, Equal, Greater, Ordering, refl, sym, ap, subst, ◌∙◌, inl, inr, arith}
 use Rattle.std.proofs.lemmas.Bool.{cases_lt}
 use Rattle.std.proofs.lemmas.Cmp.{alike_right, tied_itself}
-use Rattle.std.proofs.lemmas.List.{get_or-map, length-map}
+use Rattle.std.proofs.lemmas.List.{get_or-map}
 use Rattle.std.proofs.lemmas.Option.{slice_get-get_or}
-use Rattle.std.specs.List.Sorted.{IsBinarySearchResult, IsPartitionPoint, IsSearchInRange}
+use Rattle.std.specs.List.Sorted.{IsBinarySearchResult, IsSearchInRange}
 use Rattle.std.specs.Ordering.{eq_by_cmp, is_eq, ordering_index, ordering_then}
 use Rattle.std.specs.FinMap as fm
 use Rattle.slab.specs.Slab.{Slab, get}
@@ -22,7 +22,7 @@ use Rattle.slot_rows.specs.declared.order.Order.{Order}
 use Rattle.slot_rows.proofs.LeadLaws.{lead_agrees}
 use Rattle.slot_rows.proofs.ManyLaws.{key_of_slot}
 use Rattle.slot_rows.proofs.OrderLaws.{is_live, no_entry, row_at_key, same_len, slot_in}
-use Rattle.slot_rows.proofs.SlotLaws.{above, mapped_range, mapped_search}
+use Rattle.slot_rows.proofs.SlotLaws.{above, mapped_search}
 
 abbrev Row : Type 0
 Row = List Value
@@ -57,6 +57,7 @@ front_rises (a ∷ x) (b ∷ y) (w ∷ v) less = by (order_of a b) refl less (fr
     first Less e f = low_then (order_of a w) (order_of b w) _ _ (order_total.trans a b w f e)
     first Equal e f = low_then (order_of a w) (order_of b w) _ _ (sym (alike_right order_total b w a e) ∙ f)
     first Greater e f = high_then (order_of a w) (order_of b w) _ _ e
+
     by : (r : Ordering) → order_of a b ≡ r → ordering_then r (key_order x y) ≡ Less → (key_order x y ≡ Less → ordering_index (key_order (take (length v) x) v) ≤ ordering_index (key_order (take (length v) y) v))
         → ordering_index (key_order (a ∷ take (length v) x) (w ∷ v)) ≤ ordering_index (key_order (b ∷ take (length v) y) (w ∷ v))
     by Less e f rest = first (order_of b w) refl e
@@ -145,9 +146,10 @@ module _ (slab : Slab Row) (places : List ℕ) (entries : List Entry) (are : Are
       let here = is.only with_slot.0 slot with_slot.1 in
       let live = is_live slab slot (are.slots.live here.0 slot here.1) in
       let inside : here.0 < length entries = subst (λ n. here.0 < n) (same_len entries) (is_got (slots_of entries) here.0 slot here.1).0 in
-      subst (IsRowWith (table_in slab places entries) places columns values) (sym (e ∙ live))
-        ( sym (row_at_key slab places entries are (key_of places (row_in slab slot)) here.0 slot inside here.1 (key_of_slot slab places entries are here.0 slot here.1)) ∙ live
-        , with_slot.2)
+      subst (IsRowWith (table_in slab places entries) places columns values) (sym (e ∙ live)) (
+        sym (row_at_key slab places entries are (key_of places (row_in slab slot)) here.0 slot inside here.1 (key_of_slot slab places entries are here.0 slot here.1)) ∙ live,
+        with_slot.2,
+      )
 
   pub no_row_with : IsSlotWith slab (slots_of order.entries) columns values None → IsRowWith (table_in slab places entries) places columns values None
   no_row_with none key row at same =
@@ -172,7 +174,7 @@ columns_at orders i d lt = get_or-map (λ o. o.places) orders i d [] lt
 pub put_again : (m : Table) (k row : Row) → fm.contains_key m k ≡ true → fm.insert (fm.remove m k) k row ≡ put_over m k row
 put_again m k row has =
     fm.same_map key_total key_exact (fm.insert (fm.remove m k) k row) (fm.insert m k row) (λ q.
-      fm.get-insert key_total (fm.remove m k) k row q ∙ ap (λ o. cond (eq_by_cmp key_order q k) (Some row) o) (fm.get-remove key_total m k q) ∙ by (eq_by_cmp key_order q k) (fm.get m q) ∙ sym (fm.get-insert key_total m k row q))
+    fm.get-insert key_total (fm.remove m k) k row q ∙ ap (λ o. cond (eq_by_cmp key_order q k) (Some row) o) (fm.get-remove key_total m k q) ∙ by (eq_by_cmp key_order q k) (fm.get m q) ∙ sym (fm.get-insert key_total m k row q))
     ∙ ap (λ b. cond b (fm.insert m k row) m) (sym has)
   where
     by : (b : Bool) (o : Option Row) → cond b (Some row) (cond b None o) ≡ cond b (Some row) o

@@ -1,7 +1,7 @@
 -- Leads rise with keys.
-use Rattle.std.proofs.Common.{◌≡◌, ℕ, zero, suc, ◌+◌, ◌-◌, ◌<◌, ◌≤◌, ◌^◌, ℤ, pos, negsuc, ◌<ℤ◌, int_lt, List, [], ◌∷◌, Less, Equal, Greater, Ordering, cond, refl, sym, ap, ◌∙◌, arith}
+use Rattle.std.proofs.Common.{◌≡◌, ◌<◌, ◌^◌, ℤ, pos, negsuc, List, [], ◌∷◌, Less, Equal, Greater, Ordering, refl, sym, ap, ◌∙◌, arith}
 use Rattle.std.specs.Ordering.{int_cmp, nat_cmp, ordering_then, ordering_reverse, MatchOrdering}
-use Rattle.std.proofs.lemmas.Cmp.{int_ranked, ranked}
+use Rattle.std.proofs.lemmas.Cmp.{ranked}
 use Rattle.std.proofs.lemmas.Int.{ints}
 use Rattle.row_types.proofs.OrderLaws.{key_total}
 use Rattle.row_types.specs.declared.value.Value.{Value}

@@ -1,5 +1,5 @@
 -- Several orders of the same slots.
-use Rattle.std.proofs.Common.{◌≡◌, ◌≢◌, ℕ, zero, suc, ◌+◌, ◌<◌, ◌≤◌, List, [], ◌∷◌, ◌++◌, length, map, take, drop, slice_get, Option, Some, None, is_some, unwrap_or, Bool, true, false, T, Less, Equal, refl, sym, ap, subst, ◌∙◌, inl, inr, arith}
+use Rattle.std.proofs.Common.{◌≡◌, ℕ, zero, suc, ◌+◌, ◌<◌, ◌≤◌, List, [], ◌∷◌, ◌++◌, length, map, take, drop, slice_get, Some, None, is_some, unwrap_or, true, false, T, Less, Equal, refl, sym, ap, subst, ◌∙◌, inl, inr, arith}
 use Rattle.std.specs.List.{insert, remove}
 use Rattle.std.specs.FinMap as fm
 use Rattle.std.proofs.lemmas.Cmp.{tied_itself}
@@ -114,7 +114,7 @@ module _ (slab : Slab Row) (places : List ℕ) (entries : List Entry) (are : Are
 
 -- a row goes into a slot, and into the order by key
 module _ (slab new : Slab Row) (places : List ℕ) (entries : List Entry) (spare : ℕ) (are : AreOrdered slab places entries) (row : Row) (slot at : ℕ) (vacant : get slab slot ≡ None) (u : Updates slab new slot (Some row))
-         (gap : IsGapFor (fm.entries (table_in slab places entries)) (key_of places row) at) where
+    (gap : IsGapFor (fm.entries (table_in slab places entries)) (key_of places row) at) where
   row_now : row_in new slot ≡ row
   row_now = ap (λ o. unwrap_or o []) u.changed
 
@@ -132,7 +132,7 @@ module _ (slab new : Slab Row) (places : List ℕ) (entries : List Entry) (spare
     ordered = order_stays slab new slot row vacant u order.places order.entries is.ordered;
     live = ap is_some u.changed;
     absent = λ j found. no_clash order is j (subst (λ m. IsKeyAt (fm.entries m) (key_of order.places row) j) (table_stays slab new slot row vacant u order.places order.entries is.ordered)
-      (subst (λ r. IsKeyAt (fm.entries (table_in new order.places order.entries)) (key_of order.places r) j) row_now found));
+        (subst (λ r. IsKeyAt (fm.entries (table_in new order.places order.entries)) (key_of order.places r) j) row_now found));
     fits = subst (λ n. n + 1 < 9223372036854775808) (sym is.long) fits;
     room = omega (arith, some, is.room);
   }
@@ -174,9 +174,9 @@ module _ (slab : Slab Row) (places : List ℕ) (entries : List Entry) (spare : �
         record {
           ordered = subst (λ ps. AreOrdered new ps after.entries) (sym e.places) (subst (AreOrdered new order.places) (sym e.entries) (left_order slab new slot order.places order.entries e.at u is.ordered e.was));
           entered = subst (λ xs. AllIn xs (slots_of after.entries)) (sym slots_now) (subst (AllIn (remove (slots_of entries) at)) (sym gone)
-            (λ x s q. let k = kept_of (slots_of entries) at x s q in let o = is.entered k.0 s k.1 in member_left (slots_of order.entries) e.at o.0 s slot o.1 e.was (others_differ slab places (slots_of entries) are.slots.sorted at slot there x s q)));
+              (λ x s q. let k = kept_of (slots_of entries) at x s q in let o = is.entered k.0 s k.1 in member_left (slots_of order.entries) e.at o.0 s slot o.1 e.was (others_differ slab places (slots_of entries) are.slots.sorted at slot there x s q)));
           only = subst (AllIn (slots_of after.entries)) (sym slots_now) (subst (λ xs. AllIn xs (remove (slots_of entries) at)) (sym gone)
-            (λ x s q. let k = kept_of (slots_of order.entries) e.at x s q in let o = is.only k.0 s k.1 in member_left (slots_of entries) at o.0 s slot o.1 there (others_differ slab order.places (slots_of order.entries) is.ordered.slots.sorted e.at slot e.was x s q)));
+              (λ x s q. let k = kept_of (slots_of order.entries) e.at x s q in let o = is.only k.0 s k.1 in member_left (slots_of entries) at o.0 s slot o.1 there (others_differ slab order.places (slots_of order.entries) is.ordered.slots.sorted e.at slot e.was x s q)));
           long = omega (arith, e.long, is.long, long);
           wider = subst (λ ps. IsWider ps places) (sym e.places) is.wider;
           room = subst (λ r. spare ≤ length r.items) (sym e.room) is.room;
@@ -219,9 +219,11 @@ slice_back xs ys n e f = ap (λ k. take n (ys ++ drop k xs)) e ∙ ap (λ l. tak
     none_left : {X : Type 0} (xs : List X) → drop (length xs) xs ≡ []
     none_left [] = refl
     none_left (x ∷ xs) = none_left xs
+
     append_none : {X : Type 0} (ys : List X) → ys ++ [] ≡ ys
     append_none [] = refl
     append_none (y ∷ ys) = ap (λ l. y ∷ l) (append_none ys)
+
     all_of : {X : Type 0} (ys : List X) → take (length ys) ys ≡ ys
     all_of [] = refl
     all_of (y ∷ ys) = ap (λ l. y ∷ l) (all_of ys)
@@ -246,9 +248,10 @@ module _ (slab new : Slab Row) (same : (s : ℕ) → get new s ≡ get slab s) w
 
   pub each_same : (places : List ℕ) (entries : List Entry) (spare : ℕ) (orders : List Order) → Each (IsOther slab places entries spare) orders → Each (IsOther new places entries spare) orders
   each_same places entries spare [] are = are
-  each_same places entries spare (o ∷ orders) are =
-      ( record { ordered = order_same o.places o.entries are.0.ordered; entered = are.0.entered; only = are.0.only; long = are.0.long; wider = are.0.wider; room = are.0.room }
-      , each_same places entries spare orders are.1)
+  each_same places entries spare (o ∷ orders) are = (
+    record { ordered = order_same o.places o.entries are.0.ordered; entered = are.0.entered; only = are.0.only; long = are.0.long; wider = are.0.wider; room = are.0.room },
+    each_same places entries spare orders are.1,
+  )
 
 module _ (slab : Slab Row) (places : List ℕ) (entries : List Entry) where
   has_kept : (spare more : ℕ) (order after : Order) → IsOther slab places entries spare order → SameOrder order after → more ≤ length after.room.items → IsOther slab places entries more after

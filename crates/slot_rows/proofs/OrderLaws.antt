@@ -1,6 +1,6 @@
 -- Entries in order: slots with leads.
-use Rattle.std.proofs.Common.{◌≡◌, ◌≢◌, ℕ, zero, suc, ◌+◌, ◌<◌, ◌≤◌, List, [], ◌∷◌, length, map, get_or, slice_get, Option, Some, None, is_some, unwrap_or, Bool, true, false, cond, T, Result, Ok, Err, IfOk, IfErr, Ordering, refl, sym, ap, subst, ◌∙◌, inl, inr, arith}
-use Rattle.std.proofs.lemmas.List.{get_or-map, length-map}
+use Rattle.std.proofs.Common.{◌≡◌, ◌≢◌, ℕ, zero, suc, ◌<◌, List, [], ◌∷◌, length, get_or, slice_get, Option, Some, None, is_some, unwrap_or, true, false, cond, T, Result, IfOk, IfErr, refl, sym, ap, subst, ◌∙◌, inl, inr}
+use Rattle.std.proofs.lemmas.List.{length-map}
 use Rattle.std.proofs.lemmas.Option.{slice_get-get_or}
 use Rattle.std.specs.List.{insert, remove}
 use Rattle.std.specs.List.Sorted.{IsBinarySearchResult, IsSearchInRange}
@@ -47,7 +47,7 @@ module _ (slab : Slab Row) (places : List ℕ) (entries : List Entry) where
 
   -- what a search by leads first finds, of keys
   module _ (are : AreOrdered slab places entries) (key : Row) (sought : ℕ) (leads : sought ≡ lead_of key) (r : Result ℕ ℕ) (bound : IsSearchInRange r (length entries))
-           (found : IsBinarySearchResult (λ e. lead_first e.lead sought (key_order (key_of places (row_in slab e.slot)) key)) entries r) where
+      (found : IsBinarySearchResult (λ e. lead_first e.lead sought (key_order (key_of places (row_in slab e.slot)) key)) entries r) where
     agrees : (i : ℕ) (d : Entry) → i < length entries → lead_first (get_or entries i d).lead sought (key_order (key_of places (row_in slab (get_or entries i d).slot)) key) ≡ key_order (key_of places (row_in slab (get_or entries i d).slot)) key
     agrees i d h =
         let e = get_or entries i d in
@@ -124,7 +124,7 @@ module _ (old new : Slab Row) (slot : ℕ) (row : Row) (vacant : get old slot �
 
 -- a slot more
 module _ (slab : Slab Row) (places : List ℕ) (entries : List Entry) (at : ℕ) (e : Entry) (row : Row) (there : get slab e.slot ≡ Some row) (are : AreOrdered slab places entries)
-         (gap : IsGapFor (fm.entries (table_in slab places entries)) (key_of places row) at) where
+    (gap : IsGapFor (fm.entries (table_in slab places entries)) (key_of places row) at) where
   pub slots_now : slots_of (insert entries at e) ≡ insert (slots_of entries) at e.slot
   slots_now = map_insert slot_in entries at e
 
@@ -165,7 +165,7 @@ module _ (old new : Slab Row) (slot : ℕ) (places : List ℕ) (entries : List E
   left_order = record {
     slots = subst (AreSlots new places) (sym slots_left) (left_slots old new slot u places (slots_of entries) are.slots i at);
     led = λ j x is. let k = kept_of entries i j x is in
-      are.led k.0 x k.1 ∙ ap (λ o. lead_of (key_of places (unwrap_or o []))) (sym (u.others x.slot (other j x is)));
+        are.led k.0 x k.1 ∙ ap (λ o. lead_of (key_of places (unwrap_or o []))) (sym (u.others x.slot (other j x is)));
   }
     where
       other : (j : ℕ) (x : Entry) → slice_get (remove entries i) j ≡ Some x → x.slot ≢ slot

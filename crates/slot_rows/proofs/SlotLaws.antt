@@ -1,21 +1,21 @@
 -- Slots in key order.
-use Rattle.std.proofs.Common.{◌≡◌, ◌≢◌, ℕ, zero, suc, ◌+◌, ◌<◌, ◌≤◌, List, [], ◌∷◌, length, map, get_or, slice_get, Option, Some, None, is_some, unwrap_or, Bool, true, false, T, Result, Ok, Err, Less, Equal, Greater, Ordering, refl, sym, ap, subst, ◌∙◌, ◌⊎◌, inl, inr, arith}
+use Rattle.std.proofs.Common.{◌≡◌, ◌≢◌, ℕ, zero, suc, ◌<◌, ◌≤◌, List, [], ◌∷◌, length, map, get_or, slice_get, Option, Some, None, is_some, unwrap_or, true, false, T, Result, Ok, Err, Less, Equal, Ordering, refl, sym, ap, subst, ◌∙◌, ◌⊎◌, inl, inr, arith}
 use Rattle.std.proofs.lemmas.List.{get_or-map, length-map}
 use Rattle.std.proofs.lemmas.Option.{slice_get-get_or}
 use Rattle.std.specs.List.{insert, remove}
 use Rattle.std.proofs.lemmas.Cmp.{tied_itself}
 use Rattle.row_types.proofs.OrderLaws.{key_total}
 use Rattle.key_rows.proofs.Sorted.{below_at, below_tail, sorted_remove, sorted_tail}
-use Rattle.std.specs.List.Sorted.{IsBinarySearchResult, IsPartitionPoint, IsSearchInRange}
+use Rattle.std.specs.List.Sorted.{IsBinarySearchResult, IsSearchInRange}
 use Rattle.std.specs.Ordering.{ordering_index}
 use Rattle.std.specs.FinMap as fm
 use Rattle.slab.specs.Slab.{Slab, Updates, get}
 use Rattle.row_types.specs.declared.value.Value.{Value}
 use Rattle.row_types.specs.Order.{key_order}
-use Rattle.key_rows.specs.Places.{IsGapFor, IsKeyAt}
+use Rattle.key_rows.specs.Places.{IsKeyAt}
 use Rattle.indexed_rows.specs.Rows.{Table, key_of}
 use Rattle.slot_rows.specs.Slots.{AreSlots, entries_in, entry_in, row_in}
-use Rattle.key_rows.proofs.MapLaws.{entries_of, goes_in, now_has, now_sorted, row_of, slice_get_map}
+use Rattle.key_rows.proofs.MapLaws.{entries_of, row_of, slice_get_map}
 
 module _ {X Y : Type 0} (f : X → Y) where
   pub mapped_range : (xs : List X) (r : Result ℕ ℕ) → IsSearchInRange r (length xs) → IsSearchInRange r (length (map f xs))
@@ -27,15 +27,17 @@ module _ {X Y : Type 0} (f : X → Y) where
   mapped_search first order xs x agree (Ok i) h p = λ d. ap order (get_or-map f xs i x d h) ∙ sym (agree i x h) ∙ p x
   mapped_search first order xs x agree (Err i) h p = λ rises.
       let point = p (λ a b d low high. let s = rises a b (f d) low (subst (λ n. b < n) (sym (length-map xs f)) high) in
-        let one = ap (λ y. ordering_index (order y)) (get_or-map f xs a d (f d) (below a b low high)) in
-        let two = ap (λ y. ordering_index (order y)) (get_or-map f xs b d (f d) high) in
-        let three = ap ordering_index (agree a d (below a b low high)) in
-        let four = ap ordering_index (agree b d high) in omega (arith, s, one, two, three, four)) in
-      ( (λ k d low high. let lt : k < length xs = inside k high h in ap order (get_or-map f xs k x d lt) ∙ sym (agree k x lt) ∙ point.0 k x low high)
-      , (λ k d low high. let lt : k < length xs = subst (λ n. k < n) (length-map xs f) high in ap order (get_or-map f xs k x d lt) ∙ sym (agree k x lt) ∙ point.1 k x low lt))
+      let one = ap (λ y. ordering_index (order y)) (get_or-map f xs a d (f d) (below a b low high)) in
+      let two = ap (λ y. ordering_index (order y)) (get_or-map f xs b d (f d) high) in
+      let three = ap ordering_index (agree a d (below a b low high)) in
+      let four = ap ordering_index (agree b d high) in omega (arith, s, one, two, three, four)) in (
+        (λ k d low high. let lt : k < length xs = inside k high h in ap order (get_or-map f xs k x d lt) ∙ sym (agree k x lt) ∙ point.0 k x low high),
+        (λ k d low high. let lt : k < length xs = subst (λ n. k < n) (length-map xs f) high in ap order (get_or-map f xs k x d lt) ∙ sym (agree k x lt) ∙ point.1 k x low lt),
+      )
     where
       below : (a b : ℕ) → a ≤ b → b < length xs → a < length xs
       below a b low high = omega arith
+
       inside : (k : ℕ) → k < i → i ≤ length xs → k < length xs
       inside k lt le = omega arith
 

@@ -1,6 +1,6 @@
 -- The lead of a key: a number that rises with the key's first value, so that two keys are mostly told apart by their
 -- leads alone (this project's rule).
-use Rattle.std.specs.Prelude.{ℕ, ℤ, pos, zero, suc, ◌+◌, ◌-◌, ◌*◌, ◌^◌, min, List, [], ◌∷◌, int_lt, nat_lt, unsigned_abs, if◌then◌else◌}
+use Rattle.std.specs.Prelude.{ℕ, ℤ, pos, ◌+◌, ◌-◌, ◌^◌, min, List, [], ◌∷◌, int_lt, unsigned_abs, if◌then◌else◌}
 use Rattle.std.specs.Ordering.{nat_cmp, ordering_then}
 use Rattle.std.specs.declared.cmp.Ordering.{Ordering}
 use Rattle.row_types.specs.declared.value.Value.{Value}

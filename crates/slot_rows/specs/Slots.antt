@@ -1,11 +1,9 @@
 -- The rows of a table in slots, and orders of their slots (this project's rule).
-use Rattle.std.specs.Prelude.{◌≡◌, ℕ, List, [], Option, Some, true, T, map, is_some, slice_get, unwrap_or, refl}
-use Rattle.std.specs.Coded.{Coded, code_by, coded×, coded_list, coded_ℕ}
+use Rattle.std.specs.Prelude.{◌≡◌, ℕ, List, [], Some, true, T, map, is_some, slice_get, unwrap_or}
 use Rattle.std.specs.FinMap as fm
 use Rattle.slab.specs.Slab.{Slab, get}
 use Rattle.row_types.specs.declared.value.Value.{Value}
 use Rattle.row_types.specs.Order.{key_order}
-use Rattle.row_types.specs.contracts.value.Value as one
 use Rattle.indexed_rows.specs.Rows.{Table, key_of}
 use Rattle.slot_rows.specs.Leads.{lead_of}
 use Rattle.slot_rows.specs.declared.order.Entry.{Entry}

@@ -80,7 +80,11 @@ impl<'a> Probe<Entry> for ByKey<'a> {
 
     fn order(&self, entry: &Entry) -> Ordering {
         match entry.lead.cmp(&self.lead) {
-            Ordering::Equal => order_to_key(self.places, values_in(self.rows, entry.slot), self.key),
+            Ordering::Equal => order_to_key(
+                self.places,
+                values_in(self.rows, entry.slot),
+                self.key,
+            ),
             decided => decided,
         }
     }
@@ -100,7 +104,11 @@ impl<'a> Probe<Entry> for ByRow<'a> {
 
     fn order(&self, entry: &Entry) -> Ordering {
         match entry.lead.cmp(&self.lead) {
-            Ordering::Equal => order_of_rows(self.places, values_in(self.rows, entry.slot), self.row),
+            Ordering::Equal => order_of_rows(
+                self.places,
+                values_in(self.rows, entry.slot),
+                self.row,
+            ),
             decided => decided,
         }
     }

@@ -55,7 +55,11 @@ fn leave_each(orders: &mut [Order], rows: &Slab<Row>, slot: usize)
 // Makes room in all until there is room for so many more slots.
 //
 // It fails for want of memory alone.
-pub(crate) fn reserve_all(orders: &mut Vec<Order>, alloc: Global, more: usize) -> Result<(), AllocError>
+pub(crate) fn reserve_all(
+    orders: &mut Vec<Order>,
+    alloc: Global,
+    more: usize,
+) -> Result<(), AllocError>
     ensures kept { EachNow SameOrder orders.old.items orders.new.items }
     ensures ok { OnOk result (Each (HasSpare more) orders.new.items) }
 {

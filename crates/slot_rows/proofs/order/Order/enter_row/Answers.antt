@@ -1,10 +1,9 @@
-use Rattle.std.proofs.Common.{◌≡◌, ◌+◌, Some, true, length, refl, ap, sym, subst, ◌∙◌, arith}
+use Rattle.std.proofs.Common.{◌≡◌, length, ap, sym, subst, ◌∙◌}
 use Rattle.std.proofs.lemmas.List.Edits.{length-insert}
 use Rattle.std.specs.FinMap as fm
 use Rattle.key_rows.specs.Places.{IsGapFor, IsKeyAt}
 use Rattle.indexed_rows.specs.Rows.{key_of}
 use Rattle.slot_rows.specs.Leads.{lead_of}
-use Rattle.slot_rows.specs.Orders.{EntersOrder}
 use Rattle.slot_rows.specs.Slots.{AreOrdered, row_in, slots_of, table_in}
 use Rattle.slot_rows.specs.declared.order.Entry.{Entry}
 use Rattle.slot_rows.proofs.OrderLaws.{is_live, order_entered, slots_now}
@@ -25,7 +24,7 @@ returns-in-Err c =
     let leads : c.lead_of_row-lead.result ≡ lead_of (key_of o.places (row_in slab c.args.slot)) = c.lead_of_row-lead.ensures ∙ ap (λ ps. lead_of (key_of ps c.values_in-row.result.now)) c.as_slice.ensures ∙ ap (λ v. lead_of (key_of o.places v)) c.values_in-row.ensures in
     record {
       ordered = subst (λ ps. AreOrdered slab ps c.enter.new.self.entries) (sym c.enter.ensures.places) (subst (AreOrdered slab o.places) (sym c.enter.ensures.entries)
-        (order_entered slab o.places o.entries c.in-Err.place e (row_in slab c.args.slot) there c.requires.ordered gap leads));
+          (order_entered slab o.places o.entries c.in-Err.place e (row_in slab c.args.slot) there c.requires.ordered gap leads));
       places = c.enter.ensures.places;
       at = c.in-Err.place;
       slots = ap slots_of c.enter.ensures.entries ∙ slots_now slab o.places o.entries c.in-Err.place e (row_in slab c.args.slot) there c.requires.ordered gap;

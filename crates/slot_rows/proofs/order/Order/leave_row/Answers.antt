@@ -1,9 +1,9 @@
-use Rattle.std.proofs.Common.{◌≡◌, ◌+◌, Some, length, refl, ap, sym, subst, ◌∙◌, arith}
+use Rattle.std.proofs.Common.{◌+◌, length, ap, subst, ◌∙◌}
 use Rattle.std.proofs.lemmas.List.Edits.{length-remove}
 use Rattle.std.specs.FinMap as fm
 use Rattle.key_rows.specs.Places.{IsGapFor, IsKeyAt}
 use Rattle.indexed_rows.specs.Rows.{key_of}
-use Rattle.slot_rows.specs.Slots.{slots_of, table_in}
+use Rattle.slot_rows.specs.Slots.{table_in}
 use Rattle.slot_rows.proofs.ManyLaws.{found_slot, not_absent}
 use Rattle.slot_rows.proofs.order.Order.leave_row.Goals as goal
 

@@ -6,5 +6,5 @@ abbrev pub invariant-loop-at : goal.invariant-loop-at
 invariant-loop-at l = record {
   is : l.at ≡ length l.self.room.items;
   kept : SameOrder l.fn.self l.self;
-  most : length l.fn.self.room.items ≤ l.more → length l.self.room.items ≤ l.more
+  most : length l.fn.self.room.items ≤ l.more → length l.self.room.items ≤ l.more;
 }

@@ -1,4 +1,4 @@
-use Rattle.std.proofs.Common.{rules, length, take, ap, sym, subst, ◌∙◌}
+use Rattle.std.proofs.Common.{rules, length, take, ap, subst, ◌∙◌}
 use Rattle.std.specs.List.Sorted.{IsBinarySearchResult}
 use Rattle.row_types.specs.Order.{key_order}
 use Rattle.indexed_rows.specs.Rows.{key_of}
@@ -11,11 +11,12 @@ pub returns-in-Ok : goal.returns-in-Ok
 returns-in-Ok c =
     let o = c.args.self.now in
     let columns = c.split_at.ensures.front ∙ ap (take (length c.args.values.now)) c.as_slice.ensures in
-    let found = subst (λ ps. IsBinarySearchResult (λ e. lead_first e.lead c.lead_of_key.result (key_order (key_of ps (row_in c.args.rows.now e.slot)) c.args.values.now)) o.entries c.search.result) columns c.search.ensures.position in
-    ( c.in-Ok.place
-    , c.slot_at.ensures
-    , front_found c.args.rows.now o.places o.entries c.requires.ordered c.args.values.now c.requires.some c.lead_of_key.result c.lead_of_key.ensures c.in-Ok.place c.slot_at.result c.in-Ok.ensures.bound c.slot_at.ensures
-        (subst (IsBinarySearchResult (λ e. lead_first e.lead c.lead_of_key.result (key_order (key_of (take (length c.args.values.now) o.places) (row_in c.args.rows.now e.slot)) c.args.values.now)) o.entries) c.in-Ok.is found))
+    let found = subst (λ ps. IsBinarySearchResult (λ e. lead_first e.lead c.lead_of_key.result (key_order (key_of ps (row_in c.args.rows.now e.slot)) c.args.values.now)) o.entries c.search.result) columns c.search.ensures.position in (
+      c.in-Ok.place,
+      c.slot_at.ensures,
+      front_found c.args.rows.now o.places o.entries c.requires.ordered c.args.values.now c.requires.some c.lead_of_key.result c.lead_of_key.ensures c.in-Ok.place c.slot_at.result c.in-Ok.ensures.bound c.slot_at.ensures
+          (subst (IsBinarySearchResult (λ e. lead_first e.lead c.lead_of_key.result (key_order (key_of (take (length c.args.values.now) o.places) (row_in c.args.rows.now e.slot)) c.args.values.now)) o.entries) c.in-Ok.is found),
+    )
 
 pub returns-in-Err : goal.returns-in-Err
 returns-in-Err c =
@@ -23,4 +24,4 @@ returns-in-Err c =
     let columns = c.split_at.ensures.front ∙ ap (take (length c.args.values.now)) c.as_slice.ensures in
     let found = subst (λ ps. IsBinarySearchResult (λ e. lead_first e.lead c.lead_of_key.result (key_order (key_of ps (row_in c.args.rows.now e.slot)) c.args.values.now)) o.entries c.search.result) columns c.search.ensures.position in
     front_absent c.args.rows.now o.places o.entries c.requires.ordered c.args.values.now c.requires.some c.lead_of_key.result c.lead_of_key.ensures c.in-Err.field-0 (search rules)
-        (subst (IsBinarySearchResult (λ e. lead_first e.lead c.lead_of_key.result (key_order (key_of (take (length c.args.values.now) o.places) (row_in c.args.rows.now e.slot)) c.args.values.now)) o.entries) c.in-Err.is found)
+    (subst (IsBinarySearchResult (λ e. lead_first e.lead c.lead_of_key.result (key_order (key_of (take (length c.args.values.now) o.places) (row_in c.args.rows.now e.slot)) c.args.values.now)) o.entries) c.in-Err.is found)

@@ -14,8 +14,8 @@ returns-in-Some c =
     let is = subst (IsOther l.rows o.places o.entries (length o.room.items)) (sym c.index.ensures) (each_at (IsOther l.rows o.places o.entries (length o.room.items)) l.others.items c.self.invariant.2 c.args.order c.index.result.now within) in
     let columns : get_or (map (λ x. x.places) l.others.items) c.args.order [] ≡ c.index.result.now.places = columns_at l.others.items c.args.order c.index.result.now within ∙ ap (λ x. x.places) (sym c.index.ensures) in
     subst (λ h. IsRowWith h.table h.places (first_columns h.orders c.args.order (length c.args.values.now)) c.args.values.now (option_copied c.get.result)) c.self.view_is
-      (subst (λ ps. IsRowWith (table_in l.rows o.places o.entries) o.places (take (length c.args.values.now) ps) c.args.values.now (option_copied c.get.result)) (sym columns)
-        (row_with l.rows o.places o.entries c.self.invariant.0 (length o.room.items) c.index.result.now is (take (length c.args.values.now) c.index.result.now.places) c.args.values.now c.in-Some.slot (option_copied c.get.result) c.get.ensures c.in-Some.ensures))
+    (subst (λ ps. IsRowWith (table_in l.rows o.places o.entries) o.places (take (length c.args.values.now) ps) c.args.values.now (option_copied c.get.result)) (sym columns)
+    (row_with l.rows o.places o.entries c.self.invariant.0 (length o.room.items) c.index.result.now is (take (length c.args.values.now) c.index.result.now.places) c.args.values.now c.in-Some.slot (option_copied c.get.result) c.get.ensures c.in-Some.ensures))
 
 pub returns-in-None : goal.returns-in-None
 returns-in-None c =
@@ -25,5 +25,5 @@ returns-in-None c =
     let is = subst (IsOther l.rows o.places o.entries (length o.room.items)) (sym c.index.ensures) (each_at (IsOther l.rows o.places o.entries (length o.room.items)) l.others.items c.self.invariant.2 c.args.order c.index.result.now within) in
     let columns : get_or (map (λ x. x.places) l.others.items) c.args.order [] ≡ c.index.result.now.places = columns_at l.others.items c.args.order c.index.result.now within ∙ ap (λ x. x.places) (sym c.index.ensures) in
     subst (λ h. IsRowWith h.table h.places (first_columns h.orders c.args.order (length c.args.values.now)) c.args.values.now None) c.self.view_is
-      (subst (λ ps. IsRowWith (table_in l.rows o.places o.entries) o.places (take (length c.args.values.now) ps) c.args.values.now None) (sym columns)
-        (no_row_with l.rows o.places o.entries c.self.invariant.0 (length o.room.items) c.index.result.now is (take (length c.args.values.now) c.index.result.now.places) c.args.values.now c.in-None.ensures))
+    (subst (λ ps. IsRowWith (table_in l.rows o.places o.entries) o.places (take (length c.args.values.now) ps) c.args.values.now None) (sym columns)
+    (no_row_with l.rows o.places o.entries c.self.invariant.0 (length o.room.items) c.index.result.now is (take (length c.args.values.now) c.index.result.now.places) c.args.values.now c.in-None.ensures))

@@ -1,6 +1,5 @@
-use Rattle.std.proofs.Common.{◌≡◌, ◌≤◌, ◌<◌, ◌+◌, true, ap, sym, subst, cond, length, ◌∙◌, arith}
+use Rattle.std.proofs.Common.{◌≡◌, ◌<◌, ◌+◌, true, ap, sym, subst, cond, length, ◌∙◌, arith}
 use Rattle.std.proofs.lemmas.List.Edits.{length-insert}
-use Rattle.std.specs.List.{insert}
 use Rattle.std.specs.FinMap as fm
 use Rattle.key_rows.specs.Places.{IsGapFor, IsKeyAt}
 use Rattle.key_rows.proofs.MapLaws.{has_key, no_key}
@@ -25,7 +24,7 @@ enter_all-requires c =
     let gap = subst (λ v. IsGapFor (fm.entries (table_in l.rows o.places o.entries)) (key_of o.places v) c.in-Err.place) c.values.ensures c.in-Err.ensures.absent in
     let fits = subst (λ n. n + 1 < 9223372036854775808) (ap (λ h. fm.len h.table) (sym c.self.view_is) ∙ table_len l.rows o.places o.entries c.self.invariant.0) c.requires.fits in
     each_awaits l.rows c.insert_reserved-slot.new.self o.places o.entries (length o.room.items) c.self.invariant.0 c.args.row c.insert_reserved-slot.result c.in-Err.place c.insert_reserved-slot.ensures.was_vacant c.insert_reserved-slot.ensures.updates gap
-      (omega (arith, c.enter.ensures.room)) fits l.others.items c.self.invariant.2
+    (omega (arith, c.enter.ensures.room)) fits l.others.items c.self.invariant.2
 
 pub invariant_of-self : goal.invariant_of-self
 invariant_of-self c =
@@ -41,11 +40,12 @@ invariant_of-self c =
     let stays = order_stays l.rows new slot c.args.row fresh changed o.places o.entries c.self.invariant.0 in
     let gap_now = gap_stays l.rows new slot c.args.row fresh changed o.places o.entries c.self.invariant.0 (key_of o.places c.args.row) c.in-Err.place gap in
     let slots = ap slots_of c.enter.ensures.entries ∙ slots_now new o.places o.entries c.in-Err.place e c.args.row changed.changed stays gap_now in
-    let long = ap length c.enter.ensures.entries ∙ length-insert o.entries c.in-Err.place e c.in-Err.ensures.bound in
-    ( subst (λ ps. AreOrdered new ps c.enter.new.self.entries) (sym c.enter.ensures.places) (subst (AreOrdered new o.places) (sym c.enter.ensures.entries) (order_entered new o.places o.entries c.in-Err.place e c.args.row changed.changed stays gap_now leads))
-    , omega (arith, c.self.invariant.1, c.insert_reserved-slot.ensures.len, c.insert_reserved-slot.ensures.capacity, c.enter.ensures.room)
-    , subst (λ ps. Each (IsOther new ps c.enter.new.self.entries (length c.enter.new.self.room.items)) c.enter_all.new.orders.items) (sym c.enter.ensures.places)
-        (each_entered l.rows new o.places o.entries (length o.room.items) c.self.invariant.0 c.args.row slot c.in-Err.place fresh changed gap c.enter.new.self.entries slots long (length c.enter.new.self.room.items) c.enter.ensures.room l.others.items c.enter_all.new.orders.items c.self.invariant.2 c.enter_all.ensures))
+    let long = ap length c.enter.ensures.entries ∙ length-insert o.entries c.in-Err.place e c.in-Err.ensures.bound in (
+      subst (λ ps. AreOrdered new ps c.enter.new.self.entries) (sym c.enter.ensures.places) (subst (AreOrdered new o.places) (sym c.enter.ensures.entries) (order_entered new o.places o.entries c.in-Err.place e c.args.row changed.changed stays gap_now leads)),
+      omega (arith, c.self.invariant.1, c.insert_reserved-slot.ensures.len, c.insert_reserved-slot.ensures.capacity, c.enter.ensures.room),
+      subst (λ ps. Each (IsOther new ps c.enter.new.self.entries (length c.enter.new.self.room.items)) c.enter_all.new.orders.items) (sym c.enter.ensures.places)
+          (each_entered l.rows new o.places o.entries (length o.room.items) c.self.invariant.0 c.args.row slot c.in-Err.place fresh changed gap c.enter.new.self.entries slots long (length c.enter.new.self.room.items) c.enter.ensures.room l.others.items c.enter_all.new.orders.items c.self.invariant.2 c.enter_all.ensures),
+    )
 
 pub returns-in-Ok-clause-table : goal.returns-in-Ok-clause-table
 returns-in-Ok-clause-table c =

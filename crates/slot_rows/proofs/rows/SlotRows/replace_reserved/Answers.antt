@@ -1,4 +1,4 @@
-use Rattle.std.proofs.Common.{◌≡◌, ◌<◌, ◌≤◌, ◌+◌, ◌-◌, true, cond, ap, sym, subst, ◌∙◌, arith}
+use Rattle.std.proofs.Common.{◌≡◌, ◌<◌, ◌-◌, cond, ap, sym, subst, ◌∙◌, arith}
 use Rattle.std.specs.FinMap as fm
 use Rattle.row_types.proofs.OrderLaws.{key_total}
 use Rattle.key_rows.specs.Places.{IsGapFor, IsKeyAt}
@@ -20,7 +20,7 @@ insert_reserved-requires-clause-fits c =
     let o = l.by_key in
     let key = key_of c.args.self.now.places c.args.row in
     let here : IsKeyAt (fm.entries c.args.self.now.table) key c.in-Ok.place = subst (λ h. IsKeyAt (fm.entries h.table) (key_of h.places c.args.row) c.in-Ok.place) c.self.view_is
-      (subst (λ v. IsKeyAt (fm.entries (table_in l.rows o.places o.entries)) (key_of o.places v) c.in-Ok.place) c.values.ensures c.in-Ok.ensures.found) in
+    (subst (λ v. IsKeyAt (fm.entries (table_in l.rows o.places o.entries)) (key_of o.places v) c.in-Ok.place) c.values.ensures c.in-Ok.ensures.found) in
     let len = ap fm.len (c.take.ensures.taken key here).now ∙ fm.len-remove key_total c.args.self.now.table key ∙ ap (λ b. cond b (fm.len c.args.self.now.table - 1) (fm.len c.args.self.now.table)) (has_key c.args.self.now.table key c.in-Ok.place here) in
     let some : c.in-Ok.place < fm.len c.args.self.now.table = subst (λ n. c.in-Ok.place < n) (sym (table_len l.rows o.places o.entries c.self.invariant.0) ∙ ap (λ h. fm.len h.table) c.self.view_is) c.in-Ok.ensures.bound in
     omega (arith, len, some, c.len-held.ensures.value, c.len-held.ensures.fits)
@@ -32,7 +32,7 @@ returns-in-Err-clause-table c =
     let gap = subst (λ v. IsGapFor (fm.entries (table_in l.rows o.places o.entries)) (key_of o.places v) c.in-Err.field-0) c.values.ensures c.in-Err.ensures.absent in
     let none = no_key (table_in l.rows o.places o.entries) (key_of o.places c.args.row) c.in-Err.field-0 gap in
     subst (λ h. h.table ≡ put_over h.table (key_of h.places c.args.row) c.args.row) c.self.view_is
-      (ap (λ b. cond b (fm.insert (table_in l.rows o.places o.entries) (key_of o.places c.args.row) c.args.row) (table_in l.rows o.places o.entries)) (sym none))
+    (ap (λ b. cond b (fm.insert (table_in l.rows o.places o.entries) (key_of o.places c.args.row) c.args.row) (table_in l.rows o.places o.entries)) (sym none))
 
 pub returns-in-Ok-clause-table : goal.returns-in-Ok-clause-table
 returns-in-Ok-clause-table c =
@@ -41,7 +41,7 @@ returns-in-Ok-clause-table c =
     let m = c.args.self.now.table in
     let key = key_of c.args.self.now.places c.args.row in
     let here : IsKeyAt (fm.entries m) key c.in-Ok.place = subst (λ h. IsKeyAt (fm.entries h.table) (key_of h.places c.args.row) c.in-Ok.place) c.self.view_is
-      (subst (λ v. IsKeyAt (fm.entries (table_in l.rows o.places o.entries)) (key_of o.places v) c.in-Ok.place) c.values.ensures c.in-Ok.ensures.found) in
+    (subst (λ v. IsKeyAt (fm.entries (table_in l.rows o.places o.entries)) (key_of o.places v) c.in-Ok.place) c.values.ensures c.in-Ok.ensures.found) in
     c.insert_reserved.ensures.table
     ∙ ap (λ ps. put_in c.take.new.self.table (key_of ps c.args.row) c.args.row) c.take.ensures.places
     ∙ ap (λ t. put_in t key c.args.row) (c.take.ensures.taken key here).now

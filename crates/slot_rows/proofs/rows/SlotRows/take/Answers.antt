@@ -1,4 +1,4 @@
-use Rattle.std.proofs.Common.{◌≡◌, ◌≤◌, ◌<◌, ◌+◌, OnSome, ap, sym, subst, length, ◌∙◌, arith}
+use Rattle.std.proofs.Common.{◌≡◌, ◌<◌, ◌+◌, OnSome, ap, sym, subst, length, ◌∙◌, arith}
 use Rattle.std.proofs.lemmas.List.Edits.{length-remove}
 use Rattle.std.specs.FinMap as fm
 use Rattle.slab.specs.Slab.{slab_len}
@@ -33,13 +33,14 @@ invariant_of-self c =
     let within = subst (λ n. c.args.place < n) (ap (λ h. fm.len h.table) (sym c.self.view_is) ∙ table_len l.rows o.places o.entries c.self.invariant.0) c.requires in
     let there = row_is_there l.rows o.places o.entries c.self.invariant.0 c.args.place slot within c.slot_at-slot.ensures in
     let fewer : slab_len new + 1 ≡ slab_len l.rows = subst (λ r. OnSome r (slab_len new + 1 ≡ slab_len l.rows)) (c.try_remove.ensures.value ∙ there) c.try_remove.ensures.len in
-    let long = ap (λ es. length es + 1) c.leave.ensures.entries ∙ length-remove o.entries c.args.place within in
-    ( subst (λ ps. AreOrdered new ps c.leave.new.self.entries) (sym c.leave.ensures.places) (subst (AreOrdered new o.places) (sym c.leave.ensures.entries)
-        (left_order l.rows new slot o.places o.entries c.args.place c.try_remove.ensures.updates c.self.invariant.0 c.slot_at-slot.ensures))
-    , omega (arith, c.self.invariant.1, fewer, c.try_remove.ensures.capacity, ap (λ r. length r.items) c.leave.ensures.room)
-    , subst (λ ps. Each (IsOther new ps c.leave.new.self.entries (length c.leave.new.self.room.items)) c.leave_all.new.orders.items) (sym c.leave.ensures.places)
-        (subst (λ r. Each (IsOther new o.places c.leave.new.self.entries (length r.items)) c.leave_all.new.orders.items) (sym c.leave.ensures.room)
-          (each_left l.rows o.places o.entries (length o.room.items) c.self.invariant.0 c.args.place slot c.slot_at-slot.ensures new c.try_remove.ensures.updates c.leave.new.self.entries c.leave.ensures.entries long l.others.items c.leave_all.new.orders.items c.self.invariant.2 c.leave_all.ensures)))
+    let long = ap (λ es. length es + 1) c.leave.ensures.entries ∙ length-remove o.entries c.args.place within in (
+      subst (λ ps. AreOrdered new ps c.leave.new.self.entries) (sym c.leave.ensures.places) (subst (AreOrdered new o.places) (sym c.leave.ensures.entries)
+          (left_order l.rows new slot o.places o.entries c.args.place c.try_remove.ensures.updates c.self.invariant.0 c.slot_at-slot.ensures)),
+      omega (arith, c.self.invariant.1, fewer, c.try_remove.ensures.capacity, ap (λ r. length r.items) c.leave.ensures.room),
+      subst (λ ps. Each (IsOther new ps c.leave.new.self.entries (length c.leave.new.self.room.items)) c.leave_all.new.orders.items) (sym c.leave.ensures.places)
+          (subst (λ r. Each (IsOther new o.places c.leave.new.self.entries (length r.items)) c.leave_all.new.orders.items) (sym c.leave.ensures.room)
+          (each_left l.rows o.places o.entries (length o.room.items) c.self.invariant.0 c.args.place slot c.slot_at-slot.ensures new c.try_remove.ensures.updates c.leave.new.self.entries c.leave.ensures.entries long l.others.items c.leave_all.new.orders.items c.self.invariant.2 c.leave_all.ensures)),
+    )
 
 pub returns-clause-taken : goal.returns-clause-taken
 returns-clause-taken c = λ key found.
@@ -51,8 +52,8 @@ returns-clause-taken c = λ key found.
     record {
       was = c.try_remove.ensures.value ∙ row_at_key l.rows o.places o.entries c.self.invariant.0 key c.args.place c.slot_at-slot.result within c.slot_at-slot.ensures here ∙ ap (λ h. fm.get h.table key) c.self.view_is;
       now = ap (λ ps. table_in new ps c.leave.new.self.entries) c.leave.ensures.places ∙ ap (table_in new o.places) c.leave.ensures.entries
-        ∙ left_rows l.rows new c.slot_at-slot.result o.places o.entries c.args.place c.try_remove.ensures.updates c.self.invariant.0 c.slot_at-slot.ensures key here
-        ∙ ap (λ h. fm.remove h.table key) c.self.view_is;
+          ∙ left_rows l.rows new c.slot_at-slot.result o.places o.entries c.args.place c.try_remove.ensures.updates c.self.invariant.0 c.slot_at-slot.ensures key here
+          ∙ ap (λ h. fm.remove h.table key) c.self.view_is;
     }
 
 pub returns-clause-orders : goal.returns-clause-orders
