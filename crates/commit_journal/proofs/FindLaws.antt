@@ -34,10 +34,10 @@ module _ (slots : Slots) (slot : Slot) (version generation : ℕ) (head : head_o
   finds_whole r place t out entries damaged slot-is version-is generation-is gate-is standing-is short = record {
     reads = subst (λ (d : Option (Slot × ℕ)). Reads slots r.entries.items d) (ap (λ (o : Outcome). place_of slot o) out ∙ sym damaged) (subst (λ (l : List Placed). Reads slots l (place_of slot outcome)) (sym entries) read);
     rests = λ e.
-      let bs : Batches version beginning 10 (drop 10 (slot_of slot slots)) now (Closed place t) = subst (λ (o : Outcome). Batches version beginning 10 (drop 10 (slot_of slot slots)) now o) out batches in
-      let dead' : head_of (slot_of (other r.journal.slot) slots) ≡ Dead = subst (λ (x : Slot). head_of (slot_of (other x) slots) ≡ Dead) (sym slot-is) dead in
-      let some' : 1 ≤ length (slot_of (other r.journal.slot) slots) = subst (λ (x : Slot). 1 ≤ length (slot_of (other x) slots)) (sym slot-is) some in
-      let there : slot_of r.journal.slot slots ≡ slot_of slot slots = ap (λ (x : Slot). slot_of x slots) slot-is in
-      subst (λ (l : List Placed). AtRest r.journal slots (entries_of l) []) (sym entries)
+        let bs : Batches version beginning 10 (drop 10 (slot_of slot slots)) now (Closed place t) = subst (λ (o : Outcome). Batches version beginning 10 (drop 10 (slot_of slot slots)) now o) out batches in
+        let dead' : head_of (slot_of (other r.journal.slot) slots) ≡ Dead = subst (λ (x : Slot). head_of (slot_of (other x) slots) ≡ Dead) (sym slot-is) dead in
+        let some' : 1 ≤ length (slot_of (other r.journal.slot) slots) = subst (λ (x : Slot). 1 ≤ length (slot_of (other x) slots)) (sym slot-is) some in
+        let there : slot_of r.journal.slot slots ≡ slot_of slot slots = ap (λ (x : Slot). slot_of x slots) slot-is in
+        subst (λ (l : List Placed). AtRest r.journal slots (entries_of l) []) (sym entries)
         (rested version generation (slot_of slot slots) now place t head bs r.journal slots there dead' some' version-is generation-is gate-is standing-is short);
   }

@@ -65,16 +65,16 @@ module _ (o : Held) (gate : ℕ) (junk : List ℕ) (there : o.slots.first ≡ ga
   pub make_keeps : (p : Held) → MidBatch First [] gate new_bytes o p → Keeps o p
   make_keeps p m =
       let here : Reads p.slots [] None = elim m.there [
-          | inl h ↦ dead_reads p m.other_same (λ e. shut (sym (ap (λ (l : List ℕ). get_or l 0 0) h.1) ∙ e))
-          | inr h ↦ is_one (Reads p.slots [] None) h.0
-              (λ one. live_reads p h.1 m.other_same (h.2 ∙ ap (λ (x : ℕ). x ∷ (new_bytes ++ h.1)) one))
-              (λ none. dead_reads p m.other_same (λ e. none (sym (ap (λ (l : List ℕ). get_or l 0 0) h.2) ∙ e)))
-        ] in
+        | inl h ↦ dead_reads p m.other_same (λ e. shut (sym (ap (λ (l : List ℕ). get_or l 0 0) h.1) ∙ e))
+        | inr h ↦ is_one (Reads p.slots [] None) h.0
+            (λ one. live_reads p h.1 m.other_same (h.2 ∙ ap (λ (x : ℕ). x ∷ (new_bytes ++ h.1)) one))
+            (λ none. dead_reads p m.other_same (λ e. none (sym (ap (λ (l : List ℕ). get_or l 0 0) h.2) ∙ e)))
+      ] in
       record {
         beside = m.beside;
         reads = λ entries damaged r.
-          let z = reads_none r first second in
-          subst (λ (d : Option (Slot × ℕ)). Reads p.slots entries d) (sym z.1) (subst (λ (l : List Placed). Reads p.slots l None) (sym z.0) here);
+            let z = reads_none r first second in
+            subst (λ (d : Option (Slot × ℕ)). Reads p.slots entries d) (sym z.1) (subst (λ (l : List Placed). Reads p.slots l None) (sym z.0) here);
       }
 
   pub made : {D : Type 0} (held : D → Option Held) (moment : D → ℕ) (possible : D → ℕ → Held → Type 0) (d : D) (r : Opened) → 1 ≤ length o.slots.second → HasBatch held moment possible d First [] new_bytes o
@@ -85,21 +85,26 @@ module _ (o : Held) (gate : ℕ) (junk : List ℕ) (there : o.slots.first ≡ ga
     beside = h.beside;
     reads = rw (entries, damaged) (new first second);
     rests = λ e.
-      let second' : slot_of (other r.journal.slot) h.now.slots ≡ o.slots.second = ap (λ (s : Slot). slot_of (other s) h.now.slots) slot ∙ h.other_same in
-      record {
-        front = header 1; gate = 0; junk = h.junk; placed = []; before = beginning; tail_placed = [];
-        bytes = ap (λ (s : Slot). slot_of s h.now.slots) slot ∙ h.there;
-        shut = λ (z : ◌≡◌ {A = ℕ} 0 1). absurd (omega arith);
-        place = gate-is;
-        is_front = rw (version, generation) (header_front 1 (omega arith));
-        flushed_are = rw entries refl;
-        other_dead = ap (λ (l : List ℕ). head_of l) second' ∙ second;
-        other_some = subst (λ (l : List ℕ). 1 ≤ length l) (sym second') some;
-        staged = drop_all 4 r.journal.staged.items short;
-        small = omega arith;
-        tail_reads = rw standing ends;
-        tail_are = refl;
-      };
+        let second' : slot_of (other r.journal.slot) h.now.slots ≡ o.slots.second = ap (λ (s : Slot). slot_of (other s) h.now.slots) slot ∙ h.other_same in
+        record {
+          front = header 1;
+          gate = 0;
+          junk = h.junk;
+          placed = [];
+          before = beginning;
+          tail_placed = [];
+          bytes = ap (λ (s : Slot). slot_of s h.now.slots) slot ∙ h.there;
+          shut = λ (z : ◌≡◌ {A = ℕ} 0 1). absurd (omega arith);
+          place = gate-is;
+          is_front = rw (version, generation) (header_front 1 (omega arith));
+          flushed_are = rw entries refl;
+          other_dead = ap (λ (l : List ℕ). head_of l) second' ∙ second;
+          other_some = subst (λ (l : List ℕ). 1 ≤ length l) (sym second') some;
+          staged = drop_all 4 r.journal.staged.items short;
+          small = omega arith;
+          tail_reads = rw standing ends;
+          tail_are = refl;
+        };
   }
 
 some_split : (xs : List ℕ) → 1 ≤ length xs → (x : ℕ) × (rest : List ℕ) × (xs ≡ x ∷ rest)
@@ -109,14 +114,14 @@ some_split (x ∷ xs) h = (x, xs, refl)
 module _ {D : Type 0} (held : D → Option Held) (moment : D → ℕ) (possible : D → ℕ → Held → Type 0) (a b : D) (o : Held) (h : Certain held moment possible a o) (have : HaveBytes o.slots) (first : head_of o.slots.first ≡ Dead) (second : head_of o.slots.second ≡ Dead) where
   pub make_crash : ((o : Held) (front junk : List ℕ) (g : ℕ) → Certain held moment possible a o → slot_of First o.slots ≡ front ++ g ∷ junk → 0 ≡ length front → Leaves moment possible a b (MidBatch First front g new_bytes o)) → Leaves moment possible a b (Keeps o)
   make_crash crash =
-    let s = some_split o.slots.first have.first in
-    weaker moment possible a b (MidBatch First [] s.0 new_bytes o) (Keeps o) (make_keeps o s.0 s.1 s.2 first second) (crash o [] s.1 s.0 h s.2 refl)
+      let s = some_split o.slots.first have.first in
+      weaker moment possible a b (MidBatch First [] s.0 new_bytes o) (Keeps o) (make_keeps o s.0 s.1 s.2 first second) (crash o [] s.1 s.0 h s.2 refl)
 
   pub make_done : ((o : Held) (front junk : List ℕ) (g : ℕ) → Certain held moment possible a o → slot_of First o.slots ≡ front ++ g ∷ junk → 0 ≡ length front → HasBatch held moment possible b First front new_bytes o)
       → (r : Opened) → r.entries.items ≡ [] → r.damaged ≡ None → r.journal.slot ≡ First → r.journal.version ≡ 2 → r.journal.generation ≡ 1 → r.journal.gate ≡ 10 → r.journal.standing ≡ beginning → length r.journal.staged.items ≤ 4 → Opens held moment possible b o r
   make_done batch r entries damaged slot version generation gate standing short =
-    let s = some_split o.slots.first have.first in
-    made o s.0 s.1 s.2 first second held moment possible b r have.second (batch o [] s.1 s.0 h s.2 refl) entries damaged slot version generation gate standing short
+      let s = some_split o.slots.first have.first in
+      made o s.0 s.1 s.2 first second held moment possible b r have.second (batch o [] s.1 s.0 h s.2 refl) entries damaged slot version generation gate standing short
 
 -- ---- the slot that counts
 
@@ -191,7 +196,7 @@ module _ (slot u : Slot) (u-is : u ≡ other slot) (o : Held) (v g w k : ℕ) (m
   keeps_dead p beside same dead = record {
     beside = beside;
     reads = λ entries damaged r.
-      given_reads slot p.slots entries damaged v g (ap (λ (l : List ℕ). head_of l) same ∙ mine) (beats_dead' slot g (head_of (slot_of (other slot) p.slots)) dead)
+        given_reads slot p.slots entries damaged v g (ap (λ (l : List ℕ). head_of l) same ∙ mine) (beats_dead' slot g (head_of (slot_of (other slot) p.slots)) dead)
         (given_same slot o.slots p.slots v entries damaged same (reads_counts slot v g (Live w k) mine their wins r));
   }
 
@@ -202,11 +207,11 @@ module _ (slot u : Slot) (u-is : u ≡ other slot) (o : Held) (v g w k : ℕ) (m
       let is : slot_of (other slot) p.slots ≡ get_or (slot_of (other slot) p.slots) 0 0 ∷ theirs.0 = torn_gate [] 1 theirs.0 (slot_of (other slot) p.slots) torn in
       let same : slot_of slot p.slots ≡ slot_of slot o.slots = subst (λ (s : Slot). slot_of s p.slots ≡ slot_of s o.slots) (other_other slot) (other_stays (other slot) (Torn 0 1) o p c) in
       is_one (Keeps o p) (get_or (slot_of (other slot) p.slots) 0 0)
-        (λ one.
-          let whole : slot_of (other slot) p.slots ≡ slot_of (other slot) o.slots = is ∙ ap (λ (x : ℕ). x ∷ theirs.0) one ∙ sym theirs.1 in
-          let slots-same : p.slots ≡ o.slots = c.elsewhere ∙ with_same (other slot) (slot_of (other slot) p.slots) o.slots whole in
-          keeps_same o p (same_held p o slots-same c.beside))
-        (λ none. keeps_dead p c.beside same (dead_from (slot_of (other slot) p.slots) none))
+      (λ one.
+      let whole : slot_of (other slot) p.slots ≡ slot_of (other slot) o.slots = is ∙ ap (λ (x : ℕ). x ∷ theirs.0) one ∙ sym theirs.1 in
+      let slots-same : p.slots ≡ o.slots = c.elsewhere ∙ with_same (other slot) (slot_of (other slot) p.slots) o.slots whole in
+      keeps_same o p (same_held p o slots-same c.beside))
+      (λ none. keeps_dead p c.beside same (dead_from (slot_of (other slot) p.slots) none))
 
   abbrev pub shut_held : Held
   shut_held = with_bytes (other slot) (patched 0 (0 ∷ []) (slot_of (other slot) o.slots)) o
@@ -232,20 +237,20 @@ module _ (slot u : Slot) (u-is : u ≡ other slot) (o : Held) (v g w k : ℕ) (m
   module _ {D : Type 0} (held : D → Option Held) (moment : D → ℕ) (possible : D → ℕ → Held → Type 0) (a b : D) (h : Certain held moment possible a o) where
     pub newer_crash : PutCrash held moment possible u a b 0 (0 ∷ []) → Leaves moment possible a b (Keeps o)
     newer_crash crash =
-      let crash' : PutCrash held moment possible (other slot) a b 0 (0 ∷ []) = subst (λ (s : Slot). PutCrash held moment possible s a b 0 (0 ∷ [])) u-is crash in
-      weaker moment possible a b (λ p. (p ≡ o) ⊎ Changes (other slot) (Torn 0 1) o p) (Keeps o) close_keeps (crash' o h (omega arith))
+        let crash' : PutCrash held moment possible (other slot) a b 0 (0 ∷ []) = subst (λ (s : Slot). PutCrash held moment possible s a b 0 (0 ∷ [])) u-is crash in
+        weaker moment possible a b (λ p. (p ≡ o) ⊎ Changes (other slot) (Torn 0 1) o p) (Keeps o) close_keeps (crash' o h (omega arith))
 
     pub newer_certain : PutCertain held moment possible u a b 0 (0 ∷ []) → Certain held moment possible b shut_held
     newer_certain certain =
-      let certain' : PutCertain held moment possible (other slot) a b 0 (0 ∷ []) = subst (λ (s : Slot). PutCertain held moment possible s a b 0 (0 ∷ [])) u-is certain in
-      certain' o h (omega arith)
+        let certain' : PutCertain held moment possible (other slot) a b 0 (0 ∷ []) = subst (λ (s : Slot). PutCertain held moment possible s a b 0 (0 ∷ [])) u-is certain in
+        certain' o h (omega arith)
 
     pub newer_then : (c : D) → PutCrash held moment possible u a b 0 (0 ∷ []) → PutCertain held moment possible u a b 0 (0 ∷ []) → Rests held moment possible b c → Leaves moment possible a c (Keeps o)
     newer_then c crash certain rests =
-      and_then moment possible a b c (Keeps o) (newer_crash crash)
+        and_then moment possible a b c (Keeps o) (newer_crash crash)
         (weaker moment possible b c (λ p. p ≡ shut_held) (Keeps o)
-          (λ p e. subst (λ (x : Held). Keeps o x) (sym e) (keeps_dead shut_held refl shut_mine shut_dead))
-          (rests shut_held (newer_certain certain)).1)
+        (λ p e. subst (λ (x : Held). Keeps o x) (sym e) (keeps_dead shut_held refl shut_mine shut_dead))
+        (rests shut_held (newer_certain certain)).1)
 
     pub newer_opens : (c : D) (r : Opened) → PutCertain held moment possible u a b 0 (0 ∷ []) → Rests held moment possible b c → Finds shut_held.slots r → Opens held moment possible c o r
     newer_opens c r certain rests found = record {
@@ -265,7 +270,9 @@ module _ {D : Type 0} (held : D → Option Held) (moment : D → ℕ) (possible 
 
   pub damage_opens : (r : Opened) (slot : Slot) (place : ℕ) → Reads o.slots [] (Some (slot, place)) → r.entries.items ≡ [] → r.damaged ≡ Some (slot, place) → Opens held moment possible a o r
   damage_opens r slot place read entries damaged = record {
-    now = o; certain = h; beside = refl;
+    now = o;
+    certain = h;
+    beside = refl;
     reads = subst (λ (d : Option (Slot × ℕ)). Reads o.slots r.entries.items d) (sym damaged) (subst (λ (l : List Placed). Reads o.slots l (Some (slot, place))) (sym entries) read);
     rests = λ e. let no : ◌≡◌ {A = Option (Slot × ℕ)} (Some (slot, place)) None = sym damaged ∙ e in absurd cc;
   }
@@ -291,8 +298,8 @@ module _ {D : Type 0} (held : D → Option Held) (moment : D → ℕ) (possible 
 
   pub steps_crash : (o : Held) → Certain held moment possible a o → Leaves moment possible a i (Keeps o)
   steps_crash o h = and_then moment possible a b i (Keeps o)
-    (weaker moment possible a b (possible a (moment a)) (Keeps o) (λ p now. keeps_same o p (h.only p now)) (crash o h.told))
-    (rest_keeps held moment possible b i o (settled o h.told) to_last)
+      (weaker moment possible a b (possible a (moment a)) (Keeps o) (λ p now. keeps_same o p (h.only p now)) (crash o h.told))
+      (rest_keeps held moment possible b i o (settled o h.told) to_last)
 
   module _ (o : Held) (told : held a ≡ Some o) (first second : Head) (first_len second_len : ℕ)
       (first-len : (o : Held) → Certain held moment possible b o → first_len ≡ length (slot_of First o.slots))

@@ -36,8 +36,8 @@ one_body version (goes e rest is allowed same b) (stops some none) = absurd (non
 one_body version {s} {place} {bytes} {entries} {others} {ending} {another} (goes e rest is allowed same b) (goes {more = more'} f rest' is' allowed' same' b') =
     let p = one_entry version f e rest' rest is' is (sym same' ∙ same) in
     let b'' : Body version (behind s e) (place + length (entry_bytes e)) rest more' another =
-      subst (λ (l : List ℕ). Body version (behind s e) (place + length (entry_bytes e)) l more' another) p.1
-        (subst (λ (x : Entry). Body version (behind s x) (place + length (entry_bytes x)) rest' more' another) p.0 b') in
+    subst (λ (l : List ℕ). Body version (behind s e) (place + length (entry_bytes e)) l more' another) p.1
+    (subst (λ (x : Entry). Body version (behind s x) (place + length (entry_bytes x)) rest' more' another) p.0 b') in
     let rest-same = one_body version b b'' in
     record {
       entries_same = ap (λ (l : List Placed). (place, e) ∷ l) rest-same.entries_same ∙ ap (λ (x : Entry). (place, x) ∷ more') (sym p.0);
@@ -50,10 +50,11 @@ one_batch rest body more body' more' a b =
     let small' : length body' ≤ 2 ^ 24 = b.size in
     let both = sym a.is ∙ b.is in
     let size : length body ≡ length body' =
-      sym (from_be_bytes-to_be_bytes_4 (length body) (omega arith)) ∙ ap (λ (l : List ℕ). from_be_bytes w32 (take 4 l)) both ∙ from_be_bytes-to_be_bytes_4 (length body') (omega arith) in
-    let all : body ++ more ≡ body' ++ more' = ap (λ (l : List ℕ). drop 4 l) both in
-    (sym (take_at body more (length body) refl) ∙ ap (λ (l : List ℕ). take (length body) l) all ∙ take_at body' more' (length body) (sym size),
-     sym (drop_at body more (length body) refl) ∙ ap (λ (l : List ℕ). drop (length body) l) all ∙ drop_at body' more' (length body) (sym size))
+    sym (from_be_bytes-to_be_bytes_4 (length body) (omega arith)) ∙ ap (λ (l : List ℕ). from_be_bytes w32 (take 4 l)) both ∙ from_be_bytes-to_be_bytes_4 (length body') (omega arith) in
+    let all : body ++ more ≡ body' ++ more' = ap (λ (l : List ℕ). drop 4 l) both in (
+      sym (take_at body more (length body) refl) ∙ ap (λ (l : List ℕ). take (length body) l) all ∙ take_at body' more' (length body) (sym size),
+      sym (drop_at body more (length body) refl) ∙ ap (λ (l : List ℕ). drop (length body) l) all ∙ drop_at body' more' (length body) (sym size),
+    )
 
 abbrev head_cell : List ℕ → ℕ
 head_cell [] = 0

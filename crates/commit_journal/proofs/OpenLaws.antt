@@ -40,7 +40,12 @@ ends_of version {s} {place} last t (closed gate junk is shut) e =
     let here : place ≡ last = ap place_in e in
     let same : s ≡ t = ap (λ (o : Outcome). standing_in o s) e in
     record {
-      front = []; gate = gate; junk = junk; bytes_are = is; shut = shut; last_is = sym here ∙ omega arith;
+      front = [];
+      gate = gate;
+      junk = junk;
+      bytes_are = is;
+      shut = shut;
+      last_is = sym here ∙ omega arith;
       onward = λ rest more outcome b. subst (λ (p : ℕ). Batches version s p rest more outcome) (sym here) (subst (λ (x : Standing). Batches version x last rest more outcome) (sym same) b);
     }
 ends_of version last t (cut rest is none) e = absurd cc
@@ -49,18 +54,20 @@ ends_of version {s} {place} {bytes} last t (opened rest body more u entries othe
     let so = ends_of version last t bs e in
     let size : length (batch_of body) ≡ 5 + length body = omega (arith, length-append (to_be_bytes w32 (length body)) body) in
     let whole : bytes ≡ (batch_of body ++ so.front) ++ so.gate ∷ so.junk =
-      is ∙ ap (λ (l : List ℕ). 1 ∷ l) (batch.is ∙ sym (append_assoc (to_be_bytes w32 (length body)) body more)) ∙ ap (λ (l : List ℕ). batch_of body ++ l) so.bytes_are ∙ sym (append_assoc (batch_of body) so.front (so.gate ∷ so.junk)) in
+    is ∙ ap (λ (l : List ℕ). 1 ∷ l) (batch.is ∙ sym (append_assoc (to_be_bytes w32 (length body)) body more)) ∙ ap (λ (l : List ℕ). batch_of body ++ l) so.bytes_are ∙ sym (append_assoc (batch_of body) so.front (so.gate ∷ so.junk)) in
     record {
-      front = batch_of body ++ so.front; gate = so.gate; junk = so.junk;
+      front = batch_of body ++ so.front;
+      gate = so.gate;
+      junk = so.junk;
       bytes_are = whole;
       shut = so.shut;
       last_is = so.last_is ∙ omega (arith, length-append (batch_of body) so.front);
       onward = λ rest' more' outcome b'.
-        let behind = so.onward rest' more' outcome b' in
-        let is' : IsBatch (to_be_bytes w32 (length body) ++ (body ++ (so.front ++ rest'))) body (so.front ++ rest') = record { is = refl; size = batch.size; gate = batches_some behind } in
-        let bytes' : (batch_of body ++ so.front) ++ rest' ≡ 1 ∷ (to_be_bytes w32 (length body) ++ (body ++ (so.front ++ rest'))) =
+          let behind = so.onward rest' more' outcome b' in
+          let is' : IsBatch (to_be_bytes w32 (length body) ++ (body ++ (so.front ++ rest'))) body (so.front ++ rest') = record { is = refl; size = batch.size; gate = batches_some behind } in
+          let bytes' : (batch_of body ++ so.front) ++ rest' ≡ 1 ∷ (to_be_bytes w32 (length body) ++ (body ++ (so.front ++ rest'))) =
           append_assoc (batch_of body) so.front rest' ∙ ap (λ (l : List ℕ). 1 ∷ l) (append_assoc (to_be_bytes w32 (length body)) body (so.front ++ rest')) in
-        subst (λ (l : List Placed). Batches version s place ((batch_of body ++ so.front) ++ rest') l outcome) (sym (append_assoc entries others more'))
+          subst (λ (l : List Placed). Batches version s place ((batch_of body ++ so.front) ++ rest') l outcome) (sym (append_assoc entries others more'))
           (opened (to_be_bytes w32 (length body) ++ (body ++ (so.front ++ rest'))) body (so.front ++ rest') u entries (others ++ more') bytes' is' b behind);
     }
 
@@ -98,10 +105,10 @@ head_same a b v g h same long =
     let gen-is : generation_of b ≡ generation_of a = ap (λ (l : List ℕ). from_be_bytes w64 l) (sym (generation_in b) ∙ ap (λ (l : List ℕ). take 8 (drop 2 l)) (sym same) ∙ generation_in a) in
     let short : ltb (length b) 11 ≡ ltb (length a) 11 = le-ltb (length b) 11 long ∙ sym (le-ltb (length a) 11 long-a) in
     let whole : head_of b ≡ head_of a =
-      ap (λ (x : ℕ). chosen_head (eqb x 1) (ltb (length b) 11) (eqb (get_or b 1 0) 2) (eqb (get_or b 1 0) 1) (generation_of b)) zero-is
-      ∙ ap (λ (x : Bool). chosen_head (eqb (get_or a 0 0) 1) x (eqb (get_or b 1 0) 2) (eqb (get_or b 1 0) 1) (generation_of b)) short
-      ∙ ap (λ (x : ℕ). chosen_head (eqb (get_or a 0 0) 1) (ltb (length a) 11) (eqb x 2) (eqb x 1) (generation_of b)) one-is
-      ∙ ap (λ (x : ℕ). chosen_head (eqb (get_or a 0 0) 1) (ltb (length a) 11) (eqb (get_or a 1 0) 2) (eqb (get_or a 1 0) 1) x) gen-is in
+    ap (λ (x : ℕ). chosen_head (eqb x 1) (ltb (length b) 11) (eqb (get_or b 1 0) 2) (eqb (get_or b 1 0) 1) (generation_of b)) zero-is
+    ∙ ap (λ (x : Bool). chosen_head (eqb (get_or a 0 0) 1) x (eqb (get_or b 1 0) 2) (eqb (get_or b 1 0) 1) (generation_of b)) short
+    ∙ ap (λ (x : ℕ). chosen_head (eqb (get_or a 0 0) 1) (ltb (length a) 11) (eqb x 2) (eqb x 1) (generation_of b)) one-is
+    ∙ ap (λ (x : ℕ). chosen_head (eqb (get_or a 0 0) 1) (ltb (length a) 11) (eqb (get_or a 1 0) 2) (eqb (get_or a 1 0) 1) x) gen-is in
     whole ∙ h
 
 module _ (version generation : ℕ) (bytes : List ℕ) (entries : List Placed) (last : ℕ) (t : Standing) (h : head_of bytes ≡ Live version generation) (b : Batches version beginning 10 (drop 10 bytes) entries (Closed last t)) where
@@ -123,18 +130,23 @@ module _ (version generation : ℕ) (bytes : List ℕ) (entries : List Placed) (
   pub whole_is_front : IsFront version generation whole_front entries t
   whole_is_front = record {
     head = λ rest some.
-      let front : take 10 bytes ≡ take 10 (whole_front ++ rest) = sym (ap (λ (l : List ℕ). take 10 l) (append_assoc (take 10 bytes) so.front rest) ∙ take_at (take 10 bytes) (so.front ++ rest) 10 ten) in
-      head_same bytes (whole_front ++ rest) version generation h front (omega (arith, length-append whole_front rest, length-append (take 10 bytes) so.front, ten));
+        let front : take 10 bytes ≡ take 10 (whole_front ++ rest) = sym (ap (λ (l : List ℕ). take 10 l) (append_assoc (take 10 bytes) so.front rest) ∙ take_at (take 10 bytes) (so.front ++ rest) 10 ten) in
+        head_same bytes (whole_front ++ rest) version generation h front (omega (arith, length-append whole_front rest, length-append (take 10 bytes) so.front, ten));
     onward = λ rest more outcome bs.
-      let behind = so.onward rest more outcome (subst (λ (n : ℕ). Batches version t n rest more outcome) (sym whole_place) bs) in
-      let drop-is : drop 10 (whole_front ++ rest) ≡ so.front ++ rest = ap (λ (l : List ℕ). drop 10 l) (append_assoc (take 10 bytes) so.front rest) ∙ drop_at (take 10 bytes) (so.front ++ rest) 10 ten in
-      subst (λ (l : List ℕ). Batches version beginning 10 l (entries ++ more) outcome) (sym drop-is) behind;
+        let behind = so.onward rest more outcome (subst (λ (n : ℕ). Batches version t n rest more outcome) (sym whole_place) bs) in
+        let drop-is : drop 10 (whole_front ++ rest) ≡ so.front ++ rest = ap (λ (l : List ℕ). drop 10 l) (append_assoc (take 10 bytes) so.front rest) ∙ drop_at (take 10 bytes) (so.front ++ rest) 10 ten in
+        subst (λ (l : List ℕ). Batches version beginning 10 l (entries ++ more) outcome) (sym drop-is) behind;
   }
 
   pub rested : (j : Journal) (slots : Slots) → slot_of j.slot slots ≡ bytes → head_of (slot_of (other j.slot) slots) ≡ Dead → 1 ≤ length (slot_of (other j.slot) slots) → j.version ≡ version → j.generation ≡ generation → j.gate ≡ last → j.standing ≡ t → length j.staged.items ≤ 4
       → AtRest j slots (entries_of entries) []
   rested j slots there dead some version-is generation-is gate standing short = record {
-    front = whole_front; gate = so.gate; junk = so.junk; placed = entries; before = t; tail_placed = [];
+    front = whole_front;
+    gate = so.gate;
+    junk = so.junk;
+    placed = entries;
+    before = t;
+    tail_placed = [];
     bytes = there ∙ whole_bytes;
     shut = so.shut;
     place = gate ∙ whole_place;
@@ -157,13 +169,13 @@ head_take bytes =
     let one-is : get_or a 1 0 ≡ get_or bytes 1 0 = get_or-take 11 bytes 1 0 (omega arith) in
     let gen-is : generation_of a ≡ generation_of bytes = ap (λ (l : List ℕ). from_be_bytes w64 l) (ap (λ (l : List ℕ). take 8 l) (drop-take 2 9 bytes) ∙ take-take 8 9 (drop 2 bytes) (omega arith)) in
     let short : ltb (length a) 11 ≡ ltb (length bytes) 11 = elim (cases_lt (length bytes) 11) [
-        | inl lt ↦ lt-ltb (length a) 11 (omega (arith, length-take 11 bytes)) ∙ sym (lt-ltb (length bytes) 11 lt)
-        | inr le ↦ le-ltb (length a) 11 (omega (arith, length-take 11 bytes)) ∙ sym (le-ltb (length bytes) 11 le)
-      ] in
+      | inl lt ↦ lt-ltb (length a) 11 (omega (arith, length-take 11 bytes)) ∙ sym (lt-ltb (length bytes) 11 lt)
+      | inr le ↦ le-ltb (length a) 11 (omega (arith, length-take 11 bytes)) ∙ sym (le-ltb (length bytes) 11 le)
+    ] in
     ap (λ (x : ℕ). chosen_head (eqb x 1) (ltb (length a) 11) (eqb (get_or a 1 0) 2) (eqb (get_or a 1 0) 1) (generation_of a)) zero-is
-      ∙ ap (λ (x : Bool). chosen_head (eqb (get_or bytes 0 0) 1) x (eqb (get_or a 1 0) 2) (eqb (get_or a 1 0) 1) (generation_of a)) short
-      ∙ ap (λ (x : ℕ). chosen_head (eqb (get_or bytes 0 0) 1) (ltb (length bytes) 11) (eqb x 2) (eqb x 1) (generation_of a)) one-is
-      ∙ ap (λ (x : ℕ). chosen_head (eqb (get_or bytes 0 0) 1) (ltb (length bytes) 11) (eqb (get_or bytes 1 0) 2) (eqb (get_or bytes 1 0) 1) x) gen-is
+    ∙ ap (λ (x : Bool). chosen_head (eqb (get_or bytes 0 0) 1) x (eqb (get_or a 1 0) 2) (eqb (get_or a 1 0) 1) (generation_of a)) short
+    ∙ ap (λ (x : ℕ). chosen_head (eqb (get_or bytes 0 0) 1) (ltb (length bytes) 11) (eqb x 2) (eqb x 1) (generation_of a)) one-is
+    ∙ ap (λ (x : ℕ). chosen_head (eqb (get_or bytes 0 0) 1) (ltb (length bytes) 11) (eqb (get_or bytes 1 0) 2) (eqb (get_or bytes 1 0) 1) x) gen-is
 
 -- the head in the bytes that were read
 pub head_read : (bytes front : List ℕ) (len n : ℕ) → length bytes ≡ len → n ≡ min len 11 → front ≡ take n (drop 0 bytes) → head_of front ≡ head_of bytes

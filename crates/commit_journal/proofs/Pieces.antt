@@ -44,7 +44,7 @@ module _ (front : List ℕ) (gate : ℕ) (junk : List ℕ) where
   pub put_gate : (x : ℕ) → patched (length front) (x ∷ []) (front ++ gate ∷ junk) ≡ front ++ x ∷ junk
   put_gate x =
       ap (λ (l : List ℕ). l ++ ((x ∷ []) ++ drop (length front + 1) (front ++ gate ∷ junk))) (take_at front (gate ∷ junk) (length front) refl)
-        ∙ ap (λ (l : List ℕ). front ++ ((x ∷ []) ++ l)) drop_gate
+      ∙ ap (λ (l : List ℕ). front ++ ((x ∷ []) ++ l)) drop_gate
 
 module _ (slot : Slot) (front : List ℕ) (gate : ℕ) (junk bytes : List ℕ) (o : Held) (there : slot_of slot o.slots ≡ front ++ gate ∷ junk) where
   pub mid_first : (p : Held) → (p ≡ o) ⊎ Changes slot (Torn (length front + 1) (length bytes)) o p → MidBatch slot front gate bytes o p

@@ -62,10 +62,10 @@ pub header_front : (generation : ℕ) → generation < 2 ^ 64 → IsFront 2 gene
 unfolding head_of
 header_front generation lt = record {
   head = λ rest some.
-    let long : ltb (length (header generation ++ rest)) 11 ≡ false = le-ltb _ _ (omega (arith, length-append (header generation) rest)) in
-    let is : generation_of (header generation ++ rest) ≡ generation = from_be_bytes-to_be_bytes_8 generation lt in
-    let live : head_of (header generation ++ rest) ≡ Live 2 (generation_of (header generation ++ rest)) = rw long refl in
-    live ∙ ap (λ (g : ℕ). Live 2 g) is;
+      let long : ltb (length (header generation ++ rest)) 11 ≡ false = le-ltb _ _ (omega (arith, length-append (header generation) rest)) in
+      let is : generation_of (header generation ++ rest) ≡ generation = from_be_bytes-to_be_bytes_8 generation lt in
+      let live : head_of (header generation ++ rest) ≡ Live 2 (generation_of (header generation ++ rest)) = rw long refl in
+      live ∙ ap (λ (g : ℕ). Live 2 g) is;
   onward = λ rest more outcome b. b;
 }
 
@@ -99,30 +99,30 @@ module _ (j : Journal) (o : Held) (flushed tail : List Entry) (r : AtRest j o.sl
 
   new_gives : (slots : Slots) → slot_of target slots ≡ 1 ∷ slot_bytes generation body → Beats target generation (head_of (slot_of j.slot slots)) → Gives slots (entries_of placed)
   new_gives slots there beats =
-    let all = there ∙ new_bytes in
-    let end = new_front.onward (0 ∷ []) [] (Closed (length (header generation ++ batch_of body)) t) (closed 0 [] refl (λ (e : ◌≡◌ {A = ℕ} 0 1). absurd (omega arith))) in
-    let batches : Batches 2 beginning 10 (drop 10 (slot_of target slots)) placed (Closed (length (header generation ++ batch_of body)) t) =
+      let all = there ∙ new_bytes in
+      let end = new_front.onward (0 ∷ []) [] (Closed (length (header generation ++ batch_of body)) t) (closed 0 [] refl (λ (e : ◌≡◌ {A = ℕ} 0 1). absurd (omega arith))) in
+      let batches : Batches 2 beginning 10 (drop 10 (slot_of target slots)) placed (Closed (length (header generation ++ batch_of body)) t) =
       subst (λ (l : List ℕ). Batches 2 beginning 10 (drop 10 l) placed (Closed (length (header generation ++ batch_of body)) t)) (sym all)
-        (subst (λ (l : List Placed). Batches 2 beginning 10 (drop 10 ((header generation ++ batch_of body) ++ 0 ∷ [])) l (Closed (length (header generation ++ batch_of body)) t)) (append-nil placed) end) in
-    let head : head_of (slot_of target slots) ≡ Live 2 generation = ap (λ (l : List ℕ). head_of l) all ∙ new_front.head (0 ∷ []) (omega arith) in
-    let beats' : Beats target generation (head_of (slot_of (other target) slots)) = subst (λ (s : Slot). Beats target generation (head_of (slot_of s slots))) (sym (other_other j.slot)) beats in
-    record { placed = placed; reads = counts target 2 generation (Closed (length (header generation ++ batch_of body)) t) head beats' batches; are = refl }
+      (subst (λ (l : List Placed). Batches 2 beginning 10 (drop 10 ((header generation ++ batch_of body) ++ 0 ∷ [])) l (Closed (length (header generation ++ batch_of body)) t)) (append-nil placed) end) in
+      let head : head_of (slot_of target slots) ≡ Live 2 generation = ap (λ (l : List ℕ). head_of l) all ∙ new_front.head (0 ∷ []) (omega arith) in
+      let beats' : Beats target generation (head_of (slot_of (other target) slots)) = subst (λ (s : Slot). Beats target generation (head_of (slot_of s slots))) (sym (other_other j.slot)) beats in
+      record { placed = placed; reads = counts target 2 generation (Closed (length (header generation ++ batch_of body)) t) head beats' batches; are = refl }
 
   pub mid_rotation : (p : Held) → MidTurn target (slot_bytes generation body) o p → MidRotation o flushed (entries_of placed) p
   mid_rotation p m = record {
     beside = m.beside;
     gives = elim m.there [
       | inl h ↦
-        let same : slot_of j.slot p.slots ≡ slot_of j.slot o.slots = subst (λ (s : Slot). slot_of s p.slots ≡ slot_of s o.slots) (other_other j.slot) h.1 in
-        inl (subst (λ (l : List Entry). Gives p.slots l) r.flushed_are
+          let same : slot_of j.slot p.slots ≡ slot_of j.slot o.slots = subst (λ (s : Slot). slot_of s p.slots ≡ slot_of s o.slots) (other_other j.slot) h.1 in
+          inl (subst (λ (l : List Entry). Gives p.slots l) r.flushed_are
           (front_gives j.version j.generation r.front r.placed r.before r.is_front j.slot p.slots r.gate r.junk (same ∙ r.bytes) r.shut (dead_from (slot_of target p.slots) h.0)))
       | inr h ↦ inr (new_gives p.slots h.0 (elim h.1 [
         | inl same ↦
-          let mine : slot_of j.slot p.slots ≡ slot_of j.slot o.slots = subst (λ (s : Slot). slot_of s p.slots ≡ slot_of s o.slots) (other_other j.slot) same in
-          beats_live target generation j.version j.generation (head_of (slot_of j.slot p.slots)) (ap (λ (l : List ℕ). head_of l) mine ∙ old_head) above
+            let mine : slot_of j.slot p.slots ≡ slot_of j.slot o.slots = subst (λ (s : Slot). slot_of s p.slots ≡ slot_of s o.slots) (other_other j.slot) same in
+            beats_live target generation j.version j.generation (head_of (slot_of j.slot p.slots)) (ap (λ (l : List ℕ). head_of l) mine ∙ old_head) above
         | inr none ↦
-          let mine : get_or (slot_of j.slot p.slots) 0 0 ≢ 1 = subst (λ (s : Slot). get_or (slot_of s p.slots) 0 0 ≢ 1) (other_other j.slot) none in
-          beats_dead target generation (head_of (slot_of j.slot p.slots)) (dead_from (slot_of j.slot p.slots) mine)
+            let mine : get_or (slot_of j.slot p.slots) 0 0 ≢ 1 = subst (λ (s : Slot). get_or (slot_of s p.slots) 0 0 ≢ 1) (other_other j.slot) none in
+            beats_dead target generation (head_of (slot_of j.slot p.slots)) (dead_from (slot_of j.slot p.slots) mine)
       ]))
     ];
   }
@@ -130,47 +130,52 @@ module _ (j : Journal) (o : Held) (flushed tail : List Entry) (r : AtRest j o.sl
   pub is_rotated : {D : Type 0} (held : D → Option Held) (moment : D → ℕ) (possible : D → ℕ → Held → Type 0) (d : D) (j' : Journal) → Turned held moment possible d target (slot_bytes generation body) o
       → j'.slot ≡ target → j'.version ≡ 2 → j'.generation ≡ generation → j'.gate ≡ length (slot_bytes generation body) → j'.standing ≡ t → length j'.staged.items ≤ 4 → Rested held moment possible d j' o (entries_of placed) []
   is_rotated held moment possible d j' h slot version gen gate standing short =
-    let size : length (slot_bytes generation body) ≡ length (header generation ++ batch_of body) =
+      let size : length (slot_bytes generation body) ≡ length (header generation ++ batch_of body) =
       omega (arith, length-append (to_be_bytes w64 generation) (batch_of body ++ 0 ∷ []), length-append (batch_of body) (0 ∷ []), length-append (header generation) (batch_of body)) in
-    let old : slot_of j.slot h.now.slots ≡ 0 ∷ h.old.0 = subst (λ (s : Slot). slot_of s h.now.slots ≡ 0 ∷ h.old.0) (other_other j.slot) h.old.1 in
-    let others : slot_of (other j'.slot) h.now.slots ≡ 0 ∷ h.old.0 = ap (λ (s : Slot). slot_of (other s) h.now.slots) slot ∙ ap (λ (s : Slot). slot_of s h.now.slots) (other_other j.slot) ∙ old in
-    record {
-      now = h.now;
-      certain = h.certain;
-      beside = h.beside;
-      rest = record {
-        front = header generation ++ batch_of body; gate = 0; junk = []; placed = placed; before = t; tail_placed = [];
-        bytes = ap (λ (s : Slot). slot_of s h.now.slots) slot ∙ h.there ∙ new_bytes;
-        shut = λ (e : ◌≡◌ {A = ℕ} 0 1). absurd (omega arith);
-        place = gate ∙ size;
-        is_front = rw (version, gen) new_front;
-        flushed_are = refl;
-        other_dead = dead_from (slot_of (other j'.slot) h.now.slots) (λ (e : get_or (slot_of (other j'.slot) h.now.slots) 0 0 ≡ 1). let z : ◌≡◌ {A = ℕ} 0 1 = sym (ap (λ (l : List ℕ). get_or l 0 0) others) ∙ e in absurd (omega arith));
-        other_some = let l : length (slot_of (other j'.slot) h.now.slots) ≡ suc (length h.old.0) = ap length others in omega arith;
-        staged = drop_all 4 j'.staged.items short;
-        small = omega arith;
-        tail_reads = rw standing ends;
-        tail_are = refl;
-      };
-    }
+      let old : slot_of j.slot h.now.slots ≡ 0 ∷ h.old.0 = subst (λ (s : Slot). slot_of s h.now.slots ≡ 0 ∷ h.old.0) (other_other j.slot) h.old.1 in
+      let others : slot_of (other j'.slot) h.now.slots ≡ 0 ∷ h.old.0 = ap (λ (s : Slot). slot_of (other s) h.now.slots) slot ∙ ap (λ (s : Slot). slot_of s h.now.slots) (other_other j.slot) ∙ old in
+      record {
+        now = h.now;
+        certain = h.certain;
+        beside = h.beside;
+        rest = record {
+          front = header generation ++ batch_of body;
+          gate = 0;
+          junk = [];
+          placed = placed;
+          before = t;
+          tail_placed = [];
+          bytes = ap (λ (s : Slot). slot_of s h.now.slots) slot ∙ h.there ∙ new_bytes;
+          shut = λ (e : ◌≡◌ {A = ℕ} 0 1). absurd (omega arith);
+          place = gate ∙ size;
+          is_front = rw (version, gen) new_front;
+          flushed_are = refl;
+          other_dead = dead_from (slot_of (other j'.slot) h.now.slots) (λ (e : get_or (slot_of (other j'.slot) h.now.slots) 0 0 ≡ 1). let z : ◌≡◌ {A = ℕ} 0 1 = sym (ap (λ (l : List ℕ). get_or l 0 0) others) ∙ e in absurd (omega arith));
+          other_some = let l : length (slot_of (other j'.slot) h.now.slots) ≡ suc (length h.old.0) = ap length others in omega arith;
+          staged = drop_all 4 j'.staged.items short;
+          small = omega arith;
+          tail_reads = rw standing ends;
+          tail_are = refl;
+        };
+      }
 
 module _ {D : Type 0} (held : D → Option Held) (moment : D → ℕ) (possible : D → ℕ → Held → Type 0) (a b : D) (j : Journal) (o : Held) (flushed tail : List Entry) (h : Certain held moment possible a o) (r : AtRest j o.slots flushed tail)
     (generation : ℕ) (lt : generation < 2 ^ 64) (above : j.generation < generation) (body : List ℕ) (placed : List Placed) (t : Standing) (small : length body ≤ 2 ^ 24) (reads : Body 2 beginning 15 body placed (Whole t))
     (u : Slot) (u-is : u ≡ other j.slot) (bytes : List ℕ) (bytes-are : bytes ≡ slot_bytes generation body) where
   pub move_crash : ((o : Held) → Certain held moment possible a o → CanTurn u o → Leaves moment possible a b (MidTurn u bytes o)) → Leaves moment possible a b (MidRotation o flushed (entries_of placed))
   move_crash crash =
-    let crash' : Leaves moment possible a b (MidTurn u bytes o) = crash o h (subst (λ (s : Slot). CanTurn s o) (sym u-is) (can_turn j o flushed tail r generation lt above body placed t small reads)) in
-    let one : Leaves moment possible a b (MidTurn (other j.slot) bytes o) = subst (λ (s : Slot). Leaves moment possible a b (MidTurn s bytes o)) u-is crash' in
-    let two : Leaves moment possible a b (MidTurn (other j.slot) (slot_bytes generation body) o) = subst (λ (l : List ℕ). Leaves moment possible a b (MidTurn (other j.slot) l o)) bytes-are one in
-    weaker moment possible a b (MidTurn (other j.slot) (slot_bytes generation body) o) (MidRotation o flushed (entries_of placed)) (mid_rotation j o flushed tail r generation lt above body placed t small reads) two
+      let crash' : Leaves moment possible a b (MidTurn u bytes o) = crash o h (subst (λ (s : Slot). CanTurn s o) (sym u-is) (can_turn j o flushed tail r generation lt above body placed t small reads)) in
+      let one : Leaves moment possible a b (MidTurn (other j.slot) bytes o) = subst (λ (s : Slot). Leaves moment possible a b (MidTurn s bytes o)) u-is crash' in
+      let two : Leaves moment possible a b (MidTurn (other j.slot) (slot_bytes generation body) o) = subst (λ (l : List ℕ). Leaves moment possible a b (MidTurn (other j.slot) l o)) bytes-are one in
+      weaker moment possible a b (MidTurn (other j.slot) (slot_bytes generation body) o) (MidRotation o flushed (entries_of placed)) (mid_rotation j o flushed tail r generation lt above body placed t small reads) two
 
   pub move_done : ((o : Held) → Certain held moment possible a o → CanTurn u o → Turned held moment possible b u bytes o) → (j' : Journal) → j'.slot ≡ u → j'.version ≡ 2 → j'.generation ≡ generation → j'.gate ≡ length bytes → j'.standing ≡ t → length j'.staged.items ≤ 4
       → Rested held moment possible b j' o (entries_of placed) []
   move_done turned j' slot version gen gate standing short =
-    let turned' : Turned held moment possible b u bytes o = turned o h (subst (λ (s : Slot). CanTurn s o) (sym u-is) (can_turn j o flushed tail r generation lt above body placed t small reads)) in
-    let one : Turned held moment possible b (other j.slot) bytes o = subst (λ (s : Slot). Turned held moment possible b s bytes o) u-is turned' in
-    let two : Turned held moment possible b (other j.slot) (slot_bytes generation body) o = subst (λ (l : List ℕ). Turned held moment possible b (other j.slot) l o) bytes-are one in
-    is_rotated j o flushed tail r generation lt above body placed t small reads held moment possible b j' two (slot ∙ u-is) version gen (gate ∙ ap (λ (l : List ℕ). length l) bytes-are) standing short
+      let turned' : Turned held moment possible b u bytes o = turned o h (subst (λ (s : Slot). CanTurn s o) (sym u-is) (can_turn j o flushed tail r generation lt above body placed t small reads)) in
+      let one : Turned held moment possible b (other j.slot) bytes o = subst (λ (s : Slot). Turned held moment possible b s bytes o) u-is turned' in
+      let two : Turned held moment possible b (other j.slot) (slot_bytes generation body) o = subst (λ (l : List ℕ). Turned held moment possible b (other j.slot) l o) bytes-are one in
+      is_rotated j o flushed tail r generation lt above body placed t small reads held moment possible b j' two (slot ∙ u-is) version gen (gate ∙ ap (λ (l : List ℕ). length l) bytes-are) standing short
 
 -- nothing was done yet
 pub quiet_rotation : {D : Type 0} (held : D → Option Held) (moment : D → ℕ) (possible : D → ℕ → Held → Type 0) (a : D) (j : Journal) (o : Held) (flushed tail others : List Entry) → Certain held moment possible a o → AtRest j o.slots flushed tail → Leaves moment possible a a (MidRotation o flushed others)

@@ -53,14 +53,17 @@ no_batch (z ∷ a ∷ b ∷ []) head left size len is one some is-size bad = abs
 no_batch (z ∷ a ∷ b ∷ c ∷ []) head left size len is one some is-size bad = absurd (omega arith)
 no_batch (z ∷ a ∷ b ∷ c ∷ d ∷ rest) head left size len is one some is-size bad =
     let first : z ≡ 1 = sym (ap (λ (l : List ℕ). get_or l 0 0) is) ∙ one in
-    let sized : size ≡ from_be_bytes w32 (a ∷ b ∷ c ∷ d ∷ []) = is-size ∙ ap size_in is in
-    (a ∷ b ∷ c ∷ d ∷ rest, ap (λ (n : ℕ). n ∷ a ∷ b ∷ c ∷ d ∷ rest) first, λ body more batch.
-      let p = four a b c d rest body more batch in
-      let whole : length rest ≡ length body + length more = ap length p.1 ∙ length-append body more in
-      let size-is : size ≡ length body = sized ∙ p.0 in
-      let small : length body ≤ 2 ^ 24 = batch.size in
-      let gate : 1 ≤ length more = batch.gate in
-      elim bad [ inl big ↦ omega arith | inr short ↦ omega arith ])
+    let sized : size ≡ from_be_bytes w32 (a ∷ b ∷ c ∷ d ∷ []) = is-size ∙ ap size_in is in (
+      a ∷ b ∷ c ∷ d ∷ rest,
+      ap (λ (n : ℕ). n ∷ a ∷ b ∷ c ∷ d ∷ rest) first,
+      λ body more batch.
+          let p = four a b c d rest body more batch in
+          let whole : length rest ≡ length body + length more = ap length p.1 ∙ length-append body more in
+          let size-is : size ≡ length body = sized ∙ p.0 in
+          let small : length body ≤ 2 ^ 24 = batch.size in
+          let gate : 1 ≤ length more = batch.gate in
+          elim bad [ inl big ↦ omega arith | inr short ↦ omega arith ],
+    )
 
 pub is_batch : (bytes head : List ℕ) (left size : ℕ) → IsBytes head → length bytes ≡ left → head ≡ take 5 bytes → get_or head 0 0 ≡ 1 → 5 ≤ left → size ≡ size_in head → size ≤ 2 ^ 24 → size < left - 5
     → (rest : List ℕ) × (bytes ≡ 1 ∷ rest) × ((body : List ℕ) → body ≡ take size (drop 5 bytes) → IsBatch rest body (drop (5 + size) bytes))
@@ -73,17 +76,20 @@ is_batch (z ∷ a ∷ b ∷ c ∷ d ∷ rest) head left size fits len is one som
     let first : z ≡ 1 = sym (ap (λ (l : List ℕ). get_or l 0 0) is) ∙ one in
     let sized : size ≡ from_be_bytes w32 (a ∷ b ∷ c ∷ d ∷ []) = is-size ∙ ap size_in is in
     let these : IsBytes (z ∷ a ∷ b ∷ c ∷ d ∷ []) = subst (λ (l : List ℕ). IsBytes l) is fits in
-    let front : to_be_bytes w32 size ≡ a ∷ b ∷ c ∷ d ∷ [] = be_bytes_4 (a ∷ b ∷ c ∷ d ∷ []) size refl (four_fit a b c d (these 1) (these 2) (these 3) (these 4)) sized in
-    (a ∷ b ∷ c ∷ d ∷ rest, ap (λ (n : ℕ). n ∷ a ∷ b ∷ c ∷ d ∷ rest) first, λ body body-is.
-      let behind : drop (5 + size) (z ∷ a ∷ b ∷ c ∷ d ∷ rest) ≡ drop size rest = sym (drop-drop size 5 (z ∷ a ∷ b ∷ c ∷ d ∷ rest)) in
-      let body-len : length body ≡ size = ap length body-is ∙ length-take size rest ∙ omega arith in
-      let all : rest ≡ body ++ drop (5 + size) (z ∷ a ∷ b ∷ c ∷ d ∷ rest) = sym (take-append-drop size rest) ∙ ap (λ (l : List ℕ). l ++ drop size rest) (sym body-is) ∙ ap (λ (l : List ℕ). body ++ l) (sym behind) in
-      let gate : 1 ≤ length (drop (5 + size) (z ∷ a ∷ b ∷ c ∷ d ∷ rest)) = omega (arith, ap length behind, length-drop size rest) in
-      record {
-        is = ap (λ (l : List ℕ). a ∷ b ∷ c ∷ d ∷ l) all ∙ ap (λ (l : List ℕ). l ++ (body ++ drop (5 + size) (z ∷ a ∷ b ∷ c ∷ d ∷ rest))) (sym front ∙ ap (λ (n : ℕ). to_be_bytes w32 n) (sym body-len));
-        size = omega arith;
-        gate = gate;
-      })
+    let front : to_be_bytes w32 size ≡ a ∷ b ∷ c ∷ d ∷ [] = be_bytes_4 (a ∷ b ∷ c ∷ d ∷ []) size refl (four_fit a b c d (these 1) (these 2) (these 3) (these 4)) sized in (
+      a ∷ b ∷ c ∷ d ∷ rest,
+      ap (λ (n : ℕ). n ∷ a ∷ b ∷ c ∷ d ∷ rest) first,
+      λ body body-is.
+          let behind : drop (5 + size) (z ∷ a ∷ b ∷ c ∷ d ∷ rest) ≡ drop size rest = sym (drop-drop size 5 (z ∷ a ∷ b ∷ c ∷ d ∷ rest)) in
+          let body-len : length body ≡ size = ap length body-is ∙ length-take size rest ∙ omega arith in
+          let all : rest ≡ body ++ drop (5 + size) (z ∷ a ∷ b ∷ c ∷ d ∷ rest) = sym (take-append-drop size rest) ∙ ap (λ (l : List ℕ). l ++ drop size rest) (sym body-is) ∙ ap (λ (l : List ℕ). body ++ l) (sym behind) in
+          let gate : 1 ≤ length (drop (5 + size) (z ∷ a ∷ b ∷ c ∷ d ∷ rest)) = omega (arith, ap length behind, length-drop size rest) in
+          record {
+            is = ap (λ (l : List ℕ). a ∷ b ∷ c ∷ d ∷ l) all ∙ ap (λ (l : List ℕ). l ++ (body ++ drop (5 + size) (z ∷ a ∷ b ∷ c ∷ d ∷ rest))) (sym front ∙ ap (λ (n : ℕ). to_be_bytes w32 n) (sym body-len));
+            size = omega arith;
+            gate = gate;
+          },
+    )
 
 -- ---- the batches so far
 
@@ -115,17 +121,17 @@ module _ (version : ℕ) (bytes : List ℕ) (old now : List Placed) (s : Standin
 
     behind_is : drop (place + 5 + length body) bytes ≡ behind
     behind_is =
-      let one : drop (5 + length body) (drop place bytes) ≡ behind = ap (λ (l : List ℕ). drop (5 + length body) l) (is ∙ ap (λ (l : List ℕ). 1 ∷ l) batch.is) ∙ sym (drop-drop (length body) 5 (1 ∷ (to_be_bytes w32 (length body) ++ (body ++ behind)))) ∙ drop_at body behind (length body) refl in
-      let place-is : place + (5 + length body) ≡ place + 5 + length body = omega arith in
-      ap (λ (n : ℕ). drop n bytes) (sym place-is) ∙ sym (drop-drop (5 + length body) place bytes) ∙ one
+        let one : drop (5 + length body) (drop place bytes) ≡ behind = ap (λ (l : List ℕ). drop (5 + length body) l) (is ∙ ap (λ (l : List ℕ). 1 ∷ l) batch.is) ∙ sym (drop-drop (length body) 5 (1 ∷ (to_be_bytes w32 (length body) ++ (body ++ behind)))) ∙ drop_at body behind (length body) refl in
+        let place-is : place + (5 + length body) ≡ place + 5 + length body = omega arith in
+        ap (λ (n : ℕ). drop n bytes) (sym place-is) ∙ sym (drop-drop (5 + length body) place bytes) ∙ one
 
     pub scan_on : (t : Standing) → Body version s (place + 5) body read (Whole t) → ScanSoFar version bytes old then_now t (place + 5 + length body)
     scan_on t b = record {
       so_far = so.so_far ++ read;
       items = both_items;
       onward = λ more outcome bs.
-        let bs' : Batches version t (place + 5 + length body) behind more outcome = subst (λ (l : List ℕ). Batches version t (place + 5 + length body) l more outcome) behind_is bs in
-        subst (λ (l : List Placed). Batches version beginning 10 (drop 10 bytes) l outcome) (sym (append_assoc so.so_far read more)) (so.onward (read ++ more) outcome (opened rest body behind t read more is batch b bs'));
+          let bs' : Batches version t (place + 5 + length body) behind more outcome = subst (λ (l : List ℕ). Batches version t (place + 5 + length body) l more outcome) behind_is bs in
+          subst (λ (l : List Placed). Batches version beginning 10 (drop 10 bytes) l outcome) (sym (append_assoc so.so_far read more)) (so.onward (read ++ more) outcome (opened rest body behind t read more is batch b bs'));
     }
 
 -- ---- what stands behind a gate

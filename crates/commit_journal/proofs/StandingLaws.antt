@@ -19,7 +19,7 @@ batches_standing last t (cut rest is none) e = absurd cc
 batches_standing last t (broken rest body more at is batch reads) e = absurd cc
 batches_standing {s = s} last t (opened rest body more u entries others is batch reads next) e =
     batches_standing last t next e ∙ ap (λ (x : Standing). behind_all x (entries_of others)) (body_standing reads refl)
-      ∙ sym (behind_append s (entries_of entries) (entries_of others)) ∙ ap (λ (l : List Entry). behind_all s l) (sym (map-append (λ p. p.1) entries others))
+    ∙ sym (behind_append s (entries_of entries) (entries_of others)) ∙ ap (λ (l : List Entry). behind_all s l) (sym (map-append (λ p. p.1) entries others))
 
 pub rest_standing : (j : Journal) (slots : Slots) (flushed tail : List Entry) → AtRest j slots flushed tail → j.standing ≡ behind_all beginning (flushed ++ tail)
 rest_standing j slots flushed tail r =

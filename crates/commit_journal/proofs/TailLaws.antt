@@ -48,26 +48,30 @@ module _ (j j' : Journal) (slots : Slots) (flushed tail : List Entry) (e : Entry
   pub noted : IsEntry j.version e → follows j.standing e ≡ true → HasRoom j (length (entry_bytes e)) → j'.slot ≡ j.slot → j'.version ≡ j.version → j'.generation ≡ j.generation → j'.gate ≡ j.gate
       → j'.standing ≡ behind j.standing e → j'.staged.items ≡ j.staged.items ++ entry_bytes e → 4 ≤ length j.staged.items → AtRest j' slots flushed (tail ++ e ∷ [])
   noted is allowed room slot version generation gate standing staged least =
-    let body : flat_map entry_bytes (tail ++ e ∷ []) ≡ flat_map entry_bytes tail ++ entry_bytes e = sym (flat_map_more entry_bytes [] tail e) in
-    let size : length (flat_map entry_bytes (tail ++ e ∷ [])) ≡ length (flat_map entry_bytes tail) + length (entry_bytes e) = ap length body ∙ length-append (flat_map entry_bytes tail) (entry_bytes e) in
-    let had : length (flat_map entry_bytes tail) ≡ length j.staged.items - 4 = sym (ap length r.staged) ∙ length-drop 4 j.staged.items in
-    let batch : length j.staged.items + length (entry_bytes e) ≤ 2 ^ 24 + 4 = room.batch in
-    let pushed = body_push j.version j.standing e r.tail_reads refl is allowed in
-    record {
-      front = r.front; gate = r.gate; junk = r.junk; placed = r.placed; before = r.before;
-      tail_placed = r.tail_placed ++ (j.gate + 5 + length (flat_map entry_bytes tail), e) ∷ [];
-      bytes = rw slot r.bytes;
-      shut = r.shut;
-      place = gate ∙ r.place;
-      is_front = rw (version, generation) r.is_front;
-      flushed_are = r.flushed_are;
-      other_dead = rw slot r.other_dead;
-      other_some = rw slot r.other_some;
-      staged = ap (λ (l : List ℕ). drop 4 l) staged ∙ drop-append-le 4 j.staged.items (entry_bytes e) least ∙ ap (λ (l : List ℕ). l ++ entry_bytes e) r.staged ∙ sym body;
-      small = omega arith;
-      tail_reads = rw (version, gate, standing, body) pushed;
-      tail_are = map_push (λ (p : Placed). p.1) r.tail_placed (j.gate + 5 + length (flat_map entry_bytes tail), e) ∙ ap (λ (l : List Entry). l ++ e ∷ []) r.tail_are;
-    }
+      let body : flat_map entry_bytes (tail ++ e ∷ []) ≡ flat_map entry_bytes tail ++ entry_bytes e = sym (flat_map_more entry_bytes [] tail e) in
+      let size : length (flat_map entry_bytes (tail ++ e ∷ [])) ≡ length (flat_map entry_bytes tail) + length (entry_bytes e) = ap length body ∙ length-append (flat_map entry_bytes tail) (entry_bytes e) in
+      let had : length (flat_map entry_bytes tail) ≡ length j.staged.items - 4 = sym (ap length r.staged) ∙ length-drop 4 j.staged.items in
+      let batch : length j.staged.items + length (entry_bytes e) ≤ 2 ^ 24 + 4 = room.batch in
+      let pushed = body_push j.version j.standing e r.tail_reads refl is allowed in
+      record {
+        front = r.front;
+        gate = r.gate;
+        junk = r.junk;
+        placed = r.placed;
+        before = r.before;
+        tail_placed = r.tail_placed ++ (j.gate + 5 + length (flat_map entry_bytes tail), e) ∷ [];
+        bytes = rw slot r.bytes;
+        shut = r.shut;
+        place = gate ∙ r.place;
+        is_front = rw (version, generation) r.is_front;
+        flushed_are = r.flushed_are;
+        other_dead = rw slot r.other_dead;
+        other_some = rw slot r.other_some;
+        staged = ap (λ (l : List ℕ). drop 4 l) staged ∙ drop-append-le 4 j.staged.items (entry_bytes e) least ∙ ap (λ (l : List ℕ). l ++ entry_bytes e) r.staged ∙ sym body;
+        small = omega arith;
+        tail_reads = rw (version, gate, standing, body) pushed;
+        tail_are = map_push (λ (p : Placed). p.1) r.tail_placed (j.gate + 5 + length (flat_map entry_bytes tail), e) ∙ ap (λ (l : List Entry). l ++ e ∷ []) r.tail_are;
+      }
 
 -- ---- flushing
 
@@ -78,7 +82,7 @@ zero_is e = absurd (omega arith)
 pub rest_gives : (j : Journal) (slots : Slots) (flushed tail : List Entry) → AtRest j slots flushed tail → Gives slots flushed
 rest_gives j slots flushed tail r =
     subst (λ (l : List Entry). Gives slots l) r.flushed_are
-      (front_gives j.version j.generation r.front r.placed r.before r.is_front j.slot slots r.gate r.junk r.bytes r.shut r.other_dead)
+    (front_gives j.version j.generation r.front r.placed r.before r.is_front j.slot slots r.gate r.junk r.bytes r.shut r.other_dead)
 
 module _ (j : Journal) (o : Held) (flushed tail : List Entry) (r : AtRest j o.slots flushed tail) (sealed : List ℕ) (is : sealed ≡ to_be_bytes w32 (length j.staged.items - 4) ++ (drop 4 j.staged.items ++ 0 ∷ [])) where
   abbrev body : List ℕ
@@ -98,7 +102,7 @@ module _ (j : Journal) (o : Held) (flushed tail : List Entry) (r : AtRest j o.sl
   batch_there junk =
       let inside : (body ++ 0 ∷ []) ++ junk ≡ body ++ 0 ∷ junk = append_assoc body (0 ∷ []) junk in
       let all : sealed ++ junk ≡ to_be_bytes w32 (length body) ++ (body ++ 0 ∷ junk) =
-        ap (λ (l : List ℕ). l ++ junk) sealed_is ∙ append_assoc (to_be_bytes w32 (length body)) (body ++ 0 ∷ []) junk ∙ ap (λ (l : List ℕ). to_be_bytes w32 (length body) ++ l) inside in
+      ap (λ (l : List ℕ). l ++ junk) sealed_is ∙ append_assoc (to_be_bytes w32 (length body)) (body ++ 0 ∷ []) junk ∙ ap (λ (l : List ℕ). to_be_bytes w32 (length body) ++ l) inside in
       ap (λ (l : List ℕ). r.front ++ 1 ∷ l) all ∙ ap (λ (l : List ℕ). r.front ++ 1 ∷ l) (sym (append_assoc (to_be_bytes w32 (length body)) body (0 ∷ junk))) ∙ sym (append_assoc r.front (batch_of body) (0 ∷ junk))
 
   reads : Body j.version r.before (length r.front + 5) body r.tail_placed (Whole j.standing)
@@ -113,12 +117,12 @@ module _ (j : Journal) (o : Held) (flushed tail : List Entry) (r : AtRest j o.sl
   shut_gives : (p : Held) (g : ℕ) (junk : List ℕ) → slot_of (other j.slot) p.slots ≡ slot_of (other j.slot) o.slots → slot_of j.slot p.slots ≡ r.front ++ g ∷ junk → g ≢ 1 → Gives p.slots flushed
   shut_gives p g junk same there shut =
       subst (λ (l : List Entry). Gives p.slots l) r.flushed_are
-        (front_gives j.version j.generation r.front r.placed r.before r.is_front j.slot p.slots g junk there shut (ap (λ (l : List ℕ). head_of l) same ∙ r.other_dead))
+      (front_gives j.version j.generation r.front r.placed r.before r.is_front j.slot p.slots g junk there shut (ap (λ (l : List ℕ). head_of l) same ∙ r.other_dead))
 
   open_gives : (p : Held) (junk : List ℕ) → slot_of (other j.slot) p.slots ≡ slot_of (other j.slot) o.slots → slot_of j.slot p.slots ≡ r.front ++ 1 ∷ (sealed ++ junk) → Gives p.slots (flushed ++ tail)
   open_gives p junk same there =
       subst (λ (l : List Entry). Gives p.slots l) are
-        (front_gives j.version j.generation (r.front ++ batch_of body) (r.placed ++ r.tail_placed) j.standing longer j.slot p.slots 0 junk (there ∙ batch_there junk) zero_is (ap (λ (l : List ℕ). head_of l) same ∙ r.other_dead))
+      (front_gives j.version j.generation (r.front ++ batch_of body) (r.placed ++ r.tail_placed) j.standing longer j.slot p.slots 0 junk (there ∙ batch_there junk) zero_is (ap (λ (l : List ℕ). head_of l) same ∙ r.other_dead))
 
   pub mid_flush : (p : Held) → MidBatch j.slot r.front r.gate sealed o p → MidFlush o flushed tail p
   mid_flush p m = record {
@@ -139,7 +143,12 @@ module _ (j : Journal) (o : Held) (flushed tail : List Entry) (r : AtRest j o.sl
     certain = h.certain;
     beside = h.beside;
     rest = record {
-      front = r.front ++ batch_of body; gate = 0; junk = h.junk; placed = r.placed ++ r.tail_placed; before = j.standing; tail_placed = [];
+      front = r.front ++ batch_of body;
+      gate = 0;
+      junk = h.junk;
+      placed = r.placed ++ r.tail_placed;
+      before = j.standing;
+      tail_placed = [];
       bytes = rw slot (h.there ∙ batch_there h.junk);
       shut = zero_is;
       place = gate ∙ ap (λ (n : ℕ). n + length sealed) r.place ∙ omega (arith, sealed_length, length-append r.front (batch_of body), length-append (to_be_bytes w32 (length body)) body);
@@ -153,7 +162,6 @@ module _ (j : Journal) (o : Held) (flushed tail : List Entry) (r : AtRest j o.sl
       tail_are = refl;
     };
   }
-
 
 no_bytes : (tail : List Entry) → length (flat_map entry_bytes tail) ≡ 0 → tail ≡ []
 no_bytes [] e = refl

@@ -63,8 +63,8 @@ module _ {D : Type 0} (held : D → Option Held) (moment : D → ℕ) (possible 
 
   told_cut : (E : Type 0) (a b : D) → Certain held moment possible a o → Told (held a) (held b) (WasCut {T = Unit {0}} {E = E} slot 1 (Ok tt)) → held b ≡ Some cut_held
   told_cut E a b h told =
-    let n = told_then (held a) (held b) (WasCut {T = Unit {0}} {E = E} slot 1 (Ok tt)) o h.told told in
-    n.1 ∙ ap (λ (x : Held). Some x) (n.2 some)
+      let n = told_then (held a) (held b) (WasCut {T = Unit {0}} {E = E} slot 1 (Ok tt)) o h.told told in
+      n.1 ∙ ap (λ (x : Held). Some x) (n.2 some)
 
   cut_there : slot_of slot cut_held.slots ≡ get_or (slot_of slot o.slots) 0 0 ∷ []
   cut_there = slot_with slot (take 1 (slot_of slot o.slots)) o.slots ∙ take_one (slot_of slot o.slots) some
@@ -75,43 +75,42 @@ module _ {D : Type 0} (held : D → Option Held) (moment : D → ℕ) (possible 
   pub fill_write : (E : Type 0) (a b c : D) → Certain held moment possible a o → GoesOn moment possible a b (MayCut (held a) slot 1) → Told (held a) (held b) (WasCut {T = Unit {0}} {E = E} slot 1 (Ok tt))
       → GoesOn moment possible b c (MayWrite (held b) slot 1 bytes) → Leaves moment possible a c (Filling slot o)
   fill_write E a b c h g told g2 =
-    let first = fill_cut a b h g in
-    let le : moment a ≤ moment b = first.later in
-    let told_b = told_cut E a b h told in
-    and_then moment possible a b c (Filling slot o) first
+      let first = fill_cut a b h g in
+      let le : moment a ≤ moment b = first.later in
+      let told_b = told_cut E a b h told in
+      and_then moment possible a b c (Filling slot o) first
       (one_call moment possible b c (MayWrite (held b) slot 1 bytes) (Filling slot o) g2
-        (λ q now. first.each (moment b) q le (omega arith) now)
-        (λ q p now s.
-          let step : MayWrite (Some cut_held) slot 1 bytes q p = subst (λ (x : Option Held). MayWrite x slot 1 bytes q p) told_b s in
-          filling_more slot o some (length bytes) q p (first.each (moment b) q le (omega arith) now) (step cut_within)))
+      (λ q now. first.each (moment b) q le (omega arith) now)
+      (λ q p now s.
+      let step : MayWrite (Some cut_held) slot 1 bytes q p = subst (λ (x : Option Held). MayWrite x slot 1 bytes q p) told_b s in
+      filling_more slot o some (length bytes) q p (first.each (moment b) q le (omega arith) now) (step cut_within)))
 
   abbrev full_held : Held
   full_held = with_bytes slot (patched 1 bytes (slot_of slot cut_held.slots)) cut_held
 
   full_there : slot_of slot full_held.slots ≡ get_or (slot_of slot o.slots) 0 0 ∷ bytes
-  full_there = slot_with slot (patched 1 bytes (slot_of slot cut_held.slots)) cut_held.slots ∙ ap (λ (l : List ℕ). patched 1 bytes l) cut_there 
+  full_there = slot_with slot (patched 1 bytes (slot_of slot cut_held.slots)) cut_held.slots ∙ ap (λ (l : List ℕ). patched 1 bytes l) cut_there
       ∙ ap (λ (l : List ℕ). get_or (slot_of slot o.slots) 0 0 ∷ (bytes ++ l)) (drop_one (get_or (slot_of slot o.slots) 0 0) (length bytes)) ∙ ap (λ (l : List ℕ). get_or (slot_of slot o.slots) 0 0 ∷ l) (append-nil bytes)
 
   pub fill_done : (E F G : Type 0) (a b c e : D) → Certain held moment possible a o → GoesOn moment possible a b (MayCut (held a) slot 1) → Told (held a) (held b) (WasCut {T = Unit {0}} {E = E} slot 1 (Ok tt))
       → GoesOn moment possible b c (MayWrite (held b) slot 1 bytes) → Told (held b) (held c) (Wrote {T = Unit {0}} {E = F} slot 1 bytes (Ok tt)) → GoesOn moment possible c e Stays → Told (held c) (held e) Same → Durable {T = Unit {0}} {E = G} (held c) slot (Ok tt) (possible e (moment e))
       → Filled held moment possible e slot bytes o
   fill_done E F G a b c e h g told g2 told2 g3 told3 durable =
-    let leaves = fill_write E a b c h g told g2 in
-    let le : moment a ≤ moment c = leaves.later in
-    let told_b = told_cut E a b h told in
-    let n = told_then (held b) (held c) (Wrote {T = Unit {0}} {E = F} slot 1 bytes (Ok tt)) cut_held told_b told2 in
-    let told_c : held c ≡ Some full_held = n.1 ∙ ap (λ (x : Held). Some x) (n.2 cut_within) in
-    let other_is : slot_of (other slot) full_held.slots ≡ slot_of (other slot) o.slots = other_with slot (patched 1 bytes (slot_of slot cut_held.slots)) cut_held.slots ∙ other_with slot (take 1 (slot_of slot o.slots)) o.slots in
-    record {
-      now = full_held;
-      certain = sync_certain moment possible held (Unit {0}) G c e slot tt full_held told_c
-        (λ p now. let f = leaves.each (moment c) p le (omega arith) now in inr (f.other_same ∙ sym other_is, f.beside))
-        g3 told3 durable;
-      beside = refl;
-      other_same = other_is;
-      there = full_there;
-    }
-
+      let leaves = fill_write E a b c h g told g2 in
+      let le : moment a ≤ moment c = leaves.later in
+      let told_b = told_cut E a b h told in
+      let n = told_then (held b) (held c) (Wrote {T = Unit {0}} {E = F} slot 1 bytes (Ok tt)) cut_held told_b told2 in
+      let told_c : held c ≡ Some full_held = n.1 ∙ ap (λ (x : Held). Some x) (n.2 cut_within) in
+      let other_is : slot_of (other slot) full_held.slots ≡ slot_of (other slot) o.slots = other_with slot (patched 1 bytes (slot_of slot cut_held.slots)) cut_held.slots ∙ other_with slot (take 1 (slot_of slot o.slots)) o.slots in
+      record {
+        now = full_held;
+        certain = sync_certain moment possible held (Unit {0}) G c e slot tt full_held told_c
+            (λ p now. let f = leaves.each (moment c) p le (omega arith) now in inr (f.other_same ∙ sym other_is, f.beside))
+            g3 told3 durable;
+        beside = refl;
+        other_same = other_is;
+        there = full_there;
+      }
 
 -- ---- the whole turn
 
@@ -139,8 +138,8 @@ module _ (t : Slot) (bytes : List ℕ) (o : Held) (can : CanTurn t o) where
         let is : slot_of t p.slots ≡ get_or (slot_of t p.slots) 0 0 ∷ bytes = torn_gate [] (get_or (slot_of t o.slots) 0 0) bytes (slot_of t p.slots) torn in
         let others : slot_of (other t) p.slots ≡ slot_of (other t) o.slots = other_stays t (Torn 0 1) n p c ∙ other_same in
         is_one (MidTurn t bytes o p) (get_or (slot_of t p.slots) 0 0)
-          (λ one. record { beside = c.beside ∙ beside; there = inr (is ∙ ap (λ (x : ℕ). x ∷ bytes) one, inl others) })
-          (λ none. record { beside = c.beside ∙ beside; there = inl (none, others) })
+        (λ one. record { beside = c.beside ∙ beside; there = inr (is ∙ ap (λ (x : ℕ). x ∷ bytes) one, inl others) })
+        (λ none. record { beside = c.beside ∙ beside; there = inl (none, others) })
 
     abbrev pub opened_held : Held
     opened_held = with_bytes t (patched 0 (1 ∷ []) (slot_of t n.slots)) n
@@ -162,22 +161,22 @@ module _ (t : Slot) (bytes : List ℕ) (o : Held) (can : CanTurn t o) where
         let torn : Torn 0 1 (1 ∷ split.0) (slot_of (other t) p.slots) = subst (λ (l : List ℕ). Torn 0 1 l (slot_of (other t) p.slots)) (opened_other ∙ split.1) c.there in
         let is : slot_of (other t) p.slots ≡ get_or (slot_of (other t) p.slots) 0 0 ∷ split.0 = torn_gate [] 1 split.0 (slot_of (other t) p.slots) torn in
         is_one (MidTurn t bytes o p) (get_or (slot_of (other t) p.slots) 0 0)
-          (λ one. record { beside = c.beside ∙ beside; there = inr (mine ∙ opened_there, inl (is ∙ ap (λ (x : ℕ). x ∷ split.0) one ∙ sym split.1)) })
-          (λ none. record { beside = c.beside ∙ beside; there = inr (mine ∙ opened_there, inr none) })
+        (λ one. record { beside = c.beside ∙ beside; there = inr (mine ∙ opened_there, inl (is ∙ ap (λ (x : ℕ). x ∷ split.0) one ∙ sym split.1)) })
+        (λ none. record { beside = c.beside ∙ beside; there = inr (mine ∙ opened_there, inr none) })
 
     abbrev pub last_held : Held
     last_held = with_bytes (other t) (patched 0 (0 ∷ []) (slot_of (other t) opened_held.slots)) opened_held
 
     pub is_turned : {D : Type 0} (held : D → Option Held) (moment : D → ℕ) (possible : D → ℕ → Held → Type 0) (d : D) → Certain held moment possible d last_held → Turned held moment possible d t bytes o
     is_turned held moment possible d h =
-      let split = head_split (slot_of (other t) o.slots) can.live in
-      record {
-        now = last_held;
-        certain = h;
-        beside = beside;
-        there = subst (λ (s : Slot). slot_of s last_held.slots ≡ slot_of s opened_held.slots) (other_other t) (other_with (other t) (patched 0 (0 ∷ []) (slot_of (other t) opened_held.slots)) opened_held.slots) ∙ opened_there;
-        old = (split.0, slot_with (other t) (patched 0 (0 ∷ []) (slot_of (other t) opened_held.slots)) opened_held.slots ∙ ap (λ (l : List ℕ). patched 0 (0 ∷ []) l) (opened_other ∙ split.1) ∙ put_gate [] 1 split.0 0);
-      }
+        let split = head_split (slot_of (other t) o.slots) can.live in
+        record {
+          now = last_held;
+          certain = h;
+          beside = beside;
+          there = subst (λ (s : Slot). slot_of s last_held.slots ≡ slot_of s opened_held.slots) (other_other t) (other_with (other t) (patched 0 (0 ∷ []) (slot_of (other t) opened_held.slots)) opened_held.slots) ∙ opened_there;
+          old = (split.0, slot_with (other t) (patched 0 (0 ∷ []) (slot_of (other t) opened_held.slots)) opened_held.slots ∙ ap (λ (l : List ℕ). patched 0 (0 ∷ []) l) (opened_other ∙ split.1) ∙ put_gate [] 1 split.0 0);
+        }
 
 module _ {D : Type 0} (held : D → Option Held) (moment : D → ℕ) (possible : D → ℕ → Held → Type 0) (t u : Slot) (u-is : u ≡ other t) (bytes : List ℕ) (o : Held) (can : CanTurn t o) where
   pub turn_first : (a b : D) → Leaves moment possible a b (Filling t o) → Leaves moment possible a b (MidTurn t bytes o)
@@ -185,7 +184,7 @@ module _ {D : Type 0} (held : D → Option Held) (moment : D → ℕ) (possible 
 
   pub turn_second : (a b c : D) → Leaves moment possible a b (Filling t o) → Filled held moment possible b t bytes o → PutCrash held moment possible t b c 0 (1 ∷ []) → Leaves moment possible a c (MidTurn t bytes o)
   turn_second a b c f n crash =
-    and_then moment possible a b c (MidTurn t bytes o) (turn_first a b f)
+      and_then moment possible a b c (MidTurn t bytes o) (turn_first a b f)
       (weaker moment possible b c (λ p. (p ≡ n.now) ⊎ Changes t (Torn 0 1) n.now p) (MidTurn t bytes o) (turn_opening t bytes o can n.now n.beside n.other_same n.there) (crash n.now n.certain (omega arith)))
 
   opened_is : (b c : D) → (n : Filled held moment possible b t bytes o) → PutCertain held moment possible t b c 0 (1 ∷ []) → Certain held moment possible c (opened_held t bytes o can n.now n.beside n.other_same n.there)
@@ -194,13 +193,13 @@ module _ {D : Type 0} (held : D → Option Held) (moment : D → ℕ) (possible 
   pub turn_third : (a b c e : D) → Leaves moment possible a b (Filling t o) → Filled held moment possible b t bytes o → PutCrash held moment possible t b c 0 (1 ∷ []) → PutCertain held moment possible t b c 0 (1 ∷ []) → PutCrash held moment possible u c e 0 (0 ∷ [])
       → Leaves moment possible a e (MidTurn t bytes o)
   turn_third a b c e f n crash certain crash2 =
-    let m = opened_held t bytes o can n.now n.beside n.other_same n.there in
-    let crash2' : PutCrash held moment possible (other t) c e 0 (0 ∷ []) = subst (λ (s : Slot). PutCrash held moment possible s c e 0 (0 ∷ [])) u-is crash2 in
-    and_then moment possible a c e (MidTurn t bytes o) (turn_second a b c f n crash)
+      let m = opened_held t bytes o can n.now n.beside n.other_same n.there in
+      let crash2' : PutCrash held moment possible (other t) c e 0 (0 ∷ []) = subst (λ (s : Slot). PutCrash held moment possible s c e 0 (0 ∷ [])) u-is crash2 in
+      and_then moment possible a c e (MidTurn t bytes o) (turn_second a b c f n crash)
       (weaker moment possible c e (λ p. (p ≡ m) ⊎ Changes (other t) (Torn 0 1) m p) (MidTurn t bytes o) (turn_closing t bytes o can n.now n.beside n.other_same n.there) (crash2' m (opened_is b c n certain) (omega arith)))
 
   pub turn_done : (b c e : D) → Filled held moment possible b t bytes o → PutCertain held moment possible t b c 0 (1 ∷ []) → PutCertain held moment possible u c e 0 (0 ∷ []) → Turned held moment possible e t bytes o
   turn_done b c e n certain certain2 =
-    let m = opened_held t bytes o can n.now n.beside n.other_same n.there in
-    let certain2' : PutCertain held moment possible (other t) c e 0 (0 ∷ []) = subst (λ (s : Slot). PutCertain held moment possible s c e 0 (0 ∷ [])) u-is certain2 in
-    is_turned t bytes o can n.now n.beside n.other_same n.there held moment possible e (certain2' m (opened_is b c n certain) (omega arith))
+      let m = opened_held t bytes o can n.now n.beside n.other_same n.there in
+      let certain2' : PutCertain held moment possible (other t) c e 0 (0 ∷ []) = subst (λ (s : Slot). PutCertain held moment possible s c e 0 (0 ∷ [])) u-is certain2 in
+      is_turned t bytes o can n.now n.beside n.other_same n.there held moment possible e (certain2' m (opened_is b c n certain) (omega arith))

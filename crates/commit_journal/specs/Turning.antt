@@ -28,7 +28,7 @@ pub record Filled {D : Type 0} (held : D → Option Held) (moment : D → ℕ) (
 pub record MidTurn (target : Slot) (bytes : List ℕ) (o p : Held) : Type 0 where
   pub beside : p.history ≡ o.history
   pub there : ((slice_index (slot_of target p.slots) 0 ≢ 1) × (slot_of (other target) p.slots ≡ slot_of (other target) o.slots))
-    ⊎ ((slot_of target p.slots ≡ 1 ∷ bytes) × ((slot_of (other target) p.slots ≡ slot_of (other target) o.slots) ⊎ (slice_index (slot_of (other target) p.slots) 0 ≢ 1)))
+      ⊎ ((slot_of target p.slots ≡ 1 ∷ bytes) × ((slot_of (other target) p.slots ≡ slot_of (other target) o.slots) ⊎ (slice_index (slot_of (other target) p.slots) 0 ≢ 1)))
 
 pub record Turned {D : Type 0} (held : D → Option Held) (moment : D → ℕ) (possible : D → ℕ → Held → Type 0) (d : D) (target : Slot) (bytes : List ℕ) (o : Held) : Type 0 where
   pub now : Held

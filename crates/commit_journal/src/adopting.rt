@@ -15,9 +15,9 @@ ghost use Rattle.commit_journal.specs.declared.fault.RotateError.TheVariants.{Li
 
 use crate::fault::RotateError;
 use crate::journal::Journal;
-use outside::Disk;
 use journal_entries::writing::put_bytes;
 use journal_entries::{Ending, Standing, read_body};
+use outside::Disk;
 use std::alloc::{AllocError, Global};
 
 /// The bytes of a slot behind its first: a header of version 2, this body as a batch, and a closed gate.
@@ -51,7 +51,13 @@ fn standing_behind(alloc: Global, body: &[u8]) -> Result<Standing, AllocError>
 impl Journal {
     /// Fills the other slot with this body as its only batch, and moves on to it. The generation is above the present
     /// one, and the body reads as a slot's first batch.
-    pub fn adopt<D: Disk>(&mut self, alloc: Global, d: &mut D, generation: u64, body: &[u8]) -> Result<(), RotateError>
+    pub fn adopt<D: Disk>(
+        &mut self,
+        alloc: Global,
+        d: &mut D,
+        generation: u64,
+        body: &[u8],
+    ) -> Result<(), RotateError>
         requires reads { (placed : List Placed) × (t : OneStanding) × Body 2 beginning 15 body.now placed (Whole t) }
         ensures crash { (o : Held) (flushed : List OneEntry) (placed : List Placed) (t : OneStanding) → Certain D.held D.moment D.possible d.old o → AtRest self.old o.slots flushed [] → self.old.generation < generation →
             Body 2 beginning 15 body.now placed (Whole t) → Leaves D.moment D.possible d.old d.new (MidRotation o flushed (entries_of placed)) }
@@ -84,7 +90,13 @@ impl Journal {
 }
 
 /// Whether all of a body reads.
-fn reads_whole(alloc: Global, version: u8, standing: Standing, place: u64, body: &[u8]) -> Result<bool, AllocError>
+fn reads_whole(
+    alloc: Global,
+    version: u8,
+    standing: Standing,
+    place: u64,
+    body: &[u8],
+) -> Result<bool, AllocError>
     requires { place + length body.now < 2 ^ 64 }
     ensures { IfOk result (λ b. IsTrue b ↔ ((placed : List Placed) × (t : OneStanding) × Body version standing place body.now placed (Whole t))) }
 {

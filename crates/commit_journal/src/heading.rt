@@ -46,7 +46,12 @@ fn head_in(front: &[u8]) -> Head
 }
 
 /// The head of a slot of this length.
-pub(crate) fn head_at<D: Disk>(alloc: Global, d: &mut D, slot: Slot, len: u64) -> Result<Head, OpenError>
+pub(crate) fn head_at<D: Disk>(
+    alloc: Global,
+    d: &mut D,
+    slot: Slot,
+    len: u64,
+) -> Result<Head, OpenError>
     ensures head { IfOk result (λ head. (o : Held) → Certain D.held D.moment D.possible d.old o → length (slot_of slot o.slots) ≡ len → head ≡ head_of (slot_of slot o.slots)) }
     ensures fits { IfOk result (λ head. HeadFits len head) }
     ensures rests { Rests D.held D.moment D.possible d.old d.new }

@@ -2,8 +2,8 @@
 
 ghost use Rattle.std.specs.Prelude.{◌+◌, ◌^◌, ◌≤◌, ◌<◌, length, vec_capacity};
 
-use outside::Slot;
 use journal_entries::Standing;
+use outside::Slot;
 
 /// The journal: which slot is live, where its closed gate stands, and the entries that aren't flushed.
 #[derive(Drop)]

@@ -12,14 +12,14 @@ ghost use Rattle.commit_journal.specs.Opening.{Finds, HaveBytes, HeadFits, Keeps
 
 use crate::fault::OpenError;
 use crate::head::Head;
+use crate::heading::head_at;
 use crate::journal::Journal;
 use crate::placing::{other as other_slot, put, write_batch};
-use crate::heading::head_at;
 use crate::reading::{settle, slot_length};
 use crate::scan::Scan;
 use crate::scanning::read_batches;
-use outside::{Disk, Slot};
 use journal_entries::{Entry, Standing};
+use outside::{Disk, Slot};
 use std::alloc::Global;
 
 /// What an opening finds.
@@ -34,7 +34,14 @@ pub struct Opened {
 }
 
 /// Reads the batches of a live slot.
-fn open_live<D: Disk>(alloc: Global, d: &mut D, slot: Slot, version: u8, generation: u64, len: u64) -> Result<Opened, OpenError>
+fn open_live<D: Disk>(
+    alloc: Global,
+    d: &mut D,
+    slot: Slot,
+    version: u8,
+    generation: u64,
+    len: u64,
+) -> Result<Opened, OpenError>
     requires { 11 ≤ len }
     ensures found { IfOk result (λ r. (o : Held) → Certain D.held D.moment D.possible d.old o → length (slot_of slot o.slots) ≡ len → head_of (slot_of slot o.slots) ≡ Live version generation →
         head_of (slot_of (other slot) o.slots) ≡ Dead → 1 ≤ length (slot_of (other slot) o.slots) → Finds o.slots r) }
@@ -107,7 +114,14 @@ fn make<D: Disk>(alloc: Global, d: &mut D) -> Result<Opened, OpenError>
 }
 
 /// Closes the other of two live slots, and reads this one's batches.
-fn open_newer<D: Disk>(alloc: Global, d: &mut D, slot: Slot, version: u8, generation: u64, len: u64) -> Result<Opened, OpenError>
+fn open_newer<D: Disk>(
+    alloc: Global,
+    d: &mut D,
+    slot: Slot,
+    version: u8,
+    generation: u64,
+    len: u64,
+) -> Result<Opened, OpenError>
     requires { 11 ≤ len }
     ensures crash { (o : Held) (w k : ℕ) → Certain D.held D.moment D.possible d.old o → head_of (slot_of slot o.slots) ≡ Live version generation → head_of (slot_of (other slot) o.slots) ≡ Live w k → Beats slot generation (Live w k) →
         Leaves D.moment D.possible d.old d.new (Keeps o) }
@@ -122,7 +136,14 @@ fn open_newer<D: Disk>(alloc: Global, d: &mut D, slot: Slot, version: u8, genera
 }
 
 /// Reads the batches of the only live slot.
-fn open_alone<D: Disk>(alloc: Global, d: &mut D, slot: Slot, version: u8, generation: u64, len: u64) -> Result<Opened, OpenError>
+fn open_alone<D: Disk>(
+    alloc: Global,
+    d: &mut D,
+    slot: Slot,
+    version: u8,
+    generation: u64,
+    len: u64,
+) -> Result<Opened, OpenError>
     requires { 11 ≤ len }
     ensures crash { (o : Held) → Certain D.held D.moment D.possible d.old o → Leaves D.moment D.possible d.old d.new (Keeps o) }
     ensures opened { IfOk result (λ r. (o : Held) → Certain D.held D.moment D.possible d.old o → length (slot_of slot o.slots) ≡ len → head_of (slot_of slot o.slots) ≡ Live version generation →
@@ -157,7 +178,12 @@ fn damaged_at(alloc: Global, slot: Slot, place: u64) -> Result<Opened, OpenError
 }
 
 /// Opens where slot 0 isn't live.
-fn open_second<D: Disk>(alloc: Global, d: &mut D, second: Head, second_len: u64) -> Result<Opened, OpenError>
+fn open_second<D: Disk>(
+    alloc: Global,
+    d: &mut D,
+    second: Head,
+    second_len: u64,
+) -> Result<Opened, OpenError>
     requires { HeadFits second_len second }
     ensures crash { (o : Held) → Certain D.held D.moment D.possible d.old o → HaveBytes o.slots → head_of o.slots.first ≡ Dead → head_of o.slots.second ≡ second → Leaves D.moment D.possible d.old d.new (Keeps o) }
     ensures opened { IfOk result (λ r. (o : Held) → Certain D.held D.moment D.possible d.old o → HaveBytes o.slots → length o.slots.second ≡ second_len → head_of o.slots.first ≡ Dead → head_of o.slots.second ≡ second → Opens D.held D.moment D.possible d.new o r) }
@@ -181,7 +207,15 @@ fn open_second<D: Disk>(alloc: Global, d: &mut D, second: Head, second_len: u64)
 }
 
 /// Opens where slot 0 is live.
-fn open_first<D: Disk>(alloc: Global, d: &mut D, version: u8, generation: u64, first_len: u64, second: Head, second_len: u64) -> Result<Opened, OpenError>
+fn open_first<D: Disk>(
+    alloc: Global,
+    d: &mut D,
+    version: u8,
+    generation: u64,
+    first_len: u64,
+    second: Head,
+    second_len: u64,
+) -> Result<Opened, OpenError>
     requires first { 11 ≤ first_len }
     requires second { HeadFits second_len second }
     ensures crash { (o : Held) → Certain D.held D.moment D.possible d.old o → HaveBytes o.slots → head_of o.slots.first ≡ Live version generation → head_of o.slots.second ≡ second → Leaves D.moment D.possible d.old d.new (Keeps o) }
@@ -210,7 +244,14 @@ fn open_first<D: Disk>(alloc: Global, d: &mut D, version: u8, generation: u64, f
 }
 
 /// Opens the slots that have these heads and lengths.
-fn open_by<D: Disk>(alloc: Global, d: &mut D, first: Head, first_len: u64, second: Head, second_len: u64) -> Result<Opened, OpenError>
+fn open_by<D: Disk>(
+    alloc: Global,
+    d: &mut D,
+    first: Head,
+    first_len: u64,
+    second: Head,
+    second_len: u64,
+) -> Result<Opened, OpenError>
     requires first { HeadFits first_len first }
     requires second { HeadFits second_len second }
     ensures crash { (o : Held) → Certain D.held D.moment D.possible d.old o → HaveBytes o.slots → head_of o.slots.first ≡ first → head_of o.slots.second ≡ second → Leaves D.moment D.possible d.old d.new (Keeps o) }
@@ -224,7 +265,9 @@ fn open_by<D: Disk>(alloc: Global, d: &mut D, first: Head, first_len: u64, secon
             Ok(opened)
         }
         Head::Dead => open_second(alloc, d, second, second_len),
-        Head::Live(version, generation) => open_first(alloc, d, version, generation, first_len, second, second_len),
+        Head::Live(version, generation) => open_first(
+            alloc, d, version, generation, first_len, second, second_len,
+        ),
     }
 }
 

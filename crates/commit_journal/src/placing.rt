@@ -24,7 +24,12 @@ pub(crate) fn put<D: Disk>(d: &mut D, slot: Slot, at: u64, bytes: &[u8]) -> Resu
 }
 
 /// Puts the bytes behind a gate, and opens it.
-pub(crate) fn write_batch<D: Disk>(d: &mut D, slot: Slot, gate: u64, bytes: &[u8]) -> Result<(), DiskFault>
+pub(crate) fn write_batch<D: Disk>(
+    d: &mut D,
+    slot: Slot,
+    gate: u64,
+    bytes: &[u8],
+) -> Result<(), DiskFault>
     requires { gate + 1 < 2 ^ 64 }
     ensures crash { (o : Held) (front junk : List ℕ) (g : ℕ) → Certain D.held D.moment D.possible d.old o → slot_of slot o.slots ≡ front ++ g ∷ junk → gate ≡ length front →
         Leaves D.moment D.possible d.old d.new (MidBatch slot front g bytes.now o) }

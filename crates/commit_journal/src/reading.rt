@@ -50,7 +50,14 @@ fn read_piece<D: Disk>(d: &mut D, slot: Slot, at: u64, buf: &mut [u8]) -> Result
 }
 
 /// Puts so many bytes of the slot from the place on behind the others, where the slot has so much.
-fn append_piece<D: Disk>(alloc: Global, d: &mut D, slot: Slot, at: u64, size: usize, bytes: &mut Vec<u8>) -> Result<(), OpenError>
+fn append_piece<D: Disk>(
+    alloc: Global,
+    d: &mut D,
+    slot: Slot,
+    at: u64,
+    size: usize,
+    bytes: &mut Vec<u8>,
+) -> Result<(), OpenError>
     ensures bytes { OnOk result ((o : Held) → Certain D.held D.moment D.possible d.old o → at + size ≤ length (slot_of slot o.slots) →
         bytes.new.items ≡ bytes.old.items ++ take size (drop at (slot_of slot o.slots))) }
     ensures length { OnOk result (length bytes.new.items ≡ length bytes.old.items + size) }
@@ -65,7 +72,13 @@ fn append_piece<D: Disk>(alloc: Global, d: &mut D, slot: Slot, at: u64, size: us
 }
 
 /// So many bytes of the slot from the place on, in pieces of at most 65,536, where the slot has so much.
-pub(crate) fn read_bytes<D: Disk>(alloc: Global, d: &mut D, slot: Slot, at: u64, len: usize) -> Result<Vec<u8>, OpenError>
+pub(crate) fn read_bytes<D: Disk>(
+    alloc: Global,
+    d: &mut D,
+    slot: Slot,
+    at: u64,
+    len: usize,
+) -> Result<Vec<u8>, OpenError>
     requires { at + len < 2 ^ 64 }
     ensures bytes { IfOk result (λ bytes. (o : Held) → Certain D.held D.moment D.possible d.old o → at + len ≤ length (slot_of slot o.slots) →
         bytes.items ≡ take len (drop at (slot_of slot o.slots))) }

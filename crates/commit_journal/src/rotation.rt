@@ -73,7 +73,13 @@ impl Journal {
 
     /// Moves on to the other slot, with these bytes behind its first: a header, a batch and a closed gate. The standing is
     /// that behind the batch.
-    pub(crate) fn move_on<D: Disk>(&mut self, d: &mut D, generation: u64, standing: Standing, bytes: &[u8]) -> Result<(), DiskFault>
+    pub(crate) fn move_on<D: Disk>(
+        &mut self,
+        d: &mut D,
+        generation: u64,
+        standing: Standing,
+        bytes: &[u8],
+    ) -> Result<(), DiskFault>
         ensures crash { (o : Held) (flushed tail : List OneEntry) (body : List ℕ) (placed : List Placed) → Certain D.held D.moment D.possible d.old o → AtRest self.old o.slots flushed tail → self.old.generation < generation →
             bytes.now ≡ slot_bytes generation body → length body ≤ 2 ^ 24 → Body 2 beginning 15 body placed (Whole standing) → Leaves D.moment D.possible d.old d.new (MidRotation o flushed (entries_of placed)) }
         ensures moved { OnOk result ((o : Held) (flushed tail : List OneEntry) (body : List ℕ) (placed : List Placed) → Certain D.held D.moment D.possible d.old o → AtRest self.old o.slots flushed tail → self.old.generation < generation →

@@ -11,8 +11,8 @@ ghost use Rattle.commit_journal.specs.Scanning.{HeadSays, IsNext, NextFits, Scan
 use crate::fault::OpenError;
 use crate::reading::read_bytes;
 use crate::scan::{Next, Scan};
-use outside::{Disk, Slot};
 use journal_entries::{Ending, Entry, Standing, read_body};
+use outside::{Disk, Slot};
 use std::alloc::Global;
 
 /// What the bytes from a gate on say of the body, as far as they are there: how long it is, where the gate is open and a
@@ -37,7 +37,13 @@ fn size_behind(head: &[u8], left: u64) -> Result<usize, bool>
 }
 
 /// What stands from a gate on. `left` is how many bytes the slot has from there.
-fn next_batch<D: Disk>(alloc: Global, d: &mut D, slot: Slot, place: u64, left: u64) -> Result<Next, OpenError>
+fn next_batch<D: Disk>(
+    alloc: Global,
+    d: &mut D,
+    slot: Slot,
+    place: u64,
+    left: u64,
+) -> Result<Next, OpenError>
     requires some { 1 ≤ left }
     requires range { place + left < 2 ^ 64 }
     ensures next { IfOk result (λ next. (o : Held) → Certain D.held D.moment D.possible d.old o → length (slot_of slot o.slots) ≡ place + left → IsNext (drop place (slot_of slot o.slots)) next) }

@@ -13,9 +13,9 @@ ghost use Rattle.commit_journal.specs.Resting.{AtRest, HasRoom, HasSameEntries, 
 use crate::fault::ReserveError;
 use crate::journal::Journal;
 use crate::placing::write_batch;
-use outside::{Disk, DiskFault};
 use journal_entries::Entry;
 use journal_entries::writing::put_entry;
+use outside::{Disk, DiskFault};
 
 /// The bytes of a batch behind its gate: the length in the place for it, the body, and the next gate, closed.
 fn seal(staged: &mut Vec<u8>)

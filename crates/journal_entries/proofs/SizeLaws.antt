@@ -12,9 +12,9 @@ pub size_more : {X : Type 0} (spell : X → List ℕ) (xs : List X) (i : ℕ) (d
     → min (capped (length (flat_map spell (take i xs))) + capped (length (spell (get_or xs i d)))) (2 ^ 64 - 1) ≡ capped (length (flat_map spell (take (i + 1) xs)))
 size_more spell xs i d lt =
     let front : flat_map spell (take i xs) ++ spell (get_or xs i d) ≡ flat_map spell (take (i + 1) xs) =
-      flat_map_more spell [] (take i xs) (get_or xs i d) ∙ ap (λ l. flat_map spell l) (sym (take_more xs i d lt)) in
+    flat_map_more spell [] (take i xs) (get_or xs i d) ∙ ap (λ l. flat_map spell l) (sym (take_more xs i d lt)) in
     capped_more (length (flat_map spell (take i xs))) (length (spell (get_or xs i d)))
-      ∙ ap capped (sym (length-append (flat_map spell (take i xs)) (spell (get_or xs i d))) ∙ ap length front)
+    ∙ ap capped (sym (length-append (flat_map spell (take i xs)) (spell (get_or xs i d))) ∙ ap length front)
 
 -- one step of a loop
 pub size_step : {X : Type 0} (spell : X → List ℕ) (xs : List X) (i : ℕ) (x : X) (size one next : ℕ) → x ≡ get_or xs i x → i < length xs → size ≡ capped (length (flat_map spell (take i xs)))

@@ -61,9 +61,9 @@ time_is z e =
 
 not_below : (a b : ℤ) → b ≤ℤ a → not (lt_z a b) ≡ true
 not_below a b h = elim (lt_z a b) as (λ t. lt_z a b ≡ t → not t ≡ true) [
-    | true ↦ λ e. let lt : a <ℤ b = lt_z_yes {a = a} {b = b} (T_from_true _ e) in absurd (omega (arith, ints, lt, h))
-    | false ↦ λ e. refl
-  ] refl
+  | true ↦ λ e. let lt : a <ℤ b = lt_z_yes {a = a} {b = b} (T_from_true _ e) in absurd (omega (arith, ints, lt, h))
+  | false ↦ λ e. refl
+] refl
 
 is_time_from : (z : ℤ) → IsTime z → is_time z ≡ true
 is_time_from z h = rw (not_below z (negsuc 62135596799) h.first, not_below (pos 253402300799) z h.last) refl
@@ -83,7 +83,7 @@ unfolding integer_at
 integer_takes version bytes x rest fits e =
     let t = as_takes (λ z. Number (numbered z 0)) (λ b. signed_at b) signed_bytes (λ z. FitsSigned w64 z) exact_signed bytes x rest fits e in
     subst (λ (x : Value). ValueTakes version 1 bytes x rest) t.1
-      (record { text = signed_bytes t.0; spelled = refl; takes = t.2; fits = (t.3, (omega arith, inl refl)) })
+    (record { text = signed_bytes t.0; spelled = refl; takes = t.2; fits = (t.3, (omega arith, inl refl)) })
 
 text_takes : (version : ℕ) (bytes : List ℕ) (x : Value) (rest : List ℕ) → IsBytes bytes → text_at bytes ≡ Some (x, rest) → ValueTakes version 2 bytes x rest
 unfolding text_at
@@ -91,14 +91,14 @@ text_takes version bytes x rest fits e =
     let t = as_takes (λ t. Text t) (λ b. test_at (λ t. is_text t) (λ b. string_at b) b) (λ t. to_be_bytes w16 (length t) ++ t) (λ t. ((length t < 2 ^ 16) × Unit {0}) × (is_text t ≡ true)) exact_text bytes x rest fits e in
     let p = and_true (ltb 0 (length t.0)) (is_utf8 t.0) t.3.1 in
     subst (λ (x : Value). ValueTakes version 2 bytes x rest) t.1
-      (record { text = to_be_bytes w16 (length t.0) ++ t.0; spelled = refl; takes = t.2; fits = (ltb-true 0 (length t.0) p.0, t.3.0.0, p.1) })
+    (record { text = to_be_bytes w16 (length t.0) ++ t.0; spelled = refl; takes = t.2; fits = (ltb-true 0 (length t.0) p.0, t.3.0.0, p.1) })
 
 time_takes : (version : ℕ) (bytes : List ℕ) (x : Value) (rest : List ℕ) → IsBytes bytes → time_at bytes ≡ Some (x, rest) → ValueTakes version 3 bytes x rest
 unfolding time_at
 time_takes version bytes x rest fits e =
     let t = as_takes (λ z. Time z) (λ b. test_at (λ z. is_time z) (λ b. signed_at b) b) signed_bytes (λ z. FitsSigned w64 z × (is_time z ≡ true)) exact_time bytes x rest fits e in
     subst (λ (x : Value). ValueTakes version 3 bytes x rest) t.1
-      (record { text = signed_bytes t.0; spelled = refl; takes = t.2; fits = time_is t.0 t.3.1 })
+    (record { text = signed_bytes t.0; spelled = refl; takes = t.2; fits = time_is t.0 t.3.1 })
 
 scaled_takes : (version : ℕ) (bytes : List ℕ) (x : Value) (rest : List ℕ) → version ≡ 2 → IsBytes bytes → scaled_at bytes ≡ Some (x, rest) → ValueTakes version 4 bytes x rest
 unfolding scaled_at
@@ -106,7 +106,7 @@ scaled_takes version bytes x rest two fits e =
     let t = as_takes (λ (p : ℕ × ℤ). Number (numbered p.1 p.0)) (λ b. both_at (λ b. test_at (λ n. is_scale n) (λ b. byte_at b) b) (λ b. signed_at b) b) (λ p. (p.0 ∷ []) ++ signed_bytes p.1) (λ p. ((p.0 < 2 ^ 8) × (is_scale p.0 ≡ true)) × FitsSigned w64 p.1) exact_scaled bytes x rest fits e in
     let s = scale_is t.0.0 t.3.0.1 in
     subst (λ (x : Value). ValueTakes version 4 bytes x rest) t.1
-      (record { text = t.0.0 ∷ signed_bytes t.0.1; spelled = rw s.0 refl; takes = t.2; fits = (t.3.1, (s.1, inr two)) })
+    (record { text = t.0.0 ∷ signed_bytes t.0.1; spelled = rw s.0 refl; takes = t.2; fits = (t.3.1, (s.1, inr two)) })
 
 tagged_value_takes : (version tag : ℕ) (bytes : List ℕ) (x : Value) (rest : List ℕ) → IsBytes bytes → tagged_value_at version tag bytes ≡ Some (x, rest) → ValueTakes version tag bytes x rest
 tagged_value_takes version tag bytes x rest fits e =
@@ -157,7 +157,7 @@ value_again version Null rest h = refl
 value_again version (Number n) rest h = number_again version n.units n.scale rest h
 value_again version (Text t) rest h =
     as_again (λ t. Text t) (λ b. test_at (λ t. is_text t) (λ b. string_at b) b) (λ t. to_be_bytes w16 (length t) ++ t) (λ t. ((length t < 2 ^ 16) × Unit {0}) × (is_text t ≡ true)) exact_text t rest
-      ((h.1, tt), rw (lt-ltb 0 (length t) h.0) h.2)
+    ((h.1, tt), rw (lt-ltb 0 (length t) h.0) h.2)
 value_again version (Time z) rest h =
     as_again (λ z. Time z) (λ b. test_at (λ z. is_time z) (λ b. signed_at b) b) signed_bytes (λ z. FitsSigned w64 z × (is_time z ≡ true)) exact_time z rest (time_fits z h, is_time_from z h)
 

@@ -79,11 +79,7 @@ pub(crate) fn bytes_at(len: usize, bytes: &[u8]) -> Result<(&[u8], &[u8]), ReadE
 
 /// A copy of so many bytes.
 #[tactic(auto, unfolding(crate::specs::Reading::bytes_at))]
-pub(crate) fn copy_at(
-    alloc: Global,
-    len: usize,
-    bytes: &[u8],
-) -> Result<(Bytes, &[u8]), ReadError>
+pub(crate) fn copy_at(alloc: Global, len: usize, bytes: &[u8]) -> Result<(Bytes, &[u8]), ReadError>
     ensures { Gives (λ x. (x.0, x.1.now)) result (bytes_at len bytes.now) }
 {
     let (front, rest) = bytes_at(len, bytes)?;

@@ -145,7 +145,12 @@ fn op_of(alloc: Global, version: u8, bytes: &[u8]) -> Result<(Op, &[u8]), ReadEr
     }
 }
 
-fn many_ops_of(alloc: Global, version: u8, count: u16, bytes: &[u8]) -> Result<(Seq<Op>, &[u8]), ReadError>
+fn many_ops_of(
+    alloc: Global,
+    version: u8,
+    count: u16,
+    bytes: &[u8],
+) -> Result<(Seq<Op>, &[u8]), ReadError>
     ensures { Gives (λ x. (x.0, x.1.now)) result (many_at (λ b. op_at version b) count bytes.now) }
 {
     let mut ops = Vec::new(alloc);
@@ -170,7 +175,11 @@ fn ops_of(alloc: Global, version: u8, bytes: &[u8]) -> Result<(Seq<Op>, &[u8]), 
 }
 
 #[tactic(auto, unfolding(crate::specs::Reading::transaction_at))]
-fn transaction_of(alloc: Global, version: u8, bytes: &[u8]) -> Result<((u64, Seq<Op>), &[u8]), ReadError>
+fn transaction_of(
+    alloc: Global,
+    version: u8,
+    bytes: &[u8],
+) -> Result<((u64, Seq<Op>), &[u8]), ReadError>
     ensures { Gives (λ x. ((x.0.0, x.0.1), x.1.now)) result (transaction_at version bytes.now) }
 {
     let (ticket, rest) = u64_at(bytes)?;
@@ -269,7 +278,11 @@ fn loaded_of(alloc: Global, bytes: &[u8]) -> Result<(Entry, &[u8]), ReadError>
 }
 
 #[tactic(auto, unfolding(crate::specs::Reading::entry_at))]
-pub(crate) fn entry_of(alloc: Global, version: u8, bytes: &[u8]) -> Result<(Entry, &[u8]), ReadError>
+pub(crate) fn entry_of(
+    alloc: Global,
+    version: u8,
+    bytes: &[u8],
+) -> Result<(Entry, &[u8]), ReadError>
     ensures { Gives (λ x. (x.0, x.1.now)) result (entry_at version bytes.now) }
 {
     let (tag, rest) = byte_at(bytes)?;

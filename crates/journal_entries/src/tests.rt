@@ -5,7 +5,8 @@ use std::alloc::Global;
 
 /// A commit with ticket 1 that inserts (3, 30) into A.
 const COMMIT: [u8; 33] = [
-    1, 0, 0, 0, 0, 0, 0, 0, 1, 0, 1, 1, 1, 0x41, 2, 1, 0, 0, 0, 0, 0, 0, 0, 3, 1, 0, 0, 0, 0, 0, 0, 0, 30,
+    1, 0, 0, 0, 0, 0, 0, 0, 1, 0, 1, 1, 1, 0x41, 2, 1, 0, 0, 0, 0, 0, 0, 0, 3, 1, 0, 0, 0, 0, 0, 0,
+    0, 30,
 ];
 
 /// The ticket of a write that is passed on, and a byte that begins no entry.

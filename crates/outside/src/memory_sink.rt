@@ -17,7 +17,13 @@ pub struct MemorySink {
 
 impl Drop for MemorySink {
     fn drop(self) {
-        let Self { bytes: _, piece: _, calls: _, failing: _, faults: _ } = self;
+        let Self {
+            bytes: _,
+            piece: _,
+            calls: _,
+            failing: _,
+            faults: _,
+        } = self;
     }
 }
 

@@ -14,7 +14,10 @@ pub struct ScriptClock {
 
 impl Drop for ScriptClock {
     fn drop(self) {
-        let Self { moments: _, place: _ } = self;
+        let Self {
+            moments: _,
+            place: _,
+        } = self;
     }
 }
 

@@ -31,7 +31,7 @@ returns-in-Stops-clause-scanned g c = λ o h len.
     let read = c.in_ok-at-in-Body.ensures in
     let body = subst (λ (e : Ending). Body c.args.version l.standing (l.place + 5) c.deref.result.now read.0 e) c.in-Stops.is read.2 in
     scan_broken c.args.version bytes c.args.entries.now.items l.entries.items l.standing l.place (l.invariant.scan o h len) next.0 c.in-Body.body.items next.1 next.2 next.3 read.0 c.read_body.new.entries.items read.1 c.in-Stops.at
-      (subst (λ (b : List ℕ). Body c.args.version l.standing (l.place + 5) b read.0 (Stops c.in-Stops.at)) c.deref.ensures.value body)
+    (subst (λ (b : List ℕ). Body c.args.version l.standing (l.place + 5) b read.0 (Stops c.in-Stops.at)) c.deref.ensures.value body)
 
 pub loop-place-preserved : goal.loop-place-preserved
 loop-place-preserved g c =
@@ -41,13 +41,13 @@ loop-place-preserved g c =
     record {
       within = omega (arith, fits, c.len.ensures);
       scan = λ o h len.
-        let bytes = slot_of c.args.slot o.slots in
-        let next = subst (λ (n : Next). IsNext (drop l.place bytes) n) c.in-Body.is (c.in_ok-next_batch.ensures.next o (l.invariant.rests o h).0 (omega arith)) in
-        let body = subst (λ (e : Ending). Body c.args.version l.standing (l.place + 5) c.deref.result.now read.0 e) c.in-Whole.is read.2 in
-        let at : l.place + 5 + length c.in-Body.body.items ≡ l.place + (5 + c.len.result) = omega (arith, c.len.ensures, c.in-Body.body.ok.0) in
-        subst (λ (p : ℕ). ScanSoFar c.args.version bytes c.args.entries.now.items c.read_body.new.entries.items c.in-Whole.behind p) at
+          let bytes = slot_of c.args.slot o.slots in
+          let next = subst (λ (n : Next). IsNext (drop l.place bytes) n) c.in-Body.is (c.in_ok-next_batch.ensures.next o (l.invariant.rests o h).0 (omega arith)) in
+          let body = subst (λ (e : Ending). Body c.args.version l.standing (l.place + 5) c.deref.result.now read.0 e) c.in-Whole.is read.2 in
+          let at : l.place + 5 + length c.in-Body.body.items ≡ l.place + (5 + c.len.result) = omega (arith, c.len.ensures, c.in-Body.body.ok.0) in
+          subst (λ (p : ℕ). ScanSoFar c.args.version bytes c.args.entries.now.items c.read_body.new.entries.items c.in-Whole.behind p) at
           (scan_on c.args.version bytes c.args.entries.now.items l.entries.items l.standing l.place (l.invariant.scan o h len) next.0 c.in-Body.body.items next.1 next.2 next.3 read.0 c.read_body.new.entries.items read.1 c.in-Whole.behind
-            (subst (λ (b : List ℕ). Body c.args.version l.standing (l.place + 5) b read.0 (Whole c.in-Whole.behind)) c.deref.ensures.value body));
+          (subst (λ (b : List ℕ). Body c.args.version l.standing (l.place + 5) b read.0 (Whole c.in-Whole.behind)) c.deref.ensures.value body));
       rests = rests_then g.D.Disk.moment g.D.Disk.possible g.D.Disk.held c.args.d.now l.d c.next_batch.new.d l.invariant.rests c.next_batch.ensures.rests;
       shares = c.next_batch.ensures.shares ∙ l.invariant.shares;
       later = omega (arith, c.next_batch.ensures.cause.later, l.invariant.later);

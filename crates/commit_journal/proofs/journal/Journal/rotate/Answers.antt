@@ -29,9 +29,9 @@ returns-in_err-move_on-clause-crash g c = λ o flushed tail h r.
     let small : length (flat_map entry_bytes es) ≤ 2 ^ 24 = omega (arith, c.entries_size.ensures, c.if-entries_size-gt16777216.false) in
     let above : c.args.self.now.generation < c.args.self.now.generation + 1 = omega arith in
     let bytes : c.deref-2.result.now ≡ slot_bytes (c.args.self.now.generation + 1) (flat_map entry_bytes es) =
-      c.deref-2.ensures.value ∙ c.in_ok-bytes.ensures ∙ ap (λ (b : List ℕ). slot_bytes (c.args.self.now.generation + 1) b) (c.deref.ensures.value ∙ c.in_ok-body.ensures) in
+    c.deref-2.ensures.value ∙ c.in_ok-bytes.ensures ∙ ap (λ (b : List ℕ). slot_bytes (c.args.self.now.generation + 1) b) (c.deref.ensures.value ∙ c.in_ok-body.ensures) in
     subst (λ (l : List Entry). Leaves g.D.Disk.moment g.D.Disk.possible c.args.d.now c.move_on.new.d (MidRotation o flushed l)) s.2
-      (c.move_on.ensures.crash o flushed tail (flat_map entry_bytes es) s.0 h r above bytes small s.1)
+    (c.move_on.ensures.crash o flushed tail (flat_map entry_bytes es) s.0 h r above bytes small s.1)
 
 pub returns-clause-crash : goal.returns-clause-crash
 returns-clause-crash g c = λ o flushed tail h r.
@@ -40,9 +40,9 @@ returns-clause-crash g c = λ o flushed tail h r.
     let small : length (flat_map entry_bytes es) ≤ 2 ^ 24 = omega (arith, c.entries_size.ensures, c.if-entries_size-gt16777216.false) in
     let above : c.args.self.now.generation < c.args.self.now.generation + 1 = omega arith in
     let bytes : c.deref-2.result.now ≡ slot_bytes (c.args.self.now.generation + 1) (flat_map entry_bytes es) =
-      c.deref-2.ensures.value ∙ c.in_ok-bytes.ensures ∙ ap (λ (b : List ℕ). slot_bytes (c.args.self.now.generation + 1) b) (c.deref.ensures.value ∙ c.in_ok-body.ensures) in
+    c.deref-2.ensures.value ∙ c.in_ok-bytes.ensures ∙ ap (λ (b : List ℕ). slot_bytes (c.args.self.now.generation + 1) b) (c.deref.ensures.value ∙ c.in_ok-body.ensures) in
     subst (λ (l : List Entry). Leaves g.D.Disk.moment g.D.Disk.possible c.args.d.now c.move_on.new.d (MidRotation o flushed l)) s.2
-      (c.move_on.ensures.crash o flushed tail (flat_map entry_bytes es) s.0 h r above bytes small s.1)
+    (c.move_on.ensures.crash o flushed tail (flat_map entry_bytes es) s.0 h r above bytes small s.1)
 
 pub returns-clause-moved : goal.returns-clause-moved
 returns-clause-moved g c = λ o flushed tail h r.
@@ -51,6 +51,6 @@ returns-clause-moved g c = λ o flushed tail h r.
     let small : length (flat_map entry_bytes es) ≤ 2 ^ 24 = omega (arith, c.entries_size.ensures, c.if-entries_size-gt16777216.false) in
     let above : c.args.self.now.generation < c.args.self.now.generation + 1 = omega arith in
     let bytes : c.deref-2.result.now ≡ slot_bytes (c.args.self.now.generation + 1) (flat_map entry_bytes es) =
-      c.deref-2.ensures.value ∙ c.in_ok-bytes.ensures ∙ ap (λ (b : List ℕ). slot_bytes (c.args.self.now.generation + 1) b) (c.deref.ensures.value ∙ c.in_ok-body.ensures) in
+    c.deref-2.ensures.value ∙ c.in_ok-bytes.ensures ∙ ap (λ (b : List ℕ). slot_bytes (c.args.self.now.generation + 1) b) (c.deref.ensures.value ∙ c.in_ok-body.ensures) in
     subst (λ (l : List Entry). Rested g.D.Disk.held g.D.Disk.moment g.D.Disk.possible c.move_on.new.d c.move_on.new.self o l []) s.2
-      (c.in_ok-move_on.ensures.moved o flushed tail (flat_map entry_bytes es) s.0 h r above bytes small s.1)
+    (c.in_ok-move_on.ensures.moved o flushed tail (flat_map entry_bytes es) s.0 h r above bytes small s.1)

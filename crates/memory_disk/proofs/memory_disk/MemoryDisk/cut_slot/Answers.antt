@@ -1,0 +1,20 @@
+use Rattle.std.proofs.Common.{◌≡◌, ◌∙◌, ◌∷◌, ◌++◌, [], List, ℕ, ap, sym, refl, take}
+use Rattle.outside.specs.declared.disk.Slot.TheVariants.{First, Second}
+use Rattle.outside.specs.Calls.{patched}
+use Rattle.memory_disk.specs.declared.call.DiskCall.TheVariants.{Write, Cut, Sync}
+use Rattle.memory_disk.specs.Images.{Image}
+use Rattle.memory_disk.proofs.ImageLaws.{tie_push}
+use Rattle.memory_disk.specs.declared.call.DiskCall.{DiskCall}
+use Rattle.memory_disk.proofs.memory_disk.MemoryDisk.cut_slot.Goals as goal
+
+pub invariant_of-self-in-First : goal.invariant_of-self-in-First
+invariant_of-self-in-First c = record {
+  first_is = tie_push First c.args.self.now.calls.items c.push_reserved.new.self.items (Cut First c.args.len) c.args.self.now.base_first.items c.args.self.now.first.items c.truncate.new.self.items c.args.self.now.first_is (c.push_reserved.ensures.items ∙ ap (λ (l : List DiskCall). l ++ (Cut First c.args.len) ∷ []) c.reserve.ensures.items) (λ i e. c.truncate.ensures.items ∙ ap (λ (l : List ℕ). take c.args.len l) (sym e));
+  second_is = tie_push Second c.args.self.now.calls.items c.push_reserved.new.self.items (Cut First c.args.len) c.args.self.now.base_second.items c.args.self.now.second.items c.args.self.now.second.items c.args.self.now.second_is (c.push_reserved.ensures.items ∙ ap (λ (l : List DiskCall). l ++ (Cut First c.args.len) ∷ []) c.reserve.ensures.items) (λ i e. sym e);
+}
+
+pub invariant_of-self-in-Second : goal.invariant_of-self-in-Second
+invariant_of-self-in-Second c = record {
+  first_is = tie_push First c.args.self.now.calls.items c.push_reserved-in-Second.new.self.items (Cut Second c.args.len) c.args.self.now.base_first.items c.args.self.now.first.items c.args.self.now.first.items c.args.self.now.first_is (c.push_reserved-in-Second.ensures.items ∙ ap (λ (l : List DiskCall). l ++ (Cut Second c.args.len) ∷ []) c.reserve.ensures.items) (λ i e. sym e);
+  second_is = tie_push Second c.args.self.now.calls.items c.push_reserved-in-Second.new.self.items (Cut Second c.args.len) c.args.self.now.base_second.items c.args.self.now.second.items c.truncate-in-Second.new.self.items c.args.self.now.second_is (c.push_reserved-in-Second.ensures.items ∙ ap (λ (l : List DiskCall). l ++ (Cut Second c.args.len) ∷ []) c.reserve.ensures.items) (λ i e. c.truncate-in-Second.ensures.items ∙ ap (λ (l : List ℕ). take c.args.len l) (sym e));
+}

@@ -1,0 +1,3 @@
+pub mod Images
+pub mod Possible
+pub mod DiskLaws

@@ -1,0 +1,237 @@
+//! How the disk in memory is a disk.
+
+ghost use Rattle.std.specs.Prelude.{◌≡◌, ◌+◌, ◌≤◌, [], ◌∷◌, length, true, false, IfOk, OnErr, OnOk, Some};
+ghost use Rattle.outside.specs.Calls.{Durable, GoesOn, HasLength, MayCut, MayWrite, ReadsFrom, Same, Stays, Told, WasCut, Wrote};
+ghost use Rattle.outside.specs.Faults.{HasCause, Rose};
+ghost use Rattle.outside.specs.Holding.{slot_of};
+ghost use Rattle.outside.specs.declared.disk.Slot.TheVariants.{First, Second};
+ghost use Rattle.memory_disk.specs.declared.call.DiskCall.TheVariants as call;
+ghost use Rattle.memory_disk.specs.DiskLaws.{certain_law, possible_law};
+ghost use Rattle.memory_disk.specs.Possible.{IsDone, IsIdle, IsUntouched, held_of, moment_of, possible_of, shared_of, told_of, unused};
+
+use crate::call::DiskCall;
+use crate::memory_disk::MemoryDisk;
+use crate::slots::{overwrite, read_from};
+use outside::{Disk, DiskFault, Slot};
+use std::alloc::{AllocError, Global};
+use tier_base::Seq;
+
+impl MemoryDisk {
+    /// Two slots that were never used, each the one byte 00. The calls of these numbers, from 0, fail, and have no effect.
+    ///
+    /// It fails for want of memory alone.
+    pub fn new(alloc: Global, failing: Vec<u64>) -> Result<MemoryDisk, AllocError>
+        ensures held { IfOk result (λ d. told_of d ≡ Some unused) }
+        ensures moment { IfOk result (λ d. moment_of d ≡ 0) }
+    {
+        let base_first = Vec::from_slice(alloc, &[0])?;
+        let base_second = Vec::from_slice(alloc, &[0])?;
+        let first = Vec::from_slice(alloc, &[0])?;
+        let second = Vec::from_slice(alloc, &[0])?;
+        Ok(MemoryDisk {
+            alloc,
+            base_first,
+            base_second,
+            calls: Vec::new(alloc),
+            first,
+            second,
+            made: 0,
+            failing,
+            faults: 0,
+        })
+    }
+
+    /// The calls so far that changed something, in order.
+    pub fn calls(&self) -> &[DiskCall]
+        ensures { result.now ≡ self.now.calls.items }
+    {
+        self.calls.as_slice()
+    }
+
+    // Counts a call, and tells whether it is to fail.
+    fn fails(&mut self) -> bool
+        ensures { IsUntouched self.old self.new }
+    {
+        let call = self.made;
+        self.made = self.made.saturating_add(1);
+        self.failing.contains(&call)
+    }
+
+    // Counts a fault.
+    fn fault(&mut self) -> DiskFault
+        ensures same { IsIdle self.old self.new }
+        ensures rose { Rose self.old.faults self.new.faults }
+        ensures later { self.old.faults ≤ self.new.faults }
+    {
+        self.faults = self.faults.saturating_add(1);
+        DiskFault
+    }
+
+    // Notes that the slot was synced; no where memory is wanting.
+    fn sync_slot(&mut self, slot: Slot) -> bool
+        ensures done { result ≡ true → IsDone (call.Sync slot) self.old self.new }
+        ensures else_same { result ≡ false → IsUntouched self.old self.new }
+    {
+        if self.calls.reserve(1).is_err() {
+            return false;
+        }
+        match slot {
+            Slot::First => {
+                self.calls.push_reserved(DiskCall::Sync(Slot::First));
+                return true;
+            }
+            Slot::Second => {
+                self.calls.push_reserved(DiskCall::Sync(Slot::Second));
+                return true;
+            }
+        }
+    }
+
+    // Writes within slot 0. For want of memory nothing is done.
+    fn write_first(&mut self, at: usize, bytes: &[u8]) -> Result<(), AllocError>
+        requires { at ≤ length self.old.first.items }
+        ensures done { OnOk result (IsDone (call.Write First at bytes.now) self.old self.new) }
+        ensures else_same { OnErr result (IsUntouched self.old self.new) }
+    {
+        let copy = Seq::from_vec(Vec::from_slice(self.alloc, bytes)?);
+        self.calls.reserve(1)?;
+        overwrite(self.alloc, &mut self.first, at, bytes)?;
+        self.calls
+            .push_reserved(DiskCall::Write(Slot::First, at as u64, copy));
+        Ok(())
+    }
+
+    // Writes within slot 1. For want of memory nothing is done.
+    fn write_second(&mut self, at: usize, bytes: &[u8]) -> Result<(), AllocError>
+        requires { at ≤ length self.old.second.items }
+        ensures done { OnOk result (IsDone (call.Write Second at bytes.now) self.old self.new) }
+        ensures else_same { OnErr result (IsUntouched self.old self.new) }
+    {
+        let copy = Seq::from_vec(Vec::from_slice(self.alloc, bytes)?);
+        self.calls.reserve(1)?;
+        overwrite(self.alloc, &mut self.second, at, bytes)?;
+        self.calls
+            .push_reserved(DiskCall::Write(Slot::Second, at as u64, copy));
+        Ok(())
+    }
+
+    // Writes within the slot; no where the place is behind its end, or memory is wanting.
+    fn write_slot(&mut self, slot: Slot, at: u64, bytes: &[u8]) -> bool
+        ensures within { result ≡ true → at ≤ length (slot_of slot (held_of self.old).slots) }
+        ensures done { result ≡ true → IsDone (call.Write slot at bytes.now) self.old self.new }
+        ensures else_same { result ≡ false → IsUntouched self.old self.new }
+    {
+        match slot {
+            Slot::First => {
+                if (self.first.len() as u64) < at {
+                    return false;
+                }
+                self.write_first(at as usize, bytes).is_ok()
+            }
+            Slot::Second => {
+                if (self.second.len() as u64) < at {
+                    return false;
+                }
+                self.write_second(at as usize, bytes).is_ok()
+            }
+        }
+    }
+
+    // Cuts the slot; no where it is shorter, or memory is wanting.
+    fn cut_slot(&mut self, slot: Slot, len: u64) -> bool
+        ensures within { result ≡ true → len ≤ length (slot_of slot (held_of self.old).slots) }
+        ensures done { result ≡ true → IsDone (call.Cut slot len) self.old self.new }
+        ensures else_same { result ≡ false → IsUntouched self.old self.new }
+    {
+        if self.calls.reserve(1).is_err() {
+            return false;
+        }
+        match slot {
+            Slot::First => {
+                if (self.first.len() as u64) < len {
+                    return false;
+                }
+                self.first.truncate(len as usize);
+                self.calls.push_reserved(DiskCall::Cut(Slot::First, len));
+                return true;
+            }
+            Slot::Second => {
+                if (self.second.len() as u64) < len {
+                    return false;
+                }
+                self.second.truncate(len as usize);
+                self.calls.push_reserved(DiskCall::Cut(Slot::Second, len));
+                return true;
+            }
+        }
+    }
+}
+
+impl Disk for MemoryDisk {
+    ghost held = { told_of };
+
+    ghost moment = { moment_of };
+
+    ghost possible = { possible_of };
+
+    ghost shared = { shared_of };
+
+    ghost disk_faults = { λ d. d.faults };
+
+    fn len(&mut self, slot: Slot) -> Result<u64, DiskFault> {
+        if self.fails() {
+            return Err(self.fault());
+        }
+        match slot {
+            Slot::First => Ok(self.first.len() as u64),
+            Slot::Second => Ok(self.second.len() as u64),
+        }
+    }
+
+    fn read_at(&mut self, slot: Slot, at: u64, buf: &mut [u8]) -> Result<usize, DiskFault> {
+        if self.fails() {
+            return Err(self.fault());
+        }
+        match slot {
+            Slot::First => Ok(read_from(&self.first, at, buf)),
+            Slot::Second => Ok(read_from(&self.second, at, buf)),
+        }
+    }
+
+    /// It fails, with nothing written, where the place is behind the slot's end, and for want of memory.
+    fn write_at(&mut self, slot: Slot, at: u64, bytes: &[u8]) -> Result<(), DiskFault> {
+        if self.fails() {
+            return Err(self.fault());
+        }
+        if !self.write_slot(slot, at, bytes) {
+            return Err(self.fault());
+        }
+        Ok(())
+    }
+
+    /// It fails, with nothing cut, where the slot is shorter, and for want of memory.
+    fn cut(&mut self, slot: Slot, len: u64) -> Result<(), DiskFault> {
+        if self.fails() {
+            return Err(self.fault());
+        }
+        if !self.cut_slot(slot, len) {
+            return Err(self.fault());
+        }
+        Ok(())
+    }
+
+    /// It fails for want of memory, too.
+    fn sync(&mut self, slot: Slot) -> Result<(), DiskFault> {
+        if self.fails() {
+            return Err(self.fault());
+        }
+        if !self.sync_slot(slot) {
+            return Err(self.fault());
+        }
+        Ok(())
+    }
+
+    ghost certain = { certain_law };
+
+    ghost read_possible = { possible_law };
+}
