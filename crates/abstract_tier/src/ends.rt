@@ -57,5 +57,8 @@ fn difference(alloc: Global, key: Key, name: Option<&Name>) -> Result<Rule, Allo
         None => Detail::Nothing,
         Some(name) => Detail::Row(name.copied(alloc)?, key),
     };
-    Ok(Rule { code: Code::RowDiffers, detail })
+    Ok(Rule {
+        code: Code::RowDiffers,
+        detail,
+    })
 }

@@ -16,7 +16,11 @@ pub struct Reply {
 
 impl Drop for Reply {
     fn drop(self) {
-        let Self { notes: _, rows: _, last: _ } = self;
+        let Self {
+            notes: _,
+            rows: _,
+            last: _,
+        } = self;
     }
 }
 

@@ -16,7 +16,10 @@ pub struct Shown {
 
 impl Drop for Shown {
     fn drop(self) {
-        let Self { position: _, rows: _ } = self;
+        let Self {
+            position: _,
+            rows: _,
+        } = self;
     }
 }
 
@@ -42,6 +45,14 @@ pub struct ReadOnlyGroup {
 
 impl Drop for ReadOnlyGroup {
     fn drop(self) {
-        let Self { name: _, tree: _, def: _, mode: _, interval: _, state: _, shown: _ } = self;
+        let Self {
+            name: _,
+            tree: _,
+            def: _,
+            mode: _,
+            interval: _,
+            state: _,
+            shown: _,
+        } = self;
     }
 }

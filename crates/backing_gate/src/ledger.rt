@@ -22,7 +22,10 @@ pub(crate) struct Ledger {
 
 impl Drop for Ledger {
     fn drop(self) {
-        let Self { entries: _, positions: _ } = self;
+        let Self {
+            entries: _,
+            positions: _,
+        } = self;
     }
 }
 

@@ -24,6 +24,10 @@ pub struct Visit {
 
 impl Drop for Visit {
     fn drop(self) {
-        let Self { number: _, side: _, changes: _ } = self;
+        let Self {
+            number: _,
+            side: _,
+            changes: _,
+        } = self;
     }
 }

@@ -18,7 +18,11 @@ pub(crate) struct Visits {
 
 impl Drop for Visits {
     fn drop(self) {
-        let Self { visits: _, shared: _, calls: _ } = self;
+        let Self {
+            visits: _,
+            shared: _,
+            calls: _,
+        } = self;
     }
 }
 

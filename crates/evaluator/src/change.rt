@@ -16,7 +16,10 @@ pub struct Change {
 
 impl Drop for Change {
     fn drop(self) {
-        let Self { table: _, action: _ } = self;
+        let Self {
+            table: _,
+            action: _,
+        } = self;
     }
 }
 

@@ -20,7 +20,13 @@ pub struct Plan {
 
 impl Drop for Plan {
     fn drop(self) {
-        let Self { tables: _, filter: _, listed: _, order: _, descending: _ } = self;
+        let Self {
+            tables: _,
+            filter: _,
+            listed: _,
+            order: _,
+            descending: _,
+        } = self;
     }
 }
 

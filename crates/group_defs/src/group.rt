@@ -108,7 +108,12 @@ fn has_same_key(
     }
     let places = key_places(alloc, declaration)?;
     let declared = declaration.columns.as_slice();
-    Ok(same_names(declared, def.columns.as_slice(), places.as_slice(), def.primary_key.as_slice()))
+    Ok(same_names(
+        declared,
+        def.columns.as_slice(),
+        places.as_slice(),
+        def.primary_key.as_slice(),
+    ))
 }
 
 /// Whether the declared columns at these places have the names of the backing columns at those, in this order.

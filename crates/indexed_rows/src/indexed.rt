@@ -23,7 +23,10 @@ pub struct IndexedRows {
 
 impl Drop for IndexedRows {
     fn drop(self) {
-        let Self { rows: _, parents: _ } = self;
+        let Self {
+            rows: _,
+            parents: _,
+        } = self;
     }
 }
 

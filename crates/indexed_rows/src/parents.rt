@@ -23,7 +23,10 @@ pub(crate) struct Parents {
 
 impl Drop for Parents {
     fn drop(self) {
-        let Self { columns: _, entries: _ } = self;
+        let Self {
+            columns: _,
+            entries: _,
+        } = self;
     }
 }
 

@@ -18,7 +18,10 @@ pub struct Root {
 
 impl Drop for Root {
     fn drop(self) {
-        let Self { table: _, filter: _ } = self;
+        let Self {
+            table: _,
+            filter: _,
+        } = self;
     }
 }
 
@@ -34,7 +37,11 @@ pub struct Child {
 
 impl Drop for Child {
     fn drop(self) {
-        let Self { table: _, filter: _, parent: _ } = self;
+        let Self {
+            table: _,
+            filter: _,
+            parent: _,
+        } = self;
     }
 }
 
@@ -50,7 +57,10 @@ pub struct Tree {
 
 impl Drop for Tree {
     fn drop(self) {
-        let Self { root: _, children: _ } = self;
+        let Self {
+            root: _,
+            children: _,
+        } = self;
     }
 }
 

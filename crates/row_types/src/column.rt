@@ -57,7 +57,11 @@ pub struct Column {
 
 impl Drop for Column {
     fn drop(self) {
-        let Self { name: _, ty: _, not_null: _ } = self;
+        let Self {
+            name: _,
+            ty: _,
+            not_null: _,
+        } = self;
     }
 }
 

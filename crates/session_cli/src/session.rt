@@ -19,7 +19,11 @@ pub struct Session {
 
 impl Drop for Session {
     fn drop(self) {
-        let Self { tier: _, line: _, output: _ } = self;
+        let Self {
+            tier: _,
+            line: _,
+            output: _,
+        } = self;
     }
 }
 

@@ -19,7 +19,10 @@ pub struct IntegerLiteral {
 
 impl Drop for IntegerLiteral {
     fn drop(self) {
-        let Self { negative: _, digits: _ } = self;
+        let Self {
+            negative: _,
+            digits: _,
+        } = self;
     }
 }
 

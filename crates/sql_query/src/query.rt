@@ -18,7 +18,12 @@ pub struct Query {
 
 impl Drop for Query {
     fn drop(self) {
-        let Self { selected: _, tables: _, filter: _, order: _ } = self;
+        let Self {
+            selected: _,
+            tables: _,
+            filter: _,
+            order: _,
+        } = self;
     }
 }
 
@@ -92,6 +97,9 @@ pub struct OrderItem {
 
 impl Drop for OrderItem {
     fn drop(self) {
-        let Self { column: _, descending: _ } = self;
+        let Self {
+            column: _,
+            descending: _,
+        } = self;
     }
 }

@@ -36,7 +36,11 @@ pub struct Insert {
 
 impl Drop for Insert {
     fn drop(self) {
-        let Self { table: _, columns: _, values: _ } = self;
+        let Self {
+            table: _,
+            columns: _,
+            values: _,
+        } = self;
     }
 }
 
@@ -52,7 +56,11 @@ pub struct Update {
 
 impl Drop for Update {
     fn drop(self) {
-        let Self { table: _, assignments: _, filter: _ } = self;
+        let Self {
+            table: _,
+            assignments: _,
+            filter: _,
+        } = self;
     }
 }
 
@@ -66,7 +74,10 @@ pub struct Assignment {
 
 impl Drop for Assignment {
     fn drop(self) {
-        let Self { column: _, value: _ } = self;
+        let Self {
+            column: _,
+            value: _,
+        } = self;
     }
 }
 
@@ -80,6 +91,9 @@ pub struct Delete {
 
 impl Drop for Delete {
     fn drop(self) {
-        let Self { table: _, filter: _ } = self;
+        let Self {
+            table: _,
+            filter: _,
+        } = self;
     }
 }

@@ -18,7 +18,11 @@ pub struct Reader<'t> {
 
 impl<'t> Drop for Reader<'t> {
     fn drop(self) {
-        let Self { alloc: _, line: _, tokens: _ } = self;
+        let Self {
+            alloc: _,
+            line: _,
+            tokens: _,
+        } = self;
     }
 }
 

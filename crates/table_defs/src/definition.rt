@@ -21,7 +21,11 @@ pub struct ForeignKey {
 
 impl Drop for ForeignKey {
     fn drop(self) {
-        let Self { columns: _, parent: _, cascade: _ } = self;
+        let Self {
+            columns: _,
+            parent: _,
+            cascade: _,
+        } = self;
     }
 }
 
@@ -62,7 +66,12 @@ pub struct TableDef {
 
 impl Drop for TableDef {
     fn drop(self) {
-        let Self { name: _, columns: _, primary_key: _, foreign_key: _ } = self;
+        let Self {
+            name: _,
+            columns: _,
+            primary_key: _,
+            foreign_key: _,
+        } = self;
     }
 }
 

@@ -45,10 +45,7 @@ impl Tier {
     fn table_name(&self, table: TableId) -> Option<&Name>
         ensures { (log : List OneSealed) → option_copied result ≡ table_name (tier_state self.now log) table }
     {
-        let group = self
-            .groups
-            .iter()
-            .find(|group| group.table.0 == table.0);
+        let group = self.groups.iter().find(|group| group.table.0 == table.0);
         match group {
             Some(group) => Some(&group.def.name),
             None => name_in(&self.known, table),

@@ -22,7 +22,12 @@ pub struct Group {
 
 impl Drop for Group {
     fn drop(self) {
-        let Self { name: _, table: _, def: _, rows: _ } = self;
+        let Self {
+            name: _,
+            table: _,
+            def: _,
+            rows: _,
+        } = self;
     }
 }
 
@@ -70,6 +75,13 @@ pub struct Tier {
 
 impl Drop for Tier {
     fn drop(self) {
-        let Self { known: _, groups: _, read_only: _, session: _, unsettled: _, next: _ } = self;
+        let Self {
+            known: _,
+            groups: _,
+            read_only: _,
+            session: _,
+            unsettled: _,
+            next: _,
+        } = self;
     }
 }

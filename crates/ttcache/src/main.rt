@@ -49,9 +49,7 @@ fn meaning(status: u8) -> Option<&'static str> {
     match status {
         0 => None,
         WRONG_WORDS => Some("usage: ttcache run | check"),
-        2 => Some(
-            "ttcache: ttcache.toml has an unknown key, a wrong type or a value out of range",
-        ),
+        2 => Some("ttcache: ttcache.toml has an unknown key, a wrong type or a value out of range"),
         3 => Some("ttcache: standard input failed"),
         4 => Some("ttcache: standard output failed"),
         6 => Some("ttcache: the backing database failed as it was asked for its tables"),
