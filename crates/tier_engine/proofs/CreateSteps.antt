@@ -12,7 +12,7 @@ use Rattle.table_defs.specs.declared.definition.ForeignKey.{ForeignKey}
 use Rattle.table_defs.specs.declared.definition.TableDef.{TableDef}
 use Rattle.table_state.specs.declared.operation.Op.{Op}
 use Rattle.table_state.specs.declared.history.Sealed.{Sealed}
-use Rattle.table_defs.specs.Declarations.{broken_at, fault_of, limit_of, resolved, resolved_reference}
+use Rattle.table_defs.specs.Declarations.{IsChecked, broken_at, fault_of, limit_of, resolved, resolved_reference}
 use Rattle.outside.specs.Faults.{Rose}
 use Rattle.outside.specs.Holding.{Held}
 use Rattle.outside.specs.declared.fault.BankError.{BankError}
@@ -157,6 +157,11 @@ created_cause t t' def reply before now f f' m m' made tells = elim made.made [
     by_result (Err Memory) e cause = absurd (no_memory (subst TellsBankFault e tells))
 
 -- the schema is known where a table is judged
+-- and passed the check
+pub checked_where : (groups : List Group) (d : TableDeclaration) (k : Option (List TableDef)) (def : TableDef) → JudgesTable groups d k (Ok def) → IsChecked def
+checked_where groups d None def e = absurd e
+checked_where groups d (Some schema) def e = record { declaration = d; schema = schema; sound = none_first (fault_of d schema) _ e.0; is = e.1 }
+
 pub known_where : (groups : List Group) (d : TableDeclaration) (k : Option (List TableDef)) (def : TableDef) → JudgesTable groups d k (Ok def) → IsSome k
 known_where groups d None def e = absurd e
 known_where groups d (Some schema) def e = refl

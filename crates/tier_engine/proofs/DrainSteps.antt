@@ -221,6 +221,7 @@ drains_as t t' log held told told' f f' m m' result reply e tells s apart goes a
     let over = at.over in
     let h' = at.held.history in
     let s' = stands_after t t' log held.history h' m.shared x.added' x.received' s e apart over in
+    let few : x.added' + s.received ≤ x.received' + doubts result = let d : x.added' + s.received ≤ 0 + x.received' + doubts result = x.few_more in Prim.omega arith in
     record {
       log' = log;
       held' = at.held;
@@ -230,7 +231,7 @@ drains_as t t' log held told told' f f' m m' result reply e tells s apart goes a
       made = record {
         result = result;
         round = round_after m.shared held.history over.tail s.received s.came x.received' x.added' log t.next result t.unsettled.items t'.unsettled.items h' s.rise s.owns
-            over.mixes s.at_least x.more_received over.at_least x.few_more s.rest over.rest over.is all number;
+            over.mixes s.at_least x.more_received over.at_least few s.rest over.rest over.is all number;
         tier = state_after t t' log e;
         on = record { faults = faults; moment = moment; shared = shares };
         drained = on_ok result (λ none. is_drained t' log h' s' none) all;
@@ -245,16 +246,16 @@ IsToldAs end result = (end ≡ result) ⊎ ((result ≡ Err stop.Memory) × (tab
 
 record Told (names : TableId → Option (List ℕ)) (end : Result ℕ RoundFault) (reply : Reply) : Type 0 where
   result : Result ℕ RoundFault
-  as : IsToldAs end result
+  like : IsToldAs end result
   answer : reply ≡ round_reply names result
 
 told_of : (names : TableId → Option (List ℕ)) (name : Option (List ℕ)) (end : Result ℕ RoundFault) (reply : Reply) → NamesDifference names end name → AnswersRound name end reply → Told names end reply
-told_of names name (Ok n) reply named answer = record { result = Ok n; as = inl refl; answer = answer }
-told_of names name (Err stop.Failed) reply named answer = record { result = Err stop.Failed; as = inl refl; answer = answer }
-told_of names name (Err stop.Memory) reply named answer = record { result = Err stop.Memory; as = inl refl; answer = answer }
+told_of names name (Ok n) reply named answer = record { result = Ok n; like = inl refl; answer = answer }
+told_of names name (Err stop.Failed) reply named answer = record { result = Err stop.Failed; like = inl refl; answer = answer }
+told_of names name (Err stop.Memory) reply named answer = record { result = Err stop.Memory; like = inl refl; answer = answer }
 told_of names name (Err (stop.Differs table key)) reply named answer = elim answer [
-  | inl e ↦ record { result = Err (stop.Differs table key); as = inl refl; answer = e ∙ ap (λ o. only (Fault (difference key o))) named }
-  | inr e ↦ record { result = Err stop.Memory; as = inr (refl, table, key, refl); answer = e }
+  | inl e ↦ record { result = Err (stop.Differs table key); like = inl refl; answer = e ∙ ap (λ o. only (Fault (difference key o))) named }
+  | inr e ↦ record { result = Err stop.Memory; like = inr (refl, table, key, refl); answer = e }
 ]
 
 pub drains : (t t' : Tier) (log : List Sealed) (held : Held) (told told' : Option Held) (f f' : ℕ) (m m' : Mark) (end : Result ℕ RoundFault) (name : Option (List ℕ)) (reply : Reply) → IsSameBeside t t' → told ≡ Some held
@@ -263,7 +264,7 @@ pub drains : (t t' : Tier) (log : List Sealed) (held : Held) (told told' : Optio
     → NamesDifference (table_name (tier_state t' log)) end name → AnswersRound name end reply → Made told' f f' m m' t t' log held (λ w w'. Drains w w' reply)
 drains t t' log held told told' f f' m m' end name reply e tells s apart goes all number differs faults moment shares named answers =
     let x = told_of (table_name (tier_state t log)) name end reply (subst (λ (x : TierState). NamesDifference (table_name x) end name) (state_after t t' log e) named) answers in
-    elim x.as [
+    elim x.like [
       | inl is ↦ drains_as t t' log held told told' f f' m m' end reply e tells s apart goes all number differs faults moment shares (x.answer ∙ ap (round_reply (table_name (tier_state t log))) (sym is))
       | inr is ↦
           drains_as t t' log held told told' f f' m m' (Err stop.Memory) reply e tells s apart

@@ -13,6 +13,7 @@ pub mod PlainLaws
 pub mod PutLaws
 pub mod InsertServes
 pub mod InsertSteps
+pub mod NameLaws
 pub mod OpLaws
 pub mod OthersLaws
 pub mod OthersStand

@@ -1,6 +1,7 @@
 -- Replies of calls that tell no fault of the bank, and those whose fault has a cause, whatever the site tells.
 use Rattle.std.proofs.Common.{◌≡◌, ℕ, ◌⊎◌, ◌≤◌, List, [], Option, Some, None, Ok, Err, subst, sym, ap, ◌∙◌, inl, inr}
-use Rattle.std.specs.Prelude.{Result}
+use Rattle.std.specs.FinMap.{len}
+use Rattle.std.specs.Prelude.{Result, slice_get}
 use Rattle.std.specs.Result.{IsErrOf}
 use Rattle.tier_base.specs.declared.code.Code.TheVariants as code
 use Rattle.tier_base.specs.declared.number.TableId.{TableId}
@@ -23,7 +24,7 @@ use Rattle.abstract_tier.specs.Steps.{TellsBankFault, bank_fault}
 use Rattle.tier_engine.specs.declared.insert.Asked.{Asked}
 use Rattle.tier_engine.specs.declared.tier.Session.{Session}
 use Rattle.tier_engine.specs.declared.tier.Tier.{Tier}
-use Rattle.tier_engine.specs.ReadOnlyStoring.{LoadsStored, SelectsShown, load_told, root_of}
+use Rattle.tier_engine.specs.ReadOnlyStoring.{LoadsStored, SelectsShown, load_told, root_of, root_shown}
 use Rattle.tier_engine.specs.Standing.{Mark}
 use Rattle.tier_engine.specs.Storing.{GroupsOrNot, GroupsReadOrNot, SealsOr, Settles, SettlesTier}
 use Rattle.tier_engine.proofs.ReplyLaws.{clean_done, clean_select}
@@ -64,15 +65,15 @@ pub fault_failed : (e : BankError) → TellsBankFault (bank_fault e) → e ≡ F
 fault_failed Failed x = Rattle.std.proofs.Common.refl
 fault_failed Memory x = absurd (no_memory x)
 
-pub fault_cause : (e : BankError) (reply : Reply) (f f' : ℕ) → reply ≡ bank_fault e → (IsErrOf {Unit {0}} (Err e) Failed → Rose f f') → TellsBankFault reply → Rose f f'
+pub fault_cause : (e : BankError) (reply : Reply) (f f' : ℕ) → reply ≡ bank_fault e → (IsErrOf {T = Unit {0}} (Err e) Failed → Rose f f') → TellsBankFault reply → Rose f f'
 fault_cause e reply f f' is cause x = cause (ap Err (fault_failed e (subst TellsBankFault is x)))
 
 pub loads_cause : (told told' : Option Held) (f f' : ℕ) (m m' : Mark) (old new : Tier) (place : ℕ) (reply : Reply) → LoadsStored told told' f f' m m' old new place reply → TellsBankFault reply → Rose f f'
-loads_cause told told' f f' m m' old new place reply l x = by l.result l.answer l.reads.cause
+loads_cause told told' f f' m m' old new place reply l x = by l.result (len (root_shown (slice_get new.read_only place))) l.answer l.reads.cause
   where
-    by : (r : Result (Unit {0}) BankError) {n : ℕ} → reply ≡ load_told r n → (IsErrOf r Failed → Rose f f') → Rose f f'
-    by (Ok done) {n} e cause = absurd (done_plain n reply e x)
-    by (Err e) is cause = fault_cause e reply f f' is cause x
+    by : (r : Result (Unit {0}) BankError) (n : ℕ) → reply ≡ load_told r n → (IsErrOf r Failed → Rose f f') → Rose f f'
+    by (Ok done) n e cause = absurd (done_plain n reply e x)
+    by (Err e) n is cause = fault_cause e reply f f' is cause x
 
 pub settles_cause : (told told' : Option Held) (f f' : ℕ) (m m' : Mark) (old new : Tier) (asked : Asked) (reply : Reply) → Settles told told' f f' m m' old new asked reply → TellsBankFault reply → Rose f f'
 settles_cause told told' f f' m m' old new asked reply s x = by s.result s.tier s.cause

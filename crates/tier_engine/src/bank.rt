@@ -106,11 +106,18 @@ impl Tier {
                 Reply::faulty(alloc, Code::BackingFault)
             }
             Err(BankError::Memory) => {
-                let _ = known.pop();
+                forget_last(known);
                 Reply::faulty(alloc, Code::Memory)
             }
         }
     }
+}
+
+/// Takes the last definition off the schema.
+fn forget_last(schema: &mut BackingSchema)
+    ensures { (front : List OneDef) (last : OneDef) → schema.old ≡ front ++ last ∷ [] → schema.new ≡ front }
+{
+    let _ = schema.pop();
 }
 
 /// Puts a copy of the definition behind the schema. Where memory is wanting the schema is as before.

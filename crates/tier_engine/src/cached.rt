@@ -1,6 +1,6 @@
 //! Statements on cached tables.
 
-ghost use Rattle.std.specs.Prelude.{◌≡◌, ⊥, ◌<◌, ◌≤◌, ◌⊎◌, List, IfOk, IfSome, IsSome, Some, length, position, slice_get};
+ghost use Rattle.std.specs.Prelude.{◌≡◌, ◌<◌, ◌≤◌, ◌⊎◌, List, IfOk, IfSome, IsSome, Some, length, position, slice_get};
 ghost use Rattle.table_state.specs.declared.history.Entry.{Entry};
 ghost use Rattle.table_state.specs.declared.history.Sealed.{Sealed as OneSealed};
 ghost use Rattle.table_defs.specs.Declarations.{Tells};

@@ -1,6 +1,6 @@
 //! COMMIT.
 
-ghost use Rattle.std.specs.Prelude.{◌≡◌, ⊥, ◌+◌, ◌<◌, ◌≤◌, ◌⊎◌, List, IsSome, Some, length};
+ghost use Rattle.std.specs.Prelude.{◌≡◌, ◌+◌, ◌<◌, ◌≤◌, ◌⊎◌, List, IsSome, Some, length};
 ghost use Rattle.table_state.specs.declared.history.Entry.{Entry};
 ghost use Rattle.table_state.specs.declared.history.Sealed.{Sealed as OneSealed};
 ghost use Rattle.sql_subset.specs.declared.stmt.Stmt.TheVariants as statement;

@@ -1,6 +1,6 @@
 //! CREATE CACHE GROUP.
 
-ghost use Rattle.std.specs.Prelude.{◌≡◌, ⊥, ◌⊎◌, List, IsSome, option_map, position};
+ghost use Rattle.std.specs.Prelude.{◌≡◌, ◌⊎◌, List, IsSome, option_map, position};
 ghost use Rattle.table_state.specs.declared.history.Entry.{Entry};
 ghost use Rattle.table_state.specs.declared.history.Sealed.{Sealed as OneSealed};
 ghost use Rattle.sql_subset.specs.declared.stmt.Stmt.TheVariants as statement;

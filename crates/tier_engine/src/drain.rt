@@ -1,16 +1,17 @@
 //! CALL ttDrain.
 
-ghost use Rattle.std.specs.Prelude.{◌≡◌, ◌≤◌, List, Some, option_copied, slice_get};
+ghost use Rattle.std.specs.Prelude.{◌≡◌, ◌≤◌, List, Some, nat_eq, option_copied, slice_get};
 ghost use Rattle.outside.specs.Faults.{Rose};
 ghost use Rattle.outside.specs.Holding.{Held};
 ghost use Rattle.table_state.specs.declared.history.Sealed.{Sealed as OneSealed};
+ghost use Rattle.std.specs.List.{find};
 ghost use Rattle.std.specs.Option.{option_and_then, option_map};
 ghost use Rattle.tier_engine.specs.Standing.{IsApart, Made, StandsFor, mark_of, tier_state};
 ghost use Rattle.tier_engine.specs.Storing.{NamesDifference};
 ghost use Rattle.abstract_tier.specs.Steps.{Drains, TellsBankFault};
 ghost use Rattle.abstract_tier.specs.TierStates.{table_name};
 
-use crate::tier::Tier;
+use crate::tier::{Group, Tier};
 use abstract_tier::{Reply, RoundFault, round, round_reply};
 use outside::Site;
 use std::alloc::Global;
@@ -45,12 +46,18 @@ impl Tier {
     fn table_name(&self, table: TableId) -> Option<&Name>
         ensures { (log : List OneSealed) → option_copied result ≡ table_name (tier_state self.now log) table }
     {
-        let group = self.groups.iter().find(|group| group.table.0 == table.0);
-        match group {
+        match group_over(self.groups.as_slice(), table) {
             Some(group) => Some(&group.def.name),
             None => name_in(&self.known, table),
         }
     }
+}
+
+/// The first group that is over the table.
+fn group_over(groups: &[Group], table: TableId) -> Option<&Group>
+    ensures { option_copied result ≡ find (λ g. nat_eq g.table.0 table.0) groups.now }
+{
+    groups.iter().find(|group| group.table.0 == table.0)
 }
 
 /// The name of a table of the schema, where the schema is known and has it.

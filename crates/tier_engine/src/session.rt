@@ -1,6 +1,6 @@
 //! OPEN, CLOSE and ROLLBACK.
 
-ghost use Rattle.std.specs.Prelude.{◌≡◌, ⊥, List, IfErr, IfOk, IsSome, None, Some};
+ghost use Rattle.std.specs.Prelude.{◌≡◌, List, IfErr, IfOk, IsSome, None, Some};
 ghost use Rattle.std.specs.Result.{OnOk};
 ghost use Rattle.table_state.specs.declared.history.Entry.{Entry};
 ghost use Rattle.table_state.specs.declared.history.Sealed.{Sealed as OneSealed};

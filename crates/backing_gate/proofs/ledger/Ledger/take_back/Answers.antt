@@ -13,5 +13,5 @@ invariant_of-self-in-Foreign c = λ q. c.self.invariant q ∙ ap (position_of q)
 
 pub invariant_of-self-in-Own : goal.invariant_of-self-in-Own
 invariant_of-self-in-Own c =
-    let some : c.self.inside.entries ≡ c.pop.new.self ++ Own c.in-Own.ticket.now c.in-Own.field-1.now ∷ [] = c.in-Some.ensures.some ∙ ap (λ e. c.pop.new.self ++ e ∷ []) c.in-Own.is in
-    own_left c.pop.new.self c.in-Own.ticket.now c.in-Own.field-1.now _ _ (λ q. c.self.invariant q ∙ ap (position_of q) some) (c.requires _ _ (sym c.self.view_is ∙ some)) c.remove.ensures.updates.0
+    let some : c.self.inside.entries ≡ c.pop.new.self ++ Own c.in-Own.ticket c.in-Own.field-1 ∷ [] = c.in-Some.ensures.some ∙ ap (λ e. c.pop.new.self ++ e ∷ []) c.in-Own.is in
+    own_left c.pop.new.self c.in-Own.ticket c.in-Own.field-1 _ _ (λ q. c.self.invariant q ∙ ap (position_of q) some) (c.requires _ _ (sym c.self.view_is ∙ some)) c.remove.ensures.updates.0

@@ -1,11 +1,14 @@
 use Rattle.std.proofs.Common.{subst, Err}
 use Rattle.row_types.specs.declared.rule.Refused.{Refused}
 use Rattle.tier_engine.specs.Storing.{JudgesTable}
-use Rattle.tier_engine.proofs.CreateSteps.{create_refused, created_cause, known_where, table_created}
+use Rattle.tier_engine.proofs.CreateSteps.{checked_where, create_refused, created_cause, known_where, table_created}
 use Rattle.tier_engine.proofs.tier.Tier.create_table.Goals as goal
 
 pub define-requires : goal.define-requires
-define-requires g c = known_where c.args.self.now.groups.items c.args.declaration.now c.args.self.now.known c.in-Ok.def c.in-Ok.ensures
+define-requires g c = record {
+  known = known_where c.args.self.now.groups.items c.args.declaration.now c.args.self.now.known c.in-Ok.def c.in-Ok.ensures;
+  checked = checked_where c.args.self.now.groups.items c.args.declaration.now c.args.self.now.known c.in-Ok.def c.in-Ok.ensures;
+}
 
 pub returns-in-Ok-clause-step : goal.returns-in-Ok-clause-step
 returns-in-Ok-clause-step g c log held told stands apart =
