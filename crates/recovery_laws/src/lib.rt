@@ -1,0 +1,7 @@
+//! Laws of recovery and of crashes, over lists: what a journal's entries and a backing history make together. A law
+//! is the contract of a function that does nothing.
+#![tactic(auto)]
+
+mod laws;
+
+pub use laws::{crash_law, recovery_law, rotation_law};
