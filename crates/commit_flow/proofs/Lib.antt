@@ -1,2 +1,3 @@
 pub mod PendingLaws
 pub mod FlowLaws
+pub mod OpenLaws

@@ -1,2 +1,3 @@
 pub mod Pipelines
 pub mod Events
+pub mod OpenWrites

@@ -3,8 +3,10 @@
 #![tactic(auto)]
 
 mod laws;
+mod open_writes;
 
 pub use laws::{
     flow_at_once_law, flow_begin_law, flow_come_law, flow_commit_law, flow_define_law,
     flow_drained_law, flow_others_law, flow_round_law, flow_settle_law, flow_skip_law,
 };
+pub use open_writes::{open_end_law, open_past_law, open_session_law, open_write_law};
