@@ -1,0 +1,15 @@
+pub mod WayLaws
+pub mod FirstRunLaws
+pub mod KeyLaws
+pub mod LeadLaws
+pub mod MoreLaws
+pub mod OnceLaws
+pub mod OnceStatements
+pub mod OverLaws
+pub mod PositionLaws
+pub mod ApartLaws
+pub mod PositionStatements
+pub mod PositionWords
+pub mod RunLaws
+pub mod SetLaws
+pub mod StatementLaws

@@ -1,0 +1,94 @@
+-- What a crash may leave of a line whose parts come one after the other.
+use Rattle.std.proofs.Common.{◌≡◌, inl, inr, ℕ, zero, suc, ◌≤◌, List, [], ◌∷◌, ◌++◌, length, take, length-append, append_assoc, refl, sym, ap, subst, ◌∙◌, arith}
+use Rattle.table_state.specs.declared.operation.Op.{Op}
+use Rattle.cache_tier.specs.WayFacts.{EarlierOnTheWay, FlushLeads, IsLed, LaterOnTheWay, NoteLeads, RotateLeads, WaysGoOn}
+use Rattle.cache_tier.specs.JournalWays.{GoesOn, IsFront, IsOnTheWay, Leads, Renewal, given}
+use Rattle.cache_tier.specs.JournalSteps.{Failing, Flushed, Whole, journal_behind, name_sizes}
+use Rattle.cache_tier.specs.Journals.{Journal, JournalEntry, flushed_batch}
+use Rattle.cache_tier.specs.Rotations.{Broken, Kept, Renewed, Rotation, journal_after}
+use Rattle.cache_tier.specs.Worlds.{World}
+
+nil_behind : (xs : List JournalEntry) → xs ≡ xs ++ []
+nil_behind [] = refl
+nil_behind (x ∷ xs) = ap (λ ys. x ∷ ys) (nil_behind xs)
+
+on_and_on : (a b c : Journal) → GoesOn a b → GoesOn b c → GoesOn a c
+on_and_on a b c p q = record {
+  slot = q.slot ∙ p.slot;
+  more = p.more ++ q.more;
+  grows = q.grows ∙ ap (λ x. x ++ q.more) p.grows ∙ append_assoc (given a) p.more q.more;
+  flushed = omega (arith, p.flushed, q.flushed);
+}
+
+pub stays : (a : Journal) → GoesOn a a
+stays a = record { slot = refl; more = []; grows = nil_behind (given a); flushed = omega arith }
+
+behind : (a b c : Journal) (other : List Renewal) → GoesOn a b → Leads b other c → Leads a other c
+behind a b c [] p q = on_and_on a b c p q
+behind a b c (r ∷ other) p q = (on_and_on a b r.before p q.0, q.1, q.2, q.3)
+
+pub ways_go_on : WaysGoOn
+ways_go_on a b c [] other p q = behind a b c other p q
+ways_go_on a b c (r ∷ one) other p q = (p.0, p.1, p.2, ways_go_on r.begun b c one other p.3 q)
+
+front_same : (n : ℕ) (xs ys : List JournalEntry) → take n xs ≡ take (length (take n xs)) (xs ++ ys)
+front_same zero xs ys = refl
+front_same (suc n) [] ys = refl
+front_same (suc n) (x ∷ xs) ys = ap (λ zs. x ∷ zs) (front_same n xs ys)
+
+-- a front of what was given is one of what is given later
+front_later : (least all more entries : List JournalEntry) (later : List JournalEntry) → later ≡ all ++ more → IsFront least all entries → IsFront least later entries
+front_later least all more entries later e f = record { count = length (take f.count all); is = f.is ∙ front_same f.count all more ∙ ap (take (length (take f.count all))) (sym e); flushed = f.flushed }
+
+-- with all that the first had flushed
+front_of_less : (least less all entries : List JournalEntry) → length less ≤ length least → IsFront least all entries → IsFront less all entries
+front_of_less least less all entries e f = record { count = f.count; is = f.is; flushed = omega (arith, e, f.flushed) }
+
+earlier_of : (a b c : Journal) (other : List Renewal) (entries : List JournalEntry) → GoesOn a b → Leads b other c → IsFront a.flushed (given b) entries → IsOnTheWay a other c entries
+earlier_of a b c [] entries p q f = front_later a.flushed (given b) q.more entries (given c) q.grows f
+earlier_of a b c (r ∷ other) entries p q f = inl (front_later a.flushed (given b) (q.0).more entries (given r.before) (q.0).grows f)
+
+pub earlier_on_the_way : EarlierOnTheWay
+earlier_on_the_way a b c [] other entries p q f = earlier_of a b c other entries p q f
+earlier_on_the_way a b c (r ∷ one) other entries p q (inl f) = inl f
+earlier_on_the_way a b c (r ∷ one) other entries p q (inr f) = inr (earlier_on_the_way r.begun b c one other entries p.3 q f)
+
+later_of : (a b c : Journal) (other : List Renewal) (entries : List JournalEntry) → GoesOn a b → IsOnTheWay b other c entries → IsOnTheWay a other c entries
+later_of a b c [] entries p f = front_of_less b.flushed a.flushed (given c) entries p.flushed f
+later_of a b c (r ∷ other) entries p (inl f) = inl (front_of_less b.flushed a.flushed (given r.before) entries p.flushed f)
+later_of a b c (r ∷ other) entries p (inr f) = inr f
+
+pub later_on_the_way : LaterOnTheWay
+later_on_the_way a b c [] other entries p q f = later_of a b c other entries p f
+later_on_the_way a b c (r ∷ one) other entries p q f = inr (later_on_the_way r.begun b c one other entries p.3 q f)
+
+-- a batch that is flushed, also an empty one
+batch : (name : Op → ℕ) (j : Journal) (entries : List JournalEntry) → GoesOn j (flushed_batch name (j.tail ++ entries) j)
+batch name j entries = by (j.tail ++ entries) refl
+  where
+    by : (b : List JournalEntry) → j.tail ++ entries ≡ b → GoesOn j (flushed_batch name b j)
+    by [] e = stays j
+    by (x ∷ xs) e = record {
+      slot = refl;
+      more = entries;
+      grows = sym (nil_behind (j.flushed ++ x ∷ xs)) ∙ ap (λ b. j.flushed ++ b) (sym e) ∙ sym (append_assoc j.flushed j.tail entries);
+      flushed = omega (arith, length-append j.flushed (x ∷ xs));
+    }
+
+pub flush_leads : FlushLeads
+flush_leads entries w w' stop f = record { renewals = []; leads = subst (λ j. GoesOn w.journal j) (sym f.journal) (by f.result) }
+  where
+    by : (r : Flushed) → GoesOn w.journal (journal_behind r w entries)
+    by Whole = batch (name_sizes w) w.journal entries
+    by Failing = record { slot = refl; more = entries; grows = sym (append_assoc w.journal.flushed w.journal.tail entries); flushed = omega arith }
+
+pub note_leads : NoteLeads
+note_leads e w w' stop n = record { renewals = []; leads = subst (λ j. GoesOn w.journal j) (sym (ap (λ (x : World). x.journal) n.0)) (record { slot = refl; more = e ∷ []; grows = sym (append_assoc w.journal.flushed w.journal.tail (e ∷ [])); flushed = omega arith }) }
+
+pub rotate_leads : RotateLeads
+rotate_leads w w' stop r = by r.result r.journal
+  where
+    by : (x : Rotation) → w'.journal ≡ journal_after x w → IsLed w.journal w'.journal
+    by Renewed e = subst (λ j. IsLed w.journal j) (sym e) (record { renewals = record { before = w.journal; begun = journal_after Renewed w } ∷ []; leads = (stays w.journal, refl, refl, stays (journal_after Renewed w)) })
+    by Kept e = subst (λ j. IsLed w.journal j) (sym e) (record { renewals = []; leads = stays w.journal })
+    by Broken e = subst (λ j. IsLed w.journal j) (sym e) (record { renewals = []; leads = stays w.journal })

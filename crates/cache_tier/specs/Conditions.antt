@@ -1,0 +1,101 @@
+-- The conditions of LOAD, REFRESH, UNLOAD and FLUSH: over the columns of the root table, and by the root's key.
+-- (TimesTen SQL Reference, "LOAD CACHE GROUP": WHERE and WITH ID.)
+
+use Rattle.std.specs.Prelude.{◌≡◌, ℕ, List, [], ◌∷◌, Option, Some, None, Bool, true, false, ◌&&◌, ◌||◌, not, slice_get, ◌==◌, length, is_none, Ok}
+use Rattle.std.specs.List.{list_any, filter}
+use Rattle.std.specs.Option.{option_map, option_or}
+use Rattle.std.specs.FinMap.{values}
+use Rattle.tier_base.specs.declared.code.Code.TheVariants as code
+use Rattle.row_types.specs.declared.rule.Rule.{Rule}
+use Rattle.row_types.specs.declared.value.Value.{Value}
+use Rattle.row_types.specs.declared.column.Column.{Column}
+use Rattle.indexed_rows.specs.Rows.{Table, is_same}
+use Rattle.table_defs.specs.declared.definition.TableDef.{TableDef}
+use Rattle.table_state.specs.Tables.{TableState}
+use Rattle.expressions.specs.declared.condition.Cond.{Cond}
+use Rattle.expressions.specs.Types.{family_of_type, agrees}
+use Rattle.evaluator.specs.Writes.{selects}
+use Rattle.instances.specs.Views.{is_true}
+use Rattle.sql_query.specs.declared.literal.Literal.{Literal}
+use Rattle.sql_query.specs.Literals.{value_of}
+use Rattle.resolution.specs.Literals.{family_of_literal, unheld_in_filter}
+use Rattle.resolution.specs.Placing.{placed_filter, filter_seen}
+use Rattle.resolution.specs.Scopes.{columns_seen, SeenColumn}
+use Rattle.resolution.specs.WrittenTypes.{is_sound_filter}
+use Rattle.cache_tier.specs.Groups.{Group}
+use Rattle.cache_tier.specs.Rules.{broken_if, no_type, plain, rule_in}
+use Rattle.cache_tier.specs.Shown.{root_key}
+use Rattle.cache_tier.specs.TierStates.{Tier}
+use Rattle.cache_tier.specs.declared.statement.Which.{Which}
+
+-- the definition of a group's root table
+abbrev pub root_def : Tier → Group → Option TableDef
+root_def t g = slice_get t.schema g.def.tree.root.table.0
+
+abbrev pub root_scope : Option TableDef → List SeenColumn
+root_scope None = []
+root_scope (Some def) = columns_seen def.name def.columns
+
+-- 103: a name that is no column of the root
+abbrev pub which_names : Tier → Group → Which → Option Rule
+which_names t g which = rule_in (placed_filter (root_scope (root_def t g)) which.filter)
+
+-- a literal that a column of this type takes
+abbrev pub takes : List Column → ℕ → Literal → Bool
+takes columns place literal =
+    agrees (Ok (option_map (λ column. family_of_type column.ty) (slice_get columns place)))
+    (Ok (family_of_literal literal))
+
+abbrev pub take_all : List Column → List ℕ → List Literal → Bool
+take_all columns [] [] = true
+take_all columns (place ∷ places) (literal ∷ literals) = takes columns place literal && take_all columns places literals
+take_all columns [] (literal ∷ literals) = false
+take_all columns (place ∷ places) [] = false
+
+abbrev pub suits_id : Option TableDef → Option (List Literal) → Bool
+suits_id def None = true
+suits_id None (Some literals) = false
+suits_id (Some def) (Some literals) = take_all def.columns def.primary_key literals
+
+abbrev pub unheld_in_id : Option (List Literal) → Bool
+unheld_in_id None = false
+unheld_in_id (Some literals) = list_any (λ literal. is_none (value_of literal)) literals
+
+-- 104, then 105 of a literal that no type holds
+abbrev pub which_types : Tier → Group → Which → Option Rule
+which_types t g which =
+    option_or
+    (broken_if
+    (not (is_sound_filter (root_scope (root_def t g)) which.filter && suits_id (root_def t g) which.id))
+    (plain code.TypeMismatch))
+    (broken_if (unheld_in_filter which.filter || unheld_in_id which.id) no_type)
+
+-- nothing is asked of the instances
+abbrev pub asks_all : Which → Bool
+asks_all which = is_none which.filter && is_none which.id
+
+-- some condition of the evaluator stands for the one that is written
+abbrev pub StandsForFilter : Tier → Group → Which → Option Cond → Type 0
+StandsForFilter t g which filter = placed_filter (root_scope (root_def t g)) which.filter ≡ Ok (filter_seen filter)
+
+abbrev pub same_value : Value → Option Value → Bool
+same_value value None = false
+same_value value (Some other) = is_same (value ∷ []) (other ∷ [])
+
+-- the key is the one of WITH ID; NULL, and a number that the column can't hold, are no key's
+abbrev pub is_id : List Value → Option (List Literal) → Bool
+is_id key None = true
+is_id key (Some []) = length key == 0
+is_id [] (Some (literal ∷ literals)) = false
+is_id (value ∷ key) (Some (literal ∷ literals)) = same_value value (value_of literal) && is_id key (Some literals)
+
+-- the instance of a root row matches
+abbrev pub matches : Option Cond → Option (List Literal) → TableState → Group → List Value → Bool
+matches filter id s g row = is_true (selects filter row) && is_id (root_key s g row) id
+
+-- 120 of the condition on one of these rows
+abbrev pub overflows : Option Cond → Table → Bool
+overflows filter rows = list_any (λ row. is_none (selects filter row)) (values rows)
+
+abbrev pub overflow_fault : Option Cond → Table → Option Rule
+overflow_fault filter rows = broken_if (overflows filter rows) (plain code.Overflow)

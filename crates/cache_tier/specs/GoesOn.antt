@@ -1,0 +1,29 @@
+-- What each line of the tier keeps: the history only grows, the journal goes on or is begun anew, and counts, moments
+-- and the next ticket never fall.
+
+use Rattle.std.specs.Prelude.{◌≡◌, ℕ, ◌≤◌, List, ◌++◌, Option}
+use Rattle.table_state.specs.declared.history.Entry.{Entry}
+use Rattle.cache_tier.specs.declared.reply.Reply.{Reply}
+use Rattle.cache_tier.specs.WayFacts.{IsLed}
+use Rattle.cache_tier.specs.Steps.{Asked, Run, Saying, Step}
+use Rattle.cache_tier.specs.Worlds.{World}
+
+-- entries come behind those that there are
+pub record IsLonger (old new : List Entry) : Type 0 where
+  pub more : List Entry
+  pub is : new ≡ old ++ more
+
+pub record LeadsTo (w w' : World) : Type 0 where
+  pub history : IsLonger w.history w'.history
+  pub journal : IsLed w.journal w'.journal
+  pub bank : w.bank_faults ≤ w'.bank_faults
+  pub disk : w.disk_faults ≤ w'.disk_faults
+  pub moment : w.moment ≤ w'.moment
+  pub shared : w'.shared ≡ w.shared
+  pub next : w.tier.next ≤ w'.tier.next
+
+abbrev pub StepLeads : Type 0
+StepLeads = (base : ℕ) (w w' : World) (said : Saying) (reply : Option Reply) → Step base w said w' reply → LeadsTo w w'
+
+abbrev pub RunLeads : Type 0
+RunLeads = (w w' : World) (lines : List Asked) (replies : List (Option Reply)) → Run w lines replies w' → LeadsTo w w'
