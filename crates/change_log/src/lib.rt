@@ -1,0 +1,13 @@
+//! The log of changed rows: what changed between two states, and the net of a log.
+#![tactic(auto)]
+
+pub mod changing;
+pub mod laws;
+pub mod log;
+pub mod netting;
+mod tags;
+
+pub use changing::changed;
+pub use laws::net_law;
+pub use log::{Log, RowChange};
+pub use netting::net;
