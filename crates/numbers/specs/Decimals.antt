@@ -1,7 +1,8 @@
 -- Decimal numbers with a scale. (TimesTen SQL Reference, "NUMBER"; units of 64 signed bits and scales up to 18 are this
 -- project's rule.)
 
-use Rattle.std.specs.Prelude.{ℕ, ◌-◌, ◌^◌, ◌≤◌, nat_le, Bool, ◌&&◌, not, if◌then◌else◌, Option, Some, None, ℤ, pos, negsuc, int_lt, ◌*ℤ◌, ◌≤ℤ◌}
+use Rattle.std.specs.Prelude.{ℕ, ◌-◌, ◌^◌, ◌≤◌, nat_le, nat_lt, Bool, ◌&&◌, not, if◌then◌else◌, Option, Some, None, ℤ, pos, negsuc, int_lt, ◌*ℤ◌, ◌≤ℤ◌, unsigned_abs}
+use Rattle.std.specs.Int.{int_div_euclid}
 use Rattle.std.specs.Ordering.{int_cmp, on}
 use Rattle.std.specs.declared.cmp.Ordering.{Ordering}
 
@@ -17,6 +18,14 @@ are_held units = not (int_lt units (negsuc 9223372036854775807)) && not (int_lt 
 -- the decimal, where 64 signed bits hold its units and its scale is up to 18
 abbrev pub number_of : ℤ → ℕ → Option Decimal
 number_of units scale = if are_held units && nat_le scale 18 then Some (record { units = units; scale = scale }) else None
+
+-- its units have at most so many digits
+abbrev pub has_precision : ℕ → Decimal → Bool
+has_precision precision number = nat_lt (unsigned_abs number.units) (10 ^ precision)
+
+-- the greatest whole number that isn't above it
+abbrev pub floor_of : Decimal → ℤ
+floor_of number = int_div_euclid number.units (pos (10 ^ number.scale))
 
 -- what every number keeps
 pub record IsNumber (number : Decimal) : Type 0 where

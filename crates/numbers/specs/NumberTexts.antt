@@ -40,7 +40,7 @@ abbrev pub unsigned : List ℕ → List ℕ
 unsigned bytes = if is_negative bytes then drop 1 bytes else bytes
 
 -- the place of the first point; the length where there is none
-unfoldable pub point_place : List ℕ → ℕ
+abbrev pub point_place : List ℕ → ℕ
 point_place [] = 0
 point_place (b ∷ bytes) = if nat_eq b 46 then 0 else suc (point_place bytes)
 

@@ -1,7 +1,7 @@
 //! Numbers.
 
-ghost use Rattle.std.specs.Prelude.{◌≡◌, ◌≤◌, ◌^◌, pos};
-ghost use Rattle.numbers.specs.Decimals.{IsNumber, number_of, order_of_numbers, units_at};
+ghost use Rattle.std.specs.Prelude.{◌≡◌, ◌≤◌, ◌^◌, unsigned_abs};
+ghost use Rattle.numbers.specs.Decimals.{IsNumber, floor_of, has_precision, number_of, order_of_numbers, units_at};
 
 use std::cmp::Ordering;
 use std::marker::Model;
@@ -66,6 +66,23 @@ impl Number {
         self.scale
     }
 
+    /// Whether its units have at most so many digits.
+    pub fn has_precision(self, precision: u8) -> bool
+        ensures { result ≡ has_precision precision self }
+    {
+        precision > GREATEST_SCALE || self.units.unsigned_abs() < power_of_ten(precision)
+    }
+
+    /// The greatest whole number that isn't above it.
+    pub fn floor(self) -> i64
+        ensures { result ≡ floor_of self }
+    {
+        if self.scale == 0 {
+            return self.units;
+        }
+        self.units.div_euclid(power_of_ten(self.scale) as i64)
+    }
+
     /// The order of numbers, by what they stand for: 1.5 and 1.50 are equal in it.
     pub fn order(self, other: Number) -> Ordering
         ensures { result ≡ order_of_numbers self other }
@@ -73,14 +90,16 @@ impl Number {
         if self.scale == other.scale {
             return self.units.cmp(&other.units);
         }
-        self.units_at(GREATEST_SCALE).cmp(&other.units_at(GREATEST_SCALE))
+        self.units_at(GREATEST_SCALE)
+            .cmp(&other.units_at(GREATEST_SCALE))
     }
 
     /// The units of the same number at a scale from its own up to 18.
     pub(crate) fn units_at(self, scale: u8) -> i128
         requires own { self.scale ≤ scale }
         requires greatest { scale ≤ 18 }
-        ensures { result ≡ units_at scale self }
+        ensures value { result ≡ units_at scale self }
+        ensures bound { unsigned_abs result ≤ 2 ^ 123 }
     {
         i128::from(self.units) * i128::from(power_of_ten(scale - self.scale))
     }

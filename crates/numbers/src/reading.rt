@@ -76,7 +76,11 @@ fn fraction_digits(digits: &[u8]) -> &[u8]
     ensures { result.now ≡ fraction_digits digits.now }
 {
     let place = point_place(digits);
-    if place < digits.len() { &digits[place + 1..] } else { &digits[place..] }
+    if place < digits.len() {
+        &digits[place + 1..]
+    } else {
+        &digits[place..]
+    }
 }
 
 fn are_digits(bytes: &[u8]) -> bool
@@ -90,7 +94,10 @@ fn units_in(digits: &[u8]) -> u128
     requires { are_decimal_digits digits.now ≡ true }
     ensures { result ≡ min (units_in digits.now) (2 ^ 64) }
 {
-    digits_after(digits_after(0, whole_digits(digits)), fraction_digits(digits))
+    digits_after(
+        digits_after(0, whole_digits(digits)),
+        fraction_digits(digits),
+    )
 }
 
 /// The number that the digits write where they follow those of another one, both up to the limit.

@@ -26,7 +26,11 @@ impl Number {
         ensures { result ≡ rescaled_to scale self }
     {
         let rounded = self.rounded(scale)?;
-        if rounded.order(self).is_eq() { Some(rounded) } else { None }
+        if rounded.order(self).is_eq() {
+            Some(rounded)
+        } else {
+            None
+        }
     }
 }
 

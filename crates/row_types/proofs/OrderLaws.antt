@@ -1,44 +1,77 @@
 -- Laws of the order of values and keys.
-use Rattle.std.proofs.Common.{◌≡◌, refl, ap}
-use Rattle.std.specs.Ordering.{int_cmp}
+use Rattle.std.proofs.Common.{◌≡◌, refl, ap, sym, ◌∙◌, true, ℕ, arith, eqb, ◌&&◌, Bool, false}
+use Rattle.std.specs.Ordering.{int_cmp, nat_cmp, on, then_cmp, ordering_then}
 use Rattle.std.specs.FinMap.{IsAntisymmetric, int_cmp-IsAntisymmetric, nat_cmp-IsAntisymmetric, slice_cmp-IsAntisymmetric}
 use Rattle.std.specs.Cmp.{IsTotalOrder}
-use Rattle.std.specs.Ordering.{ordering_then}
 use Rattle.std.specs.declared.cmp.Ordering.{Ordering}
 use Rattle.std.specs.declared.cmp.Ordering.TheVariants.{Less, Equal, Greater}
 use Rattle.std.proofs.lemmas.Cmp.{then_total, on_total, nat_cmp_total, int_cmp_total, nat_list_cmp_total, lists_total}
-use Rattle.row_types.specs.declared.value.Value.TheVariants.{Null, Integer, Text, Time}
-use Rattle.row_types.specs.Order.{order_of, key_order, rank, number_in, text_in}
+use Rattle.numbers.specs.Decimals.{Decimal, order_of_numbers}
+use Rattle.numbers.proofs.OrderLaws.{order_same}
+use Rattle.row_types.specs.declared.column.Ty.{Ty}
+use Rattle.row_types.specs.declared.column.Ty.TheVariants as ty
+use Rattle.row_types.specs.declared.value.Value.{Value}
+use Rattle.row_types.specs.declared.value.Value.TheVariants.{Null, Number, Text, Time}
+use Rattle.row_types.specs.Columns.{holds}
+use Rattle.row_types.specs.Order.{order_of, value_order, key_order, rank, number_in, scale_in, text_in}
+
+pub value_total : IsTotalOrder value_order
+value_total = then_total (on_total rank nat_cmp_total) (then_total (on_total number_in int_cmp_total) (on_total text_in nat_list_cmp_total))
 
 pub order_total : IsTotalOrder order_of
-order_total = then_total (on_total rank nat_cmp_total) (then_total (on_total number_in int_cmp_total) (on_total text_in nat_list_cmp_total))
+order_total = then_total value_total (on_total scale_in nat_cmp_total)
 
 pub key_total : IsTotalOrder key_order
 key_total = lists_total order_total
 
 -- an order with nothing behind it
-then_equal : (r : Ordering) → ordering_then r Equal ≡ Equal → r ≡ Equal
-then_equal Less e = e
-then_equal Equal e = e
-then_equal Greater e = e
+pub then_equal : (r : Ordering) → ordering_then r Equal ≡ r
+then_equal Less = refl
+then_equal Equal = refl
+then_equal Greater = refl
+
+-- both orders are equal
+first_equal : (r s : Ordering) → ordering_then r s ≡ Equal → r ≡ Equal
+first_equal Less s e = e
+first_equal Equal s e = refl
+first_equal Greater s e = e
+
+then_is : (r s : Ordering) → r ≡ Equal → ordering_then r s ≡ s
+then_is Less s e = Prim.cc
+then_is Equal s e = refl
+then_is Greater s e = Prim.cc
+
+numbers_same : (x y : Decimal) → order_of (Number x) (Number y) ≡ Equal → x ≡ y
+numbers_same x y e =
+    let first : ordering_then (order_of_numbers x y) Equal ≡ Equal = first_equal _ _ e in
+    let equal : order_of_numbers x y ≡ Equal = first_equal _ _ first in
+    let scales : nat_cmp x.scale y.scale ≡ Equal = sym (then_is (ordering_then (order_of_numbers x y) Equal) (nat_cmp x.scale y.scale) first) ∙ e in
+    order_same x y (nat_cmp-IsAntisymmetric x.scale y.scale scales) equal
 
 pub order_exact : IsAntisymmetric order_of
 order_exact Null Null e = refl
-order_exact Null (Integer y) e = Prim.cc
+order_exact Null (Number y) e = Prim.cc
 order_exact Null (Text y) e = Prim.cc
 order_exact Null (Time y) e = Prim.cc
-order_exact (Integer x) Null e = Prim.cc
-order_exact (Integer x) (Integer y) e = ap Integer (int_cmp-IsAntisymmetric x y (then_equal (int_cmp x y) e))
-order_exact (Integer x) (Text y) e = Prim.cc
-order_exact (Integer x) (Time y) e = Prim.cc
+order_exact (Number x) Null e = Prim.cc
+order_exact (Number x) (Number y) e = ap Number (numbers_same x y e)
+order_exact (Number x) (Text y) e = Prim.cc
+order_exact (Number x) (Time y) e = Prim.cc
 order_exact (Text x) Null e = Prim.cc
-order_exact (Text x) (Integer y) e = Prim.cc
-order_exact (Text x) (Text y) e = ap Text (slice_cmp-IsAntisymmetric nat_cmp-IsAntisymmetric x y e)
+order_exact (Text x) (Number y) e = Prim.cc
+order_exact (Text x) (Text y) e = ap Text (slice_cmp-IsAntisymmetric nat_cmp-IsAntisymmetric x y (first_equal _ _ e))
 order_exact (Text x) (Time y) e = Prim.cc
 order_exact (Time x) Null e = Prim.cc
-order_exact (Time x) (Integer y) e = Prim.cc
+order_exact (Time x) (Number y) e = Prim.cc
 order_exact (Time x) (Text y) e = Prim.cc
-order_exact (Time x) (Time y) e = ap Time (int_cmp-IsAntisymmetric x y (then_equal (int_cmp x y) e))
+order_exact (Time x) (Time y) e = ap Time (int_cmp-IsAntisymmetric x y (first_equal _ _ (first_equal _ _ e)))
 
 pub key_exact : IsAntisymmetric key_order
 key_exact = slice_cmp-IsAntisymmetric order_exact
+
+-- the scale of a type's values
+same_scale : (v w : Value) → scale_in v ≡ scale_in w → value_order v w ≡ order_of v w
+same_scale v w e = ?
+
+pub column_order : (t : Ty) (a b : Value) → holds t a ≡ true → holds t b ≡ true → value_order a b ≡ order_of a b
+column_order t a b ha hb = ?
