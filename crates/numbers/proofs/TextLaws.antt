@@ -13,7 +13,7 @@ use Rattle.std.proofs.lemmas.Int.{ints}
 use Rattle.std.proofs.lemmas.List.{length-append}
 use Rattle.std.proofs.lemmas.Str.Parse.{digit_at}
 use Rattle.numbers.specs.Decimals.{Decimal, IsNumber, number_of}
-use Rattle.numbers.specs.NumberTexts.{are_decimal_digits, fraction_digits, is_negative, last_digits, number_read, point_place, printed_magnitude, printed_number, printed_units, units_in}
+use Rattle.numbers.specs.NumberTexts.{are_decimal_digits, fraction_digits, is_negative, last_digits, number_read, point_place, printed_fraction, printed_magnitude, printed_number, printed_units, units_in}
 use Rattle.numbers.proofs.Digits.{after_append, after_last, all_last, length_last, numerals, point_behind}
 use Rattle.numbers.proofs.Rescaling.{number_is}
 
@@ -97,3 +97,19 @@ printed_is_read number is = by number.units refl
     by (negsuc units) e =
         let small : suc units < 2 ^ 64 = omega (arith, ints, rw e at is.first) in
         read_negative (printed_magnitude number.scale (suc units)) number.scale units number (printed_is number.scale (suc units) small) is e refl
+
+first_digit : (scale units : ℕ) → units < 2 ^ 64 → (0 < length (printed_magnitude scale units)) × (45 ≤ get_or (printed_magnitude scale units) 0 0) × (get_or (printed_magnitude scale units) 0 0 ≤ 57)
+first_digit scale units small =
+    let less : units / 10 ^ scale ≤ units = div-le_self units (10 ^ scale) in
+    let is = decimal_is_IsNumeral_wide (units / 10 ^ scale) (omega arith) in
+    let first = digit_at (decimal (units / 10 ^ scale)) 0 is.0.1 is.0.0 in
+    let same : get_or (printed_magnitude scale units) 0 0 ≡ get_or (decimal (units / 10 ^ scale)) 0 0 = get_or-append (decimal (units / 10 ^ scale)) (printed_fraction scale units) 0 0 is.0.0 in
+    (omega (arith, length-append (decimal (units / 10 ^ scale)) (printed_fraction scale units), is.0.0), omega (arith, same, first.0), omega (arith, same, first.1))
+
+-- it begins with a digit or a `-`
+pub printed_first : (number : Decimal) → IsNumber number → (0 < length (printed_number number)) × (45 ≤ get_or (printed_number number) 0 0) × (get_or (printed_number number) 0 0 ≤ 57)
+printed_first number is = by number.units refl
+  where
+    by : (z : ℤ) → number.units ≡ z → (0 < length (printed_units number.scale z)) × (45 ≤ get_or (printed_units number.scale z) 0 0) × (get_or (printed_units number.scale z) 0 0 ≤ 57)
+    by (pos units) e = first_digit number.scale units (omega (arith, ints, rw e at is.last))
+    by (negsuc units) e = (omega arith, omega arith, omega arith)

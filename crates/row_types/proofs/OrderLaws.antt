@@ -2,9 +2,11 @@
 use Rattle.std.proofs.Common.{◌≡◌, refl, ap, sym, ◌∙◌, true, ℕ, arith, eqb, ◌&&◌, Bool, false}
 use Rattle.std.specs.Ordering.{int_cmp, nat_cmp, on, then_cmp, ordering_then}
 use Rattle.std.specs.FinMap.{IsAntisymmetric, int_cmp-IsAntisymmetric, nat_cmp-IsAntisymmetric, slice_cmp-IsAntisymmetric}
-use Rattle.std.specs.Cmp.{IsTotalOrder}
+use Rattle.std.specs.Cmp.{IsTotalOrder, nat_cmp_is}
 use Rattle.std.specs.declared.cmp.Ordering.{Ordering}
 use Rattle.std.specs.declared.cmp.Ordering.TheVariants.{Less, Equal, Greater}
+use Rattle.std.proofs.lemmas.Bool.{false≢true}
+use Rattle.std.proofs.lemmas.Bool.Decides.{nat_tests}
 use Rattle.std.proofs.lemmas.Cmp.{then_total, on_total, nat_cmp_total, int_cmp_total, nat_list_cmp_total, lists_total}
 use Rattle.numbers.specs.Decimals.{Decimal, order_of_numbers}
 use Rattle.numbers.proofs.OrderLaws.{order_same}
@@ -12,7 +14,7 @@ use Rattle.row_types.specs.declared.column.Ty.{Ty}
 use Rattle.row_types.specs.declared.column.Ty.TheVariants as ty
 use Rattle.row_types.specs.declared.value.Value.{Value}
 use Rattle.row_types.specs.declared.value.Value.TheVariants.{Null, Number, Text, Time}
-use Rattle.row_types.specs.Columns.{holds}
+use Rattle.row_types.specs.Columns.{holds, scale_of}
 use Rattle.row_types.specs.Order.{order_of, value_order, key_order, rank, number_in, scale_in, text_in}
 
 pub value_total : IsTotalOrder value_order
@@ -69,9 +71,34 @@ order_exact (Time x) (Time y) e = ap Time (int_cmp-IsAntisymmetric x y (first_eq
 pub key_exact : IsAntisymmetric key_order
 key_exact = slice_cmp-IsAntisymmetric order_exact
 
--- the scale of a type's values
-same_scale : (v w : Value) → scale_in v ≡ scale_in w → value_order v w ≡ order_of v w
-same_scale v w e = ?
+-- where the scales are the same the values are ordered by what they stand for
+then_same : (v w : Value) → scale_in v ≡ scale_in w → value_order v w ≡ order_of v w
+then_same v w e =
+    let scales : nat_cmp (scale_in v) (scale_in w) ≡ Equal = ap (λ s. nat_cmp s (scale_in w)) e ∙ sym (nat_cmp_is (scale_in w) (scale_in w) Equal refl) in
+    sym (then_equal (value_order v w)) ∙ ap (ordering_then (value_order v w)) (sym scales)
+
+-- the scale of the values that a type holds
+scale_is : (t : Ty) (n : Decimal) → holds t (Number n) ≡ true → n.scale ≡ scale_of t
+scale_is ty.TtInteger n h = grind (arith, nat_tests)
+scale_is ty.TtBigint n h = grind (arith, nat_tests)
+scale_is (ty.Number precision scale) n h = grind (arith, nat_tests)
+scale_is (ty.Varchar2 greatest) n h = absurd (false≢true h)
+scale_is ty.Timestamp n h = absurd (false≢true h)
 
 pub column_order : (t : Ty) (a b : Value) → holds t a ≡ true → holds t b ≡ true → value_order a b ≡ order_of a b
-column_order t a b ha hb = ?
+column_order t (Number x) (Number y) hx hy = then_same (Number x) (Number y) (scale_is t x hx ∙ sym (scale_is t y hy))
+column_order t (Number x) (Text y) hx hy = refl
+column_order t (Number x) (Time y) hx hy = refl
+column_order t (Number x) Null hx hy = refl
+column_order t (Text x) (Number y) hx hy = refl
+column_order t (Text x) (Text y) hx hy = then_same (Text x) (Text y) refl
+column_order t (Text x) (Time y) hx hy = then_same (Text x) (Time y) refl
+column_order t (Text x) Null hx hy = then_same (Text x) Null refl
+column_order t (Time x) (Number y) hx hy = refl
+column_order t (Time x) (Text y) hx hy = then_same (Time x) (Text y) refl
+column_order t (Time x) (Time y) hx hy = then_same (Time x) (Time y) refl
+column_order t (Time x) Null hx hy = then_same (Time x) Null refl
+column_order t Null (Number y) hx hy = refl
+column_order t Null (Text y) hx hy = then_same Null (Text y) refl
+column_order t Null (Time y) hx hy = then_same Null (Time y) refl
+column_order t Null Null hx hy = then_same Null Null refl

@@ -2,7 +2,6 @@
 
 use Rattle.std.specs.Prelude.{ℕ, Bool, true, false, ◌&&◌, ◌==◌, not, ℤ, int_lt, nat_le, length, pos, negsuc, Option, Some, None, Result, Ok, Err, if◌then◌else◌}
 use Rattle.std.specs.Option.{option_map}
-use Rattle.std.specs.Result.{result_map}
 use Rattle.numbers.specs.Decimals.{has_precision}
 use Rattle.numbers.specs.Rounding.{rounded_to}
 use Rattle.tier_base.specs.declared.code.Code.{Code}
@@ -44,10 +43,14 @@ rounded_for t Null = Some Null
 rounded_for t (Text bytes) = Some (Text bytes)
 rounded_for t (Time seconds) = Some (Time seconds)
 
+abbrev pub kept_if : Result (Unit {0}) Code → Value → Result Value Code
+kept_if (Ok done) value = Ok value
+kept_if (Err code) value = Err code
+
 -- the value where the column takes it
 abbrev pub taken_by : Column → Option Value → Result Value Code
 taken_by column None = Err OutOfRange
-taken_by column (Some value) = result_map (λ done. value) (fit_of column value)
+taken_by column (Some value) = kept_if (fit_of column value) value
 
 -- the value as the column keeps it, or why it takes none: rounded, and then it is seen whether it fits
 abbrev pub stored_in : Column → Value → Result Value Code

@@ -7,7 +7,7 @@ ghost use Rattle.row_types.specs.Order.{key_order, order_of, value_order};
 ghost use Rattle.row_types.specs.Printing.{printed};
 ghost use Rattle.row_types.specs.TimeTexts.{time_of, time_text};
 ghost use Rattle.numbers.specs.Decimals.{Decimal, IsNumber};
-ghost use Rattle.row_types.specs.declared.column.Ty.{Ty as Type};
+ghost use Rattle.row_types.specs.declared.column.Ty.{Ty as ColumnType};
 ghost use Rattle.row_types.specs.declared.value.Value.{Value as One};
 ghost use Rattle.row_types.specs.declared.value.Value.TheVariants as value;
 ghost use Rattle.std.specs.FinMap.{IsAntisymmetric};
@@ -23,7 +23,7 @@ pub fn order_law()
 
 /// Values that one type holds are ordered by what they stand for.
 pub fn column_order_law()
-    ensures { (ty : Type) (a b : One) → holds ty a ≡ true → holds ty b ≡ true
+    ensures { (t : ColumnType) (a b : One) → holds t a ≡ true → holds t b ≡ true
         → value_order a b ≡ order_of a b }
 {}
 
