@@ -31,6 +31,7 @@ fn put_type(out: &mut Vec<u8>, ty: &TypeDeclaration) -> Result<(), AllocError>
     match ty {
         TypeDeclaration::TtInteger => put(out, b"TT_INTEGER"),
         TypeDeclaration::TtBigint => put(out, b"TT_BIGINT"),
+        TypeDeclaration::Number(precision, scale) => put_number(out, precision, scale.as_ref()),
         TypeDeclaration::Varchar2(digits) => {
             put(out, b"VARCHAR2 (")?;
             put(out, by_value(digits.as_bytes()))?;
@@ -38,6 +39,18 @@ fn put_type(out: &mut Vec<u8>, ty: &TypeDeclaration) -> Result<(), AllocError>
         }
         TypeDeclaration::Timestamp => put(out, b"TIMESTAMP"),
     }
+}
+
+fn put_number(out: &mut Vec<u8>, precision: &Text, scale: Option<&Text>) -> Result<(), AllocError>
+    ensures { OnOk result (out.new.items ≡ out.old.items ++ spaced (number_words precision.now (option_copied scale.entry))) }
+{
+    put(out, b"NUMBER (")?;
+    put(out, by_value(precision.as_bytes()))?;
+    if let Some(scale) = scale {
+        put(out, b",")?;
+        put(out, by_value(scale.as_bytes()))?;
+    }
+    put(out, b")")
 }
 
 /// The columns that have PRIMARY KEY behind them.
