@@ -1,8 +1,11 @@
 -- The number itself at another scale.
-use Rattle.std.proofs.Common.{◌≡◌, ℕ, zero, suc, ◌+◌, ◌-◌, ◌*◌, ◌/◌, ◌^◌, ◌<◌, ◌≤◌, Bool, true, false, nat_le, arith, refl, ap, sym, ◌∙◌, ℤ, pos, negsuc, neg_ℤ, ◌*ℤ◌, Some}
-use Rattle.std.specs.Ordering.{int_cmp}
+use Rattle.std.proofs.Common.{◌≡◌, ℕ, zero, suc, ◌+◌, ◌-◌, ◌*◌, ◌/◌, ◌^◌, ◌<◌, ◌≤◌, Bool, true, false, nat_le, arith, refl, ap, sym, ◌∙◌, ℤ, pos, negsuc, neg_ℤ, ◌*ℤ◌, Option, Some, None, ◌&&◌}
+use Rattle.std.specs.Ordering.{int_cmp, is_eq}
+use Rattle.std.specs.Option.{option_and_then}
+use Rattle.std.specs.Prelude.{if◌then◌else◌}
 use Rattle.std.specs.FinMap.{int_cmp-IsAntisymmetric}
-use Rattle.std.specs.declared.cmp.Ordering.TheVariants.{Equal}
+use Rattle.std.specs.declared.cmp.Ordering.{Ordering}
+use Rattle.std.specs.declared.cmp.Ordering.TheVariants.{Less, Equal, Greater}
 use Rattle.std.proofs.lemmas.Bool.Decides.{nat_tests}
 use Rattle.std.proofs.lemmas.Int.{ints}
 use Rattle.std.proofs.lemmas.Nat.{div-mul-add}
@@ -11,6 +14,7 @@ use Rattle.std.proofs.Math.Nat.{mul_assoc}
 use Rattle.std.proofs.lemmas.Nat.{pow-add}
 use Rattle.numbers.specs.Decimals.{Decimal, IsNumber, are_held, number_of, order_of_numbers, units_at}
 use Rattle.numbers.specs.Rounding.{nearest, rescaled_to, rounded_to}
+use Rattle.numbers.proofs.OrderLaws.{order_same}
 use Rattle.numbers.proofs.Powers.{power_least, scaled_cmp}
 
 pub number_is : (a : Decimal) → IsNumber a → number_of a.units a.scale ≡ Some a
@@ -19,13 +23,18 @@ number_is a is =
     let fits : nat_le a.scale 18 ≡ true = grind (arith, nat_tests, is.scale) in
     rw (held, fits) refl
 
+cmp_itself : (z : ℤ) → int_cmp z z ≡ Equal
+cmp_itself z = grind (arith, ints)
+
+equal_if : (o : Ordering) → is_eq o ≡ true → o ≡ Equal
+equal_if Less e = Prim.cc
+equal_if Equal e = refl
+equal_if Greater e = Prim.cc
+
 -- what is equal after a multiplication is equal
 pub cancelled : (a b : ℤ) (k : ℕ) → 0 < k → a *ℤ pos k ≡ b *ℤ pos k → a ≡ b
 cancelled a b k some e =
-    int_cmp-IsAntisymmetric a b (sym (scaled_cmp a b k some) ∙ ap (λ z. int_cmp z (b *ℤ pos k)) e ∙ equal (b *ℤ pos k))
-  where
-    equal : (z : ℤ) → int_cmp z z ≡ Equal
-    equal z = grind (arith, ints)
+    int_cmp-IsAntisymmetric a b (sym (scaled_cmp a b k some) ∙ ap (λ z. int_cmp z (b *ℤ pos k)) e ∙ cmp_itself (b *ℤ pos k))
 
 pub negative_times : (x n : ℕ) → neg_ℤ (pos x) *ℤ pos n ≡ neg_ℤ (pos (x * n))
 negative_times zero n = let none : 0 * n ≡ 0 = omega arith in rw none
@@ -82,3 +91,38 @@ rounded_is a b is_a is_b e = by (nat_le b.scale a.scale) refl
 
 pub rescaled_is : (a b : Decimal) → IsNumber a → IsNumber b → order_of_numbers a b ≡ Equal → rescaled_to a.scale b ≡ Some a
 rescaled_is a b is_a is_b e = rw (rounded_is a b is_a is_b e, e)
+
+number_scale : (units : ℤ) (scale : ℕ) (d : Decimal) → number_of units scale ≡ Some d → d.scale ≡ scale
+number_scale units scale d e = by (are_held units && nat_le scale 18) e
+  where
+    by : (held : Bool) → (if held then Some (record { units = units; scale = scale }) else None) ≡ Some d → d.scale ≡ scale
+    by true h = let same : record { units = units; scale = scale } ≡ d = Prim.cc in ap (λ (n : Decimal). n.scale) (sym same)
+    by false h = Prim.cc
+
+rounded_scale : (scale : ℕ) (n d : Decimal) → rounded_to scale n ≡ Some d → d.scale ≡ scale
+rounded_scale scale n d e = by (nat_le n.scale scale) e
+  where
+    by : (below : Bool) → (if below then number_of (units_at scale n) scale else number_of (nearest n.units (10 ^ (n.scale - scale))) scale) ≡ Some d → d.scale ≡ scale
+    by true h = number_scale (units_at scale n) scale d h
+    by false h = number_scale (nearest n.units (10 ^ (n.scale - scale))) scale d h
+
+-- what is rescaled has the scale, and stands for the same
+pub rescaled_gives : (scale : ℕ) (n d : Decimal) → rescaled_to scale n ≡ Some d → (d.scale ≡ scale) × (order_of_numbers d n ≡ Equal)
+rescaled_gives scale n d e = by (rounded_to scale n) refl e
+  where
+    kept : (r : Decimal) (b : Bool) → is_eq (order_of_numbers r n) ≡ b → (if b then Some r else None) ≡ Some d → rounded_to scale n ≡ Some r → (d.scale ≡ scale) × (order_of_numbers d n ≡ Equal)
+    kept r true test h is =
+        let same : r ≡ d = Prim.cc in
+        (rounded_scale scale n d (is ∙ h), ap (λ x. order_of_numbers x n) (sym same) ∙ equal_if (order_of_numbers r n) test)
+    kept r false test h is = Prim.cc
+
+    by : (o : Option Decimal) → rounded_to scale n ≡ o → option_and_then (λ r. if is_eq (order_of_numbers r n) then Some r else None) o ≡ Some d → (d.scale ≡ scale) × (order_of_numbers d n ≡ Equal)
+    by None is h = Prim.cc
+    by (Some r) is h = kept r (is_eq (order_of_numbers r n)) refl h is
+
+-- numbers of one scale that stand for the same as a third one are the same
+pub same_by_third : (a b c : Decimal) → a.scale ≡ b.scale → order_of_numbers a c ≡ Equal → order_of_numbers b c ≡ Equal → a ≡ b
+same_by_third a b c scale one other =
+    let left : units_at 18 a ≡ units_at 18 c = int_cmp-IsAntisymmetric (units_at 18 a) (units_at 18 c) one in
+    let right : units_at 18 b ≡ units_at 18 c = int_cmp-IsAntisymmetric (units_at 18 b) (units_at 18 c) other in
+    order_same a b scale (ap (λ z. int_cmp z (units_at 18 b)) (left ∙ sym right) ∙ cmp_itself (units_at 18 b))

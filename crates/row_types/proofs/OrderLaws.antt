@@ -1,5 +1,6 @@
 -- Laws of the order of values and keys.
-use Rattle.std.proofs.Common.{◌≡◌, refl, ap, sym, ◌∙◌, true, ℕ, arith, eqb, ◌&&◌, Bool, false}
+use Rattle.std.proofs.Common.{◌≡◌, refl, ap, sym, ◌∙◌, true, ℕ, arith, eqb, ◌&&◌, Bool, false, Option, Some, None}
+use Rattle.std.specs.Option.{option_map}
 use Rattle.std.specs.Ordering.{int_cmp, nat_cmp, on, then_cmp, ordering_then}
 use Rattle.std.specs.FinMap.{IsAntisymmetric, int_cmp-IsAntisymmetric, nat_cmp-IsAntisymmetric, slice_cmp-IsAntisymmetric}
 use Rattle.std.specs.Cmp.{IsTotalOrder, nat_cmp_is}
@@ -9,12 +10,14 @@ use Rattle.std.proofs.lemmas.Bool.{false≢true}
 use Rattle.std.proofs.lemmas.Bool.Decides.{nat_tests}
 use Rattle.std.proofs.lemmas.Cmp.{then_total, on_total, nat_cmp_total, int_cmp_total, nat_list_cmp_total, lists_total}
 use Rattle.numbers.specs.Decimals.{Decimal, order_of_numbers}
+use Rattle.numbers.specs.Rounding.{rescaled_to}
 use Rattle.numbers.proofs.OrderLaws.{order_same}
+use Rattle.numbers.proofs.Rescaling.{rescaled_gives, same_by_third}
 use Rattle.row_types.specs.declared.column.Ty.{Ty}
 use Rattle.row_types.specs.declared.column.Ty.TheVariants as ty
 use Rattle.row_types.specs.declared.value.Value.{Value}
 use Rattle.row_types.specs.declared.value.Value.TheVariants.{Null, Number, Text, Time}
-use Rattle.row_types.specs.Columns.{holds, scale_of}
+use Rattle.row_types.specs.Columns.{holds, rescaled_for, scale_of}
 use Rattle.row_types.specs.Order.{order_of, value_order, key_order, rank, number_in, scale_in, text_in}
 
 pub value_total : IsTotalOrder value_order
@@ -102,3 +105,35 @@ column_order t Null (Number y) hx hy = refl
 column_order t Null (Text y) hx hy = then_same Null (Text y) refl
 column_order t Null (Time y) hx hy = then_same Null (Time y) refl
 column_order t Null Null hx hy = then_same Null Null refl
+
+some_is : {A : Type 0} {x y : A} → Some x ≡ Some y → x ≡ y
+some_is e = Prim.cc
+
+numbers_alone : (x y : Decimal) → value_order (Number x) (Number y) ≡ Equal → order_of_numbers x y ≡ Equal
+numbers_alone x y e = first_equal (order_of_numbers x y) Equal e
+
+pub rescaled_is : (t : Ty) (v w r : Value) → holds t v ≡ true → value_order v w ≡ Equal → rescaled_for t w ≡ Some r → v ≡ r
+rescaled_is t (Number x) (Number y) r held e is = by (rescaled_to (scale_of t) y) refl is
+  where
+    by : (o : Option Decimal) → rescaled_to (scale_of t) y ≡ o → option_map Number o ≡ Some r → Number x ≡ r
+    by None gives h = Prim.cc
+    by (Some d) gives h =
+        let (scale, equal) = rescaled_gives (scale_of t) y d gives in
+        let same : x ≡ d = same_by_third x d y (scale_is t x held ∙ sym scale) (numbers_alone x y e) equal in
+        let found : Number d ≡ r = Prim.cc in
+        ap Number same ∙ found
+rescaled_is t (Number x) (Text y) r held e is = Prim.cc
+rescaled_is t (Number x) (Time y) r held e is = Prim.cc
+rescaled_is t (Number x) Null r held e is = Prim.cc
+rescaled_is t (Text x) (Number y) r held e is = Prim.cc
+rescaled_is t (Text x) (Text y) r held e is = order_exact (Text x) (Text y) (sym (then_same (Text x) (Text y) refl) ∙ e) ∙ some_is is
+rescaled_is t (Text x) (Time y) r held e is = Prim.cc
+rescaled_is t (Text x) Null r held e is = Prim.cc
+rescaled_is t (Time x) (Number y) r held e is = Prim.cc
+rescaled_is t (Time x) (Text y) r held e is = Prim.cc
+rescaled_is t (Time x) (Time y) r held e is = order_exact (Time x) (Time y) (sym (then_same (Time x) (Time y) refl) ∙ e) ∙ some_is is
+rescaled_is t (Time x) Null r held e is = Prim.cc
+rescaled_is t Null (Number y) r held e is = Prim.cc
+rescaled_is t Null (Text y) r held e is = Prim.cc
+rescaled_is t Null (Time y) r held e is = Prim.cc
+rescaled_is t Null Null r held e is = some_is is

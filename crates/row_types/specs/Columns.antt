@@ -3,7 +3,7 @@
 use Rattle.std.specs.Prelude.{ℕ, Bool, true, false, ◌&&◌, ◌==◌, not, ℤ, int_lt, nat_le, length, pos, negsuc, Option, Some, None, Result, Ok, Err, if◌then◌else◌}
 use Rattle.std.specs.Option.{option_map}
 use Rattle.numbers.specs.Decimals.{has_precision}
-use Rattle.numbers.specs.Rounding.{rounded_to}
+use Rattle.numbers.specs.Rounding.{rescaled_to, rounded_to}
 use Rattle.tier_base.specs.declared.code.Code.{Code}
 use Rattle.tier_base.specs.declared.code.Code.TheVariants.{NullNotAllowed, OutOfRange}
 use Rattle.row_types.specs.declared.column.Column.{Column}
@@ -43,9 +43,17 @@ rounded_for t Null = Some Null
 rounded_for t (Text bytes) = Some (Text bytes)
 rounded_for t (Time seconds) = Some (Time seconds)
 
+-- the value that fits, or why none does
 abbrev pub kept_if : Result (Unit {0}) Code → Value → Result Value Code
 kept_if (Ok done) value = Ok value
 kept_if (Err code) value = Err code
+
+-- a number with the type's scale, where one stands for the same; another value as it is
+abbrev pub rescaled_for : Ty → Value → Option Value
+rescaled_for t (Number n) = option_map Number (rescaled_to (scale_of t) n)
+rescaled_for t Null = Some Null
+rescaled_for t (Text bytes) = Some (Text bytes)
+rescaled_for t (Time seconds) = Some (Time seconds)
 
 -- the value where the column takes it
 abbrev pub taken_by : Column → Option Value → Result Value Code

@@ -1,7 +1,7 @@
 //! Columns and what they hold.
 
 ghost use Rattle.std.specs.Prelude.{◌≡◌, ◌↔◌, ◌≤◌, IfOk, IsTrue};
-ghost use Rattle.row_types.specs.Columns.{fit_of, holds, is_within, rounded_for, scale_of, stored_in};
+ghost use Rattle.row_types.specs.Columns.{fit_of, holds, is_within, rescaled_for, rounded_for, scale_of, stored_in};
 
 use crate::value::Value;
 use std::alloc::{AllocError, Global};
@@ -116,6 +116,23 @@ pub fn stored(value: Value, column: &Column) -> Result<Value, Code>
             Ok(()) => Ok(value),
             Err(code) => Err(code),
         },
+    }
+}
+
+/// The value that a column of the type would keep it as, where that one stands for the same: a number with the scale of
+/// the type's numbers, another value as it is. None where no number with that scale stands for the same, or none that 64
+/// signed bits hold.
+pub fn rescaled(alloc: Global, value: &Value, ty: Ty) -> Result<Option<Value>, AllocError>
+    ensures { IfOk result (λ found. found ≡ rescaled_for ty value.now) }
+{
+    match value {
+        Value::Number(number) => {
+            Ok(number.rescaled_exactly(scale_of(ty)).map(Value::Number))
+        }
+        value => {
+            let value = value.copied(alloc)?;
+            Ok(Some(value))
+        }
     }
 }
 

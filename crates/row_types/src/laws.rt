@@ -1,7 +1,7 @@
 //! Laws of the definitions, each on the contract of a function that does nothing.
 
 ghost use Rattle.std.specs.Prelude.{◌≡◌, ◌≤◌, ◌++◌, ℕ, ℤ, List, length, codes, true, Some};
-ghost use Rattle.row_types.specs.Columns.{holds};
+ghost use Rattle.row_types.specs.Columns.{holds, rescaled_for};
 ghost use Rattle.row_types.specs.Literals.{value_of};
 ghost use Rattle.row_types.specs.Order.{key_order, order_of, value_order};
 ghost use Rattle.row_types.specs.Printing.{printed};
@@ -12,6 +12,7 @@ ghost use Rattle.row_types.specs.declared.value.Value.{Value as One};
 ghost use Rattle.row_types.specs.declared.value.Value.TheVariants as value;
 ghost use Rattle.std.specs.FinMap.{IsAntisymmetric};
 ghost use Rattle.std.specs.Cmp.{IsTotalOrder};
+ghost use Rattle.std.specs.declared.cmp.Ordering.TheVariants.{Equal};
 
 use crate::time::Time;
 
@@ -25,6 +26,11 @@ pub fn order_law()
 pub fn column_order_law()
     ensures { (t : ColumnType) (a b : One) → holds t a ≡ true → holds t b ≡ true
         → value_order a b ≡ order_of a b }
+{}
+
+/// A value that a type holds, and that is equal to another one, is that one with the scale of the type's numbers.
+pub fn rescaled_law()
+    ensures { (t : ColumnType) (v w r : One) → holds t v ≡ true → value_order v w ≡ Equal → rescaled_for t w ≡ Some r → v ≡ r }
 {}
 
 /// The order of keys is total, and only the same keys are equal in it.

@@ -15,7 +15,7 @@ pub mod truth;
 pub mod value;
 pub mod values;
 
-pub use column::{Column, Ty, fits, stored};
+pub use column::{Column, Ty, fits, rescaled, stored};
 pub use declaration::{
     ColumnDeclaration, ForeignKeyDeclaration, TableDeclaration, TypeDeclaration,
 };
