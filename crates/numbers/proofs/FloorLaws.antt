@@ -4,10 +4,11 @@ use Rattle.std.specs.Int.{int_div_euclid}
 use Rattle.std.specs.Int.Signed.{<ℤ-≤ℤ_trans, ≤ℤ_refl}
 use Rattle.std.specs.Cmp.{int_cmp_is}
 use Rattle.std.specs.declared.cmp.Ordering.TheVariants.{Less}
+use Rattle.std.proofs.lemmas.Cmp.{int_ranked}
 use Rattle.std.proofs.lemmas.Int.{ints, by_lt_z}
-use Rattle.std.proofs.lemmas.Nat.{pow-add}
+use Rattle.std.proofs.lemmas.Nat.{div-mul-add, pow-add}
 use Rattle.std.proofs.Math.IntN.{negsuc-*ℤ-pos}
-use Rattle.std.proofs.Math.Nat.{div-mul-le_self, lt-div-mul-add}
+use Rattle.std.proofs.Math.Nat.{div-div-eq-div-mul, div-mul-le_self, lt-div-mul-add, mul-div-mul_right}
 use Rattle.numbers.specs.Decimals.{Decimal, floor_of, order_of_numbers, units_at}
 use Rattle.numbers.proofs.Powers.{power_least, scaled_less}
 use Rattle.numbers.proofs.Rescaling.{negative_times, times_twice}
@@ -37,21 +38,37 @@ floor_high (negsuc a) d some =
     let next : negsuc (a / d) +ℤ pos 1 ≡ neg_ℤ (pos (a / d)) = omega (arith, ints) in
     rw (next, negative_times (a / d) d) (omega (arith, ints, low))
 
-finest : (scale : ℕ) → scale ≤ 18 → 10 ^ scale * 10 ^ (18 - scale) ≡ 10 ^ 18
-finest scale fits = let all : scale + (18 - scale) ≡ 18 = omega arith in sym (pow-add 10 scale (18 - scale)) ∙ ap (λ n. 10 ^ n) all
-
-pub floor_rises : (a b : Decimal) → a.scale ≤ 18 → b.scale ≤ 18 → floor_of a <ℤ floor_of b → order_of_numbers a b ≡ Less
-floor_rises a b fits_a fits_b less = sym (int_cmp_is (units_at 18 a) (units_at 18 b) Less (<ℤ-≤ℤ_trans below (omega (arith, ints, next, above))))
+pub floor_rises : (a b : Decimal) → floor_of a <ℤ floor_of b → order_of_numbers a b ≡ Less
+floor_rises a b less = sym (int_cmp_is (units_at 18 a) (units_at 18 b) Less (<ℤ-≤ℤ_trans below (omega (arith, ints, next, above))))
   where
     below : units_at 18 a <ℤ ((floor_of a +ℤ pos 1) *ℤ pos (10 ^ 18))
-    below =
-        let scaled = scaled_less a.units ((floor_of a +ℤ pos 1) *ℤ pos (10 ^ a.scale)) (10 ^ (18 - a.scale)) (power_least (18 - a.scale)) (floor_high a.units (10 ^ a.scale) (power_least a.scale)) in
-        rw (times_twice (floor_of a +ℤ pos 1) (10 ^ a.scale) (10 ^ (18 - a.scale)), finest a.scale fits_a) at scaled
+    below = floor_high (units_at 18 a) (10 ^ 18) (power_least 18)
 
     above : (floor_of b *ℤ pos (10 ^ 18)) ≤ℤ units_at 18 b
-    above =
-        let scaled = scaled_le (floor_of b *ℤ pos (10 ^ b.scale)) b.units (10 ^ (18 - b.scale)) (power_least (18 - b.scale)) (floor_low b.units (10 ^ b.scale) (power_least b.scale)) in
-        rw (times_twice (floor_of b) (10 ^ b.scale) (10 ^ (18 - b.scale)), finest b.scale fits_b) at scaled
+    above = floor_low (units_at 18 b) (10 ^ 18) (power_least 18)
 
     next : ((floor_of a +ℤ pos 1) *ℤ pos (10 ^ 18)) ≤ℤ (floor_of b *ℤ pos (10 ^ 18))
     next = scaled_le (floor_of a +ℤ pos 1) (floor_of b) (10 ^ 18) (power_least 18) (omega (arith, ints, less))
+
+pub floor_less : (a b : Decimal) → int_cmp (floor_of a) (floor_of b) ≡ Less → order_of_numbers a b ≡ Less
+floor_less a b e = floor_rises a b (int_ranked (floor_of a) (floor_of b) Less (sym e))
+
+-- dividing what was multiplied
+negative_is : (n m : ℕ) → n ≡ suc m → neg_ℤ (pos n) ≡ negsuc m
+negative_is n m e = ap (λ k. neg_ℤ (pos k)) e
+
+divided_again : (u : ℤ) (q p : ℕ) → 0 < p → int_div_euclid (u *ℤ pos p) (pos (q * p)) ≡ int_div_euclid u (pos q)
+divided_again (pos a) q p some = ap pos (mul-div-mul_right a q some)
+divided_again (negsuc x) q p some =
+    let before : suc x * p ≡ suc (x * p + (p - 1)) = omega arith in
+    let product : negsuc x *ℤ pos p ≡ negsuc (x * p + (p - 1)) = negsuc-*ℤ-pos x p ∙ negative_is (suc x * p) (x * p + (p - 1)) before in
+    let turned : q * p ≡ p * q = omega arith in
+    let first : (x * p + (p - 1)) / p ≡ x = div-mul-add x p (p - 1) (omega arith) in
+    let quotient : (x * p + (p - 1)) / (q * p) ≡ x / q = ap (λ d. (x * p + (p - 1)) / d) turned ∙ sym (div-div-eq-div-mul (x * p + (p - 1)) p q) ∙ ap (λ n. n / q) first in
+    ap (λ z. int_div_euclid z (pos (q * p))) product ∙ ap negsuc quotient
+
+pub floor_by_scale : (n : Decimal) → n.scale ≤ 18 → int_div_euclid n.units (pos (10 ^ n.scale)) ≡ floor_of n
+floor_by_scale n fits =
+    let all : n.scale + (18 - n.scale) ≡ 18 = omega arith in
+    let parts : 10 ^ n.scale * 10 ^ (18 - n.scale) ≡ 10 ^ 18 = sym (pow-add 10 n.scale (18 - n.scale)) ∙ ap (λ k. 10 ^ k) all in
+    sym (divided_again n.units (10 ^ n.scale) (10 ^ (18 - n.scale)) (power_least (18 - n.scale))) ∙ ap (λ d. int_div_euclid (units_at 18 n) (pos d)) parts

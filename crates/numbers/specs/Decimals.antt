@@ -23,10 +23,6 @@ number_of units scale = if are_held units && nat_le scale 18 then Some (record {
 abbrev pub has_precision : ℕ → Decimal → Bool
 has_precision precision number = nat_lt (unsigned_abs number.units) (10 ^ precision)
 
--- the greatest whole number that isn't above it
-abbrev pub floor_of : Decimal → ℤ
-floor_of number = int_div_euclid number.units (pos (10 ^ number.scale))
-
 -- what every number keeps
 pub record IsNumber (number : Decimal) : Type 0 where
   pub first : negsuc 9223372036854775807 ≤ℤ number.units
@@ -36,6 +32,10 @@ pub record IsNumber (number : Decimal) : Type 0 where
 -- the units of the same number at a scale that isn't below its own
 abbrev pub units_at : ℕ → Decimal → ℤ
 units_at scale number = number.units *ℤ pos (10 ^ (scale - number.scale))
+
+-- the greatest whole number that isn't above it
+abbrev pub floor_of : Decimal → ℤ
+floor_of number = int_div_euclid (units_at 18 number) (pos (10 ^ 18))
 
 -- the order of numbers: by what they stand for, as their units at the greatest scale tell
 abbrev pub order_of_numbers : Decimal → Decimal → Ordering

@@ -12,8 +12,7 @@ ghost use Rattle.numbers.specs.Rounding.{rescaled_to};
 pub fn order_law()
     ensures total { IsTotalOrder order_of_numbers }
     ensures same { (a b : Decimal) → a.scale ≡ b.scale → order_of_numbers a b ≡ Equal → a ≡ b }
-    ensures floor { (a b : Decimal) → a.scale ≤ 18 → b.scale ≤ 18 → floor_of a <ℤ floor_of b
-        → order_of_numbers a b ≡ Less }
+    ensures floor { (a b : Decimal) → floor_of a <ℤ floor_of b → order_of_numbers a b ≡ Less }
 {}
 
 /// The only number with a scale that stands for the same as another one is that one with this scale.

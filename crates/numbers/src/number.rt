@@ -1,6 +1,7 @@
 //! Numbers.
 
-ghost use Rattle.std.specs.Prelude.{◌≡◌, ◌≤◌, ◌^◌, unsigned_abs};
+ghost use Rattle.std.specs.Prelude.{◌≡◌, ◌≤◌, ◌^◌, pos, unsigned_abs};
+ghost use Rattle.std.specs.Int.{int_div_euclid};
 ghost use Rattle.numbers.specs.Decimals.{IsNumber, floor_of, has_precision, number_of, order_of_numbers, units_at};
 
 use std::cmp::Ordering;
@@ -77,10 +78,7 @@ impl Number {
     pub fn floor(self) -> i64
         ensures { result ≡ floor_of self }
     {
-        if self.scale == 0 {
-            return self.units;
-        }
-        self.units.div_euclid(power_of_ten(self.scale) as i64)
+        floor_at(self.units, self.scale)
     }
 
     /// The order of numbers, by what they stand for: 1.5 and 1.50 are equal in it.
@@ -113,6 +111,17 @@ impl Number {
             Err(_) => None,
         }
     }
+}
+
+/// Units divided by a power of ten, rounded down.
+fn floor_at(units: i64, exponent: u8) -> i64
+    requires { exponent ≤ 18 }
+    ensures { result ≡ int_div_euclid units (pos (10 ^ exponent)) }
+{
+    if exponent == 0 {
+        return units;
+    }
+    units.div_euclid(power_of_ten(exponent) as i64)
 }
 
 /// A power of ten.

@@ -1,12 +1,12 @@
 //! Tables behind what is printed so far, in their normal form.
-ghost use Rattle.std.specs.Prelude.{◌≡◌, ◌++◌, ◌∷◌, IfOk, OnOk, length};
+ghost use Rattle.std.specs.Prelude.{◌≡◌, ◌++◌, ◌∷◌, IfOk, OnOk, length, option_copied};
 ghost use Rattle.sql_print.specs.Normal.{is_in, keyed_column, marked, normal_table, single_key, with_key};
 ghost use Rattle.sql_print.specs.Printed.{spaced};
 ghost use Rattle.std.specs.Option.{option_or};
-ghost use Rattle.sql_print.specs.Words.{by_value, cascade_words, column_words, element_words, foreign_words, key_words, listed, mark_words, more, reference_words, table_words, type_words};
+ghost use Rattle.sql_print.specs.Words.{by_value, cascade_words, column_words, element_words, foreign_words, key_words, listed, mark_words, more, number_words, reference_words, table_words, type_words};
 
 use crate::word::{put, put_name, put_names};
-use row_types::{ColumnDeclaration, ForeignKeyDeclaration, TableDeclaration, TypeDeclaration};
+use row_types::{ColumnDeclaration, ForeignKeyDeclaration, TableDeclaration, Text, TypeDeclaration};
 use std::alloc::{AllocError, Global};
 use tier_base::{Name, Seq};
 
