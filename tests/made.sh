@@ -165,12 +165,12 @@ wide() {
   line "backing: CREATE TABLE W$1 (C0 TT_INTEGER PRIMARY KEY$columns)" "$2"
 }
 
-# There are 256 tables of 32 columns. 119 of the tables comes before that of the columns, and 113 and 104 before both.
+# There are 256 tables of 64 columns. 119 of the tables comes before that of the columns, and 113 and 104 before both.
 script limit_of_tables
-wide 32 'ok 0'
-wide 33 'no 119 columns'
+wide 64 'ok 0'
+wide 65 'no 119 columns'
 for number in $(seq 2 255); do line "backing: CREATE TABLE T$number (ID TT_BIGINT PRIMARY KEY)" 'ok 0'; done
-wide 33 'no 119 tables'
+wide 65 'no 119 tables'
 line 'backing: CREATE TABLE T2 (ID TT_BIGINT)' 'no 113 T2'
 line 'backing: CREATE TABLE T1 (ID TT_BIGINT)' 'no 104'
 

@@ -1,3 +1,4 @@
+pub mod BuildLaws
 pub mod CapLaws
 pub mod CascadeLaws
 pub mod ChildSteps

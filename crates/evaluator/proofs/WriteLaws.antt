@@ -18,9 +18,10 @@ use Rattle.table_defs.specs.Declarations.{foreign_places}
 use Rattle.indexed_rows.specs.Rows.{Table}
 use Rattle.table_state.specs.Tables.{TableState, table_at}
 use Rattle.table_scan.specs.Children.{refers_to}
-use Rattle.table_scan.specs.Keyed.{HasWidth, IsKeyed, IsUnderKeys, has_key}
-use Rattle.table_scan.proofs.KeyedLaws.{none_has_width, none_is_under}
-use Rattle.table_scan.proofs.KeyLaws.{found_by_key}
+use Rattle.table_state.specs.Tables.{fits_columns}
+use Rattle.table_scan.specs.Keyed.{HasFit, IsKeyed, IsUnderKeys, has_key}
+use Rattle.table_scan.proofs.KeyedLaws.{none_has_fit, none_is_under}
+use Rattle.table_scan.proofs.KeyLaws.{all_fit, found_by_key}
 use Rattle.expressions.specs.declared.condition.Cond.{Cond}
 use Rattle.expressions.specs.declared.expression.Expr.{Expr}
 use Rattle.evaluator.specs.declared.capped.Capped.{Capped}
@@ -32,7 +33,9 @@ use Rattle.evaluator.specs.KeyPaths.{ChangesChildren, Narrows, is_not_true}
 use Rattle.evaluator.specs.Rules.{Adds, Gives, each, limit, or_overflow, then_do}
 use Rattle.evaluator.specs.Writes.{built, done_by, done_in, done_on, done_to, effects_of, filter_of, if_true, one_op, passes_rows, within_limits}
 use Rattle.evaluator.proofs.CapLaws.{kept_over, kept_whole}
-use Rattle.evaluator.proofs.RuleLaws.{added-nil, each-filter, same_taken}
+use Rattle.evaluator.proofs.ConditionLaws.{row_types}
+use Rattle.evaluator.proofs.RuleLaws.{added-nil, each-filter_of, same_taken}
+use Rattle.evaluator.proofs.WalkLaws.{known_at}
 
 -- a row was inserted, or changed
 pub did_insert : (s : TableState) (t : TableId) (def : TableDef) (action : Action) (es : List Expr) (row : List Value) (start new : Capped Op) → action ≡ Insert es → built def.columns es [] ≡ Ok row → new ≡ put start (op.Insert t row)
@@ -49,14 +52,14 @@ if_not_true True r e = cc
 if_not_true False r e = refl
 if_not_true Unknown r e = refl
 
-module _ (s : TableState) (t : TableId) (def : TableDef) (action : Action) (places : List ℕ) (key : List Value) (narrow : Narrows (filter_of action) [] places key) (keyed : IsUnderKeys places (table_at s t)) where
-  left_out : (x : List Value) → has_key places key x ≡ false → done_on s t def action x ≡ Ok []
-  left_out x other =
-      let (truth, is, fails) = narrow x other in
+module _ (s : TableState) (t : TableId) (def : TableDef) (action : Action) (places : List ℕ) (key : List Value) (narrow : Narrows (filter_of action) [] def.columns places key) (keyed : IsUnderKeys places (table_at s t)) (fit : HasFit def.columns (table_at s t)) where
+  left_out : (x : List Value) → fits_columns def.columns x ≡ true → has_key places key x ≡ false → done_on s t def action x ≡ Ok []
+  left_out x fits other =
+      let (truth, is, fails) = narrow x (row_types def.columns x fits) other in
       ap (λ o. then_do (λ b. if_true b (done_to s t def action x)) (or_overflow o)) is ∙ if_not_true truth (done_to s t def action x) fails
 
   by_key : each (done_on s t def action) (fm.values (table_at s t)) ≡ each (done_on s t def action) (option_to_list (fm.get (table_at s t) key))
-  by_key = each-filter (done_on s t def action) (has_key places key) left_out (fm.values (table_at s t)) ∙ ap (each (done_on s t def action)) (sym (found_by_key places key (table_at s t) keyed))
+  by_key = each-filter_of (done_on s t def action) (has_key places key) (fits_columns def.columns) left_out (fm.values (table_at s t)) (all_fit def.columns (table_at s t) fit) ∙ ap (each (done_on s t def action)) (sym (found_by_key places key (table_at s t) keyed))
 
   pub none_found : None ≡ fm.get (table_at s t) key → (out : Capped Op) → Adds (each (done_on s t def action) (fm.values (table_at s t))) (Ok tt) out out
   none_found none out = ([], by_key ∙ ap (λ o. each (done_on s t def action) (option_to_list o)) (sym none), refl)
@@ -68,21 +71,25 @@ module _ (s : TableState) (t : TableId) (def : TableDef) (action : Action) (plac
       (sym (by_key ∙ ap (λ o. each (done_on s t def action) (option_to_list o)) (sym found) ∙ added-nil (done_on s t def action row))) h
 
 -- rows of other parents aren't changed
-pub other_parents : (s : TableState) (t : TableId) (def : TableDef) (action : Action) (key : List Value) → slice_get s.schema t.0 ≡ Some def → Narrows (filter_of action) [] (foreign_places def.foreign_key) key → ChangesChildren s t def action key
-other_parents s t def action key is narrow i row at fails =
-    let (truth, e, other) = narrow row (ap (λ d. refers_to key d row) (sym is) ∙ fails) in
+pub other_parents : (s : TableState) (t : TableId) (def : TableDef) (action : Action) (key : List Value) → slice_get s.schema t.0 ≡ Some def → HasFit def.columns (table_at s t) → Narrows (filter_of action) [] def.columns (foreign_places def.foreign_key) key → ChangesChildren s t def action key
+other_parents s t def action key is fit narrow i row at fails =
+    let fits : fits_columns def.columns row ≡ true = known_at (fits_columns def.columns) (fm.values (table_at s t)) i row (all_fit def.columns (table_at s t) fit) at in
+    let (truth, e, other) = narrow row (row_types def.columns row fits) (ap (λ d. refers_to key d row) (sym is) ∙ fails) in
     ap (λ o. then_do (λ b. if_true b (done_to s t def action row)) (or_overflow o)) e ∙ if_not_true truth (done_to s t def action row) other
 
--- the rows of a table stand under their keys, and each has a value for each column
-pub sound_at : (s : TableState) (t : TableId) (def : TableDef) → IsKeyed s → slice_get s.schema t.0 ≡ Some def → IsUnderKeys def.primary_key (table_at s t) × HasWidth (length def.columns) (table_at s t)
+-- the rows of a table stand under their keys, and each fits the columns
+pub sound_at : (s : TableState) (t : TableId) (def : TableDef) → IsKeyed s → slice_get s.schema t.0 ≡ Some def → IsUnderKeys def.primary_key (table_at s t) × HasFit def.columns (table_at s t)
 sound_at s t def keyed is = by (slice_get s.tables t.0) refl
   where
-    by : (o : Option Table) → slice_get s.tables t.0 ≡ o → IsUnderKeys def.primary_key (unwrap_or o fm.empty) × HasWidth (length def.columns) (unwrap_or o fm.empty)
-    by None e = (none_is_under def.primary_key, none_has_width (length def.columns))
+    by : (o : Option Table) → slice_get s.tables t.0 ≡ o → IsUnderKeys def.primary_key (unwrap_or o fm.empty) × HasFit def.columns (unwrap_or o fm.empty)
+    by None e = (none_is_under def.primary_key, none_has_fit def.columns)
     by (Some table) e = keyed t.0 def table is e
 
 pub keyed_at : (s : TableState) (t : TableId) (def : TableDef) → IsKeyed s → slice_get s.schema t.0 ≡ Some def → IsUnderKeys def.primary_key (table_at s t)
 keyed_at s t def keyed is = (sound_at s t def keyed is).0
+
+pub fit_at : (s : TableState) (t : TableId) (def : TableDef) → IsKeyed s → slice_get s.schema t.0 ≡ Some def → HasFit def.columns (table_at s t)
+fit_at s t def keyed is = (sound_at s t def keyed is).1
 
 -- the limits
 module _ (room : ℕ) (change : Change) (s : TableState) (def : TableDef) (is : slice_get s.schema change.table.0 ≡ Some def) where

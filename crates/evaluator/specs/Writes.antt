@@ -12,7 +12,7 @@ use Rattle.row_types.specs.declared.rule.Rule.{Rule}
 use Rattle.row_types.specs.declared.truth.Truth.{Truth}
 use Rattle.row_types.specs.declared.truth.Truth.TheVariants.{True, False, Unknown}
 use Rattle.row_types.specs.declared.value.Value.{Value}
-use Rattle.row_types.specs.Columns.{fit_of}
+use Rattle.row_types.specs.Columns.{stored_in}
 use Rattle.table_defs.specs.declared.definition.TableDef.{TableDef}
 use Rattle.table_state.specs.declared.operation.Op.{Op}
 use Rattle.table_state.specs.declared.operation.Op.TheVariants as op
@@ -33,9 +33,14 @@ abbrev pub values_of : List Expr → List Value → Option (List Value)
 values_of [] row = Some []
 values_of (e ∷ es) row = with_both (λ v vs. Some (v ∷ vs)) (eval e row) (values_of es row)
 
+-- that the column keeps a value, or why it doesn't
+abbrev pub done : Result Value Code → Result (Unit {0}) Code
+done (Ok value) = Ok tt
+done (Err e) = Err e
+
 abbrev pub refuses : Code → Column → Option Value → Bool
 refuses c column None = false
-refuses c column (Some value) = is_code c (fit_of column value)
+refuses c column (Some value) = is_code c (done (stored_in column value))
 
 -- the first column, in table order, that refuses its value for this cause
 abbrev pub first_refusing : Code → List Column → List Expr → List Value → Option (List ℕ)
@@ -43,12 +48,27 @@ first_refusing c [] es row = None
 first_refusing c (column ∷ columns) [] row = None
 first_refusing c (column ∷ columns) (e ∷ es) row = if refuses c column (eval e row) then Some column.name else first_refusing c columns es row
 
--- The row that the expressions give, read on another row: 105 of a column that can't hold its value, then 106 of a
--- column that refuses NULL, then 120.
+abbrev pub kept : Result Value Code → Option Value
+kept (Ok value) = Some value
+kept (Err e) = None
+
+-- what the column keeps of a value: a number is rounded to the column's scale
+abbrev pub stored_value : Column → Option Value → Option Value
+stored_value column None = None
+stored_value column (Some value) = kept (stored_in column value)
+
+-- what the columns keep of the values of expressions; none where one is 120 or isn't kept
+abbrev pub stored_values : List Column → List Expr → List Value → Option (List Value)
+stored_values [] es row = Some []
+stored_values (column ∷ columns) [] row = Some []
+stored_values (column ∷ columns) (e ∷ es) row = with_both (λ v vs. Some (v ∷ vs)) (stored_value column (eval e row)) (stored_values columns es row)
+
+-- The row that the columns keep of what the expressions give, read on another row: 105 of a column that can't hold its
+-- value, rounded to its scale, then 106 of a column that refuses NULL, then 120.
 abbrev pub built : List Column → List Expr → List Value → Result (List Value) Rule
 built columns es row =
     unless code.OutOfRange (first_refusing code.OutOfRange columns es row)
-    (unless code.NullNotAllowed (first_refusing code.NullNotAllowed columns es row) (or_overflow (values_of es row)))
+    (unless code.NullNotAllowed (first_refusing code.NullNotAllowed columns es row) (or_overflow (stored_values columns es row)))
 
 -- without a condition each row is selected
 abbrev pub selects : Option Cond → List Value → Option Truth

@@ -1,23 +1,28 @@
 //! Rows made of expressions.
 
 ghost use Rattle.std.specs.Prelude.{◌≡◌, Err, Ok, Some, None, IfOk, option_copied, drop};
+ghost use Rattle.row_types.specs.Columns.{stored_in};
+ghost use Rattle.row_types.specs.declared.value.Value.TheVariants.{Number as NumberOf};
 ghost use Rattle.std.specs.Option.{option_map};
 ghost use Rattle.tier_base.specs.declared.code.Code.TheVariants as code;
 ghost use Rattle.expressions.specs.Expressions.{eval};
+ghost use Rattle.expressions.specs.Operands.{shown};
 ghost use Rattle.table_state.specs.Refusals.{is_code};
 ghost use Rattle.evaluator.specs.Rules.{Gives, unless};
-ghost use Rattle.evaluator.specs.Writes.{built, first_refusing, refuses, values_of};
+ghost use Rattle.evaluator.specs.Writes.{built, done, first_refusing, refuses, stored_value, stored_values, values_of};
 
 use crate::refusing::overflow;
 use expressions::{Columns, Expr, Operand, value_of};
-use row_types::{Column, Detail, Refused, Row, Rule, Value, fits};
+use numbers::Number;
+use row_types::{Column, Detail, Refused, Row, Rule, Value, fits, stored};
 use std::alloc::{AllocError, Global};
 use tier_base::{Code, Name};
 
-/// The row that the expressions give, one for each column.
+/// The row that the columns keep of what the expressions give, one for each column. A number is rounded to its column's
+/// scale, half away from zero.
 ///
-/// The refusal is 105 of the first column that can't hold its value, then 106 of the first that refuses NULL, then
-/// 120 of an expression; or memory was wanting.
+/// The refusal is 105 of the first column that can't hold its rounded value, then 106 of the first that refuses NULL,
+/// then 120 of an expression; or memory was wanting.
 pub fn build_row<C: Columns>(
     alloc: Global,
     columns: &[Column],
@@ -28,7 +33,7 @@ pub fn build_row<C: Columns>(
 {
     check(alloc, Code::OutOfRange, columns, exprs, on)?;
     check(alloc, Code::NullNotAllowed, columns, exprs, on)?;
-    match values_of(alloc, exprs, on)? {
+    match stored_values(alloc, columns, exprs, on)? {
         None => Err(overflow()),
         Some(values) => Ok(Row::from_vec(values)),
     }
@@ -50,6 +55,51 @@ pub fn values_of<C: Columns>(
         }
     }
     Ok(Some(values))
+}
+
+// What the columns keep of the values of expressions; none where one is 120 or isn't kept.
+fn stored_values<C: Columns>(
+    alloc: Global,
+    columns: &[Column],
+    exprs: &[Expr],
+    on: &C,
+) -> Result<Option<Vec<Value>>, AllocError>
+    ensures { IfOk result (λ values. option_map (λ v. v.items) values ≡ stored_values columns.now exprs.now (C.values on.now)) }
+{
+    let mut values = Vec::with_capacity(alloc, columns.len())?;
+    let mut place: usize = 0;
+    for column in columns {
+        match exprs.get(place) {
+            None => return Ok(Some(values)),
+            Some(expr) => match stored_value(alloc, column, expr, on)? {
+                None => return Ok(None),
+                Some(value) => values.push(value)?,
+            },
+        }
+        place += 1;
+    }
+    Ok(Some(values))
+}
+
+// What the column keeps of the value of an expression.
+fn stored_value<C: Columns>(
+    alloc: Global,
+    column: &Column,
+    expr: &Expr,
+    on: &C,
+) -> Result<Option<Value>, AllocError>
+    ensures { IfOk result (λ value. value ≡ stored_value column.now (eval expr.now (C.values on.now))) }
+{
+    match value_of(expr, on) {
+        None => Ok(None),
+        Some(operand) => {
+            let value = operand.copied(alloc)?;
+            match stored(value, column) {
+                Ok(value) => Ok(Some(value)),
+                Err(_) => Ok(None),
+            }
+        }
+    }
 }
 
 // Refuses where a column refuses its value for this cause.
@@ -99,9 +149,38 @@ fn refuses<C: Columns>(code: Code, column: &Column, expr: &Expr, on: &C) -> bool
 {
     match value_of(expr, on) {
         None => false,
-        Some(Operand::Null) => is_code(code, fits(&Value::Null, column)),
-        Some(Operand::Integer(number)) => is_code(code, fits(&Value::Integer(number), column)),
-        Some(Operand::Stored(value)) => is_code(code, fits(value, column)),
+        Some(operand) => is_code(code, keeps(column, &operand)),
+    }
+}
+
+// Whether the column keeps the value, or why it doesn't. Nothing is copied.
+#[tactic(auto, using(crate::proofs::BuildLaws::done_kept))]
+fn keeps(column: &Column, operand: &Operand<'_>) -> Result<(), Code>
+    ensures { result ≡ done (stored_in column.now (shown operand.now)) }
+{
+    match operand {
+        Operand::Null => fits(&Value::Null, column),
+        Operand::Number(number) => keeps_number(column, *number),
+        Operand::Stored(value) => keeps_value(column, value),
+    }
+}
+
+#[tactic(auto, using(crate::proofs::BuildLaws::done_kept))]
+fn keeps_value(column: &Column, value: &Value) -> Result<(), Code>
+    ensures { result ≡ done (stored_in column.now value.now) }
+{
+    match value {
+        Value::Number(number) => keeps_number(column, *number),
+        _ => fits(value, column),
+    }
+}
+
+fn keeps_number(column: &Column, number: Number) -> Result<(), Code>
+    ensures { result ≡ done (stored_in column.now (NumberOf number)) }
+{
+    match stored(Value::Number(number), column) {
+        Ok(_) => Ok(()),
+        Err(code) => Err(code),
     }
 }
 

@@ -3,7 +3,7 @@
 ghost use Rattle.std.specs.Prelude.{◌≡◌, Some, slice_get};
 ghost use Rattle.std.specs.FinMap.{values};
 ghost use Rattle.table_state.specs.Tables.{table_at};
-ghost use Rattle.table_scan.specs.Keyed.{IsKeyed, IsUnderKeys};
+ghost use Rattle.table_scan.specs.Keyed.{HasFit, IsKeyed, IsUnderKeys};
 ghost use Rattle.evaluator.specs.KeyPaths.{ChangesChildren};
 ghost use Rattle.evaluator.specs.Rules.{Adds, Gives, each};
 ghost use Rattle.evaluator.specs.Writes.{done_in, done_on, done_to, effects_of, passes_rows};
@@ -27,6 +27,8 @@ use tier_base::{Limit, TableId};
 /// The operations of a write, on its selected rows in key order. An update's expressions are read on the old row, and
 /// a deletion stands behind those of the rows that leave with it by ON DELETE CASCADE. `room` is how many operations
 /// its transaction may still have.
+///
+/// Each number of a new row is rounded to its column's scale, half away from zero, before it is seen whether it fits.
 ///
 /// The refusal is the first broken rule, row by row: 120 of its condition, 105 of the first column that can't hold its
 /// value, 106 of the first that refuses NULL, 120 of an expression. Then 119 of the transaction's operations, and 119 of
@@ -80,6 +82,7 @@ fn add_ops<S: Scan>(
 ) -> Result<(), Refused>
     requires its_def { slice_get (S.state scan.now).schema table.0 ≡ Some def.now }
     requires under_keys { IsUnderKeys def.now.primary_key (table_at (S.state scan.now) table) }
+    requires fit { HasFit def.now.columns (table_at (S.state scan.now) table) }
     ensures { Adds (done_in (S.state scan.now) table def.now action.now) result out.old out.new }
 {
     match action {
@@ -104,12 +107,14 @@ fn change_rows<S: Scan>(
 ) -> Result<(), Refused>
     requires its_def { slice_get (S.state scan.now).schema table.0 ≡ Some def.now }
     requires under_keys { IsUnderKeys def.now.primary_key (table_at (S.state scan.now) table) }
+    requires fit { HasFit def.now.columns (table_at (S.state scan.now) table) }
     ensures { Adds (each (done_on (S.state scan.now) table def.now action.now) (values (table_at (S.state scan.now) table))) result out.old out.new }
 {
     match selected_key(
         alloc,
         action.filter(),
         &Beside::Nothing,
+        def.columns.as_slice(),
         def.primary_key.as_slice(),
     )? {
         None => change_many(alloc, scan, table, def, action, out),
@@ -129,10 +134,17 @@ fn change_many<S: Scan>(
     action: &Action,
     out: &mut Capped<Op>,
 ) -> Result<(), Refused>
-    requires { slice_get (S.state scan.now).schema table.0 ≡ Some def.now }
+    requires its_def { slice_get (S.state scan.now).schema table.0 ≡ Some def.now }
+    requires fit { HasFit def.now.columns (table_at (S.state scan.now) table) }
     ensures { Adds (each (done_on (S.state scan.now) table def.now action.now) (values (table_at (S.state scan.now) table))) result out.old out.new }
 {
-    match selected_parent(alloc, action.filter(), &Beside::Nothing, &def.foreign_key)? {
+    match selected_parent(
+        alloc,
+        action.filter(),
+        &Beside::Nothing,
+        def.columns.as_slice(),
+        &def.foreign_key,
+    )? {
         None => change_all(alloc, scan, table, def, action, out),
         Some(key) => change_children(alloc, scan, table, def, action, &key, out),
     }

@@ -1,5 +1,5 @@
--- The truth of conditions: none where a number leaves 64 signed bits in any part, since every operand is evaluated.
--- (TimesTen SQL Reference, "Search conditions", "Comparison predicate", "BETWEEN predicate", "IN predicate", "IS NULL
+-- The truth of conditions: none where an operand has no value, since every operand is evaluated. Numbers are compared by
+-- what they stand for. (TimesTen SQL Reference, "Search conditions", "Comparison predicate", "BETWEEN predicate", "IN predicate", "IS NULL
 -- predicate"; that every operand is evaluated is this project's rule.)
 
 use Rattle.std.specs.Prelude.{List, [], ◌∷◌, Option, Some, None, Bool, true, false, ◌||◌, not, if◌then◌else◌}
@@ -9,8 +9,8 @@ use Rattle.std.specs.declared.cmp.Ordering.{Ordering}
 use Rattle.row_types.specs.declared.truth.Truth.{Truth}
 use Rattle.row_types.specs.declared.truth.Truth.TheVariants.{False, Unknown}
 use Rattle.row_types.specs.declared.value.Value.{Value}
-use Rattle.row_types.specs.declared.value.Value.TheVariants.{Null, Integer, Text, Time}
-use Rattle.row_types.specs.Order.{order_of}
+use Rattle.row_types.specs.Order.{value_order}
+use Rattle.row_types.specs.Values.{is_null}
 use Rattle.row_types.specs.Truths.{both, either, negation, truth_of}
 use Rattle.expressions.specs.Expressions.{with_both, eval}
 use Rattle.expressions.specs.declared.condition.Comparator.{Comparator}
@@ -28,15 +28,9 @@ stands is.AtMost o = not (is_gt o)
 stands is.Greater o = is_gt o
 stands is.AtLeast o = not (is_lt o)
 
-abbrev pub is_null : Value → Bool
-is_null Null = true
-is_null (Integer n) = false
-is_null (Text bytes) = false
-is_null (Time seconds) = false
-
--- by the order of values, unknown where a side is NULL
+-- by the order of what values stand for, unknown where a side is NULL
 abbrev pub compared : Comparator → Value → Value → Truth
-compared k a b = if is_null a || is_null b then Unknown else truth_of (stands k (order_of a b))
+compared k a b = if is_null a || is_null b then Unknown else truth_of (stands k (value_order a b))
 
 abbrev pub comparison : Comparator → Option Value → Option Value → Option Truth
 comparison k = with_both (λ a b. Some (compared k a b))

@@ -1,15 +1,16 @@
--- The values of expressions: none where a number leaves 64 signed bits in any part. (TimesTen SQL Reference,
--- "Expressions" and "Null values"; numbers of 64 signed bits without rounding are this project's rule.)
+-- The values of expressions: none where the units of a number leave 64 signed bits in any part, or its scale passes 18.
+-- (TimesTen SQL Reference, "Expressions" and "Null values"; exact numbers are this project's rule.)
 
-use Rattle.std.specs.Prelude.{◌≡◌, ℤ, ◌+ℤ◌, ◌-ℤ◌, ◌*ℤ◌, List, Option, Some, None, if◌then◌else◌, slice_get, unwrap_or}
+use Rattle.std.specs.Prelude.{◌≡◌, List, Option, Some, None, slice_get, unwrap_or}
+use Rattle.std.specs.Option.{option_map}
+use Rattle.numbers.specs.Arithmetic.{difference_of, product_of, sum_of}
+use Rattle.numbers.specs.Decimals.{Decimal}
 use Rattle.tier_base.specs.declared.code.Code.TheVariants as code
-use Rattle.row_types.specs.Columns.{holds}
-use Rattle.row_types.specs.declared.column.Ty.TheVariants.{TtBigint}
 use Rattle.row_types.specs.declared.rule.Detail.TheVariants as detail
 use Rattle.row_types.specs.declared.rule.Refused.{Refused}
 use Rattle.row_types.specs.declared.rule.Refused.TheVariants.{Rule, Memory}
 use Rattle.row_types.specs.declared.value.Value.{Value}
-use Rattle.row_types.specs.declared.value.Value.TheVariants.{Null, Integer, Text, Time}
+use Rattle.row_types.specs.declared.value.Value.TheVariants.{Null, Number, Text, Time}
 use Rattle.expressions.specs.declared.expression.Arithmetic.{Arithmetic}
 use Rattle.expressions.specs.declared.expression.Arithmetic.TheVariants.{Plus, Minus, Times}
 use Rattle.expressions.specs.declared.expression.Expr.{Expr}
@@ -21,25 +22,21 @@ with_both f (Some x) (Some y) = f x y
 with_both f (Some x) None = None
 with_both f None y = None
 
--- the operation on all whole numbers
-abbrev pub exact : Arithmetic → ℤ → ℤ → ℤ
-exact Plus x y = x +ℤ y
-exact Minus x y = x -ℤ y
-exact Times x y = x *ℤ y
+-- the operation on numbers
+abbrev pub exact : Arithmetic → Decimal → Decimal → Option Decimal
+exact Plus x y = sum_of x y
+exact Minus x y = difference_of x y
+exact Times x y = product_of x y
 
--- the number, where it has 64 signed bits
-abbrev pub number : ℤ → Option Value
-number n = if holds TtBigint (Integer n) then Some (Integer n) else None
-
-abbrev pub number_in : Value → Option ℤ
+abbrev pub number_in : Value → Option Decimal
 number_in Null = None
-number_in (Integer n) = Some n
+number_in (Number n) = Some n
 number_in (Text bytes) = None
 number_in (Time seconds) = None
 
 -- NULL where a side is no number
-abbrev pub calculated_with : Arithmetic → Option ℤ → Option ℤ → Option Value
-calculated_with o (Some x) (Some y) = number (exact o x y)
+abbrev pub calculated_with : Arithmetic → Option Decimal → Option Decimal → Option Value
+calculated_with o (Some x) (Some y) = option_map Number (exact o x y)
 calculated_with o (Some x) None = Some Null
 calculated_with o None y = Some Null
 

@@ -8,7 +8,7 @@ use Rattle.tier_base.specs.declared.code.Code.TheVariants.{TypeMismatch}
 use Rattle.row_types.specs.declared.column.Ty.{Ty}
 use Rattle.row_types.specs.declared.column.Ty.TheVariants as ty
 use Rattle.row_types.specs.declared.value.Value.{Value}
-use Rattle.row_types.specs.declared.value.Value.TheVariants.{Null, Integer, Text, Time}
+use Rattle.row_types.specs.declared.value.Value.TheVariants as one
 use Rattle.expressions.specs.declared.condition.Cond.{Cond}
 use Rattle.expressions.specs.declared.condition.Cond.TheVariants as cond
 use Rattle.expressions.specs.declared.expression.Expr.{Expr}
@@ -19,6 +19,7 @@ use Rattle.expressions.specs.declared.typing.Family.TheVariants.{Number, Charact
 abbrev pub family_of_type : Ty → Family
 family_of_type ty.TtInteger = Number
 family_of_type ty.TtBigint = Number
+family_of_type (ty.Number precision scale) = Number
 family_of_type (ty.Varchar2 greatest) = Characters
 family_of_type ty.Timestamp = Datetime
 
@@ -40,10 +41,10 @@ suits (Some a) None = true
 suits None b = true
 
 abbrev pub family_of_value : Value → Option Family
-family_of_value Null = None
-family_of_value (Integer n) = Some Number
-family_of_value (Text bytes) = Some Characters
-family_of_value (Time seconds) = Some Datetime
+family_of_value one.Null = None
+family_of_value (one.Number n) = Some Number
+family_of_value (one.Text bytes) = Some Characters
+family_of_value (one.Time seconds) = Some Datetime
 
 -- a number or NULL
 abbrev pub is_numeric : Option Family → Bool

@@ -2,8 +2,8 @@
 
 ghost use Rattle.std.specs.Prelude.{◌≡◌, Some, None, drop, IfErr, IfOk};
 ghost use Rattle.std.specs.Option.{option_map};
-ghost use Rattle.row_types.specs.Truths.{truth_of};
-ghost use Rattle.expressions.specs.Conditions.{among, compared, comparison, holds, is_null, stands};
+ghost use Rattle.row_types.specs.Values.{is_null};
+ghost use Rattle.expressions.specs.Conditions.{among, compared, comparison, holds, stands};
 ghost use Rattle.expressions.specs.Expressions.{IsOverflow, eval};
 ghost use Rattle.expressions.specs.Operands.{shown};
 
@@ -63,7 +63,8 @@ impl Drop for Cond {
     }
 }
 
-/// What the condition is on these columns. None where a number leaves 64 signed bits in any part of it: each operand
+/// What the condition is on these columns. None where the units of a number leave 64 signed bits in any part of it, or its
+/// scale passes 18: each operand
 /// of AND, OR, IN and BETWEEN is evaluated, whatever the others are. It takes no memory.
 ///
 /// (TimesTen SQL Reference, "Search conditions"; that every operand is evaluated is this project's rule.)
@@ -73,8 +74,10 @@ pub fn truth_on<C: Columns>(cond: &Cond, columns: &C) -> Option<Truth>
     match cond {
         Cond::Compared(comparator, left, right) => comparison(*comparator, left, right, columns),
         Cond::IsNull(expr) => {
-            let value = value_of(expr, columns)?;
-            Some(truth_of_test(is_null(value)))
+            match value_of(expr, columns) {
+                None => None,
+                Some(value) => Some(Truth::of(is_null(&value))),
+            }
         }
         Cond::Between(expr, low, high) => {
             let low = comparison(Comparator::AtLeast, expr, low, columns)?;
@@ -82,8 +85,10 @@ pub fn truth_on<C: Columns>(cond: &Cond, columns: &C) -> Option<Truth>
             Some(low.and(high))
         }
         Cond::In(expr, list) => {
-            let value = value_of(expr, columns)?;
-            among(value, list.as_slice(), columns)
+            match value_of(expr, columns) {
+                None => None,
+                Some(value) => among(&value, list.as_slice(), columns),
+            }
         }
         Cond::Not(cond) => {
             let truth = truth_on(cond, columns)?;
@@ -104,7 +109,7 @@ pub fn truth_on<C: Columns>(cond: &Cond, columns: &C) -> Option<Truth>
 
 /// What the condition is on a row. It takes no memory.
 ///
-/// The refusal is 120, exactly where a number leaves 64 signed bits in any part of it.
+/// The refusal is 120, exactly where the units of a number leave 64 signed bits in any part of it, or its scale passes 18.
 pub fn holds(cond: &Cond, row: &Row) -> Result<Truth, Refused>
     ensures truth { IfOk result (λ truth. holds cond.now row.now ≡ Some truth) }
     ensures refused { IfErr result (IsOverflow (holds cond.now row.now)) }
@@ -118,36 +123,31 @@ pub fn holds(cond: &Cond, row: &Row) -> Result<Truth, Refused>
     }
 }
 
-fn comparison<C: Columns>(
+fn comparison<'a, C: Columns>(
     comparator: Comparator,
-    left: &Expr,
-    right: &Expr,
-    columns: &C,
+    left: &'a Expr,
+    right: &'a Expr,
+    columns: &'a C,
 ) -> Option<Truth>
     ensures { result ≡ comparison comparator (eval left.now (C.values columns.now)) (eval right.now (C.values columns.now)) }
 {
-    let left = value_of(left, columns)?;
-    let right = value_of(right, columns)?;
-    Some(compared(comparator, left, right))
+    match (value_of(left, columns), value_of(right, columns)) {
+        (Some(left), Some(right)) => Some(compared(comparator, &left, &right)),
+        _ => None,
+    }
 }
 
-fn compared<'a>(comparator: Comparator, left: Operand<'a>, right: Operand<'a>) -> Truth
-    ensures { result ≡ compared comparator (shown left.entry) (shown right.entry) }
+fn compared<'a>(comparator: Comparator, left: &Operand<'a>, right: &Operand<'a>) -> Truth
+    ensures { result ≡ compared comparator (shown left.now) (shown right.now) }
 {
     if is_null(left) || is_null(right) {
         return Truth::Unknown;
     }
-    truth_of_test(stands(comparator, left.order(right)))
+    Truth::of(stands(comparator, left.order(right)))
 }
 
-fn truth_of_test(test: bool) -> Truth
-    ensures { result ≡ truth_of test }
-{
-    if test { Truth::True } else { Truth::False }
-}
-
-fn is_null(operand: Operand<'_>) -> bool
-    ensures { result ≡ is_null (shown operand.entry) }
+fn is_null(operand: &Operand<'_>) -> bool
+    ensures { result ≡ is_null (shown operand.now) }
 {
     match operand {
         Operand::Null => true,
@@ -170,15 +170,18 @@ fn stands(comparator: Comparator, order: Ordering) -> bool
 }
 
 // Whether the value is equal to one of these.
-fn among<'a, C: Columns>(value: Operand<'a>, list: &'a [Expr], columns: &'a C) -> Option<Truth>
-    ensures { result ≡ among (shown value.entry) list.now (C.values columns.now) }
+fn among<'a, C: Columns>(value: &Operand<'a>, list: &'a [Expr], columns: &'a C) -> Option<Truth>
+    ensures { result ≡ among (shown value.now) list.now (C.values columns.now) }
 {
     match list.split_first() {
         None => Some(Truth::False),
         Some((first, list)) => {
-            let first = value_of(first, columns)?;
-            let others = among(value, list, columns)?;
-            Some(compared(Comparator::Equal, value, first).or(others))
+            match (value_of(first, columns), among(value, list, columns)) {
+                (Some(first), Some(others)) => {
+                    Some(compared(Comparator::Equal, value, &first).or(others))
+                }
+                _ => None,
+            }
         }
     }
 }

@@ -1,13 +1,14 @@
 //! Expressions and their values.
 
-ghost use Rattle.std.specs.Prelude.{◌≡◌, Some, None, IfErr, IfOk, MatchResult, option_copied, unwrap_or, ℤ};
+ghost use Rattle.std.specs.Prelude.{◌≡◌, Some, None, IfErr, IfOk, MatchResult, option_copied, unwrap_or};
 ghost use Rattle.std.specs.Option.{option_map};
 ghost use Rattle.row_types.specs.declared.value.Value.TheVariants as one;
-ghost use Rattle.expressions.specs.Expressions.{IsOverflow, calculated, eval, exact, number, number_in};
+ghost use Rattle.expressions.specs.Expressions.{IsOverflow, calculated, eval, exact, number_in};
 ghost use Rattle.expressions.specs.Operands.{shown};
 
 use crate::columns::Columns;
 use crate::operand::Operand;
+use numbers::Number;
 use row_types::{Detail, Refused, Row, Rule, Value};
 use std::alloc::Global;
 use tier_base::Code;
@@ -43,10 +44,11 @@ impl Drop for Expr {
     }
 }
 
-/// What the expression is on these columns. None where a number leaves 64 signed bits in any part of it.
+/// What the expression is on these columns. None where the units of a number leave 64 signed bits in any part of it, or
+/// its scale passes 18. `+` and `-` have the greater scale, `*` the sum of the scales.
 ///
 /// Arithmetic with NULL is NULL, and so is arithmetic on a text or a time, which the rule of types refuses
-/// beforehand. (TimesTen SQL Reference, "Expressions"; exact numbers of 64 signed bits are this project's rule.)
+/// beforehand. (TimesTen SQL Reference, "Expressions"; exact numbers are this project's rule.)
 pub fn value_of<'a, C: Columns>(expr: &'a Expr, columns: &'a C) -> Option<Operand<'a>>
     ensures { option_map shown result ≡ eval expr.now (C.values columns.now) }
 {
@@ -54,17 +56,18 @@ pub fn value_of<'a, C: Columns>(expr: &'a Expr, columns: &'a C) -> Option<Operan
         Expr::Literal(value) => Some(Operand::Stored(value)),
         Expr::Column(place) => Some(stored_or_null(columns.at(*place))),
         Expr::Binary(operation, left, right) => {
-            let left = value_of(left, columns)?;
-            let right = value_of(right, columns)?;
-            calculated(*operation, left, right)
+            match (value_of(left, columns), value_of(right, columns)) {
+                (Some(left), Some(right)) => calculated(*operation, &left, &right),
+                _ => None,
+            }
         }
     }
 }
 
 /// What the expression is on a row.
 ///
-/// `Refused::Rule` is 120 exactly where a number leaves 64 signed bits in any part of it. `Refused::Memory` comes
-/// where memory is wanting for the copy.
+/// `Refused::Rule` is 120 exactly where the units of a number leave 64 signed bits in any part of it, or its scale passes
+/// 18. `Refused::Memory` comes where memory is wanting for the copy.
 pub fn eval(alloc: Global, expr: &Expr, row: &Row) -> Result<Value, Refused>
     ensures value { IfOk result (λ value. eval expr.now row.now ≡ Some value) }
     ensures refused { IfErr result (IsOverflow (eval expr.now row.now)) }
@@ -92,10 +95,10 @@ fn stored_or_null<'a>(value: Option<&'a Value>) -> Operand<'a>
 
 fn calculated<'a>(
     operation: Arithmetic,
-    left: Operand<'a>,
-    right: Operand<'a>,
+    left: &Operand<'_>,
+    right: &Operand<'_>,
 ) -> Option<Operand<'a>>
-    ensures { option_map shown result ≡ calculated operation (shown left.entry) (shown right.entry) }
+    ensures { option_map shown result ≡ calculated operation (shown left.now) (shown right.now) }
 {
     match (number_in(left), number_in(right)) {
         (Some(x), Some(y)) => number(exact(operation, x, y)),
@@ -103,33 +106,31 @@ fn calculated<'a>(
     }
 }
 
-fn number_in(operand: Operand<'_>) -> Option<i64>
-    ensures { result ≡ number_in (shown operand.entry) }
+fn number_in(operand: &Operand<'_>) -> Option<Number>
+    ensures { result ≡ number_in (shown operand.now) }
 {
     match operand {
-        Operand::Integer(number) => Some(number),
-        Operand::Stored(Value::Integer(number)) => Some(*number),
+        Operand::Number(number) => Some(*number),
+        Operand::Stored(Value::Number(number)) => Some(*number),
         _ => None,
     }
 }
 
-fn exact(operation: Arithmetic, x: i64, y: i64) -> i128
+fn exact(operation: Arithmetic, x: Number, y: Number) -> Option<Number>
     ensures { result ≡ exact operation x y }
 {
-    let (x, y) = (i128::from(x), i128::from(y));
     match operation {
-        Arithmetic::Plus => x + y,
-        Arithmetic::Minus => x - y,
-        Arithmetic::Times => x * y,
+        Arithmetic::Plus => x.plus(y),
+        Arithmetic::Minus => x.minus(y),
+        Arithmetic::Times => x.times(y),
     }
 }
 
-fn number<'a>(n: i128) -> Option<Operand<'a>>
-    ensures { option_map shown result ≡ number n }
+fn number<'a>(number: Option<Number>) -> Option<Operand<'a>>
+    ensures { option_map shown result ≡ option_map one.Number number }
 {
-    if n < -9_223_372_036_854_775_808 || n > 9_223_372_036_854_775_807 {
-        None
-    } else {
-        Some(Operand::Integer(n as i64))
+    match number {
+        None => None,
+        Some(number) => Some(Operand::Number(number)),
     }
 }

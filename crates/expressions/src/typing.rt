@@ -11,7 +11,7 @@ use tier_base::Code;
 /// A family of types. Values of one family can be compared.
 #[derive(Clone, Copy, Debug, PartialEq, Eq)]
 pub enum Family {
-    /// TT_INTEGER and TT_BIGINT.
+    /// TT_INTEGER, TT_BIGINT and NUMBER.
     Number,
     /// VARCHAR2.
     Characters,
@@ -26,6 +26,7 @@ pub fn family_of_type(ty: Ty) -> Family
     match ty {
         Ty::TtInteger => Family::Number,
         Ty::TtBigint => Family::Number,
+        Ty::Number(_, _) => Family::Number,
         Ty::Varchar2(_) => Family::Characters,
         Ty::Timestamp => Family::Datetime,
     }
@@ -119,7 +120,7 @@ fn family_of_value(value: &Value) -> Option<Family>
 {
     match value {
         Value::Null => None,
-        Value::Integer(_) => Some(Family::Number),
+        Value::Number(_) => Some(Family::Number),
         Value::Text(_) => Some(Family::Characters),
         Value::Time(_) => Some(Family::Datetime),
     }

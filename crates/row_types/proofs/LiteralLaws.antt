@@ -11,12 +11,12 @@ use Rattle.std.proofs.lemmas.Fmt.{decimal_is_IsNumeral_wide}
 use Rattle.std.proofs.lemmas.List.{length-append}
 use Rattle.std.proofs.lemmas.Str.Parse.{digit_at}
 use Rattle.std.proofs.Math.Seq.{take-append_seam, get_or-append_seam}
-use Rattle.row_types.specs.declared.value.Value.TheVariants.{Integer, Text}
-use Rattle.row_types.specs.declared.column.Ty.TheVariants.{TtBigint}
-use Rattle.row_types.specs.Columns.{holds}
-use Rattle.row_types.specs.Literals.{value_of, integer_value, integer_of, is_integer, is_negative, is_quoted, held_text, undoubled}
+use Rattle.row_types.specs.declared.value.Value.TheVariants.{Number, Text}
+use Rattle.row_types.specs.Literals.{value_of, number_value, is_quoted, held_text, undoubled}
 use Rattle.row_types.specs.Printing.{printed, doubled_quote}
-use Rattle.row_types.proofs.Digits.{numerals, value_if}
+use Rattle.numbers.specs.Decimals.{Decimal, IsNumber}
+use Rattle.numbers.specs.NumberTexts.{printed_number}
+use Rattle.numbers.proofs.TextLaws.{printed_first, printed_is_read}
 use Rattle.row_types.proofs.QuoteLemmas.{undoubled-nil, undoubled-plain, first_pair}
 
 middle_false : (a c : Bool) → a && false && c ≡ false
@@ -24,50 +24,21 @@ middle_false false c = refl
 middle_false true c = refl
 
 -- bytes that begin with a digit or a `-` are a literal of a number or none
-begins_number : (b : ℕ) (bytes : List ℕ) → 45 ≤ b → b ≤ 57 → value_of (b ∷ bytes) ≡ integer_value (b ∷ bytes)
+begins_number : (b : ℕ) (bytes : List ℕ) → 45 ≤ b → b ≤ 57 → value_of (b ∷ bytes) ≡ number_value (b ∷ bytes)
 begins_number b bytes low high =
     let null : nat_eq b 78 ≡ false = grind (arith, nat_tests) in
     let quote : nat_eq b 39 ≡ false = grind (arith, nat_tests) in
     let time : nat_eq 84 b ≡ false = grind (arith, nat_tests) in
     rw (null, quote, time) (simp middle_false)
 
-begins_numbers : (bytes : List ℕ) → 0 < length bytes → 45 ≤ get_or bytes 0 0 → get_or bytes 0 0 ≤ 57 → value_of bytes ≡ integer_value bytes
+begins_numbers : (bytes : List ℕ) → 0 < length bytes → 45 ≤ get_or bytes 0 0 → get_or bytes 0 0 ≤ 57 → value_of bytes ≡ number_value bytes
 begins_numbers [] some low high = absurd (omega arith)
 begins_numbers (b ∷ bytes) some low high = begins_number b bytes low high
 
--- the digits of a number
-decimal_parts : (n : ℕ) → n < 2 ^ 64 → (0 < length (decimal n)) × (list_all is_ascii_digit (decimal n) ≡ true) × (digits_value 10 (decimal n) ≡ n) × (48 ≤ get_or (decimal n) 0 0) × (get_or (decimal n) 0 0 ≤ 57)
-decimal_parts n small =
-    let is = decimal_is_IsNumeral_wide n (omega arith) in
-    let first = digit_at (decimal n) 0 is.0.1 is.0.0 in
-    (is.0.0, numerals.from (decimal n) is.0.1, is.1, first.0, first.1)
-
-integer_of_digits : (bytes : List ℕ) (z : ℤ) → is_integer bytes ≡ true → integer_of bytes ≡ z → holds TtBigint (Integer z) ≡ true → integer_value bytes ≡ Some (Integer z)
-integer_of_digits bytes z is e held = value_if bytes true is (rw e held) ∙ ap (λ n. Some (Integer n)) e
-
-plain_integer : (n : ℕ) → n < 2 ^ 64 → (is_integer (decimal n) ≡ true) × (integer_of (decimal n) ≡ pos n)
-plain_integer n small =
-    let parts = decimal_parts n small in
-    let plain : is_negative (decimal n) ≡ false = grind (arith, nat_tests, parts.3) in
-    let some : nat_lt 0 (length (decimal n)) ≡ true = grind (arith, nat_tests, parts.0) in
-    (rw (plain, some, parts.1), rw plain (ap pos parts.2))
-
-negative_integer : (n : ℕ) → n < 2 ^ 64 → (is_integer (45 ∷ decimal n) ≡ true) × (integer_of (45 ∷ decimal n) ≡ neg_ℤ (pos n))
-negative_integer n small =
-    let parts = decimal_parts n small in
-    let some : nat_lt 0 (length (decimal n)) ≡ true = grind (arith, nat_tests, parts.0) in
-    (rw (some, parts.1), ap (λ m. neg_ℤ (pos m)) parts.2)
-
-pub printed_integer : (n : ℤ) → holds TtBigint (Integer n) ≡ true → value_of (printed (Integer n)) ≡ Some (Integer n)
-printed_integer (pos n) held =
-    let small : n < 2 ^ 64 = grind (arith, nat_tests, ints) in
-    let parts = decimal_parts n small in
-    let is = plain_integer n small in
-    begins_numbers (decimal n) parts.0 (omega (arith, parts.3)) parts.4 ∙ integer_of_digits (decimal n) (pos n) is.0 is.1 held
-printed_integer (negsuc n) held =
-    let small : suc n < 2 ^ 64 = grind (arith, nat_tests, ints) in
-    let is = negative_integer (suc n) small in
-    begins_number 45 (decimal (suc n)) (omega arith) (omega arith) ∙ integer_of_digits (45 ∷ decimal (suc n)) (negsuc n) is.0 is.1 held
+pub printed_number_is : (n : Decimal) → IsNumber n → value_of (printed (Number n)) ≡ Some (Number n)
+printed_number_is n is =
+    let first = printed_first n is in
+    begins_numbers (printed_number n) first.0 first.1 first.2 ∙ ap (option_map Number) (printed_is_read n is)
 
 undoubled_more : (b : ℕ) (text rest : List ℕ) → undoubled rest ≡ Some text → undoubled (doubled_quote b ++ rest) ≡ Some (b ∷ text)
 undoubled_more b text rest e = by (nat_eq b 39) refl

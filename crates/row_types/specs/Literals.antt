@@ -1,42 +1,22 @@
 -- Literals and the values that they stand for. (TimesTen SQL Reference, "Constants", "Datetime literals" and "Null
 -- values", where the text without bytes is NULL. The ranges are this project's.)
 
-use Rattle.std.specs.Prelude.{ℕ, ◌-◌, ◌==◌, nat_eq, nat_lt, nat_le, Bool, ◌&&◌, if◌then◌else◌, List, [], ◌∷◌, ◌≡◌, length, drop, codes, slice_index, slice_range, Option, Some, None, ℤ, pos, neg_ℤ}
+use Rattle.std.specs.Prelude.{ℕ, ◌-◌, ◌==◌, nat_eq, nat_le, Bool, ◌&&◌, if◌then◌else◌, List, [], ◌∷◌, ◌≡◌, length, codes, slice_index, slice_range, Option, Some, None}
 use Rattle.std.specs.Option.{option_map, option_and_then}
-use Rattle.std.specs.List.{list_all, starts_with}
-use Rattle.std.specs.Char.{is_ascii_digit}
+use Rattle.std.specs.List.{starts_with}
 use Rattle.std.specs.Cmp.Lexicographic.{pointwise}
-use Rattle.std.specs.Str.Parse.{digits_value}
 use Rattle.tier_base.specs.declared.code.Code.TheVariants.{OutOfRange}
-use Rattle.row_types.specs.declared.column.Ty.TheVariants.{TtBigint}
+use Rattle.numbers.specs.NumberTexts.{number_read}
 use Rattle.row_types.specs.declared.rule.Detail.TheVariants.{NoType}
 use Rattle.row_types.specs.declared.rule.Refused.{Refused}
 use Rattle.row_types.specs.declared.rule.Refused.TheVariants.{Rule, Memory}
 use Rattle.row_types.specs.declared.value.Value.{Value}
-use Rattle.row_types.specs.declared.value.Value.TheVariants.{Null, Integer, Text, Time}
-use Rattle.row_types.specs.Columns.{holds}
+use Rattle.row_types.specs.declared.value.Value.TheVariants.{Null, Number, Text, Time}
 use Rattle.row_types.specs.TimeTexts.{time_of}
 
--- a `-` first
-abbrev pub is_negative : List ℕ → Bool
-is_negative bytes = slice_index bytes 0 == 45
-
--- what stands behind it
-abbrev pub digits_of : List ℕ → List ℕ
-digits_of bytes = if is_negative bytes then drop 1 bytes else bytes
-
--- digits with or without a `-` before them, and leading zeros as one likes
-abbrev pub is_integer : List ℕ → Bool
-is_integer bytes = nat_lt 0 (length (digits_of bytes)) && list_all is_ascii_digit (digits_of bytes)
-
-abbrev pub integer_of : List ℕ → ℤ
-integer_of bytes =
-    if is_negative bytes then neg_ℤ (pos (digits_value 10 (digits_of bytes))) else pos (digits_value 10 (digits_of bytes))
-
--- an integer of 64 signed bits
-abbrev pub integer_value : List ℕ → Option Value
-integer_value bytes =
-    if is_integer bytes && holds TtBigint (Integer (integer_of bytes)) then Some (Integer (integer_of bytes)) else None
+-- a number: digits, or digits, a point and up to 18 digits, with units that 64 signed bits hold
+abbrev pub number_value : List ℕ → Option Value
+number_value bytes = option_map Number (number_read bytes)
 
 -- a quote at either end
 abbrev pub is_quoted : List ℕ → Bool
@@ -72,7 +52,7 @@ value_of bytes =
     if pointwise nat_eq bytes (codes "NULL") then Some Null
     else (if is_quoted bytes then text_value bytes
     else (if is_time_literal bytes then time_value bytes
-    else integer_value bytes))
+    else number_value bytes))
 
 -- why a literal is refused: it has no value, or memory was wanting
 abbrev pub IsLiteralRefusal : List ℕ → Refused → Type 0

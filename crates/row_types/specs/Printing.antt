@@ -1,10 +1,10 @@
 -- How values and keys are printed. (This project's rule.)
 
 use Rattle.std.specs.Prelude.{ℕ, List, [], ◌∷◌, ◌++◌, nat_eq, if◌then◌else◌, codes}
-use Rattle.std.specs.Fmt.{signed_decimal}
+use Rattle.numbers.specs.NumberTexts.{printed_number}
 use Rattle.std.specs.List.{flat_map}
 use Rattle.row_types.specs.declared.value.Value.{Value}
-use Rattle.row_types.specs.declared.value.Value.TheVariants.{Null, Integer, Text, Time}
+use Rattle.row_types.specs.declared.value.Value.TheVariants.{Null, Number, Text, Time}
 use Rattle.row_types.specs.TimeTexts.{time_text}
 
 -- a byte of a text, a quote twice
@@ -15,10 +15,10 @@ doubled_quote b = if nat_eq b 39 then 39 ∷ 39 ∷ [] else b ∷ []
 abbrev pub quoted : List ℕ → List ℕ
 quoted bytes = 39 ∷ flat_map doubled_quote bytes ++ 39 ∷ []
 
--- NULL as `NULL`, numbers in decimal, texts in single quotes, times as `YYYY-MM-DD HH:MM:SS`
+-- NULL as `NULL`, numbers in decimal with exactly the scale's digits behind the point, texts in single quotes, times as `YYYY-MM-DD HH:MM:SS`
 abbrev pub printed : Value → List ℕ
 printed Null = codes "NULL"
-printed (Integer n) = signed_decimal n
+printed (Number n) = printed_number n
 printed (Text bytes) = quoted bytes
 printed (Time seconds) = time_text seconds
 

@@ -1,7 +1,7 @@
 //! Columns and what they hold.
 
 ghost use Rattle.std.specs.Prelude.{◌≡◌, ◌↔◌, ◌≤◌, IfOk, IsTrue};
-ghost use Rattle.row_types.specs.Columns.{fit_of, holds, is_within};
+ghost use Rattle.row_types.specs.Columns.{fit_of, holds, is_within, rescaled_for, rounded_for, scale_of, stored_in};
 
 use crate::value::Value;
 use std::alloc::{AllocError, Global};
@@ -14,6 +14,8 @@ pub enum Ty {
     TtInteger,
     /// TT_BIGINT: whole numbers of 64 signed bits.
     TtBigint,
+    /// NUMBER(p, s): numbers of scale s with at most p digits, p from 1 to 18 and s from 0 to p.
+    Number(u8, u8),
     /// VARCHAR2(n): texts of up to n bytes, n from 1 to 4000.
     Varchar2(u16),
     /// TIMESTAMP: times in whole seconds, of the years 0001 to 9999.
@@ -27,15 +29,30 @@ impl Ty {
     {
         match (self, value) {
             (_, Value::Null) => true,
-            (Ty::TtInteger, Value::Integer(number)) => {
-                is_within(-2_147_483_648, 2_147_483_647, *number)
+            (Ty::TtInteger, Value::Number(number)) => {
+                number.scale() == 0 && is_within(-2_147_483_648, 2_147_483_647, number.units())
             }
-            (Ty::TtBigint, Value::Integer(number)) => is_within(i64::MIN, i64::MAX, *number),
+            (Ty::TtBigint, Value::Number(number)) => {
+                number.scale() == 0 && is_within(i64::MIN, i64::MAX, number.units())
+            }
+            (Ty::Number(precision, scale), Value::Number(number)) => {
+                number.scale() == scale && number.has_precision(precision)
+            }
             (Ty::Varchar2(greatest), Value::Text(text)) => text.as_bytes().len()
                 <= greatest as usize,
             (Ty::Timestamp, Value::Time(_)) => true,
             _ => false,
         }
+    }
+}
+
+/// The scale of the type's numbers; 0 of a type that has none.
+fn scale_of(ty: Ty) -> u8
+    ensures { result ≡ scale_of ty }
+{
+    match ty {
+        Ty::Number(_, scale) => scale,
+        _ => 0,
     }
 }
 
@@ -83,6 +100,48 @@ impl Column {
             ty: self.ty,
             not_null: self.not_null,
         })
+    }
+}
+
+/// The value as the column keeps it: a number is rounded to the column's scale, half away from zero.
+///
+/// `NullNotAllowed` for NULL where the column refuses NULL, `OutOfRange` for a value that its type doesn't hold then.
+/// (TimesTen SQL Reference, "Type specifications"; the half away from zero is this project's rule.)
+pub fn stored(value: Value, column: &Column) -> Result<Value, Code>
+    ensures { result ≡ stored_in column.now value }
+{
+    match rounded_for(value, column.ty) {
+        None => Err(Code::OutOfRange),
+        Some(value) => match fits(&value, column) {
+            Ok(()) => Ok(value),
+            Err(code) => Err(code),
+        },
+    }
+}
+
+/// The value that a column of the type would keep it as, where that one stands for the same: a number with the scale of
+/// the type's numbers, another value as it is. None where no number with that scale stands for the same, or none that 64
+/// signed bits hold.
+pub fn rescaled(alloc: Global, value: &Value, ty: Ty) -> Result<Option<Value>, AllocError>
+    ensures { IfOk result (λ found. found ≡ rescaled_for ty value.now) }
+{
+    match value {
+        Value::Number(number) => {
+            Ok(number.rescaled_exactly(scale_of(ty)).map(Value::Number))
+        }
+        value => {
+            let value = value.copied(alloc)?;
+            Ok(Some(value))
+        }
+    }
+}
+
+fn rounded_for(value: Value, ty: Ty) -> Option<Value>
+    ensures { result ≡ rounded_for ty value }
+{
+    match value {
+        Value::Number(number) => number.rounded(scale_of(ty)).map(Value::Number),
+        value => Some(value),
     }
 }
 

@@ -15,17 +15,17 @@ pub mod truth;
 pub mod value;
 pub mod values;
 
-pub use column::{Column, Ty, fits};
+pub use column::{Column, Ty, fits, rescaled, stored};
 pub use declaration::{
     ColumnDeclaration, ForeignKeyDeclaration, TableDeclaration, TypeDeclaration,
 };
 pub use key::Key;
-pub use literal::{held_text, parse_integer, parse_literal};
+pub use literal::{held_text, parse_literal};
 pub use printing::{print, print_into, print_key_into, print_values_into};
 pub use row::Row;
 pub use rule::{Detail, Letter, Refused, Rule};
 pub use text::Text;
 pub use time::Time;
 pub use truth::Truth;
-pub use value::{Value, compare, order};
+pub use value::{Value, compare, order, value_order};
 pub use values::{copied_values, order_of_values, same_values};

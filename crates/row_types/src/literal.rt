@@ -2,24 +2,24 @@
 
 ghost use Rattle.std.specs.Prelude.{◌≡◌, ◌<◌, ◌∷◌, length, IfErr, IfOk, MatchOption, vec_items};
 ghost use Rattle.std.specs.Option.{option_and_then, option_map};
-ghost use Rattle.row_types.specs.declared.value.Value.TheVariants.{Integer};
-ghost use Rattle.row_types.specs.Literals.{IsLiteralRefusal, held_text, integer_value, is_integer, is_quoted, is_time_literal, undoubled, value_of};
+ghost use Rattle.row_types.specs.Literals.{IsLiteralRefusal, held_text, is_quoted, is_time_literal, undoubled, value_of};
 
 use crate::rule::{Detail, Refused, Rule};
 use crate::text::Text;
-use crate::time::{Time, are_digits};
+use crate::time::Time;
 use crate::value::Value;
+use numbers::Number;
 use std::alloc::{AllocError, Global};
-use std::str::from_utf8;
 use tier_base::Code;
 
 /// The greatest number of bytes of a text.
 pub const TEXT_BYTES: usize = 4000;
 
-/// The value of a literal: `NULL`; digits, with or without a `-` before them; a text in single quotes, where two quotes
+/// The value of a literal: `NULL`; digits, or digits, a point and digits, with or without a `-` before them; a text in single quotes, where two quotes
 /// stand for one of the text and `''` alone is NULL; `TIMESTAMP 'YYYY-MM-DD HH:MM:SS'`.
 ///
-/// `OutOfRange` exactly where no type holds it: a number past 64 signed bits, a text of more than 4,000 bytes, a
+/// `OutOfRange` exactly where no type holds it: a number with units past 64 signed bits, or with more than 18 digits behind
+/// its point, a text of more than 4,000 bytes, a
 /// `TIMESTAMP` of anything else than a date of the years 0001 to 9999 with a time of day, and bytes that are no
 /// literal.
 pub fn parse_literal(alloc: Global, bytes: &[u8]) -> Result<Value, Refused>
@@ -34,7 +34,7 @@ pub fn parse_literal(alloc: Global, bytes: &[u8]) -> Result<Value, Refused>
     } else if is_time_literal(bytes) {
         Time::from_text(&bytes[11..30]).map(Value::Time)
     } else {
-        parse_integer(bytes).map(Value::Integer)
+        Number::from_text(bytes).map(Value::Number)
     };
     value.ok_or(Refused::Rule(Rule {
         code: Code::OutOfRange,
@@ -112,28 +112,4 @@ fn first_of_text(quoted: &[u8]) -> Option<(u8, &[u8])>
     } else {
         Some((quoted[0], &quoted[1..]))
     }
-}
-
-/// The number of an integer literal, digits with or without a `-` before them; none of other bytes and of a number past
-/// 64 signed bits.
-pub fn parse_integer(bytes: &[u8]) -> Option<i64>
-    ensures { option_map Integer result ≡ integer_value bytes.now }
-{
-    if !is_integer(bytes) {
-        return None;
-    }
-    match from_utf8(bytes) {
-        Ok(text) => text.parse().ok(),
-        Err(_) => None,
-    }
-}
-
-fn is_integer(bytes: &[u8]) -> bool
-    ensures { result ≡ is_integer bytes.now }
-{
-    let digits = match bytes.strip_prefix(b"-") {
-        Some(digits) => digits,
-        None => bytes,
-    };
-    !digits.is_empty() && are_digits(digits)
 }

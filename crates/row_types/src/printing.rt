@@ -6,10 +6,9 @@ ghost use Rattle.row_types.specs.Printing.{printed, printed_behind, printed_key,
 
 use crate::key::Key;
 use crate::value::Value;
-use itoa::Buffer;
 use std::alloc::{AllocError, Global};
 
-/// The printed value: `NULL`, a number in decimal, a text in single quotes with each quote in it twice, a time as
+/// The printed value: `NULL`, a number in decimal with exactly its scale's digits behind the point, a text in single quotes with each quote in it twice, a time as
 /// `YYYY-MM-DD HH:MM:SS`.
 pub fn print(alloc: Global, value: &Value) -> Result<Vec<u8>, AllocError>
     ensures { IfOk result (λ text. text.items ≡ printed value.now) }
@@ -26,10 +25,7 @@ pub fn print_into(out: &mut Vec<u8>, value: &Value) -> Result<(), AllocError>
 {
     match value {
         Value::Null => out.extend_from_slice(b"NULL"),
-        Value::Integer(number) => {
-            let mut digits = Buffer::new();
-            out.extend_from_slice(digits.format(*number).as_bytes())
-        }
+        Value::Number(number) => number.print_into(out),
         Value::Text(text) => print_quoted(out, text.as_bytes()),
         Value::Time(time) => out.extend_from_slice(&time.to_text()),
     }

@@ -1,7 +1,7 @@
 //! Three-valued truth.
 
 ghost use Rattle.std.specs.Prelude.{◌≡◌};
-ghost use Rattle.row_types.specs.Truths.{both, either, negation};
+ghost use Rattle.row_types.specs.Truths.{both, either, negation, truth_of};
 
 /// What a condition may be. It selects a row exactly where it is `True`.
 #[derive(Clone, Copy, Debug, PartialEq, Eq)]
@@ -15,6 +15,13 @@ pub enum Truth {
 }
 
 impl Truth {
+    /// What a test says.
+    pub fn of(test: bool) -> Truth
+        ensures { result ≡ truth_of test }
+    {
+        if test { Truth::True } else { Truth::False }
+    }
+
     /// AND: `False` where one side is, `True` where both are.
     pub fn and(self, other: Truth) -> Truth
         ensures { result ≡ both self other }

@@ -3,9 +3,11 @@ use Rattle.std.proofs.Common.{◌≡◌, ◌<◌, ◌^◌, ℤ, pos, negsuc, Lis
 use Rattle.std.specs.Ordering.{int_cmp, nat_cmp, ordering_then, ordering_reverse, MatchOrdering}
 use Rattle.std.proofs.lemmas.Cmp.{ranked}
 use Rattle.std.proofs.lemmas.Int.{ints}
+use Rattle.numbers.specs.Decimals.{floor_of}
+use Rattle.numbers.proofs.FloorLaws.{floor_less}
 use Rattle.row_types.proofs.OrderLaws.{key_total}
 use Rattle.row_types.specs.declared.value.Value.{Value}
-use Rattle.row_types.specs.declared.value.Value.TheVariants.{Null, Integer, Text, Time}
+use Rattle.row_types.specs.declared.value.Value.TheVariants.{Null, Number, Text, Time}
 use Rattle.row_types.specs.Order.{key_order, order_of}
 use Rattle.slot_rows.specs.Leads.{lead, lead_first, lead_of, near}
 
@@ -20,19 +22,19 @@ near_rises (negsuc m) (pos n) h = grind (arith, ints)
 near_rises (negsuc m) (negsuc n) h = grind (arith, ints)
 
 pub lead_rises : (v w : Value) → lead v < lead w → order_of v w ≡ Less
-lead_rises (Integer x) (Integer y) h = ap (λ r. ordering_then r Equal) (near_rises x y h)
-lead_rises (Integer x) (Time y) h = refl
-lead_rises (Integer x) (Text y) h = refl
-lead_rises (Integer x) Null h = refl
-lead_rises (Time x) (Integer y) h = absurd (omega (arith, near_below y, h))
-lead_rises (Time x) (Time y) h = ap (λ r. ordering_then r Equal) (near_rises x y (omega (arith, h)))
+lead_rises (Number x) (Number y) h = ap (λ r. ordering_then (ordering_then r Equal) (nat_cmp x.scale y.scale)) (floor_less x y (near_rises (floor_of x) (floor_of y) h))
+lead_rises (Number x) (Time y) h = refl
+lead_rises (Number x) (Text y) h = refl
+lead_rises (Number x) Null h = refl
+lead_rises (Time x) (Number y) h = absurd (omega (arith, near_below (floor_of y), h))
+lead_rises (Time x) (Time y) h = ap (λ r. ordering_then (ordering_then r Equal) Equal) (near_rises x y (omega (arith, h)))
 lead_rises (Time x) (Text y) h = refl
 lead_rises (Time x) Null h = refl
-lead_rises (Text x) (Integer y) h = absurd (omega (arith, near_below y, h))
+lead_rises (Text x) (Number y) h = absurd (omega (arith, near_below (floor_of y), h))
 lead_rises (Text x) (Time y) h = absurd (omega (arith, near_below y, h))
 lead_rises (Text x) (Text y) h = absurd (omega (arith, h))
 lead_rises (Text x) Null h = refl
-lead_rises Null (Integer y) h = absurd (omega (arith, near_below y, h))
+lead_rises Null (Number y) h = absurd (omega (arith, near_below (floor_of y), h))
 lead_rises Null (Time y) h = absurd (omega (arith, near_below y, h))
 lead_rises Null (Text y) h = absurd (omega (arith, h))
 lead_rises Null Null h = absurd (omega (arith, h))

@@ -3,16 +3,17 @@
 use Rattle.std.specs.Prelude.{ℕ, ℤ, pos, ◌+◌, ◌-◌, ◌^◌, min, List, [], ◌∷◌, int_lt, unsigned_abs, if◌then◌else◌}
 use Rattle.std.specs.Ordering.{nat_cmp, ordering_then}
 use Rattle.std.specs.declared.cmp.Ordering.{Ordering}
+use Rattle.numbers.specs.Decimals.{floor_of}
 use Rattle.row_types.specs.declared.value.Value.{Value}
-use Rattle.row_types.specs.declared.value.Value.TheVariants.{Null, Integer, Text, Time}
+use Rattle.row_types.specs.declared.value.Value.TheVariants.{Null, Number, Text, Time}
 
--- a number counted from far below 0; those that are further off have the bound on their side
+-- a whole number counted from far below 0; those that are further off have the bound on their side
 abbrev pub near : ℤ → ℕ
 near x = if int_lt x (pos 0) then 2 ^ 61 - min (unsigned_abs x) (2 ^ 61) else 2 ^ 61 + min (unsigned_abs x) (2 ^ 61 - 1)
 
 -- numbers, then times, then texts, and NULL last, as in the order of values
 abbrev pub lead : Value → ℕ
-lead (Integer x) = near x
+lead (Number x) = near (floor_of x)
 lead (Time x) = 2 ^ 62 + near x
 lead (Text x) = 2 ^ 63
 lead Null = 2 ^ 64 - 1

@@ -35,7 +35,7 @@ pub(crate) fn lead(value: &Value) -> u64
     ensures { result ≡ lead value.now }
 {
     match value {
-        Value::Integer(number) => near(*number),
+        Value::Number(number) => near(number.floor()),
         Value::Time(time) => TIMES + near(time.seconds()),
         Value::Text(_) => TEXTS,
         Value::Null => u64::MAX,

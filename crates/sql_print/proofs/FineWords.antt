@@ -73,6 +73,7 @@ fine_enclosed ws h = fine_cons (codes "(") (ws ++ codes ")" ∷ []) (fine (codes
 fine_type : (ty : TypeDeclaration) → IsRead ty → IsFine (type_words ty)
 fine_type types.TtInteger h = fine (codes "TT_INTEGER" ∷ []) refl
 fine_type types.TtBigint h = fine (codes "TT_BIGINT" ∷ []) refl
+fine_type (types.Number precision scale) h = absurd h
 fine_type (types.Varchar2 digits) h = absurd h
 fine_type types.Timestamp h = absurd h
 

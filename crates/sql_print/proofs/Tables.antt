@@ -29,6 +29,7 @@ use Rattle.sql_print.proofs.Literals.{AllGood, put_list}
 abbrev pub IsRead : TypeDeclaration → Type 0
 IsRead types.TtInteger = Unit {0}
 IsRead types.TtBigint = Unit {0}
+IsRead (types.Number precision scale) = ⊥
 IsRead (types.Varchar2 digits) = ⊥
 IsRead types.Timestamp = ⊥
 
@@ -81,6 +82,7 @@ put_type types.TtInteger h ps qs ws Q f r =
 put_type types.TtBigint h ps qs ws Q f r =
     known qs (codes "TT_BIGINT" ∷ ws) (Front TtBigint (codes "TT_BIGINT") Q) (Typed types.TtBigint Q) (λ ls (p, r1, e1, q). (r1, rw e1 refl, rw e1 refl, q))
     (taken TtBigint (codes "TT_BIGINT") ps qs ws Q (lexes (codes "TT_BIGINT") refl) (λ k d. f _ (that (token refl d))) r)
+put_type (types.Number p s) h ps qs ws Q f r = absurd h
 put_type (types.Varchar2 n) h ps qs ws Q f r = absurd h
 put_type types.Timestamp h ps qs ws Q f r = absurd h
 

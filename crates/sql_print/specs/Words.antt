@@ -75,9 +75,14 @@ by_value [] = codes "0"
 by_value (b ∷ []) = b ∷ []
 by_value (b ∷ c ∷ digits) = if nat_eq b 48 then by_value (c ∷ digits) else b ∷ c ∷ digits
 
+abbrev pub number_words : List ℕ → Option (List ℕ) → List Word
+number_words precision None = codes "NUMBER" ∷ enclosed (by_value precision ∷ [])
+number_words precision (Some scale) = codes "NUMBER" ∷ enclosed (by_value precision ∷ codes "," ∷ by_value scale ∷ [])
+
 abbrev pub type_words : TypeDeclaration → List Word
 type_words types.TtInteger = codes "TT_INTEGER" ∷ []
 type_words types.TtBigint = codes "TT_BIGINT" ∷ []
+type_words (types.Number precision scale) = number_words precision scale
 type_words (types.Varchar2 digits) = codes "VARCHAR2" ∷ enclosed (by_value digits ∷ [])
 type_words types.Timestamp = codes "TIMESTAMP" ∷ []
 

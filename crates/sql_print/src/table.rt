@@ -1,12 +1,12 @@
 //! Tables behind what is printed so far, in their normal form.
-ghost use Rattle.std.specs.Prelude.{◌≡◌, ◌++◌, ◌∷◌, IfOk, OnOk, length};
+ghost use Rattle.std.specs.Prelude.{◌≡◌, ◌++◌, ◌∷◌, IfOk, OnOk, length, option_copied};
 ghost use Rattle.sql_print.specs.Normal.{is_in, keyed_column, marked, normal_table, single_key, with_key};
 ghost use Rattle.sql_print.specs.Printed.{spaced};
 ghost use Rattle.std.specs.Option.{option_or};
-ghost use Rattle.sql_print.specs.Words.{by_value, cascade_words, column_words, element_words, foreign_words, key_words, listed, mark_words, more, reference_words, table_words, type_words};
+ghost use Rattle.sql_print.specs.Words.{by_value, cascade_words, column_words, element_words, foreign_words, key_words, listed, mark_words, more, number_words, reference_words, table_words, type_words};
 
 use crate::word::{put, put_name, put_names};
-use row_types::{ColumnDeclaration, ForeignKeyDeclaration, TableDeclaration, TypeDeclaration};
+use row_types::{ColumnDeclaration, ForeignKeyDeclaration, TableDeclaration, Text, TypeDeclaration};
 use std::alloc::{AllocError, Global};
 use tier_base::{Name, Seq};
 
@@ -31,6 +31,7 @@ fn put_type(out: &mut Vec<u8>, ty: &TypeDeclaration) -> Result<(), AllocError>
     match ty {
         TypeDeclaration::TtInteger => put(out, b"TT_INTEGER"),
         TypeDeclaration::TtBigint => put(out, b"TT_BIGINT"),
+        TypeDeclaration::Number(precision, scale) => put_number(out, precision, scale.as_ref()),
         TypeDeclaration::Varchar2(digits) => {
             put(out, b"VARCHAR2 (")?;
             put(out, by_value(digits.as_bytes()))?;
@@ -38,6 +39,18 @@ fn put_type(out: &mut Vec<u8>, ty: &TypeDeclaration) -> Result<(), AllocError>
         }
         TypeDeclaration::Timestamp => put(out, b"TIMESTAMP"),
     }
+}
+
+fn put_number(out: &mut Vec<u8>, precision: &Text, scale: Option<&Text>) -> Result<(), AllocError>
+    ensures { OnOk result (out.new.items ≡ out.old.items ++ spaced (number_words precision.now (option_copied scale.entry))) }
+{
+    put(out, b"NUMBER (")?;
+    put(out, by_value(precision.as_bytes()))?;
+    if let Some(scale) = scale {
+        put(out, b",")?;
+        put(out, by_value(scale.as_bytes()))?;
+    }
+    put(out, b")")
 }
 
 /// The columns that have PRIMARY KEY behind them.

@@ -1,23 +1,22 @@
 //! Literals as they are written.
 
 ghost use Rattle.std.specs.Prelude.{◌≡◌, IfOk};
-ghost use Rattle.std.specs.Option.{option_map};
-ghost use Rattle.row_types.specs.Literals.{integer_value};
-ghost use Rattle.row_types.specs.declared.value.Value.TheVariants.{Integer as IntegerOf};
+ghost use Rattle.numbers.specs.NumberTexts.{number_read};
 ghost use Rattle.sql_query.specs.Literals.{signed_digits, value_of};
 
-use row_types::{Text, Time, Value, held_text, parse_integer};
+use numbers::Number;
+use row_types::{Text, Time, Value, held_text};
 use std::alloc::{AllocError, Global};
 
-/// An integer as it is written. Blanks between its sign and its digits don't count.
-pub struct IntegerLiteral {
+/// A number as it is written. Blanks between its sign and its digits don't count.
+pub struct NumberLiteral {
     /// Whether a `-` stands before it.
     pub negative: bool,
-    /// Its digits, leading zeros too.
+    /// Its digits, leading zeros too, with a point and the digits behind it where it has them.
     pub digits: Text,
 }
 
-impl Drop for IntegerLiteral {
+impl Drop for NumberLiteral {
     fn drop(self) {
         let Self {
             negative: _,
@@ -30,8 +29,8 @@ impl Drop for IntegerLiteral {
 pub enum Literal {
     /// NULL.
     Null,
-    /// An integer.
-    Integer(IntegerLiteral),
+    /// A number.
+    Number(NumberLiteral),
     /// A text: its bytes without the quotes around it, `''` in it being one quote.
     Text(Text),
     /// TIMESTAMP: the text behind it, without its quotes.
@@ -42,7 +41,7 @@ impl Drop for Literal {
     fn drop(self) {
         match self {
             Self::Null => {}
-            Self::Integer(_) => {}
+            Self::Number(_) => {}
             Self::Text(_) => {}
             Self::Time(_) => {}
         }
@@ -52,8 +51,8 @@ impl Drop for Literal {
 impl Literal {
     /// The value of the literal. It is NULL of the text without bytes.
     ///
-    /// None exactly where no type holds it: an integer past 64 signed bits, a text of more than 4,000 bytes, and a
-    /// TIMESTAMP of anything else than `YYYY-MM-DD HH:MM:SS` with a date of the years 0001 to 9999 and a time of day.
+    /// None exactly where no type holds it: a number with units past 64 signed bits or with more than 18 digits behind its
+    /// point, a text of more than 4,000 bytes, and a TIMESTAMP of anything else than `YYYY-MM-DD HH:MM:SS` with a date of the years 0001 to 9999 and a time of day.
     /// The error is want of memory. (TimesTen SQL Reference, "Constants", "Datetime literals"; the ranges are this
     /// project's.)
     pub fn value(&self, alloc: Global) -> Result<Option<Value>, AllocError>
@@ -61,9 +60,9 @@ impl Literal {
     {
         match self {
             Literal::Null => Ok(Some(Value::Null)),
-            Literal::Integer(integer) => {
-                let number = number_of(alloc, integer)?;
-                Ok(number.map(Value::Integer))
+            Literal::Number(literal) => {
+                let number = number_of(alloc, literal)?;
+                Ok(number.map(Value::Number))
             }
             Literal::Text(text) => held_text(alloc, text.as_bytes()),
             Literal::Time(text) => Ok(Time::from_text(text.as_bytes()).map(Value::Time)),
@@ -71,16 +70,16 @@ impl Literal {
     }
 }
 
-/// The number of an integer literal; none past 64 signed bits.
-fn number_of(alloc: Global, literal: &IntegerLiteral) -> Result<Option<i64>, AllocError>
-    ensures { IfOk result (λ number. option_map IntegerOf number ≡ integer_value (signed_digits literal.now)) }
+/// The number that a literal writes; none where no type holds it.
+fn number_of(alloc: Global, literal: &NumberLiteral) -> Result<Option<Number>, AllocError>
+    ensures { IfOk result (λ number. number ≡ number_read (signed_digits literal.now)) }
 {
     let digits = literal.digits.as_bytes();
     if !literal.negative {
-        return Ok(parse_integer(digits));
+        return Ok(Number::from_text(digits));
     }
     let mut signed = Vec::with_capacity(alloc, 1)?;
     signed.push(b'-')?;
     signed.extend_from_slice(digits)?;
-    Ok(parse_integer(signed.as_slice()))
+    Ok(Number::from_text(signed.as_slice()))
 }

@@ -1,7 +1,7 @@
 -- Declared tables: the first rule that a declaration breaks, and the definition that it makes. (TimesTen SQL
 -- Reference, "CREATE TABLE"; the codes and their order are this project's rule.)
 
-use Rattle.std.specs.Prelude.{◌≡◌, ℕ, List, [], ◌∷◌, ◌++◌, ◌+◌, ◌*◌, ◌-◌, Option, Some, None, Bool, true, false, ◌&&◌, ◌||◌, not, ◌==◌, nat_eq, nat_le, nat_lt, length, Result, Ok, Err, map, find, fold, count_by, position, slice_get, is_some, unwrap_or, if◌then◌else◌}
+use Rattle.std.specs.Prelude.{◌≡◌, ℕ, List, [], ◌∷◌, ◌++◌, ◌+◌, ◌*◌, ◌-◌, Option, Some, None, Bool, true, false, ◌&&◌, ◌||◌, not, ◌==◌, nat_eq, nat_le, nat_lt, length, Result, Ok, Err, map, find, fold, count_by, position, slice_get, is_some, unwrap_or, codes, if◌then◌else◌}
 use Rattle.std.specs.Char.{is_ascii_digit}
 use Rattle.std.specs.List.{list_all}
 use Rattle.std.specs.Option.{option_and_then, option_map, option_or}
@@ -17,7 +17,7 @@ use Rattle.row_types.specs.declared.declaration.ColumnDeclaration.{ColumnDeclara
 use Rattle.row_types.specs.declared.declaration.ForeignKeyDeclaration.{ForeignKeyDeclaration}
 use Rattle.row_types.specs.declared.declaration.TableDeclaration.{TableDeclaration}
 use Rattle.row_types.specs.declared.declaration.TypeDeclaration.{TypeDeclaration}
-use Rattle.row_types.specs.declared.declaration.TypeDeclaration.TheVariants.{TtInteger, TtBigint, Varchar2, Timestamp}
+use Rattle.row_types.specs.declared.declaration.TypeDeclaration.TheVariants.{TtInteger, TtBigint, Number, Varchar2, Timestamp}
 use Rattle.row_types.specs.declared.rule.Detail.{Detail}
 use Rattle.row_types.specs.declared.rule.Detail.TheVariants.{Nothing, Name, NoType}
 use Rattle.row_types.specs.declared.rule.Rule.{Rule}
@@ -90,16 +90,24 @@ abbrev pub text_type : List ℕ → Option Ty
 text_type digits =
     if list_all is_ascii_digit digits && nat_le 1 (number_of digits) && nat_le (number_of digits) 4000 then Some (ty.Varchar2 (number_of digits)) else None
 
--- the type, where there is such a type
+-- NUMBER takes a precision from 1 to 18 and a scale from 0 to it
+abbrev pub number_type : List ℕ → List ℕ → Option Ty
+number_type precision scale =
+    if list_all is_ascii_digit precision && list_all is_ascii_digit scale && nat_le 1 (number_of precision) && nat_le (number_of precision) 18 && nat_le (number_of scale) (number_of precision)
+    then Some (ty.Number (number_of precision) (number_of scale)) else None
+
+-- the type, where there is such a type; a scale that isn't there is 0
 abbrev pub type_of : TypeDeclaration → Option Ty
 type_of TtInteger = Some ty.TtInteger
 type_of TtBigint = Some ty.TtBigint
+type_of (Number precision scale) = number_type precision (unwrap_or scale (codes "0"))
 type_of (Varchar2 digits) = text_type digits
 type_of Timestamp = Some ty.Timestamp
 
 abbrev pub same_type : Ty → Ty → Bool
 same_type ty.TtInteger ty.TtInteger = true
 same_type ty.TtBigint ty.TtBigint = true
+same_type (ty.Number p s) (ty.Number q r) = nat_eq p q && nat_eq s r
 same_type (ty.Varchar2 a) (ty.Varchar2 b) = nat_eq a b
 same_type ty.Timestamp ty.Timestamp = true
 same_type a b = false

@@ -1,8 +1,8 @@
 //! Types of columns as they are declared.
 
-ghost use Rattle.std.specs.Prelude.{◌≡◌, ◌≤◌, min, option_copied, true};
+ghost use Rattle.std.specs.Prelude.{◌≡◌, ◌≤◌, codes, min, option_copied, true, unwrap_or};
 ghost use Rattle.table_defs.specs.Names.{same_name};
-ghost use Rattle.table_defs.specs.Declarations.{has_type, number_of, same_type, text_type, type_of};
+ghost use Rattle.table_defs.specs.Declarations.{has_type, number_of, number_type, same_type, text_type, type_of};
 ghost use Rattle.std.specs.List.{list_all};
 ghost use Rattle.std.specs.Char.{is_ascii_digit};
 
@@ -11,6 +11,9 @@ use row_types::{ColumnDeclaration, Text, Ty, TypeDeclaration};
 /// The greatest number of bytes of a VARCHAR2.
 const VARCHAR2_BYTES: u16 = 4000;
 
+/// The greatest precision of a NUMBER.
+const PRECISION: u16 = 18;
+
 /// The declared type, where there is such a type.
 pub(crate) fn type_of(ty: &TypeDeclaration) -> Option<Ty>
     ensures { result ≡ type_of ty.now }
@@ -18,8 +21,36 @@ pub(crate) fn type_of(ty: &TypeDeclaration) -> Option<Ty>
     match ty {
         TypeDeclaration::TtInteger => Some(Ty::TtInteger),
         TypeDeclaration::TtBigint => Some(Ty::TtBigint),
+        TypeDeclaration::Number(precision, scale) => {
+            number_type(precision.as_bytes(), scale_digits(scale.as_ref()))
+        }
         TypeDeclaration::Varchar2(digits) => text_type(digits),
         TypeDeclaration::Timestamp => Some(Ty::Timestamp),
+    }
+}
+
+// The digits of a scale; those of 0 where there is none.
+fn scale_digits(scale: Option<&Text>) -> &[u8]
+    ensures { result.now ≡ unwrap_or (option_copied scale.entry) (codes "0") }
+{
+    match scale {
+        None => b"0",
+        Some(digits) => digits.as_bytes(),
+    }
+}
+
+fn number_type(precision: &[u8], scale: &[u8]) -> Option<Ty>
+    ensures { result ≡ number_type precision.now scale.now }
+{
+    if !are_digits(precision) || !are_digits(scale) {
+        return None;
+    }
+    let precision = number_up_to(precision);
+    let scale = number_up_to(scale);
+    if precision >= 1 && precision <= PRECISION && scale <= precision {
+        Some(Ty::Number(precision as u8, scale as u8))
+    } else {
+        None
     }
 }
 

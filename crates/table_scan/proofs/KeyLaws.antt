@@ -9,11 +9,13 @@ use Rattle.std.specs.Cmp.{eq_by_cmp_equiv}
 use Rattle.std.proofs.lemmas.Bool.{eq-eqb}
 use Rattle.std.specs.FinMap as fm
 use Rattle.std.specs.FinMap.Entries.{below_all}
+use Rattle.row_types.specs.declared.column.Column.{Column}
 use Rattle.row_types.specs.declared.value.Value.{Value}
 use Rattle.row_types.specs.Order.{key_order}
 use Rattle.row_types.proofs.OrderLaws.{key_total, key_exact}
 use Rattle.indexed_rows.specs.Rows.{Table, is_same, key_of}
-use Rattle.table_scan.specs.Keyed.{HasWidth, IsUnderKeys, has_key}
+use Rattle.table_state.specs.Tables.{fits_columns}
+use Rattle.table_scan.specs.Keyed.{HasFit, IsUnderKeys, has_key}
 use Rattle.table_scan.proofs.PairLaws.{Every, Pairs}
 
 abbrev Row : Type 0
@@ -89,19 +91,19 @@ found_by_key places q m under =
     ap option_to_list (fm.get-entries m q)
     ∙ found_in places q (fm.entries m) (under_keys places (fm.entries m) (fm.entries_sorted m) (λ key row found. under key row (fm.get-entries m key ∙ found))) (fm.entries_sorted m)
 
--- each row of a table has the table's width
+-- each row of a table fits its columns
 
-abbrev are_wide : ℕ → List (Row × Row) → Bool
-are_wide width es = list_all (λ row. eqb (length row) width) (map (λ e. e.1) es)
+abbrev are_fit : List Column → List (Row × Row) → Bool
+are_fit columns es = list_all (fits_columns columns) (map (λ e. e.1) es)
 
-wide_entries : (width : ℕ) (es : List (Row × Row)) → T (fm.is_sorted key_order es) → ((key row : Row) → fm.find key_order key es ≡ Some row → length row ≡ width) → are_wide width es ≡ true
-wide_entries width [] h wide = refl
-wide_entries width (e ∷ es) h wide =
-    ap (λ b. b && are_wide width es) (eq-eqb (length e.1) width (wide e.0 e.1 (found_first e es)))
-    ∙ wide_entries width es (second_of _ _ h) (λ key row found. wide key row (found_further e es h key row found))
+fit_entries : (columns : List Column) (es : List (Row × Row)) → T (fm.is_sorted key_order es) → ((key row : Row) → fm.find key_order key es ≡ Some row → fits_columns columns row ≡ true) → are_fit columns es ≡ true
+fit_entries columns [] h fits = refl
+fit_entries columns (e ∷ es) h fits =
+    ap (λ b. b && are_fit columns es) (fits e.0 e.1 (found_first e es))
+    ∙ fit_entries columns es (second_of _ _ h) (λ key row found. fits key row (found_further e es h key row found))
 
-pub all_wide : (width : ℕ) (m : Table) → HasWidth width m → list_all (λ row. eqb (length row) width) (fm.values m) ≡ true
-all_wide width m wide = wide_entries width (fm.entries m) (fm.entries_sorted m) (λ key row found. wide key row (fm.get-entries m key ∙ found))
+pub all_fit : (columns : List Column) (m : Table) → HasFit columns m → list_all (fits_columns columns) (fm.values m) ≡ true
+all_fit columns m fits = fit_entries columns (fm.entries m) (fm.entries_sorted m) (λ key row found. fits key row (fm.get-entries m key ∙ found))
 
 -- each row of a table is found by its key, and another has another key
 

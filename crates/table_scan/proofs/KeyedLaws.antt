@@ -1,4 +1,4 @@
--- Operations leave rows under their keys, with a value for each column.
+-- Operations leave rows under their keys, and rows that fit the columns.
 use Rattle.std.proofs.Common.{◌≡◌, ℕ, zero, suc, Bool, true, false, cond, ◌&&◌, Option, Some, None, is_some, T, List, [], ◌∷◌, ◌++◌, length, slice_get, slice_set, ◌⊎◌, inl, inr, refl, sym, ap, subst, ◌∙◌, arith}
 use Rattle.std.specs.Option.{option_and_then, option_map}
 use Rattle.std.specs.Ordering.{eq_by_cmp, is_eq}
@@ -21,7 +21,7 @@ use Rattle.table_state.proofs.IndependenceLaws.{entry_whole}
 use Rattle.table_state.specs.Operations.{applied, applied_all, on_table, only_if}
 use Rattle.indexed_rows.specs.Rows.{Table, key_of}
 use Rattle.table_state.specs.Tables.{TableState, fits_columns}
-use Rattle.table_scan.specs.Keyed.{HasWidth, IsKeyed, IsUnderKeys}
+use Rattle.table_scan.specs.Keyed.{HasFit, IsKeyed, IsUnderKeys}
 
 abbrev Row : Type 0
 Row = List Value
@@ -44,22 +44,22 @@ remove_under places m gone under key found h = by (eq_by_cmp key_order key gone)
     by true h = cc
     by false h = under key found h
 
--- and each has its width
+-- and each fits the columns
 
-pub none_has_width : (width : ℕ) → HasWidth width fm.empty
-none_has_width width key row h = let e : None ≡ Some row = sym (fm.get-empty key_order key) ∙ h in absurd (subst T (sym (ap is_some e)) tt)
+pub none_has_fit : (columns : List Column) → HasFit columns fm.empty
+none_has_fit columns key row h = let e : None ≡ Some row = sym (fm.get-empty key_order key) ∙ h in absurd (subst T (sym (ap is_some e)) tt)
 
-insert_wide : (width : ℕ) (m : Table) (at row : Row) → length row ≡ width → HasWidth width m → HasWidth width (fm.insert m at row)
-insert_wide width m at row size wide key found h = by (eq_by_cmp key_order key at) (sym (fm.get-insert key_total m at row key) ∙ h)
+insert_fit : (columns : List Column) (m : Table) (at row : Row) → fits_columns columns row ≡ true → HasFit columns m → HasFit columns (fm.insert m at row)
+insert_fit columns m at row fits wide key found h = by (eq_by_cmp key_order key at) (sym (fm.get-insert key_total m at row key) ∙ h)
   where
-    by : (b : Bool) → cond b (Some row) (fm.get m key) ≡ Some found → length found ≡ width
-    by true h = let same : row ≡ found = cc in ap length (sym same) ∙ size
+    by : (b : Bool) → cond b (Some row) (fm.get m key) ≡ Some found → fits_columns columns found ≡ true
+    by true h = let same : row ≡ found = cc in ap (fits_columns columns) (sym same) ∙ fits
     by false h = wide key found h
 
-remove_wide : (width : ℕ) (m : Table) (gone : Row) → HasWidth width m → HasWidth width (fm.remove m gone)
-remove_wide width m gone wide key found h = by (eq_by_cmp key_order key gone) (sym (fm.get-remove key_total m gone key) ∙ h)
+remove_fit : (columns : List Column) (m : Table) (gone : Row) → HasFit columns m → HasFit columns (fm.remove m gone)
+remove_fit columns m gone wide key found h = by (eq_by_cmp key_order key gone) (sym (fm.get-remove key_total m gone key) ∙ h)
   where
-    by : (b : Bool) → cond b None (fm.get m key) ≡ Some found → length found ≡ width
+    by : (b : Bool) → cond b None (fm.get m key) ≡ Some found → fits_columns columns found ≡ true
     by true h = cc
     by false h = wide key found h
 
@@ -72,7 +72,7 @@ second_holds : (a b : Bool) → (a && b) ≡ true → b ≡ true
 second_holds true b h = h
 second_holds false b h = cc
 
-fits_width : (columns : List Column) (row : Row) → fits_columns columns row ≡ true → length row ≡ length columns
+pub fits_width : (columns : List Column) (row : Row) → fits_columns columns row ≡ true → length row ≡ length columns
 fits_width [] [] h = refl
 fits_width [] (v ∷ row) h = cc
 fits_width (c ∷ columns) [] h = cc
@@ -80,7 +80,7 @@ fits_width (c ∷ columns) (v ∷ row) h = ap suc (fits_width columns row (secon
 
 -- both of a table
 abbrev IsSound : TableDef → Table → Type 0
-IsSound def table = IsUnderKeys def.primary_key table × HasWidth (length def.columns) table
+IsSound def table = IsUnderKeys def.primary_key table × HasFit def.columns table
 
 -- what applies only where a test holds
 only_if_test : {X : Type 0} (b : Bool) (x y : X) → only_if b x ≡ Some y → b ≡ true
@@ -130,10 +130,10 @@ module _ (s : TableState) (t : TableId) (change : TableDef → Table → Option 
 
 -- an operation, operations, an entry, a history
 insert_sound : (def : TableDef) (table : Table) (row : Row) → fits_columns def.columns row ≡ true → IsSound def table → IsSound def (fm.insert table (key_of def.primary_key row) row)
-insert_sound def table row fits (under, wide) = (insert_under def.primary_key table row under, insert_wide (length def.columns) table (key_of def.primary_key row) row (fits_width def.columns row fits) wide)
+insert_sound def table row fits (under, wide) = (insert_under def.primary_key table row under, insert_fit def.columns table (key_of def.primary_key row) row fits wide)
 
 remove_sound : (def : TableDef) (table : Table) (key : Row) → IsSound def table → IsSound def (fm.remove table key)
-remove_sound def table key (under, wide) = (remove_under def.primary_key table key under, remove_wide (length def.columns) table key wide)
+remove_sound def table key (under, wide) = (remove_under def.primary_key table key under, remove_fit def.columns table key wide)
 
 pub op_keyed : (op : Op) (s n : TableState) → applied op s ≡ Some n → IsKeyed s → IsKeyed n
 op_keyed (Insert t row) s n is keyed =
@@ -166,7 +166,7 @@ entry_keyed (Definition def) s n is whole keyed =
     subst IsKeyed same (λ t other table d m.
     elim (both_cases s.schema s.tables def fm.empty t other table whole d m) [
       | inl old ↦ keyed t other table old.0 old.1
-      | inr new ↦ subst (λ x. IsSound other x) (sym new) (none_is_under other.primary_key, none_has_width (length other.columns))
+      | inr new ↦ subst (λ x. IsSound other x) (sym new) (none_is_under other.primary_key, none_has_fit other.columns)
     ])
 entry_keyed (Foreign ops) s n is whole keyed = ops_keyed ops s n is keyed
 entry_keyed (Own ticket ops) s n is whole keyed = ops_keyed ops s n is keyed

@@ -1,19 +1,19 @@
--- Rows that stand under their own primary keys, and have a value for each column. (TimesTen SQL Reference, "CREATE
--- TABLE": primary keys.)
+-- Rows that stand under their own primary keys, and fit the columns. (TimesTen SQL Reference, "CREATE TABLE": primary keys.)
 
-use Rattle.std.specs.Prelude.{◌≡◌, ℕ, List, Some, length, slice_get}
+use Rattle.std.specs.Prelude.{◌≡◌, ℕ, List, Some, slice_get, true}
 use Rattle.std.specs.FinMap.{get}
+use Rattle.row_types.specs.declared.column.Column.{Column}
 use Rattle.row_types.specs.declared.value.Value.{Value}
 use Rattle.table_defs.specs.declared.definition.TableDef.{TableDef}
 use Rattle.indexed_rows.specs.Rows.{Table}
-use Rattle.table_state.specs.Tables.{TableState}
+use Rattle.table_state.specs.Tables.{TableState, fits_columns}
 pub use Rattle.indexed_rows.specs.Rows.{has_key}
 pub use Rattle.table_state.specs.Sound.{IsUnderKeys}
 
--- each row has so many values
-abbrev pub HasWidth : ℕ → Table → Type 0
-HasWidth width table = (key row : List Value) → get table key ≡ Some row → length row ≡ width
+-- each row fits the columns: it has a value for each, which the column takes
+abbrev pub HasFit : List Column → Table → Type 0
+HasFit columns table = (key row : List Value) → get table key ≡ Some row → fits_columns columns row ≡ true
 
--- in each table of the state the rows stand under their keys, and have a value for each column
+-- in each table of the state the rows stand under their keys, and fit the columns
 abbrev pub IsKeyed : TableState → Type 0
-IsKeyed s = (t : ℕ) (def : TableDef) (table : Table) → slice_get s.schema t ≡ Some def → slice_get s.tables t ≡ Some table → IsUnderKeys def.primary_key table × HasWidth (length def.columns) table
+IsKeyed s = (t : ℕ) (def : TableDef) (table : Table) → slice_get s.schema t ≡ Some def → slice_get s.tables t ≡ Some table → IsUnderKeys def.primary_key table × HasFit def.columns table

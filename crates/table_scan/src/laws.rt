@@ -8,7 +8,7 @@ ghost use Rattle.table_state.specs.Operations.{applied, applied_all};
 ghost use Rattle.table_state.specs.Tables.{TableState};
 ghost use Rattle.table_scan.specs.Keyed.{IsKeyed};
 
-/// Rows stand under their keys and have a value for each column in each state that a history leaves, and operations keep
+/// Rows stand under their keys and fit the columns in each state that a history leaves, and operations keep
 /// that.
 pub fn keyed_law()
     ensures one { (op : Op) (s n : TableState) → applied op s ≡ Some n → IsKeyed s → IsKeyed n }

@@ -13,7 +13,7 @@ use Rattle.tier_base.specs.declared.code.Code.TheVariants.{OutOfRange, NullNotAl
 use Rattle.tier_base.specs.declared.number.TableId.{TableId}
 use Rattle.row_types.specs.declared.column.Column.{Column}
 use Rattle.row_types.specs.declared.value.Value.{Value}
-use Rattle.row_types.specs.declared.value.Value.TheVariants.{Null, Integer, Text, Time}
+use Rattle.row_types.specs.declared.value.Value.TheVariants.{Null, Number, Text, Time}
 use Rattle.row_types.specs.Columns.{fit_of, holds}
 use Rattle.row_types.specs.Order.{order_of}
 use Rattle.table_defs.specs.declared.definition.TableDef.{TableDef}
@@ -74,7 +74,7 @@ held_cases false = inr (inr refl)
 
 fit_cases : (column : Column) (value : Value) → Cases (fit_of column value)
 fit_cases column Null = null_cases column.not_null
-fit_cases column (Integer x) = held_cases (holds column.ty (Integer x))
+fit_cases column (Number x) = held_cases (holds column.ty (Number x))
 fit_cases column (Text x) = held_cases (holds column.ty (Text x))
 fit_cases column (Time x) = held_cases (holds column.ty (Time x))
 

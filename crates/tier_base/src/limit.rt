@@ -53,7 +53,7 @@ impl Limit {
             Limit::Sessions => 64,
             Limit::Groups => 64,
             Limit::Tables => 256,
-            Limit::Columns => 32,
+            Limit::Columns => 64,
             Limit::KeyColumns => 4,
             Limit::From => 4,
             Limit::Rows => 1_000_000,

@@ -1,9 +1,12 @@
 use Rattle.std.proofs.Common.{rules}
-use Rattle.evaluator.proofs.WriteLaws.{given, keyed_at, refused_effects, refused_operations, refused_rows}
+use Rattle.evaluator.proofs.WriteLaws.{fit_at, given, keyed_at, refused_effects, refused_operations, refused_rows}
 use Rattle.evaluator.proofs.writing.effects.Goals as goal
 
 pub add_ops-requires-clause-under_keys : goal.add_ops-requires-clause-under_keys
 add_ops-requires-clause-under_keys g c = keyed_at (g.S.Scan.state c.args.scan.now) c.args.change.now.table c.in-Some.def.now c.requires (search rules)
+
+pub add_ops-requires-clause-fit : goal.add_ops-requires-clause-fit
+add_ops-requires-clause-fit g c = fit_at (g.S.Scan.state c.args.scan.now) c.args.change.now.table c.in-Some.def.now c.requires (search rules)
 
 pub returns-in_err-add_ops-in-Some : goal.returns-in_err-add_ops-in-Some
 returns-in_err-add_ops-in-Some g c =

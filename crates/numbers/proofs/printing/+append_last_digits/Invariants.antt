@@ -1,0 +1,5 @@
+-- One digit less.
+use Rattle.numbers.proofs.printing.+append_last_digits.Given as goal
+
+abbrev pub decreases-append_last_digits : goal.decreases-append_last_digits
+decreases-append_last_digits l = l.count

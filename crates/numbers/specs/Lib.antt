@@ -1,0 +1,4 @@
+pub mod Arithmetic
+pub mod Decimals
+pub mod NumberTexts
+pub mod Rounding
