@@ -9,7 +9,7 @@ use Rattle.expressions.specs.declared.condition.Comparator.TheVariants.{Equal, N
 use Rattle.expressions.specs.declared.expression.Arithmetic.{Arithmetic}
 use Rattle.expressions.specs.declared.expression.Arithmetic.TheVariants.{Plus, Minus, Times}
 use Rattle.sql_query.specs.declared.literal.Literal.{Literal}
-use Rattle.sql_query.specs.declared.literal.Literal.TheVariants.{Null, Integer, Text, Time}
+use Rattle.sql_query.specs.declared.literal.Literal.TheVariants.{Null, Number, Text, Time}
 use Rattle.sql_query.specs.Trees.{ExpressionTree, ConditionTree, Constant, Column, Binary, Compared, Missing, Between, Among, Not, All, Any}
 
 abbrev LiteralParts : Type 0
@@ -17,19 +17,19 @@ LiteralParts = ℕ ⊎ ((Bool × List ℕ) ⊎ (List ℕ ⊎ List ℕ))
 
 abbrev literal_parts : Literal → LiteralParts
 literal_parts Null = inl 0
-literal_parts (Integer i) = inr (inl (i.negative, i.digits))
+literal_parts (Number i) = inr (inl (i.negative, i.digits))
 literal_parts (Text bytes) = inr (inr (inl bytes))
 literal_parts (Time text) = inr (inr (inr text))
 
 abbrev literal_from : LiteralParts → Literal
 literal_from (inl n) = Null
-literal_from (inr (inl p)) = Integer (record { negative = p.0; digits = p.1 })
+literal_from (inr (inl p)) = Number (record { negative = p.0; digits = p.1 })
 literal_from (inr (inr (inl bytes))) = Text bytes
 literal_from (inr (inr (inr text))) = Time text
 
 pub literal_from-parts : (l : Literal) → literal_from (literal_parts l) ≡ l
 literal_from-parts Null = refl
-literal_from-parts (Integer i) = refl
+literal_from-parts (Number i) = refl
 literal_from-parts (Text bytes) = refl
 literal_from-parts (Time text) = refl
 

@@ -9,15 +9,15 @@ ghost use Rattle.sql_query.specs.Literals.{signed_digits, value_of};
 use row_types::{Text, Time, Value, held_text, parse_integer};
 use std::alloc::{AllocError, Global};
 
-/// An integer as it is written. Blanks between its sign and its digits don't count.
-pub struct IntegerLiteral {
+/// A number as it is written. Blanks between its sign and its digits don't count.
+pub struct NumberLiteral {
     /// Whether a `-` stands before it.
     pub negative: bool,
-    /// Its digits, leading zeros too.
+    /// Its digits, leading zeros too; a point and the digits behind it where it has them.
     pub digits: Text,
 }
 
-impl Drop for IntegerLiteral {
+impl Drop for NumberLiteral {
     fn drop(self) {
         let Self {
             negative: _,
@@ -30,8 +30,8 @@ impl Drop for IntegerLiteral {
 pub enum Literal {
     /// NULL.
     Null,
-    /// An integer.
-    Integer(IntegerLiteral),
+    /// A number.
+    Number(NumberLiteral),
     /// A text: its bytes without the quotes around it, `''` in it being one quote.
     Text(Text),
     /// TIMESTAMP: the text behind it, without its quotes.
@@ -42,7 +42,7 @@ impl Drop for Literal {
     fn drop(self) {
         match self {
             Self::Null => {}
-            Self::Integer(_) => {}
+            Self::Number(_) => {}
             Self::Text(_) => {}
             Self::Time(_) => {}
         }
@@ -61,8 +61,8 @@ impl Literal {
     {
         match self {
             Literal::Null => Ok(Some(Value::Null)),
-            Literal::Integer(integer) => {
-                let number = number_of(alloc, integer)?;
+            Literal::Number(literal) => {
+                let number = number_of(alloc, literal)?;
                 Ok(number.map(Value::Integer))
             }
             Literal::Text(text) => held_text(alloc, text.as_bytes()),
@@ -72,7 +72,7 @@ impl Literal {
 }
 
 /// The number of an integer literal; none past 64 signed bits.
-fn number_of(alloc: Global, literal: &IntegerLiteral) -> Result<Option<i64>, AllocError>
+fn number_of(alloc: Global, literal: &NumberLiteral) -> Result<Option<i64>, AllocError>
     ensures { IfOk result (λ number. option_map IntegerOf number ≡ integer_value (signed_digits literal.now)) }
 {
     let digits = literal.digits.as_bytes();

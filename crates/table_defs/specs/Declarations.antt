@@ -17,7 +17,7 @@ use Rattle.row_types.specs.declared.declaration.ColumnDeclaration.{ColumnDeclara
 use Rattle.row_types.specs.declared.declaration.ForeignKeyDeclaration.{ForeignKeyDeclaration}
 use Rattle.row_types.specs.declared.declaration.TableDeclaration.{TableDeclaration}
 use Rattle.row_types.specs.declared.declaration.TypeDeclaration.{TypeDeclaration}
-use Rattle.row_types.specs.declared.declaration.TypeDeclaration.TheVariants.{TtInteger, TtBigint, Varchar2, Timestamp}
+use Rattle.row_types.specs.declared.declaration.TypeDeclaration.TheVariants.{TtInteger, TtBigint, Varchar2, Number, Timestamp}
 use Rattle.row_types.specs.declared.rule.Detail.{Detail}
 use Rattle.row_types.specs.declared.rule.Detail.TheVariants.{Nothing, Name, NoType}
 use Rattle.row_types.specs.declared.rule.Rule.{Rule}
@@ -95,6 +95,7 @@ abbrev pub type_of : TypeDeclaration → Option Ty
 type_of TtInteger = Some ty.TtInteger
 type_of TtBigint = Some ty.TtBigint
 type_of (Varchar2 digits) = text_type digits
+type_of (Number precision scale) = None
 type_of Timestamp = Some ty.Timestamp
 
 abbrev pub same_type : Ty → Ty → Bool

@@ -19,6 +19,7 @@ pub(crate) fn type_of(ty: &TypeDeclaration) -> Option<Ty>
         TypeDeclaration::TtInteger => Some(Ty::TtInteger),
         TypeDeclaration::TtBigint => Some(Ty::TtBigint),
         TypeDeclaration::Varchar2(digits) => text_type(digits),
+        TypeDeclaration::Number(_, _) => None,
         TypeDeclaration::Timestamp => Some(Ty::Timestamp),
     }
 }
