@@ -75,6 +75,31 @@ pub enum SelectItem {
     Aggregate(Aggregate),
 }
 
+impl SelectItem {
+    ghost use Rattle.std.specs.Prelude.{◌≡◌};
+    ghost use Rattle.sql_query.specs.Items.{aggregate_in, expression_in};
+
+    /// The expression, where the item is one.
+    pub fn into_expression(self) -> Option<Expression>
+        ensures { result ≡ expression_in self }
+    {
+        match self {
+            Self::Expression(expression) => Some(expression),
+            Self::Aggregate(_) => None,
+        }
+    }
+
+    /// The aggregate, where the item is one.
+    pub fn into_aggregate(self) -> Option<Aggregate>
+        ensures { result ≡ aggregate_in self }
+    {
+        match self {
+            Self::Expression(_) => None,
+            Self::Aggregate(aggregate) => Some(aggregate),
+        }
+    }
+}
+
 impl Drop for SelectItem {
     fn drop(self) {
         match self {

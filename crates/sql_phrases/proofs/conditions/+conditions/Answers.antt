@@ -1,0 +1,1 @@
+use Rattle.sql_phrases.proofs.conditions.+conditions.Goals as goal
