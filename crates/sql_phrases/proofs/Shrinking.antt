@@ -61,15 +61,18 @@ pub term_shrinks : (ls : List Lexeme) → length (term_of ls).1 ≤ length ls
 term_shrinks ls = chain_within _ _ at_star multiplied factor_of (factor_of ls) factor_shrinks refl (length ls) (factor_of ls) ls (factor_shrinks ls)
 
 pub expression_shrinks : (ls : List Lexeme) → length (expression_of ls).1 ≤ length ls
+unfolding expression_of
 expression_shrinks ls = chain_within _ _ at_sign added term_of (term_of ls) term_shrinks refl (length ls) (term_of ls) ls (term_shrinks ls)
 
 pub expressions_shrink : (ls : List Lexeme) → length (expressions_of ls).1 ≤ length ls
+unfolding expressions_of
 expressions_shrink ls = chain_within _ _ at_comma with_last expression_of (as_list (expression_of ls)) expression_shrinks refl (length ls) (as_list (expression_of ls)) ls (expression_shrinks ls)
 
 missing_shrinks : (e : ExpressionTree) (ls : List Lexeme) → length (missing e ls).1 ≤ length ls
 missing_shrinks e ls = choice_shrinks (begins k.Not (drop 1 ls)) _ _ ls (drop_shrinks 3 ls) (drop_shrinks 2 ls)
 
 within_shrinks : (b : Bool) (e : ExpressionTree) (ls : List Lexeme) → length (within b e ls).1 ≤ length ls
+unfolding within
 within_shrinks b e ls =
     let low : ExpressionTree × List Lexeme = expression_of (drop 1 ls) in
     let a = expression_shrinks (drop 1 low.1) in
@@ -82,6 +85,7 @@ within_shrinks b e ls =
     choice_shrinks (begins k.Between ls) (between_low b e low) (among b e (expressions_of (drop 2 ls))) ls (omega (arith, a, c, d, g)) (omega (arith, h, i, j))
 
 tested_shrinks : (x : ExpressionTree × List Lexeme) → length (tested x).1 ≤ length x.1
+unfolding tested
 tested_shrinks x =
     let a = expression_shrinks (drop 1 x.1) in
     let b = drop_shrinks 1 x.1 in
@@ -98,13 +102,16 @@ abbrev Shrinks : (List Lexeme → ConditionTree × List Lexeme) → Type 0
 Shrinks p = (ls : List Lexeme) → length (p ls).1 ≤ length ls
 
 conjunction_by_shrinks : (p : List Lexeme → ConditionTree × List Lexeme) → Shrinks p → Shrinks (conjunction_by p)
+unfolding conjunction_by
 conjunction_by_shrinks p h ls = chain_within _ _ at_and both p (p ls) h refl (length ls) (p ls) ls (h ls)
 
 condition_by_shrinks : (p : List Lexeme → ConditionTree × List Lexeme) → Shrinks p → Shrinks (condition_by p)
+unfolding condition_by
 condition_by_shrinks p h ls =
     chain_within _ _ at_or either (conjunction_by p) (conjunction_by p ls) (conjunction_by_shrinks p h) refl (length ls) (conjunction_by p ls) ls (conjunction_by_shrinks p h ls)
 
 pub predicate_shrinks : (n : ℕ) (ls : List Lexeme) → length (predicate_of n ls).1 ≤ length ls
+unfolding predicate_of
 predicate_shrinks zero ls = test_shrinks ls
 predicate_shrinks (suc n) ls =
     let a = condition_by_shrinks (predicate_of n) (predicate_shrinks n) (drop 1 ls) in
@@ -118,6 +125,7 @@ pub conjunction_shrinks : (n : ℕ) (ls : List Lexeme) → length (conjunction_b
 conjunction_shrinks n = conjunction_by_shrinks (predicate_of n) (predicate_shrinks n)
 
 pub condition_shrinks : (ls : List Lexeme) → length (condition_of ls).1 ≤ length ls
+unfolding condition_of
 condition_shrinks = condition_by_shrinks (predicate_of 32) (predicate_shrinks 32)
 
 pub filter_shrinks : (ls : List Lexeme) → length (filter_of ls).1 ≤ length ls
@@ -281,3 +289,15 @@ element_shrinks ls =
     (choice_shrinks (closes k.Readonly ls) _ _ ls (drop_shrinks 1 ls)
     (choice_shrinks (closes k.Propagate ls) _ _ ls (drop_shrinks 1 ls)
     (choice_shrinks (begins k.Not ls) _ (tables.as_column (tables.column_of ls)) ls (drop_shrinks 2 ls) (column_shrinks ls)))))
+
+pub table_shrinks : (ls : List Lexeme) → length (tables.table_of ls).1 ≤ length ls
+unfolding tables.table_of
+table_shrinks ls =
+    let n : List ℕ × List Lexeme = name_of ls in
+    let c = tables.column_of (drop 1 n.1) in
+    let a = drop_shrinks 1 (tables.elements_of n.0 c).1 in
+    let b = chain_within _ _ at_comma tables.with_element element_of (tables.table_with n.0 c) element_shrinks refl (length c.1) (tables.table_with n.0 c) c.1 (omega arith) in
+    let d = column_shrinks (drop 1 n.1) in
+    let e = drop_shrinks 1 n.1 in
+    let f = name_shrinks ls in
+    omega (arith, a, b, d, e, f)

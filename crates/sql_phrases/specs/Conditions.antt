@@ -40,12 +40,12 @@ abbrev pub among : Bool → ExpressionTree → List ExpressionTree × List Lexem
 among negated e x = (Among negated e x.0, drop 1 x.1)
 
 -- BETWEEN expr AND expr | IN "(" exprs ")" behind an expression, and NOT where it is negated
-abbrev pub within : Bool → ExpressionTree → List Lexeme → ConditionTree × List Lexeme
+unfoldable pub within : Bool → ExpressionTree → List Lexeme → ConditionTree × List Lexeme
 within negated e ls =
     if begins k.Between ls then between_low negated e (expression_of (drop 1 ls)) else among negated e (expressions_of (drop 2 ls))
 
 -- what stands behind an expression
-abbrev pub tested : ExpressionTree × List Lexeme → ConditionTree × List Lexeme
+unfoldable pub tested : ExpressionTree × List Lexeme → ConditionTree × List Lexeme
 tested x =
     if passes Compare (first_kind x.1) then compared (comparator_of (first_kind x.1)) x.0 (expression_of (drop 1 x.1))
     else if begins k.Is x.1 then missing x.0 x.1
@@ -74,15 +74,15 @@ abbrev pub either : Kind → ConditionTree → ConditionTree → ConditionTree
 either w a b = Any a b
 
 -- pred { AND pred }, given how a predicate is read
-abbrev pub conjunction_by : (List Lexeme → ConditionTree × List Lexeme) → List Lexeme → ConditionTree × List Lexeme
+unfoldable pub conjunction_by : (List Lexeme → ConditionTree × List Lexeme) → List Lexeme → ConditionTree × List Lexeme
 conjunction_by p ls = chained at_and both p (length ls) (p ls)
 
 -- conj { OR conj }, given how a predicate is read
-abbrev pub condition_by : (List Lexeme → ConditionTree × List Lexeme) → List Lexeme → ConditionTree × List Lexeme
+unfoldable pub condition_by : (List Lexeme → ConditionTree × List Lexeme) → List Lexeme → ConditionTree × List Lexeme
 condition_by p ls = chained at_or either (conjunction_by p) (length ls) (conjunction_by p ls)
 
 -- "(" cond ")" | NOT pred | a test, of at most so many levels
-abbrev pub predicate_of : ℕ → List Lexeme → ConditionTree × List Lexeme
+unfoldable pub predicate_of : ℕ → List Lexeme → ConditionTree × List Lexeme
 predicate_of zero ls = test_of ls
 predicate_of (suc n) ls =
     if begins k.OpenParen ls then past_one (condition_by (predicate_of n) (drop 1 ls))
@@ -90,7 +90,7 @@ predicate_of (suc n) ls =
     else test_of ls
 
 -- cond, of at most 32 levels
-abbrev pub condition_of : List Lexeme → ConditionTree × List Lexeme
+unfoldable pub condition_of : List Lexeme → ConditionTree × List Lexeme
 condition_of ls = condition_by (predicate_of 32) ls
 
 abbrev pub as_filter : ConditionTree × List Lexeme → Option ConditionTree × List Lexeme

@@ -46,9 +46,9 @@ abbrev pub added : Kind → ExpressionTree → ExpressionTree → ExpressionTree
 added k a b = Binary (sign_of k) a b
 
 -- term { ("+" | "-") term }
-abbrev pub expression_of : List Lexeme → ExpressionTree × List Lexeme
+unfoldable pub expression_of : List Lexeme → ExpressionTree × List Lexeme
 expression_of ls = chained at_sign added term_of (length ls) (term_of ls)
 
 -- expr { "," expr }
-abbrev pub expressions_of : List Lexeme → List ExpressionTree × List Lexeme
+unfoldable pub expressions_of : List Lexeme → List ExpressionTree × List Lexeme
 expressions_of ls = chained at_comma with_last expression_of (length ls) (as_list (expression_of ls))

@@ -45,6 +45,7 @@ fn read_missing(expression: Expression, r: Reader<'_>) -> (Condition, Reader<'_>
     (Condition::missing(false, expression), rest.skip(1))
 }
 
+#[tactic(auto, unfolding(crate::specs::Conditions::within))]
 fn read_within(
     negated: bool,
     expression: Expression,
@@ -62,6 +63,7 @@ fn read_within(
 }
 
 // Reads what stands behind an expression.
+#[tactic(auto, unfolding(crate::specs::Conditions::tested))]
 fn read_tested(
     expression: Expression,
     r: Reader<'_>,
@@ -136,7 +138,7 @@ fn read_condition_by(levels: u8, r: Reader<'_>) -> Result<(Condition, Reader<'_>
 }
 
 /// Reads a WHERE clause, where there is one.
-#[tactic(auto, unfolding(crate::specs::Conditions::filter_of))]
+#[tactic(auto, unfolding(crate::specs::Conditions::condition_of, crate::specs::Conditions::filter_of))]
 pub fn read_filter(r: Reader<'_>) -> Result<(Option<Condition>, Reader<'_>), AllocError>
     ensures { IfOk result (λ x. filter_of r.entry ≡ (x.0, x.1)) }
 {

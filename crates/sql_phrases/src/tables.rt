@@ -47,8 +47,8 @@ pub enum Element {
 
 ghost use Rattle.sql_phrases.specs.Tables.{closes, column_of, element_of, elements_of, foreign_key_of, foreign_referred, number_type, past_two, past_word, table_of, text_type, time_type, type_of, with_element};
 
-// Passes a word where it is this one.
-fn past_word(r: Reader<'_>, kind: Kind) -> Reader<'_>
+/// Passes a word where it is this one.
+pub fn past_word(r: Reader<'_>, kind: Kind) -> Reader<'_>
     ensures { result ≡ past_word kind r.entry }
 {
     if r.begins(kind) {

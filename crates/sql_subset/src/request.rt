@@ -15,6 +15,7 @@ pub struct OpenOptions {
 }
 
 /// What a session asks.
+#[derive(Drop)]
 pub enum Request {
     /// OPEN
     Open(OpenOptions),
@@ -24,17 +25,8 @@ pub enum Request {
     Statement(Stmt),
 }
 
-impl Drop for Request {
-    fn drop(self) {
-        match self {
-            Self::Open(_) => {}
-            Self::Close => {}
-            Self::Statement(_) => {}
-        }
-    }
-}
-
 /// What the console asks of the backing database.
+#[derive(Drop)]
 pub enum ConsoleRequest {
     /// CREATE TABLE
     CreateTable(TableDeclaration),
@@ -42,16 +34,8 @@ pub enum ConsoleRequest {
     Writes(Seq<Write>),
 }
 
-impl Drop for ConsoleRequest {
-    fn drop(self) {
-        match self {
-            Self::CreateTable(_) => {}
-            Self::Writes(_) => {}
-        }
-    }
-}
-
 /// What a request line says.
+#[derive(Drop)]
 pub enum Line {
     /// a session's request, with its label
     Session(Label, Request),
@@ -59,16 +43,6 @@ pub enum Line {
     Console(ConsoleRequest),
     /// `clock: +n`: the milliseconds that are added; 2^64 - 1 stands for all that is more
     Clock(u64),
-}
-
-impl Drop for Line {
-    fn drop(self) {
-        match self {
-            Self::Session(_, _) => {}
-            Self::Console(_) => {}
-            Self::Clock(_) => {}
-        }
-    }
 }
 
 /// Why a line says nothing.

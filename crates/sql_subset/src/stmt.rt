@@ -102,6 +102,7 @@ impl Drop for AgingClause {
 }
 
 /// A table of a group's definition.
+#[derive(Drop)]
 pub struct GroupTable {
     /// the table
     pub table: TableDeclaration,
@@ -113,18 +114,8 @@ pub struct GroupTable {
     pub aging: Option<AgingClause>,
 }
 
-impl Drop for GroupTable {
-    fn drop(self) {
-        let Self {
-            table: _,
-            attribute: _,
-            filter: _,
-            aging: _,
-        } = self;
-    }
-}
-
 /// `CREATE [DYNAMIC] kind CACHE GROUP name [AUTOREFRESH ..] FROM table, ..`
+#[derive(Drop)]
 pub struct CreateGroup {
     /// the group
     pub name: Name,
@@ -136,18 +127,6 @@ pub struct CreateGroup {
     pub autorefresh: Option<Autorefresh>,
     /// its tables, of which there is at least one
     pub tables: Seq<GroupTable>,
-}
-
-impl Drop for CreateGroup {
-    fn drop(self) {
-        let Self {
-            name: _,
-            kind: _,
-            dynamic: _,
-            autorefresh: _,
-            tables: _,
-        } = self;
-    }
 }
 
 /// `CREATE INDEX name ON table (column, ..)`
@@ -185,6 +164,7 @@ impl Drop for Which {
 }
 
 /// `LOAD CACHE GROUP ..` and `REFRESH CACHE GROUP group which [COMMIT EVERY n ROWS] [PARALLEL n]`
+#[derive(Drop)]
 pub struct Load {
     /// the group
     pub group: Name,
@@ -194,17 +174,6 @@ pub struct Load {
     pub commit_every: Option<u64>,
     /// the threads of PARALLEL, where it is written; 2^64 - 1 stands for all that are more
     pub parallel: Option<u64>,
-}
-
-impl Drop for Load {
-    fn drop(self) {
-        let Self {
-            group: _,
-            which: _,
-            commit_every: _,
-            parallel: _,
-        } = self;
-    }
 }
 
 /// `UNLOAD CACHE GROUP group which` and `FLUSH CACHE GROUP group which`
@@ -236,6 +205,7 @@ impl Drop for Alter {
 }
 
 /// `CALL procedure [([argument, ..])]`
+#[derive(Drop)]
 pub struct Call {
     /// the procedure
     pub procedure: Name,
@@ -243,13 +213,8 @@ pub struct Call {
     pub arguments: Seq<Literal>,
 }
 
-impl Drop for Call {
-    fn drop(self) {
-        let Self { procedure: _, arguments: _ } = self;
-    }
-}
-
 /// A statement of a session.
+#[derive(Drop)]
 pub enum Stmt {
     /// SELECT
     Select(Query),
@@ -279,25 +244,4 @@ pub enum Stmt {
     Commit,
     /// ROLLBACK
     Rollback,
-}
-
-impl Drop for Stmt {
-    fn drop(self) {
-        match self {
-            Self::Select(_) => {}
-            Self::Write(_) => {}
-            Self::CreateGroup(_) => {}
-            Self::CreateIndex(_) => {}
-            Self::Load(_) => {}
-            Self::Refresh(_) => {}
-            Self::Unload(_) => {}
-            Self::Flush(_) => {}
-            Self::Alter(_) => {}
-            Self::DropGroup(_) => {}
-            Self::DropIndex(_) => {}
-            Self::Call(_) => {}
-            Self::Commit => {}
-            Self::Rollback => {}
-        }
-    }
 }

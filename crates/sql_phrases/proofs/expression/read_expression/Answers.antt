@@ -5,6 +5,7 @@ use Rattle.sql_phrases.proofs.Shrinking.{term_shrinks}
 use Rattle.sql_phrases.proofs.expression.read_expression.Goals as goal
 
 pub loop-rest-init : goal.loop-rest-init
+unfolding expression_of
 loop-rest-init c =
     let l : length c.in_ok-expression.rest ≤ length c.args.r = rw c.in_ok-expression.ensures at (term_shrinks c.args.r) in
     chain_start _ at_sign added term_of c.args.r c.in_ok-expression.expression c.in_ok-expression.rest c.in_ok-expression.ensures l

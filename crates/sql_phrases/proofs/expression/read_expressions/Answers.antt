@@ -6,6 +6,7 @@ use Rattle.sql_phrases.proofs.Shrinking.{expression_shrinks}
 use Rattle.sql_phrases.proofs.expression.read_expressions.Goals as goal
 
 pub loop-rest-init : goal.loop-rest-init
+unfolding expressions_of
 loop-rest-init c =
     let l : length c.in_ok-first.rest ≤ length c.args.r = rw c.in_ok-first.ensures at (expression_shrinks c.args.r) in
     chain_first _ at_comma with_last expression_of c.args.r c.in_ok-first.first c.push.new.self.items c.in_ok-first.rest (rw c.new-expressions.ensures.items at c.in_ok-push.ensures.items) c.in_ok-first.ensures l
