@@ -1,4 +1,6 @@
-use Rattle.std.proofs.Common.{refl, sym, length, ◌≤◌}
+use Rattle.std.proofs.Common.{ℕ, List, subst, refl, sym, length, ◌≤◌}
+use Rattle.sql_tokens.specs.Lexing.{Lexeme}
+use Rattle.sql_query.specs.declared.write.Assignment.{Assignment}
 use Rattle.sql_phrases.specs.Reading.{at_comma, with_last}
 use Rattle.sql_phrases.specs.Writes.{assignment_of, assignments_of}
 use Rattle.sql_phrases.proofs.Chains.{chain_first, chain_more, chain_ends, chain_shorter}
@@ -7,7 +9,7 @@ use Rattle.sql_phrases.proofs.writes.read_assignments.Goals as goal
 
 pub loop-rest-init : goal.loop-rest-init
 loop-rest-init c =
-    let l : length c.in_ok-first.rest ≤ length c.args.r = rw c.in_ok-first.ensures at (assignment_shrinks c.args.r) in
+    let l : length c.in_ok-first.rest ≤ length c.args.r = subst (λ (x : Assignment × List Lexeme). length x.1 ≤ length c.args.r) c.in_ok-first.ensures (assignment_shrinks c.args.r) in
     chain_first _ at_comma with_last assignment_of c.args.r c.in_ok-first.first c.push.new.self.items c.in_ok-first.rest (rw c.new-assignments.ensures.items at c.in_ok-push.ensures.items) c.in_ok-first.ensures l
 
 pub loop-rest-smaller : goal.loop-rest-smaller
