@@ -1,5 +1,5 @@
 -- What is read is no longer there: the tables of a group.
-use Rattle.std.proofs.Common.{ℕ, ◌≤◌, List, length, drop, Option, None, arith}
+use Rattle.std.proofs.Common.{ℕ, ◌≤◌, true, false, List, length, drop, Option, None, arith}
 use Rattle.sql_tokens.specs.declared.kind.Kind.TheVariants as k
 use Rattle.sql_tokens.specs.Lexing.{Lexeme}
 use Rattle.sql_query.specs.Trees.{ConditionTree}
@@ -11,13 +11,23 @@ use Rattle.sql_phrases.proofs.Shrinking.{drop_shrinks, choice_shrinks, filter_sh
 use Rattle.sql_subset.specs.declared.stmt.AgingClause.{AgingClause}
 use Rattle.sql_subset.specs.declared.stmt.AgingRule.{AgingRule}
 use Rattle.sql_subset.specs.declared.stmt.GroupKind.{GroupKind}
-use Rattle.sql_subset.specs.Groups.{cycle_of, time_rule_of, aging_rule_of, switched, as_aging, aging_of, aged, filtered, claused, group_table_of}
+use Rattle.sql_subset.specs.Groups.{cycle_of, long_of, time_rule_of, aging_rule_of, switched, as_aging, aging_of, aged, filtered, claused, group_table_of}
+
+long_shrinks : (ls : List Lexeme) → length (long_of ls).1 ≤ length ls
+unfolding long_of
+long_shrinks ls = drop_shrinks 2 ls
 
 cycle_shrinks : (ls : List Lexeme) → length (cycle_of ls).1 ≤ length ls
-cycle_shrinks ls = choice_shrinks (begins k.Cycle ls) _ (300, ls) ls (drop_shrinks 3 ls) (omega arith)
+unfolding cycle_of
+cycle_shrinks ls = let a = long_shrinks (drop 1 ls) in let b = drop_shrinks 1 ls in choice_shrinks (begins k.Cycle ls) (long_of (drop 1 ls)) (300, ls) ls (omega (arith, a, b)) (omega arith)
 
 time_rule_shrinks : (ls : List Lexeme) → length (time_rule_of ls).1 ≤ length ls
-time_rule_shrinks ls = let a = cycle_shrinks (drop 4 ls) in let b = drop_shrinks 4 ls in omega (arith, a, b)
+time_rule_shrinks ls =
+    let a = cycle_shrinks (long_of (drop 1 (drop 1 ls))).1 in
+    let b = long_shrinks (drop 1 (drop 1 ls)) in
+    let c = drop_shrinks 1 (drop 1 ls) in
+    let d = drop_shrinks 1 ls in
+    omega (arith, a, b, c, d)
 
 aging_rule_shrinks : (ls : List Lexeme) → length (aging_rule_of ls).1 ≤ length ls
 aging_rule_shrinks ls =

@@ -8,7 +8,7 @@ use Rattle.sql_query.specs.Trees.{ConditionTree}
 use Rattle.sql_phrases.specs.declared.tables.CacheTable.{CacheTable}
 use Rattle.sql_phrases.specs.declared.tables.TableAttribute.{TableAttribute}
 use Rattle.sql_phrases.specs.declared.tables.TableAttribute.TheVariants as attributes
-use Rattle.sql_phrases.specs.Reading.{begins, first_kind, first_text, name_of, name_from, capped, number_of, at_comma, chained, with_last, as_list}
+use Rattle.sql_phrases.specs.Reading.{begins, first_kind, first_text, identifier_of, name_of, capped, number_of, at_comma, chained, with_last, as_list}
 use Rattle.sql_phrases.specs.Conditions.{filter_of}
 use Rattle.sql_phrases.specs.Tables.{table_of, past_word}
 use Rattle.sql_subset.specs.declared.stmt.AgingClause.{AgingClause}
@@ -86,16 +86,26 @@ seconds_of unit = if is_kind unit k.Second then 1 else if is_kind unit k.Minute 
 abbrev pub span_of : List ℕ → Kind → ℕ
 span_of digits unit = capped (number_of digits * seconds_of unit)
 
+-- n span
+unfoldable pub long_of : List Lexeme → ℕ × List Lexeme
+long_of ls = (span_of (first_text ls) (first_kind (drop 1 ls)), drop 2 ls)
+
 -- [ CYCLE n span ], and 5 minutes where it is left out
-abbrev pub cycle_of : List Lexeme → ℕ × List Lexeme
-cycle_of ls = if begins k.Cycle ls then (span_of (first_text (drop 1 ls)) (first_kind (drop 2 ls)), drop 3 ls) else (300, ls)
+unfoldable pub cycle_of : List Lexeme → ℕ × List Lexeme
+cycle_of ls = if begins k.Cycle ls then long_of (drop 1 ls) else (300, ls)
 
 abbrev pub timed : List ℕ → ℕ → ℕ × List Lexeme → AgingRule × List Lexeme
 timed column lifetime x = (rules.Time (record { column = column; lifetime = lifetime; cycle = x.0 }), x.1)
 
+abbrev pub time_lasting : List ℕ → ℕ × List Lexeme → AgingRule × List Lexeme
+time_lasting column x = timed column x.0 (cycle_of x.1)
+
+abbrev pub time_named : List ℕ × List Lexeme → AgingRule × List Lexeme
+time_named x = time_lasting x.0 (long_of (drop 1 x.1))
+
 -- ident LIFETIME n span [ CYCLE n span ] behind USE
 abbrev pub time_rule_of : List Lexeme → AgingRule × List Lexeme
-time_rule_of ls = timed (name_from (first_text ls)) (span_of (first_text (drop 2 ls)) (first_kind (drop 3 ls))) (cycle_of (drop 4 ls))
+time_rule_of ls = time_named (identifier_of ls)
 
 -- LRU | USE ident LIFETIME n span [ CYCLE n span ]
 abbrev pub aging_rule_of : List Lexeme → AgingRule × List Lexeme

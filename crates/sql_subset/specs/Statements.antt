@@ -8,7 +8,7 @@ use Rattle.sql_tokens.specs.Lexing.{Lexeme}
 use Rattle.sql_query.specs.declared.literal.Literal.{Literal}
 use Rattle.sql_query.specs.declared.write.Write.{Write}
 use Rattle.sql_query.specs.Trees.{ConditionTree}
-use Rattle.sql_phrases.specs.Reading.{begins, first_kind, first_text, name_from, name_of, number_of, identifiers_of, literals_of, chained, with_last, as_list}
+use Rattle.sql_phrases.specs.Reading.{begins, first_kind, first_text, identifier_of, name_of, number_of, identifiers_of, literals_of, chained, with_last, as_list}
 use Rattle.sql_phrases.specs.Conditions.{filter_of}
 use Rattle.sql_phrases.specs.Queries.{query_of}
 use Rattle.sql_phrases.specs.Writes.{write_of}
@@ -112,9 +112,12 @@ alter_of ls = altered (name_of (drop 2 ls))
 abbrev pub index_on : List ℕ → List ℕ × List Lexeme → CreateIndex
 index_on name x = record { name = name; table = x.0; columns = (identifiers_of (drop 1 x.1)).0 }
 
+abbrev pub index_named : List ℕ × List Lexeme → CreateIndex
+index_named x = index_on x.0 (name_of (drop 1 x.1))
+
 -- ident ON name "(" idents ")"
 unfoldable pub index_of : List Lexeme → CreateIndex
-index_of ls = index_on (name_from (first_text ls)) (name_of (drop 2 ls))
+index_of ls = index_named (identifier_of ls)
 
 -- behind CREATE
 unfoldable pub create_of : List Lexeme → Stmt
@@ -122,7 +125,7 @@ create_of ls = if begins k.Index ls then v.CreateIndex (index_of (drop 1 ls)) el
 
 -- behind DROP
 unfoldable pub drop_of : List Lexeme → Stmt
-drop_of ls = if begins k.Index ls then v.DropIndex (name_from (first_text (drop 1 ls))) else v.DropGroup (name_of (drop 2 ls)).0
+drop_of ls = if begins k.Index ls then v.DropIndex (identifier_of (drop 1 ls)).0 else v.DropGroup (name_of (drop 2 ls)).0
 
 -- what is done to a group: LOAD, REFRESH, UNLOAD, FLUSH, ALTER
 unfoldable pub group_statement_of : List Lexeme → Stmt

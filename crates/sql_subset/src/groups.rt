@@ -1,6 +1,6 @@
 //! Cache groups, read off the tokens of a line.
 ghost use Rattle.std.specs.Prelude.{◌≡◌, IfOk};
-ghost use Rattle.sql_subset.specs.Groups.{aged, aging_of, aging_rule_of, attribute_of, claused, cycle_of, default_refresh, filtered, group_of, group_table_of, group_tables_of, interval_of, kind_of, milliseconds_of, mode_of, refresh_of, seconds_of, span_of, state_of, switched, time_rule_of, unwritten, with_interval, with_mode, with_state};
+ghost use Rattle.sql_subset.specs.Groups.{aged, aging_of, aging_rule_of, attribute_of, claused, cycle_of, default_refresh, filtered, group_of, group_table_of, group_tables_of, interval_of, kind_of, long_of, milliseconds_of, mode_of, refresh_of, seconds_of, span_of, state_of, switched, time_rule_of, unwritten, with_interval, with_mode, with_state};
 ghost use Rattle.sql_phrases.specs.Conditions.{filter_of};
 
 use crate::stmt::{
@@ -175,14 +175,22 @@ fn span_of(digits: &[u8], unit: Kind) -> u64
     number_of(digits).saturating_mul(seconds_of(unit))
 }
 
+#[tactic(auto, unfolding(crate::specs::Groups::long_of))]
+fn read_long(r: Reader<'_>) -> (u64, Reader<'_>)
+    ensures { long_of r.entry ≡ (result.0, result.1) }
+{
+    let digits = r.text();
+    let unit = r.skip(1);
+    let seconds = span_of(digits, unit.first_kind());
+    (seconds, unit.skip(1))
+}
+
+#[tactic(auto, unfolding(crate::specs::Groups::cycle_of))]
 fn read_cycle(r: Reader<'_>) -> (u64, Reader<'_>)
     ensures { cycle_of r.entry ≡ (result.0, result.1) }
 {
     if r.begins(Kind::Cycle) {
-        let count = r.skip(1);
-        let digits = count.text();
-        let unit = count.skip(1);
-        return (span_of(digits, unit.first_kind()), unit.skip(1));
+        return read_long(r.skip(1));
     }
     (300, r)
 }
@@ -192,11 +200,8 @@ fn read_time_rule(r: Reader<'_>) -> Result<(AgingRule, Reader<'_>), AllocError>
     ensures { IfOk result (λ x. time_rule_of r.entry ≡ (x.0, x.1)) }
 {
     let (column, rest) = read_identifier(r)?;
-    let count = rest.skip(1);
-    let digits = count.text();
-    let unit = count.skip(1);
-    let lifetime = span_of(digits, unit.first_kind());
-    let (cycle, rest) = read_cycle(unit.skip(1));
+    let (lifetime, rest) = read_long(rest.skip(1));
+    let (cycle, rest) = read_cycle(rest);
     let rule = AgingRule::Time(TimeAging {
         column,
         lifetime,
