@@ -3,7 +3,7 @@
 
 mod literals;
 pub mod request;
-mod served;
+mod serving;
 pub mod stmt;
 
-pub use served::served;
+pub use serving::served;
