@@ -15,9 +15,9 @@ use Rattle.table_state.specs.declared.history.Sealed.{Sealed}
 use Rattle.table_defs.specs.Names.{place_of_table}
 use Rattle.indexed_rows.specs.Rows.{Table}
 use Rattle.sql_subset.specs.declared.stmt.Autorefresh.{Autorefresh}
-use Rattle.sql_subset.specs.declared.stmt.CreateGroup.{CreateGroup}
-use Rattle.sql_subset.specs.declared.stmt.GroupKind.{GroupKind}
-use Rattle.sql_subset.specs.declared.stmt.GroupKind.TheVariants.{ReadOnly, AsynchronousWritethrough}
+use Rattle.served_lines.specs.declared.stmt.CreateGroup.{CreateGroup}
+use Rattle.served_lines.specs.declared.stmt.GroupKind.{GroupKind}
+use Rattle.served_lines.specs.declared.stmt.GroupKind.TheVariants.{ReadOnly, AsynchronousWritethrough}
 use Rattle.sql_subset.specs.Groups.{default_refresh}
 use Rattle.abstract_tier.specs.declared.reply.Reply.{Reply}
 use Rattle.abstract_tier.specs.declared.reply.Last.{Last}

@@ -13,9 +13,9 @@ use Rattle.table_defs.specs.declared.definition.TableDef.{TableDef}
 use Rattle.table_state.specs.declared.history.Entry.{Entry}
 use Rattle.table_state.specs.declared.operation.Op.{Op}
 use Rattle.table_defs.specs.Declarations.{broken}
-use Rattle.sql_subset.specs.declared.stmt.Literal.{Literal}
-use Rattle.sql_subset.specs.declared.stmt.Literal.TheVariants.{Null, Integer, Text}
-use Rattle.sql_subset.specs.declared.stmt.Load.{Load}
+use Rattle.served_lines.specs.declared.stmt.Literal.{Literal}
+use Rattle.served_lines.specs.declared.stmt.Literal.TheVariants.{Null, Integer, Text}
+use Rattle.served_lines.specs.declared.stmt.Load.{Load}
 use Rattle.autorefresh.specs.Sets.{is_on}
 use Rattle.group_defs.specs.LiteralValues.{takes_all, values_of}
 use Rattle.abstract_tier.specs.ReadOnlyStates.{ReadOnlyState, read_only_called, shown_at, shown_from, shown_rows, Which}

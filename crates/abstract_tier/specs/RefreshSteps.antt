@@ -5,7 +5,7 @@ use Rattle.std.specs.Prelude.{◌≡◌, ℕ, List, [], Option, Some, None, leng
 use Rattle.std.specs.Bool.{MatchBool}
 use Rattle.row_types.specs.declared.rule.Rule.{Rule}
 use Rattle.table_state.specs.declared.history.Entry.{Entry}
-use Rattle.sql_subset.specs.declared.stmt.Load.{Load}
+use Rattle.served_lines.specs.declared.stmt.Load.{Load}
 use Rattle.outside.specs.Bank.{Grows}
 use Rattle.outside.specs.Others.{Around}
 use Rattle.outside.specs.declared.fault.BankError.{BankError}

@@ -14,8 +14,8 @@ use Rattle.row_types.specs.declared.rule.Detail.TheVariants as detail
 use Rattle.row_types.specs.declared.rule.Rule.{Rule}
 use Rattle.row_types.specs.declared.value.Value.{Value}
 use Rattle.sql_subset.specs.declared.request.OpenOptions.{OpenOptions}
-use Rattle.sql_subset.specs.declared.stmt.CreateGroup.{CreateGroup}
-use Rattle.sql_subset.specs.declared.stmt.Literal.{Literal}
+use Rattle.served_lines.specs.declared.stmt.CreateGroup.{CreateGroup}
+use Rattle.served_lines.specs.declared.stmt.Literal.{Literal}
 use Rattle.table_defs.specs.declared.definition.ForeignKey.{ForeignKey}
 use Rattle.table_defs.specs.declared.definition.TableDef.{TableDef}
 use Rattle.table_state.specs.declared.operation.Op.{Op}

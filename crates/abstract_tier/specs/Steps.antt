@@ -15,20 +15,20 @@ use Rattle.row_types.specs.declared.rule.Rule.{Rule}
 use Rattle.row_types.specs.declared.rule.Detail.TheVariants as detail
 use Rattle.row_types.specs.declared.value.Value.{Value}
 use Rattle.row_types.specs.declared.declaration.TableDeclaration.{TableDeclaration}
-use Rattle.sql_subset.specs.declared.request.Line.{Line}
-use Rattle.sql_subset.specs.declared.request.Line.TheVariants as says
-use Rattle.sql_subset.specs.declared.request.Request.{Request}
-use Rattle.sql_subset.specs.declared.request.Request.TheVariants as asks_for
-use Rattle.sql_subset.specs.declared.request.ConsoleRequest.{ConsoleRequest}
-use Rattle.sql_subset.specs.declared.request.ConsoleRequest.TheVariants as console
-use Rattle.sql_subset.specs.declared.stmt.Stmt.{Stmt}
-use Rattle.sql_subset.specs.declared.stmt.Stmt.TheVariants as statement
-use Rattle.sql_subset.specs.declared.stmt.Insert.{Insert as OneInsert}
-use Rattle.sql_subset.specs.declared.stmt.Select.{Select as OneSelect}
-use Rattle.sql_subset.specs.declared.stmt.Literal.{Literal}
+use Rattle.served_lines.specs.declared.request.Line.{Line}
+use Rattle.served_lines.specs.declared.request.Line.TheVariants as says
+use Rattle.served_lines.specs.declared.request.Request.{Request}
+use Rattle.served_lines.specs.declared.request.Request.TheVariants as asks_for
+use Rattle.served_lines.specs.declared.request.ConsoleRequest.{ConsoleRequest}
+use Rattle.served_lines.specs.declared.request.ConsoleRequest.TheVariants as console
+use Rattle.served_lines.specs.declared.stmt.Stmt.{Stmt}
+use Rattle.served_lines.specs.declared.stmt.Stmt.TheVariants as statement
+use Rattle.served_lines.specs.declared.stmt.Insert.{Insert as OneInsert}
+use Rattle.served_lines.specs.declared.stmt.Select.{Select as OneSelect}
+use Rattle.served_lines.specs.declared.stmt.Literal.{Literal}
 use Rattle.sql_subset.specs.Lines.{Saying, Silent, Says, WrongAt, TooDeep, Means, is_silent}
 use Rattle.sql_query.specs.declared.write.Write.{Write}
-use Rattle.console_writes.specs.ConsoleTrees.{trees_of}
+use Rattle.served_lines.specs.Served.{served}
 use Rattle.resolution.specs.Writes.{change_seen, resolved_writes, table_of}
 use Rattle.evaluator.specs.declared.change.Change.{Change}
 use Rattle.table_defs.specs.declared.definition.TableDef.{TableDef}
@@ -96,7 +96,7 @@ write_uncached t writes = list_any (λ w. not (is_writethrough t (table_of w))) 
 
 abbrev pub console_asks : TierState → ConsoleRequest → Bool
 console_asks t (console.CreateTable d) = is_none t.known && not (is_cached t d.name)
-console_asks t (console.Writes writes) = is_none t.known && write_uncached t (trees_of writes)
+console_asks t (console.Writes writes) = is_none t.known && write_uncached t writes
 
 -- The tier asks for the schema that it doesn't know before a statement that names a table which isn't cached, and before
 -- the console writes a table that it may write.
@@ -300,7 +300,7 @@ DoesRequest label (asks_for.Statement s) w w' reply = ForSession label (session_
 
 abbrev pub DoesConsole : ConsoleRequest → World → World → Reply → Type 0
 DoesConsole (console.CreateTable d) w w' reply = DoesDefine d w.tier.known w w' reply
-DoesConsole (console.Writes writes) w w' reply = DoesWrites (trees_of writes) w w' reply
+DoesConsole (console.Writes writes) w w' reply = DoesWrites writes w w' reply
 
 -- what a line does where memory suffices
 abbrev pub Does : Line → World → World → Reply → Type 0
@@ -363,10 +363,15 @@ is_undone t (says.Console request) = false
 abbrev pub DoesLine : Line → World → World → Reply → Type 0
 DoesLine line w w' reply = MatchBool (is_undone w.tier line) (Quiet w (refuses w.tier not_yet) w' reply) (Parts line w w' reply)
 
+-- what a line is answered: 101 at byte 0 where the tier doesn't do it yet
+abbrev pub DoesServed : Option Line → World → World → Reply → Type 0
+DoesServed None w w' reply = Quiet w (refuses w.tier not_yet) w' reply
+DoesServed (Some line) w w' reply = DoesLine line w w' reply
+
 -- what a line is answered by what it says
 abbrev pub Answers : Saying → World → World → Reply → Type 0
 Answers Silent w w' reply = ⊥
-Answers (Says line) w w' reply = DoesLine line w w' reply
+Answers (Says line) w w' reply = DoesServed (served line) w w' reply
 Answers (WrongAt place) w w' reply = Quiet w (refuses w.tier (wrong_at place)) w' reply
 Answers TooDeep w w' reply = Quiet w (refuses w.tier too_deep) w' reply
 

@@ -6,7 +6,7 @@ ghost use Rattle.abstract_tier.specs.ReadOnlyAnswers.{are_past_rows, are_past_th
 ghost use Rattle.abstract_tier.specs.Steps.{call_fault, is_autorefresh};
 
 use row_types::{Detail, Rule};
-use sql_subset::stmt::{Call, Literal, Load};
+use served_lines::stmt::{Call, Literal, Load};
 use std::alloc::{AllocError, Global};
 use tier_base::{Code, Name};
 

@@ -8,7 +8,7 @@ ghost use Rattle.abstract_tier.specs.ReadOnlyAnswers.{unknown_group, write_fault
 
 use group_defs::{broken, literal_values, takes_all};
 use row_types::{Detail, Refused, Rule};
-use sql_subset::stmt::Literal;
+use served_lines::stmt::Literal;
 use std::alloc::Global;
 use table_defs::TableDef;
 use tier_base::{Code, Label, Name};

@@ -1,11 +1,11 @@
 //! Tables and writes as the console spells them.
 
 use crate::error::DrillError;
-use console_writes::trees_of;
 use evaluator::Change;
 use resolution::resolve_writes;
 use sql_subset::line::parse_line;
-use sql_subset::request::{ConsoleRequest, Line};
+use served_lines::request::{ConsoleRequest, Line};
+use served_lines::served;
 use std::alloc::{AllocError, Global};
 use table_defs::{BackingSchema, TableDef};
 use tier_base::Seq;
@@ -13,7 +13,10 @@ use tier_base::Seq;
 /// What the console asks by this line, none where it is no line of the console.
 pub fn asked(alloc: Global, line: &[u8]) -> Option<ConsoleRequest> {
     match parse_line(alloc, line) {
-        Ok(Some(Line::Console(request))) => Some(request),
+        Ok(Some(line)) => match served(alloc, line) {
+            Ok(Some(Line::Console(request))) => Some(request),
+            _ => None,
+        },
         _ => None,
     }
 }
@@ -41,8 +44,7 @@ pub fn changes_of(
 ) -> Result<Seq<Change>, DrillError> {
     match asked_behind_label(alloc, text)? {
         Some(ConsoleRequest::Writes(writes)) => {
-            let trees = trees_of(alloc, writes)?;
-            resolve_writes(alloc, schema, trees.as_slice()).map_err(|_| DrillError::Line(line))
+            resolve_writes(alloc, schema, writes.as_slice()).map_err(|_| DrillError::Line(line))
         }
         _ => Err(DrillError::Line(line)),
     }

@@ -8,7 +8,7 @@ use crate::script::{Planned, Script};
 use backing_gate::{CallKind, MemorySite};
 use outside::{Done, MemorySink, MemorySource, ScriptClock, Site};
 use session_cli::top;
-use sql_subset::request::ConsoleRequest;
+use served_lines::request::ConsoleRequest;
 use std::alloc::{AllocError, Global};
 use table_defs::{BackingSchema, TableDef};
 use tier_base::Seq;

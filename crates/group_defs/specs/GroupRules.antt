@@ -16,9 +16,9 @@ use Rattle.row_types.specs.declared.rule.Letter.{Letter}
 use Rattle.row_types.specs.declared.rule.Letter.TheVariants as letter
 use Rattle.row_types.specs.declared.rule.Rule.{Rule}
 use Rattle.sql_subset.specs.declared.stmt.Autorefresh.{Autorefresh}
-use Rattle.sql_subset.specs.declared.stmt.CreateGroup.{CreateGroup}
-use Rattle.sql_subset.specs.declared.stmt.GroupKind.{GroupKind}
-use Rattle.sql_subset.specs.declared.stmt.GroupKind.TheVariants.{ReadOnly, AsynchronousWritethrough}
+use Rattle.served_lines.specs.declared.stmt.CreateGroup.{CreateGroup}
+use Rattle.served_lines.specs.declared.stmt.GroupKind.{GroupKind}
+use Rattle.served_lines.specs.declared.stmt.GroupKind.TheVariants.{ReadOnly, AsynchronousWritethrough}
 use Rattle.table_defs.specs.declared.definition.ForeignKey.{ForeignKey}
 use Rattle.table_defs.specs.declared.definition.TableDef.{TableDef}
 use Rattle.table_defs.specs.Declarations.{broken, broken_at, has_type, wrong_name, type_fault, key_count, key_places}

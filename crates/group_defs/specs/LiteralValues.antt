@@ -9,9 +9,9 @@ use Rattle.row_types.specs.declared.column.Ty.TheVariants as ty
 use Rattle.row_types.specs.declared.value.Value.{Value}
 use Rattle.row_types.specs.declared.value.Value.TheVariants as value
 use Rattle.row_types.specs.Literals.{held_text, integer_value}
-use Rattle.sql_subset.specs.declared.stmt.IntegerLiteral.{IntegerLiteral}
-use Rattle.sql_subset.specs.declared.stmt.Literal.{Literal}
-use Rattle.sql_subset.specs.declared.stmt.Literal.TheVariants.{Null, Integer, Text}
+use Rattle.served_lines.specs.declared.stmt.IntegerLiteral.{IntegerLiteral}
+use Rattle.served_lines.specs.declared.stmt.Literal.{Literal}
+use Rattle.served_lines.specs.declared.stmt.Literal.TheVariants.{Null, Integer, Text}
 
 -- the digits, with a `-` before them where one stands there
 abbrev pub signed_digits : IntegerLiteral → List ℕ

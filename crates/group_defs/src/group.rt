@@ -8,7 +8,7 @@ ghost use Rattle.group_defs.specs.GroupRules.{definition_fault, has_same_key, ha
 use crate::limit::past;
 use crate::refusal::{broken, refuse_name};
 use row_types::{Column, ColumnDeclaration, Detail, Letter, Refused, TableDeclaration};
-use sql_subset::stmt::{Autorefresh, CreateGroup, GroupKind};
+use served_lines::stmt::{Autorefresh, CreateGroup, GroupKind};
 use std::alloc::{AllocError, Global};
 use table_defs::{
     BackingSchema, ForeignKey, TableDef, has_one_key, has_type, key_places, refuse_types,

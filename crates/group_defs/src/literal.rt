@@ -7,7 +7,7 @@ ghost use Rattle.row_types.specs.declared.value.Value.TheVariants.{Integer as In
 ghost use Rattle.group_defs.specs.LiteralValues.{literal_value, signed_digits, takes, takes_all, values_of};
 
 use row_types::{Column, Ty, Value, held_text, parse_integer};
-use sql_subset::stmt::{IntegerLiteral, Literal};
+use served_lines::stmt::{IntegerLiteral, Literal};
 use std::alloc::{AllocError, Global};
 
 /// The values of literals, in their order. None where no type holds one of them: an integer past 64 signed bits, a text

@@ -13,7 +13,7 @@ use Rattle.expressions.specs.declared.typing.Family.{Family}
 use Rattle.expressions.specs.declared.typing.Family.TheVariants.{Number, Characters, Datetime}
 use Rattle.expressions.specs.Types.{family_of_value}
 use Rattle.sql_query.specs.declared.literal.Literal.{Literal}
-use Rattle.sql_query.specs.declared.literal.Literal.TheVariants.{Null, Integer, Text, Time}
+use Rattle.sql_query.specs.declared.literal.Literal.TheVariants.{Null, Number as Numeral, Text, Time}
 use Rattle.sql_query.specs.Literals.{signed_digits, value_of}
 use Rattle.resolution.specs.Literals.{family_of_literal, family_of_text}
 
@@ -36,7 +36,7 @@ held_characters (b ∷ bytes) = held_if (nat_le (length (b ∷ bytes)) 4000) (va
 
 held : (literal : Literal) → Held (value_of literal) (family_of_literal literal)
 held Null = refl
-held (Integer literal) =
+held (Numeral literal) =
     held_if (is_integer (signed_digits literal) && holds TtBigint (value.Integer (integer_of (signed_digits literal))))
     (value.Integer (integer_of (signed_digits literal))) (Some Number) refl
 held (Text bytes) = held_characters bytes

@@ -1,7 +1,7 @@
 -- What the names of a query stand for. (TimesTen SQL Reference, "SELECT" and "Aggregate functions"; the codes and their
 -- order are this project's rule.)
 
-use Rattle.std.specs.Prelude.{ℕ, suc, List, [], ◌∷◌, Option, Some, None, Bool, true, ◌&&◌, ◌||◌, map, Result, Ok}
+use Rattle.std.specs.Prelude.{ℕ, suc, List, [], ◌∷◌, Option, Some, None, Bool, true, false, ◌&&◌, ◌||◌, map, Result, Ok}
 use Rattle.std.specs.List.{list_all}
 use Rattle.std.specs.Result.{is_ok}
 use Rattle.tier_base.specs.declared.code.Code.{Code}
@@ -15,8 +15,10 @@ use Rattle.sql_query.specs.declared.query.Aggregate.{Aggregate as NamedAggregate
 use Rattle.sql_query.specs.declared.query.Aggregate.TheVariants as written
 use Rattle.sql_query.specs.declared.query.OrderItem.{OrderItem}
 use Rattle.sql_query.specs.declared.query.Query.{Query}
+use Rattle.sql_query.specs.declared.query.SelectItem.{SelectItem}
+use Rattle.sql_query.specs.declared.query.SelectItem.TheVariants as item
 use Rattle.sql_query.specs.declared.query.SelectList.{SelectList}
-use Rattle.sql_query.specs.declared.query.SelectList.TheVariants.{Everything, Expressions, Aggregates}
+use Rattle.sql_query.specs.declared.query.SelectList.TheVariants.{Everything, Expressions, Aggregates, Mixed}
 use Rattle.sql_query.specs.Trees.{ExpressionTree, Constant}
 use Rattle.table_defs.specs.declared.definition.TableDef.{TableDef}
 use Rattle.evaluator.specs.declared.aggregate.Aggregate.{Aggregate}
@@ -58,6 +60,11 @@ operand_of (written.Sum e) = e
 operand_of (written.Least e) = e
 operand_of (written.Greatest e) = e
 
+-- what an item of a mixed list is, or is taken of
+abbrev pub tree_of_item : SelectItem → ExpressionTree
+tree_of_item (item.Expression e) = e
+tree_of_item (item.Aggregate aggregate) = operand_of aggregate
+
 -- the evaluator's aggregate of the one that is written
 abbrev pub total_of : NamedAggregate → Aggregate
 total_of written.Rows = total.Rows
@@ -76,16 +83,18 @@ abbrev pub placed_selected : List SeenColumn → SelectList → Result (List Pla
 placed_selected scope Everything = Ok (places_from 0 scope)
 placed_selected scope (Expressions es) = placed_list scope es
 placed_selected scope (Aggregates aggregates) = placed_list scope (map operand_of aggregates)
+placed_selected scope (Mixed items) = placed_list scope (map tree_of_item items)
 
 -- the aggregates, where the select list is of aggregates
 abbrev pub totals_of : SelectList → Option (List Aggregate)
 totals_of Everything = None
 totals_of (Expressions es) = None
 totals_of (Aggregates aggregates) = Some (map total_of aggregates)
+totals_of (Mixed items) = None
 
 -- the place of a column in ORDER BY, or 103
 unfoldable pub placed_item : List SeenColumn → OrderItem → Result ℕ Rule
-placed_item scope item = placed_column scope item.column
+placed_item scope ordered = placed_column scope ordered.column
 
 -- the places of the columns in ORDER BY, one after the other
 abbrev pub placed_order : List SeenColumn → List OrderItem → Result (List ℕ) Rule
@@ -117,17 +126,20 @@ suit_totals (t ∷ ts) (family ∷ families) = suits_total t family && suit_tota
 suit_totals [] families = true
 suit_totals (t ∷ ts) [] = true
 
--- the types of the select list, given those of its expressions or operands
+-- the types of the select list, given those of its expressions or operands; expressions and aggregates stand together in no
+-- list without GROUP BY
 abbrev pub suits_families : SelectList → List (Result (Option Family) Code) → Bool
 suits_families Everything families = true
 suits_families (Expressions es) families = list_all is_ok families
 suits_families (Aggregates aggregates) families = suit_totals (map total_of aggregates) families
+suits_families (Mixed items) families = false
 
 -- the expressions of the select list, or the operands of its aggregates
 abbrev pub written_list : SelectList → List ExpressionTree
 written_list Everything = []
 written_list (Expressions es) = es
 written_list (Aggregates aggregates) = map operand_of aggregates
+written_list (Mixed items) = map tree_of_item items
 
 -- the select list and the condition keep the rule of types
 abbrev pub is_sound_query : List SeenColumn → Query → Bool

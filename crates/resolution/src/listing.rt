@@ -7,7 +7,7 @@ ghost use Rattle.expressions.specs.Types.{agrees, family_of};
 ghost use Rattle.expressions.specs.declared.typing.Family.TheVariants.{Number};
 ghost use Rattle.resolution.specs.Literals.{has_unheld, some_unheld};
 ghost use Rattle.resolution.specs.Placing.{expression_seen, expressions_seen, placed_expression, placed_list};
-ghost use Rattle.resolution.specs.Queries.{operand_of, placed_item, placed_order, placed_selected, places_from, suit_totals, suits_families, suits_total, total_of, totals_of, written_list};
+ghost use Rattle.resolution.specs.Queries.{operand_of, placed_item, placed_order, placed_selected, places_from, suit_totals, suits_families, suits_total, total_of, totals_of, tree_of_item, written_list};
 ghost use Rattle.resolution.specs.Results.{Gives};
 ghost use Rattle.resolution.specs.Scopes.{families, shown};
 ghost use Rattle.resolution.specs.WrittenTypes.{written_families, written_family};
@@ -17,7 +17,7 @@ use crate::scope::{Seen, placed_column};
 use evaluator::Aggregate;
 use expressions::{Expr, Family, family_of, is_numeric};
 use row_types::{Refused, Value};
-use sql_query::{Aggregate as NamedAggregate, OrderItem, SelectList};
+use sql_query::{Aggregate as NamedAggregate, OrderItem, SelectItem, SelectList};
 use std::alloc::{AllocError, Global};
 use tier_base::{Code, Seq};
 
@@ -39,6 +39,7 @@ pub(crate) fn place_selected(
         SelectList::Everything => Ok(all_columns(alloc, scope)?),
         SelectList::Expressions(list) => place_list(alloc, scope, list.as_slice(), unheld),
         SelectList::Aggregates(list) => place_operands(alloc, scope, list.as_slice(), unheld),
+        SelectList::Mixed(list) => place_items(alloc, scope, list.as_slice(), unheld),
     }
 }
 
@@ -68,6 +69,40 @@ fn place_operands(
         operands.push(operand).map_err(AllocError::from)?;
     }
     Ok(operands)
+}
+
+fn place_items(
+    alloc: Global,
+    scope: &[Seen<'_>],
+    items: &[SelectItem],
+    unheld: &mut bool,
+) -> Result<Vec<Expr>, Refused>
+    ensures placed { Gives (λ es. expressions_seen es.items) (placed_list (shown scope.now) (map tree_of_item items.now)) result }
+    ensures typed { IfOk result (λ es. map (λ e. family_of e (families (shown scope.now))) es.items ≡ written_families (shown scope.now) (map tree_of_item items.now)) }
+    ensures held { OnOk result (unheld.new ≡ unheld.old || some_unheld (map tree_of_item items.now)) }
+{
+    let mut exprs = Vec::with_capacity(alloc, items.len())?;
+    for item in items {
+        let expr = place_select_item(alloc, scope, item, unheld)?;
+        exprs.push(expr).map_err(AllocError::from)?;
+    }
+    Ok(exprs)
+}
+
+fn place_select_item(
+    alloc: Global,
+    scope: &[Seen<'_>],
+    item: &SelectItem,
+    unheld: &mut bool,
+) -> Result<Expr, Refused>
+    ensures placed { Gives expression_seen (placed_expression (shown scope.now) (tree_of_item item.now)) result }
+    ensures typed { IfOk result (λ e. family_of e (families (shown scope.now)) ≡ written_family (shown scope.now) (tree_of_item item.now)) }
+    ensures held { OnOk result (unheld.new ≡ unheld.old || has_unheld (tree_of_item item.now)) }
+{
+    match item {
+        SelectItem::Expression(expression) => place_expression(alloc, scope, expression, unheld),
+        SelectItem::Aggregate(aggregate) => place_operand(alloc, scope, aggregate, unheld),
+    }
 }
 
 fn place_operand(
@@ -103,6 +138,7 @@ pub(crate) fn totals_of(
             let totals = totals_in(alloc, list.as_slice())?;
             Ok(Some(Seq::from_vec(totals)))
         }
+        SelectList::Mixed(_) => Ok(None),
     }
 }
 
@@ -136,6 +172,7 @@ pub(crate) fn suits_families(selected: &SelectList, listed: &[Expr], families: &
         SelectList::Everything => true,
         SelectList::Expressions(_) => have_families(listed, families),
         SelectList::Aggregates(list) => suit_totals(list.as_slice(), listed, families),
+        SelectList::Mixed(_) => false,
     }
 }
 

@@ -172,7 +172,7 @@ fn family_of_literal(literal: &Literal) -> Option<Family>
 {
     match literal {
         Literal::Null => None,
-        Literal::Integer(_) => Some(Family::Number),
+        Literal::Number(_) => Some(Family::Number),
         Literal::Text(text) => family_of_text(text.as_bytes()),
         Literal::Time(_) => Some(Family::Datetime),
     }

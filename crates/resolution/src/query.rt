@@ -1,6 +1,6 @@
 //! What the names of a query stand for.
 
-ghost use Rattle.std.specs.Prelude.{◌≡◌, ◌&&◌, IfOk, map};
+ghost use Rattle.std.specs.Prelude.{◌≡◌, ◌&&◌, IfOk, [], map};
 ghost use Rattle.expressions.specs.Types.{family_of};
 ghost use Rattle.resolution.specs.Placing.{expressions_seen, filter_seen};
 ghost use Rattle.resolution.specs.Queries.{planned, query_seen, resolved_in, resolved_query, suits_families};
@@ -21,17 +21,18 @@ use std::alloc::{AllocError, Global};
 use table_defs::BackingSchema;
 use tier_base::{Seq, TableId};
 
-/// The query with places in place of names, over the tables of the schema.
+/// The query with places in place of names, over the tables of the schema. It has no GROUP BY, which isn't done yet.
 ///
 /// The refusal is the first broken rule: 102 of the first table in FROM that there isn't; 103 of the first name, in the
 /// select list, then in WHERE, then in ORDER BY, that fits no column of these tables, or two; 104 where comparison,
-/// arithmetic or SUM meets types that don't suit; 105 where no type holds some literal. Or memory was wanting. Nothing is
+/// arithmetic or SUM meets types that don't suit, or the list has expressions and aggregates; 105 where no type holds some literal. Or memory was wanting. Nothing is
 /// changed in any case. (TimesTen SQL Reference, "SELECT"; codes and their order are this project's rule.)
 pub fn resolve_query(
     alloc: Global,
     schema: &BackingSchema,
     query: &Query,
 ) -> Result<ResolvedQuery, Refused>
+    requires { query.now.groups ≡ [] }
     ensures { Gives query_seen (resolved_query schema.now query.now) result }
 {
     let tables = tables_of(alloc, schema, query.tables.as_slice())?;

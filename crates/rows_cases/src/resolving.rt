@@ -5,7 +5,7 @@ use expressions::Comparator;
 use resolution::{resolve_query, resolve_write};
 use row_types::{Column, Refused, Text, Ty};
 use sql_query::{
-    Assignment, Condition, Expression, FromTable, Insert, IntegerLiteral, Literal, OrderItem,
+    Assignment, Condition, Expression, FromTable, Insert, Literal, NumberLiteral, OrderItem,
     Query, SelectList, Update, Write,
 };
 use std::alloc::{AllocError, Global};
@@ -48,7 +48,7 @@ fn literal(alloc: Global, text: &str) -> Result<Expression, AllocError> {
         None => Literal::Null,
         Some(first) => {
             if first.is_ascii_digit() {
-                Literal::Integer(IntegerLiteral {
+                Literal::Number(NumberLiteral {
                     negative: false,
                     digits,
                 })
@@ -120,7 +120,9 @@ static QUERIES: [Asked; 12] = [
     ("NAME", "C", "ID", "a", "ID", 104),
 ];
 
-fn query(alloc: Global, asked: &Asked) -> Result<Query, AllocError> {
+fn query(alloc: Global, asked: &Asked) -> Result<Query, AllocError>
+    ensures { IfOk result (λ query. query.groups ≡ []) }
+{
     let (listed, tables, filtered, value, ordered, _) = asked;
     let listed = Expression::column(name(alloc, listed)?);
     let filter = equal(alloc, filtered, value)?;
@@ -132,6 +134,7 @@ fn query(alloc: Global, asked: &Asked) -> Result<Query, AllocError> {
         selected: SelectList::Expressions(Seq::from_vec(vec![in alloc; listed]?)),
         tables: from_tables(alloc, tables)?,
         filter: Some(filter),
+        groups: Seq::new(alloc),
         order: Seq::from_vec(vec![in alloc; order]?),
     })
 }

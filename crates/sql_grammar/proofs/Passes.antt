@@ -5,13 +5,10 @@ use Rattle.sql_grammar.specs.declared.rule.Rule.TheVariants as rules
 use Rattle.sql_grammar.specs.declared.start.Start.{Start}
 use Rattle.sql_grammar.specs.declared.start.Start.TheVariants as starts
 use Rattle.sql_grammar.specs.Decided.{is_known, is_decided}
-use Rattle.sql_grammar.specs.Sql.{rule, grammar_of, known, whole_session, whole_console, whole_clock}
+use Rattle.sql_grammar.specs.Sql.{rule, grammar_of, known}
 use Rattle.sql_grammar.proofs.Alive.{Alive, alive_rules}
 
 pub decided : (m : Rule) → is_known known m (rule m) ≡ true
-decided rules.Statement = refl
-decided rules.Columns = refl
-decided rules.Writes = refl
 decided rules.Named = refl
 decided rules.Idents = refl
 decided rules.Literal = refl
@@ -26,34 +23,24 @@ decided rules.Select = refl
 decided rules.Insert = refl
 decided rules.Update = refl
 decided rules.Delete = refl
-decided rules.MoreColumns = refl
-decided rules.Table = refl
+decided rules.Writes = refl
+decided rules.Columns = refl
+decided rules.CachedColumns = refl
+decided rules.CachedTable = refl
 decided rules.Aging = refl
 decided rules.Group = refl
 decided rules.Create = refl
 decided rules.Chosen = refl
 decided rules.Called = refl
-decided rules.AnyStatement = refl
-decided rules.MoreWrites = refl
+decided rules.Statement = refl
 
 pub start_decided : (s : Start) → is_decided known (grammar_of s) ≡ true
 start_decided starts.Statement = refl
 start_decided starts.Session = refl
 start_decided starts.Console = refl
-
-pub whole_session_decided : is_decided known whole_session ≡ true
-whole_session_decided = refl
-
-pub whole_console_decided : is_decided known whole_console ≡ true
-whole_console_decided = refl
-
-pub whole_clock_decided : is_decided known whole_clock ≡ true
-whole_clock_decided = refl
+start_decided starts.Clock = refl
 
 pub lives : (m : Rule) → Alive rule (rule m)
-lives rules.Statement = alive_rules rule 9 rules.Statement refl
-lives rules.Columns = alive_rules rule 9 rules.Columns refl
-lives rules.Writes = alive_rules rule 9 rules.Writes refl
 lives rules.Named = alive_rules rule 9 rules.Named refl
 lives rules.Idents = alive_rules rule 9 rules.Idents refl
 lives rules.Literal = alive_rules rule 9 rules.Literal refl
@@ -68,12 +55,13 @@ lives rules.Select = alive_rules rule 9 rules.Select refl
 lives rules.Insert = alive_rules rule 9 rules.Insert refl
 lives rules.Update = alive_rules rule 9 rules.Update refl
 lives rules.Delete = alive_rules rule 9 rules.Delete refl
-lives rules.MoreColumns = alive_rules rule 9 rules.MoreColumns refl
-lives rules.Table = alive_rules rule 9 rules.Table refl
+lives rules.Writes = alive_rules rule 9 rules.Writes refl
+lives rules.Columns = alive_rules rule 9 rules.Columns refl
+lives rules.CachedColumns = alive_rules rule 9 rules.CachedColumns refl
+lives rules.CachedTable = alive_rules rule 9 rules.CachedTable refl
 lives rules.Aging = alive_rules rule 9 rules.Aging refl
 lives rules.Group = alive_rules rule 9 rules.Group refl
 lives rules.Create = alive_rules rule 9 rules.Create refl
 lives rules.Chosen = alive_rules rule 9 rules.Chosen refl
 lives rules.Called = alive_rules rule 9 rules.Called refl
-lives rules.AnyStatement = alive_rules rule 9 rules.AnyStatement refl
-lives rules.MoreWrites = alive_rules rule 9 rules.MoreWrites refl
+lives rules.Statement = alive_rules rule 9 rules.Statement refl

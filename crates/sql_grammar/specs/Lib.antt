@@ -3,6 +3,11 @@ pub mod Grammar
 pub mod Decided
 pub mod Machine
 pub mod Notation
-pub mod Whole
+pub mod Queries
+pub mod Writes
+pub mod Tables
+pub mod Groups
+pub mod Loading
+pub mod Statements
 pub mod Sql
 pub mod Verdict

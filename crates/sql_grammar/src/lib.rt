@@ -2,11 +2,14 @@
 #![tactic(auto)]
 
 pub mod engine;
-mod lines;
+mod groups;
+mod loading;
+mod queries;
 pub mod rule;
 pub mod sql;
 pub mod start;
+mod statements;
 pub mod syntax;
+mod tables;
 pub mod test;
-mod whole;
-mod whole_queries;
+mod writes;

@@ -3,27 +3,21 @@
 /// A rule of the grammar.
 #[derive(Clone, Copy)]
 pub enum Rule {
-    /// statement of a session
-    Statement,
-    /// the rest of a table behind a column
-    Columns,
-    /// [ ";" [ write writes ] ]
-    Writes,
-    /// name = ident [ "." ident ]
+    /// name
     Named,
-    /// idents = ident { "," ident }
+    /// identifiers with commas between
     Idents,
-    /// literal = number | text | NULL | TIMESTAMP text | "-" number
+    /// a literal
     Literal,
-    /// expr = term { ("+" | "-") term }
+    /// an expression
     Expr,
     /// a predicate
     Pred,
     /// a condition
     Cond,
-    /// what follows a list
+    /// what follows a select list
     After,
-    /// the rest of a list of exprs
+    /// the rest of a list of expressions
     Exprs,
     /// the rest of a list of aggregates
     Aggs,
@@ -37,10 +31,14 @@ pub enum Rule {
     Update,
     /// behind DELETE
     Delete,
-    /// the rest of a table of the whole grammar behind a column
-    MoreColumns,
-    /// a table of the whole grammar
-    Table,
+    /// `;` and the writes behind it
+    Writes,
+    /// the rest of a table behind a column
+    Columns,
+    /// the rest of a cache table behind a column
+    CachedColumns,
+    /// a cache table
+    CachedTable,
     /// behind AGING
     Aging,
     /// behind the kind of a group
@@ -51,8 +49,6 @@ pub enum Rule {
     Chosen,
     /// behind CALL
     Called,
-    /// a statement of the whole grammar
-    AnyStatement,
-    /// [ ";" [ write writes ] ] of the whole grammar
-    MoreWrites,
+    /// a statement of a session
+    Statement,
 }

@@ -3,28 +3,21 @@ ghost use Rattle.std.specs.Prelude.{◌≡◌};
 ghost use Rattle.sql_grammar.specs.Machine.{view};
 ghost use Rattle.sql_grammar.specs.Sql as sql;
 
-use crate::lines::{
-    COLUMNS_RULE, CONSOLE_START, SESSION_START, STATEMENT_RULE, STATEMENT_START, WRITES_RULE,
-};
+use crate::groups::{AGING_RULE, CREATE_RULE, GROUP_RULE};
+use crate::loading::{CHOSEN_RULE};
+use crate::queries::{AFTER_RULE, AGGS_REST_RULE, COND_RULE, EXPRS_REST_RULE, EXPR_RULE, IDENTS_RULE, LITERAL_RULE, MIXED_REST_RULE, NAMED_RULE, PRED_RULE, SELECT_RULE};
 use crate::rule::Rule;
 use crate::start::Start;
+use crate::statements::{ALONE_START, CALLED_RULE, CLOCK_START, CONSOLE_START, SESSION_START, STATEMENT_RULE};
 use crate::syntax::Syntax;
-use crate::whole::{
-    AFTER_RULE, AGGS_RULE, AGING_RULE, ANY_STATEMENT_RULE, CALLED_RULE, CHOSEN_RULE, COND_RULE,
-    CREATE_RULE, DELETE_RULE, EXPR_RULE, EXPRS_RULE, GROUP_RULE, IDENTS_RULE, INSERT_RULE,
-    LITERAL_RULE, MIXED_RULE, MORE_COLUMNS_RULE, MORE_WRITES_RULE, NAMED_RULE, PRED_RULE,
-    SELECT_RULE, TABLE_RULE, UPDATE_RULE, WHOLE_CLOCK_START, WHOLE_CONSOLE_START,
-    WHOLE_SESSION_START,
-};
+use crate::tables::{CACHED_COLUMNS_RULE, CACHED_TABLE_RULE, COLUMNS_RULE};
+use crate::writes::{DELETE_RULE, INSERT_RULE, UPDATE_RULE, WRITES_RULE};
 
 /// What the rule says.
 pub fn body(rule: Rule) -> &'static Syntax<'static>
     ensures { view result.now ≡ sql.rule rule }
 {
     match rule {
-        Rule::Statement => &STATEMENT_RULE,
-        Rule::Columns => &COLUMNS_RULE,
-        Rule::Writes => &WRITES_RULE,
         Rule::Named => &NAMED_RULE,
         Rule::Idents => &IDENTS_RULE,
         Rule::Literal => &LITERAL_RULE,
@@ -32,22 +25,23 @@ pub fn body(rule: Rule) -> &'static Syntax<'static>
         Rule::Pred => &PRED_RULE,
         Rule::Cond => &COND_RULE,
         Rule::After => &AFTER_RULE,
-        Rule::Exprs => &EXPRS_RULE,
-        Rule::Aggs => &AGGS_RULE,
-        Rule::Mixed => &MIXED_RULE,
+        Rule::Exprs => &EXPRS_REST_RULE,
+        Rule::Aggs => &AGGS_REST_RULE,
+        Rule::Mixed => &MIXED_REST_RULE,
         Rule::Select => &SELECT_RULE,
         Rule::Insert => &INSERT_RULE,
         Rule::Update => &UPDATE_RULE,
         Rule::Delete => &DELETE_RULE,
-        Rule::MoreColumns => &MORE_COLUMNS_RULE,
-        Rule::Table => &TABLE_RULE,
+        Rule::Writes => &WRITES_RULE,
+        Rule::Columns => &COLUMNS_RULE,
+        Rule::CachedColumns => &CACHED_COLUMNS_RULE,
+        Rule::CachedTable => &CACHED_TABLE_RULE,
         Rule::Aging => &AGING_RULE,
         Rule::Group => &GROUP_RULE,
         Rule::Create => &CREATE_RULE,
         Rule::Chosen => &CHOSEN_RULE,
         Rule::Called => &CALLED_RULE,
-        Rule::AnyStatement => &ANY_STATEMENT_RULE,
-        Rule::MoreWrites => &MORE_WRITES_RULE,
+        Rule::Statement => &STATEMENT_RULE,
     }
 }
 
@@ -56,29 +50,9 @@ pub fn whole(start: Start) -> &'static Syntax<'static>
     ensures { view result.now ≡ sql.grammar_of start }
 {
     match start {
-        Start::Statement => &STATEMENT_START,
+        Start::Statement => &ALONE_START,
         Start::Session => &SESSION_START,
         Start::Console => &CONSOLE_START,
+        Start::Clock => &CLOCK_START,
     }
-}
-
-/// A line of a session behind its label, by the whole grammar.
-pub fn whole_session() -> &'static Syntax<'static>
-    ensures { view result.now ≡ sql.whole_session }
-{
-    &WHOLE_SESSION_START
-}
-
-/// A line of the console behind its label, by the whole grammar.
-pub fn whole_console() -> &'static Syntax<'static>
-    ensures { view result.now ≡ sql.whole_console }
-{
-    &WHOLE_CONSOLE_START
-}
-
-/// A line of the clock behind its label.
-pub fn whole_clock() -> &'static Syntax<'static>
-    ensures { view result.now ≡ sql.whole_clock }
-{
-    &WHOLE_CLOCK_START
 }

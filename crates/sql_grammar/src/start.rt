@@ -3,10 +3,12 @@
 /// What a whole text is to be read as.
 #[derive(Clone, Copy)]
 pub enum Start {
-    /// a statement of a session
+    /// a statement without a label
     Statement,
     /// a line of a session behind its label
     Session,
     /// a line of the console behind its label
     Console,
+    /// a line of the clock behind its label
+    Clock,
 }

@@ -1,3 +1,4 @@
+pub mod Items
 pub mod Literals
 pub mod TreeCodes
 pub mod Trees

@@ -4,7 +4,7 @@ use crate::condition::Condition;
 use crate::expression::Expression;
 use tier_base::{Name, Seq};
 
-/// `SELECT list FROM table [alias], .. [WHERE condition] [ORDER BY column [ASC|DESC], ..]`
+/// `SELECT list FROM table [alias], .. [WHERE condition] [GROUP BY column, ..] [ORDER BY column [ASC|DESC], ..]`
 pub struct Query {
     /// The select list.
     pub selected: SelectList,
@@ -12,6 +12,8 @@ pub struct Query {
     pub tables: Seq<FromTable>,
     /// The condition behind WHERE.
     pub filter: Option<Condition>,
+    /// What the rows are grouped by: columns, with or without the name of a table and a dot before them.
+    pub groups: Seq<Name>,
     /// What the rows are ordered by.
     pub order: Seq<OrderItem>,
 }
@@ -22,6 +24,7 @@ impl Drop for Query {
             selected: _,
             tables: _,
             filter: _,
+            groups: _,
             order: _,
         } = self;
     }
@@ -49,6 +52,8 @@ pub enum SelectList {
     Expressions(Seq<Expression>),
     /// Aggregates.
     Aggregates(Seq<Aggregate>),
+    /// Expressions and aggregates, at least one of each. Such a list stands before GROUP BY alone.
+    Mixed(Seq<SelectItem>),
 }
 
 impl Drop for SelectList {
@@ -57,6 +62,49 @@ impl Drop for SelectList {
             Self::Everything => {}
             Self::Expressions(_) => {}
             Self::Aggregates(_) => {}
+            Self::Mixed(_) => {}
+        }
+    }
+}
+
+/// An item of a select list.
+pub enum SelectItem {
+    /// An expression.
+    Expression(Expression),
+    /// An aggregate.
+    Aggregate(Aggregate),
+}
+
+impl SelectItem {
+    ghost use Rattle.std.specs.Prelude.{◌≡◌};
+    ghost use Rattle.sql_query.specs.Items.{aggregate_in, expression_in};
+
+    /// The expression, where the item is one.
+    pub fn into_expression(self) -> Option<Expression>
+        ensures { result ≡ expression_in self }
+    {
+        match self {
+            Self::Expression(expression) => Some(expression),
+            Self::Aggregate(_) => None,
+        }
+    }
+
+    /// The aggregate, where the item is one.
+    pub fn into_aggregate(self) -> Option<Aggregate>
+        ensures { result ≡ aggregate_in self }
+    {
+        match self {
+            Self::Expression(_) => None,
+            Self::Aggregate(aggregate) => Some(aggregate),
+        }
+    }
+}
+
+impl Drop for SelectItem {
+    fn drop(self) {
+        match self {
+            Self::Expression(_) => {}
+            Self::Aggregate(_) => {}
         }
     }
 }

@@ -1,3 +1,2 @@
-pub mod Chains
-pub mod Shrinking
 pub mod Meaning
+pub mod Shrinking

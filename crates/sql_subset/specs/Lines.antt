@@ -14,18 +14,18 @@ use Rattle.sql_subset.specs.declared.request.Line.{Line}
 use Rattle.sql_subset.specs.declared.request.Line.TheVariants as line
 use Rattle.sql_subset.specs.declared.request.ParseError.{ParseError}
 use Rattle.sql_subset.specs.declared.request.ParseError.TheVariants as e
-use Rattle.sql_subset.specs.Statements.{statement_of, request_of, console_of}
+use Rattle.sql_subset.specs.Statements.{statement_of, request_of, console_of, clock_of}
 
 -- The line is empty or a comment: it has no reply (this project's rule).
 abbrev pub is_silent : List ℕ → Bool
 is_silent [] = true
 is_silent (b ∷ bytes) = nat_eq b 35
 
--- who speaks: a session, or the console (this project's rule)
+-- who speaks: a session, the console, or the clock (this project's rule)
 abbrev pub start_of : List ℕ → Option Start
 start_of head =
     if bytes_eq head (codes "backing") then Some starts.Console
-    else if bytes_eq head (codes "clock") then None
+    else if bytes_eq head (codes "clock") then Some starts.Clock
     else if is_label head then Some starts.Session
     else None
 
@@ -46,6 +46,7 @@ place_at ls i end = place_or end (slice_get ls i)
 abbrev pub line_of : Start → List ℕ → List Lexeme → Line
 line_of starts.Console head ls = line.Console (console_of (drop 1 ls))
 line_of starts.Session head ls = line.Session head (request_of (drop 1 ls))
+line_of starts.Clock head ls = line.Clock (clock_of (drop 1 ls))
 line_of starts.Statement head ls = line.Session head (request_of ls)
 
 -- What a line says.

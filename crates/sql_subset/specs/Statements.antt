@@ -1,18 +1,23 @@
--- What the tokens say: statements and requests. (TimesTen SQL Reference, "SQL statements": CALL, COMMIT, DELETE, INSERT,
--- LOAD CACHE GROUP, ROLLBACK, SELECT, UPDATE; the lines of sessions and of the console are this project's rule.)
+-- What the tokens say: statements and requests. (TimesTen SQL Reference, "SQL statements"; the lines of sessions, of the console
+-- and of the clock are this project's rule.)
 use Rattle.std.specs.Prelude.{ℕ, Bool, ◌&&◌, ◌||◌, List, [], length, drop, Option, Some, None, if◌then◌else◌}
 use Rattle.sql_tokens.specs.declared.kind.Kind.{Kind}
 use Rattle.sql_tokens.specs.declared.kind.Kind.TheVariants as k
 use Rattle.sql_tokens.specs.Kinds.{is_kind}
 use Rattle.sql_tokens.specs.Lexing.{Lexeme}
-use Rattle.sql_subset.specs.declared.stmt.Insert as inserts
-use Rattle.sql_subset.specs.declared.stmt.Update as updates
-use Rattle.sql_subset.specs.declared.stmt.Delete as deletes
+use Rattle.sql_query.specs.declared.literal.Literal.{Literal}
+use Rattle.sql_query.specs.declared.write.Write.{Write}
+use Rattle.sql_query.specs.Trees.{ConditionTree}
+use Rattle.sql_phrases.specs.Reading.{begins, first_kind, first_text, identifier_of, name_of, number_of, identifiers_of, literals_of, chained, with_last, as_list}
+use Rattle.sql_phrases.specs.Conditions.{filter_of}
+use Rattle.sql_phrases.specs.Queries.{query_of}
+use Rattle.sql_phrases.specs.Writes.{write_of}
+use Rattle.sql_phrases.specs.Tables.{table_of}
+use Rattle.sql_subset.specs.declared.stmt.Alter.{Alter}
+use Rattle.sql_subset.specs.declared.stmt.CreateIndex.{CreateIndex}
 use Rattle.sql_subset.specs.declared.stmt.Load as loads
-use Rattle.sql_subset.specs.declared.stmt.Comparison.{Comparison}
-use Rattle.sql_subset.specs.declared.stmt.Literal.{Literal}
-use Rattle.sql_subset.specs.declared.stmt.Write.{Write}
-use Rattle.sql_subset.specs.declared.stmt.Write.TheVariants as writes
+use Rattle.sql_subset.specs.declared.stmt.OfGroup.{OfGroup}
+use Rattle.sql_subset.specs.declared.stmt.Which.{Which}
 use Rattle.sql_subset.specs.declared.stmt.Stmt.{Stmt}
 use Rattle.sql_subset.specs.declared.stmt.Stmt.TheVariants as v
 use Rattle.sql_subset.specs.declared.request.OpenOptions.{OpenOptions}
@@ -20,65 +25,7 @@ use Rattle.sql_subset.specs.declared.request.Request.{Request}
 use Rattle.sql_subset.specs.declared.request.Request.TheVariants as requests
 use Rattle.sql_subset.specs.declared.request.ConsoleRequest.{ConsoleRequest}
 use Rattle.sql_subset.specs.declared.request.ConsoleRequest.TheVariants as consoles
-use Rattle.sql_subset.specs.Reading.{begins, first_kind, first_text, name_of, number_of, literals_of, comparison_of, chained, with_last, as_list}
-use Rattle.sql_subset.specs.Tables.{table_of}
-use Rattle.sql_subset.specs.Groups.{group_of}
-
-abbrev pub inserted : List ℕ → List Literal × List Lexeme → inserts.Insert × List Lexeme
-inserted table x = (record { table = table; values = x.0 }, drop 1 x.1)
-
-abbrev pub insert_named : List ℕ × List Lexeme → inserts.Insert × List Lexeme
-insert_named x = inserted x.0 (literals_of (drop 2 x.1))
-
--- INTO name VALUES "(" literals ")"
-abbrev pub insert_of : List Lexeme → inserts.Insert × List Lexeme
-insert_of ls = insert_named (name_of (drop 1 ls))
-
-abbrev pub as_filter : Comparison × List Lexeme → Option Comparison × List Lexeme
-as_filter x = (Some x.0, x.1)
-
--- [ WHERE comparison ]
-abbrev pub filter_of : List Lexeme → Option Comparison × List Lexeme
-filter_of ls = if begins k.Where ls then as_filter (comparison_of (drop 1 ls)) else (None, ls)
-
-abbrev pub updated : List ℕ → Comparison → Option Comparison × List Lexeme → updates.Update × List Lexeme
-updated table assignment x = (record { table = table; assignment = assignment; filter = x.0 }, x.1)
-
-abbrev pub update_set : List ℕ → Comparison × List Lexeme → updates.Update × List Lexeme
-update_set table x = updated table x.0 (filter_of x.1)
-
-abbrev pub update_named : List ℕ × List Lexeme → updates.Update × List Lexeme
-update_named x = update_set x.0 (comparison_of (drop 1 x.1))
-
--- name SET comparison [ WHERE comparison ]
-abbrev pub update_of : List Lexeme → updates.Update × List Lexeme
-update_of ls = update_named (name_of ls)
-
-abbrev pub deleted : List ℕ → Option Comparison × List Lexeme → deletes.Delete × List Lexeme
-deleted table x = (record { table = table; filter = x.0 }, x.1)
-
-abbrev pub delete_named : List ℕ × List Lexeme → deletes.Delete × List Lexeme
-delete_named x = deleted x.0 (filter_of x.1)
-
--- FROM name [ WHERE comparison ]
-abbrev pub delete_of : List Lexeme → deletes.Delete × List Lexeme
-delete_of ls = delete_named (name_of (drop 1 ls))
-
-abbrev pub as_insert : inserts.Insert × List Lexeme → Write × List Lexeme
-as_insert x = (writes.Insert x.0, x.1)
-
-abbrev pub as_update : updates.Update × List Lexeme → Write × List Lexeme
-as_update x = (writes.Update x.0, x.1)
-
-abbrev pub as_delete : deletes.Delete × List Lexeme → Write × List Lexeme
-as_delete x = (writes.Delete x.0, x.1)
-
--- INSERT .. | UPDATE .. | DELETE ..
-abbrev pub write_of : List Lexeme → Write × List Lexeme
-write_of ls =
-    if begins k.Insert ls then as_insert (insert_of (drop 1 ls))
-    else if begins k.Update ls then as_update (update_of (drop 1 ls))
-    else as_delete (delete_of (drop 1 ls))
+use Rattle.sql_subset.specs.Groups.{group_of, state_of}
 
 -- a write stands behind the `;` in front
 abbrev pub goes_on : List Lexeme → Bool
@@ -90,7 +37,7 @@ writes_of ls = chained goes_on with_last write_of (length ls) (as_list (write_of
 
 -- CREATE TABLE table | writes
 abbrev pub console_of : List Lexeme → ConsoleRequest
-console_of ls = if begins k.Create ls then consoles.CreateTable (table_of (drop 2 ls)).0 else consoles.Writes (writes_of ls).0
+console_of ls = if begins k.Create ls then consoles.CreateTable (table_of (drop 2 ls)).0.table else consoles.Writes (writes_of ls).0
 
 abbrev pub call_with : List ℕ → List Lexeme → Stmt
 call_with name ls =
@@ -112,29 +59,98 @@ commit_every_of ls = if begins k.Commit ls then counted (number_of (first_text (
 abbrev pub parallel_of : List Lexeme → Option ℕ × List Lexeme
 parallel_of ls = if begins k.Parallel ls then counted (number_of (first_text (drop 1 ls))) (drop 2 ls) else (None, ls)
 
-abbrev pub loaded : List ℕ → Option ℕ → Option ℕ × List Lexeme → loads.Load × List Lexeme
-loaded group commit_every x = (record { group = group; commit_every = commit_every; parallel = x.0 }, x.1)
+abbrev pub as_id : List Literal × List Lexeme → Option (List Literal) × List Lexeme
+as_id x = (Some x.0, drop 1 x.1)
 
-abbrev pub load_counted : List ℕ → Option ℕ × List Lexeme → loads.Load × List Lexeme
-load_counted group x = loaded group x.0 (parallel_of x.1)
+-- [ WITH ID "(" literals ")" ]
+abbrev pub id_of : List Lexeme → Option (List Literal) × List Lexeme
+id_of ls = if begins k.With ls then as_id (literals_of (drop 3 ls)) else (None, ls)
+
+abbrev pub chosen : Option ConditionTree → Option (List Literal) × List Lexeme → Which × List Lexeme
+chosen filter x = (record { filter = filter; id = x.0 }, x.1)
+
+abbrev pub chosen_where : Option ConditionTree × List Lexeme → Which × List Lexeme
+chosen_where x = chosen x.0 (id_of x.1)
+
+-- [ WHERE cond ] [ WITH ID "(" literals ")" ]
+unfoldable pub which_of : List Lexeme → Which × List Lexeme
+which_of ls = chosen_where (filter_of ls)
+
+abbrev pub loaded : List ℕ → Which → Option ℕ → Option ℕ × List Lexeme → loads.Load × List Lexeme
+loaded group which commit_every x = (record { group = group; which = which; commit_every = commit_every; parallel = x.0 }, x.1)
+
+abbrev pub load_counted : List ℕ → Which → Option ℕ × List Lexeme → loads.Load × List Lexeme
+load_counted group which x = loaded group which x.0 (parallel_of x.1)
+
+abbrev pub load_chosen : List ℕ → Which × List Lexeme → loads.Load × List Lexeme
+load_chosen group x = load_counted group x.0 (commit_every_of x.1)
 
 abbrev pub load_named : List ℕ × List Lexeme → loads.Load × List Lexeme
-load_named x = load_counted x.0 (commit_every_of x.1)
+load_named x = load_chosen x.0 (which_of x.1)
 
--- CACHE GROUP name [ COMMIT EVERY integer ROWS ] [ PARALLEL integer ]
-abbrev pub load_of : List Lexeme → loads.Load × List Lexeme
+-- CACHE GROUP name which [ COMMIT EVERY integer ROWS ] [ PARALLEL integer ]
+unfoldable pub load_of : List Lexeme → loads.Load × List Lexeme
 load_of ls = load_named (name_of (drop 2 ls))
 
+abbrev pub of_group : List ℕ → Which × List Lexeme → OfGroup
+of_group group x = record { group = group; which = x.0 }
+
+abbrev pub group_named : List ℕ × List Lexeme → OfGroup
+group_named x = of_group x.0 (which_of x.1)
+
+-- CACHE GROUP name which
+unfoldable pub of_group_of : List Lexeme → OfGroup
+of_group_of ls = group_named (name_of (drop 2 ls))
+
+abbrev pub altered : List ℕ × List Lexeme → Alter
+altered x = record { group = x.0; state = state_of (first_kind (drop 3 x.1)) }
+
+-- CACHE GROUP name SET AUTOREFRESH STATE state
+abbrev pub alter_of : List Lexeme → Alter
+alter_of ls = altered (name_of (drop 2 ls))
+
+abbrev pub index_on : List ℕ → List ℕ × List Lexeme → CreateIndex
+index_on name x = record { name = name; table = x.0; columns = (identifiers_of (drop 1 x.1)).0 }
+
+abbrev pub index_named : List ℕ × List Lexeme → CreateIndex
+index_named x = index_on x.0 (name_of (drop 1 x.1))
+
+-- ident ON name "(" idents ")"
+unfoldable pub index_of : List Lexeme → CreateIndex
+index_of ls = index_named (identifier_of ls)
+
+-- behind CREATE
+unfoldable pub create_of : List Lexeme → Stmt
+create_of ls = if begins k.Index ls then v.CreateIndex (index_of (drop 1 ls)) else v.CreateGroup (group_of ls).0
+
+-- behind DROP
+unfoldable pub drop_of : List Lexeme → Stmt
+drop_of ls = if begins k.Index ls then v.DropIndex (identifier_of (drop 1 ls)).0 else v.DropGroup (name_of (drop 2 ls)).0
+
+-- what is done to a group: LOAD, REFRESH, UNLOAD, FLUSH, ALTER
+unfoldable pub group_statement_of : List Lexeme → Stmt
+group_statement_of ls =
+    if begins k.Load ls then v.Load (load_of (drop 1 ls)).0
+    else if begins k.Refresh ls then v.Refresh (load_of (drop 1 ls)).0
+    else if begins k.Unload ls then v.Unload (of_group_of (drop 1 ls))
+    else if begins k.Flush ls then v.Flush (of_group_of (drop 1 ls))
+    else v.Alter (alter_of (drop 1 ls))
+
+-- a write stands in front
+abbrev pub at_write : List Lexeme → Bool
+at_write ls = begins k.Insert ls || begins k.Update ls || begins k.Delete ls
+
 -- a statement of a session
-abbrev pub statement_of : List Lexeme → Stmt
+unfoldable pub statement_of : List Lexeme → Stmt
 statement_of ls =
-    if begins k.Select ls then v.Select (record { table = (name_of (drop 3 ls)).0 })
-    else if begins k.Insert ls then v.Insert (insert_of (drop 1 ls)).0
-    else if begins k.Create ls then v.CreateGroup (group_of (drop 1 ls)).0
-    else if begins k.Load ls then v.Load (load_of (drop 1 ls)).0
+    if begins k.Select ls then v.Select (query_of (drop 1 ls)).0
+    else if at_write ls then v.Write (write_of ls).0
+    else if begins k.Create ls then create_of (drop 1 ls)
+    else if begins k.Drop ls then drop_of (drop 1 ls)
     else if begins k.Call ls then call_named (name_of (drop 1 ls))
     else if begins k.Commit ls then v.Commit
-    else v.Rollback
+    else if begins k.Rollback ls then v.Rollback
+    else group_statement_of ls
 
 -- the digit 0, 1, 2 or 3
 abbrev pub digit_of : Kind → ℕ
@@ -153,3 +169,7 @@ request_of ls =
     if begins k.Open ls then requests.Open (open_with (passthrough_of (drop 1 ls)))
     else if begins k.Close ls then requests.Close
     else requests.Statement (statement_of ls)
+
+-- "+" integer
+abbrev pub clock_of : List Lexeme → ℕ
+clock_of ls = number_of (first_text (drop 1 ls))

@@ -3,9 +3,6 @@
 
 mod groups;
 pub mod line;
-mod reader;
-mod reading;
 pub mod request;
 mod statements;
 pub mod stmt;
-mod tables;

@@ -3,12 +3,12 @@ ghost use Rattle.std.specs.Prelude.{◌≡◌, ◌≤◌, ℕ, List, length, IfO
 ghost use Rattle.sql_tokens.specs.Lexing.{lexemes_of, lexed};
 ghost use Rattle.sql_subset.specs.Lines.{is_silent, start_of, place_at, line_of, Told, Answers, Parses, Means, Saying};
 
-use crate::reader::Reader;
 use crate::request::{Line, ParseError};
-use crate::statements::{read_console, read_request, read_statement};
+use crate::statements::{read_clock, read_console, read_request, read_statement};
 use crate::stmt::Stmt;
 use sql_grammar::engine::{Verdict, one_verdict, recognize};
 use sql_grammar::start::Start;
+use sql_phrases::reader::Reader;
 use sql_tokens::head::{good_length, head};
 use sql_tokens::lexer::lex;
 use sql_tokens::token::Token;
@@ -26,7 +26,7 @@ pub fn is_silent(bytes: &[u8]) -> bool
     }
 }
 
-/// Who speaks, by the head of the line: the console, a session, or no one.
+/// Who speaks, by the head of the line: the console, the clock, a session, or no one.
 fn start_of(head: &[u8]) -> Option<Start>
     ensures { result ≡ start_of head.now }
 {
@@ -34,7 +34,7 @@ fn start_of(head: &[u8]) -> Option<Start>
         return Some(Start::Console);
     }
     if head == b"clock".as_slice() {
-        return None;
+        return Some(Start::Clock);
     }
     if spells_label(head) {
         return Some(Start::Session);
@@ -68,6 +68,7 @@ fn read_line(start: Start, head: &[u8], r: Reader<'_>) -> Result<Line, AllocErro
             let request = read_request(r.skip(1))?;
             Ok(Line::Session(label, request))
         }
+        Start::Clock => Ok(Line::Clock(read_clock(r.skip(1)))),
         Start::Statement => {
             let Ok(label) = Label::new(r.alloc(), head) else {
                 return Err(AllocError);

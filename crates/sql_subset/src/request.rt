@@ -1,7 +1,8 @@
 //! Request lines.
 
-use crate::stmt::{Stmt, Write};
+use crate::stmt::Stmt;
 use row_types::TableDeclaration;
+use sql_query::Write;
 use tier_base::{Label, Seq};
 
 /// `OPEN [PASSTHROUGH n] [DURABLE n]`
@@ -40,6 +41,8 @@ pub enum Line {
     Session(Label, Request),
     /// the console's request, of `backing:`
     Console(ConsoleRequest),
+    /// `clock: +n`: the milliseconds that are added; 2^64 - 1 stands for all that is more
+    Clock(u64),
 }
 
 /// Why a line says nothing.

@@ -1,78 +1,23 @@
 //! Statements and requests, read off the tokens of a line.
 ghost use Rattle.std.specs.Prelude.{◌≡◌, IfOk};
-ghost use Rattle.sql_subset.specs.Statements.{insert_of, filter_of, update_of, delete_of, write_of, goes_on, writes_of, console_of, call_with, commit_every_of, parallel_of, load_of, statement_of, digit_of, passthrough_of, open_with, request_of};
+ghost use Rattle.sql_subset.specs.Statements.{alter_of, at_write, call_with, clock_of, commit_every_of, console_of, create_of, digit_of, drop_of, goes_on, group_statement_of, id_of, index_of, load_of, of_group_of, open_with, parallel_of, passthrough_of, request_of, statement_of, which_of, writes_of};
 
-use crate::groups::read_group;
-use crate::reader::Reader;
-use crate::reading::{number_of, read_comparison, read_literals, read_name};
+use crate::groups::{read_group, state_of};
 use crate::request::{ConsoleRequest, OpenOptions, Request};
-use crate::stmt::{Call, Comparison, Delete, Insert, Load, Select, Stmt, Update, Write};
-use crate::tables::read_table;
+use crate::stmt::{Alter, Call, CreateIndex, Load, OfGroup, Stmt, Which};
+use sql_phrases::conditions::read_filter;
+use sql_phrases::queries::read_query;
+use sql_phrases::reader::Reader;
+use sql_phrases::reading::{
+    number_of, read_identifier, read_identifiers, read_literals, read_name,
+};
+use sql_phrases::tables::read_table;
+use sql_phrases::writes::read_write;
+use sql_query::{Literal, Write};
 use sql_tokens::kind::Kind;
 use sql_tokens::token::is_kind;
 use std::alloc::AllocError;
 use tier_base::{Name, Seq};
-
-/// Reads what stands behind INSERT.
-fn read_insert(r: Reader<'_>) -> Result<(Insert, Reader<'_>), AllocError>
-    ensures { IfOk result (λ x. insert_of r.entry ≡ (x.0, x.1)) }
-{
-    let (table, rest) = read_name(r.skip(1))?;
-    let (values, rest) = read_literals(rest.skip(2))?;
-    Ok((Insert { table, values }, rest.skip(1)))
-}
-
-/// Reads a WHERE clause, where there is one.
-fn read_filter(r: Reader<'_>) -> Result<(Option<Comparison>, Reader<'_>), AllocError>
-    ensures { IfOk result (λ x. filter_of r.entry ≡ (x.0, x.1)) }
-{
-    if r.begins(Kind::Where) {
-        let (comparison, rest) = read_comparison(r.skip(1))?;
-        return Ok((Some(comparison), rest));
-    }
-    Ok((None, r))
-}
-
-/// Reads what stands behind UPDATE.
-fn read_update(r: Reader<'_>) -> Result<(Update, Reader<'_>), AllocError>
-    ensures { IfOk result (λ x. update_of r.entry ≡ (x.0, x.1)) }
-{
-    let (table, rest) = read_name(r)?;
-    let (assignment, rest) = read_comparison(rest.skip(1))?;
-    let (filter, rest) = read_filter(rest)?;
-    Ok((
-        Update {
-            table,
-            assignment,
-            filter,
-        },
-        rest,
-    ))
-}
-
-/// Reads what stands behind DELETE.
-fn read_delete(r: Reader<'_>) -> Result<(Delete, Reader<'_>), AllocError>
-    ensures { IfOk result (λ x. delete_of r.entry ≡ (x.0, x.1)) }
-{
-    let (table, rest) = read_name(r.skip(1))?;
-    let (filter, rest) = read_filter(rest)?;
-    Ok((Delete { table, filter }, rest))
-}
-
-fn read_write(r: Reader<'_>) -> Result<(Write, Reader<'_>), AllocError>
-    ensures { IfOk result (λ x. write_of r.entry ≡ (x.0, x.1)) }
-{
-    if r.begins(Kind::Insert) {
-        let (insert, rest) = read_insert(r.skip(1))?;
-        return Ok((Write::Insert(insert), rest));
-    }
-    if r.begins(Kind::Update) {
-        let (update, rest) = read_update(r.skip(1))?;
-        return Ok((Write::Update(update), rest));
-    }
-    let (delete, rest) = read_delete(r.skip(1))?;
-    Ok((Write::Delete(delete), rest))
-}
 
 /// Whether a write stands behind the `;` in front.
 fn goes_on(r: &Reader<'_>) -> bool
@@ -101,8 +46,8 @@ pub fn read_console(r: Reader<'_>) -> Result<ConsoleRequest, AllocError>
     ensures { IfOk result (λ x. x ≡ console_of r.entry) }
 {
     if r.begins(Kind::Create) {
-        let (table, _) = read_table(r.skip(2))?;
-        return Ok(ConsoleRequest::CreateTable(table));
+        let (cached, _) = read_table(r.skip(2))?;
+        return Ok(ConsoleRequest::CreateTable(cached.table));
     }
     let (writes, _) = read_writes(r)?;
     Ok(ConsoleRequest::Writes(writes))
@@ -158,16 +103,38 @@ fn read_parallel(r: Reader<'_>) -> (Option<u64>, Reader<'_>)
     (None, r)
 }
 
-/// Reads what stands behind LOAD.
+fn read_id(r: Reader<'_>) -> Result<(Option<Seq<Literal>>, Reader<'_>), AllocError>
+    ensures { IfOk result (λ x. id_of r.entry ≡ (x.0, x.1)) }
+{
+    if r.begins(Kind::With) {
+        let (literals, rest) = read_literals(r.skip(3))?;
+        return Ok((Some(literals), rest.skip(1)));
+    }
+    Ok((None, r))
+}
+
+#[tactic(auto, unfolding(crate::specs::Statements::which_of))]
+fn read_which(r: Reader<'_>) -> Result<(Which, Reader<'_>), AllocError>
+    ensures { IfOk result (λ x. which_of r.entry ≡ (x.0, x.1)) }
+{
+    let (filter, rest) = read_filter(r)?;
+    let (id, rest) = read_id(rest)?;
+    Ok((Which { filter, id }, rest))
+}
+
+// Reads what stands behind LOAD or REFRESH.
+#[tactic(auto, unfolding(crate::specs::Statements::load_of))]
 fn read_load(r: Reader<'_>) -> Result<(Load, Reader<'_>), AllocError>
     ensures { IfOk result (λ x. load_of r.entry ≡ (x.0, x.1)) }
 {
     let (group, rest) = read_name(r.skip(2))?;
+    let (which, rest) = read_which(rest)?;
     let (commit_every, rest) = read_commit_every(rest);
     let (parallel, rest) = read_parallel(rest);
     Ok((
         Load {
             group,
+            which,
             commit_every,
             parallel,
         },
@@ -175,25 +142,115 @@ fn read_load(r: Reader<'_>) -> Result<(Load, Reader<'_>), AllocError>
     ))
 }
 
+// Reads what stands behind UNLOAD or FLUSH.
+#[tactic(auto, unfolding(crate::specs::Statements::of_group_of))]
+fn read_of_group(r: Reader<'_>) -> Result<OfGroup, AllocError>
+    ensures { IfOk result (λ x. x ≡ of_group_of r.entry) }
+{
+    let (group, rest) = read_name(r.skip(2))?;
+    let (which, _) = read_which(rest)?;
+    Ok(OfGroup { group, which })
+}
+
+// Reads what stands behind ALTER.
+fn read_alter(r: Reader<'_>) -> Result<Alter, AllocError>
+    ensures { IfOk result (λ x. x ≡ alter_of r.entry) }
+{
+    let (group, rest) = read_name(r.skip(2))?;
+    let state = state_of(rest.skip(3).first_kind());
+    Ok(Alter { group, state })
+}
+
+// Reads what stands behind INDEX.
+#[tactic(auto, unfolding(crate::specs::Statements::index_of))]
+fn read_index(r: Reader<'_>) -> Result<CreateIndex, AllocError>
+    ensures { IfOk result (λ x. x ≡ index_of r.entry) }
+{
+    let (name, rest) = read_identifier(r)?;
+    let (table, rest) = read_name(rest.skip(1))?;
+    let (columns, _) = read_identifiers(rest.skip(1))?;
+    Ok(CreateIndex {
+        name,
+        table,
+        columns,
+    })
+}
+
+// Reads what stands behind CREATE.
+#[tactic(auto, unfolding(crate::specs::Statements::create_of))]
+fn read_create(r: Reader<'_>) -> Result<Stmt, AllocError>
+    ensures { IfOk result (λ x. x ≡ create_of r.entry) }
+{
+    if r.begins(Kind::Index) {
+        let index = read_index(r.skip(1))?;
+        return Ok(Stmt::CreateIndex(index));
+    }
+    let (group, _) = read_group(r)?;
+    Ok(Stmt::CreateGroup(group))
+}
+
+// Reads what stands behind DROP.
+#[tactic(auto, unfolding(crate::specs::Statements::drop_of))]
+fn read_drop(r: Reader<'_>) -> Result<Stmt, AllocError>
+    ensures { IfOk result (λ x. x ≡ drop_of r.entry) }
+{
+    if r.begins(Kind::Index) {
+        let (index, _) = read_identifier(r.skip(1))?;
+        return Ok(Stmt::DropIndex(index));
+    }
+    let (group, _) = read_name(r.skip(2))?;
+    Ok(Stmt::DropGroup(group))
+}
+
+#[tactic(auto, unfolding(crate::specs::Statements::group_statement_of))]
+fn read_group_statement(r: Reader<'_>) -> Result<Stmt, AllocError>
+    ensures { IfOk result (λ x. x ≡ group_statement_of r.entry) }
+{
+    if r.begins(Kind::Load) {
+        let (load, _) = read_load(r.skip(1))?;
+        return Ok(Stmt::Load(load));
+    }
+    if r.begins(Kind::Refresh) {
+        let (load, _) = read_load(r.skip(1))?;
+        return Ok(Stmt::Refresh(load));
+    }
+    if r.begins(Kind::Unload) {
+        let unload = read_of_group(r.skip(1))?;
+        return Ok(Stmt::Unload(unload));
+    }
+    if r.begins(Kind::Flush) {
+        let flush = read_of_group(r.skip(1))?;
+        return Ok(Stmt::Flush(flush));
+    }
+    let alter = read_alter(r.skip(1))?;
+    Ok(Stmt::Alter(alter))
+}
+
+// Whether a write stands in front.
+fn at_write(r: &Reader<'_>) -> bool
+    ensures { result ≡ at_write r.now }
+{
+    r.begins(Kind::Insert) || r.begins(Kind::Update) || r.begins(Kind::Delete)
+}
+
 /// Reads a statement of a session.
+#[tactic(auto, unfolding(crate::specs::Statements::statement_of))]
 pub fn read_statement(r: Reader<'_>) -> Result<Stmt, AllocError>
     ensures { IfOk result (λ x. x ≡ statement_of r.entry) }
 {
     if r.begins(Kind::Select) {
-        let (table, _) = read_name(r.skip(3))?;
-        return Ok(Stmt::Select(Select { table }));
+        let (query, _) = read_query(r.skip(1))?;
+        return Ok(Stmt::Select(query));
     }
-    if r.begins(Kind::Insert) {
-        let (insert, _) = read_insert(r.skip(1))?;
-        return Ok(Stmt::Insert(insert));
+    if at_write(&r) {
+        let (write, _) = read_write(r)?;
+        return Ok(Stmt::Write(write));
     }
     if r.begins(Kind::Create) {
-        let (group, _) = read_group(r.skip(1))?;
-        return Ok(Stmt::CreateGroup(group));
+        return read_create(r.skip(1));
     }
-    if r.begins(Kind::Load) {
-        let (load, _) = read_load(r.skip(1))?;
-        return Ok(Stmt::Load(load));
+    if r.begins(Kind::Drop) {
+        return read_drop(r.skip(1));
     }
     if r.begins(Kind::Call) {
         let (procedure, rest) = read_name(r.skip(1))?;
@@ -202,7 +259,10 @@ pub fn read_statement(r: Reader<'_>) -> Result<Stmt, AllocError>
     if r.begins(Kind::Commit) {
         return Ok(Stmt::Commit);
     }
-    Ok(Stmt::Rollback)
+    if r.begins(Kind::Rollback) {
+        return Ok(Stmt::Rollback);
+    }
+    read_group_statement(r)
 }
 
 fn digit_of(kind: Kind) -> u8
@@ -253,4 +313,12 @@ pub fn read_request(r: Reader<'_>) -> Result<Request, AllocError>
     }
     let statement = read_statement(r)?;
     Ok(Request::Statement(statement))
+}
+
+/// Reads what is added to the clock.
+pub fn read_clock(r: Reader<'_>) -> u64
+    ensures { result ≡ clock_of r.entry }
+{
+    let count = r.skip(1);
+    number_of(count.text())
 }

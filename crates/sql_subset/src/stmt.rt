@@ -1,91 +1,21 @@
 //! Statements.
 
-use row_types::{TableDeclaration, Text};
+use row_types::TableDeclaration;
+use sql_phrases::tables::TableAttribute;
+use sql_query::{Condition, Literal, Query, Write};
 use tier_base::{Name, Seq};
 
-/// An integer as it is written. Blanks between its sign and its digits don't count.
-#[derive(Drop)]
-pub struct IntegerLiteral {
-    /// Whether a `-` stands before it.
-    pub negative: bool,
-    /// Its digits, leading zeros too.
-    pub digits: Text,
-}
-
-/// A literal as it is written.
-#[derive(Drop)]
-pub enum Literal {
-    /// NULL.
-    Null,
-    /// An integer.
-    Integer(IntegerLiteral),
-    /// A text: its bytes without the quotes around it, `''` in it being one quote.
-    Text(Text),
-}
-
-/// `SELECT * FROM table`
-#[derive(Drop)]
-pub struct Select {
-    /// the table
-    pub table: Name,
-}
-
-/// `INSERT INTO table VALUES (value, ..)`
-#[derive(Drop)]
-pub struct Insert {
-    /// the table
-    pub table: Name,
-    /// the values, in the order of the table's columns
-    pub values: Seq<Literal>,
-}
-
-/// `column = value`
-#[derive(Drop)]
-pub struct Comparison {
-    /// the column, one identifier
-    pub column: Name,
-    /// what it is compared with
-    pub value: IntegerLiteral,
-}
-
-/// `UPDATE table SET column = value [WHERE column = value]`
-#[derive(Drop)]
-pub struct Update {
-    /// the table
-    pub table: Name,
-    /// the column that is set, and its new value
-    pub assignment: Comparison,
-    /// which rows; all where there is none
-    pub filter: Option<Comparison>,
-}
-
-/// `DELETE FROM table [WHERE column = value]`
-#[derive(Drop)]
-pub struct Delete {
-    /// the table
-    pub table: Name,
-    /// which rows; all where there is none
-    pub filter: Option<Comparison>,
-}
-
-/// A statement that writes rows.
-#[derive(Drop)]
-pub enum Write {
-    /// INSERT
-    Insert(Insert),
-    /// UPDATE
-    Update(Update),
-    /// DELETE
-    Delete(Delete),
-}
-
-/// The kind of a cache group.
+/// The kind of a cache group. (TimesTen SQL Reference, "CREATE CACHE GROUP".)
 #[derive(Clone, Copy, Debug, PartialEq, Eq)]
 pub enum GroupKind {
     /// READONLY
     ReadOnly,
     /// ASYNCHRONOUS WRITETHROUGH
     AsynchronousWritethrough,
+    /// SYNCHRONOUS WRITETHROUGH
+    SynchronousWritethrough,
+    /// USERMANAGED
+    UserManaged,
 }
 
 /// How a group is refreshed.
@@ -120,28 +50,158 @@ pub struct Autorefresh {
     pub state: RefreshState,
 }
 
-/// `CREATE kind CACHE GROUP name [AUTOREFRESH ..] FROM table`
+/// `USE column LIFETIME n span [CYCLE n span]`
+pub struct TimeAging {
+    /// the column, one identifier
+    pub column: Name,
+    /// the lifetime in seconds; 2^64 - 1 stands for all that is longer
+    pub lifetime: u64,
+    /// the cycle in seconds, 300 where it is left out; 2^64 - 1 stands for all that is longer
+    pub cycle: u64,
+}
+
+impl Drop for TimeAging {
+    fn drop(self) {
+        let Self {
+            column: _,
+            lifetime: _,
+            cycle: _,
+        } = self;
+    }
+}
+
+/// What decides which instances of a group leave the cache.
+pub enum AgingRule {
+    /// LRU
+    LastUse,
+    /// USE
+    Time(TimeAging),
+}
+
+impl Drop for AgingRule {
+    fn drop(self) {
+        match self {
+            Self::LastUse => {}
+            Self::Time(_) => {}
+        }
+    }
+}
+
+/// `AGING rule [ON|OFF]`, ON where it is left out
+pub struct AgingClause {
+    /// the rule
+    pub rule: AgingRule,
+    /// whether it acts
+    pub on: bool,
+}
+
+impl Drop for AgingClause {
+    fn drop(self) {
+        let Self { rule: _, on: _ } = self;
+    }
+}
+
+/// A table of a group's definition.
+#[derive(Drop)]
+pub struct GroupTable {
+    /// the table
+    pub table: TableDeclaration,
+    /// Its attribute. A table of a user-managed group has one, written or not: NOT PROPAGATE where none is written.
+    pub attribute: Option<TableAttribute>,
+    /// its WHERE clause
+    pub filter: Option<Condition>,
+    /// its AGING clause
+    pub aging: Option<AgingClause>,
+}
+
+/// `CREATE [DYNAMIC] kind CACHE GROUP name [AUTOREFRESH ..] FROM table, ..`
 #[derive(Drop)]
 pub struct CreateGroup {
     /// the group
     pub name: Name,
     /// its kind
     pub kind: GroupKind,
+    /// whether its instances are loaded on demand
+    pub dynamic: bool,
     /// Its AUTOREFRESH clause. A READONLY group has one, written or not.
     pub autorefresh: Option<Autorefresh>,
-    /// its table
-    pub table: TableDeclaration,
+    /// its tables, of which there is at least one
+    pub tables: Seq<GroupTable>,
 }
 
-/// `LOAD CACHE GROUP group [COMMIT EVERY n ROWS] [PARALLEL n]`
+/// `CREATE INDEX name ON table (column, ..)`
+pub struct CreateIndex {
+    /// the index, one identifier
+    pub name: Name,
+    /// its table
+    pub table: Name,
+    /// its columns
+    pub columns: Seq<Name>,
+}
+
+impl Drop for CreateIndex {
+    fn drop(self) {
+        let Self {
+            name: _,
+            table: _,
+            columns: _,
+        } = self;
+    }
+}
+
+/// `[WHERE condition] [WITH ID (literal, ..)]`: both must hold.
+pub struct Which {
+    /// the condition; all instances where there is none
+    pub filter: Option<Condition>,
+    /// the root's key, in its order
+    pub id: Option<Seq<Literal>>,
+}
+
+impl Drop for Which {
+    fn drop(self) {
+        let Self { filter: _, id: _ } = self;
+    }
+}
+
+/// `LOAD CACHE GROUP ..` and `REFRESH CACHE GROUP group which [COMMIT EVERY n ROWS] [PARALLEL n]`
 #[derive(Drop)]
 pub struct Load {
     /// the group
     pub group: Name,
+    /// which instances
+    pub which: Which,
     /// the rows of COMMIT EVERY, where it is written; 2^64 - 1 stands for all that are more
     pub commit_every: Option<u64>,
     /// the threads of PARALLEL, where it is written; 2^64 - 1 stands for all that are more
     pub parallel: Option<u64>,
+}
+
+/// `UNLOAD CACHE GROUP group which` and `FLUSH CACHE GROUP group which`
+pub struct OfGroup {
+    /// the group
+    pub group: Name,
+    /// which instances
+    pub which: Which,
+}
+
+impl Drop for OfGroup {
+    fn drop(self) {
+        let Self { group: _, which: _ } = self;
+    }
+}
+
+/// `ALTER CACHE GROUP group SET AUTOREFRESH STATE state`
+pub struct Alter {
+    /// the group
+    pub group: Name,
+    /// its new state
+    pub state: RefreshState,
+}
+
+impl Drop for Alter {
+    fn drop(self) {
+        let Self { group: _, state: _ } = self;
+    }
 }
 
 /// `CALL procedure [([argument, ..])]`
@@ -157,13 +217,27 @@ pub struct Call {
 #[derive(Drop)]
 pub enum Stmt {
     /// SELECT
-    Select(Select),
-    /// INSERT
-    Insert(Insert),
+    Select(Query),
+    /// INSERT, UPDATE, DELETE
+    Write(Write),
     /// CREATE CACHE GROUP
     CreateGroup(CreateGroup),
+    /// CREATE INDEX
+    CreateIndex(CreateIndex),
     /// LOAD CACHE GROUP
     Load(Load),
+    /// REFRESH CACHE GROUP
+    Refresh(Load),
+    /// UNLOAD CACHE GROUP
+    Unload(OfGroup),
+    /// FLUSH CACHE GROUP
+    Flush(OfGroup),
+    /// ALTER CACHE GROUP
+    Alter(Alter),
+    /// DROP CACHE GROUP, with the group
+    DropGroup(Name),
+    /// DROP INDEX, with the index
+    DropIndex(Name),
     /// CALL
     Call(Call),
     /// COMMIT

@@ -1,11 +1,12 @@
 -- What one byte does to what is scanned.
 use Rattle.std.proofs.Common.{◌≡◌, ℕ, true, false, List, [], ◌∷◌, ◌++◌, eqb, Some, None, Result, Ok, Err, IfOk, sym, ap, ◌∙◌, arith, append-nil, append_assoc}
 use Rattle.std.proofs.lemmas.Bool.Decides.{nat_tests}
+use Rattle.std.specs.Char.{is_ascii_digit}
 use Rattle.tier_base.specs.Names.{is_word_byte}
 use Rattle.sql_tokens.specs.declared.kind.Kind.{Kind}
-use Rattle.sql_tokens.specs.Words.{word_kind}
-use Rattle.sql_tokens.specs.declared.kind.Kind.TheVariants.{Text}
-use Rattle.sql_tokens.specs.Lexing.{Lexeme, lexeme, Scan, Scanned, Blank, InWord, InText, Quoted, InSign, begun, behind, on, is_blank, is_open_sign, mark_kind, pair_kind}
+use Rattle.sql_tokens.specs.Words.{word_kind, fraction_kind}
+use Rattle.sql_tokens.specs.declared.kind.Kind.TheVariants.{Dot, Text}
+use Rattle.sql_tokens.specs.Lexing.{Lexeme, lexeme, Scan, Scanned, Blank, InWord, AtPoint, InFraction, InText, Quoted, InSign, begun, behind, on, is_blank, is_open_sign, mark_kind, pair_kind}
 
 -- these tokens stand behind the old ones, and this is scanned
 abbrev pub Gives : List Lexeme → List Lexeme → Scan → Scanned → Type 0
@@ -45,8 +46,17 @@ begun-mark i b p q r s = rw (← p, ← q, no_quote b r, ← s)
 pub on-word : (s i b : ℕ) (bs : List ℕ) → true ≡ is_word_byte b → on (InWord s bs) i b ≡ ([], InWord s (bs ++ b ∷ []))
 on-word s i b bs p = rw (← p)
 
-pub on-word_end : (s i b : ℕ) (bs : List ℕ) → false ≡ is_word_byte b → on (InWord s bs) i b ≡ behind (lexeme (word_kind bs) s bs) (begun i b)
-on-word_end s i b bs p = rw (← p)
+pub on-point_digit : (s i b p : ℕ) (bs : List ℕ) → true ≡ is_ascii_digit b → on (AtPoint s bs p) i b ≡ ([], InFraction s (bs ++ 46 ∷ []) (b ∷ []))
+on-point_digit s i b p bs h = rw (← h)
+
+pub on-point_end : (s i b p : ℕ) (bs : List ℕ) → false ≡ is_ascii_digit b → on (AtPoint s bs p) i b ≡ behind (lexeme (word_kind bs) s bs) (behind (lexeme Dot p (46 ∷ [])) (begun i b))
+on-point_end s i b p bs h = rw (← h)
+
+pub on-fraction : (s i b : ℕ) (bs fs : List ℕ) → true ≡ is_word_byte b → on (InFraction s bs fs) i b ≡ ([], InFraction s bs (fs ++ b ∷ []))
+on-fraction s i b bs fs h = rw (← h)
+
+pub on-fraction_end : (s i b : ℕ) (bs fs : List ℕ) → false ≡ is_word_byte b → on (InFraction s bs fs) i b ≡ behind (lexeme (fraction_kind fs) s (bs ++ fs)) (begun i b)
+on-fraction_end s i b bs fs h = rw (← h)
 
 pub on-text : (s i b : ℕ) (bs : List ℕ) → (b ≡ 39 → ⊥) → on (InText s bs) i b ≡ ([], InText s (bs ++ b ∷ []))
 on-text s i b bs p = rw (no_quote b p)

@@ -1,6 +1,7 @@
 -- The bytes of a token, one by one.
 use Rattle.std.proofs.Common.{◌≡◌, ℕ, ◌+◌, ◌-◌, ◌<◌, ◌≤◌, List, [], ◌∷◌, ◌++◌, length, drop, take, get_or, slice_range, ap, ◌∙◌, arith, length-drop, get_or-drop}
-use Rattle.std.proofs.lemmas.List.{take_more}
+use Rattle.std.proofs.lemmas.List.{take_more, drop-drop}
+use Rattle.std.proofs.Math.Seq.{take-add}
 
 pub range_more : (xs : List ℕ) (s i : ℕ) → s ≤ i → i < length xs → slice_range xs s (i + 1) ≡ slice_range xs s i ++ get_or xs i 0 ∷ []
 range_more xs s i l h =
@@ -20,3 +21,16 @@ range_first xs s i e h = let l : s < length xs = omega arith in rw (← e) (rang
 
 pub range_pair : (xs : List ℕ) (s i : ℕ) → s + 1 ≡ i → i < length xs → slice_range xs s (i + 1) ≡ get_or xs s 0 ∷ get_or xs i 0 ∷ []
 range_pair xs s i e h = let l : s ≤ i = omega arith in range_more xs s i l h ∙ ap (λ ys. ys ++ get_or xs i 0 ∷ []) (range_first xs s i e h)
+
+-- a range is its two parts
+pub range_split : (xs : List ℕ) (s m i : ℕ) → s ≤ m → m ≤ i → slice_range xs s i ≡ slice_range xs s m ++ slice_range xs m i
+range_split xs s m i h l =
+    let e : i - s ≡ (m - s) + (i - m) = omega arith in
+    let f : s + (m - s) ≡ m = omega arith in
+    ap (λ n. take n (drop s xs)) e ∙ (take-add (m - s) (i - m) (drop s xs) ∙ ap (λ ys. take (m - s) (drop s xs) ++ take (i - m) ys) (drop-drop (m - s) s xs ∙ ap (λ n. drop n xs) f))
+
+-- digits and the point behind them
+pub range_point : (xs : List ℕ) (s p i : ℕ) → s ≤ p → p + 1 ≡ i → get_or xs p 0 ≡ 46 → i < length xs → slice_range xs s i ≡ slice_range xs s p ++ 46 ∷ []
+range_point xs s p i h e g l =
+    let w : p < length xs = omega arith in
+    rw (← e, range_more xs s p h w, g)

@@ -1,12 +1,14 @@
 -- From bytes to tokens. (TimesTen SQL Reference, "Names, namespace and parameters" for identifiers, "Constants" for
--- integers and texts, "Comparison predicate" for the signs; what is no token, and the byte at which a token stands, are
+-- numbers and texts, "Comparison predicate" for the signs; what is no token, and the byte at which a token stands, are
 -- this project's rules.)
-use Rattle.std.specs.Prelude.{ℕ, suc, Bool, ◌||◌, List, [], ◌∷◌, ◌++◌, map, drop, nat_eq, Option, Some, None, slice_range, if◌then◌else◌}
+use Rattle.std.specs.Prelude.{ℕ, suc, Bool, ◌&&◌, ◌||◌, List, [], ◌∷◌, ◌++◌, map, drop, nat_eq, Option, Some, None, slice_range, if◌then◌else◌}
+use Rattle.std.specs.List.{list_all}
+use Rattle.std.specs.Char.{is_ascii_digit}
 use Rattle.tier_base.specs.Names.{is_word_byte}
 use Rattle.sql_tokens.specs.declared.kind.Kind.{Kind}
 use Rattle.sql_tokens.specs.declared.kind.Kind.TheVariants.{Bad, Text, Colon, Semicolon, Comma, Dot, OpenParen, CloseParen, Star, Plus, Minus, Equals, NotEquals, LessThan, AtMost, GreaterThan, AtLeast}
 use Rattle.sql_tokens.specs.declared.token.Token.{Token}
-use Rattle.sql_tokens.specs.Words.{word_kind}
+use Rattle.sql_tokens.specs.Words.{word_kind, fraction_kind}
 
 -- A token: what it is, the place of its first byte, and its bytes.
 pub record Lexeme : Type 0 where
@@ -23,6 +25,10 @@ pub data Scan : Type 0 where
   Blank : Scan
   -- a run of letters, digits, `_`, `$` and `#`
   InWord : ℕ → List ℕ → Scan
+  -- digits, and the point at this place behind them, which is theirs where a digit follows
+  AtPoint : ℕ → List ℕ → ℕ → Scan
+  -- digits with their point, and the run behind it
+  InFraction : ℕ → List ℕ → List ℕ → Scan
   -- a text
   InText : ℕ → List ℕ → Scan
   -- a text behind a quote, which ends it where no second one follows
@@ -71,10 +77,19 @@ abbrev pub signed : ℕ → ℕ → ℕ → ℕ → Option Kind → Scanned
 signed s a i b (Some k) = (lexeme k s (a ∷ b ∷ []) ∷ [], Blank)
 signed s a i b None = behind (lexeme (mark_kind a) s (a ∷ [])) (begun i b)
 
+-- this byte is a point behind digits
+abbrev pub is_point_of : List ℕ → ℕ → Bool
+is_point_of bs b = nat_eq b 46 && list_all is_ascii_digit bs
+
 -- what is scanned takes one byte more
 abbrev pub on : Scan → ℕ → ℕ → Scanned
 on Blank i b = begun i b
-on (InWord s bs) i b = if is_word_byte b then ([], InWord s (bs ++ b ∷ [])) else behind (lexeme (word_kind bs) s bs) (begun i b)
+on (InWord s bs) i b =
+    if is_word_byte b then ([], InWord s (bs ++ b ∷ [])) else if is_point_of bs b then ([], AtPoint s bs i)
+    else behind (lexeme (word_kind bs) s bs) (begun i b)
+on (AtPoint s bs p) i b =
+    if is_ascii_digit b then ([], InFraction s (bs ++ 46 ∷ []) (b ∷ [])) else behind (lexeme (word_kind bs) s bs) (behind (lexeme Dot p (46 ∷ [])) (begun i b))
+on (InFraction s bs fs) i b = if is_word_byte b then ([], InFraction s bs (fs ++ b ∷ [])) else behind (lexeme (fraction_kind fs) s (bs ++ fs)) (begun i b)
 on (InText s bs) i b = if nat_eq b 39 then ([], Quoted s (bs ++ b ∷ [])) else ([], InText s (bs ++ b ∷ []))
 on (Quoted s bs) i b = if nat_eq b 39 then ([], InText s (bs ++ b ∷ [])) else behind (lexeme Text s bs) (begun i b)
 on (InSign s a) i b = signed s a i b (pair_kind a b)
@@ -83,6 +98,8 @@ on (InSign s a) i b = signed s a i b (pair_kind a b)
 abbrev pub at_end : Scan → List Lexeme
 at_end Blank = []
 at_end (InWord s bs) = lexeme (word_kind bs) s bs ∷ []
+at_end (AtPoint s bs p) = lexeme (word_kind bs) s bs ∷ lexeme Dot p (46 ∷ []) ∷ []
+at_end (InFraction s bs fs) = lexeme (fraction_kind fs) s (bs ++ fs) ∷ []
 at_end (InText s bs) = lexeme Bad s bs ∷ []
 at_end (Quoted s bs) = lexeme Text s bs ∷ []
 at_end (InSign s a) = lexeme (mark_kind a) s (a ∷ []) ∷ []

@@ -4,7 +4,7 @@ use Rattle.std.specs.List.{list_all}
 use Rattle.std.specs.Char.{is_ascii_digit}
 use Rattle.tier_base.specs.Names.{begins_with_letter, spells}
 use Rattle.sql_tokens.specs.declared.kind.Kind.{Kind}
-use Rattle.sql_tokens.specs.declared.kind.Kind.TheVariants.{Bad, Zero, One, Two, Three, Integer, Identifier, Select, From, Where, And, Or, Not, Null, Is, In, Between, Order, By, Asc, Desc, Insert, Into, Values, Update, Set, Delete, Create, Alter, Drop, Table, Cache, Group, Primary, Foreign, Key, References, On, Cascade, Timestamp, Count, Sum, Min, Max, Call, Commit, Rollback, Load, Refresh, Unload, Flush, Aging, Readonly, Propagate, TtInteger, TtBigint, Varchar2, Byte, Number, Open, Close, Passthrough, Durable, Asynchronous, Synchronous, Writethrough, Dynamic, Usermanaged, Index, Autorefresh, Mode, Incremental, Full, Interval, Millisecond, Second, Minute, Hour, Day, State, Off, Paused, Lru, Use, Lifetime, Cycle, With, Id, Every, Rows, Parallel}
+use Rattle.sql_tokens.specs.declared.kind.Kind.TheVariants.{Bad, Zero, One, Two, Three, Integer, Decimal, Identifier, Select, From, Where, And, Or, Not, Null, Is, In, Between, Order, By, Asc, Desc, Insert, Into, Values, Update, Set, Delete, Create, Alter, Drop, Table, Cache, Group, Primary, Foreign, Key, References, On, Cascade, Timestamp, Count, Sum, Min, Max, Call, Commit, Rollback, Load, Refresh, Unload, Flush, Aging, Readonly, Propagate, TtInteger, TtBigint, Varchar2, Byte, Number, Open, Close, Passthrough, Durable, Asynchronous, Synchronous, Writethrough, Dynamic, Usermanaged, Index, Autorefresh, Mode, Incremental, Full, Interval, Millisecond, Second, Minute, Hour, Day, State, Off, Paused, Lru, Use, Lifetime, Cycle, With, Id, Every, Rows, Parallel}
 
 -- the keywords, in upper case (TimesTen SQL Reference; which of them are reserved is this project's rule)
 abbrev pub keywords : List (List ℕ × Kind)
@@ -118,3 +118,8 @@ number_kind (b ∷ c ∷ bs) = Integer
 -- keyword or an identifier, anything else no token (this project's rule).
 abbrev pub word_kind : List ℕ → Kind
 word_kind word = if list_all is_ascii_digit word then number_kind word else if begins_with_letter word && nat_le (length word) 30 then named keywords word else Bad
+
+-- What digits, a point and the run of letters, digits, `_`, `$` and `#` behind it are: a decimal number where digits alone
+-- follow, else no token (this project's rule).
+abbrev pub fraction_kind : List ℕ → Kind
+fraction_kind run = if list_all is_ascii_digit run then Decimal else Bad

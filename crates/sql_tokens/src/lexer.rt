@@ -1,11 +1,14 @@
 //! From bytes to tokens.
-ghost use Rattle.std.specs.Prelude.{◌≡◌, ◌+◌, ◌++◌, ◌∷◌, [], ◌<◌, ◌≤◌, length, slice_index, slice_range, IfOk, OnOk};
-ghost use Rattle.sql_tokens.specs.Lexing.{lexeme, lexemes_of, lexeme_of, lexed, begun, on, at_end, is_blank, is_open_sign, mark_kind, pair_kind};
+ghost use Rattle.std.specs.Prelude.{◌≡◌, ◌+◌, ◌++◌, ◌∷◌, [], false, ◌<◌, ◌≤◌, length, slice_index, slice_range, IfOk, OnOk};
+ghost use Rattle.sql_tokens.specs.Lexing.{lexeme, lexemes_of, lexeme_of, lexed, begun, on, at_end, is_blank, is_open_sign, is_point_of, mark_kind, pair_kind};
 ghost use Rattle.sql_tokens.specs.States.{scan_of, Began, Takes};
+ghost use Rattle.sql_tokens.specs.Lexing.{InWord};
+ghost use Rattle.tier_base.specs.Names.{is_word_byte};
+ghost use Rattle.std.specs.Char.{is_ascii_digit};
 
 use crate::kind::Kind;
 use crate::token::Token;
-use crate::word::word_kind;
+use crate::word::{fraction_kind, has_digits_only, word_kind};
 use std::alloc::{AllocError, Global};
 use tier_base::name::is_name_byte;
 
@@ -16,6 +19,10 @@ enum State {
     Blank,
     /// a run of letters, digits, `_`, `$` and `#`
     InWord(usize),
+    /// digits, and the point at this place behind them
+    AtPoint(usize, usize),
+    /// digits with their point, and the run behind it, with the place where it began
+    InFraction(usize, usize),
     /// a text
     InText(usize),
     /// a text behind a quote
@@ -35,6 +42,19 @@ fn is_open_sign(byte: u8) -> bool
     ensures { result ≡ is_open_sign byte }
 {
     byte == b'<' || byte == b'>' || byte == b'!'
+}
+
+fn is_digit(byte: u8) -> bool
+    ensures { result ≡ is_ascii_digit byte }
+{
+    byte.is_ascii_digit()
+}
+
+// Whether the byte is a point behind digits.
+fn is_point_of(run: &[u8], byte: u8) -> bool
+    ensures { result ≡ is_point_of run.now byte }
+{
+    byte == b'.' && has_digits_only(run)
 }
 
 fn mark_kind(byte: u8) -> Kind
@@ -113,6 +133,26 @@ fn begin(tokens: &mut Vec<Token>, line: &[u8], i: usize) -> Result<State, AllocE
     Ok(State::Blank)
 }
 
+/// Ends a word at a byte that isn't of it.
+fn end_word(
+    tokens: &mut Vec<Token>,
+    line: &[u8],
+    start: usize,
+    i: usize,
+) -> Result<State, AllocError>
+    requires within { i < length line.now }
+    requires began { start ≤ i }
+    requires other { is_word_byte (slice_index line.now i) ≡ false }
+    ensures scan { IfOk result (λ s. Takes line.now i tokens.old.items tokens.new.items s (on (InWord start (slice_range line.now start i)) i (slice_index line.now i))) }
+    ensures began { IfOk result (λ s. Began line.now (i + 1) s) }
+{
+    if is_point_of(&line[start..i], line[i]) {
+        return Ok(State::AtPoint(start, i));
+    }
+    write(tokens, line, word_kind(&line[start..i]), start, i)?;
+    begin(tokens, line, i)
+}
+
 /// Takes a byte.
 fn go_on(tokens: &mut Vec<Token>, line: &[u8], state: State, i: usize) -> Result<State, AllocError>
     requires within { i < length line.now }
@@ -126,7 +166,21 @@ fn go_on(tokens: &mut Vec<Token>, line: &[u8], state: State, i: usize) -> Result
             if is_name_byte(line[i]) {
                 return Ok(State::InWord(start));
             }
-            write(tokens, line, word_kind(&line[start..i]), start, i)?;
+            end_word(tokens, line, start, i)
+        }
+        State::AtPoint(start, point) => {
+            if is_digit(line[i]) {
+                return Ok(State::InFraction(start, i));
+            }
+            write(tokens, line, word_kind(&line[start..point]), start, point)?;
+            write(tokens, line, Kind::Dot, point, i)?;
+            begin(tokens, line, i)
+        }
+        State::InFraction(start, fraction) => {
+            if is_name_byte(line[i]) {
+                return Ok(State::InFraction(start, fraction));
+            }
+            write(tokens, line, fraction_kind(&line[fraction..i]), start, i)?;
             begin(tokens, line, i)
         }
         State::InText(start) => {
@@ -167,6 +221,13 @@ fn end(tokens: &mut Vec<Token>, line: &[u8], state: State) -> Result<(), AllocEr
     match state {
         State::Blank => Ok(()),
         State::InWord(start) => write(tokens, line, word_kind(&line[start..end]), start, end),
+        State::AtPoint(start, point) => {
+            write(tokens, line, word_kind(&line[start..point]), start, point)?;
+            write(tokens, line, Kind::Dot, point, end)
+        }
+        State::InFraction(start, fraction) => {
+            write(tokens, line, fraction_kind(&line[fraction..end]), start, end)
+        }
         State::InText(start) => write(tokens, line, Kind::Bad, start, end),
         State::Quoted(start) => write(tokens, line, Kind::Text, start, end),
         State::InSign(start) => write(tokens, line, mark_kind(line[start]), start, end),

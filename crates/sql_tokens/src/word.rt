@@ -4,7 +4,7 @@ ghost use Rattle.tier_base.specs.Names.{spells};
 ghost use Rattle.std.specs.List.{list_all};
 ghost use Rattle.std.specs.Char.{is_ascii_digit, to_ascii_uppercase};
 ghost use Rattle.tier_base.specs.Names.{begins_with_letter};
-ghost use Rattle.sql_tokens.specs.Words.{keywords, named, number_kind, word_kind, digit_kind};
+ghost use Rattle.sql_tokens.specs.Words.{keywords, named, number_kind, word_kind, digit_kind, fraction_kind};
 
 use crate::kind::Kind;
 use tier_base::name::IDENTIFIER_BYTES;
@@ -245,7 +245,8 @@ fn number_kind(word: &[u8]) -> Kind
     }
 }
 
-fn has_digits_only(word: &[u8]) -> bool
+/// Whether these are digits alone.
+pub(crate) fn has_digits_only(word: &[u8]) -> bool
     ensures { result ≡ list_all is_ascii_digit word.now }
 {
     word.iter().all(|byte| byte.is_ascii_digit())
@@ -269,6 +270,16 @@ pub fn word_kind(word: &[u8]) -> Kind
     }
     if begins_with_letter(word) && word.len() <= IDENTIFIER_BYTES {
         return find_by_letter(word);
+    }
+    Kind::Bad
+}
+
+/// What digits, a point and this run of letters, digits, `_`, `$` and `#` behind it are.
+pub(crate) fn fraction_kind(run: &[u8]) -> Kind
+    ensures { result ≡ fraction_kind run.now }
+{
+    if has_digits_only(run) {
+        return Kind::Decimal;
     }
     Kind::Bad
 }

@@ -1,6 +1,6 @@
 //! Names of tables, columns and groups.
 
-ghost use Rattle.std.specs.Prelude.{◌≡◌, ◌↔◌, ◌<◌, IfOk, IfSome, IsTrue, OnOk, false, true, length, nat_eq};
+ghost use Rattle.std.specs.Prelude.{◌≡◌, ◌↔◌, ◌<◌, ◌++◌, ◌∷◌, IfOk, IfSome, IsTrue, OnOk, false, true, length, nat_eq};
 ghost use Rattle.std.specs.List.{list_all, position};
 ghost use Rattle.tier_base.specs.declared.name.NameError.TheVariants.{Memory};
 ghost use Rattle.tier_base.specs.Names.{begins_with_letter, folded, is_identifier, is_name, is_word_byte};
@@ -29,8 +29,8 @@ impl From<AllocError> for NameError {
     }
 }
 
-/// The name of a table, a column or a group: one identifier, or an owner and an identifier with a dot between.
-/// The whole is the name. Letters are folded to upper case, and clauses see the folded bytes.
+/// The name of a table, a column or a group: one identifier, or an owner and an identifier with a dot between; of a column
+/// also the name of its table, a dot and an identifier. The whole is the name. Letters are folded to upper case, and clauses see the folded bytes.
 #[derive(Debug, Drop)]
 pub struct Name {
     bytes: Vec<u8>,
@@ -62,6 +62,18 @@ impl Name {
             .map(|byte| byte.to_ascii_uppercase())
             .collect(alloc)?;
         Ok(Name { bytes: folded })
+    }
+
+    /// The name of a column with that of its table and a dot before it.
+    ///
+    /// The error is want of memory.
+    pub fn of_column(alloc: Global, table: &Name, column: &Name) -> Result<Name, AllocError>
+        ensures { IfOk result (λ name. name ≡ table.now ++ 46 ∷ column.now) }
+    {
+        let mut bytes = Vec::from_slice(alloc, table.bytes.as_slice())?;
+        bytes.push(b'.')?;
+        bytes.extend_from_slice(column.bytes.as_slice())?;
+        Ok(Name { bytes })
     }
 
     /// The bytes, in upper case.

@@ -15,7 +15,6 @@ use Rattle.table_defs.specs.Names.{place_of_table, same_name, table_id}
 use Rattle.table_state.specs.Operations.{table_of}
 use Rattle.table_state.specs.Tables.{TableState}
 use Rattle.evaluator.specs.declared.change.Change.{Change}
-use Rattle.console_writes.specs.ConsoleTrees.{trees_of}
 use Rattle.sql_subset.specs.declared.stmt.Write.{Write as Spelt}
 use Rattle.sql_query.specs.declared.write.Write.{Write}
 use Rattle.resolution.specs.Results.{both}
@@ -50,10 +49,10 @@ pub same_tables : (t : Tier) (log : List Sealed) → tables_known t ≡ tables_s
 same_tables t log = ap (unwrap_or t.known) (same_defs (own_in t.session) t.groups.items)
 
 pub same_uncached : (t : Tier) (log : List Sealed) (groups : List Group) (writes : List Spelt) → groups ≡ t.groups.items
-    → list_any (λ (x : Write). not (is_stored_name groups (w.table_of x))) (trees_of writes) ≡ write_uncached (tier_state t log) (trees_of writes)
+    → list_any (λ (x : Write). not (is_stored_name groups (w.table_of x))) writes ≡ write_uncached (tier_state t log) writes
 same_uncached t log groups writes e =
-    ap (λ gs. list_any (λ (x : Write). not (is_stored_name gs (w.table_of x))) (trees_of writes)) e
-    ∙ (λ i. list_any (λ (x : Write). not (cached_stored (own_in t.session) t.groups.items (w.table_of x) i)) (trees_of writes))
+    ap (λ gs. list_any (λ (x : Write). not (is_stored_name gs (w.table_of x))) writes) e
+    ∙ (λ i. list_any (λ (x : Write). not (cached_stored (own_in t.session) t.groups.items (w.table_of x) i)) writes)
 
 -- no group is over one of these tables
 abbrev pub AreOnNone : List Group → List Change → Type 0

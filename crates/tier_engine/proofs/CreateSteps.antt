@@ -17,7 +17,7 @@ use Rattle.outside.specs.Faults.{Rose}
 use Rattle.outside.specs.Holding.{Held}
 use Rattle.outside.specs.declared.fault.BankError.{BankError}
 use Rattle.outside.specs.declared.fault.BankError.TheVariants.{Failed, Memory}
-use Rattle.sql_subset.specs.declared.request.ConsoleRequest.TheVariants as console
+use Rattle.served_lines.specs.declared.request.ConsoleRequest.TheVariants as console
 use Rattle.abstract_tier.specs.declared.reply.Reply.{Reply}
 use Rattle.abstract_tier.specs.declared.reply.Last.TheVariants.{No}
 use Rattle.tier_engine.specs.declared.tier.Tier.{Tier}

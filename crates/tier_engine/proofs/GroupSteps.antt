@@ -27,7 +27,7 @@ use Rattle.table_state.specs.Histories.{state_of}
 use Rattle.indexed_rows.specs.Rows.{key_of, is_same}
 use Rattle.table_state.specs.Tables.{TableState}
 use Rattle.table_state.specs.Operations.{applied_all, table_of}
-use Rattle.sql_subset.specs.declared.stmt.CreateGroup.{CreateGroup}
+use Rattle.served_lines.specs.declared.stmt.CreateGroup.{CreateGroup}
 use Rattle.instances.specs.Trees.{same_table}
 use Rattle.instances.specs.declared.tree.Child.{Child}
 use Rattle.autorefresh.specs.Sets.{is_of_table}

@@ -12,10 +12,10 @@ use Rattle.table_defs.specs.declared.definition.TableDef.{TableDef}
 use Rattle.table_state.specs.declared.history.Entry.{Entry}
 use Rattle.table_state.specs.declared.history.Sealed.{Sealed}
 use Rattle.table_defs.specs.Names.{place_of_table}
-use Rattle.sql_subset.specs.declared.stmt.CreateGroup.{CreateGroup}
-use Rattle.sql_subset.specs.declared.stmt.GroupKind.{GroupKind}
-use Rattle.sql_subset.specs.declared.stmt.GroupKind.TheVariants.{AsynchronousWritethrough, ReadOnly}
-use Rattle.sql_subset.specs.declared.stmt.Stmt.TheVariants as statement
+use Rattle.served_lines.specs.declared.stmt.CreateGroup.{CreateGroup}
+use Rattle.served_lines.specs.declared.stmt.GroupKind.{GroupKind}
+use Rattle.served_lines.specs.declared.stmt.GroupKind.TheVariants.{AsynchronousWritethrough, ReadOnly}
+use Rattle.served_lines.specs.declared.stmt.Stmt.TheVariants as statement
 use Rattle.autorefresh.specs.Sets.{AllShow, OnePosition, is_of_table}
 use Rattle.autorefresh.specs.declared.group.ReadOnlyGroup.{ReadOnlyGroup}
 use Rattle.autorefresh.proofs.KeepingLaws.{add_has_one_position, add_shows}

@@ -17,9 +17,9 @@ use Rattle.table_state.specs.declared.history.Entry.{Entry}
 use Rattle.table_state.specs.declared.history.Sealed.{Sealed}
 use Rattle.table_state.specs.Refusals.{misfit}
 use Rattle.indexed_rows.specs.Rows.{Table, key_of}
-use Rattle.sql_subset.specs.declared.stmt.Insert.{Insert as OneInsert}
-use Rattle.sql_subset.specs.declared.stmt.Literal.{Literal}
-use Rattle.sql_subset.specs.declared.stmt.Stmt.TheVariants as statement
+use Rattle.served_lines.specs.declared.stmt.Insert.{Insert as OneInsert}
+use Rattle.served_lines.specs.declared.stmt.Literal.{Literal}
+use Rattle.served_lines.specs.declared.stmt.Stmt.TheVariants as statement
 use Rattle.outside.specs.Faults.{Rose}
 use Rattle.outside.specs.Holding.{Held}
 use Rattle.outside.specs.declared.fault.BankError.{BankError}

@@ -1,8 +1,8 @@
 -- OPEN, CLOSE and ROLLBACK are steps of the tier: what the calls do.
 use Rattle.std.proofs.Common.{◌≡◌, List, [], map, Option, Some, None, Bool, true, false, cond, refl, sym, ◌∙◌, ap, subst}
 use Rattle.std.specs.Option.{option_map, IsSome, is_some}
-use Rattle.sql_subset.specs.declared.request.Request.TheVariants as asks_for
-use Rattle.sql_subset.specs.declared.stmt.Stmt.TheVariants as statement
+use Rattle.served_lines.specs.declared.request.Request.TheVariants as asks_for
+use Rattle.served_lines.specs.declared.stmt.Stmt.TheVariants as statement
 use Rattle.row_types.specs.declared.rule.Rule.{Rule}
 use Rattle.table_state.specs.declared.history.Entry.{Entry}
 use Rattle.table_state.specs.declared.history.Sealed.{Sealed}

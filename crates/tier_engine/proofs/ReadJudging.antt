@@ -9,7 +9,7 @@ use Rattle.row_types.specs.declared.rule.Refused.{Refused}
 use Rattle.row_types.specs.declared.rule.Refused.TheVariants as refused
 use Rattle.row_types.specs.declared.rule.Detail.TheVariants as detail
 use Rattle.table_state.specs.declared.history.Sealed.{Sealed}
-use Rattle.sql_subset.specs.declared.stmt.Literal.{Literal}
+use Rattle.served_lines.specs.declared.stmt.Literal.{Literal}
 use Rattle.autorefresh.specs.Sets as stored
 use Rattle.autorefresh.specs.declared.group.ReadOnlyGroup.{ReadOnlyGroup}
 use Rattle.tier_engine.specs.declared.tier.Tier.{Tier}

@@ -12,10 +12,10 @@ use Rattle.table_state.specs.declared.history.Entry.{Entry}
 use Rattle.table_state.specs.declared.history.Sealed.{Sealed}
 use Rattle.table_state.specs.declared.operation.Op.{Op}
 use Rattle.indexed_rows.specs.Rows.{Table}
-use Rattle.sql_subset.specs.declared.stmt.Literal.{Literal}
-use Rattle.sql_subset.specs.declared.stmt.Load.{Load}
-use Rattle.sql_subset.specs.declared.stmt.Stmt.{Stmt}
-use Rattle.sql_subset.specs.declared.stmt.Stmt.TheVariants as statement
+use Rattle.served_lines.specs.declared.stmt.Literal.{Literal}
+use Rattle.served_lines.specs.declared.stmt.Load.{Load}
+use Rattle.served_lines.specs.declared.stmt.Stmt.{Stmt}
+use Rattle.served_lines.specs.declared.stmt.Stmt.TheVariants as statement
 use Rattle.autorefresh.specs.Refreshes.{refreshed, tables_read}
 use Rattle.autorefresh.specs.Sets as stored
 use Rattle.autorefresh.specs.declared.group.ReadOnlyGroup.{ReadOnlyGroup}

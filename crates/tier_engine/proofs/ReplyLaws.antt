@@ -3,10 +3,10 @@ use Rattle.std.proofs.Common.{ℕ, ◌⊎◌, List, [], ◌∷◌, Option, Some,
 use Rattle.std.specs.List.{slice_get}
 use Rattle.tier_base.specs.declared.number.TableId.{TableId}
 use Rattle.row_types.specs.declared.rule.Rule.{Rule}
-use Rattle.sql_subset.specs.declared.request.Request.TheVariants as asks_for
-use Rattle.sql_subset.specs.declared.stmt.CreateGroup.{CreateGroup}
-use Rattle.sql_subset.specs.declared.stmt.Select.{Select as OneSelect}
-use Rattle.sql_subset.specs.declared.stmt.Stmt.TheVariants as statement
+use Rattle.served_lines.specs.declared.request.Request.TheVariants as asks_for
+use Rattle.served_lines.specs.declared.stmt.CreateGroup.{CreateGroup}
+use Rattle.served_lines.specs.declared.stmt.Select.{Select as OneSelect}
+use Rattle.served_lines.specs.declared.stmt.Stmt.TheVariants as statement
 use Rattle.table_defs.specs.declared.definition.TableDef.{TableDef}
 use Rattle.table_state.specs.declared.operation.Op.{Op}
 use Rattle.table_defs.specs.Names.{place_of_table}

@@ -6,9 +6,9 @@ use Rattle.std.specs.Option.{IsSome, option_and_then, option_map}
 use Rattle.table_state.specs.declared.history.Entry.{Entry}
 use Rattle.table_state.specs.declared.history.Sealed.{Sealed}
 use Rattle.indexed_rows.specs.Rows.{Table}
-use Rattle.sql_subset.specs.declared.stmt.Select.{Select as OneSelect}
-use Rattle.sql_subset.specs.declared.stmt.Stmt.{Stmt}
-use Rattle.sql_subset.specs.declared.stmt.Stmt.TheVariants as statement
+use Rattle.served_lines.specs.declared.stmt.Select.{Select as OneSelect}
+use Rattle.served_lines.specs.declared.stmt.Stmt.{Stmt}
+use Rattle.served_lines.specs.declared.stmt.Stmt.TheVariants as statement
 use Rattle.row_types.specs.declared.rule.Rule.{Rule}
 use Rattle.autorefresh.specs.Sets.{is_of_table}
 use Rattle.autorefresh.specs.declared.group.ReadOnlyGroup.{ReadOnlyGroup}

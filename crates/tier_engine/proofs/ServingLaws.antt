@@ -10,9 +10,11 @@ use Rattle.table_state.specs.declared.history.Sealed.{Sealed}
 use Rattle.outside.specs.Holding.{Held}
 use Rattle.outside.specs.Faults.{Rose}
 use Rattle.outside.specs.declared.fault.BankError.{BankError}
-use Rattle.sql_subset.specs.declared.request.Line.{Line}
-use Rattle.sql_subset.specs.declared.stmt.Stmt.{Stmt}
-use Rattle.sql_subset.specs.Lines.{Says, Means}
+use Rattle.served_lines.specs.declared.request.Line.{Line}
+use Rattle.served_lines.specs.declared.stmt.Stmt.{Stmt}
+use Rattle.sql_subset.specs.declared.request.Line.{Line as Spelt}
+use Rattle.sql_subset.specs.Lines.{Says, Means, is_silent}
+use Rattle.served_lines.specs.Served.{served}
 use Rattle.abstract_tier.specs.declared.reply.Reply.{Reply}
 use Rattle.tier_engine.specs.declared.tier.Tier.{Tier}
 use Rattle.tier_engine.specs.declared.tier.Group.{Group}
@@ -24,9 +26,9 @@ use Rattle.abstract_tier.specs.declared.reply.Last.TheVariants.{No}
 use Rattle.abstract_tier.specs.ReadOnlyAnswers.{refreshed_set}
 use Rattle.abstract_tier.specs.Refusals.{not_yet, too_long, unknown_session}
 use Rattle.abstract_tier.specs.Answers.{only, faulty, refuses}
-use Rattle.sql_subset.specs.declared.stmt.Call.{Call}
-use Rattle.sql_subset.specs.declared.stmt.Stmt.TheVariants as statement
-use Rattle.abstract_tier.specs.Steps.{World, AreUnshared, DoesLine, IsUnshared, is_undone, told, Quiet, Autorefreshes, Calls, call_fault, is_autorefresh, is_long, Drains, Heeds, Asked, Does, ForSession, Parts, TellsBankFault, WantsMemory, asks, stopped}
+use Rattle.served_lines.specs.declared.stmt.Call.{Call}
+use Rattle.served_lines.specs.declared.stmt.Stmt.TheVariants as statement
+use Rattle.abstract_tier.specs.Steps.{World, AreUnshared, DoesLine, DoesServed, IsUnshared, is_undone, told, Quiet, Autorefreshes, Calls, call_fault, is_autorefresh, is_long, Drains, Heeds, Asked, Does, ForSession, Parts, TellsBankFault, WantsMemory, asks, stopped}
 use Rattle.tier_engine.specs.Storing.{place_named}
 use Rattle.tier_engine.specs.Standing.{IsApart, Mark, StandsFor, InOpen, Made, Turns, Serves, ServesPart, AskServes, AsksWhere, tier_state, group_state, session_in, world_of}
 
@@ -331,11 +333,46 @@ done_part before now f f' m m' t t' reply line does part =
     part_as before now f f' m m' t t' reply (λ w w'. Parts line w w' reply) (λ w w'. DoesLine line w w' reply)
     (λ log h w' p. subst (λ (b : Bool). MatchBool b (Quiet (world_of t log h f m) (refuses (tier_state t log) not_yet) w' reply) (Parts line (world_of t log h f m) w' reply)) (does log) p) part
 
+-- A line that isn't done yet.
+pub unserved_part : (before : Option Held) (f : ℕ) (m : Mark) (t : Tier) (reply : Reply) (line : Spelt) → None ≡ served line → reply ≡ only (No not_yet)
+    → ServesPart before before f f m m t t reply (λ w w'. DoesServed (served line) w w' reply ⊎ WantsMemory w w' reply)
+unserved_part before f m t reply line none e log held told stands apart =
+    let w = world_of t log held.history f m in
+    record {
+      log' = log;
+      held' = held;
+      tells = told;
+      slots = refl;
+      stands = stands;
+      made = (inl (subst (λ (o : Option Line). DoesServed o w w reply) none (refl, e)), λ b. absurd (no_refusal not_yet (subst TellsBankFault e b)));
+    }
+
+-- Want of memory before a line is done.
+pub unread_part : (before : Option Held) (f : ℕ) (m : Mark) (t : Tier) (reply : Reply) (line : Spelt) → reply ≡ faulty code.Memory
+    → ServesPart before before f f m m t t reply (λ w w'. DoesServed (served line) w w' reply ⊎ WantsMemory w w' reply)
+unread_part before f m t reply line e log held told stands apart =
+    record {
+      log' = log;
+      held' = held;
+      tells = told;
+      slots = refl;
+      stands = stands;
+      made = (inr (refl, e), λ b. absurd (no_memory (subst TellsBankFault e b)));
+    }
+
+-- A line that is done.
+pub served_part : (before now : Option Held) (f f' : ℕ) (m m' : Mark) (t t' : Tier) (reply : Reply) (line : Spelt) (done : Line) → Some done ≡ served line
+    → ServesPart before now f f' m m' t t' reply (λ w w'. DoesLine done w w' reply) → ServesPart before now f f' m m' t t' reply (λ w w'. DoesServed (served line) w w' reply ⊎ WantsMemory w w' reply)
+served_part before now f f' m m' t t' reply line done some part =
+    part_as before now f f' m m' t t' reply (λ w w'. DoesLine done w w' reply) (λ w w'. DoesServed (served line) w w' reply ⊎ WantsMemory w w' reply)
+    (λ log h w' p. inl (subst (λ (o : Option Line). DoesServed o (world_of t log h f m) w' reply) some p)) part
+
 -- What a line says was served.
-pub heeds_part : (before now : Option Held) (f f' : ℕ) (m m' : Mark) (t t' : Tier) (reply : Reply) (bytes : List ℕ) (line : Line) → Means bytes (Says line)
-    → ServesPart before now f f' m m' t t' reply (λ w w'. DoesLine line w w' reply) → ServesPart before now f f' m m' t t' reply (λ w w'. Heeds w bytes w' reply)
-heeds_part before now f f' m m' t t' reply bytes line means part =
-    part_as before now f f' m m' t t' reply (λ w w'. DoesLine line w w' reply) (λ w w'. Heeds w bytes w' reply) (λ log h w' p. inl (Says line, means, p)) part
+pub heeds_part : (before now : Option Held) (f f' : ℕ) (m m' : Mark) (t t' : Tier) (reply : Reply) (bytes : List ℕ) (line : Spelt) → Means bytes (Says line) → is_silent bytes ≡ false
+    → ServesPart before now f f' m m' t t' reply (λ w w'. DoesServed (served line) w w' reply ⊎ WantsMemory w w' reply) → ServesPart before now f f' m m' t t' reply (λ w w'. Heeds w bytes w' reply)
+heeds_part before now f f' m m' t t' reply bytes line means heard part =
+    part_as before now f f' m m' t t' reply (λ w w'. DoesServed (served line) w w' reply ⊎ WantsMemory w w' reply) (λ w w'. Heeds w bytes w' reply)
+    (λ log h w' p. elim p [ inl q ↦ inl (Says line, means, q) | inr q ↦ inr (heard, q) ]) part
 
 pub not_true : (b : Bool) → not b ≡ true → b ≡ false
 not_true true p = sym p

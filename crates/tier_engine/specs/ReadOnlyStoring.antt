@@ -11,7 +11,7 @@ use Rattle.row_types.specs.declared.rule.Rule.{Rule}
 use Rattle.row_types.specs.declared.rule.Refused.TheVariants as refused
 use Rattle.indexed_rows.specs.Rows.{Table}
 use Rattle.table_state.specs.Tables.{TableState}
-use Rattle.sql_subset.specs.declared.stmt.Literal.{Literal}
+use Rattle.served_lines.specs.declared.stmt.Literal.{Literal}
 use Rattle.sql_subset.specs.declared.stmt.RefreshState.{RefreshState}
 use Rattle.sql_subset.specs.declared.stmt.RefreshState.TheVariants.{Off, On, Paused}
 use Rattle.instances.specs.Views.{kept_at}

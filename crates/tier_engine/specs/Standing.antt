@@ -37,7 +37,7 @@ use Rattle.instances.specs.Trees.{same_table}
 use Rattle.abstract_tier.specs.ReadOnlyStates.{ReadOnlyState}
 use Rattle.abstract_tier.specs.TierStates.{TierState, GroupState, SessionState, opened}
 use Rattle.group_defs.specs.GroupRules.{is_joined}
-use Rattle.sql_subset.specs.declared.stmt.Stmt.{Stmt}
+use Rattle.served_lines.specs.declared.stmt.Stmt.{Stmt}
 use Rattle.abstract_tier.specs.Steps.{World, AreUnshared, LineStep, Asked, InSession, IsCaused, stopped}
 
 -- the keys of a table's rows

@@ -8,7 +8,7 @@ ghost use Rattle.table_defs.specs.declared.definition.TableDef.{TableDef as OneD
 ghost use Rattle.table_state.specs.declared.history.Sealed.{Sealed as OneSealed};
 ghost use Rattle.row_types.specs.declared.rule.Detail.TheVariants as detail;
 ghost use Rattle.table_defs.specs.Declarations.{IsChecked, IsRefusedBy, Tells, resolved};
-ghost use Rattle.sql_subset.specs.declared.request.ConsoleRequest.TheVariants as console;
+ghost use Rattle.served_lines.specs.declared.request.ConsoleRequest.TheVariants as console;
 ghost use Rattle.tier_engine.specs.Standing.{AskServes, IsApart, Made, StandsFor, mark_of};
 ghost use Rattle.abstract_tier.specs.Steps.{Asked, DoesConsole, TellsBankFault, WantsMemory, bank_fault, cached_fault, stopped};
 ghost use Rattle.tier_engine.specs.Storing.{JudgesTable, Makes, judged_parent, judged_table};

@@ -4,7 +4,7 @@ ghost use Rattle.std.specs.Prelude.{◌≡◌, ◌<◌, ◌≤◌, ◌⊎◌, Li
 ghost use Rattle.table_state.specs.declared.history.Entry.{Entry};
 ghost use Rattle.table_state.specs.declared.history.Sealed.{Sealed as OneSealed};
 ghost use Rattle.table_defs.specs.Declarations.{Tells};
-ghost use Rattle.sql_subset.specs.declared.stmt.Stmt.TheVariants as statement;
+ghost use Rattle.served_lines.specs.declared.stmt.Stmt.TheVariants as statement;
 ghost use Rattle.group_defs.specs.LiteralValues.{values_of};
 ghost use Rattle.abstract_tier.specs.Refusals.{insert_fault, unknown_table};
 ghost use Rattle.std.specs.Option.{option_and_then};
@@ -24,7 +24,7 @@ use abstract_tier::{Reply, bank_fault, select_rows, unknown_table};
 use key_rows::Rows;
 use outside::Site;
 use row_types::{Refused, Row, Rule};
-use sql_subset::stmt::{Insert, Literal, Select};
+use served_lines::stmt::{Insert, Literal, Select};
 use std::alloc::{AllocError, Global};
 use table_state::laws::refusal_law;
 use tier_base::{Code, Name, Seq};

@@ -3,7 +3,7 @@
 ghost use Rattle.std.specs.Prelude.{◌≡◌, ◌+◌, ◌<◌, ◌≤◌, ◌⊎◌, List, IsSome, Some, length};
 ghost use Rattle.table_state.specs.declared.history.Entry.{Entry};
 ghost use Rattle.table_state.specs.declared.history.Sealed.{Sealed as OneSealed};
-ghost use Rattle.sql_subset.specs.declared.stmt.Stmt.TheVariants as statement;
+ghost use Rattle.served_lines.specs.declared.stmt.Stmt.TheVariants as statement;
 ghost use Rattle.tier_engine.specs.Standing.{InOpen, StandsFor, Turns, own_in};
 ghost use Rattle.abstract_tier.specs.Steps.{TellsBankFault, WantsMemory};
 ghost use Rattle.tier_engine.specs.Storing.{SealsOr};

@@ -5,8 +5,7 @@ ghost use Rattle.std.specs.List.{list_any};
 ghost use Rattle.outside.specs.Faults.{Rose};
 ghost use Rattle.outside.specs.Holding.{Held};
 ghost use Rattle.table_state.specs.declared.history.Sealed.{Sealed as OneSealed};
-ghost use Rattle.sql_subset.specs.declared.request.ConsoleRequest.TheVariants as console;
-ghost use Rattle.console_writes.specs.ConsoleTrees.{tree_of, trees_of};
+ghost use Rattle.served_lines.specs.declared.request.ConsoleRequest.TheVariants as console;
 ghost use Rattle.resolution.specs.Writes.{table_of};
 ghost use Rattle.abstract_tier.specs.ConsoleWrites.{first_table};
 ghost use Rattle.tier_engine.specs.Standing.{IsApart, Made, StandsFor, mark_of};
@@ -16,13 +15,11 @@ ghost use Rattle.tier_engine.specs.ConsoleStoring.{JudgesWrites, is_stored_name,
 use crate::cached::place_of_group;
 use crate::tier::{Group, Tier};
 use abstract_tier::{Reply, named, writes_reply};
-use console_writes::trees_of;
 use evaluator::Change;
 use outside::Site;
 use resolution::resolve_writes;
 use row_types::Refused;
 use sql_query::Write;
-use sql_subset::stmt::Write as Spelt;
 use std::alloc::{AllocError, Global};
 use table_defs::BackingSchema;
 use tier_base::{Code, Name, Seq};
@@ -38,7 +35,7 @@ impl Tier {
     /// 107, 108, 109.
     /// Behind a refusal, and where memory is wanting, nothing of theirs is done; behind a failed call of the bank all of
     /// it, or nothing. (TimesTen SQL Reference, INSERT, UPDATE, DELETE; the codes and their order are this project's.)
-    pub fn write_console<P: Site>(&self, alloc: Global, site: &mut P, writes: Seq<Spelt>) -> Reply
+    pub fn write_console<P: Site>(&self, alloc: Global, site: &mut P, writes: Seq<Write>) -> Reply
         ensures step { (log : List OneSealed) (held : Held) → P.Disk.held site.old ≡ Some held → StandsFor self.now log held.history → IsApart self.now log (P.Disk.shared site.old) → Made (P.Disk.held site.new) (P.bank_faults site.old) (P.bank_faults site.new) (mark_of (P.Disk.moment site.old) (P.Disk.shared site.old)) (mark_of (P.Disk.moment site.new) (P.Disk.shared site.new)) self.now self.now log held (λ w w'. DoesConsole (console.Writes writes) w w' result ⊎ WantsMemory w w' result) }
         ensures later { P.bank_faults site.old ≤ P.bank_faults site.new }
         ensures shares { P.Disk.shared site.new ≡ P.Disk.shared site.old }
@@ -56,29 +53,28 @@ impl Tier {
     }
 
     /// What the writes stand for, where nothing refuses them before the bank is called.
-    fn judge_spelt(&self, alloc: Global, writes: Seq<Spelt>) -> Result<Seq<Change>, Refused>
-        ensures { JudgesWrites self.now.groups.items (tables_known self.now) (trees_of writes) result }
+    fn judge_spelt(&self, alloc: Global, writes: Seq<Write>) -> Result<Seq<Change>, Refused>
+        ensures { JudgesWrites self.now.groups.items (tables_known self.now) writes result }
     {
-        let trees = trees_of(alloc, writes)?;
         let groups = self.groups.as_slice();
         match &self.known {
-            Some(schema) => judge_writes(alloc, groups, schema, trees.as_slice()),
+            Some(schema) => judge_writes(alloc, groups, schema, writes.as_slice()),
             None => {
                 let tables = group_tables(alloc, groups)?;
-                judge_writes(alloc, groups, &tables, trees.as_slice())
+                judge_writes(alloc, groups, &tables, writes.as_slice())
             }
         }
     }
 }
 
 /// Whether one of the writes is on a table that is no group's.
-pub fn writes_uncached(groups: &[Group], writes: &[Spelt]) -> bool
-    ensures { result ≡ list_any (λ w. not (is_stored_name groups.now (table_of w))) (trees_of writes.now) }
+pub fn writes_uncached(groups: &[Group], writes: &[Write]) -> bool
+    ensures { result ≡ list_any (λ w. not (is_stored_name groups.now (table_of w))) writes.now }
 {
     match writes.split_first() {
         None => false,
         Some((first, rest)) => {
-            if place_of_group(groups, written_table(first)).is_none() {
+            if place_of_group(groups, table_of(first)).is_none() {
                 return true;
             }
             writes_uncached(groups, rest)
@@ -126,17 +122,6 @@ fn table_of(write: &Write) -> &Name
         Write::Insert(insert) => &insert.table,
         Write::Update(update) => &update.table,
         Write::Delete(delete) => &delete.table,
-    }
-}
-
-/// The table of a write as it is spelt.
-fn written_table(write: &Spelt) -> &Name
-    ensures { result.now ≡ table_of (tree_of write.now) }
-{
-    match write {
-        Spelt::Insert(insert) => &insert.table,
-        Spelt::Update(update) => &update.table,
-        Spelt::Delete(delete) => &delete.table,
     }
 }
 

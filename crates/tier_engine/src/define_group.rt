@@ -3,7 +3,7 @@
 ghost use Rattle.std.specs.Prelude.{◌≡◌, ◌⊎◌, List, IsSome, option_map, position};
 ghost use Rattle.table_state.specs.declared.history.Entry.{Entry};
 ghost use Rattle.table_state.specs.declared.history.Sealed.{Sealed as OneSealed};
-ghost use Rattle.sql_subset.specs.declared.stmt.Stmt.TheVariants as statement;
+ghost use Rattle.served_lines.specs.declared.stmt.Stmt.TheVariants as statement;
 ghost use Rattle.autorefresh.specs.Sets.{is_of_table};
 ghost use Rattle.abstract_tier.specs.Answers.{refresh_of};
 ghost use Rattle.tier_engine.specs.Standing.{InOpen, StandsFor, Turns};
@@ -19,7 +19,7 @@ use group_defs::{Beside, at_limit, judge_group};
 use instances::Tree;
 use key_rows::Rows;
 use row_types::{Refused, TableDeclaration};
-use sql_subset::stmt::{Autorefresh, CreateGroup, GroupKind, RefreshMode, RefreshState};
+use served_lines::stmt::{Autorefresh, CreateGroup, GroupKind, RefreshMode, RefreshState};
 use std::alloc::Global;
 use table_defs::{TableDef, find_table};
 use tier_base::{Code, Limit, Name, Seq, TableId};

@@ -13,7 +13,7 @@ use crate::tier::{Group, OwnKey, Session};
 use group_defs::{at_limit, broken, literal_values, takes_all};
 use key_rows::Rows;
 use row_types::{Detail, Key, Refused, Row, Rule};
-use sql_subset::stmt::Literal;
+use served_lines::stmt::Literal;
 use std::alloc::{AllocError, Global};
 use table_defs::TableDef;
 use table_state::{ApplyError, Op, Ops, check_row, key_of_row};

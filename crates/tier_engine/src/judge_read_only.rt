@@ -18,7 +18,7 @@ use abstract_tier::{
 use autorefresh::ReadOnlyGroup;
 use group_defs::{broken, literal_values};
 use row_types::{Detail, Refused, Rule};
-use sql_subset::stmt::{Literal, Load, RefreshState};
+use served_lines::stmt::{Literal, Load, RefreshState};
 use std::alloc::Global;
 use tier_base::{Code, Name, NameError};
 

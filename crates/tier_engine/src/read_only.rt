@@ -3,7 +3,7 @@
 ghost use Rattle.std.specs.Prelude.{◌≡◌, ◌<◌, ◌≤◌, ◌⊎◌, IsSome, List, None, Some, Ok, length, slice_get};
 ghost use Rattle.std.specs.FinMap.{len};
 ghost use Rattle.autorefresh.specs.Refreshes.{loaded_alone, refreshed, tables_alone, tables_read};
-ghost use Rattle.sql_subset.specs.declared.stmt.Stmt.TheVariants as statement;
+ghost use Rattle.served_lines.specs.declared.stmt.Stmt.TheVariants as statement;
 ghost use Rattle.table_state.specs.declared.history.Sealed.{Sealed as OneSealed};
 ghost use Rattle.abstract_tier.specs.ReadOnlyAnswers.{refreshed_set};
 ghost use Rattle.tier_engine.specs.ReadOnlyStoring.{LoadsStored, Reads, load_after, load_tables, root_shown};
@@ -16,7 +16,7 @@ use abstract_tier::{Reply, bank_fault, named, unknown_group};
 use autorefresh::ReadOnlyGroups;
 use outside::{BankError, Site};
 use row_types::Refused;
-use sql_subset::stmt::{Literal, Load, RefreshState};
+use served_lines::stmt::{Literal, Load, RefreshState};
 use std::alloc::Global;
 use tier_base::{Code, Name, Seq};
 

@@ -2,14 +2,15 @@
 
 ghost use Rattle.std.specs.Prelude.{◌≡◌, ◌≤◌, ◌⊎◌, List, false};
 ghost use Rattle.table_state.specs.declared.history.Sealed.{Sealed as OneSealed};
-ghost use Rattle.sql_subset.specs.declared.request.ConsoleRequest.TheVariants as console;
-ghost use Rattle.sql_subset.specs.declared.request.Line.TheVariants as says;
-ghost use Rattle.sql_subset.specs.declared.request.Request.TheVariants as asks_for;
+ghost use Rattle.served_lines.specs.declared.request.ConsoleRequest.TheVariants as console;
+ghost use Rattle.served_lines.specs.declared.request.Line.TheVariants as says;
+ghost use Rattle.served_lines.specs.declared.request.Request.TheVariants as asks_for;
 ghost use Rattle.sql_subset.specs.Lines.{is_silent};
 ghost use Rattle.abstract_tier.specs.Refusals.{wrong_at};
 ghost use Rattle.tier_engine.specs.Standing.{ServesPart, mark_of, tier_state};
 ghost use Rattle.outside.specs.Faults.{Rose};
-ghost use Rattle.abstract_tier.specs.Steps.{DoesLine, Heeds, Parts, TellsBankFault, console_asks, is_undone, request_asks};
+ghost use Rattle.abstract_tier.specs.Steps.{DoesLine, DoesServed, Heeds, Parts, TellsBankFault, WantsMemory, console_asks, is_undone, request_asks};
+ghost use Rattle.served_lines.specs.Served.{served};
 
 use crate::console::writes_uncached;
 use crate::taken::has_group;
@@ -19,8 +20,11 @@ use group_defs::past;
 use outside::Site;
 use row_types::TableDeclaration;
 use sql_subset::line::parse_line;
-use sql_subset::request::{ConsoleRequest, Line, ParseError, Request};
-use sql_subset::stmt::{Stmt, Write};
+use sql_subset::request::Line as Spelt;
+use served_lines::request::{ConsoleRequest, Line, ParseError, Request};
+use served_lines::served;
+use served_lines::stmt::Stmt;
+use sql_query::Write;
 use std::alloc::Global;
 use tier_base::{Code, Label, Limit, Seq};
 
@@ -35,14 +39,28 @@ impl Tier {
     {
         match parse_line(alloc, line) {
             Ok(None) => unreachable!(),
-            Ok(Some(line)) => self.serve_line(alloc, site, line),
+            Ok(Some(line)) => self.serve_served(alloc, site, line),
             Err(ParseError::At(place)) => Reply::refuses(alloc, wrong_at(place)),
             Err(ParseError::Depth) => Reply::refuses(alloc, past(Limit::Depth)),
             Err(ParseError::Memory) => Reply::faulty(alloc, Code::Memory),
         }
     }
 
-    /// Answers what a line says: 101 at byte 0 where the tier doesn't do it yet.
+    /// Answers what a line says, in the types of what is done: 101 at byte 0 where it isn't done yet.
+    fn serve_served<P: Site>(&mut self, alloc: Global, site: &mut P, line: Spelt) -> Reply
+        ensures step { ServesPart (P.Disk.held site.old) (P.Disk.held site.new) (P.bank_faults site.old) (P.bank_faults site.new) (mark_of (P.Disk.moment site.old) (P.Disk.shared site.old)) (mark_of (P.Disk.moment site.new) (P.Disk.shared site.new)) self.old self.new result (λ w w'. DoesServed (served line) w w' result ⊎ WantsMemory w w' result) }
+        ensures later { P.bank_faults site.old ≤ P.bank_faults site.new }
+        ensures shares { P.Disk.shared site.new ≡ P.Disk.shared site.old }
+        ensures cause { TellsBankFault result → Rose (P.bank_faults site.old) (P.bank_faults site.new) }
+    {
+        match served(alloc, line) {
+            Err(_) => Reply::faulty(alloc, Code::Memory),
+            Ok(None) => Reply::not_yet(alloc),
+            Ok(Some(line)) => self.serve_line(alloc, site, line),
+        }
+    }
+
+    /// Answers what a line says that may be done: 101 at byte 0 where the tier doesn't do it yet.
     fn serve_line<P: Site>(&mut self, alloc: Global, site: &mut P, line: Line) -> Reply
         ensures step { ServesPart (P.Disk.held site.old) (P.Disk.held site.new) (P.bank_faults site.old) (P.bank_faults site.new) (mark_of (P.Disk.moment site.old) (P.Disk.shared site.old)) (mark_of (P.Disk.moment site.new) (P.Disk.shared site.new)) self.old self.new result (λ w w'. DoesLine line w w' result) }
         ensures later { P.bank_faults site.old ≤ P.bank_faults site.new }

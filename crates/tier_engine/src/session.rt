@@ -4,8 +4,8 @@ ghost use Rattle.std.specs.Prelude.{◌≡◌, List, IfErr, IfOk, IsSome, None, 
 ghost use Rattle.std.specs.Result.{OnOk};
 ghost use Rattle.table_state.specs.declared.history.Entry.{Entry};
 ghost use Rattle.table_state.specs.declared.history.Sealed.{Sealed as OneSealed};
-ghost use Rattle.sql_subset.specs.declared.request.Request.TheVariants as asks_for;
-ghost use Rattle.sql_subset.specs.declared.stmt.Stmt.TheVariants as statement;
+ghost use Rattle.served_lines.specs.declared.request.Request.TheVariants as asks_for;
+ghost use Rattle.served_lines.specs.declared.stmt.Stmt.TheVariants as statement;
 ghost use Rattle.abstract_tier.specs.Answers.{open_answer};
 ghost use Rattle.abstract_tier.specs.Refusals.{open_fault, unknown_session};
 ghost use Rattle.tier_engine.specs.Standing.{InOpen, StandsFor, Turns, session_in};

@@ -2,7 +2,7 @@
 
 ghost use Rattle.std.specs.Prelude.{◌≡◌, ◌≤◌, ◌⊎◌, List, IsSome, None, Some, is_some};
 ghost use Rattle.table_state.specs.declared.history.Sealed.{Sealed as OneSealed};
-ghost use Rattle.sql_subset.specs.declared.stmt.Stmt.TheVariants as statement;
+ghost use Rattle.served_lines.specs.declared.stmt.Stmt.TheVariants as statement;
 ghost use Rattle.tier_engine.specs.Standing.{InOpen, ServesPart, mark_of, tier_state};
 ghost use Rattle.outside.specs.Faults.{Rose};
 ghost use Rattle.abstract_tier.specs.Steps.{ForSession, TellsBankFault, WantsMemory, is_autorefresh, is_cached, is_writethrough, names_uncached};
@@ -12,7 +12,7 @@ use crate::cached::place_of_group;
 use crate::tier::Tier;
 use abstract_tier::{Reply, is_autorefresh, judge_call, unknown_session};
 use outside::Site;
-use sql_subset::stmt::{Call, Stmt};
+use served_lines::stmt::{Call, Stmt};
 use std::alloc::Global;
 use tier_base::{Label, Name};
 

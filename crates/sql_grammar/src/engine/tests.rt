@@ -1,7 +1,7 @@
 //! The whole grammar at work: lines worked out by hand, and how deep conditions may nest.
 
-use super::{Verdict, recognize_by};
-use crate::sql::whole_session;
+use super::{Verdict, recognize};
+use crate::start::Start;
 use sql_tokens::lexer::lex;
 use std::alloc::{AllocError, Global};
 use std::test::Fail;
@@ -83,10 +83,9 @@ static LINES: [(&'static [u8], Wanted); 34] = [
     ),
 ];
 
-#[tactic(auto, using(crate::proofs::Passes::whole_session_decided))]
 fn is_wanted(alloc: Global, line: &[u8], wanted: &Wanted) -> Result<bool, AllocError> {
     let tokens = lex(alloc, line, 0)?;
-    match (recognize_by(alloc, whole_session(), &tokens)?, wanted) {
+    match (recognize(alloc, Start::Session, &tokens)?, wanted) {
         (Verdict::Fits, Wanted::Fits) => Ok(true),
         (Verdict::Deep, Wanted::Deep) => Ok(true),
         (Verdict::At(i), Wanted::At(byte)) => match tokens.get(i) {

@@ -1,8 +1,9 @@
 use Rattle.std.proofs.Common.{refl, sym, length, ◌≤◌}
-use Rattle.sql_subset.specs.Reading.{with_last}
-use Rattle.sql_subset.specs.Statements.{goes_on, write_of, writes_of}
-use Rattle.sql_subset.proofs.Chains.{chain_first, chain_more, chain_ends, chain_shorter}
-use Rattle.sql_subset.proofs.Shrinking.{write_shrinks}
+use Rattle.sql_phrases.specs.Reading.{with_last}
+use Rattle.sql_phrases.specs.Writes.{write_of}
+use Rattle.sql_subset.specs.Statements.{goes_on, writes_of}
+use Rattle.sql_phrases.proofs.Chains.{chain_first, chain_more, chain_ends, chain_shorter}
+use Rattle.sql_phrases.proofs.Shrinking.{write_shrinks}
 use Rattle.sql_subset.proofs.statements.read_writes.Goals as goal
 
 pub loop-rest-init : goal.loop-rest-init

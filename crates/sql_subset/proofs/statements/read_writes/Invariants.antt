@@ -1,7 +1,8 @@
 use Rattle.std.proofs.Common.{length}
-use Rattle.sql_subset.specs.Reading.{with_last}
-use Rattle.sql_subset.specs.Statements.{goes_on, write_of, writes_of}
-use Rattle.sql_subset.proofs.Chains.{Chaining}
+use Rattle.sql_phrases.specs.Reading.{with_last}
+use Rattle.sql_phrases.specs.Writes.{write_of}
+use Rattle.sql_subset.specs.Statements.{goes_on, writes_of}
+use Rattle.sql_phrases.proofs.Chains.{Chaining}
 use Rattle.sql_subset.proofs.statements.read_writes.Given as goal
 
 -- the writes so far, and what the rest gives, are the whole

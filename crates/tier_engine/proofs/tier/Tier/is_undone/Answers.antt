@@ -1,7 +1,7 @@
 use Rattle.std.proofs.Common.{◌≡◌, ◌∙◌, ap, rules, List}
-use Rattle.sql_subset.specs.declared.request.Line.TheVariants as says
-use Rattle.sql_subset.specs.declared.request.Request.TheVariants as asks_for
-use Rattle.sql_subset.specs.declared.stmt.Stmt.TheVariants as statement
+use Rattle.served_lines.specs.declared.request.Line.TheVariants as says
+use Rattle.served_lines.specs.declared.request.Request.TheVariants as asks_for
+use Rattle.served_lines.specs.declared.stmt.Stmt.TheVariants as statement
 use Rattle.abstract_tier.specs.Steps.{is_undone}
 use Rattle.tier_engine.specs.Standing.{own_in, tier_state}
 use Rattle.tier_engine.specs.Storing.{has_group}

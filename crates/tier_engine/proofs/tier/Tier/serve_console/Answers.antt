@@ -1,5 +1,5 @@
 use Rattle.std.proofs.Common.{ap}
-use Rattle.sql_subset.specs.declared.request.Line.TheVariants as says
+use Rattle.served_lines.specs.declared.request.Line.TheVariants as says
 use Rattle.tier_engine.proofs.ServingLaws.{parts_as}
 use Rattle.tier_engine.proofs.tier.Tier.serve_console.Goals as goal
 

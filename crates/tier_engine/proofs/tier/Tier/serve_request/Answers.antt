@@ -1,6 +1,6 @@
 use Rattle.std.proofs.Common.{ap, refl}
-use Rattle.sql_subset.specs.declared.request.Line.TheVariants as says
-use Rattle.sql_subset.specs.declared.request.Request.TheVariants as asks_for
+use Rattle.served_lines.specs.declared.request.Line.TheVariants as says
+use Rattle.served_lines.specs.declared.request.Request.TheVariants as asks_for
 use Rattle.tier_engine.proofs.ServingLaws.{parts_as, plain_quiet}
 use Rattle.tier_engine.proofs.ReplyLaws.{close_tells, open_tells}
 use Rattle.tier_engine.proofs.tier.Tier.serve_request.Goals as goal

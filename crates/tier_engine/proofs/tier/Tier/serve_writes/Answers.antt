@@ -1,5 +1,5 @@
 use Rattle.std.proofs.Common.{List, ap, ◌∙◌}
-use Rattle.sql_subset.specs.declared.request.ConsoleRequest.TheVariants as console
+use Rattle.served_lines.specs.declared.request.ConsoleRequest.TheVariants as console
 use Rattle.sql_subset.specs.declared.stmt.Write.{Write}
 use Rattle.tier_engine.specs.Standing.{tier_state}
 use Rattle.abstract_tier.specs.Steps.{console_asks}

@@ -1,0 +1,22 @@
+use Rattle.std.proofs.Common.{refl, sym, length, ◌≤◌}
+use Rattle.sql_phrases.specs.Reading.{at_comma, with_last, literal_of, literals_of}
+use Rattle.sql_phrases.proofs.Chains.{chain_first, chain_more, chain_ends, chain_shorter}
+use Rattle.sql_phrases.proofs.Shrinking.{literal_shrinks}
+use Rattle.sql_phrases.proofs.reading.read_literals.Goals as goal
+
+pub loop-rest-init : goal.loop-rest-init
+loop-rest-init c =
+    let l : length c.in_ok-first.rest ≤ length c.args.r = rw c.in_ok-first.ensures at (literal_shrinks c.args.r) in
+    chain_first _ at_comma with_last literal_of c.args.r c.in_ok-first.first c.push.new.self.items c.in_ok-first.rest (rw c.new-literals.ensures.items at c.in_ok-push.ensures.items) c.in_ok-first.ensures l
+
+pub loop-rest-smaller : goal.loop-rest-smaller
+loop-rest-smaller c =
+    chain_shorter _ _ at_comma with_last literal_of (literals_of c.args.r) literal_shrinks refl c.in_ok-literal.literal c.loop-rest.rest c.skip.result c.in_ok-literal.behind c.loop-rest-test.ensures c.skip.ensures c.in_ok-literal.ensures
+
+pub loop-rest-preserved : goal.loop-rest-preserved
+loop-rest-preserved c =
+    chain_more _ _ at_comma with_last literal_of (literals_of c.args.r) literal_shrinks refl c.loop-rest.literals.items _ c.in_ok-literal.literal c.loop-rest.rest c.skip.result c.in_ok-literal.behind c.loop-rest.invariant
+    c.loop-rest-test.ensures c.skip.ensures c.in_ok-literal.ensures c.in_ok-push-2.ensures.items
+
+pub returns : goal.returns
+returns c = rw c.from_vec.ensures (chain_ends _ _ at_comma with_last literal_of (literals_of c.args.r) c.loop-rest.literals.items c.loop-rest.rest c.loop-rest.invariant (sym c.loop-rest-test.ensures))

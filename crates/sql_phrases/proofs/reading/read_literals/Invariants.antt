@@ -1,0 +1,11 @@
+use Rattle.std.proofs.Common.{length}
+use Rattle.sql_phrases.specs.Reading.{at_comma, with_last, literal_of, literals_of}
+use Rattle.sql_phrases.proofs.Chains.{Chaining}
+use Rattle.sql_phrases.proofs.reading.read_literals.Given as goal
+
+-- the list so far, and what the rest gives, are the whole
+abbrev pub invariant-loop-rest : goal.invariant-loop-rest
+invariant-loop-rest l = Chaining at_comma with_last literal_of (literals_of l.fn.r) l.literals.items l.rest
+
+abbrev pub decreases-loop-rest : goal.decreases-loop-rest
+decreases-loop-rest l = length l.rest

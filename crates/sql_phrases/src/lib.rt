@@ -1,0 +1,10 @@
+//! The phrases of SQL statements, read off the tokens of a line.
+#![tactic(auto)]
+
+pub mod conditions;
+pub mod expression;
+pub mod queries;
+pub mod reader;
+pub mod reading;
+pub mod tables;
+pub mod writes;

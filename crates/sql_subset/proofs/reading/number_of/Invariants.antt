@@ -1,7 +1,0 @@
-use Rattle.std.proofs.Common.{◌≡◌, drop}
-use Rattle.sql_subset.specs.Reading.{number_with}
-use Rattle.sql_subset.proofs.reading.number_of.Given as goal
-
--- the number so far, with the digits that are left behind it, is the whole
-abbrev pub invariant-loop-digit : goal.invariant-loop-digit
-invariant-loop-digit l = number_with l.number (drop l.digit-index l.digits) ≡ number_with 0 l.fn.digits
