@@ -193,7 +193,7 @@ fn any_of(alloc: Global, family: Option<Family>) -> Result<Value, AllocError>
 {
     match family {
         None => Ok(Value::Null),
-        Some(Family::Number) => Ok(Value::Integer(0)),
+        Some(Family::Number) => Ok(Value::integer(0)),
         Some(Family::Characters) => {
             let text = Text::new(alloc, b"?")?;
             Ok(Value::Text(text))

@@ -15,8 +15,6 @@ pub enum TypeDeclaration {
     Number(Text, Option<Text>),
     /// VARCHAR2(n), with the digits of n. They are a type's number where it is from 1 to 4000.
     Varchar2(Text),
-    /// NUMBER(p) or NUMBER(p,s), with the digits of p and those of s.
-    Number(Text, Option<Text>),
     /// TIMESTAMP, TIMESTAMP(0) is the same.
     Timestamp,
 }

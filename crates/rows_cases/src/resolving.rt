@@ -41,7 +41,7 @@ fn schema(alloc: Global) -> Result<BackingSchema, AllocError> {
     Ok(Seq::from_vec(vec![in alloc; first, second]?))
 }
 
-// Digits are an integer, other bytes a text, none NULL.
+// Digits are a number, other bytes a text, none NULL.
 fn literal(alloc: Global, text: &str) -> Result<Expression, AllocError> {
     let digits = Text::new(alloc, text.as_bytes())?;
     let literal = match text.as_bytes().first() {

@@ -25,7 +25,6 @@ pub(crate) fn type_of(ty: &TypeDeclaration) -> Option<Ty>
             number_type(precision.as_bytes(), scale_digits(scale.as_ref()))
         }
         TypeDeclaration::Varchar2(digits) => text_type(digits),
-        TypeDeclaration::Number(_, _) => None,
         TypeDeclaration::Timestamp => Some(Ty::Timestamp),
     }
 }
