@@ -9,6 +9,6 @@ pub mod write;
 
 pub use condition::{Condition, ConditionNode};
 pub use expression::{Expression, ExpressionNode};
-pub use literal::{NumberLiteral, Literal};
+pub use literal::{Literal, NumberLiteral};
 pub use query::{Aggregate, FromTable, OrderItem, Query, SelectList};
 pub use write::{Assignment, Delete, Insert, Update, Write};
