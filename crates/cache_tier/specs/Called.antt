@@ -1,7 +1,9 @@
 -- What a CALL asks for. (TimesTen Cache User's Guide, "ttCacheAutorefresh"; TimesTen built-in procedures,
 -- "ttOptSetFlag"; ttDrain, the codes and their order are this project's.)
 
-use Rattle.std.specs.Prelude.{ℕ, List, [], ◌∷◌, ◌++◌, Bool, true, false, not, int_lt, pos, unsigned_abs, Option, Some, None, Result, Ok, Err, if◌then◌else◌, codes, is_some}
+use Rattle.std.specs.Prelude.{ℕ, List, [], ◌∷◌, ◌++◌, Bool, true, false, not, nat_eq, int_lt, pos, unsigned_abs, Option, Some, None, Result, Ok, Err, if◌then◌else◌, codes, is_some}
+use Rattle.std.specs.Char.{is_ascii_digit}
+use Rattle.std.specs.List.{list_all}
 use Rattle.std.specs.Option.{option_and_then}
 use Rattle.tier_base.specs.Names.{folded, is_name}
 use Rattle.tier_base.specs.declared.code.Code.TheVariants as code
@@ -11,7 +13,7 @@ use Rattle.row_types.specs.declared.value.Value.{Value}
 use Rattle.row_types.specs.declared.value.Value.TheVariants as value
 use Rattle.table_defs.specs.Names.{same_name}
 use Rattle.sql_query.specs.declared.literal.Literal.{Literal}
-use Rattle.sql_query.specs.declared.literal.Literal.TheVariants.{Null, Integer, Text, Time}
+use Rattle.sql_query.specs.declared.literal.Literal.TheVariants.{Null, Number, Text, Time}
 use Rattle.sql_query.specs.Literals.{value_of}
 use Rattle.cache_tier.specs.Groups.{Group, group_at, is_on, is_read_only, place_called}
 use Rattle.cache_tier.specs.Rules.{named, no_type, plain}
@@ -28,14 +30,14 @@ pub data Called : Type 0 where
 -- the text of an argument, '' being NULL
 abbrev pub text_in : Literal → Option (List ℕ)
 text_in Null = None
-text_in (Integer literal) = None
+text_in (Number literal) = None
 text_in (Text []) = None
 text_in (Text (b ∷ bytes)) = Some (b ∷ bytes)
 text_in (Time text) = None
 
 abbrev pub is_integer : Literal → Bool
 is_integer Null = false
-is_integer (Integer literal) = true
+is_integer (Number literal) = list_all is_ascii_digit literal.digits
 is_integer (Text bytes) = false
 is_integer (Time text) = false
 
@@ -78,13 +80,16 @@ called_refresh t arguments (Some text) =
 abbrev pub level_in : Option Value → Result Called Rule
 level_in None = Err no_type
 level_in (Some value.Null) = Err (plain code.TypeMismatch)
-level_in (Some (value.Integer n)) =
-    if int_lt n (pos 0)
+level_in (Some (value.Number n)) =
+    if not (nat_eq n.scale 0)
+    then Err (plain code.TypeMismatch)
+    else
+    (if int_lt n.units (pos 0)
     then Err (named code.OutOfRange (codes "PASSTHROUGH"))
     else
-    (if int_lt (pos 3) n
+    (if int_lt (pos 3) n.units
     then Err (named code.OutOfRange (codes "PASSTHROUGH"))
-    else Ok (SetLevel (unsigned_abs n)))
+    else Ok (SetLevel (unsigned_abs n.units))))
 level_in (Some (value.Text bytes)) = Err (plain code.TypeMismatch)
 level_in (Some (value.Time seconds)) = Err (plain code.TypeMismatch)
 

@@ -1,9 +1,9 @@
 -- The commit journal as a list of entries, and what they fold to. (This project's rule; the bytes of an entry are the
 -- journal format's.)
 
-use Rattle.std.specs.Prelude.{ℕ, ◌+◌, nat_lt, max, List, [], ◌∷◌, ◌++◌, Bool, ◌||◌, Option, Some, None, length, fold, sum_by}
+use Rattle.std.specs.Prelude.{ℕ, ◌+◌, nat_eq, nat_lt, max, List, [], ◌∷◌, ◌++◌, Bool, ◌||◌, Option, Some, None, length, fold, sum_by, if◌then◌else◌}
 use Rattle.row_types.specs.declared.value.Value.{Value}
-use Rattle.row_types.specs.declared.value.Value.TheVariants.{Null, Integer, Text, Time}
+use Rattle.row_types.specs.declared.value.Value.TheVariants.{Null, Number, Text, Time}
 use Rattle.tier_base.specs.declared.limit.Limit.TheVariants as limit
 use Rattle.tier_base.specs.Limits.{greatest}
 use Rattle.table_state.specs.declared.history.Sealed.{Sealed}
@@ -35,7 +35,7 @@ pub record Journal : Type 0 where
 -- the bytes that a value takes, and a row, an operation, an entry
 abbrev pub value_size : Value → ℕ
 value_size Null = 1
-value_size (Integer n) = 9
+value_size (Number n) = if nat_eq n.scale 0 then 9 else 10
 value_size (Text bytes) = 3 + length bytes
 value_size (Time seconds) = 9
 

@@ -6,7 +6,7 @@ use Rattle.std.specs.Prelude.{ℕ, suc, ℤ, List, [], ◌∷◌, Option, Some, 
 use Rattle.std.specs.Option.{option_and_then}
 use Rattle.std.specs.FinMap.{empty, insert, remove, len}
 use Rattle.row_types.specs.declared.value.Value.{Value}
-use Rattle.row_types.specs.declared.value.Value.TheVariants.{Null, Integer, Text, Time}
+use Rattle.row_types.specs.declared.value.Value.TheVariants.{Null, Number, Text, Time}
 use Rattle.tier_base.specs.declared.number.TableId.{TableId}
 use Rattle.table_defs.specs.declared.definition.TableDef.{TableDef}
 use Rattle.table_state.specs.declared.history.Entry.{Entry}
@@ -35,7 +35,7 @@ abbrev pub is_past : Option ℤ → Value → Bool
 is_past None value = true
 is_past (Some horizon) (Time seconds) = int_lt horizon seconds
 is_past (Some horizon) Null = false
-is_past (Some horizon) (Integer n) = false
+is_past (Some horizon) (Number n) = false
 is_past (Some horizon) (Text bytes) = false
 
 abbrev pub exceeds_by : Option AgingRule → Option ℤ → List Value → Bool

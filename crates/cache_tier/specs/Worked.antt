@@ -3,7 +3,7 @@
 use Rattle.std.specs.Prelude.{◌≡◌, ℕ, pos, List, [], ◌∷◌, true, false, Some, None}
 use Rattle.expressions.specs.declared.condition.Comparator.TheVariants as is
 use Rattle.row_types.specs.declared.value.Value.{Value}
-use Rattle.row_types.specs.declared.value.Value.TheVariants.{Null, Integer, Time}
+use Rattle.row_types.specs.declared.value.Value.TheVariants.{Null, Number, Time}
 use Rattle.tier_base.specs.declared.number.TableId.{TableId}
 use Rattle.table_state.specs.declared.operation.Op.TheVariants.{Insert}
 use Rattle.resolution.specs.Placing.{PlacedCondition}
@@ -15,8 +15,12 @@ use Rattle.cache_tier.specs.Journals.{Commits, Marks, JournalEntry, flushed_with
 use Rattle.cache_tier.specs.Shown.{is_past}
 use Rattle.cache_tier.specs.Wants.{key_given, want_of}
 
+-- a whole number
+abbrev pub whole : ℕ → Value
+whole n = Number (record { units = pos n; scale = 0 })
+
 abbrev pub key : ℕ → List Value
-key n = Integer (pos n) ∷ []
+key n = whole n ∷ []
 
 abbrev pub table : ℕ → TableId
 table n = record { 0 = n }
@@ -42,10 +46,10 @@ pub record SetExample : Type 0 where
   pub rising : with_number 5000 (with_number 300000 (with_number 5000 [])) ≡ 5000 ∷ 300000 ∷ []
 
 abbrev pub column_is : ℕ → ℕ → PlacedCondition
-column_is place n = placed.Compared is.Equal (placed.Column place) (placed.Literal (Integer (pos n)))
+column_is place n = placed.Compared is.Equal (placed.Column place) (placed.Literal (whole n))
 
 abbrev pub turned : ℕ → ℕ → PlacedCondition
-turned place n = placed.Compared is.Equal (placed.Literal (Integer (pos n))) (placed.Column place)
+turned place n = placed.Compared is.Equal (placed.Literal (whole n)) (placed.Column place)
 
 -- `column = literal` as written makes a want, in a conjunction, the first literal of a column; OR and `1 = ID` make
 -- none, and NULL names no key
@@ -63,7 +67,7 @@ pub record WantExample : Type 0 where
 abbrev pub first_commit : JournalEntry
 first_commit =
     Commits
-    (record { ticket = record { 0 = 1 }; ops = Insert (table 0) (Integer (pos 3) ∷ Integer (pos 30) ∷ []) ∷ [] })
+    (record { ticket = record { 0 = 1 }; ops = Insert (table 0) (whole 3 ∷ whole 30 ∷ []) ∷ [] })
 
 pub record JournalExample : Type 0 where
   pub entry : entry_size (λ op. 1) first_commit ≡ 33

@@ -126,9 +126,7 @@ pub fn rescaled(alloc: Global, value: &Value, ty: Ty) -> Result<Option<Value>, A
     ensures { IfOk result (λ found. found ≡ rescaled_for ty value.now) }
 {
     match value {
-        Value::Number(number) => {
-            Ok(number.rescaled_exactly(scale_of(ty)).map(Value::Number))
-        }
+        Value::Number(number) => { Ok(number.rescaled_exactly(scale_of(ty)).map(Value::Number)) }
         value => {
             let value = value.copied(alloc)?;
             Ok(Some(value))

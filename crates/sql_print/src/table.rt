@@ -6,7 +6,9 @@ ghost use Rattle.std.specs.Option.{option_or};
 ghost use Rattle.sql_print.specs.Words.{by_value, cascade_words, column_words, element_words, foreign_words, key_words, listed, mark_words, more, number_words, reference_words, table_words, type_words};
 
 use crate::word::{put, put_name, put_names};
-use row_types::{ColumnDeclaration, ForeignKeyDeclaration, TableDeclaration, Text, TypeDeclaration};
+use row_types::{
+    ColumnDeclaration, ForeignKeyDeclaration, TableDeclaration, Text, TypeDeclaration,
+};
 use std::alloc::{AllocError, Global};
 use tier_base::{Name, Seq};
 
