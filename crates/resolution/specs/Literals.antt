@@ -9,7 +9,7 @@ use Rattle.row_types.specs.declared.value.Value.TheVariants as value
 use Rattle.expressions.specs.declared.typing.Family.{Family}
 use Rattle.expressions.specs.declared.typing.Family.TheVariants.{Number, Characters, Datetime}
 use Rattle.sql_query.specs.declared.literal.Literal.{Literal}
-use Rattle.sql_query.specs.declared.literal.Literal.TheVariants.{Null, Integer, Text, Time}
+use Rattle.sql_query.specs.declared.literal.Literal.TheVariants as written
 use Rattle.sql_query.specs.Literals.{value_of}
 use Rattle.sql_query.specs.Trees.{ConditionTree, ExpressionTree, Constant, Column, Binary, Compared, Missing, Between, Among, Not, All, Any}
 
@@ -20,15 +20,15 @@ family_of_text (b ∷ bytes) = Some Characters
 
 -- the family of a literal by its form
 abbrev pub family_of_literal : Literal → Option Family
-family_of_literal Null = None
-family_of_literal (Integer literal) = Some Number
-family_of_literal (Text bytes) = family_of_text bytes
-family_of_literal (Time text) = Some Datetime
+family_of_literal written.Null = None
+family_of_literal (written.Number literal) = Some Number
+family_of_literal (written.Text bytes) = family_of_text bytes
+family_of_literal (written.Time text) = Some Datetime
 
 -- some value of the family
 abbrev pub any_of : Option Family → Value
 any_of None = value.Null
-any_of (Some Number) = value.Integer (pos 0)
+any_of (Some Number) = value.Number (record { units = pos 0; scale = 0 })
 any_of (Some Characters) = value.Text (63 ∷ [])
 any_of (Some Datetime) = value.Time (pos 0)
 

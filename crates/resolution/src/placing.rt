@@ -172,7 +172,7 @@ fn family_of_literal(literal: &Literal) -> Option<Family>
 {
     match literal {
         Literal::Null => None,
-        Literal::Integer(_) => Some(Family::Number),
+        Literal::Number(_) => Some(Family::Number),
         Literal::Text(text) => family_of_text(text.as_bytes()),
         Literal::Time(_) => Some(Family::Datetime),
     }
@@ -193,7 +193,7 @@ fn any_of(alloc: Global, family: Option<Family>) -> Result<Value, AllocError>
 {
     match family {
         None => Ok(Value::Null),
-        Some(Family::Number) => Ok(Value::Integer(0)),
+        Some(Family::Number) => Ok(Value::integer(0)),
         Some(Family::Characters) => {
             let text = Text::new(alloc, b"?")?;
             Ok(Value::Text(text))
