@@ -13,9 +13,9 @@ use Rattle.sql_subset.specs.declared.stmt.Literal.TheVariants as spelt
 use Rattle.sql_subset.specs.declared.stmt.Update.{Update as ConsoleUpdate}
 use Rattle.sql_subset.specs.declared.stmt.Write.{Write as ConsoleWrite}
 use Rattle.sql_subset.specs.declared.stmt.Write.TheVariants as asked
-use Rattle.sql_query.specs.declared.literal.IntegerLiteral.{IntegerLiteral}
+use Rattle.sql_query.specs.declared.literal.NumberLiteral.{NumberLiteral}
 use Rattle.sql_query.specs.declared.literal.Literal.{Literal}
-use Rattle.sql_query.specs.declared.literal.Literal.TheVariants.{Null, Integer, Text}
+use Rattle.sql_query.specs.declared.literal.Literal.TheVariants.{Null, Number, Text}
 use Rattle.sql_query.specs.declared.write.Assignment.{Assignment}
 use Rattle.sql_query.specs.declared.write.Delete.{Delete}
 use Rattle.sql_query.specs.declared.write.Insert.{Insert}
@@ -25,12 +25,12 @@ use Rattle.sql_query.specs.declared.write.Write.TheVariants as write
 use Rattle.sql_query.specs.Trees.{ConditionTree, ExpressionTree, Constant, Column, Compared}
 
 -- an integer keeps its sign and its digits
-abbrev pub integer_of : ConsoleInteger → IntegerLiteral
+abbrev pub integer_of : ConsoleInteger → NumberLiteral
 integer_of integer = record { negative = integer.negative; digits = integer.digits }
 
 abbrev pub literal_of : ConsoleLiteral → Literal
 literal_of spelt.Null = Null
-literal_of (spelt.Integer integer) = Integer (integer_of integer)
+literal_of (spelt.Integer integer) = Number (integer_of integer)
 literal_of (spelt.Text bytes) = Text bytes
 
 -- a literal among the values of an INSERT
@@ -39,7 +39,7 @@ value_of literal = Constant (literal_of literal)
 
 -- the integer behind `=`
 abbrev pub number_of : Comparison → ExpressionTree
-number_of c = Constant (Integer (integer_of c.value))
+number_of c = Constant (Number (integer_of c.value))
 
 -- `column = integer` behind SET
 abbrev pub assignment_of : Comparison → Assignment

@@ -5,7 +5,7 @@ ghost use Rattle.std.specs.Option.{option_map};
 ghost use Rattle.console_writes.specs.ConsoleTrees.{assignment_of, condition_of, integer_of, literal_of, value_of};
 
 use expressions::Comparator;
-use sql_query::{Assignment, Condition, Expression, IntegerLiteral, Literal};
+use sql_query::{Assignment, Condition, Expression, Literal, NumberLiteral};
 use sql_subset::stmt::{Comparison, IntegerLiteral as ConsoleInteger, Literal as ConsoleLiteral};
 use std::alloc::{AllocError, Global};
 use tier_base::Seq;
@@ -33,7 +33,7 @@ pub(crate) fn assignment_of(comparison: Comparison) -> Assignment
     let Comparison { column, value } = comparison;
     Assignment {
         column,
-        value: Expression::literal(Literal::Integer(integer_of(value))),
+        value: Expression::literal(Literal::Number(integer_of(value))),
     }
 }
 
@@ -52,7 +52,7 @@ fn condition_of(comparison: Comparison) -> Condition
 {
     let Comparison { column, value } = comparison;
     let left = Expression::column(column);
-    let right = Expression::literal(Literal::Integer(integer_of(value)));
+    let right = Expression::literal(Literal::Number(integer_of(value)));
     Condition::compared(Comparator::Equal, left, right)
 }
 
@@ -61,14 +61,14 @@ fn literal_of(literal: ConsoleLiteral) -> Literal
 {
     match literal {
         ConsoleLiteral::Null => Literal::Null,
-        ConsoleLiteral::Integer(integer) => Literal::Integer(integer_of(integer)),
+        ConsoleLiteral::Integer(integer) => Literal::Number(integer_of(integer)),
         ConsoleLiteral::Text(text) => Literal::Text(text),
     }
 }
 
-fn integer_of(integer: ConsoleInteger) -> IntegerLiteral
+fn integer_of(integer: ConsoleInteger) -> NumberLiteral
     ensures { result ≡ integer_of integer }
 {
     let ConsoleInteger { negative, digits } = integer;
-    IntegerLiteral { negative, digits }
+    NumberLiteral { negative, digits }
 }

@@ -2,19 +2,19 @@
 
 use expressions::Arithmetic;
 use row_types::{Text, Value};
-use sql_query::{Expression, IntegerLiteral, Literal};
+use sql_query::{Expression, Literal, NumberLiteral};
 use std::alloc::{AllocError, Global};
 use std::test::Fail;
 
 fn integer(alloc: Global, negative: bool, digits: &[u8]) -> Result<Literal, AllocError> {
     let digits = Text::new(alloc, digits)?;
-    Ok(Literal::Integer(IntegerLiteral { negative, digits }))
+    Ok(Literal::Number(NumberLiteral { negative, digits }))
 }
 
 // The number; none for NULL, and for a literal that no type holds.
 fn number(alloc: Global, literal: Literal) -> Result<Option<i64>, AllocError> {
     Ok(match literal.value(alloc)? {
-        Some(Value::Integer(number)) => Some(number),
+        Some(Value::Number(number)) => Some(number.units()),
         _ => None,
     })
 }
@@ -49,7 +49,7 @@ fn kind(alloc: Global, literal: Literal) -> Result<char, AllocError> {
     Ok(match literal.value(alloc)? {
         None => '-',
         Some(Value::Null) => 'n',
-        Some(Value::Integer(_)) => 'i',
+        Some(Value::Number(_)) => 'i',
         Some(Value::Text(_)) => 't',
         Some(Value::Time(_)) => 'z',
     })

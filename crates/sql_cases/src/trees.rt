@@ -20,7 +20,7 @@ fn writes(alloc: Global, line: &[u8]) -> Result<Seq<ConsoleWrite>, ParseError> {
 // Whether it is this integer, to the digit.
 fn spells(expression: &Expression, negative: bool, digits: &[u8]) -> bool {
     match &expression.node {
-        ExpressionNode::Literal(Literal::Integer(integer)) => {
+        ExpressionNode::Literal(Literal::Number(integer)) => {
             integer.negative == negative && integer.digits.as_bytes() == digits
         }
         _ => false,
