@@ -18,12 +18,12 @@ pub const K: TableId = TableId(2);
 
 // The two places where values are made of numbers and numbers of values.
 pub fn number(number: i64) -> Value {
-    Value::Integer(number)
+    Value::integer(number)
 }
 
 pub fn number_of(value: &Value) -> Option<i64> {
     match value {
-        Value::Integer(number) => Some(*number),
+        Value::Number(number) => Some(number.units()),
         _ => None,
     }
 }
@@ -118,7 +118,7 @@ pub fn tables(
     run(alloc, entries.as_slice())
 }
 
-fn run(alloc: Global, entries: &[Entry]) -> Result<Tables, AllocError>
+pub fn run(alloc: Global, entries: &[Entry]) -> Result<Tables, AllocError>
     ensures { IfOk result (λ tables. IsKeyed tables) }
 {
     let mut tables = Tables::new(alloc);

@@ -5,7 +5,7 @@ use expressions::Comparator;
 use resolution::{resolve_query, resolve_write};
 use row_types::{Column, Refused, Text, Ty};
 use sql_query::{
-    Assignment, Condition, Expression, FromTable, Insert, IntegerLiteral, Literal, OrderItem,
+    Assignment, Condition, Expression, FromTable, Insert, Literal, NumberLiteral, OrderItem,
     Query, SelectList, Update, Write,
 };
 use std::alloc::{AllocError, Global};
@@ -41,14 +41,14 @@ fn schema(alloc: Global) -> Result<BackingSchema, AllocError> {
     Ok(Seq::from_vec(vec![in alloc; first, second]?))
 }
 
-// Digits are an integer, other bytes a text, none NULL.
+// Digits are a number, other bytes a text, none NULL.
 fn literal(alloc: Global, text: &str) -> Result<Expression, AllocError> {
     let digits = Text::new(alloc, text.as_bytes())?;
     let literal = match text.as_bytes().first() {
         None => Literal::Null,
         Some(first) => {
             if first.is_ascii_digit() {
-                Literal::Integer(IntegerLiteral {
+                Literal::Number(NumberLiteral {
                     negative: false,
                     digits,
                 })
