@@ -8,7 +8,7 @@ use Rattle.row_types.specs.declared.column.Ty.{Ty}
 use Rattle.row_types.specs.declared.column.Ty.TheVariants as ty
 use Rattle.row_types.specs.declared.value.Value.{Value}
 use Rattle.row_types.specs.declared.value.Value.TheVariants as value
-use Rattle.row_types.specs.Literals.{held_text, integer_value}
+use Rattle.row_types.specs.Literals.{held_text, number_value}
 use Rattle.sql_subset.specs.declared.stmt.IntegerLiteral.{IntegerLiteral}
 use Rattle.sql_subset.specs.declared.stmt.Literal.{Literal}
 use Rattle.sql_subset.specs.declared.stmt.Literal.TheVariants.{Null, Integer, Text}
@@ -17,10 +17,10 @@ use Rattle.sql_subset.specs.declared.stmt.Literal.TheVariants.{Null, Integer, Te
 abbrev pub signed_digits : IntegerLiteral → List ℕ
 signed_digits literal = if literal.negative then 45 ∷ literal.digits else literal.digits
 
--- NULL, an integer of 64 signed bits, a text of up to 4,000 bytes; none where no type holds the literal
+-- NULL, a whole number with units of 64 signed bits, a text of up to 4,000 bytes; none where no type holds the literal
 abbrev pub literal_value : Literal → Option Value
 literal_value Null = Some value.Null
-literal_value (Integer literal) = integer_value (signed_digits literal)
+literal_value (Integer literal) = number_value (signed_digits literal)
 literal_value (Text bytes) = held_text bytes
 
 -- the values of literals; none where one has none
@@ -36,6 +36,7 @@ takes (ty.Varchar2 n) (Text (b ∷ bytes)) = true
 takes t (Text (b ∷ bytes)) = false
 takes ty.TtInteger (Integer literal) = true
 takes ty.TtBigint (Integer literal) = true
+takes (ty.Number precision scale) (Integer literal) = true
 takes t (Integer literal) = false
 
 -- as many literals as columns, each of a kind that its column takes

@@ -2,11 +2,11 @@
 
 ghost use Rattle.std.specs.Prelude.{◌≡◌, IfOk, vec_items};
 ghost use Rattle.std.specs.Option.{option_map};
-ghost use Rattle.row_types.specs.Literals.{integer_value};
-ghost use Rattle.row_types.specs.declared.value.Value.TheVariants.{Integer as IntegerOf};
+ghost use Rattle.numbers.specs.NumberTexts.{number_read};
 ghost use Rattle.group_defs.specs.LiteralValues.{literal_value, signed_digits, takes, takes_all, values_of};
 
-use row_types::{Column, Ty, Value, held_text, parse_integer};
+use numbers::Number;
+use row_types::{Column, Ty, Value, held_text};
 use sql_subset::stmt::{IntegerLiteral, Literal};
 use std::alloc::{AllocError, Global};
 
@@ -33,28 +33,28 @@ fn literal_value(alloc: Global, literal: &Literal) -> Result<Option<Value>, Allo
         Literal::Null => Ok(Some(Value::Null)),
         Literal::Integer(integer) => {
             let number = number_of(alloc, integer)?;
-            Ok(number.map(Value::Integer))
+            Ok(number.map(Value::Number))
         }
         Literal::Text(text) => held_text(alloc, text.as_bytes()),
     }
 }
 
 /// The number of an integer literal; none past 64 signed bits.
-fn number_of(alloc: Global, literal: &IntegerLiteral) -> Result<Option<i64>, AllocError>
-    ensures { IfOk result (λ number. option_map IntegerOf number ≡ integer_value (signed_digits literal.now)) }
+fn number_of(alloc: Global, literal: &IntegerLiteral) -> Result<Option<Number>, AllocError>
+    ensures { IfOk result (λ number. number ≡ number_read (signed_digits literal.now)) }
 {
     let digits = literal.digits.as_bytes();
     if !literal.negative {
-        return Ok(parse_integer(digits));
+        return Ok(Number::from_text(digits));
     }
     let mut signed = Vec::with_capacity(alloc, 1)?;
     signed.push(b'-')?;
     signed.extend_from_slice(digits)?;
-    Ok(parse_integer(signed.as_slice()))
+    Ok(Number::from_text(signed.as_slice()))
 }
 
 /// Whether there are as many literals as columns, each of a kind that its column takes: NULL and '' have no type and are
-/// taken by each, a number by TT_INTEGER and TT_BIGINT, another text by VARCHAR2. Ranges are not looked at.
+/// taken by each, a number by TT_INTEGER, TT_BIGINT and NUMBER, another text by VARCHAR2. Ranges are not looked at.
 pub fn takes_all(columns: &[Column], literals: &[Literal]) -> bool
     ensures { result ≡ takes_all columns.now literals.now }
 {
@@ -76,12 +76,14 @@ fn takes(ty: Ty, literal: &Literal) -> bool
         Literal::Integer(_) => match ty {
             Ty::TtInteger => true,
             Ty::TtBigint => true,
+            Ty::Number(_, _) => true,
             Ty::Varchar2(_) => false,
             Ty::Timestamp => false,
         },
         Literal::Text(text) => match ty {
             Ty::TtInteger => text.as_bytes().is_empty(),
             Ty::TtBigint => text.as_bytes().is_empty(),
+            Ty::Number(_, _) => text.as_bytes().is_empty(),
             Ty::Varchar2(_) => true,
             Ty::Timestamp => text.as_bytes().is_empty(),
         },

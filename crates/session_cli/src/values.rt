@@ -1,14 +1,16 @@
 //! The bytes of values and numbers, written without taking memory.
 
-ghost use Rattle.std.specs.Prelude.{◌≡◌, ℕ};
+ghost use Rattle.std.specs.Prelude.{◌≡◌, ◌≤◌, ℕ};
 ghost use Rattle.std.specs.List.{flat_map};
 ghost use Rattle.std.specs.Fmt.{decimal};
+ghost use Rattle.numbers.specs.NumberTexts.{last_digits, printed_fraction, printed_magnitude, printed_number};
 ghost use Rattle.outside.specs.Faults.{HasCause};
 ghost use Rattle.row_types.specs.Printing.{doubled_quote, printed, printed_behind, printed_key, quoted};
 ghost use Rattle.session_cli.specs.Output.{Passes};
 
 use crate::output::Output;
 use itoa::Buffer;
+use numbers::Number;
 use outside::{Failed, Sink};
 use row_types::{Key, Value};
 
@@ -63,13 +65,69 @@ fn write_value<K: Sink>(output: &mut Output, sink: &mut K, value: &Value) -> Res
 {
     match value {
         Value::Null => output.put(sink, b"NULL"),
-        Value::Integer(number) => {
-            let mut digits = Buffer::new();
-            output.put(sink, digits.format(*number).as_bytes())
-        }
+        Value::Number(number) => write_decimal(output, sink, *number),
         Value::Text(text) => write_quoted(output, sink, text.as_bytes()),
         Value::Time(time) => output.put(sink, &time.to_text()),
     }
+}
+
+// The number with exactly its scale's digits behind the point, and no point at scale 0.
+fn write_decimal<K: Sink>(output: &mut Output, sink: &mut K, number: Number) -> Result<(), Failed>
+    ensures bytes { Passes result (K.written sink.old) (K.written sink.new) output.old output.new (printed_number number) }
+    ensures cause { HasCause (K.faults sink.old) (K.faults sink.new) result }
+{
+    let units = number.units();
+    if units < 0 {
+        output.put(sink, b"-")?;
+        return write_magnitude(output, sink, number.scale(), units.unsigned_abs());
+    }
+    write_magnitude(output, sink, number.scale(), units.unsigned_abs())
+}
+
+fn write_magnitude<K: Sink>(
+    output: &mut Output,
+    sink: &mut K,
+    scale: u8,
+    units: u64,
+) -> Result<(), Failed>
+    requires { scale ≤ 18 }
+    ensures bytes { Passes result (K.written sink.old) (K.written sink.new) output.old output.new (printed_magnitude scale units) }
+    ensures cause { HasCause (K.faults sink.old) (K.faults sink.new) result }
+{
+    write_number(output, sink, units / 10_u64.pow(u32::from(scale)))?;
+    write_fraction(output, sink, scale, units)
+}
+
+fn write_fraction<K: Sink>(
+    output: &mut Output,
+    sink: &mut K,
+    scale: u8,
+    units: u64,
+) -> Result<(), Failed>
+    ensures bytes { Passes result (K.written sink.old) (K.written sink.new) output.old output.new (printed_fraction scale units) }
+    ensures cause { HasCause (K.faults sink.old) (K.faults sink.new) result }
+{
+    if scale == 0 {
+        return output.put(sink, b"");
+    }
+    output.put(sink, b".")?;
+    write_last_digits(output, sink, scale, units)
+}
+
+fn write_last_digits<K: Sink>(
+    output: &mut Output,
+    sink: &mut K,
+    count: u8,
+    number: u64,
+) -> Result<(), Failed>
+    ensures bytes { Passes result (K.written sink.old) (K.written sink.new) output.old output.new (last_digits count number) }
+    ensures cause { HasCause (K.faults sink.old) (K.faults sink.new) result }
+{
+    if count == 0 {
+        return output.put(sink, b"");
+    }
+    write_last_digits(output, sink, count - 1, number / 10)?;
+    output.put(sink, &[b'0' + (number % 10) as u8])
 }
 
 fn write_quoted<K: Sink>(output: &mut Output, sink: &mut K, text: &[u8]) -> Result<(), Failed>
