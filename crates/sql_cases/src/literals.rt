@@ -2,13 +2,13 @@
 
 use expressions::Arithmetic;
 use row_types::{Text, Value};
-use sql_query::{Expression, IntegerLiteral, Literal};
+use sql_query::{Expression, Literal, NumberLiteral};
 use std::alloc::{AllocError, Global};
 use std::test::Fail;
 
 fn integer(alloc: Global, negative: bool, digits: &[u8]) -> Result<Literal, AllocError> {
     let digits = Text::new(alloc, digits)?;
-    Ok(Literal::Integer(IntegerLiteral { negative, digits }))
+    Ok(Literal::Number(NumberLiteral { negative, digits }))
 }
 
 // The number; none for NULL, and for a literal that no type holds.
