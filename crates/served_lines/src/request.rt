@@ -3,9 +3,8 @@
 use crate::stmt::Stmt;
 use row_types::TableDeclaration;
 use sql_query::Write;
-use tier_base::{Label, Seq};
-
 pub use sql_subset::request::{OpenOptions, ParseError};
+use tier_base::{Label, Seq};
 
 /// What a session asks.
 #[derive(Drop)]

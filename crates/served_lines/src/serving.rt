@@ -54,7 +54,11 @@ fn select_of(alloc: Global, query: &Query) -> Result<Option<Stmt>, AllocError>
     ensures { IfOk result (λ s. s ≡ select_of query.now) }
 {
     if !is_everything(&query.selected)
-        || !is_bare(&query.filter, query.groups.as_slice(), query.order.as_slice())
+        || !is_bare(
+            &query.filter,
+            query.groups.as_slice(),
+            query.order.as_slice(),
+        )
     {
         return Ok(None);
     }

@@ -1,9 +1,8 @@
 //! The statements that the tier does.
 
 use row_types::{TableDeclaration, Text};
-use tier_base::{Name, Seq};
-
 pub use sql_subset::stmt::{Autorefresh, RefreshMode, RefreshState};
+use tier_base::{Name, Seq};
 
 /// An integer as it is written. Blanks between its sign and its digits don't count.
 #[derive(Drop)]

@@ -1,4 +1,4 @@
-//! Tokens, heads of lines, printed statements, literals and trees, worked out by hand. This crate has only tests.
+//! Tokens, heads of lines, printed statements, and literals, worked out by hand. This crate has only tests.
 #![tactic(auto)]
 
 #[cfg(test)]
@@ -11,5 +11,3 @@ mod literals;
 mod printing;
 #[cfg(test)]
 mod tokens;
-#[cfg(test)]
-mod trees;

@@ -4,11 +4,16 @@ ghost use Rattle.sql_grammar.specs.Machine.{view};
 ghost use Rattle.sql_grammar.specs.Sql as sql;
 
 use crate::groups::{AGING_RULE, CREATE_RULE, GROUP_RULE};
-use crate::loading::{CHOSEN_RULE};
-use crate::queries::{AFTER_RULE, AGGS_REST_RULE, COND_RULE, EXPRS_REST_RULE, EXPR_RULE, IDENTS_RULE, LITERAL_RULE, MIXED_REST_RULE, NAMED_RULE, PRED_RULE, SELECT_RULE};
+use crate::loading::CHOSEN_RULE;
+use crate::queries::{
+    AFTER_RULE, AGGS_REST_RULE, COND_RULE, EXPR_RULE, EXPRS_REST_RULE, IDENTS_RULE, LITERAL_RULE,
+    MIXED_REST_RULE, NAMED_RULE, PRED_RULE, SELECT_RULE,
+};
 use crate::rule::Rule;
 use crate::start::Start;
-use crate::statements::{ALONE_START, CALLED_RULE, CLOCK_START, CONSOLE_START, SESSION_START, STATEMENT_RULE};
+use crate::statements::{
+    ALONE_START, CALLED_RULE, CLOCK_START, CONSOLE_START, SESSION_START, STATEMENT_RULE,
+};
 use crate::syntax::Syntax;
 use crate::tables::{CACHED_COLUMNS_RULE, CACHED_TABLE_RULE, COLUMNS_RULE};
 use crate::writes::{DELETE_RULE, INSERT_RULE, UPDATE_RULE, WRITES_RULE};

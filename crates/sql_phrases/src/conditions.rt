@@ -64,10 +64,7 @@ fn read_within(
 
 // Reads what stands behind an expression.
 #[tactic(auto, unfolding(crate::specs::Conditions::tested))]
-fn read_tested(
-    expression: Expression,
-    r: Reader<'_>,
-) -> Result<(Condition, Reader<'_>), AllocError>
+fn read_tested(expression: Expression, r: Reader<'_>) -> Result<(Condition, Reader<'_>), AllocError>
     ensures { IfOk result (λ x. tested (expression, r.entry) ≡ (x.0, x.1)) }
 {
     if Test::Compare.lets_pass(r.first_kind()) {

@@ -9,9 +9,7 @@ use crate::expression::read_expression;
 use crate::reader::Reader;
 use crate::reading::{read_column_name, read_column_names, read_identifier, read_name};
 use sql_grammar::test::Test;
-use sql_query::{
-    Aggregate, Expression, FromTable, OrderItem, Query, SelectItem, SelectList,
-};
+use sql_query::{Aggregate, Expression, FromTable, OrderItem, Query, SelectItem, SelectList};
 use sql_tokens::kind::Kind;
 use sql_tokens::token::is_kind;
 use std::alloc::{AllocError, Global};

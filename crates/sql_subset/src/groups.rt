@@ -295,10 +295,7 @@ fn read_filtered(
 }
 
 #[tactic(auto, unfolding(crate::specs::Groups::claused))]
-fn read_group_table(
-    kind: GroupKind,
-    r: Reader<'_>,
-) -> Result<(GroupTable, Reader<'_>), AllocError>
+fn read_group_table(kind: GroupKind, r: Reader<'_>) -> Result<(GroupTable, Reader<'_>), AllocError>
     ensures { IfOk result (λ x. group_table_of kind r.entry ≡ (x.0, x.1)) }
 {
     let (cached, rest) = read_table(r)?;

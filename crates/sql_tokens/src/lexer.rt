@@ -226,7 +226,13 @@ fn end(tokens: &mut Vec<Token>, line: &[u8], state: State) -> Result<(), AllocEr
             write(tokens, line, Kind::Dot, point, end)
         }
         State::InFraction(start, fraction) => {
-            write(tokens, line, fraction_kind(&line[fraction..end]), start, end)
+            write(
+                tokens,
+                line,
+                fraction_kind(&line[fraction..end]),
+                start,
+                end,
+            )
         }
         State::InText(start) => write(tokens, line, Kind::Bad, start, end),
         State::Quoted(start) => write(tokens, line, Kind::Text, start, end),
