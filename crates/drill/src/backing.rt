@@ -3,9 +3,9 @@
 use crate::error::DrillError;
 use evaluator::Change;
 use resolution::resolve_writes;
-use sql_subset::line::parse_line;
 use served_lines::request::{ConsoleRequest, Line};
 use served_lines::served;
+use sql_subset::line::parse_line;
 use std::alloc::{AllocError, Global};
 use table_defs::{BackingSchema, TableDef};
 use tier_base::Seq;

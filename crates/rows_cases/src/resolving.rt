@@ -5,8 +5,8 @@ use expressions::Comparator;
 use resolution::{resolve_query, resolve_write};
 use row_types::{Column, Refused, Text, Ty};
 use sql_query::{
-    Assignment, Condition, Expression, FromTable, Insert, Literal, NumberLiteral, OrderItem,
-    Query, SelectList, Update, Write,
+    Assignment, Condition, Expression, FromTable, Insert, Literal, NumberLiteral, OrderItem, Query,
+    SelectList, Update, Write,
 };
 use std::alloc::{AllocError, Global};
 use std::test::Fail;

@@ -19,12 +19,12 @@ use abstract_tier::{Reply, wrong_at};
 use group_defs::past;
 use outside::Site;
 use row_types::TableDeclaration;
-use sql_subset::line::parse_line;
-use sql_subset::request::Line as Spelt;
 use served_lines::request::{ConsoleRequest, Line, ParseError, Request};
 use served_lines::served;
 use served_lines::stmt::Stmt;
 use sql_query::Write;
+use sql_subset::line::parse_line;
+use sql_subset::request::Line as Spelt;
 use std::alloc::Global;
 use tier_base::{Code, Label, Limit, Seq};
 
