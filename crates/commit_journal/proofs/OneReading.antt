@@ -44,7 +44,7 @@ one_body version {s} {place} {bytes} {entries} {others} {ending} {another} (goes
       ending_same = rest-same.ending_same;
     }
 
-one_batch : (rest body more body' more' : List ℕ) → IsBatch rest body more → IsBatch rest body' more' → (body ≡ body') × (more ≡ more')
+pub one_batch : (rest body more body' more' : List ℕ) → IsBatch rest body more → IsBatch rest body' more' → (body ≡ body') × (more ≡ more')
 one_batch rest body more body' more' a b =
     let small : length body ≤ 2 ^ 24 = a.size in
     let small' : length body' ≤ 2 ^ 24 = b.size in
@@ -64,17 +64,17 @@ abbrev tail_cells : List ℕ → List ℕ
 tail_cells [] = []
 tail_cells (x ∷ xs) = xs
 
-not_open : {P : Type 0} (bytes : List ℕ) (gate : ℕ) (junk rest : List ℕ) → bytes ≡ gate ∷ junk → gate ≢ 1 → bytes ≡ 1 ∷ rest → P
+pub not_open : {P : Type 0} (bytes : List ℕ) (gate : ℕ) (junk rest : List ℕ) → bytes ≡ gate ∷ junk → gate ≢ 1 → bytes ≡ 1 ∷ rest → P
 not_open bytes gate junk rest a shut b = absurd (shut (ap head_cell (sym a ∙ b)))
 
-same_rest : (bytes rest rest' : List ℕ) → bytes ≡ 1 ∷ rest → bytes ≡ 1 ∷ rest' → rest' ≡ rest
+pub same_rest : (bytes rest rest' : List ℕ) → bytes ≡ 1 ∷ rest → bytes ≡ 1 ∷ rest' → rest' ≡ rest
 same_rest bytes rest rest' a b = ap tail_cells (sym b ∙ a)
 
 pub record SameRead (entries others : List Placed) (outcome another : Outcome) : Type 0 where
   pub entries_same : entries ≡ others
   pub outcome_same : outcome ≡ another
 
-no_cut : {P : Type 0} (bytes rest rest' body more : List ℕ) → bytes ≡ 1 ∷ rest → ((body more : List ℕ) → IsBatch rest body more → ⊥) → bytes ≡ 1 ∷ rest' → IsBatch rest' body more → P
+pub no_cut : {P : Type 0} (bytes rest rest' body more : List ℕ) → bytes ≡ 1 ∷ rest → ((body more : List ℕ) → IsBatch rest body more → ⊥) → bytes ≡ 1 ∷ rest' → IsBatch rest' body more → P
 no_cut bytes rest rest' body more a none b is = absurd (none body more (subst (λ (l : List ℕ). IsBatch l body more) (same_rest bytes rest rest' a b) is))
 
 abbrev stop_of : Ending → ℕ
