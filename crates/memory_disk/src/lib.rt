@@ -3,8 +3,11 @@
 
 pub mod call;
 mod disk;
+mod images;
 pub mod memory_disk;
+pub mod pick;
 mod slots;
 
 pub use call::DiskCall;
 pub use memory_disk::MemoryDisk;
+pub use pick::Pick;
