@@ -1,12 +1,12 @@
 -- What a pick leaves is possible.
-use Rattle.std.proofs.Common.{◌≡◌, ◌⊎◌, inl, inr, ℕ, zero, suc, ◌+◌, ◌-◌, ◌/◌, ◌%◌, ◌≤◌, ◌<◌, List, [], ◌∷◌, ◌++◌, length, get_or, take, drop, min, max, replicate, Bool, true, false, cond, refl, sym, ap, subst, ◌∙◌, append_assoc, arith, Option, Some}
+use Rattle.std.proofs.Common.{◌≡◌, inl, inr, ℕ, zero, suc, ◌+◌, ◌-◌, ◌/◌, ◌%◌, ◌≤◌, ◌<◌, List, [], ◌∷◌, ◌++◌, length, get_or, take, drop, min, replicate, Bool, true, false, cond, refl, sym, ap, subst, ◌∙◌, append_assoc, arith}
 use Rattle.std.specs.Prelude.{nat_le}
 use Rattle.std.proofs.lemmas.Bool.{leb-true}
 use Rattle.std.proofs.lemmas.List.{append-nil, length-take, length-replicate, drop_more, take_min}
 use Rattle.outside.specs.declared.disk.Slot.{Slot}
 use Rattle.outside.specs.declared.disk.Slot.TheVariants.{First, Second}
 use Rattle.outside.specs.Calls.{Certain, Cut as IsCut, Torn, patched}
-use Rattle.outside.specs.Holding.{Held, Slots}
+use Rattle.outside.specs.Holding.{Held}
 use Rattle.outside.proofs.Moments.{same_held, slots_from}
 use Rattle.memory_disk.specs.declared.call.DiskCall.{DiskCall}
 use Rattle.memory_disk.specs.declared.call.DiskCall.TheVariants.{Write, Cut, Sync}
@@ -15,8 +15,8 @@ use Rattle.memory_disk.specs.declared.pick.Pick.TheVariants.{Old, New, Ones, Dra
 use Rattle.memory_disk.specs.declared.memory_disk.MemoryDisk.{MemoryDisk}
 use Rattle.memory_disk.specs.DiskLaws.{take_all}
 use Rattle.memory_disk.specs.Images.{Image, after_call, after_calls, certain_image, written, shortened}
-use Rattle.memory_disk.specs.Picking.{Chosen, certain_chosen, choose_call, choose_calls, cut_chosen, drawn, laid, left_at, left_by, left_cut, next_draw, write_chosen}
-use Rattle.memory_disk.specs.Possible.{IsPossible, held_of, moment_of, possible_of, told_of}
+use Rattle.memory_disk.specs.Picking.{Chosen, certain_chosen, choose_call, choose_calls, cut_chosen, drawn, left_at, next_draw, write_chosen}
+use Rattle.memory_disk.specs.Possible.{held_of, moment_of, possible_of, told_of}
 use Rattle.memory_disk.proofs.SlotLaws.{torn_within}
 
 pub drawn_length : (x n : ℕ) → length (drawn x n) ≡ n

@@ -1,5 +1,4 @@
-use Rattle.std.proofs.Common.{◌≡◌, ◌+◌, ◌≤◌, ◌∙◌, ap, arith, length, refl}
-use Rattle.std.proofs.lemmas.List.{length-append}
+use Rattle.std.proofs.Common.{arith, refl}
 use Rattle.memory_disk.specs.Picking.{drawn}
 use Rattle.memory_disk.proofs.PickLaws.{draw_step}
 use Rattle.memory_disk.proofs.images.drawn.Goals as goal

@@ -1,5 +1,4 @@
-use Rattle.std.proofs.Common.{ap, ◌∙◌}
-use Rattle.memory_disk.specs.Picking.{certain_chosen, choose_calls}
+use Rattle.memory_disk.specs.Picking.{certain_chosen}
 use Rattle.memory_disk.proofs.PickLaws.{choose_step}
 use Rattle.memory_disk.proofs.images.left_of.Goals as goal
 
