@@ -30,15 +30,15 @@ pub record BeginsWith (bytes : List ℕ) (bodies : List (List ℕ)) : Type 0 whe
 
 -- Of the slots as they were, and as they are now: a live slot's entries and bodies, at rest; no live slot, with nothing
 -- written; or the first place that doesn't read.
-abbrev pub Shows : Held → Held → Looked → Type 0
-Shows o now (Live journal bodies) =
+abbrev pub SlotsShow : Held → Held → Looked → Type 0
+SlotsShow o now (Live journal bodies) =
     (placed : List Placed) × Reads o.slots placed None × AtRest journal now.slots (entries_of placed) [] × HasBodies (slot_of journal.slot now.slots) bodies.items
-Shows o now Blank = (now ≡ o) × IsBlank now.slots
-Shows o now (Damaged slot place) = (placed : List Placed) × Reads o.slots placed (Some (slot, place))
+SlotsShow o now Blank = (now ≡ o) × IsBlank now.slots
+SlotsShow o now (Damaged slot place) = (placed : List Placed) × Reads o.slots placed (Some (slot, place))
 
 -- what was found, over a certain disk
-pub record Looks {D : Type 0} (held : D → Option Held) (moment : D → ℕ) (possible : D → ℕ → Held → Type 0) (d : D) (o : Held) (r : Looked) : Type 0 where
+pub record LooksAt {D : Type 0} (held : D → Option Held) (moment : D → ℕ) (possible : D → ℕ → Held → Type 0) (d : D) (o : Held) (r : Looked) : Type 0 where
   pub now : Held
   pub certain : Certain held moment possible d now
   pub beside : now.history ≡ o.history
-  pub shows : Shows o now r
+  pub shows : SlotsShow o now r

@@ -5,7 +5,7 @@ ghost use Rattle.outside.specs.Calls.{Certain, Leaves, Rests};
 ghost use Rattle.outside.specs.Holding.{Held, slot_of};
 ghost use Rattle.commit_journal.specs.Causes.{OpenHasCause};
 ghost use Rattle.commit_journal.specs.Layout.{Reads, entries_of};
-ghost use Rattle.commit_journal.specs.Looking.{BeginsWith, Looks, Shows};
+ghost use Rattle.commit_journal.specs.Looking.{BeginsWith, LooksAt, SlotsShow};
 ghost use Rattle.commit_journal.specs.Opening.{HaveBytes, Keeps};
 ghost use Rattle.commit_journal.specs.Resting.{AtRest};
 
@@ -47,7 +47,7 @@ fn read_bodies<D: Disk>(alloc: Global, d: &mut D, slot: Slot) -> Result<Vec<Byte
 /// Reads the bodies of the journal that was opened.
 fn with_bodies<D: Disk>(alloc: Global, d: &mut D, opened: Opened) -> Result<Looked, OpenError>
     ensures shows { IfOk result (λ r. (o now : Held) → Certain D.held D.moment D.possible d.old now → Reads o.slots opened.entries.items opened.damaged →
-        (opened.damaged ≡ None → AtRest opened.journal now.slots (entries_of opened.entries.items) []) → Shows o now r) }
+        (opened.damaged ≡ None → AtRest opened.journal now.slots (entries_of opened.entries.items) []) → SlotsShow o now r) }
     ensures rests { Rests D.held D.moment D.possible d.old d.new }
     ensures shares { D.shared d.new ≡ D.shared d.old }
     ensures cause { OpenHasCause (D.disk_faults d.old) (D.disk_faults d.new) result }
@@ -72,7 +72,7 @@ fn with_bodies<D: Disk>(alloc: Global, d: &mut D, opened: Opened) -> Result<Look
 /// `Disk` where a disk call failed, `Memory` for want of memory. After either the disk says what it said.
 pub fn look<D: Disk>(alloc: Global, d: &mut D) -> Result<Looked, OpenError>
     ensures crash { (o : Held) → Certain D.held D.moment D.possible d.old o → HaveBytes o.slots → Leaves D.moment D.possible d.old d.new (Keeps o) }
-    ensures looked { IfOk result (λ r. (o : Held) → D.held d.old ≡ Some o → HaveBytes o.slots → Looks D.held D.moment D.possible d.new o r) }
+    ensures looked { IfOk result (λ r. (o : Held) → D.held d.old ≡ Some o → HaveBytes o.slots → LooksAt D.held D.moment D.possible d.new o r) }
     ensures shares { D.shared d.new ≡ D.shared d.old }
     ensures cause { OpenHasCause (D.disk_faults d.old) (D.disk_faults d.new) result }
 {

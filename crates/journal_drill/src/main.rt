@@ -1,18 +1,20 @@
 //! `journal_drill`: the journal over a disk in memory, as it is written, stopped and damaged. It is for tests.
 //!
 //! It takes no input. It writes what stands in the slots after calls of the journal; for each call what an opening finds
-//! after a stop at each moment, with each of four picks; and what it finds in slots that are damaged. Its status is 0, or
-//! 99 where memory is wanting or a call fails.
+//! after a stop at each moment, and after a fault of each call of the disk, with each of four picks; and what it finds in
+//! slots that are damaged. Its status is 0, or 99 where memory is wanting or a call fails that shouldn't.
 #![tactic(auto)]
 
 mod damage;
 mod error;
+mod faults;
 mod stops;
 mod tasks;
 mod telling;
 
 use damage::{tell_damage, tell_pairs};
 use error::DrillError;
+use faults::tell_faults;
 use std::alloc::Global;
 use std::io::Write;
 use std::process::ExitCode;
@@ -66,5 +68,6 @@ fn tell_task(alloc: Global, task: Task, out: &mut Vec<u8>) -> Result<(), DrillEr
     let mut disk = stage(alloc, task)?;
     tasks::run(alloc, task, &mut disk)?;
     tell_slots(&mut disk, out)?;
-    tell_stops(alloc, &disk, out)
+    tell_stops(alloc, &disk, out)?;
+    tell_faults(alloc, task, out)
 }

@@ -20,7 +20,8 @@ pub fn tell_stops(alloc: Global, disk: &MemoryDisk, out: &mut Vec<u8>) -> Result
     Ok(())
 }
 
-fn tell_picks(
+/// What an opening finds after a stop at this moment, with each pick.
+pub fn tell_picks(
     alloc: Global,
     disk: &MemoryDisk,
     moment: u64,

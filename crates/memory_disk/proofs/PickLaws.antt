@@ -35,15 +35,15 @@ cut_any n old =
     let all : take (length (take n old)) old ≡ take n old = ap (λ (k : ℕ). take k old) size ∙ take_min n old in
     record { no_shorter = omega arith; front = all }
 
-laid_by : (at n : ℕ) (bytes old : List ℕ) (b : Bool) → nat_le at (length old) ≡ b → length bytes ≡ n → Torn at n old (cond b (patched at bytes old) old)
-laid_by at n bytes old true e size = let le : at ≤ length old = leb-true at (length old) e in subst (λ (k : ℕ). Torn at k old (patched at bytes old)) size (torn_within at bytes old le)
-laid_by at n bytes old false e size = torn_same at n old
+patched_within_torn : (at n : ℕ) (bytes old : List ℕ) (b : Bool) → nat_le at (length old) ≡ b → length bytes ≡ n → Torn at n old (cond b (patched at bytes old) old)
+patched_within_torn at n bytes old true e size = let le : at ≤ length old = leb-true at (length old) e in subst (λ (k : ℕ). Torn at k old (patched at bytes old)) size (torn_within at bytes old le)
+patched_within_torn at n bytes old false e size = torn_same at n old
 
 write_can : (pick : Pick) (at : ℕ) (bytes : List ℕ) (i : Image) (c : Chosen) → c.seen ≡ i.seen → i.can c.left → (written at bytes i).can (write_chosen pick at bytes c).left
 write_can Old at bytes i c same can = inr (c.left, can, torn_same at (length bytes) c.left)
 write_can New at bytes i c same can = inl (ap (patched at bytes) same)
-write_can Ones at bytes i c same can = inr (c.left, can, laid_by at (length bytes) (replicate (length bytes) 255) c.left (nat_le at (length c.left)) refl (length-replicate (length bytes) 255))
-write_can (Drawn x) at bytes i c same can = inr (c.left, can, laid_by at (length bytes) (drawn x (length bytes)) c.left (nat_le at (length c.left)) refl (drawn_length x (length bytes)))
+write_can Ones at bytes i c same can = inr (c.left, can, patched_within_torn at (length bytes) (replicate (length bytes) 255) c.left (nat_le at (length c.left)) refl (length-replicate (length bytes) 255))
+write_can (Drawn x) at bytes i c same can = inr (c.left, can, patched_within_torn at (length bytes) (drawn x (length bytes)) c.left (nat_le at (length c.left)) refl (drawn_length x (length bytes)))
 
 cut_can : (pick : Pick) (n : ℕ) (i : Image) (c : Chosen) → c.seen ≡ i.seen → i.can c.left → (shortened n i).can (cut_chosen pick n c).left
 cut_can Old n i c same can = inr (c.left, can, cut_same n c.left)

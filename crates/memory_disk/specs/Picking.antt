@@ -29,28 +29,28 @@ pub record Chosen : Type 0 where
   pub seen : List ℕ
 
 -- these bytes at this place, where the slot reaches it
-abbrev pub laid : ℕ → List ℕ → List ℕ → List ℕ
-laid at bytes old = if nat_le at (length old) then patched at bytes old else old
+abbrev pub patched_within : ℕ → List ℕ → List ℕ → List ℕ
+patched_within at bytes old = if nat_le at (length old) then patched at bytes old else old
 
 -- what a write leaves
-abbrev pub left_by : Pick → ℕ → List ℕ → Chosen → List ℕ
-left_by Old at bytes c = c.left
-left_by New at bytes c = patched at bytes c.seen
-left_by Ones at bytes c = laid at (replicate (length bytes) 255) c.left
-left_by (Drawn x) at bytes c = laid at (drawn x (length bytes)) c.left
+abbrev pub written_left : Pick → ℕ → List ℕ → Chosen → List ℕ
+written_left Old at bytes c = c.left
+written_left New at bytes c = patched at bytes c.seen
+written_left Ones at bytes c = patched_within at (replicate (length bytes) 255) c.left
+written_left (Drawn x) at bytes c = patched_within at (drawn x (length bytes)) c.left
 
 -- what a cut leaves
-abbrev pub left_cut : Pick → ℕ → Chosen → List ℕ
-left_cut Old n c = c.left
-left_cut New n c = take n c.seen
-left_cut Ones n c = take n c.left
-left_cut (Drawn x) n c = take n c.left
+abbrev pub cut_left : Pick → ℕ → Chosen → List ℕ
+cut_left Old n c = c.left
+cut_left New n c = take n c.seen
+cut_left Ones n c = take n c.left
+cut_left (Drawn x) n c = take n c.left
 
 abbrev pub write_chosen : Pick → ℕ → List ℕ → Chosen → Chosen
-write_chosen pick at bytes c = record { left = left_by pick at bytes c; seen = patched at bytes c.seen }
+write_chosen pick at bytes c = record { left = written_left pick at bytes c; seen = patched at bytes c.seen }
 
 abbrev pub cut_chosen : Pick → ℕ → Chosen → Chosen
-cut_chosen pick n c = record { left = left_cut pick n c; seen = take n c.seen }
+cut_chosen pick n c = record { left = cut_left pick n c; seen = take n c.seen }
 
 abbrev pub certain_chosen : List ℕ → Chosen
 certain_chosen bytes = record { left = bytes; seen = bytes }

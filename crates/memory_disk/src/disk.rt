@@ -43,6 +43,16 @@ impl MemoryDisk {
         })
     }
 
+    /// Plans that a call fails. Calls are numbered over the disk's life; of two plans for one call the first counts.
+    ///
+    /// It fails for want of memory alone, and then plans nothing.
+    pub fn plan(&mut self, failure: Failure) -> Result<(), AllocError>
+        ensures { IsUntouched self.old self.new }
+    {
+        self.failing.push(failure)?;
+        Ok(())
+    }
+
     /// The calls so far that changed something, in order.
     pub fn calls(&self) -> &[DiskCall]
         ensures { result.now ≡ self.now.calls.items }

@@ -3,7 +3,7 @@
 ghost use Rattle.std.specs.Prelude.{◌≡◌, ◌≤◌, ◌+◌, ◌^◌, length, take, IfOk, OnOk};
 ghost use Rattle.outside.specs.Calls.{Certain};
 ghost use Rattle.outside.specs.declared.disk.Slot.TheVariants.{First, Second};
-ghost use Rattle.memory_disk.specs.Picking.{certain_chosen, choose_call, choose_calls, cut_chosen, drawn, laid, left_at, left_by, left_cut, next_draw, write_chosen};
+ghost use Rattle.memory_disk.specs.Picking.{certain_chosen, choose_call, choose_calls, cut_chosen, drawn, patched_within, left_at, written_left, cut_left, next_draw, write_chosen};
 ghost use Rattle.memory_disk.specs.Possible.{held_of, moment_of, possible_of, told_of};
 
 use crate::call::DiskCall;
@@ -39,7 +39,7 @@ fn drawn(alloc: Global, begun: u64, count: usize) -> Result<Vec<u8>, AllocError>
 
 /// Lays the bytes over the slot, where it reaches the place.
 fn lay(alloc: Global, slot: &mut Vec<u8>, at: u64, bytes: &[u8]) -> Result<(), AllocError>
-    ensures { OnOk result (slot.new.items ≡ laid at bytes.now slot.old.items) }
+    ensures { OnOk result (slot.new.items ≡ patched_within at bytes.now slot.old.items) }
 {
     if slot.len() as u64 >= at {
         overwrite(alloc, slot, at as usize, bytes)?;
@@ -56,7 +56,7 @@ fn leave_write(
     left: &mut Vec<u8>,
     seen: &[u8],
 ) -> Result<(), AllocError>
-    ensures { OnOk result (left.new.items ≡ left_by pick at bytes.now (record { left = left.old.items; seen = seen.now })) }
+    ensures { OnOk result (left.new.items ≡ written_left pick at bytes.now (record { left = left.old.items; seen = seen.now })) }
 {
     match pick {
         Pick::Old => Ok(()),
@@ -83,7 +83,7 @@ fn leave_cut(
     left: &mut Vec<u8>,
     seen: &[u8],
 ) -> Result<(), AllocError>
-    ensures { OnOk result (left.new.items ≡ left_cut pick len (record { left = left.old.items; seen = seen.now })) }
+    ensures { OnOk result (left.new.items ≡ cut_left pick len (record { left = left.old.items; seen = seen.now })) }
 {
     match pick {
         Pick::Old => Ok(()),
