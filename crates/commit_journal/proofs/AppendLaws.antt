@@ -1,14 +1,14 @@
 -- A body that is put behind the entries as one batch.
-use Rattle.std.proofs.Common.{◌≡◌, ℕ, ◌+◌, ◌≤◌, ◌^◌, List, [], ◌∷◌, ◌++◌, length, drop, refl, sym, ap, subst, ◌∙◌, arith, inl, Option}
+use Rattle.std.proofs.Common.{◌≡◌, ℕ, ◌+◌, ◌≤◌, ◌^◌, List, [], ◌++◌, length, drop, refl, ap, subst, ◌∙◌, inl, Option}
 use Rattle.std.specs.List.{flat_map}
 use Rattle.std.proofs.lemmas.List.{drop-append-le}
 use Rattle.outside.specs.Calls.{Certain, Leaves}
-use Rattle.outside.specs.Holding.{Held, Slots, slot_of, other}
+use Rattle.outside.specs.Holding.{Held, Slots}
 use Rattle.outside.proofs.Moments.{at_once}
 use Rattle.journal_entries.specs.declared.entry.Entry.{Entry}
 use Rattle.journal_entries.specs.declared.standing.Standing.{Standing}
 use Rattle.journal_entries.specs.declared.standing.Ending.{Ending}
-use Rattle.journal_entries.specs.declared.standing.Ending.TheVariants.{Whole, Stops}
+use Rattle.journal_entries.specs.declared.standing.Ending.TheVariants.{Whole}
 use Rattle.journal_entries.specs.Spelling.{entry_bytes}
 use Rattle.journal_entries.specs.Bodies.{Body, ends, stops, goes}
 use Rattle.commit_journal.specs.declared.journal.Journal.{Journal}

@@ -1,8 +1,8 @@
 -- The bodies of a slot's batches.
-use Rattle.std.proofs.Common.{◌≡◌, ◌≢◌, ℕ, ◌+◌, ◌≤◌, ◌<◌, ◌^◌, ◌⊎◌, List, [], ◌∷◌, ◌++◌, length, take, drop, refl, sym, ap, subst, ◌∙◌, append_assoc, arith, inl, inr, Option, Some, None}
+use Rattle.std.proofs.Common.{◌≡◌, ℕ, ◌+◌, ◌≤◌, ◌^◌, ◌⊎◌, List, [], ◌∷◌, ◌++◌, length, drop, refl, sym, ap, subst, ◌∙◌, append_assoc, arith, inl, inr, Option}
 use Rattle.std.specs.Int.{w32, to_be_bytes}
 use Rattle.std.specs.List.{AllByRecursion, flat_map}
-use Rattle.std.proofs.lemmas.List.{length-append, append-nil, drop_at, drop-drop, flat_map_more}
+use Rattle.std.proofs.lemmas.List.{length-append, drop_at, drop-drop, flat_map_more}
 use Rattle.outside.specs.Calls.{Certain, Leaves, Rests}
 use Rattle.outside.specs.Holding.{Held, Slots, slot_of}
 use Rattle.outside.proofs.Moments.{and_then, weaker}
@@ -11,7 +11,7 @@ use Rattle.journal_entries.specs.declared.standing.Standing.{Standing}
 use Rattle.journal_entries.specs.Bodies.{beginning}
 use Rattle.commit_journal.specs.declared.journal.Journal.{Journal}
 use Rattle.commit_journal.specs.declared.scan.Next.TheVariants as next
-use Rattle.commit_journal.specs.Layout.{Placed, head_of, Outcome, Closed, Damaged, IsBatch, Batches, closed, cut, broken, opened}
+use Rattle.commit_journal.specs.Layout.{Placed, head_of, Outcome, Closed, IsBatch, Batches, closed, cut, broken, opened}
 use Rattle.commit_journal.specs.Looking.{BeginsWith, HasBodies}
 use Rattle.commit_journal.specs.Opening.{Keeps}
 use Rattle.commit_journal.specs.Resting.{AtRest}

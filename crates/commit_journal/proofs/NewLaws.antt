@@ -1,18 +1,18 @@
 -- A journal in slot 0 where no slot was live.
-use Rattle.std.proofs.Common.{◌≡◌, ◌≢◌, ℕ, suc, ◌+◌, ◌≤◌, ◌<◌, ◌^◌, ◌⊎◌, List, [], ◌∷◌, ◌++◌, length, get_or, refl, sym, ap, subst, ◌∙◌, arith, inl, inr, Option}
+use Rattle.std.proofs.Common.{◌≡◌, ◌≢◌, ℕ, ◌≤◌, ◌<◌, ◌^◌, List, [], ◌++◌, length, refl, ap, ◌∙◌, arith, inl, inr, Option}
 use Rattle.std.proofs.lemmas.List.{drop_all}
 use Rattle.outside.specs.declared.disk.Slot.{Slot}
-use Rattle.outside.specs.declared.disk.Slot.TheVariants.{First, Second}
+use Rattle.outside.specs.declared.disk.Slot.TheVariants.{First}
 use Rattle.outside.specs.Holding.{Slots, Held, slot_of, other}
 use Rattle.outside.specs.Calls.{Certain, Leaves}
-use Rattle.outside.proofs.Moments.{at_once, weaker}
+use Rattle.outside.proofs.Moments.{at_once}
 use Rattle.journal_entries.specs.declared.entry.Entry.{Entry}
 use Rattle.journal_entries.specs.declared.standing.Standing.{Standing}
 use Rattle.journal_entries.specs.declared.standing.Ending.TheVariants.{Whole}
 use Rattle.journal_entries.specs.Bodies.{Body, beginning, ends}
 use Rattle.commit_journal.specs.declared.head.Head.TheVariants.{Dead}
 use Rattle.commit_journal.specs.declared.journal.Journal.{Journal}
-use Rattle.commit_journal.specs.Layout.{Placed, entries_of, head_of, Reads, new, Gives}
+use Rattle.commit_journal.specs.Layout.{Placed, entries_of, head_of, new, Gives}
 use Rattle.commit_journal.specs.Opening.{IsBlank}
 use Rattle.commit_journal.specs.Resting.{Rested}
 use Rattle.commit_journal.specs.Turning.{CanBegin, HasBegun, MidTurn, MidRotation, batch_of, slot_bytes}

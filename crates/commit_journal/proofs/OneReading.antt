@@ -1,18 +1,16 @@
 -- The slots say one thing.
-use Rattle.std.proofs.Common.{◌≡◌, ◌≢◌, ℕ, zero, suc, ◌+◌, ◌-◌, ◌≤◌, ◌<◌, ◌^◌, List, [], ◌∷◌, ◌++◌, length, take, drop, refl, sym, ap, subst, ◌∙◌, arith, true, Option, Some, None}
-use Rattle.std.specs.Int.{w32, to_be_bytes, from_be_bytes}
+use Rattle.std.proofs.Common.{◌≡◌, ◌≢◌, ℕ, ◌+◌, ◌≤◌, ◌^◌, List, [], ◌∷◌, ◌++◌, length, take, drop, refl, sym, ap, subst, ◌∙◌, arith}
+use Rattle.std.specs.Int.{w32, from_be_bytes}
 use Rattle.std.proofs.lemmas.List.{length-append, take_at, drop_at}
 use Rattle.std.proofs.lemmas.Nat.{from_be_bytes-to_be_bytes_4}
-use Rattle.outside.specs.declared.disk.Slot.{Slot}
-use Rattle.outside.specs.Holding.{Slots, slot_of, other}
 use Rattle.journal_entries.specs.declared.entry.Entry.{Entry}
 use Rattle.journal_entries.specs.declared.standing.Standing.{Standing}
 use Rattle.journal_entries.specs.declared.standing.Ending.{Ending}
 use Rattle.journal_entries.specs.declared.standing.Ending.TheVariants.{Whole, Stops}
-use Rattle.journal_entries.specs.Spelling.{entry_bytes, IsEntry}
-use Rattle.journal_entries.specs.Bodies.{Body, ends, stops, goes, behind, follows, Unreadable, beginning}
+use Rattle.journal_entries.specs.Spelling.{entry_bytes}
+use Rattle.journal_entries.specs.Bodies.{Body, ends, stops, goes, behind}
 use Rattle.journal_entries.proofs.BodyLaws.{one_entry, some_bytes}
-use Rattle.commit_journal.specs.Layout.{Placed, IsBatch, Outcome, Closed, Damaged, Batches, closed, cut, broken, opened, Reads}
+use Rattle.commit_journal.specs.Layout.{Placed, IsBatch, Outcome, Damaged, Batches, closed, cut, broken, opened}
 
 pub record SameBody (entries others : List Placed) (ending another : Ending) : Type 0 where
   pub entries_same : entries ≡ others

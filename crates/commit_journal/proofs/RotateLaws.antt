@@ -1,6 +1,6 @@
 -- Moving on to the other slot: which entries count at each moment.
-use Rattle.std.proofs.Common.{◌≡◌, ◌≢◌, ℕ, zero, suc, ◌+◌, ◌-◌, ◌≤◌, ◌<◌, ◌^◌, ◌⊎◌, Bool, true, false, cond, eqb, ltb, List, [], ◌∷◌, ◌++◌, length, get_or, take, drop, refl, sym, ap, subst, ◌∙◌, append_assoc, arith, inl, inr, Option, Some, None}
-use Rattle.std.specs.Int.{w32, w64, to_be_bytes, from_be_bytes}
+use Rattle.std.proofs.Common.{◌≡◌, ◌≢◌, ℕ, suc, ◌-◌, ◌≤◌, ◌<◌, ◌^◌, Bool, true, false, cond, eqb, ltb, List, [], ◌∷◌, ◌++◌, length, get_or, drop, refl, sym, ap, subst, ◌∙◌, append_assoc, arith, inl, inr, Option}
+use Rattle.std.specs.Int.{w64, to_be_bytes}
 use Rattle.std.proofs.lemmas.Bool.{eqb-true, eqb-false, le-ltb, ne_eqb}
 use Rattle.std.proofs.lemmas.List.{length-append, append-nil, drop_all}
 use Rattle.std.proofs.lemmas.Nat.{from_be_bytes-to_be_bytes_8}
@@ -19,7 +19,7 @@ use Rattle.journal_entries.specs.Bodies.{Body, beginning, ends, AllFollow, behin
 use Rattle.commit_journal.specs.declared.head.Head.{Head}
 use Rattle.commit_journal.specs.declared.head.Head.TheVariants.{Dead, Faulty, Live}
 use Rattle.commit_journal.specs.declared.journal.Journal.{Journal}
-use Rattle.commit_journal.specs.Layout.{Placed, entries_of, generation_of, live_head, head_of, Outcome, Closed, Damaged, Batches, closed, Beats, Reads, counts, Gives}
+use Rattle.commit_journal.specs.Layout.{Placed, entries_of, generation_of, live_head, head_of, Closed, Batches, closed, Beats, counts, Gives}
 use Rattle.commit_journal.specs.Resting.{IsFront, AtRest, Rested}
 use Rattle.commit_journal.specs.Turning.{CanTurn, MidTurn, Turned, batch_of, slot_bytes, MidRotation}
 use Rattle.commit_journal.proofs.FrontLaws.{front_more, front_gives}

@@ -1,12 +1,12 @@
 -- Moving on to the other slot: what each call leaves.
-use Rattle.std.proofs.Common.{Result, Ok, zero, ◌≡◌, ◌≢◌, ℕ, suc, ◌+◌, ◌-◌, ◌≤◌, ◌<◌, ◌⊎◌, Bool, true, false, eqb, List, [], ◌∷◌, ◌++◌, length, get_or, take, drop, min, refl, sym, ap, subst, ◌∙◌, arith, inl, inr, Option, Some, None}
+use Rattle.std.proofs.Common.{Ok, zero, ◌≡◌, ◌≢◌, ℕ, suc, ◌+◌, ◌≤◌, ◌<◌, ◌⊎◌, true, false, eqb, List, [], ◌∷◌, ◌++◌, length, get_or, take, drop, refl, sym, ap, subst, ◌∙◌, arith, inl, inr, Option, Some}
 use Rattle.std.proofs.lemmas.Bool.{eqb-true, eqb-false}
-use Rattle.std.proofs.lemmas.List.{length-append, append-nil, length-take, get_or-take}
+use Rattle.std.proofs.lemmas.List.{append-nil, get_or-take}
 use Rattle.outside.specs.declared.disk.Slot.{Slot}
 use Rattle.outside.specs.declared.disk.Slot.TheVariants.{First, Second}
-use Rattle.outside.specs.Holding.{Slots, Held, slot_of, other, with_slot, with_bytes}
+use Rattle.outside.specs.Holding.{Held, slot_of, other, with_bytes}
 use Rattle.outside.specs.Calls.{Told, GoesOn, Stays, Same, Changes, Torn, Cut, patched, MayWrite, Wrote, MayCut, WasCut, Durable, Certain, Leaves}
-use Rattle.outside.proofs.Moments.{slot_with, other_with, other_stays, told_then, one_call, and_then, weaker, then_stays, cut_leaves, sync_certain}
+use Rattle.outside.proofs.Moments.{slot_with, other_with, other_stays, told_then, one_call, and_then, weaker, cut_leaves, sync_certain}
 use Rattle.commit_journal.specs.Turning.{Filling, Filled, HasBegun, MidTurn, Turned}
 use Rattle.commit_journal.proofs.Pieces.{torn_gate, put_gate}
 use Rattle.commit_journal.proofs.BatchLaws.{PutCrash, PutCertain}

@@ -4,7 +4,7 @@ use Rattle.std.specs.Prelude.{◌≡◌, ◌≢◌, ℕ, ◌-◌, ◌^◌, ◌<�
 use Rattle.std.specs.List.{flat_map}
 use Rattle.std.specs.Int.{w32, w64, to_be_bytes}
 use Rattle.outside.specs.declared.disk.Slot.{Slot}
-use Rattle.outside.specs.Holding.{Slots, Held, slot_of, other}
+use Rattle.outside.specs.Holding.{Held, slot_of, other}
 use Rattle.outside.specs.Calls.{Certain}
 use Rattle.journal_entries.specs.declared.entry.Entry.{Entry}
 use Rattle.journal_entries.specs.Spelling.{entry_bytes}

@@ -1,4 +1,3 @@
-use Rattle.std.proofs.Common.{refl, ◌∙◌}
 use Rattle.outside.proofs.Moments.{and_then}
 use Rattle.commit_journal.specs.Opening.{Keeps}
 use Rattle.commit_journal.proofs.LookLaws.{kept_then}

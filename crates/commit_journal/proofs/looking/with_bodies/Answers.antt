@@ -1,4 +1,4 @@
-use Rattle.std.proofs.Common.{◌≡◌, ℕ, None, Option, subst}
+use Rattle.std.proofs.Common.{ℕ, Option, subst}
 use Rattle.outside.specs.declared.disk.Slot.{Slot}
 use Rattle.commit_journal.specs.Layout.{Reads}
 use Rattle.commit_journal.proofs.LookLaws.{has_bodies, rest_long}

@@ -1,4 +1,4 @@
-use Rattle.std.proofs.Common.{subst, sym, ap, ◌∙◌, arith, rules, [], List, ℕ, length, refl}
+use Rattle.std.proofs.Common.{subst, sym, ◌∙◌, arith, rules, [], List, ℕ, refl}
 use Rattle.outside.specs.declared.disk.Slot.TheVariants.{First}
 use Rattle.outside.proofs.Moments.{weaker}
 use Rattle.journal_entries.specs.declared.standing.Standing.{Standing}

@@ -1,4 +1,4 @@
-use Rattle.std.proofs.Common.{◌≡◌, ◌+◌, ◌≤◌, ◌^◌, ◌∙◌, ◌++◌, ℕ, List, length, ap, arith, refl}
+use Rattle.std.proofs.Common.{◌+◌, ◌≤◌, ◌^◌, ◌∙◌, ◌++◌, ℕ, List, length, ap, arith}
 use Rattle.journal_entries.specs.declared.standing.Ending.TheVariants.{Whole}
 use Rattle.journal_entries.specs.Bodies.{Body}
 use Rattle.commit_journal.specs.Layout.{entries_of}

@@ -1,4 +1,4 @@
-use Rattle.std.proofs.Common.{refl, sym, ap, ◌∙◌, ◌+◌, arith, length}
+use Rattle.std.proofs.Common.{refl, ◌∙◌}
 use Rattle.std.proofs.Common.{rules}
 use Rattle.commit_journal.proofs.TailLaws.{flush_crash, flush_done}
 use Rattle.commit_journal.proofs.journal.Journal.write_tail.Goals as goal
