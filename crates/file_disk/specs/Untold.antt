@@ -1,6 +1,6 @@
 -- A disk that doesn't tell what it holds.
 
-use Rattle.std.specs.Prelude.{◌≡◌, ℕ, zero, Option, Some, None}
+use Rattle.std.specs.Prelude.{◌≡◌, ℕ, Option, Some, None}
 use Rattle.std.proofs.Common.{subst}
 use Rattle.outside.specs.Holding.{Held}
 
