@@ -3,4 +3,4 @@ mod SlotLaws
 mod OrderLaws
 mod ManyLaws
 mod FrontLaws
-mod SlotKeyLaws
+pub mod SlotKeyLaws
