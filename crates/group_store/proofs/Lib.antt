@@ -1,1 +1,3 @@
 mod RecentLaws
+mod TreeLaws
+mod JoinedLaws

@@ -22,7 +22,7 @@ use Rattle.group_store.specs.Recent.{AreRecent, key_in, keys_of}
 abbrev Row : Type 0
 Row = List Value
 
-same_itself : (k : Row) → is_same k k ≡ true
+pub same_itself : (k : Row) → is_same k k ≡ true
 same_itself k = ap is_eq (tied_itself key_total k)
 
 abbrev any : ℕ → List ℕ → Bool

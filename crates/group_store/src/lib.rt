@@ -2,5 +2,6 @@
 #![tactic(auto)]
 
 mod recent;
+mod tree_rows;
 
 pub use recent::RecentRows;

@@ -7,6 +7,7 @@ ghost use Rattle.recency.specs.Rings.{keys_without, next_key, touched};
 ghost use Rattle.indexed_rows.specs.Rows.{is_same, key_of, put_in, put_over};
 ghost use Rattle.key_rows.specs.Places.{IsKeyAt};
 ghost use Rattle.row_types.specs.declared.value.Value.{Value as OneValue};
+ghost use Rattle.slot_rows.specs.SlotKeys.{IsKeyedBy};
 ghost use Rattle.group_store.specs.Recent.{IsRowPlace, TakesRecent, entered_last};
 
 use recency::Recency;
@@ -59,10 +60,18 @@ impl RecentRows {
         }
     }
 
-    /// How many rows there are.
+    /// The columns of the key.
+    pub fn places(&self) -> &[usize]
+        ensures { result.now ≡ self.now.places }
+    {
+        self.rows.places()
+    }
+
+    /// How many rows there are. Each stands under its key.
     pub fn len(&self) -> usize
         ensures value { result ≡ map.len self.now.table }
         ensures fits { result < 2 ^ 63 }
+        ensures keyed { IsKeyedBy self.now.places self.now.table }
     {
         self.rows.len()
     }

@@ -6,11 +6,13 @@ use Rattle.std.proofs.lemmas.Cmp.{nat_cmp_total, tied_itself}
 use Rattle.std.specs.FinMap as fm
 use Rattle.slab.specs.Slab.{Slab, Updates, get}
 use Rattle.row_types.specs.declared.value.Value.{Value}
+use Rattle.row_types.specs.Order.{key_order}
+use Rattle.row_types.proofs.OrderLaws.{key_exact}
 use Rattle.key_rows.specs.Places.{IsGapFor, IsKeyAt}
-use Rattle.key_rows.proofs.MapLaws.{has_key, no_key}
+use Rattle.key_rows.proofs.MapLaws.{entries_of, has_key, no_key}
 use Rattle.indexed_rows.specs.Rows.{Table, key_of}
-use Rattle.slot_rows.specs.Slots.{AreOrdered, row_in, slots_of, table_in}
-use Rattle.slot_rows.specs.SlotKeys.{PutsInSlot, RowsHeld, SlotKeys, slot_entries, slot_keys_in}
+use Rattle.slot_rows.specs.Slots.{AreOrdered, entries_in, row_in, slots_of, table_in}
+use Rattle.slot_rows.specs.SlotKeys.{IsKeyedBy, PutsInSlot, RowsHeld, SlotKeys, slot_entries, slot_keys_in}
 use Rattle.slot_rows.specs.declared.order.Entry.{Entry}
 use Rattle.slot_rows.proofs.SlotLaws.{map_insert, map_remove, others_differ}
 use Rattle.slot_rows.proofs.OrderLaws.{row_at_key, same_len}
@@ -215,3 +217,25 @@ pub back_in : (old less new : RowsHeld) (k : Row) (slot : ℕ) → fm.get old.sl
 back_in old less new k slot e left none None puts = let z : true ≡ false = sym puts.0 ∙ none in cc
 back_in old less new k slot e left none (Some s) puts =
     puts.2 ∙ ap (λ m. fm.insert m s k) left.0 ∙ ap (λ t. fm.insert (fm.remove old.slots slot) t k) (puts.3 ∙ left.1) ∙ slot_again old.slots slot k e
+
+-- each row stands under its key
+pub rows_keyed : (slab : Slab Row) (places : List ℕ) (entries : List Entry) → AreOrdered slab places entries → IsKeyedBy places (table_in slab places entries)
+rows_keyed slab places entries are k row e =
+    by (slots_of entries) (sym (fm.get-entries (table_in slab places entries) k ∙ ap (fm.find key_order k) (entries_of (entries_in slab places (slots_of entries)) (table_in slab places entries) are.slots.sorted refl)) ∙ e)
+  where
+    tied : (a b : Row) → eq_by_cmp key_order a b ≡ true → a ≡ b
+    tied a b e = same (key_order a b) refl e
+      where
+        same : (r : Ordering) → key_order a b ≡ r → is_eq r ≡ true → a ≡ b
+        same Less n e = cc
+        same Equal n e = key_exact a b n
+        same Greater n e = cc
+
+    by : (slots : List ℕ) → fm.find key_order k (entries_in slab places slots) ≡ Some row → key_of places row ≡ k
+    by [] e = cc
+    by (s ∷ slots) e = at (eq_by_cmp key_order k (key_of places (row_in slab s))) refl e (by slots)
+      where
+        at : (b : Bool) → eq_by_cmp key_order k (key_of places (row_in slab s)) ≡ b → cond b (Some (row_in slab s)) (fm.find key_order k (entries_in slab places slots)) ≡ Some row
+            → (fm.find key_order k (entries_in slab places slots) ≡ Some row → key_of places row ≡ k) → key_of places row ≡ k
+        at true r e rest = let z : row_in slab s ≡ row = cc in ap (key_of places) (sym z) ∙ sym (tied k (key_of places (row_in slab s)) r)
+        at false r e rest = rest e

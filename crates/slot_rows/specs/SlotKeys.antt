@@ -61,3 +61,7 @@ abbrev pub LeavesSlot : RowsHeld → RowsHeld → List Value → Type 0
 LeavesSlot old new key =
     (fm.contains_key old.table key ≡ false → new.slots ≡ old.slots) ×
     ((slot : ℕ) → fm.get old.slots slot ≡ Some key → (new.slots ≡ fm.remove old.slots slot) × (new.vacant ≡ slot))
+
+-- each row stands under its values at these columns
+abbrev pub IsKeyedBy : List ℕ → Table → Type 0
+IsKeyedBy places table = (key row : List Value) → fm.get table key ≡ Some row → key_of places row ≡ key

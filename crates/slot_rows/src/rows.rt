@@ -6,7 +6,7 @@ ghost use Rattle.key_rows.specs.Places.{IsKeyAt};
 ghost use Rattle.indexed_rows.specs.Rows.{key_of, put_in, put_over};
 ghost use Rattle.row_types.specs.declared.value.Value.{Value as OneValue};
 ghost use Rattle.slot_rows.specs.Orders.{IsRowWith, IsWider, TakesRow, first_columns};
-ghost use Rattle.slot_rows.specs.SlotKeys.{IsPlaceOf, IsSlotOf, LeavesSlot, PutsInSlot};
+ghost use Rattle.slot_rows.specs.SlotKeys.{IsKeyedBy, IsPlaceOf, IsSlotOf, LeavesSlot, PutsInSlot};
 
 use crate::lead::lead_of_row;
 use crate::order::Order;
@@ -71,10 +71,18 @@ impl SlotRows {
         }
     }
 
-    /// How many rows there are.
+    /// The columns of the key.
+    pub fn places(&self) -> &[usize]
+        ensures { result.now ≡ self.now.places }
+    {
+        self.by_key.places.as_slice()
+    }
+
+    /// How many rows there are. Each stands under its key.
     pub fn len(&self) -> usize
         ensures value { result ≡ map.len self.now.table }
         ensures fits { result < 2 ^ 63 }
+        ensures keyed { IsKeyedBy self.now.places self.now.table }
     {
         self.by_key.entries.len()
     }

@@ -1,0 +1,212 @@
+-- The stored tables of a tree.
+use Rattle.std.proofs.Common.{◌≡◌, ℕ, zero, suc, ◌+◌, ◌-◌, ◌<◌, ◌≤◌, Bool, true, false, cond, List, [], ◌∷◌, ◌++◌, length, map, get_or, set, slice_get, take, Option, Some, None, unwrap_or, is_some, refl, sym, ap, subst, ◌∙◌, ◌⊎◌, inl, inr, arith}
+use Rattle.std.proofs.lemmas.List.{length-map}
+use Rattle.std.proofs.lemmas.Option.{slice_get-get_or}
+use Rattle.std.specs.Option.{option_map}
+use Rattle.std.specs.FinMap as fm
+use Rattle.row_types.specs.declared.value.Value.{Value}
+use Rattle.key_rows.specs.Places.{IsKeyAt}
+use Rattle.key_rows.proofs.MapLaws.{slice_get_map}
+use Rattle.indexed_rows.specs.Rows.{Table, key_of}
+use Rattle.instances.specs.Views.{kept_at}
+use Rattle.cache_store.specs.Operating.{change_at}
+use Rattle.group_store.specs.Trees.{CanGo, IsChild, IsChildless, IsLeaf, Layer, key_at, leads}
+use Rattle.group_store.proofs.TreeLaws.{through_child, top_leads, up_to}
+use Rattle.slot_rows.specs.Orders.{IsRowWith, first_columns}
+use Rattle.slot_rows.specs.SlotKeys.{IsPlaceOf, RowsHeld}
+use Rattle.group_store.specs.Recent.{IsRowPlace}
+use Rattle.group_store.specs.Joined.{AreJoined, IsJoined, IsRowOf, layer_of, layers_of, places_at, tables_of}
+use Rattle.group_store.specs.declared.tree_rows.ChildRows.{ChildRows}
+use Rattle.group_store.specs.declared.tree_rows.TreeRows.{TreeRows}
+
+abbrev Row : Type 0
+Row = List Value
+
+abbrev table_in : ChildRows → Table
+table_in c = c.rows.table
+
+-- the child that an index gives
+pub item_there : (cs : List ChildRows) (i : ℕ) (c : ChildRows) → i < length cs → c ≡ get_or cs i c → slice_get cs i ≡ Some c
+item_there cs i c w is = slice_get-get_or cs i c w ∙ ap Some (sym is)
+
+pub kept_child : (t : Table) (cs : List ChildRows) (i : ℕ) (c : ChildRows) → slice_get cs i ≡ Some c → kept_at (t ∷ map table_in cs) (suc i) ≡ c.rows.table
+kept_child t cs i c is = ap (λ o. unwrap_or o fm.empty) (slice_get_map table_in cs i c is)
+
+pub key_child : (root : List ℕ) (cs : List ChildRows) (i : ℕ) (c : ChildRows) → slice_get cs i ≡ Some c → key_at root (map layer_of cs) (suc i) ≡ c.rows.places
+key_child root cs i c is = ap (λ o. unwrap_or (option_map (λ l. l.key) o) []) (slice_get_map layer_of cs i c is)
+
+-- a place behind the root's
+pub next_place : (place : ℕ) → 0 < place → place ≡ suc (place - 1)
+next_place place some = omega (arith, some)
+
+module _ (t : TreeRows) (place : ℕ) (c : ChildRows) (some : 0 < place) (is : slice_get t.children.items (place - 1) ≡ Some c) where
+  pub table_there : kept_at (tables_of t) place ≡ c.rows.table
+  table_there = ap (kept_at (tables_of t)) (next_place place some) ∙ kept_child t.roots.table t.children.items (place - 1) c is
+
+  pub places_there : places_at t place ≡ c.rows.places
+  places_there = ap (places_at t) (next_place place some) ∙ key_child t.roots.places t.children.items (place - 1) c is
+
+-- one child changes
+pub tables_set : (cs : List ChildRows) (i : ℕ) (c d : ChildRows) (f : Table → Table) → slice_get cs i ≡ Some c → d.rows.table ≡ f c.rows.table → map table_in (set cs i d) ≡ change_at i f (map table_in cs)
+tables_set [] i c d f is now = cc
+tables_set (x ∷ cs) zero c d f is now = let z : x ≡ c = cc in ap (λ t. t ∷ map table_in cs) (now ∙ ap (λ y. f y.rows.table) (sym z))
+tables_set (x ∷ cs) (suc i) c d f is now = ap (λ l. x.rows.table ∷ l) (tables_set cs i c d f is now)
+
+pub layers_set : (cs : List ChildRows) (i : ℕ) (c d : ChildRows) → slice_get cs i ≡ Some c → layer_of d ≡ layer_of c → map layer_of (set cs i d) ≡ map layer_of cs
+layers_set [] i c d is same = cc
+layers_set (x ∷ cs) zero c d is same = let z : x ≡ c = cc in ap (λ l. l ∷ map layer_of cs) (same ∙ ap layer_of (sym z))
+layers_set (x ∷ cs) (suc i) c d is same = ap (λ l. layer_of x ∷ l) (layers_set cs i c d is same)
+
+abbrev IsKind : ChildRows → ChildRows → Type 0
+IsKind e c = (layer_of e ≡ layer_of c) × (e.rows.orders ≡ c.rows.orders)
+
+pub kinds_set : (cs : List ChildRows) (i : ℕ) (c d : ChildRows) → slice_get cs i ≡ Some c → IsKind d c → (j : ℕ) (e : ChildRows) → slice_get (set cs i d) j ≡ Some e → (x : ChildRows) × (slice_get cs j ≡ Some x) × IsKind e x
+kinds_set [] i c d is same j e at = cc
+kinds_set (x ∷ cs) zero c d is same zero e at =
+    let z : x ≡ c = cc in
+    let y : d ≡ e = cc in (x, refl, subst (λ w. IsKind w x) y (subst (IsKind d) (sym z) same))
+kinds_set (x ∷ cs) zero c d is same (suc j) e at = (e, at, (refl, refl))
+kinds_set (x ∷ cs) (suc i) c d is same zero e at = (e, at, (refl, refl))
+kinds_set (x ∷ cs) (suc i) c d is same (suc j) e at = kinds_set cs i c d is same j e at
+
+-- children of the same kinds under the same root are joined as before
+pub joined_kept : (old new : TreeRows) → new.roots.places ≡ old.roots.places → layers_of new ≡ layers_of old → ((j : ℕ) (e : ChildRows) → slice_get new.children.items j ≡ Some e → (x : ChildRows) × (slice_get old.children.items j ≡ Some x) × IsKind e x) → AreJoined old → AreJoined new
+joined_kept old new places layers kinds joined j e at =
+    let k = kinds j e at in
+    let was = joined j k.0 k.1 in
+    let layer = k.2.0 in
+    let parent : e.parent ≡ k.0.parent = ap (λ l. l.parent) layer in
+    let foreign : e.foreign ≡ k.0.foreign = ap (λ l. l.foreign) layer in
+    let key : e.rows.places ≡ k.0.rows.places = ap (λ l. l.key) layer in
+    let keys : places_at new e.parent ≡ places_at old k.0.parent = ap (λ r. key_at r (layers_of new) e.parent) places ∙ ap (λ ls. key_at old.roots.places ls e.parent) layers ∙ ap (places_at old) parent in
+    record {
+      before = subst (λ p. p ≤ j) (sym parent) was.before;
+      orders = k.2.1 ∙ was.orders ∙ sym (ap (λ f. (f ++ k.0.rows.places) ∷ []) foreign) ∙ sym (ap (λ p. (e.foreign ++ p) ∷ []) key);
+      some = subst (λ f. 0 < length f) (sym foreign) was.some;
+      long = ap length foreign ∙ was.long ∙ sym (ap length keys);
+    }
+
+module _ (t : TreeRows) (place : ℕ) (c d : ChildRows) (f : Table → Table) (some : 0 < place) (is : slice_get t.children.items (place - 1) ≡ Some c) (now : d.rows.table ≡ f c.rows.table) where
+  pub tables_changed : t.roots.table ∷ map table_in (set t.children.items (place - 1) d) ≡ change_at place f (tables_of t)
+  tables_changed = ap (λ l. t.roots.table ∷ l) (tables_set t.children.items (place - 1) c d f is now) ∙ sym (ap (λ p. change_at p f (tables_of t)) (next_place place some))
+
+pub long_tables : (t : TreeRows) → length (tables_of t) ≡ suc (length t.children.items)
+long_tables t = ap suc (length-map t.children.items table_in)
+
+-- a child found by its parent's key
+take_front : (xs ys : List ℕ) (n : ℕ) → length xs ≡ n → take n (xs ++ ys) ≡ xs
+take_front [] ys zero e = refl
+take_front [] ys (suc n) e = absurd (omega (arith, e))
+take_front (x ∷ xs) ys zero e = absurd (omega (arith, e))
+take_front (x ∷ xs) ys (suc n) e = ap (λ l. x ∷ l) (take_front xs ys n (omega (arith, e)))
+
+pub front_is : (orders : List (List ℕ)) (foreign places : List ℕ) (n : ℕ) → orders ≡ (foreign ++ places) ∷ [] → length foreign ≡ n → first_columns orders 0 n ≡ foreign
+front_is orders foreign places n e long = ap (λ os. first_columns os 0 n) e ∙ take_front foreign places n long
+
+pub row_found : (c : ChildRows) (place : ℕ) (key : Row) (r : Option Row) → c.parent ≡ place → IsRowWith c.rows.table c.rows.places c.foreign key r → IsRowOf c place key r
+row_found c place key None e with_row = λ h. with_row
+row_found c place key (Some row) e with_row = (e, with_row.0, with_row.1)
+
+pub place_is : (h : RowsHeld) (k : Row) (r : Option ℕ) → IsPlaceOf h k r → IsRowPlace h.table k r
+place_is h k None e = e
+place_is h k (Some place) e = e
+
+-- a layer is that of a child
+pub layer_got : (cs : List ChildRows) (i : ℕ) (l : Layer) → slice_get (map layer_of cs) i ≡ Some l → (c : ChildRows) × (slice_get cs i ≡ Some c) × (layer_of c ≡ l)
+layer_got [] i l e = cc
+layer_got (c ∷ cs) zero l e = (c, refl, (let z : layer_of c ≡ l = ap (λ o. unwrap_or o l) e in z))
+layer_got (c ∷ cs) (suc i) l e = layer_got cs i l e
+
+inside : (cs : List ChildRows) (i : ℕ) (c : ChildRows) → slice_get cs i ≡ Some c → i < length cs
+inside [] i c e = cc
+inside (x ∷ cs) zero c e = omega arith
+inside (x ∷ cs) (suc i) c e = let r = inside cs i c e in omega (arith, r)
+
+module _ (t : TreeRows) (place : ℕ) (key : Row) where
+  -- a row of a child table that names a key
+  pub child_is : (i : ℕ) (c : ChildRows) (row : Row) → slice_get t.children.items i ≡ Some c → IsRowOf c place key (Some row) → IsChild (layers_of t) (tables_of t) place key (suc i) row
+  child_is i c row is found = record {
+    i = i;
+    layer = layer_of c;
+    is = refl;
+    there = slice_get_map layer_of t.children.items i c is;
+    parent = found.0;
+    found = ap (λ m. fm.get m (key_of c.rows.places row)) (kept_child t.roots.table t.children.items i c is) ∙ found.1;
+    refers = found.2;
+  }
+
+  -- no child names it
+  pub none_is : ((i : ℕ) (c : ChildRows) → i < length t.children.items → slice_get t.children.items i ≡ Some c → IsRowOf c place key None) → IsChildless (layers_of t) (tables_of t) place key
+  none_is none i l child row there parent found =
+      let c = layer_got t.children.items i l there in
+      λ same. none i c.0 (inside t.children.items i c.0 c.1) c.1 (ap (λ x. x.parent) c.2 ∙ parent) child row
+          (ap (λ m. fm.get m child) (sym (kept_child t.roots.table t.children.items i c.0 c.1)) ∙ found) (ap (λ x. key_of x.foreign row) c.2 ∙ same)
+
+  module _ (joined : AreJoined t) (at : ℕ) (row : Row) (child : IsChild (layers_of t) (tables_of t) place key at row) where
+    -- a child's table stands behind
+    pub child_behind : (place < at) × (at ≤ length t.children.items)
+    child_behind =
+        let c = layer_got t.children.items child.i child.layer child.there in
+        let before = (joined child.i c.0 c.1).before in
+        let parent = ap (λ x. x.parent) c.2 ∙ child.parent in
+        let lt = inside t.children.items child.i c.0 c.1 in
+        (omega (arith, before, parent, lt, child.is), omega (arith, lt, child.is))
+
+    pub child_places : places_at t at ≡ child.layer.key
+    child_places = ap (places_at t) child.is ∙ ap (λ o. unwrap_or (option_map (λ l. l.key) o) []) child.there
+
+    pub child_found : fm.get (kept_at (tables_of t) at) (key_of (places_at t at) row) ≡ Some row
+    child_found = ap (λ ps. fm.get (kept_at (tables_of t) at) (key_of ps row)) child_places ∙ child.found
+
+    -- a leaf of a child is one of its parent
+    pub leaf_through : fm.contains_key (kept_at (tables_of t) place) key ≡ true → (q : ℕ) (r : Row) → IsLeaf t.roots.places (layers_of t) (tables_of t) at (key_of (places_at t at) row) q r → IsLeaf t.roots.places (layers_of t) (tables_of t) place key q r
+    leaf_through has q r leaf =
+        let behind = child_behind in
+        let few = leaf.few in
+        record {
+          found = leaf.found;
+          childless = leaf.childless;
+          behind = (let low = leaf.behind in omega (arith, low, behind.0));
+          within = leaf.within;
+          steps = suc leaf.steps;
+          few = omega (arith, few, behind.0);
+          leads = through_child (layers_of t) (tables_of t) place key at row child has leaf.steps q (key_of (key_at t.roots.places (layers_of t) q) r)
+              (subst (λ ps. leads (layers_of t) (tables_of t) at (key_of ps row) leaf.steps q (key_of (key_at t.roots.places (layers_of t) q) r) ≡ true) child_places leaf.leads);
+        }
+
+-- the row itself
+pub leaf_itself : (t : TreeRows) (place : ℕ) (row : Row) → place ≤ length t.children.items → fm.get (kept_at (tables_of t) place) (key_of (places_at t place) row) ≡ Some row → IsChildless (layers_of t) (tables_of t) place (key_of (places_at t place) row)
+    → IsLeaf t.roots.places (layers_of t) (tables_of t) place (key_of (places_at t place) row) place row
+leaf_itself t place row within found childless =
+    let long = length-map t.children.items layer_of in
+    record {
+      found = found;
+      childless = childless;
+      behind = omega arith;
+      within = omega (arith, within, long);
+      steps = 0;
+      few = omega arith;
+      leads = top_leads (layers_of t) (tables_of t) place (key_of (places_at t place) row) zero (ap is_some found);
+    }
+
+-- a leaf behind the top can go
+pub leaf_goes : (t : TreeRows) (top : ℕ) (key : Row) (q : ℕ) (r : Row) (spot : ℕ) → top < q → IsLeaf t.roots.places (layers_of t) (tables_of t) top key q r → IsRowPlace (kept_at (tables_of t) q) (key_of (places_at t q) r) (Some spot) → CanGo (layers_of t) (tables_of t) top key q spot
+leaf_goes t top key q r spot behind leaf at =
+    let few = leaf.few in
+    let within = leaf.within in
+    record {
+      key = key_of (places_at t q) r;
+      here = at;
+      childless = leaf.childless;
+      behind = behind;
+      within = within;
+      leads = up_to (layers_of t) (tables_of t) top key leaf.steps (length (layers_of t)) q (key_of (places_at t q) r) (omega (arith, few, within)) leaf.leads;
+    }
+
+pub spot_within : (m : Table) (spot : ℕ) (k : Row) → IsKeyAt (fm.entries m) k spot → spot < fm.len m
+spot_within m spot k at = subst (λ n. spot < n) (sym (fm.len-entries m)) (by (fm.entries m) spot at)
+  where
+    by : (es : List (Row × Row)) (i : ℕ) → slice_get (map (λ e. e.0) es) i ≡ Some k → i < length es
+    by [] i e = cc
+    by (x ∷ es) zero e = omega arith
+    by (x ∷ es) (suc i) e = let r = by es i e in omega (arith, r)
