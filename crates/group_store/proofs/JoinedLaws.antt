@@ -1,11 +1,10 @@
 -- The stored tables of a tree.
-use Rattle.std.proofs.Common.{◌≡◌, ℕ, zero, suc, ◌+◌, ◌-◌, ◌<◌, ◌≤◌, Bool, true, false, cond, List, [], ◌∷◌, ◌++◌, length, map, get_or, set, slice_get, take, Option, Some, None, unwrap_or, is_some, refl, sym, ap, subst, ◌∙◌, ◌⊎◌, inl, inr, arith}
+use Rattle.std.proofs.Common.{◌≡◌, ℕ, zero, suc, ◌+◌, ◌-◌, ◌<◌, ◌≤◌, Bool, true, false, cond, List, [], ◌∷◌, ◌++◌, length, map, min, get_or, set, slice_get, take, Option, Some, None, unwrap_or, is_some, refl, sym, ap, subst, ◌∙◌, ◌⊎◌, inl, inr, arith}
 use Rattle.std.proofs.lemmas.List.{length-map}
 use Rattle.std.proofs.lemmas.Option.{slice_get-get_or}
 use Rattle.std.specs.Option.{option_map}
 use Rattle.std.specs.FinMap as fm
 use Rattle.row_types.specs.declared.value.Value.{Value}
-use Rattle.key_rows.specs.Places.{IsKeyAt}
 use Rattle.key_rows.proofs.MapLaws.{slice_get_map}
 use Rattle.indexed_rows.specs.Rows.{Table, key_of}
 use Rattle.instances.specs.Views.{kept_at}
@@ -13,9 +12,10 @@ use Rattle.cache_store.specs.Operating.{change_at}
 use Rattle.group_store.specs.Trees.{CanGo, IsChild, IsChildless, IsLeaf, Layer, key_at, leads}
 use Rattle.group_store.proofs.TreeLaws.{through_child, top_leads, up_to}
 use Rattle.slot_rows.specs.Orders.{IsRowWith, first_columns}
-use Rattle.slot_rows.specs.SlotKeys.{IsPlaceOf, RowsHeld}
-use Rattle.group_store.specs.Recent.{IsRowPlace}
-use Rattle.group_store.specs.Joined.{AreJoined, IsJoined, IsRowOf, layer_of, layers_of, places_at, tables_of}
+use Rattle.slot_rows.specs.SlotKeys.{RowsHeld}
+use Rattle.std.specs.Vec.{with_item}
+use Rattle.group_store.specs.Recent.{IsRowPlace, RecentHeld}
+use Rattle.group_store.specs.Joined.{AreJoined, IsJoined, IsRowOf, KeepsTree, layer_of, layers_of, least, least_spare, places_at, tables_of}
 use Rattle.group_store.specs.declared.tree_rows.ChildRows.{ChildRows}
 use Rattle.group_store.specs.declared.tree_rows.TreeRows.{TreeRows}
 
@@ -106,10 +106,6 @@ front_is orders foreign places n e long = ap (λ os. first_columns os 0 n) e ∙
 pub row_found : (c : ChildRows) (place : ℕ) (key : Row) (r : Option Row) → c.parent ≡ place → IsRowWith c.rows.table c.rows.places c.foreign key r → IsRowOf c place key r
 row_found c place key None e with_row = λ h. with_row
 row_found c place key (Some row) e with_row = (e, with_row.0, with_row.1)
-
-pub place_is : (h : RowsHeld) (k : Row) (r : Option ℕ) → IsPlaceOf h k r → IsRowPlace h.table k r
-place_is h k None e = e
-place_is h k (Some place) e = e
 
 -- a layer is that of a child
 pub layer_got : (cs : List ChildRows) (i : ℕ) (l : Layer) → slice_get (map layer_of cs) i ≡ Some l → (c : ChildRows) × (slice_get cs i ≡ Some c) × (layer_of c ≡ l)
@@ -203,10 +199,80 @@ leaf_goes t top key q r spot behind leaf at =
       leads = up_to (layers_of t) (tables_of t) top key leaf.steps (length (layers_of t)) q (key_of (places_at t q) r) (omega (arith, few, within)) leaf.leads;
     }
 
-pub spot_within : (m : Table) (spot : ℕ) (k : Row) → IsKeyAt (fm.entries m) k spot → spot < fm.len m
-spot_within m spot k at = subst (λ n. spot < n) (sym (fm.len-entries m)) (by (fm.entries m) spot at)
-  where
-    by : (es : List (Row × Row)) (i : ℕ) → slice_get (map (λ e. e.0) es) i ≡ Some k → i < length es
-    by [] i e = cc
-    by (x ∷ es) zero e = omega arith
-    by (x ∷ es) (suc i) e = let r = by es i e in omega (arith, r)
+-- the room that each table has at least
+least_of : (n : ℕ) (cs : List ChildRows) → least n cs ≤ n
+least_of n [] = omega arith
+least_of n (c ∷ cs) = let rest = least_of n cs in omega (arith, rest)
+
+least_at : (n : ℕ) (cs : List ChildRows) (i : ℕ) (c : ChildRows) → slice_get cs i ≡ Some c → least n cs ≤ c.rows.spare
+least_at n [] i c e = cc
+least_at n (x ∷ cs) zero c e = let z : x ≡ c = cc in subst (λ y. min x.rows.spare (least n cs) ≤ y.rows.spare) z (omega arith)
+least_at n (x ∷ cs) (suc i) c e = let rest = least_at n cs i c e in omega (arith, rest)
+
+pub least_root : (n m d : ℕ) (cs : List ChildRows) → n ≤ m + d → least n cs ≤ least m cs + d
+least_root n m d [] le = le
+least_root n m d (c ∷ cs) le = let rest = least_root n m d cs le in omega (arith, rest)
+
+pub least_set : (n d : ℕ) (cs : List ChildRows) (i : ℕ) (c e : ChildRows) → slice_get cs i ≡ Some c → c.rows.spare ≤ e.rows.spare + d → least n cs ≤ least n (set cs i e) + d
+least_set n d [] i c e is le = cc
+least_set n d (x ∷ cs) zero c e is le = let z : x ≡ c = cc in let s : x.rows.spare ≤ e.rows.spare + d = subst (λ y. y.rows.spare ≤ e.rows.spare + d) (sym z) le in omega (arith, s)
+least_set n d (x ∷ cs) (suc i) c e is le = let rest = least_set n d cs i c e is le in omega (arith, rest)
+
+pub root_room : (t : TreeRows) → least_spare t ≤ t.roots.spare
+root_room t = least_of t.roots.spare t.children.items
+
+pub child_room : (t : TreeRows) (i : ℕ) (c : ChildRows) → slice_get t.children.items i ≡ Some c → least_spare t ≤ c.rows.spare
+child_room t i c is = least_at t.roots.spare t.children.items i c is
+
+-- each table has so much room
+pub least_all : (n more : ℕ) (cs : List ChildRows) → more ≤ n → ((i : ℕ) (c : ChildRows) → i < length cs → slice_get cs i ≡ Some c → more ≤ c.rows.spare) → more ≤ least n cs
+least_all n more [] le h = le
+least_all n more (c ∷ cs) le h = let first = h 0 c (omega arith) refl in let rest = least_all n more cs le (λ i x lt is. h (suc i) x (omega (arith, lt)) is) in omega (arith, first, rest)
+
+-- one child changes in its rows alone
+module _ (t : TreeRows) (i : ℕ) (c : ChildRows) (rows : RowsHeld) (is : slice_get t.children.items i ≡ Some c) (places : rows.places ≡ c.rows.places) (orders : rows.orders ≡ c.rows.orders) where
+  abbrev child_now : ChildRows
+  child_now = record { table = c.table; parent = c.parent; foreign = c.foreign; rows = rows }
+
+  abbrev tree_now : TreeRows
+  tree_now = record { roots = t.roots; children = with_item t.children i child_now }
+
+  layer_now : layer_of child_now ≡ layer_of c
+  layer_now = ap (λ ps. record { table = c.table; key = ps; foreign = c.foreign; parent = c.parent }) places
+
+  pub keeps_at : KeepsTree t tree_now
+  keeps_at =
+      let layers = layers_set t.children.items i c child_now is layer_now in
+      record { places = refl; layers = layers; joined = joined_kept t tree_now refl layers (kinds_set t.children.items i c child_now is (layer_now, orders)) }
+
+pub keeps_tree : (t : TreeRows) (place : ℕ) (c : ChildRows) (rows : RowsHeld) → slice_get t.children.items (place - 1) ≡ Some c → rows.places ≡ c.rows.places → rows.orders ≡ c.rows.orders
+    → KeepsTree t (record { roots = t.roots; children = with_item t.children (place - 1) (record { table = c.table; parent = c.parent; foreign = c.foreign; rows = rows }) })
+keeps_tree t place c rows is places orders = keeps_at t (place - 1) c rows is places orders
+
+pub keeps_both : (a b c : TreeRows) → KeepsTree a b → KeepsTree b c → KeepsTree a c
+keeps_both a b c x y = record { places = y.places ∙ x.places; layers = y.layers ∙ x.layers; joined = λ j. y.joined (x.joined j) }
+
+pub tables_kept : (cs : List ChildRows) (i : ℕ) (c d : ChildRows) → slice_get cs i ≡ Some c → d.rows.table ≡ c.rows.table → map table_in (set cs i d) ≡ map table_in cs
+tables_kept [] i c d is same = cc
+tables_kept (x ∷ cs) zero c d is same = let z : x ≡ c = cc in ap (λ l. l ∷ map table_in cs) (same ∙ ap table_in (sym z))
+tables_kept (x ∷ cs) (suc i) c d is same = ap (λ l. table_in x ∷ l) (tables_kept cs i c d is same)
+
+pub set_got : (cs : List ChildRows) (i : ℕ) (d : ChildRows) (j : ℕ) (x : ChildRows) → slice_get (set cs i d) j ≡ Some x → ((j ≡ i) × (d ≡ x)) ⊎ ((j ≡ i → ⊥) × (slice_get cs j ≡ Some x))
+set_got [] i d j x e = cc
+set_got (c ∷ cs) zero d zero x e = inl (refl, (let z : d ≡ x = cc in z))
+set_got (c ∷ cs) zero d (suc j) x e = inr (λ h. absurd (omega (arith, h)), e)
+set_got (c ∷ cs) (suc i) d zero x e = inr (λ h. absurd (omega (arith, h)), e)
+set_got (c ∷ cs) (suc i) d (suc j) x e = elim (set_got cs i d j x e) [
+  | inl w ↦ inl (ap suc w.0, w.1)
+  | inr w ↦ inr (λ h. w.0 (omega (arith, h)), w.1)
+]
+
+-- the root's rows alone change
+pub keeps_children : (t : TreeRows) (roots : RecentHeld) → roots.places ≡ t.roots.places → KeepsTree t (record { roots = roots; children = t.children })
+keeps_children t roots places =
+    let new : TreeRows = record { roots = roots; children = t.children } in
+    record { places = places; layers = refl; joined = joined_kept t new places refl (λ j e at. (e, at, (refl, refl))) }
+
+-- there are as many children
+pub children_stay : (a b : TreeRows) → KeepsTree a b → length b.children.items ≡ length a.children.items
+children_stay a b k = sym (length-map b.children.items layer_of) ∙ ap length k.layers ∙ length-map a.children.items layer_of

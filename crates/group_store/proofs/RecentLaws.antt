@@ -13,11 +13,11 @@ use Rattle.indexed_rows.proofs.EntryLaws.{same_values}
 use Rattle.key_rows.specs.Places.{IsKeyAt}
 use Rattle.key_rows.proofs.MapLaws.{slice_get_map}
 use Rattle.recency.specs.Rings.{keys_without, next_key, touched}
-use Rattle.slot_rows.specs.SlotKeys.{SlotKeys}
+use Rattle.slot_rows.specs.SlotKeys.{IsPlaceOf, RowsHeld, SlotKeys}
 use Rattle.slot_rows.proofs.SlotKeyLaws.{number_itself, same_number}
 use Rattle.cache_store.specs.Tying.{HasOwnKey}
 use Rattle.cache_store.proofs.TieLaws.{ties_keys}
-use Rattle.group_store.specs.Recent.{AreRecent, key_in, keys_of}
+use Rattle.group_store.specs.Recent.{AreRecent, IsRowPlace, key_in, keys_of}
 
 abbrev Row : Type 0
 Row = List Value
@@ -324,3 +324,15 @@ without_none m k h = fm.same_map key_total key_exact m (fm.remove m k) (λ q. by
     by : (q : Row) (b : Bool) → is_same q k ≡ b → fm.get m q ≡ cond b None (fm.get m q)
     by q true e = ap (fm.get m) (same_values q k e) ∙ none_of m k h
     by q false e = refl
+
+pub spot_within : (m : Table) (spot : ℕ) (k : Row) → IsKeyAt (fm.entries m) k spot → spot < fm.len m
+spot_within m spot k at = subst (λ n. spot < n) (sym (fm.len-entries m)) (by (fm.entries m) spot at)
+  where
+    by : (es : List (Row × Row)) (i : ℕ) → slice_get (map (λ e. e.0) es) i ≡ Some k → i < length es
+    by [] i e = cc
+    by (x ∷ es) zero e = omega arith
+    by (x ∷ es) (suc i) e = let r = by es i e in omega (arith, r)
+
+pub place_is : (h : RowsHeld) (k : Row) (r : Option ℕ) → IsPlaceOf h k r → IsRowPlace h.table k r
+place_is h k None e = e.0
+place_is h k (Some place) e = e

@@ -49,3 +49,8 @@ pub record TakesRecent (old new : RecentHeld) (key : List Value) (row : Option (
   pub was : row ≡ fm.get old.table key
   pub now : new.table ≡ fm.remove old.table key
   pub keys : new.keys ≡ keys_without is_same key old.keys
+
+-- the same, whatever the row was
+pub record LosesRecent (old new : RecentHeld) (key : List Value) : Type 0 where
+  pub now : new.table ≡ fm.remove old.table key
+  pub keys : new.keys ≡ keys_without is_same key old.keys

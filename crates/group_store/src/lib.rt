@@ -2,6 +2,8 @@
 #![tactic(auto)]
 
 mod recent;
+mod store;
 mod tree_rows;
 
 pub use recent::RecentRows;
+pub use store::Store;

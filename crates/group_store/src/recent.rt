@@ -8,7 +8,7 @@ ghost use Rattle.indexed_rows.specs.Rows.{is_same, key_of, put_in, put_over};
 ghost use Rattle.key_rows.specs.Places.{IsKeyAt};
 ghost use Rattle.row_types.specs.declared.value.Value.{Value as OneValue};
 ghost use Rattle.slot_rows.specs.SlotKeys.{IsKeyedBy};
-ghost use Rattle.group_store.specs.Recent.{IsRowPlace, TakesRecent, entered_last};
+ghost use Rattle.group_store.specs.Recent.{IsRowPlace, LosesRecent, TakesRecent, entered_last};
 
 use recency::Recency;
 use row_types::{Row, Value};
@@ -137,8 +137,7 @@ impl RecentRows {
 
     /// Puts in a row where its key has none, as the newest. It takes no memory.
     pub fn insert_reserved(&mut self, row: Row)
-        requires room { 0 < self.old.spare }
-        requires fits { map.len self.old.table + 1 < 2 ^ 63 }
+        requires { 0 < self.old.spare }
         ensures table { self.new.table ≡ put_in self.old.table (key_of self.old.places row) row }
         ensures places { self.new.places ≡ self.old.places }
         ensures keys { self.new.keys ≡ entered_last self.old.table (key_of self.old.places row) self.old.keys }
@@ -154,7 +153,7 @@ impl RecentRows {
 
     /// Puts a row over the one that its key has, which doesn't count as a use. It takes no memory.
     pub fn replace_reserved(&mut self, row: Row)
-        requires room { 0 < self.old.spare }
+        requires { 0 < self.old.spare }
         ensures table { self.new.table ≡ put_over self.old.table (key_of self.old.places row) row }
         ensures places { self.new.places ≡ self.old.places }
         ensures keys { self.new.keys ≡ self.old.keys }
@@ -186,6 +185,20 @@ impl RecentRows {
             Some(slot) => {
                 let _ = self.recent.remove(&slot);
                 self.rows.remove(key)
+            }
+        }
+    }
+
+    /// Takes out the row that has another row's key, and the key. It takes no memory.
+    pub fn remove_for(&mut self, row: &Row)
+        ensures taken { LosesRecent self.old self.new (key_of self.old.places row.now) }
+        ensures places { self.new.places ≡ self.old.places }
+        ensures spare { self.old.spare ≤ self.new.spare }
+    {
+        match self.rows.place_of(row) {
+            None => {}
+            Some(place) => {
+                let _ = self.remove_at(place);
             }
         }
     }

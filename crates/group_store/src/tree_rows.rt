@@ -1,19 +1,20 @@
 //! The rows of a group's tree of tables.
 
-ghost use Rattle.std.specs.Prelude.{◌≡◌, ◌≤◌, ◌<◌, ◌++◌, ◌∷◌, [], Some, MatchOption, length, option_copied, if◌then◌else◌, nat_eq};
+ghost use Rattle.std.specs.Prelude.{◌≡◌, ◌≤◌, ◌<◌, ◌+◌, ◌++◌, ◌∷◌, [], Some, MatchOption, OnOk, length, option_copied, if◌then◌else◌, nat_eq};
 ghost use Rattle.std.specs.FinMap as map;
-ghost use Rattle.indexed_rows.specs.Rows.{is_same, key_of};
+ghost use Rattle.indexed_rows.specs.Rows.{is_same, key_of, put_in, put_over};
 ghost use Rattle.instances.specs.Views.{kept_at};
 ghost use Rattle.recency.specs.Rings.{keys_without};
 ghost use Rattle.cache_store.specs.Operating.{change_at};
 ghost use Rattle.slot_rows.specs.SlotKeys.{IsKeyedBy};
-ghost use Rattle.group_store.specs.Recent.{IsRowPlace};
+ghost use Rattle.group_store.specs.Recent.{IsRowPlace, entered_last};
 ghost use Rattle.group_store.specs.Trees.{CanGo, IsBare, IsChild, IsChildless, IsLeaf, cut_from};
-ghost use Rattle.group_store.specs.Joined.{AreJoined, IsRowOf, TakesChild, layers_of, places_at, tables_of};
+ghost use Rattle.group_store.specs.Joined.{AreJoined, IsRowOf, KeepsTree, TakesChild, layers_of, least_spare, places_at, tables_of};
 
 use crate::recent::RecentRows;
 use row_types::{Row, Value};
 use slot_rows::SlotRows;
+use std::alloc::{AllocError, Global};
 use tier_base::{Seq, TableId};
 
 // The rows of a child table, with an order of them by parent.
@@ -164,6 +165,70 @@ impl TreeRows {
         }
     }
 
+    // Puts a row into the table at a place where its key has none there, as the newest of the root's. It takes no memory.
+    pub(crate) fn put(&mut self, place: usize, row: Row)
+        requires within { place ≤ length self.old.children.items }
+        requires room { 0 < least_spare self.old }
+        ensures tables { tables_of self.new ≡ change_at place (λ t. put_in t (key_of (places_at self.old place) row) row) (tables_of self.old) }
+        ensures same { KeepsTree self.old self.new }
+        ensures keys { self.new.roots.keys ≡ (if nat_eq place 0 then entered_last self.old.roots.table (key_of self.old.roots.places row) self.old.roots.keys else self.old.roots.keys) }
+        ensures spare { least_spare self.old ≤ least_spare self.new + 1 }
+    {
+        if place == 0 {
+            self.roots.insert_reserved(row);
+        } else {
+            let _ = self.children[place - 1].rows.insert_reserved(row);
+        }
+    }
+
+    // Puts a row over the one that its key has in the table at a place. It takes no memory.
+    pub(crate) fn replace(&mut self, place: usize, row: Row)
+        requires within { place ≤ length self.old.children.items }
+        requires room { 0 < least_spare self.old }
+        ensures tables { tables_of self.new ≡ change_at place (λ t. put_over t (key_of (places_at self.old place) row) row) (tables_of self.old) }
+        ensures same { KeepsTree self.old self.new }
+        ensures keys { self.new.roots.keys ≡ self.old.roots.keys }
+        ensures spare { least_spare self.old ≤ least_spare self.new + 1 }
+    {
+        if place == 0 {
+            self.roots.replace_reserved(row);
+        } else {
+            self.children[place - 1].rows.replace_reserved(row);
+        }
+    }
+
+    // Takes out the row that has another row's key in the table at a place. It takes no memory.
+    pub(crate) fn take(&mut self, place: usize, row: &Row)
+        requires { place ≤ length self.old.children.items }
+        ensures tables { tables_of self.new ≡ change_at place (λ t. map.remove t (key_of (places_at self.old place) row.now)) (tables_of self.old) }
+        ensures same { KeepsTree self.old self.new }
+        ensures keys { self.new.roots.keys ≡ (if nat_eq place 0 then keys_without is_same (key_of self.old.roots.places row.now) self.old.roots.keys else self.old.roots.keys) }
+        ensures spare { least_spare self.old ≤ least_spare self.new }
+    {
+        if place == 0 {
+            self.roots.remove_for(row);
+        } else {
+            self.children[place - 1].rows.remove_for(row);
+        }
+    }
+
+    // Makes room for so many more rows in each table.
+    //
+    // It fails for want of memory alone.
+    pub(crate) fn reserve(&mut self, alloc: Global, more: usize) -> Result<(), AllocError>
+        ensures tables { tables_of self.new ≡ tables_of self.old }
+        ensures same { KeepsTree self.old self.new }
+        ensures keys { self.new.roots.keys ≡ self.old.roots.keys }
+        ensures ok { OnOk result (more ≤ least_spare self.new) }
+        ensures spare { least_spare self.old ≤ least_spare self.new }
+    {
+        self.roots.reserve(alloc, more)?;
+        for place in 0..self.children.len() {
+            self.children[place].rows.reserve(alloc, more)?;
+        }
+        Ok(())
+    }
+
     // Takes out the row at a place in key order of a child table. It takes no memory.
     fn take_child(&mut self, place: usize, spot: usize)
         requires child { 0 < place }
@@ -178,10 +243,9 @@ impl TreeRows {
     fn take_key(&mut self, place: usize, key: &[Value])
         requires { place ≤ length self.old.children.items }
         ensures tables { tables_of self.new ≡ change_at place (λ t. map.remove t key.now) (tables_of self.old) }
-        ensures layers { layers_of self.new ≡ layers_of self.old }
-        ensures joined { AreJoined self.old → AreJoined self.new }
-        ensures places { self.new.roots.places ≡ self.old.roots.places }
+        ensures same { KeepsTree self.old self.new }
         ensures keys { self.new.roots.keys ≡ (if nat_eq place 0 then keys_without is_same key.now self.old.roots.keys else self.old.roots.keys) }
+        ensures spare { least_spare self.old ≤ least_spare self.new }
     {
         if place == 0 {
             let _ = self.roots.remove(key);
@@ -195,10 +259,9 @@ impl TreeRows {
         requires joined { AreJoined self.old }
         requires within { top ≤ length self.old.children.items }
         ensures tables { tables_of self.new ≡ cut_from (layers_of self.old) (tables_of self.old) top key.now }
-        ensures layers { layers_of self.new ≡ layers_of self.old }
-        ensures joined { AreJoined self.new }
-        ensures places { self.new.roots.places ≡ self.old.roots.places }
+        ensures same { KeepsTree self.old self.new }
         ensures keys { self.new.roots.keys ≡ (if nat_eq top 0 then keys_without is_same key.now self.old.roots.keys else self.old.roots.keys) }
+        ensures spare { least_spare self.old ≤ least_spare self.new }
     {
         while let Some((place, spot)) = self.lowest(top, key) {
             self.take_child(place, spot);

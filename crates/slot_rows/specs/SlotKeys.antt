@@ -48,7 +48,7 @@ IsSlotOf held key (Some slot) = (fm.contains_key held.table key ≡ true) × (fm
 
 -- the place in key order of the key's row, where the key has one
 abbrev pub IsPlaceOf : RowsHeld → List Value → Option ℕ → Type 0
-IsPlaceOf held key None = fm.contains_key held.table key ≡ false
+IsPlaceOf held key None = (fm.contains_key held.table key ≡ false) × IsOnlySlot held key None
 IsPlaceOf held key (Some place) = IsKeyAt (fm.entries held.table) key place
 
 -- a row of the key went into a slot that had none; or its key has a row already, and nothing did

@@ -41,7 +41,7 @@ impl Drop for SlotRows {
 }
 
 impl Model for SlotRows {
-    ghost use Rattle.std.specs.Prelude.{length, map};
+    ghost use Rattle.std.specs.Prelude.{◌+◌, ◌<◌, ◌^◌, length, map};
     ghost use Rattle.slab.specs.Slab.{HasRoomFor};
     ghost use Rattle.slot_rows.specs.Orders.{Each, IsOther};
     ghost use Rattle.slot_rows.specs.SlotKeys.{RowsHeld, rows_held_code, slot_keys_in};
@@ -53,7 +53,7 @@ impl Model for SlotRows {
 
     ghost view = { λ r. record { table = table_in r.rows r.by_key.places r.by_key.entries; places = r.by_key.places; orders = map (λ o. o.places) r.others.items; slots = slot_keys_in r.rows r.by_key.places r.by_key.entries; vacant = r.rows.vacant_key; spare = length r.by_key.room.items } };
 
-    ghost invariant = { λ r. AreOrdered r.rows r.by_key.places r.by_key.entries × HasRoomFor r.rows (length r.by_key.room.items) × Each (IsOther r.rows r.by_key.places r.by_key.entries (length r.by_key.room.items)) r.others.items };
+    ghost invariant = { λ r. AreOrdered r.rows r.by_key.places r.by_key.entries × HasRoomFor r.rows (length r.by_key.room.items) × Each (IsOther r.rows r.by_key.places r.by_key.entries (length r.by_key.room.items)) r.others.items × (length r.by_key.entries + length r.by_key.room.items < 2 ^ 63) };
 }
 
 impl SlotRows {
@@ -196,6 +196,9 @@ impl SlotRows {
         if self.by_key.room.len() >= more {
             return Ok(());
         }
+        if more >= LIMIT - self.by_key.entries.len() {
+            return Err(AllocError);
+        }
         self.rows.reserve(more)?;
         reserve_all(&mut self.others, alloc, more)?;
         self.by_key.reserve(alloc, more)
@@ -203,8 +206,7 @@ impl SlotRows {
 
     /// Puts in a row where its key has none, and tells its slot. It takes no memory.
     pub fn insert_reserved(&mut self, row: Row) -> Option<usize>
-        requires room { 0 < self.old.spare }
-        requires fits { map.len self.old.table + 1 < 2 ^ 63 }
+        requires { 0 < self.old.spare }
         ensures table { self.new.table ≡ put_in self.old.table (key_of self.old.places row) row }
         ensures places { self.new.places ≡ self.old.places }
         ensures orders { self.new.orders ≡ self.old.orders }
@@ -232,9 +234,6 @@ impl SlotRows {
         ensures places { self.new.places ≡ self.old.places }
         ensures orders { self.new.orders ≡ self.old.orders }
     {
-        if self.len() >= LIMIT - 1 {
-            return Err(AllocError);
-        }
         self.reserve(alloc, 1)?;
         let _ = self.insert_reserved(row);
         Ok(())
@@ -242,7 +241,7 @@ impl SlotRows {
 
     /// Puts a row over the one that its key has, in the same slot. It takes no memory.
     pub fn replace_reserved(&mut self, row: Row)
-        requires room { 0 < self.old.spare }
+        requires { 0 < self.old.spare }
         ensures table { self.new.table ≡ put_over self.old.table (key_of self.old.places row) row }
         ensures places { self.new.places ≡ self.old.places }
         ensures orders { self.new.orders ≡ self.old.orders }
@@ -252,7 +251,6 @@ impl SlotRows {
         match self.by_key.search_row(&self.rows, row.values()) {
             Err(_) => {}
             Ok(place) => {
-                let _held = self.len();
                 let _ = self.remove_at(place);
                 let _ = self.insert_reserved(row);
             }
@@ -271,6 +269,21 @@ impl SlotRows {
         match self.by_key.search(&self.rows, key) {
             Err(_) => None,
             Ok(place) => self.remove_at(place),
+        }
+    }
+
+    /// Takes out the row that has another row's key. It takes no memory.
+    pub fn remove_for(&mut self, row: &Row)
+        ensures table { self.new.table ≡ map.remove self.old.table (key_of self.old.places row.now) }
+        ensures places { self.new.places ≡ self.old.places }
+        ensures orders { self.new.orders ≡ self.old.orders }
+        ensures spare { self.new.spare ≡ self.old.spare }
+    {
+        match self.by_key.search_row(&self.rows, row.values()) {
+            Err(_) => {}
+            Ok(place) => {
+                let _ = self.remove_at(place);
+            }
         }
     }
 

@@ -10,7 +10,7 @@ pub invariant_of-self-in-Some : goal.invariant_of-self-in-Some
 invariant_of-self-in-Some c = λ s.
     let l = c.self.inside in
     let p = c.in-Some.ensures.slot in
-    let room : 0 < min l.rows.spare l.recent.spare = subst (λ h. 0 < h.spare) (sym c.self.view_is) c.requires.room in
+    let room : 0 < min l.rows.spare l.recent.spare = subst (λ h. 0 < h.spare) (sym c.self.view_is) c.requires in
     let ok = sure c.push.result c.push.ensures.ok (c.push.ensures.succeeds (omega (arith, room))) in
     ap (list_any (nat_eq s)) ok ∙ more_recent l.rows.slots l.recent.keys c.self.invariant c.in-Some.slot (key_of l.rows.places c.args.row) p.1 s ∙ ap (λ m. fm.contains_key m s) (sym p.2)
 
@@ -21,7 +21,7 @@ returns-in-Some-clause-keys c =
     let slot = c.in-Some.slot in
     let key = key_of l.rows.places c.args.row in
     let keys = keys_of l.rows.slots l.recent.keys in
-    let room : 0 < min l.rows.spare l.recent.spare = subst (λ h. 0 < h.spare) (sym c.self.view_is) c.requires.room in
+    let room : 0 < min l.rows.spare l.recent.spare = subst (λ h. 0 < h.spare) (sym c.self.view_is) c.requires in
     let ok = sure c.push.result c.push.ensures.ok (c.push.ensures.succeeds (omega (arith, room))) in
     ap (keys_of c.insert_reserved.new.self.slots) ok ∙ ap (λ m. keys_of m (l.recent.keys ++ slot ∷ [])) p.2
     ∙ more_keys l.rows.slots l.recent.keys c.self.invariant slot key p.1 ∙ ap (λ b. cond b keys (keys ++ key ∷ [])) (sym p.0)

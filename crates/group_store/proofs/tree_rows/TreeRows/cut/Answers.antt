@@ -5,7 +5,8 @@ use Rattle.instances.specs.Views.{kept_at}
 use Rattle.cache_store.specs.Operating.{change_at}
 use Rattle.group_store.specs.Trees.{CanGo, IsBare, cut_from}
 use Rattle.group_store.specs.Joined.{layer_of, layers_of, tables_of}
-use Rattle.group_store.proofs.JoinedLaws.{long_tables, spot_within}
+use Rattle.group_store.proofs.JoinedLaws.{long_tables}
+use Rattle.group_store.proofs.RecentLaws.{spot_within}
 use Rattle.group_store.proofs.TreeLaws.{count_rows, cut_done, cut_stays, fewer_rows}
 use Rattle.key_rows.proofs.MapLaws.{has_key}
 use Rattle.group_store.proofs.tree_rows.TreeRows.cut.Goals as goal
@@ -42,6 +43,7 @@ loop-place-preserved c =
           ∙ cut_stays (layers_of t) (tables_of t) c.in-Some.place go.key inside go.childless c.args.top c.args.key.now go.leads ∙ c.loop-place.invariant.tables;
       layers = c.take_child.ensures.layers ∙ c.loop-place.invariant.layers;
       joined = c.take_child.ensures.joined c.loop-place.invariant.joined;
+      spare = (let a = c.take_child.ensures.spare in let b = c.loop-place.invariant.spare in omega (arith, a, b));
       roots = c.take_child.ensures.roots ∙ c.loop-place.invariant.roots;
     }
 
@@ -55,5 +57,14 @@ returns-clause-tables c =
     let inside : c.args.top < length (tables_of t) = (let w = c.requires.within in omega (arith, w, same, long, before, many)) in
     c.take_key.ensures.tables ∙ sym (cut_done (layers_of t) (tables_of t) c.args.top c.args.key.now inside c.in_default.ensures) ∙ c.loop-place.invariant.tables
 
-pub returns-clause-joined : goal.returns-clause-joined
-returns-clause-joined c = c.take_key.ensures.joined c.loop-place.invariant.joined
+pub returns-clause-same : goal.returns-clause-same
+returns-clause-same c =
+    let same = c.take_key.ensures.same in
+    record {
+      places = same.places ∙ ap (λ r. r.places) c.loop-place.invariant.roots;
+      layers = same.layers ∙ c.loop-place.invariant.layers;
+      joined = λ _. same.joined c.loop-place.invariant.joined;
+    }
+
+pub returns-clause-spare : goal.returns-clause-spare
+returns-clause-spare c = let a = c.take_key.ensures.spare in let b = c.loop-place.invariant.spare in omega (arith, a, b)

@@ -2,7 +2,8 @@ use Rattle.std.proofs.Common.{◌<◌, ◌-◌, length, sym, subst, arith}
 use Rattle.indexed_rows.specs.Rows.{key_of}
 use Rattle.group_store.specs.Recent.{IsRowPlace}
 use Rattle.group_store.specs.Joined.{places_at}
-use Rattle.group_store.proofs.JoinedLaws.{item_there, place_is, places_there, table_there}
+use Rattle.group_store.proofs.JoinedLaws.{item_there, places_there, table_there}
+use Rattle.group_store.proofs.RecentLaws.{place_is}
 use Rattle.group_store.proofs.tree_rows.TreeRows.spot_of.Goals as goal
 
 pub returns : goal.returns

@@ -4,7 +4,7 @@ use Rattle.key_rows.specs.Places.{IsKeyAt}
 use Rattle.group_store.specs.declared.tree_rows.ChildRows.{ChildRows}
 use Rattle.group_store.specs.declared.tree_rows.TreeRows.{TreeRows}
 use Rattle.group_store.specs.Joined.{layer_of}
-use Rattle.group_store.proofs.JoinedLaws.{item_there, joined_kept, kinds_set, layers_set, table_there, tables_changed}
+use Rattle.group_store.proofs.JoinedLaws.{item_there, joined_kept, kinds_set, layers_set, least_set, table_there, tables_changed}
 use Rattle.std.specs.Vec.{with_item}
 use Rattle.group_store.proofs.tree_rows.TreeRows.take_child.Goals as goal
 
@@ -32,5 +32,6 @@ returns c =
       roots = refl;
       layers = layers;
       joined = joined_kept t new refl layers (kinds_set t.children.items (c.args.place - 1) d e is (layer, c.remove_at.ensures.orders));
+      spare = (let more = least_set t.roots.spare 0 t.children.items (c.args.place - 1) d e is (let s = c.remove_at.ensures.spare in omega (arith, s)) in omega (arith, more));
       leaves = λ key here. tables_changed t c.args.place d e (λ m. fm.remove m key) some is (c.remove_at.ensures.taken key (subst (λ m. IsKeyAt (fm.entries m) key c.args.spot) (table_there t c.args.place d some is) here)).now;
     }

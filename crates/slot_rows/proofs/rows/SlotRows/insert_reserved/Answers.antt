@@ -17,14 +17,16 @@ use Rattle.slot_rows.proofs.rows.SlotRows.insert_reserved.Goals as goal
 pub enter-requires-clause-fits : goal.enter-requires-clause-fits
 enter-requires-clause-fits c =
     let l = c.self.inside in
-    subst (λ n. n + 1 < 9223372036854775808) (ap (λ h. fm.len h.table) (sym c.self.view_is) ∙ table_len l.rows l.by_key.places l.by_key.entries c.self.invariant.0) c.requires.fits
+    let room : 0 < length l.by_key.room.items = subst (λ h. 0 < h.spare) (sym c.self.view_is) c.requires in
+    let fits = c.self.invariant.3 in omega (arith, room, fits)
 
 pub enter_all-requires : goal.enter_all-requires
 enter_all-requires c =
     let l = c.self.inside in
     let o = l.by_key in
     let gap = subst (λ v. IsGapFor (fm.entries (table_in l.rows o.places o.entries)) (key_of o.places v) c.in-Err.place) c.values.ensures c.in-Err.ensures.absent in
-    let fits = subst (λ n. n + 1 < 9223372036854775808) (ap (λ h. fm.len h.table) (sym c.self.view_is) ∙ table_len l.rows o.places o.entries c.self.invariant.0) c.requires.fits in
+    let room : 0 < length o.room.items = subst (λ h. 0 < h.spare) (sym c.self.view_is) c.requires in
+    let fits : length o.entries + 1 < 9223372036854775808 = (let most = c.self.invariant.3 in omega (arith, room, most)) in
     each_awaits l.rows c.insert_reserved-slot.new.self o.places o.entries (length o.room.items) c.self.invariant.0 c.args.row c.insert_reserved-slot.result c.in-Err.place c.insert_reserved-slot.ensures.was_vacant c.insert_reserved-slot.ensures.updates gap
     (omega (arith, c.enter.ensures.room)) fits l.others.items c.self.invariant.2
 
@@ -47,6 +49,7 @@ invariant_of-self c =
       omega (arith, c.self.invariant.1, c.insert_reserved-slot.ensures.len, c.insert_reserved-slot.ensures.capacity, c.enter.ensures.room),
       subst (λ ps. Each (IsOther new ps c.enter.new.self.entries (length c.enter.new.self.room.items)) c.enter_all.new.orders.items) (sym c.enter.ensures.places)
           (each_entered l.rows new o.places o.entries (length o.room.items) c.self.invariant.0 c.args.row slot c.in-Err.place fresh changed gap c.enter.new.self.entries slots long (length c.enter.new.self.room.items) c.enter.ensures.room l.others.items c.enter_all.new.orders.items c.self.invariant.2 c.enter_all.ensures),
+      (let most = c.self.invariant.3 in omega (arith, most, long, c.enter.ensures.room)),
     )
 
 pub returns-in-Ok-clause-table : goal.returns-in-Ok-clause-table

@@ -43,6 +43,7 @@ invariant_of-self c =
       subst (λ ps. Each (IsOther new ps c.leave.new.self.entries (length c.leave.new.self.room.items)) c.leave_all.new.orders.items) (sym c.leave.ensures.places)
           (subst (λ r. Each (IsOther new o.places c.leave.new.self.entries (length r.items)) c.leave_all.new.orders.items) (sym c.leave.ensures.room)
           (each_left l.rows o.places o.entries (length o.room.items) c.self.invariant.0 c.args.place slot c.slot_at-slot.ensures new c.try_remove.ensures.updates c.leave.new.self.entries c.leave.ensures.entries long l.others.items c.leave_all.new.orders.items c.self.invariant.2 c.leave_all.ensures)),
+      (let most = c.self.invariant.3 in let same = ap (λ r. length r.items) c.leave.ensures.room in omega (arith, most, long, same)),
     )
 
 pub returns-clause-taken : goal.returns-clause-taken

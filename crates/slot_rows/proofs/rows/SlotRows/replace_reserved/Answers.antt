@@ -16,17 +16,6 @@ remove_at-requires c =
     let l = c.self.inside in
     subst (λ n. c.in-Ok.place < n) (sym (table_len l.rows l.by_key.places l.by_key.entries c.self.invariant.0) ∙ ap (λ h. fm.len h.table) c.self.view_is) c.in-Ok.ensures.bound
 
-pub insert_reserved-requires-clause-fits : goal.insert_reserved-requires-clause-fits
-insert_reserved-requires-clause-fits c =
-    let l = c.self.inside in
-    let o = l.by_key in
-    let key = key_of c.args.self.now.places c.args.row in
-    let here : IsKeyAt (fm.entries c.args.self.now.table) key c.in-Ok.place = subst (λ h. IsKeyAt (fm.entries h.table) (key_of h.places c.args.row) c.in-Ok.place) c.self.view_is
-    (subst (λ v. IsKeyAt (fm.entries (table_in l.rows o.places o.entries)) (key_of o.places v) c.in-Ok.place) c.values.ensures c.in-Ok.ensures.found) in
-    let len = ap fm.len (c.remove_at.ensures.taken key here).now ∙ fm.len-remove key_total c.args.self.now.table key ∙ ap (λ b. cond b (fm.len c.args.self.now.table - 1) (fm.len c.args.self.now.table)) (has_key c.args.self.now.table key c.in-Ok.place here) in
-    let some : c.in-Ok.place < fm.len c.args.self.now.table = subst (λ n. c.in-Ok.place < n) (sym (table_len l.rows o.places o.entries c.self.invariant.0) ∙ ap (λ h. fm.len h.table) c.self.view_is) c.in-Ok.ensures.bound in
-    omega (arith, len, some, c.len-held.ensures.value, c.len-held.ensures.fits)
-
 pub returns-in-Err-clause-table : goal.returns-in-Err-clause-table
 returns-in-Err-clause-table c =
     let l = c.self.inside in
