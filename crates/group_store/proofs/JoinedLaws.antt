@@ -276,3 +276,51 @@ keeps_children t roots places =
 -- there are as many children
 pub children_stay : (a b : TreeRows) → KeepsTree a b → length b.children.items ≡ length a.children.items
 children_stay a b k = sym (length-map b.children.items layer_of) ∙ ap length k.layers ∙ length-map a.children.items layer_of
+
+-- another child
+got_more : (cs : List ChildRows) (d : ChildRows) (j : ℕ) (x : ChildRows) → slice_get (cs ++ d ∷ []) j ≡ Some x → (slice_get cs j ≡ Some x) ⊎ ((j ≡ length cs) × (d ≡ x))
+got_more [] d zero x e = inr (refl, (let z : d ≡ x = cc in z))
+got_more [] d (suc j) x e = cc
+got_more (c ∷ cs) d zero x e = inl e
+got_more (c ∷ cs) d (suc j) x e = elim (got_more cs d j x e) [
+  | inl w ↦ inl w
+  | inr w ↦ inr (ap suc w.0, w.1)
+]
+
+key_more : (root : List ℕ) (ls : List Layer) (l : Layer) (p : ℕ) → p ≤ length ls → key_at root (ls ++ l ∷ []) p ≡ key_at root ls p
+key_more root ls l zero le = refl
+key_more root ls l (suc p) le = ap (λ o. unwrap_or (option_map (λ x. x.key) o) []) (front ls p (omega (arith, le)))
+  where
+    front : (ls : List Layer) (p : ℕ) → p < length ls → slice_get (ls ++ l ∷ []) p ≡ slice_get ls p
+    front [] p lt = absurd (omega (arith, lt))
+    front (x ∷ ls) zero lt = refl
+    front (x ∷ ls) (suc p) lt = front ls p (omega (arith, lt))
+
+map_more : {Y : Type 0} (f : ChildRows → Y) (cs : List ChildRows) (d : ChildRows) → map f (cs ++ d ∷ []) ≡ map f cs ++ f d ∷ []
+map_more f [] d = refl
+map_more f (c ∷ cs) d = ap (λ l. f c ∷ l) (map_more f cs d)
+
+module _ (t new : TreeRows) (c : ChildRows) (root : new.roots.places ≡ t.roots.places) (items : new.children.items ≡ t.children.items ++ c ∷ []) where
+  pub layers_more : layers_of new ≡ layers_of t ++ layer_of c ∷ []
+  layers_more = ap (map layer_of) items ∙ map_more layer_of t.children.items c
+
+  pub tables_more : new.roots.table ≡ t.roots.table → tables_of new ≡ tables_of t ++ c.rows.table ∷ []
+  tables_more same = (λ i. same i ∷ map table_in (items i)) ∙ ap (λ l. t.roots.table ∷ l) (map_more table_in t.children.items c)
+
+  places_more : (p : ℕ) → p ≤ length t.children.items → places_at new p ≡ places_at t p
+  places_more p le =
+      ap (λ r. key_at r (layers_of new) p) root ∙ ap (λ ls. key_at t.roots.places ls p) layers_more
+      ∙ key_more t.roots.places (layers_of t) (layer_of c) p (let long = length-map t.children.items layer_of in omega (arith, le, long))
+
+  pub joined_more : IsJoined t (length t.children.items) c → AreJoined t → AreJoined new
+  joined_more one joined j e at = elim (got_more t.children.items c j e (ap (λ xs. slice_get xs j) (sym items) ∙ at)) [
+    | inl w ↦
+        let was = joined j e w in
+        let lt = inside t.children.items j e w in
+        let le : e.parent ≤ length t.children.items = (let b = was.before in omega (arith, b, lt)) in
+        record { before = was.before; orders = was.orders; some = was.some; long = was.long ∙ sym (ap length (places_more e.parent le)) }
+    | inr w ↦
+        let was = subst (IsJoined t (length t.children.items)) w.1 one in
+        let le = was.before in
+        record { before = (let i = w.0 in omega (arith, i, le)); orders = was.orders; some = was.some; long = was.long ∙ sym (ap length (places_more e.parent le)) }
+  ]

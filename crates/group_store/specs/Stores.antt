@@ -1,6 +1,6 @@
 -- What a cache group keeps, and what becomes of it. (TimesTen Cache User's Guide, "Cache groups" and "Implementing aging in
 -- a cache group".)
-use Rattle.std.specs.Prelude.{◌≡◌, ◌≤◌, ◌+◌, ℕ, zero, suc, List, [], ◌∷◌, Option, Some, None, Bool, true, false, nat_eq, position, refl, if◌then◌else◌}
+use Rattle.std.specs.Prelude.{◌≡◌, ◌≤◌, ◌+◌, ℕ, zero, suc, List, [], ◌∷◌, ◌++◌, Option, Some, None, Bool, true, false, nat_eq, position, refl, if◌then◌else◌}
 use Rattle.std.specs.Option.{option_map}
 use Rattle.std.specs.Coded.{Coded, code_by, coded×, coded_list, coded_ℕ}
 use Rattle.std.specs.FinMap as fm
@@ -50,6 +50,14 @@ pub record SameButSpare (old new : Kept) : Type 0 where
   pub key : new.key ≡ old.key
   pub layers : new.layers ≡ old.layers
   pub tables : new.tables ≡ old.tables
+  pub keys : new.keys ≡ old.keys
+
+-- another child table without rows
+pub record AddsChild (old new : Kept) (layer : Layer) : Type 0 where
+  pub table : new.table ≡ old.table
+  pub key : new.key ≡ old.key
+  pub layers : new.layers ≡ old.layers ++ layer ∷ []
+  pub tables : new.tables ≡ old.tables ++ fm.empty ∷ []
   pub keys : new.keys ≡ old.keys
 
 -- a key becomes the newest

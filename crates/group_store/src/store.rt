@@ -1,6 +1,6 @@
 //! What a cache group keeps.
 
-ghost use Rattle.std.specs.Prelude.{◌≡◌, ◌≤◌, ◌<◌, ◌+◌, [], ◌∷◌, Some, IfSome, OnOk, length, option_copied, position, slice_get};
+ghost use Rattle.std.specs.Prelude.{◌≡◌, ◌≤◌, ◌<◌, ◌+◌, ◌++◌, [], ◌∷◌, Some, IfOk, IfSome, OnErr, OnOk, length, option_copied, position, slice_get};
 ghost use Rattle.std.specs.Option.{option_and_then};
 ghost use Rattle.std.specs.FinMap as map;
 ghost use Rattle.recency.specs.Rings.{next_key};
@@ -8,11 +8,13 @@ ghost use Rattle.indexed_rows.specs.Rows.{is_same};
 ghost use Rattle.table_state.specs.Operations.{table_of};
 ghost use Rattle.instances.specs.Trees.{same_table};
 ghost use Rattle.instances.specs.Views.{kept_at};
-ghost use Rattle.group_store.specs.Stores.{SameButSpare, cut_store, op_done, ops_done, place_in, put_store, touched_store};
+ghost use Rattle.group_store.specs.Trees.{key_at};
+ghost use Rattle.group_store.specs.Stores.{AddsChild, SameButSpare, cut_store, op_done, ops_done, place_in, put_store, touched_store};
 
 use crate::recent::RecentRows;
 use crate::tree_rows::{ChildRows, TreeRows};
 use row_types::{Key, Row};
+use slot_rows::SlotRows;
 use std::alloc::{AllocError, Global};
 use std::marker::Model;
 use table_state::{Op, Ops};
@@ -63,6 +65,36 @@ impl Store {
                 children: Vec::new(alloc),
             },
         }
+    }
+
+    /// Gives the tree another child table: its id, the columns of its primary key and of its foreign key, and the place of
+    /// the table that this one refers to.
+    ///
+    /// It fails for want of memory alone, and the store is then as it was.
+    pub fn add_child(
+        &mut self,
+        alloc: Global,
+        table: TableId,
+        key: Seq<usize>,
+        foreign: Seq<usize>,
+        parent: usize,
+    ) -> Result<(), AllocError>
+        requires parent { parent ≤ length self.old.layers }
+        requires some { 0 < length foreign }
+        requires long { length foreign ≡ length (key_at self.old.key self.old.layers parent) }
+        ensures ok { OnOk result (AddsChild self.old self.new (record { table = table; key = key; foreign = foreign; parent = parent })) }
+        ensures err { OnErr result (self.new ≡ self.old) }
+    {
+        let columns = joined(alloc, &foreign, &key)?;
+        let mut rows = SlotRows::new(alloc, key);
+        rows.add_order(alloc, columns)?;
+        self.rows.children.push(ChildRows {
+            table,
+            parent,
+            foreign,
+            rows,
+        })?;
+        Ok(())
     }
 
     /// The place of a table in the tree, 0 for the root; none where the tree doesn't have the table.
@@ -201,4 +233,13 @@ fn same_table(a: TableId, b: TableId) -> bool
     ensures { result ≡ same_table a b }
 {
     a.0 == b.0
+}
+
+// Some columns and then others.
+fn joined(alloc: Global, first: &Seq<usize>, second: &Seq<usize>) -> Result<Seq<usize>, AllocError>
+    ensures { IfOk result (λ columns. columns ≡ first.now ++ second.now) }
+{
+    let mut columns = Vec::from_slice(alloc, first.as_slice())?;
+    columns.extend_from_slice(second.as_slice())?;
+    Ok(Seq::from_vec(columns))
 }
