@@ -136,7 +136,7 @@ module _ (t : TreeRows) (place : ℕ) (key : Row) where
   none_is none i l child row there parent found =
       let c = layer_got t.children.items i l there in
       λ same. none i c.0 (inside t.children.items i c.0 c.1) c.1 (ap (λ x. x.parent) c.2 ∙ parent) child row
-          (ap (λ m. fm.get m child) (sym (kept_child t.roots.table t.children.items i c.0 c.1)) ∙ found) (ap (λ x. key_of x.foreign row) c.2 ∙ same)
+      (ap (λ m. fm.get m child) (sym (kept_child t.roots.table t.children.items i c.0 c.1)) ∙ found) (ap (λ x. key_of x.foreign row) c.2 ∙ same)
 
   module _ (joined : AreJoined t) (at : ℕ) (row : Row) (child : IsChild (layers_of t) (tables_of t) place key at row) where
     -- a child's table stands behind

@@ -179,10 +179,10 @@ module _ (layers : List Layer) (tables : List Table) where
       child_leads : reaches 1 c child_key ≡ true
       child_leads = subst (λ p. reaches 1 p child_key ≡ true) (sym child.is) (
           ap (λ o. is_top tables top at (suc child.i) child_key || passes_up (reaches zero) o)
-              (parent_is child.i child.layer child_key row child.there (subst (λ p. fm.get (kept_at tables p) child_key ≡ Some row) child.is child.found))
+          (parent_is child.i child.layer child_key row child.there (subst (λ p. fm.get (kept_at tables p) child_key ≡ Some row) child.is child.found))
           ∙ ap (λ b. is_top tables top at (suc child.i) child_key || b) (ap (λ p. reaches zero p (key_of child.layer.foreign row)) child.parent ∙ ap (reaches zero top) child.refers ∙ top_leads zero has)
           ∙ or_true (is_top tables top at (suc child.i) child_key)
-        )
+          )
 
       top_child : (n q : ℕ) (k : Row) → is_top tables c child_key q k ≡ true → reaches (suc n) q k ≡ true
       top_child n q k e =
@@ -311,6 +311,6 @@ module _ (layers : List Layer) (tables : List Table) where
         by q k true e =
             let is = it_is place key q k e in
             subst (λ p. cond (not (leads layers tables place key (length layers) p k)) (fm.get (kept_at tables p) k) None ≡ None) (sym is.0)
-                (subst (λ r. cond (not (leads layers tables place key (length layers) place r)) (fm.get (kept_at tables place) r) None ≡ None) (sym is.1) (none (fm.get (kept_at tables place) key) refl))
+            (subst (λ r. cond (not (leads layers tables place key (length layers) place r)) (fm.get (kept_at tables place) r) None ≡ None) (sym is.1) (none (fm.get (kept_at tables place) key) refl))
             ∙ sym (got_left q k ∙ ap (λ b. cond b None (fm.get (kept_at tables q) k)) e)
         by q k false e = ap (λ b. cond (not b) (fm.get (kept_at tables q) k) None) (none_leads place key bare (length layers) q k e) ∙ sym (got_other q k e)

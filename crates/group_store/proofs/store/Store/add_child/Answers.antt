@@ -33,7 +33,7 @@ invariant_of-self-2 c =
     let before = subst (λ h. c.args.parent ≤ length h.layers) (sym c.self.view_is) c.requires.parent in
     let places : rows.places ≡ c.args.key = ap (λ h. h.places) c.in_ok-add_order.ensures.ok ∙ c.new-rows.ensures.places in
     let orders : rows.orders ≡ (c.args.foreign ++ rows.places) ∷ [] = ap (λ h. h.orders) c.in_ok-add_order.ensures.ok ∙ ap (λ os. os ++ c.in_ok-columns.columns ∷ []) c.new-rows.ensures.orders
-        ∙ ap (λ ps. ps ∷ []) (c.in_ok-columns.ensures ∙ ap (λ ps. c.args.foreign ++ ps) (sym places)) in
+    ∙ ap (λ ps. ps ∷ []) (c.in_ok-columns.ensures ∙ ap (λ ps. c.args.foreign ++ ps) (sym places)) in
     let one : IsJoined t (length t.children.items) child = record {
       before = omega (arith, before, long);
       orders = orders;

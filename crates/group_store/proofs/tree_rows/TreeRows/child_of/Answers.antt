@@ -64,5 +64,5 @@ returns c =
     let t = c.args.self.now in
     let key = key_of (places_at t c.args.place) c.args.row.now in
     none_is t c.args.place key (λ i d lt there.
-        let w : i < c.loop-at.at = (let end = subst (λ xs. length xs ≤ c.loop-at.at) c.deref-child-items.ensures.value c.loop-at-test.false in omega (arith, end, lt)) in
-        subst (λ ps. IsRowOf d c.args.place (key_of ps c.args.row.now) None) c.places-columns.ensures (c.loop-at.invariant i d w there))
+    let w : i < c.loop-at.at = (let end = subst (λ xs. length xs ≤ c.loop-at.at) c.deref-child-items.ensures.value c.loop-at-test.false in omega (arith, end, lt)) in
+    subst (λ ps. IsRowOf d c.args.place (key_of ps c.args.row.now) None) c.places-columns.ensures (c.loop-at.invariant i d w there))
