@@ -1,6 +1,6 @@
 -- The tables of a group's tree, and rows that lead to others. (TimesTen Cache User's Guide, "Cache instances": a row of the
 -- root table with the rows that refer to it, directly or through others.)
-use Rattle.std.specs.Prelude.{◌≡◌, ◌≢◌, ℕ, zero, suc, ◌+◌, ◌<◌, ◌≤◌, List, [], ◌∷◌, Option, Some, None, Bool, true, false, ◌⊎◌, ◌&&◌, ◌||◌, not, nat_eq, length, slice_get, unwrap_or, if◌then◌else◌}
+use Rattle.std.specs.Prelude.{◌≡◌, ◌≢◌, ℕ, zero, suc, ◌+◌, ◌<◌, ◌≤◌, List, [], ◌∷◌, Option, Some, None, Bool, true, false, ◌⊎◌, ◌&&◌, ◌||◌, not, nat_eq, length, slice_get, unwrap_or}
 use Rattle.std.specs.Option.{option_and_then, option_map}
 use Rattle.std.specs.FinMap.{contains_key, entries, get, retain_keys}
 use Rattle.row_types.specs.declared.value.Value.{Value}

@@ -1,4 +1,4 @@
-use Rattle.std.proofs.Common.{◌≡◌, length, subst}
+use Rattle.std.proofs.Common.{length, subst}
 use Rattle.std.specs.Option.{option_copied}
 use Rattle.indexed_rows.specs.Rows.{key_of}
 use Rattle.slot_rows.specs.Orders.{IsRowWith}

@@ -1,4 +1,4 @@
-use Rattle.std.proofs.Common.{◌≡◌, ◌<◌, nat_eq, ap, sym, subst, ◌∙◌}
+use Rattle.std.proofs.Common.{◌<◌, nat_eq, ap, sym, subst, ◌∙◌}
 use Rattle.std.specs.List.{list_any}
 use Rattle.std.specs.FinMap as fm
 use Rattle.key_rows.specs.Places.{IsKeyAt}

@@ -1,4 +1,4 @@
-use Rattle.std.proofs.Common.{◌≤◌, arith}
+use Rattle.std.proofs.Common.{arith}
 use Rattle.group_store.specs.Stores.{ops_done}
 use Rattle.group_store.proofs.StoreLaws.{one_less, one_more}
 use Rattle.group_store.proofs.store.Store.apply_ops.Goals as goal

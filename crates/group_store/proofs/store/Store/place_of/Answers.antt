@@ -1,4 +1,4 @@
-use Rattle.std.proofs.Common.{◌≡◌, ◌+◌, ℕ, suc, Bool, true, false, cond, Option, Some, None, map, position, refl, sym, ap, ◌∙◌, eqb-true, arith}
+use Rattle.std.proofs.Common.{◌≡◌, ◌+◌, suc, Bool, true, false, cond, Some, map, position, refl, sym, ap, ◌∙◌, eqb-true, arith}
 use Rattle.std.specs.Option.{option_map}
 use Rattle.tier_base.specs.declared.number.TableId.{TableId}
 use Rattle.instances.specs.Trees.{same_table}

@@ -1,4 +1,4 @@
-use Rattle.std.proofs.Common.{◌≤◌, ◌+◌, subst, arith}
+use Rattle.std.proofs.Common.{◌≤◌, subst, arith}
 use Rattle.group_store.specs.Joined.{least_spare}
 use Rattle.group_store.proofs.JoinedLaws.{keeps_children, least_root}
 use Rattle.group_store.proofs.store.Store.touch.Goals as goal

@@ -1,8 +1,7 @@
-use Rattle.std.proofs.Common.{◌≡◌, ◌<◌, ◌+◌, ℕ, suc, ◌≤◌, length, get_or, slice_get, Some, None, inl, inr, ap, sym, subst, ◌∙◌, arith}
+use Rattle.std.proofs.Common.{◌≡◌, ◌<◌, ◌+◌, suc, ◌≤◌, length, get_or, slice_get, Some, None, inl, inr, ap, sym, subst, ◌∙◌, arith}
 use Rattle.std.proofs.lemmas.Bool.{cases_lt}
-use Rattle.std.specs.Option.{option_copied}
 use Rattle.indexed_rows.specs.Rows.{key_of}
-use Rattle.group_store.specs.Trees.{IsChild, IsChildless}
+use Rattle.group_store.specs.Trees.{IsChild}
 use Rattle.group_store.specs.Joined.{IsRowOf, layers_of, places_at, tables_of}
 use Rattle.group_store.proofs.JoinedLaws.{child_is, item_there, none_is}
 use Rattle.group_store.proofs.tree_rows.TreeRows.child_of.Goals as goal

@@ -1,9 +1,7 @@
-use Rattle.std.proofs.Common.{◌≡◌, ◌<◌, ◌≤◌, ℕ, suc, length, Option, Some, None, ap, sym, subst, ◌∙◌, MatchOption, arith}
+use Rattle.std.proofs.Common.{◌<◌, length, ap, sym, subst, ◌∙◌, arith}
 use Rattle.std.proofs.lemmas.List.{length-map}
-use Rattle.std.specs.FinMap as fm
 use Rattle.instances.specs.Views.{kept_at}
-use Rattle.cache_store.specs.Operating.{change_at}
-use Rattle.group_store.specs.Trees.{CanGo, IsBare, cut_from}
+use Rattle.group_store.specs.Trees.{cut_from}
 use Rattle.group_store.specs.Joined.{layer_of, layers_of, tables_of}
 use Rattle.group_store.proofs.JoinedLaws.{long_tables}
 use Rattle.group_store.proofs.RecentLaws.{spot_within}

@@ -1,6 +1,4 @@
-use Rattle.std.proofs.Common.{◌≡◌, Some, ap, is_some, inr, sym, subst, ◌∙◌, arith}
-use Rattle.std.specs.FinMap as fm
-use Rattle.instances.specs.Views.{kept_at}
+use Rattle.std.proofs.Common.{ap, is_some, inr, sym, subst, arith}
 use Rattle.group_store.specs.Trees.{IsChild, IsChildless}
 use Rattle.group_store.specs.Joined.{layers_of, tables_of}
 use Rattle.group_store.proofs.JoinedLaws.{child_behind, child_found, leaf_goes, leaf_through}

@@ -1,9 +1,8 @@
-use Rattle.std.proofs.Common.{◌≡◌, ◌<◌, ◌≤◌, ◌+◌, ◌-◌, length, ap, sym, subst, ◌∙◌, arith}
-use Rattle.std.specs.FinMap as fm
-use Rattle.indexed_rows.specs.Rows.{key_of, put_in, put_over}
+use Rattle.std.proofs.Common.{◌<◌, ◌-◌, length, ap, sym, ◌∙◌, arith}
+use Rattle.indexed_rows.specs.Rows.{key_of, put_in}
 use Rattle.cache_store.specs.Operating.{change_at}
 use Rattle.group_store.specs.declared.tree_rows.ChildRows.{ChildRows}
-use Rattle.group_store.specs.Joined.{places_at, tables_of}
+use Rattle.group_store.specs.Joined.{tables_of}
 use Rattle.group_store.proofs.JoinedLaws.{child_room, item_there, keeps_children, keeps_tree, least_root, least_set, places_there, root_room, tables_changed}
 use Rattle.group_store.proofs.tree_rows.TreeRows.put.Goals as goal
 

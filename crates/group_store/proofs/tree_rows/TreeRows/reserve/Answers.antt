@@ -1,8 +1,7 @@
-use Rattle.std.proofs.Common.{◌≡◌, ◌<◌, ◌≤◌, ◌+◌, ◌∷◌, ℕ, Some, length, map, slice_get, set, refl, inl, inr, sym, ap, subst, ◌∙◌, arith}
+use Rattle.std.proofs.Common.{◌≡◌, ◌<◌, ◌≤◌, ◌∷◌, length, map, inl, inr, ap, subst, ◌∙◌, arith}
 use Rattle.std.specs.Vec.{with_item}
 use Rattle.group_store.specs.declared.tree_rows.ChildRows.{ChildRows}
 use Rattle.group_store.specs.declared.tree_rows.TreeRows.{TreeRows}
-use Rattle.group_store.specs.Joined.{least_spare}
 use Rattle.group_store.proofs.JoinedLaws.{children_stay, item_there, keeps_at, keeps_both, keeps_children, least_all, least_root, least_set, set_got, tables_kept}
 use Rattle.group_store.proofs.tree_rows.TreeRows.reserve.Goals as goal
 

@@ -1,4 +1,4 @@
-use Rattle.std.proofs.Common.{◌≡◌, ◌<◌, ◌-◌, length, refl, sym, subst, ap, ◌∙◌, arith}
+use Rattle.std.proofs.Common.{◌≡◌, ◌<◌, ◌-◌, length, refl, subst, ap, arith}
 use Rattle.std.specs.FinMap as fm
 use Rattle.key_rows.specs.Places.{IsKeyAt}
 use Rattle.group_store.specs.declared.tree_rows.ChildRows.{ChildRows}
