@@ -6,7 +6,6 @@ use Rattle.tier_base.specs.Limits.{greatest}
 use Rattle.tier_base.specs.declared.number.SessionId.{SessionId}
 use Rattle.table_defs.specs.declared.definition.TableDef.{TableDef}
 use Rattle.table_state.specs.declared.operation.Op.{Op}
-use Rattle.session_state.specs.declared.session.Session.{Session}
 use Rattle.session_state.specs.Kept.{IsKept, seen_of}
 use Rattle.session_state.specs.Locks.{IsApart}
 use Rattle.session_state.specs.Sessions.{OpenSession, begun, has_id}

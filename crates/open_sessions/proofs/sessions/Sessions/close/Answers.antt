@@ -1,8 +1,8 @@
-use Rattle.std.proofs.Common.{◌≡◌, ◌<◌, All, length, get_or, map, sym, ap, subst, ◌∙◌, arith}
+use Rattle.std.proofs.Common.{◌<◌, All, length, map, sym, ap, subst, ◌∙◌, arith}
 use Rattle.std.proofs.lemmas.List.{length-map}
-use Rattle.std.specs.List.{AllPairs, remove}
+use Rattle.std.specs.List.{AllPairs}
 use Rattle.session_state.specs.Kept.{IsKept, seen_of}
-use Rattle.open_sessions.specs.Opening.{AreApartPair, DifferInNumber, closed}
+use Rattle.open_sessions.specs.Opening.{AreApartPair, DifferInNumber}
 use Rattle.open_sessions.proofs.SessionLaws.{all_removed, closed_none, closed_one, found, none_has, pairs_removed}
 use Rattle.open_sessions.proofs.sessions.Sessions.close.Goals as goal
 

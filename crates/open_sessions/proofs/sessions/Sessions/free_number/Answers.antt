@@ -1,4 +1,4 @@
-use Rattle.std.proofs.Common.{◌<◌, ◌≤◌, length, arith}
+use Rattle.std.proofs.Common.{arith}
 use Rattle.session_state.specs.declared.session.Session.{Session}
 use Rattle.session_state.proofs.ListLaws.{as_many_as}
 use Rattle.open_sessions.proofs.sessions.Sessions.free_number.Goals as goal

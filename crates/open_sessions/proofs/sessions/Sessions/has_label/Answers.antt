@@ -1,4 +1,4 @@
-use Rattle.std.proofs.Common.{◌≡◌, ◌<◌, length, get_or, refl, sym, ap, subst, ◌∙◌}
+use Rattle.std.proofs.Common.{◌<◌, length, get_or, refl, sym, ap, subst, ◌∙◌}
 use Rattle.open_sessions.proofs.sessions.Sessions.has_label.Goals as goal
 
 pub returns-then-same : goal.returns-then-same

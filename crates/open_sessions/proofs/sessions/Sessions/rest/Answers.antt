@@ -1,6 +1,6 @@
-use Rattle.std.proofs.Common.{◌≡◌, map, set, ap, refl, ◌∙◌}
+use Rattle.std.proofs.Common.{ap}
 use Rattle.std.proofs.lemmas.List.Elements.{All-set}
-use Rattle.session_state.specs.Kept.{IsKept, seen_of}
+use Rattle.session_state.specs.Kept.{IsKept}
 use Rattle.session_state.specs.Sessions.{at_rest}
 use Rattle.open_sessions.proofs.SessionLaws.{apart_rest, found, none_has, numbers_set, on_none, on_one}
 use Rattle.open_sessions.proofs.sessions.Sessions.rest.Goals as goal

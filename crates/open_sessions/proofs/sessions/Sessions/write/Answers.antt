@@ -1,4 +1,4 @@
-use Rattle.std.proofs.Common.{◌≡◌, ◌+◌, ◌≤◌, length, map, Some, ap, subst, sym, ◌∙◌}
+use Rattle.std.proofs.Common.{◌≡◌, ◌+◌, ◌≤◌, length, map, Some, ap, subst, sym}
 use Rattle.std.specs.List.{AllPairs}
 use Rattle.std.proofs.lemmas.List.Elements.{All-set}
 use Rattle.tier_base.specs.declared.limit.Limit.TheVariants as limit
@@ -6,7 +6,7 @@ use Rattle.tier_base.specs.Limits.{greatest}
 use Rattle.session_state.specs.Kept.{IsKept, seen_of}
 use Rattle.session_state.specs.Sessions.{has_id, with_ops}
 use Rattle.session_state.proofs.ApartLaws.{apart}
-use Rattle.open_sessions.specs.Opening.{AreApartPair, AreSessions}
+use Rattle.open_sessions.specs.Opening.{AreApartPair}
 use Rattle.open_sessions.proofs.SessionLaws.{all_at, apart_write, either_way, found, none_has, numbers_set, on_err_by, on_none, on_ok_by, on_one, seen_got, seen_same}
 use Rattle.std.proofs.Common.{true}
 use Rattle.open_sessions.proofs.sessions.Sessions.write.Goals as goal
