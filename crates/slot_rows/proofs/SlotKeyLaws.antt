@@ -1,5 +1,5 @@
 -- The keys of the rows in slots.
-use Rattle.std.proofs.Common.{◌≡◌, ℕ, zero, suc, ◌<◌, Bool, true, false, cond, List, [], ◌∷◌, length, map, slice_get, Option, Some, None, Less, Equal, Greater, Ordering, unwrap_or, refl, sym, ap, subst, ◌∙◌, arith}
+use Rattle.std.proofs.Common.{◌≡◌, ℕ, zero, suc, ◌<◌, Bool, true, false, cond, List, [], ◌∷◌, length, slice_get, Option, Some, None, Less, Equal, Greater, Ordering, unwrap_or, refl, sym, ap, subst, ◌∙◌, arith}
 use Rattle.std.specs.List.{insert, remove}
 use Rattle.std.specs.Ordering.{eq_by_cmp, is_eq, nat_cmp}
 use Rattle.std.proofs.lemmas.Cmp.{nat_cmp_total, tied_itself}
@@ -10,7 +10,7 @@ use Rattle.row_types.specs.Order.{key_order}
 use Rattle.row_types.proofs.OrderLaws.{key_exact}
 use Rattle.key_rows.specs.Places.{IsGapFor, IsKeyAt}
 use Rattle.key_rows.proofs.MapLaws.{entries_of, has_key, no_key}
-use Rattle.indexed_rows.specs.Rows.{Table, key_of}
+use Rattle.indexed_rows.specs.Rows.{key_of}
 use Rattle.slot_rows.specs.Slots.{AreOrdered, entries_in, row_in, slots_of, table_in}
 use Rattle.slot_rows.specs.SlotKeys.{IsKeyedBy, PutsInSlot, RowsHeld, SlotKeys, slot_entries, slot_keys_in}
 use Rattle.slot_rows.specs.declared.order.Entry.{Entry}

@@ -9,7 +9,7 @@ use Rattle.slot_rows.specs.Orders.{Each, IsOther}
 use Rattle.slot_rows.specs.SlotKeys.{slot_entries, slot_keys_in}
 use Rattle.slot_rows.specs.Slots.{AreOrdered, slots_of, table_in}
 use Rattle.slot_rows.specs.declared.order.Entry.{Entry}
-use Rattle.slot_rows.proofs.OrderLaws.{gap_stays, other, order_entered, order_stays, put_where_there, slots_now, table_entered, table_len, table_stays}
+use Rattle.slot_rows.proofs.OrderLaws.{gap_stays, other, order_entered, order_stays, put_where_there, slots_now, table_entered, table_stays}
 use Rattle.slot_rows.proofs.ManyLaws.{columns_stay, each_awaits, each_entered}
 use Rattle.slot_rows.proofs.SlotKeyLaws.{slot_filled, slot_was_free}
 use Rattle.slot_rows.proofs.rows.SlotRows.insert_reserved.Goals as goal

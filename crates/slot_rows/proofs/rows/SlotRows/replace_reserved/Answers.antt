@@ -1,6 +1,5 @@
-use Rattle.std.proofs.Common.{◌≡◌, ◌<◌, ◌-◌, Some, cond, ap, sym, subst, ◌∙◌, arith}
+use Rattle.std.proofs.Common.{◌≡◌, ◌<◌, Some, cond, ap, sym, subst, ◌∙◌}
 use Rattle.std.specs.FinMap as fm
-use Rattle.row_types.proofs.OrderLaws.{key_total}
 use Rattle.key_rows.specs.Places.{IsGapFor, IsKeyAt}
 use Rattle.key_rows.proofs.MapLaws.{has_key, no_key}
 use Rattle.indexed_rows.specs.Rows.{key_of, put_in, put_over}

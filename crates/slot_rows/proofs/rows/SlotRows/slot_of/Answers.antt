@@ -1,5 +1,4 @@
 use Rattle.std.proofs.Common.{None, Some, ap, subst}
-use Rattle.std.specs.FinMap as fm
 use Rattle.key_rows.proofs.MapLaws.{has_key, no_key}
 use Rattle.slot_rows.specs.SlotKeys.{IsSlotOf}
 use Rattle.slot_rows.specs.Slots.{table_in}
