@@ -1,10 +1,13 @@
 -- What the tier does of a request line: the line in the types of what is done, none where it isn't done yet (this project's
 -- rule).
-use Rattle.std.specs.Prelude.{ℕ, Bool, true, false, ◌&&◌, List, [], ◌∷◌, map, Option, Some, None, if◌then◌else◌}
+use Rattle.std.specs.Prelude.{ℕ, Bool, true, false, ◌&&◌, not, List, [], ◌∷◌, map, Option, Some, None, if◌then◌else◌}
 use Rattle.std.specs.Option.{option_map, is_none}
-use Rattle.std.specs.List.{list_all}
+use Rattle.std.specs.List.{list_all, list_any}
 use Rattle.std.specs.Char.{is_ascii_digit}
+use Rattle.row_types.specs.declared.declaration.ColumnDeclaration.{ColumnDeclaration}
 use Rattle.row_types.specs.declared.declaration.TableDeclaration.{TableDeclaration}
+use Rattle.row_types.specs.declared.declaration.TypeDeclaration.{TypeDeclaration}
+use Rattle.row_types.specs.declared.declaration.TypeDeclaration.TheVariants as types
 use Rattle.sql_query.specs.declared.literal.Literal as query
 use Rattle.sql_query.specs.declared.literal.Literal.TheVariants as literals
 use Rattle.sql_query.specs.declared.query.FromTable.{FromTable}
@@ -126,9 +129,27 @@ kind_of kind.UserManaged = None
 abbrev pub plain_table : TableDeclaration → Option TableDeclaration
 plain_table table = if is_none table.foreign_key then Some table else None
 
--- the only table, without attribute, WHERE, AGING and foreign key
+-- a column of type NUMBER
+abbrev pub is_number : ColumnDeclaration → Bool
+is_number column = is_number_type column.ty
+  where
+    is_number_type : TypeDeclaration → Bool
+    is_number_type types.TtInteger = false
+    is_number_type types.TtBigint = false
+    is_number_type (types.Number precision scale) = true
+    is_number_type (types.Varchar2 digits) = false
+    is_number_type types.Timestamp = false
+
+abbrev pub has_numbers : TableDeclaration → Bool
+has_numbers table = list_any is_number table.columns
+
+-- a table of a group, without attribute, WHERE and AGING
+abbrev pub is_plain : GroupTable → Bool
+is_plain t = is_none t.attribute && is_none t.filter && is_none t.aging
+
+-- the only table, which is plain, and has no foreign key and no column of type NUMBER
 abbrev pub group_table : List GroupTable → Option TableDeclaration
-group_table (t ∷ []) = if is_none t.attribute && is_none t.filter && is_none t.aging then plain_table t.table else None
+group_table (t ∷ []) = if is_plain t && not (has_numbers t.table) then plain_table t.table else None
 group_table ts = None
 
 abbrev pub as_group : groups.CreateGroup → GroupKind → TableDeclaration → Stmt

@@ -1,12 +1,12 @@
 //! Lines that the tier does.
 
 ghost use Rattle.std.specs.Prelude.{◌≡◌, ◌∷◌, [], IfOk, option_copied};
-ghost use Rattle.served_lines.specs.Served.{call_of, console_of, group_of, group_table, insert_of, is_bare, is_everything, kind_of, load_of, lone_table, plain_table, request_of, select_of, served, statement_of, write_of};
+ghost use Rattle.served_lines.specs.Served.{call_of, console_of, group_of, group_table, has_numbers, insert_of, is_bare, is_everything, is_number, is_plain, kind_of, load_of, lone_table, plain_table, request_of, select_of, served, statement_of, write_of};
 
 use crate::literals::{constants_of, literals_of};
 use crate::request::{ConsoleRequest, Line, Request};
 use crate::stmt::{Call, CreateGroup, GroupKind, Insert, Load, Select, Stmt};
-use row_types::TableDeclaration;
+use row_types::{ColumnDeclaration, TableDeclaration, TypeDeclaration};
 use sql_query::{Condition, FromTable, Insert as Inserted, OrderItem, Query, SelectList, Write};
 use sql_subset::request::{ConsoleRequest as Console, Line as Spelt, Request as Asked};
 use sql_subset::stmt::{
@@ -116,10 +116,38 @@ fn plain_table(table: TableDeclaration) -> Option<TableDeclaration>
     Some(table)
 }
 
+fn is_number(column: &ColumnDeclaration) -> bool
+    ensures { result ≡ is_number column.now }
+{
+    match &column.ty {
+        TypeDeclaration::TtInteger => false,
+        TypeDeclaration::TtBigint => false,
+        TypeDeclaration::Number(_, _) => true,
+        TypeDeclaration::Varchar2(_) => false,
+        TypeDeclaration::Timestamp => false,
+    }
+}
+
+fn has_numbers(table: &TableDeclaration) -> bool
+    ensures { result ≡ has_numbers table.now }
+{
+    table
+        .columns
+        .as_slice()
+        .iter()
+        .any(|column| is_number(column))
+}
+
+fn is_plain(table: &GroupTable) -> bool
+    ensures { result ≡ is_plain table.now }
+{
+    table.attribute.is_none() && table.filter.is_none() && table.aging.is_none()
+}
+
 fn table_of(table: GroupTable) -> Option<TableDeclaration>
     ensures { result ≡ group_table (table ∷ []) }
 {
-    if table.attribute.is_some() || table.filter.is_some() || table.aging.is_some() {
+    if !is_plain(&table) || has_numbers(&table.table) {
         return None;
     }
     plain_table(table.table)
