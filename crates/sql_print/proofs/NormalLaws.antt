@@ -1,7 +1,6 @@
 -- The normal form is its own.
 use Rattle.std.proofs.Common.{◌≡◌, ℕ, Bool, true, false, ◌||◌, eqb, cond, List, [], ◌∷◌, map, Option, Some, None, refl, ap, ◌∙◌}
 use Rattle.std.specs.List.{filter}
-use Rattle.std.specs.Option.{option_or}
 use Rattle.row_types.specs.declared.declaration.TypeDeclaration.{TypeDeclaration}
 use Rattle.row_types.specs.declared.declaration.TypeDeclaration.TheVariants as types
 use Rattle.row_types.specs.declared.declaration.ColumnDeclaration.{ColumnDeclaration}
@@ -10,7 +9,7 @@ use Rattle.sql_subset.specs.declared.stmt.AgingClause.{AgingClause}
 use Rattle.sql_subset.specs.declared.stmt.GroupTable.{GroupTable}
 use Rattle.sql_subset.specs.declared.stmt.Stmt.{Stmt}
 use Rattle.sql_subset.specs.declared.stmt.Stmt.TheVariants as v
-use Rattle.sql_words.specs.NormalTables.{by_value, scale_by_value, normal_type, marked, single_key, is_in, key_columns, foreign_columns, normal_column, with_key, normal_table}
+use Rattle.sql_words.specs.NormalTables.{by_value, scale_by_value, normal_type, marked, single_key, is_in, foreign_columns, normal_column, with_key, normal_table}
 use Rattle.sql_print.specs.Normal.{normal_aging, normal_group_table, normal_group_tables, normal}
 
 value_again : (ds : List ℕ) → by_value (by_value ds) ≡ by_value ds

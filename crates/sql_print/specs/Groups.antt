@@ -1,5 +1,5 @@
 -- The words of cache groups (this project's rule).
-use Rattle.std.specs.Prelude.{ℕ, Bool, true, false, List, [], ◌∷◌, ◌++◌, codes, Option, Some, None, if◌then◌else◌}
+use Rattle.std.specs.Prelude.{ℕ, Bool, List, [], ◌∷◌, ◌++◌, codes, Option, Some, None, if◌then◌else◌}
 use Rattle.std.specs.Fmt.{decimal}
 use Rattle.sql_subset.specs.declared.stmt.AgingClause.{AgingClause}
 use Rattle.sql_subset.specs.declared.stmt.AgingRule.{AgingRule}

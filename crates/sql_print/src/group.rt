@@ -149,11 +149,7 @@ fn put_group_table(
 }
 
 /// Puts a comma and a table for each.
-fn put_children(
-    alloc: Global,
-    out: &mut Vec<u8>,
-    tables: &[GroupTable],
-) -> Result<(), AllocError>
+fn put_children(alloc: Global, out: &mut Vec<u8>, tables: &[GroupTable]) -> Result<(), AllocError>
     ensures { OnOk result (out.new.items ≡ out.old.items ++ spaced (more (λ t. group_table_words (normal_group_table false t)) tables.now)) }
 {
     for table in tables {

@@ -1,5 +1,5 @@
 -- The words of a table (this project's rule).
-use Rattle.std.specs.Prelude.{ℕ, Bool, nat_eq, List, [], ◌∷◌, ◌++◌, codes, Option, Some, None, if◌then◌else◌}
+use Rattle.std.specs.Prelude.{ℕ, Bool, List, [], ◌∷◌, ◌++◌, codes, Option, Some, None}
 use Rattle.row_types.specs.declared.declaration.TypeDeclaration.{TypeDeclaration}
 use Rattle.row_types.specs.declared.declaration.TypeDeclaration.TheVariants as types
 use Rattle.row_types.specs.declared.declaration.ColumnDeclaration.{ColumnDeclaration}

@@ -96,11 +96,7 @@ fn put_compared(
     put_expression(out, right)
 }
 
-fn put_missing(
-    out: &mut Vec<u8>,
-    negated: bool,
-    expression: &Expression,
-) -> Result<(), AllocError>
+fn put_missing(out: &mut Vec<u8>, negated: bool, expression: &Expression) -> Result<(), AllocError>
     ensures { OnOk result (out.new.items ≡ out.old.items ++ spaced (expression_words expression.now ++ codes "IS" ∷ not_words negated ++ codes "NULL" ∷ [])) }
 {
     put_expression(out, expression)?;

@@ -6,7 +6,9 @@ ghost use Rattle.sql_words.specs.Tables.{attribute_words, cascade_words, column_
 ghost use Rattle.sql_words.specs.Words.{enclosed, listed, more, spaced};
 
 use crate::word::{put, put_name, put_names};
-use row_types::{ColumnDeclaration, ForeignKeyDeclaration, TableDeclaration, Text, TypeDeclaration};
+use row_types::{
+    ColumnDeclaration, ForeignKeyDeclaration, TableDeclaration, Text, TypeDeclaration,
+};
 use sql_phrases::tables::TableAttribute;
 use std::alloc::{AllocError, Global};
 use tier_base::{Name, Seq};
