@@ -1,134 +1,89 @@
 //! Statements and what is printed of them, worked out by hand from the rules.
 
-use row_types::{
-    ColumnDeclaration, ForeignKeyDeclaration, TableDeclaration, Text, TypeDeclaration,
-};
-use sql_print::print::{print, print_table};
+use sql_print::print::{print, print_table, print_writes};
 use sql_subset::line::{parse, parse_line};
 use sql_subset::request::{ConsoleRequest, Line};
-use sql_subset::stmt::{CreateGroup, GroupKind, Stmt};
 use std::alloc::{AllocError, Global};
 use std::test::Fail;
-use tier_base::{Name, Seq};
 
-/// A statement, and what is printed of it.
+/// A statement or a line, and what is printed of it.
 type Case = (&'static [u8], &'static [u8]);
 
-static ROWS: [Case; 22] = [
-    (b"select * from a", b"SELECT * FROM A"),
-    (b"SELECT*FROM own.t;", b"SELECT * FROM OWN . T"),
-    (b"SELECT * FROM\tOwn . t", b"SELECT * FROM OWN . T"),
-    (b"select * from readonly", b"SELECT * FROM READONLY"),
+static STATEMENTS: [Case; 18] = [
+    (b"select * from a;", b"SELECT * FROM A"),
     (
-        b"insert into a values(007,-5,- 5)",
-        b"INSERT INTO A VALUES ( 007 , -5 , -5 )",
+        b"SELECT own.t.x,-007+1*1.50-y,'it''s' FROM\tOwn . t q,readonly order by x, y desc",
+        b"SELECT OWN . T . X , -007 + 1 * 1.50 - Y , 'it''s' FROM OWN . T Q , READONLY ORDER BY X ASC , Y DESC",
     ),
     (
-        b"INSERT INTO A VALUES (-007)",
-        b"INSERT INTO A VALUES ( -007 )",
+        b"SELECT * FROM A WHERE not (a = 1) and (b!=2 or (c<3 or d is not null))",
+        b"SELECT * FROM A WHERE NOT A = 1 AND ( B <> 2 OR ( C < 3 OR D IS NOT NULL ) )",
     ),
     (
-        b"INSERT INTO own.a VALUES (null, 'x')",
-        b"INSERT INTO OWN . A VALUES ( NULL , 'x' )",
+        b"select a, count(*), sum(b) from t where ((a = 1) or b = 2) or a not in (1, null) group by a",
+        b"SELECT A , COUNT ( * ) , SUM ( B ) FROM T WHERE A = 1 OR B = 2 OR A NOT IN ( 1 , NULL ) GROUP BY A",
     ),
     (
-        b"INSERT INTO A VALUES ('it''s', '', '''', 'a  b')",
-        b"INSERT INTO A VALUES ( 'it''s' , '' , '''' , 'a  b' )",
+        b"insert into own.a(x,y)values(007,- 5)",
+        b"INSERT INTO OWN . A ( X , Y ) VALUES ( 007 , -5 )",
     ),
     (
-        b"INSERT INTO A VALUES ('\xc3\xa9', '\xe2\x82\xac''')",
-        b"INSERT INTO A VALUES ( '\xc3\xa9' , '\xe2\x82\xac''' )",
+        b"update a set x=x+1,y=timestamp'2020-01-01 00:00:00' where x not between 1 and 2",
+        b"UPDATE A SET X = X + 1 , Y = TIMESTAMP '2020-01-01 00:00:00' WHERE X NOT BETWEEN 1 AND 2",
+    ),
+    (b"delete from a", b"DELETE FROM A"),
+    (
+        b"load cache group g where (x = 1 and y = 2) and (z = 3 or z = 4) with id (1, 'x') commit every 0256 rows parallel 99999999999999999999",
+        b"LOAD CACHE GROUP G WHERE X = 1 AND Y = 2 AND ( Z = 3 OR Z = 4 ) WITH ID ( 1 , 'x' ) COMMIT EVERY 256 ROWS PARALLEL 18446744073709551615",
     ),
     (
-        b"INSERT INTO A VALUES (123456789012345678901234567890)",
-        b"INSERT INTO A VALUES ( 123456789012345678901234567890 )",
-    ),
-    (b"load cache group g", b"LOAD CACHE GROUP G"),
-    (b"LOAD CACHE GROUP own.g", b"LOAD CACHE GROUP OWN . G"),
-    (
-        b"load cache group g commit every 0256 rows",
-        b"LOAD CACHE GROUP G COMMIT EVERY 256 ROWS",
+        b"refresh cache group own.g parallel 02;",
+        b"REFRESH CACHE GROUP OWN . G PARALLEL 2",
     ),
     (
-        b"LOAD CACHE GROUP G PARALLEL 99999999999999999999",
-        b"LOAD CACHE GROUP G PARALLEL 18446744073709551615",
+        b"unload cache group g with id(1)",
+        b"UNLOAD CACHE GROUP G WITH ID ( 1 )",
     ),
+    (b"flush cache group g", b"FLUSH CACHE GROUP G"),
     (
-        b"LOAD CACHE GROUP own.g COMMIT EVERY 0 ROWS PARALLEL 02;",
-        b"LOAD CACHE GROUP OWN . G COMMIT EVERY 0 ROWS PARALLEL 2",
+        b"alter cache group g set autorefresh state paused",
+        b"ALTER CACHE GROUP G SET AUTOREFRESH STATE PAUSED",
     ),
-    (b"call ttDrain", b"CALL TTDRAIN"),
-    (b"CALL p()", b"CALL P"),
+    (b"drop cache group own.g", b"DROP CACHE GROUP OWN . G"),
+    (
+        b"create index i on own.a(x,y)",
+        b"CREATE INDEX I ON OWN . A ( X , Y )",
+    ),
+    (b"drop index i", b"DROP INDEX I"),
     (b"CALL own.p ( )", b"CALL OWN . P"),
-    (
-        b"CALL ttCacheAutorefresh('OWN','G',1)",
-        b"CALL TTCACHEAUTOREFRESH ( 'OWN' , 'G' , 1 )",
-    ),
-    (b"commit;", b"COMMIT"),
-    (b"Commit", b"COMMIT"),
-    (b" ROLLBACK ; ", b"ROLLBACK"),
+    (b"call p('G',1)", b"CALL P ( 'G' , 1 )"),
+    (b"Commit;", b"COMMIT"),
 ];
 
-static GROUPS: [Case; 15] = [
+static GROUPS: [Case; 6] = [
     (
         b"create readonly cache group g from a (id tt_integer primary key, n tt_integer)",
         b"CREATE READONLY CACHE GROUP G AUTOREFRESH MODE INCREMENTAL INTERVAL 300000 MILLISECONDS STATE PAUSED FROM A ( ID TT_INTEGER NOT NULL , N TT_INTEGER , PRIMARY KEY ( ID ) )",
     ),
     (
-        b"CREATE READONLY CACHE GROUP G AUTOREFRESH FROM A (ID TT_BIGINT)",
-        b"CREATE READONLY CACHE GROUP G AUTOREFRESH MODE INCREMENTAL INTERVAL 300000 MILLISECONDS STATE PAUSED FROM A ( ID TT_BIGINT )",
+        b"create dynamic asynchronous writethrough cache group w from c (id number(06) primary key, n varchar2(020 byte)), o (id tt_integer, cid number(6,0), primary key(id), foreign key(cid) references own.c(id) on delete cascade)",
+        b"CREATE DYNAMIC ASYNCHRONOUS WRITETHROUGH CACHE GROUP W FROM C ( ID NUMBER ( 6 , 0 ) NOT NULL , N VARCHAR2 ( 20 ) , PRIMARY KEY ( ID ) ) AGING LRU ON , O ( ID TT_INTEGER NOT NULL , CID NUMBER ( 6 , 0 ) NOT NULL , PRIMARY KEY ( ID ) , FOREIGN KEY ( CID ) REFERENCES OWN . C ( ID ) ON DELETE CASCADE )",
     ),
     (
-        b"CREATE READONLY CACHE GROUP G AUTOREFRESH MODE FULL INTERVAL 5 SECONDS STATE ON FROM A (ID TT_INTEGER NOT NULL, PRIMARY KEY (ID))",
-        b"CREATE READONLY CACHE GROUP G AUTOREFRESH MODE FULL INTERVAL 5000 MILLISECONDS STATE ON FROM A ( ID TT_INTEGER NOT NULL , PRIMARY KEY ( ID ) )",
+        b"CREATE READONLY CACHE GROUP G AUTOREFRESH MODE FULL INTERVAL 5 SECONDS STATE ON FROM A (ID TT_INTEGER, T TIMESTAMP(0) NOT NULL, PRIMARY KEY (ID)) WHERE ID > 1 AGING USE T LIFETIME 2 MINUTES OFF",
+        b"CREATE READONLY CACHE GROUP G AUTOREFRESH MODE FULL INTERVAL 5000 MILLISECONDS STATE ON FROM A ( ID TT_INTEGER NOT NULL , T TIMESTAMP NOT NULL , PRIMARY KEY ( ID ) ) AGING USE T LIFETIME 120 SECONDS CYCLE 300 SECONDS OFF WHERE ID > 1",
     ),
     (
-        b"CREATE READONLY CACHE GROUP G AUTOREFRESH INTERVAL 010 MINUTES STATE OFF FROM A (ID TT_INTEGER)",
-        b"CREATE READONLY CACHE GROUP G AUTOREFRESH MODE INCREMENTAL INTERVAL 600000 MILLISECONDS STATE OFF FROM A ( ID TT_INTEGER )",
+        b"create usermanaged cache group u from a (readonly tt_integer primary key), b (id tt_integer primary key, propagate)",
+        b"CREATE USERMANAGED CACHE GROUP U FROM A ( READONLY TT_INTEGER NOT NULL , PRIMARY KEY ( READONLY ) , NOT PROPAGATE ) , B ( ID TT_INTEGER NOT NULL , PRIMARY KEY ( ID ) , PROPAGATE )",
     ),
     (
-        b"CREATE READONLY CACHE GROUP G AUTOREFRESH INTERVAL 0 MILLISECOND FROM A (ID TT_INTEGER)",
-        b"CREATE READONLY CACHE GROUP G AUTOREFRESH MODE INCREMENTAL INTERVAL 0 MILLISECONDS STATE PAUSED FROM A ( ID TT_INTEGER )",
+        b"CREATE SYNCHRONOUS WRITETHROUGH CACHE GROUP OWN.W FROM A (ID TT_INTEGER PRIMARY KEY, N TT_INTEGER, PRIMARY KEY (N))",
+        b"CREATE SYNCHRONOUS WRITETHROUGH CACHE GROUP OWN . W FROM A ( ID TT_INTEGER PRIMARY KEY , N TT_INTEGER , PRIMARY KEY ( N ) )",
     ),
     (
-        b"CREATE READONLY CACHE GROUP G AUTOREFRESH INTERVAL 99999999999999999999 SECONDS FROM A (ID TT_INTEGER)",
-        b"CREATE READONLY CACHE GROUP G AUTOREFRESH MODE INCREMENTAL INTERVAL 18446744073709551615 MILLISECONDS STATE PAUSED FROM A ( ID TT_INTEGER )",
-    ),
-    (
-        b"CREATE ASYNCHRONOUS WRITETHROUGH CACHE GROUP W FROM A (ID TT_INTEGER)",
-        b"CREATE ASYNCHRONOUS WRITETHROUGH CACHE GROUP W FROM A ( ID TT_INTEGER )",
-    ),
-    (
-        b"CREATE ASYNCHRONOUS WRITETHROUGH CACHE GROUP own.w FROM own.a (ID TT_INTEGER, M TT_BIGINT NOT NULL, PRIMARY KEY (id, m))",
-        b"CREATE ASYNCHRONOUS WRITETHROUGH CACHE GROUP OWN . W FROM OWN . A ( ID TT_INTEGER NOT NULL , M TT_BIGINT NOT NULL , PRIMARY KEY ( ID , M ) )",
-    ),
-    (
-        b"CREATE ASYNCHRONOUS WRITETHROUGH CACHE GROUP W AUTOREFRESH STATE ON FROM A (ID TT_INTEGER)",
-        b"CREATE ASYNCHRONOUS WRITETHROUGH CACHE GROUP W AUTOREFRESH MODE INCREMENTAL INTERVAL 300000 MILLISECONDS STATE ON FROM A ( ID TT_INTEGER )",
-    ),
-    (
-        b"CREATE ASYNCHRONOUS WRITETHROUGH CACHE GROUP W FROM A (N TT_INTEGER, ID TT_INTEGER NOT NULL PRIMARY KEY)",
-        b"CREATE ASYNCHRONOUS WRITETHROUGH CACHE GROUP W FROM A ( N TT_INTEGER , ID TT_INTEGER NOT NULL , PRIMARY KEY ( ID ) )",
-    ),
-    (
-        b"CREATE ASYNCHRONOUS WRITETHROUGH CACHE GROUP W FROM A (ID TT_INTEGER PRIMARY KEY, N TT_INTEGER NOT NULL PRIMARY KEY)",
-        b"CREATE ASYNCHRONOUS WRITETHROUGH CACHE GROUP W FROM A ( ID TT_INTEGER PRIMARY KEY , N TT_INTEGER NOT NULL PRIMARY KEY )",
-    ),
-    (
-        b"CREATE ASYNCHRONOUS WRITETHROUGH CACHE GROUP W FROM A (ID TT_INTEGER PRIMARY KEY, N TT_INTEGER, PRIMARY KEY (N))",
-        b"CREATE ASYNCHRONOUS WRITETHROUGH CACHE GROUP W FROM A ( ID TT_INTEGER PRIMARY KEY , N TT_INTEGER , PRIMARY KEY ( N ) )",
-    ),
-    (
-        b"CREATE ASYNCHRONOUS WRITETHROUGH CACHE GROUP W FROM A (ID TT_INTEGER, PRIMARY KEY (X))",
-        b"CREATE ASYNCHRONOUS WRITETHROUGH CACHE GROUP W FROM A ( ID TT_INTEGER , PRIMARY KEY ( X ) )",
-    ),
-    (
-        b"CREATE ASYNCHRONOUS WRITETHROUGH CACHE GROUP W FROM A (ID TT_INTEGER, ID TT_INTEGER, PRIMARY KEY (ID, ID))",
-        b"CREATE ASYNCHRONOUS WRITETHROUGH CACHE GROUP W FROM A ( ID TT_INTEGER NOT NULL , ID TT_INTEGER NOT NULL , PRIMARY KEY ( ID , ID ) )",
-    ),
-    (
-        b"create readonly cache group state autorefresh state paused from mode (interval tt_integer)",
-        b"CREATE READONLY CACHE GROUP STATE AUTOREFRESH MODE INCREMENTAL INTERVAL 300000 MILLISECONDS STATE PAUSED FROM MODE ( INTERVAL TT_INTEGER )",
+        b"create readonly cache group state autorefresh interval 99999999999999999999 seconds from mode (interval tt_integer)",
+        b"CREATE READONLY CACHE GROUP STATE AUTOREFRESH MODE INCREMENTAL INTERVAL 18446744073709551615 MILLISECONDS STATE PAUSED FROM MODE ( INTERVAL TT_INTEGER )",
     ),
 ];
 
@@ -152,121 +107,48 @@ fn first_other(alloc: Global, cases: &[Case]) -> Result<Option<usize>, AllocErro
 
 #[test]
 fn statements_print_as_words(rt: HostRuntime) -> Result<(), Fail> {
-    assert_eq!(rt; first_other(rt.alloc(), &ROWS)?, None);
+    assert!(rt; first_other(rt.alloc(), &STATEMENTS)?.is_none());
     Ok(())
 }
 
 #[test]
 fn groups_print_with_their_defaults(rt: HostRuntime) -> Result<(), Fail> {
-    assert_eq!(rt; first_other(rt.alloc(), &GROUPS)?, None);
+    assert!(rt; first_other(rt.alloc(), &GROUPS)?.is_none());
     Ok(())
 }
 
-static TABLES: [Case; 5] = [
-    (
-        b"backing: create table a (id tt_integer primary key, n tt_bigint)",
-        b"CREATE TABLE A ( ID TT_INTEGER NOT NULL , N TT_BIGINT , PRIMARY KEY ( ID ) )",
-    ),
+static CONSOLE: [Case; 3] = [
     (
         b"backing:CREATE TABLE own.a(ID TT_INTEGER,N TT_INTEGER NOT NULL,PRIMARY KEY(n,id));",
         b"CREATE TABLE OWN . A ( ID TT_INTEGER NOT NULL , N TT_INTEGER NOT NULL , PRIMARY KEY ( N , ID ) )",
     ),
     (
-        b"  backing : CREATE TABLE A (ID TT_BIGINT)",
-        b"CREATE TABLE A ( ID TT_BIGINT )",
-    ),
-    (
-        b"backing: CREATE TABLE A (ID TT_BIGINT PRIMARY KEY, PRIMARY KEY (ID))",
+        b"  backing : create table a (id tt_bigint primary key, primary key (id))",
         b"CREATE TABLE A ( ID TT_BIGINT PRIMARY KEY , PRIMARY KEY ( ID ) )",
     ),
     (
-        b"backing: CREATE TABLE OPEN (CLOSE TT_BIGINT NOT NULL)",
-        b"CREATE TABLE OPEN ( CLOSE TT_BIGINT NOT NULL )",
+        b"backing: insert into a values(1);update b set x=2;delete from a;",
+        b"INSERT INTO A VALUES ( 1 ) ; UPDATE B SET X = 2 ; DELETE FROM A",
     ),
 ];
 
-/// Whether this is printed of the table that the line defines.
-fn defines(alloc: Global, line: &[u8], printed: &[u8]) -> Result<bool, AllocError> {
+/// Whether this is printed of what the console's line asks.
+fn asks(alloc: Global, line: &[u8], printed: &[u8]) -> Result<bool, AllocError> {
     match parse_line(alloc, line) {
         Ok(Some(Line::Console(ConsoleRequest::CreateTable(table)))) => {
             Ok(print_table(alloc, &table)?.as_bytes() == printed)
+        }
+        Ok(Some(Line::Console(ConsoleRequest::Writes(writes)))) => {
+            Ok(print_writes(alloc, writes.as_slice())?.as_bytes() == printed)
         }
         _ => Ok(false),
     }
 }
 
 #[test]
-fn definitions_print_as_words(rt: HostRuntime) -> Result<(), Fail> {
-    let alloc = rt.alloc();
-    for (line, printed) in &TABLES {
-        assert!(rt; defines(alloc, line, printed)?);
-        let mut again = Vec::from_slice(alloc, b"backing: ")?;
-        again.extend_from_slice(printed)?;
-        assert!(rt; defines(alloc, &again, printed)?);
+fn the_console_prints_as_words(rt: HostRuntime) -> Result<(), Fail> {
+    for (line, printed) in &CONSOLE {
+        assert!(rt; asks(rt.alloc(), line, printed)?);
     }
-    Ok(())
-}
-
-fn name(alloc: Global, bytes: &[u8]) -> Result<Name, AllocError> {
-    match Name::new(alloc, bytes) {
-        Ok(name) => Ok(name),
-        Err(_) => Err(AllocError),
-    }
-}
-
-fn names(alloc: Global, bytes: &[u8]) -> Result<Seq<Name>, AllocError> {
-    let mut names = Vec::new(alloc);
-    names.push(name(alloc, bytes)?)?;
-    Ok(Seq::from_vec(names))
-}
-
-fn column(
-    alloc: Global,
-    bytes: &[u8],
-    ty: TypeDeclaration,
-) -> Result<ColumnDeclaration, AllocError> {
-    Ok(ColumnDeclaration {
-        name: name(alloc, bytes)?,
-        ty,
-        not_null: false,
-        primary_key: false,
-    })
-}
-
-/// A child with types that no line has yet.
-fn child(alloc: Global) -> Result<TableDeclaration, AllocError> {
-    let mut columns = Vec::new(alloc);
-    let digits = Text::new(alloc, b"020")?;
-    columns.push(column(alloc, b"T", TypeDeclaration::Varchar2(digits))?)?;
-    columns.push(column(alloc, b"W", TypeDeclaration::Timestamp)?)?;
-    let zeros = Text::new(alloc, b"00")?;
-    columns.push(column(alloc, b"Z", TypeDeclaration::Varchar2(zeros))?)?;
-    Ok(TableDeclaration {
-        name: name(alloc, b"D")?,
-        columns: Seq::from_vec(columns),
-        primary_key: Some(names(alloc, b"T")?),
-        foreign_key: Some(ForeignKeyDeclaration {
-            columns: names(alloc, b"W")?,
-            parent: name(alloc, b"OWN.A")?,
-            parent_columns: names(alloc, b"ID")?,
-            cascade: true,
-        }),
-    })
-}
-
-#[test]
-fn types_and_foreign_keys_print_too(rt: HostRuntime) -> Result<(), Fail> {
-    let alloc = rt.alloc();
-    let group = Stmt::CreateGroup(CreateGroup {
-        name: name(alloc, b"W")?,
-        kind: GroupKind::AsynchronousWritethrough,
-        autorefresh: None,
-        table: child(alloc)?,
-    });
-    let printed = print(alloc, &group)?;
-    assert!(rt;
-        printed.as_bytes()
-            == b"CREATE ASYNCHRONOUS WRITETHROUGH CACHE GROUP W FROM D ( T VARCHAR2 ( 20 ) NOT NULL , W TIMESTAMP , Z VARCHAR2 ( 0 ) , PRIMARY KEY ( T ) , FOREIGN KEY ( W ) REFERENCES OWN . A ( ID ) ON DELETE CASCADE )".as_slice()
-    );
     Ok(())
 }

@@ -1,94 +1,115 @@
 -- The normal form is its own.
-use Rattle.std.proofs.Common.{◌≡◌, ℕ, Bool, true, false, cond, ◌||◌, List, [], ◌∷◌, map, Option, Some, None, refl, ap, ◌∙◌}
+use Rattle.std.proofs.Common.{◌≡◌, ℕ, Bool, true, false, ◌||◌, eqb, cond, List, [], ◌∷◌, map, Option, Some, None, refl, ap, ◌∙◌}
+use Rattle.std.specs.List.{filter}
+use Rattle.row_types.specs.declared.declaration.TypeDeclaration.{TypeDeclaration}
+use Rattle.row_types.specs.declared.declaration.TypeDeclaration.TheVariants as types
 use Rattle.row_types.specs.declared.declaration.ColumnDeclaration.{ColumnDeclaration}
 use Rattle.row_types.specs.declared.declaration.TableDeclaration.{TableDeclaration}
+use Rattle.sql_subset.specs.declared.stmt.AgingClause.{AgingClause}
+use Rattle.sql_subset.specs.declared.stmt.GroupTable.{GroupTable}
 use Rattle.sql_subset.specs.declared.stmt.Stmt.{Stmt}
 use Rattle.sql_subset.specs.declared.stmt.Stmt.TheVariants as v
-use Rattle.std.specs.List.{filter}
-use Rattle.sql_print.proofs.Names.{IsIdentifier}
-use Rattle.sql_print.proofs.Literals.{AllGood}
-use Rattle.sql_print.proofs.Tables.{IsColumn, IsKey, IsTable}
-use Rattle.sql_print.proofs.Statements.{IsStatement}
-use Rattle.sql_print.specs.Normal.{is_in, marked, single_key, keyed_column, with_key, normal_table, normal}
+use Rattle.sql_words.specs.NormalTables.{by_value, scale_by_value, normal_type, marked, single_key, is_in, foreign_columns, normal_column, with_key, normal_table}
+use Rattle.sql_print.specs.Normal.{normal_aging, normal_group_table, normal_group_tables, normal}
 
-marked_none : (names : List (List ℕ)) (cs : List ColumnDeclaration) → marked (map (keyed_column (Some names)) cs) ≡ []
-marked_none names [] = refl
-marked_none names (c ∷ cs) = marked_none names cs
+value_again : (ds : List ℕ) → by_value (by_value ds) ≡ by_value ds
+value_again [] = refl
+value_again (b ∷ []) = refl
+value_again (b ∷ c ∷ ds) = by (eqb b 48) refl (value_again (c ∷ ds))
+  where
+    by : (x : Bool) → eqb b 48 ≡ x → by_value (by_value (c ∷ ds)) ≡ by_value (c ∷ ds) → by_value (cond x (by_value (c ∷ ds)) (b ∷ c ∷ ds)) ≡ cond x (by_value (c ∷ ds)) (b ∷ c ∷ ds)
+    by true e h = h
+    by false e h = rw e
 
-or_again : (a b : Bool) → (a || b) || b ≡ a || b
-or_again true b = refl
-or_again false true = refl
-or_again false false = refl
+scale_again : (o : Option (List ℕ)) → by_value (scale_by_value o) ≡ scale_by_value o
+scale_again None = refl
+scale_again (Some ds) = value_again ds
 
-column_again : (names : List (List ℕ)) (c : ColumnDeclaration) → keyed_column (Some names) (keyed_column (Some names) c) ≡ keyed_column (Some names) c
-column_again names c = ap (λ b. let d : ColumnDeclaration = record c { not_null = b; primary_key = false } in d) (or_again c.not_null (is_in c.name names))
+type_again : (t : TypeDeclaration) → normal_type (normal_type t) ≡ normal_type t
+type_again types.TtInteger = refl
+type_again types.TtBigint = refl
+type_again (types.Varchar2 ds) = ap (λ (x : List ℕ). types.Varchar2 x) (value_again ds)
+type_again (types.Number p s) = ap (λ (x : List ℕ). types.Number x (Some (by_value (scale_by_value s)))) (value_again p) ∙ ap (λ (x : List ℕ). types.Number (by_value p) (Some x)) (scale_again s)
+type_again types.Timestamp = refl
 
-columns_again : (names : List (List ℕ)) (cs : List ColumnDeclaration) → map (keyed_column (Some names)) (map (keyed_column (Some names)) cs) ≡ map (keyed_column (Some names)) cs
-columns_again names [] = refl
-columns_again names (c ∷ cs) =
-    ap (λ (d : ColumnDeclaration). d ∷ map (keyed_column (Some names)) (map (keyed_column (Some names)) cs)) (column_again names c) ∙ ap (λ (ds : List ColumnDeclaration). keyed_column (Some names) c ∷ ds) (columns_again names cs)
+or_again : (a b c : Bool) → a || b || (a || b || c) ≡ a || b || c
+or_again true b c = refl
+or_again false true c = refl
+or_again false false c = refl
+
+column_again : (key : Option (List (List ℕ))) (foreign : List (List ℕ)) (c : ColumnDeclaration) → normal_column key foreign (normal_column key foreign c) ≡ normal_column key foreign c
+column_again (Some names) foreign c =
+    ap (λ t. let d : ColumnDeclaration = record { name = c.name; ty = t; not_null = is_in c.name names || is_in c.name foreign || (is_in c.name names || is_in c.name foreign || c.not_null); primary_key = false } in d) (type_again c.ty)
+    ∙ ap (λ b. let d : ColumnDeclaration = record { name = c.name; ty = normal_type c.ty; not_null = b; primary_key = false } in d) (or_again (is_in c.name names) (is_in c.name foreign) c.not_null)
+column_again None foreign c =
+    ap (λ t. let d : ColumnDeclaration = record { name = c.name; ty = t; not_null = is_in c.name foreign || (is_in c.name foreign || c.not_null); primary_key = c.primary_key } in d) (type_again c.ty)
+    ∙ ap (λ b. let d : ColumnDeclaration = record { name = c.name; ty = normal_type c.ty; not_null = b; primary_key = c.primary_key } in d) (or_again false (is_in c.name foreign) c.not_null)
+
+columns_again : (key : Option (List (List ℕ))) (foreign : List (List ℕ)) (cs : List ColumnDeclaration) → map (normal_column key foreign) (map (normal_column key foreign) cs) ≡ map (normal_column key foreign) cs
+columns_again key foreign [] = refl
+columns_again key foreign (c ∷ cs) =
+    ap (λ (d : ColumnDeclaration). d ∷ map (normal_column key foreign) (map (normal_column key foreign) cs)) (column_again key foreign c)
+    ∙ ap (λ (ds : List ColumnDeclaration). normal_column key foreign c ∷ ds) (columns_again key foreign cs)
+
+marked_some : (names foreign : List (List ℕ)) (cs : List ColumnDeclaration) → marked (map (normal_column (Some names) foreign) cs) ≡ []
+marked_some names foreign [] = refl
+marked_some names foreign (c ∷ cs) = marked_some names foreign cs
+
+marked_none : (foreign : List (List ℕ)) (cs : List ColumnDeclaration) → marked (map (normal_column None foreign) cs) ≡ marked cs
+marked_none foreign [] = refl
+marked_none foreign (c ∷ cs) = by c.primary_key (marked_none foreign cs)
+  where
+    rest : List ColumnDeclaration
+    rest = filter (λ d. d.primary_key) (map (normal_column None foreign) cs)
+
+    by : (b : Bool) → marked (map (normal_column None foreign) cs) ≡ marked cs
+        → map (λ d. d.name) (cond b (normal_column None foreign c ∷ rest) rest) ≡ map (λ d. d.name) (cond b (c ∷ filter (λ d. d.primary_key) cs) (filter (λ d. d.primary_key) cs))
+    by true h = ap (λ (ns : List (List ℕ)). c.name ∷ ns) h
+    by false h = h
 
 table_again : (key : Option (List (List ℕ))) (t : TableDeclaration) → single_key t.primary_key (marked t.columns) ≡ key → normal_table (with_key key t) ≡ with_key key t
-table_again None t h = ap (λ k. with_key k t) h
+table_again None t h =
+    ap (λ ms. with_key (single_key t.primary_key ms) (with_key None t)) (marked_none (foreign_columns t.foreign_key) t.columns)
+    ∙ (ap (λ k. with_key k (with_key None t)) h
+    ∙ ap (λ cs. let d : TableDeclaration = record { name = t.name; columns = cs; primary_key = t.primary_key; foreign_key = t.foreign_key } in d) (columns_again None (foreign_columns t.foreign_key) t.columns))
 table_again (Some names) t h =
-    ap (λ ms. with_key (single_key (Some names) ms) (with_key (Some names) t)) (marked_none names t.columns)
-    ∙ ap (λ cs. let d : TableDeclaration = record t { columns = cs; primary_key = Some names } in d) (columns_again names t.columns)
+    ap (λ ms. with_key (single_key (Some names) ms) (with_key (Some names) t)) (marked_some names (foreign_columns t.foreign_key) t.columns)
+    ∙ ap (λ cs. let d : TableDeclaration = record { name = t.name; columns = cs; primary_key = Some names; foreign_key = t.foreign_key } in d) (columns_again (Some names) (foreign_columns t.foreign_key) t.columns)
+
+aging_again : (b : Bool) (o : Option AgingClause) → normal_aging b (normal_aging b o) ≡ normal_aging b o
+aging_again true None = refl
+aging_again false None = refl
+aging_again b (Some x) = refl
+
+group_table_again : (b : Bool) (t : GroupTable) → normal_group_table b (normal_group_table b t) ≡ normal_group_table b t
+group_table_again b t =
+    ap (λ x. let u : GroupTable = record { table = x; attribute = t.attribute; filter = t.filter; aging = normal_aging b (normal_aging b t.aging) } in u) (table_again (single_key t.table.primary_key (marked t.table.columns)) t.table refl)
+    ∙ ap (λ x. let u : GroupTable = record { table = normal_table t.table; attribute = t.attribute; filter = t.filter; aging = x } in u) (aging_again b t.aging)
+
+children_again : (ts : List GroupTable) → map (normal_group_table false) (map (normal_group_table false) ts) ≡ map (normal_group_table false) ts
+children_again [] = refl
+children_again (t ∷ ts) =
+    ap (λ (u : GroupTable). u ∷ map (normal_group_table false) (map (normal_group_table false) ts)) (group_table_again false t)
+    ∙ ap (λ (us : List GroupTable). normal_group_table false t ∷ us) (children_again ts)
+
+group_tables_again : (b : Bool) (ts : List GroupTable) → normal_group_tables b (normal_group_tables b ts) ≡ normal_group_tables b ts
+group_tables_again b [] = refl
+group_tables_again b (t ∷ ts) =
+    ap (λ (u : GroupTable). u ∷ map (normal_group_table false) (map (normal_group_table false) ts)) (group_table_again b t)
+    ∙ ap (λ (us : List GroupTable). normal_group_table b t ∷ us) (children_again ts)
 
 pub normal_again : (s : Stmt) → normal (normal s) ≡ normal s
 normal_again (v.Select x) = refl
-normal_again (v.Insert x) = refl
-normal_again (v.CreateGroup x) =
-    ap (λ t. v.CreateGroup (record x { table = t })) (table_again (single_key x.table.primary_key (marked x.table.columns)) x.table refl)
+normal_again (v.Write x) = refl
+normal_again (v.CreateGroup x) = ap (λ ts. v.CreateGroup (record x { tables = ts })) (group_tables_again x.dynamic x.tables)
+normal_again (v.CreateIndex x) = refl
 normal_again (v.Load x) = refl
+normal_again (v.Refresh x) = refl
+normal_again (v.Unload x) = refl
+normal_again (v.Flush x) = refl
+normal_again (v.Alter x) = refl
+normal_again (v.DropGroup x) = refl
+normal_again (v.DropIndex x) = refl
 normal_again (v.Call x) = refl
 normal_again v.Commit = refl
 normal_again v.Rollback = refl
-
--- the columns that are marked are columns
-marked_are : (cs : List ColumnDeclaration) → AllGood IsColumn cs → AllGood IsIdentifier (marked cs)
-marked_are [] h = tt
-marked_are (c ∷ cs) (h, t) = by c.primary_key (marked_are cs t)
-  where
-    by : (b : Bool) → AllGood IsIdentifier (marked cs) → AllGood IsIdentifier (map (λ d. d.name) (cond b (c ∷ filter (λ d. d.primary_key) cs) (filter (λ d. d.primary_key) cs)))
-    by true m = (h.name, m)
-    by false m = m
-
-single_is : (key : Option (List (List ℕ))) (names : List (List ℕ)) → IsKey key → AllGood IsIdentifier names → IsKey (single_key key names)
-single_is None [] h t = tt
-single_is None (x ∷ []) h t = t
-single_is None (x ∷ y ∷ xs) h t = tt
-single_is (Some []) names h t = absurd h
-single_is (Some (y ∷ ys)) [] h t = h
-single_is (Some (y ∷ ys)) (x ∷ xs) h t = tt
-
-keyed_are : (names : List (List ℕ)) (cs : List ColumnDeclaration) → AllGood IsColumn cs → AllGood IsColumn (map (keyed_column (Some names)) cs)
-keyed_are names [] h = tt
-keyed_are names (c ∷ cs) (h, t) = (record { name = h.name; ty = h.ty }, keyed_are names cs t)
-
-keyed_table : (key : Option (List (List ℕ))) (t : TableDeclaration) → IsKey key → IsTable t → IsTable (with_key key t)
-keyed_table None t k h = h
-keyed_table (Some names) t k h = record {
-  name = h.name;
-  first = keyed_column (Some names) h.first;
-  others = map (keyed_column (Some names)) h.others;
-  columns = ap (λ (cs : List ColumnDeclaration). map (keyed_column (Some names)) cs) h.columns;
-  is_first = record { name = h.is_first.name; ty = h.is_first.ty };
-  are_others = keyed_are names h.others h.are_others;
-  key = k;
-  no_foreign = h.no_foreign;
-}
-
-pub normal_table_is : (t : TableDeclaration) → IsTable t → IsTable (normal_table t)
-normal_table_is t h =
-    let columns : AllGood IsColumn t.columns = rw h.columns (h.is_first, h.are_others) in
-    keyed_table (single_key t.primary_key (marked t.columns)) t (single_is t.primary_key (marked t.columns) h.key (marked_are t.columns columns)) h
-
--- the normal form of what a line can say is such too
-pub is_normal : (s : Stmt) → IsStatement s → IsStatement (normal s)
-is_normal (v.Select x) h = h
-is_normal (v.Insert x) h = h
-is_normal (v.CreateGroup x) h = record { name = h.name; refresh = h.refresh; table = normal_table_is x.table h.table }
-is_normal (v.Load x) h = h
-is_normal (v.Call x) h = h
-is_normal v.Commit h = h
-is_normal v.Rollback h = h

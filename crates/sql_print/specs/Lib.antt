@@ -1,3 +1,5 @@
-pub mod Words
+pub mod Groups
+pub mod Queries
+pub mod Statements
 pub mod Normal
 pub mod Printed

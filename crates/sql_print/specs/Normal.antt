@@ -1,41 +1,30 @@
--- The normal form of a statement: one primary key stands as a clause of its own, and its columns are NOT NULL.
-use Rattle.std.specs.Prelude.{ℕ, Bool, false, ◌||◌, List, [], ◌∷◌, map, bytes_eq, Option, Some, None}
-use Rattle.std.specs.List.{filter, list_any}
-use Rattle.row_types.specs.declared.declaration.ColumnDeclaration.{ColumnDeclaration}
-use Rattle.row_types.specs.declared.declaration.TableDeclaration.{TableDeclaration}
+-- The normal form of a statement: its tables are in theirs, and defaults stand written out (this project's rule).
+use Rattle.std.specs.Prelude.{Bool, true, false, List, [], ◌∷◌, map, Option, Some, None}
+use Rattle.sql_subset.specs.declared.stmt.AgingClause.{AgingClause}
+use Rattle.sql_subset.specs.declared.stmt.AgingRule.TheVariants.{LastUse}
 use Rattle.sql_subset.specs.declared.stmt.CreateGroup as groups
+use Rattle.sql_subset.specs.declared.stmt.GroupTable.{GroupTable}
 use Rattle.sql_subset.specs.declared.stmt.Stmt.{Stmt}
 use Rattle.sql_subset.specs.declared.stmt.Stmt.TheVariants as v
+use Rattle.sql_words.specs.NormalTables.{normal_table}
 
--- the columns that have PRIMARY KEY behind them
-abbrev pub marked : List ColumnDeclaration → List (List ℕ)
-marked columns = map (λ c. c.name) (filter (λ c. c.primary_key) columns)
+-- A dynamic group's root without an AGING clause ages by last use. (TimesTen SQL Reference, "CREATE CACHE GROUP".)
+abbrev pub normal_aging : Bool → Option AgingClause → Option AgingClause
+normal_aging dynamic (Some aging) = Some aging
+normal_aging true None = Some (record { rule = LastUse; on = true })
+normal_aging false None = None
 
--- the key that is declared once: by a clause, or behind one column
-abbrev pub single_key : Option (List (List ℕ)) → List (List ℕ) → Option (List (List ℕ))
-single_key (Some names) [] = Some names
-single_key None (name ∷ []) = Some (name ∷ [])
-single_key clause names = None
+-- a table of a group, which is a dynamic group's root or not
+abbrev pub normal_group_table : Bool → GroupTable → GroupTable
+normal_group_table dynamic t = record { table = normal_table t.table; attribute = t.attribute; filter = t.filter; aging = normal_aging dynamic t.aging }
 
-abbrev pub is_in : List ℕ → List (List ℕ) → Bool
-is_in name names = list_any (λ other. bytes_eq name other) names
-
--- a column of a table with this key, or without one that is declared once
-abbrev pub keyed_column : Option (List (List ℕ)) → ColumnDeclaration → ColumnDeclaration
-keyed_column None c = c
-keyed_column (Some names) c = record c { not_null = c.not_null || is_in c.name names; primary_key = false }
-
--- a table with this key, or without one that is declared once
-abbrev pub with_key : Option (List (List ℕ)) → TableDeclaration → TableDeclaration
-with_key None table = table
-with_key (Some names) table = record table { columns = map (keyed_column (Some names)) table.columns; primary_key = Some names }
-
--- A table that declares no key or more than one stays as it is.
-abbrev pub normal_table : TableDeclaration → TableDeclaration
-normal_table table = with_key (single_key table.primary_key (marked table.columns)) table
+-- the first table is the root
+abbrev pub normal_group_tables : Bool → List GroupTable → List GroupTable
+normal_group_tables dynamic [] = []
+normal_group_tables dynamic (t ∷ ts) = normal_group_table dynamic t ∷ map (normal_group_table false) ts
 
 abbrev pub normal_group : groups.CreateGroup → groups.CreateGroup
-normal_group group = record group { table = normal_table group.table }
+normal_group group = record group { tables = normal_group_tables group.dynamic group.tables }
 
 -- the normal form
 abbrev pub normal : Stmt → Stmt

@@ -1,7 +1,9 @@
-//! Statements as text that reads back as their normal form.
+//! Statements as text, in their normal form.
 #![tactic(auto)]
 
+mod group;
 pub mod law;
 pub mod print;
-mod table;
-mod word;
+mod query;
+mod statement;
+mod write;

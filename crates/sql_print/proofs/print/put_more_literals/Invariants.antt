@@ -1,8 +1,0 @@
--- The literals so far stand behind what was there.
-use Rattle.std.proofs.Common.{◌≡◌, ◌++◌, take}
-use Rattle.sql_print.specs.Printed.{spaced}
-use Rattle.sql_print.specs.Words.{literal_words, more}
-use Rattle.sql_print.proofs.print.put_more_literals.Given as goal
-
-abbrev pub invariant-loop-literal : goal.invariant-loop-literal
-invariant-loop-literal l = l.out.items ≡ l.fn.out.items ++ spaced (more literal_words (take l.literal-index l.literals))

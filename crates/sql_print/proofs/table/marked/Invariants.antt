@@ -1,7 +1,0 @@
--- The marked columns so far are there.
-use Rattle.std.proofs.Common.{◌≡◌, take}
-use Rattle.sql_print.specs.Normal.{marked}
-use Rattle.sql_print.proofs.table.marked.Given as goal
-
-abbrev pub invariant-loop-column : goal.invariant-loop-column
-invariant-loop-column l = l.names.items ≡ marked (take l.column-index l.columns)
