@@ -6,3 +6,4 @@ pub mod ServingLaws
 pub mod EndsLaws
 pub mod CheckLaws
 pub mod TopLaws
+pub mod DigitLaws

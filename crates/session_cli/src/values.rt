@@ -1,6 +1,6 @@
 //! The bytes of values and numbers, written without taking memory.
 
-ghost use Rattle.std.specs.Prelude.{◌≡◌, ◌≤◌, ℕ};
+ghost use Rattle.std.specs.Prelude.{◌≡◌, ◌≤◌, ◌^◌, ◌∷◌, ℕ};
 ghost use Rattle.std.specs.List.{flat_map};
 ghost use Rattle.std.specs.Fmt.{decimal};
 ghost use Rattle.numbers.specs.NumberTexts.{last_digits, printed_fraction, printed_magnitude, printed_number};
@@ -77,11 +77,26 @@ fn write_decimal<K: Sink>(output: &mut Output, sink: &mut K, number: Number) -> 
     ensures cause { HasCause (K.faults sink.old) (K.faults sink.new) result }
 {
     let units = number.units();
+    let scale = number.scale();
     if units < 0 {
-        output.put(sink, b"-")?;
-        return write_magnitude(output, sink, number.scale(), units.unsigned_abs());
+        write_below_zero(output, sink, scale, units.unsigned_abs())
+    } else {
+        write_magnitude(output, sink, scale, units.unsigned_abs())
     }
-    write_magnitude(output, sink, number.scale(), units.unsigned_abs())
+}
+
+fn write_below_zero<K: Sink>(
+    output: &mut Output,
+    sink: &mut K,
+    scale: u8,
+    units: u64,
+) -> Result<(), Failed>
+    requires { scale ≤ 18 }
+    ensures bytes { Passes result (K.written sink.old) (K.written sink.new) output.old output.new (45 ∷ printed_magnitude scale units) }
+    ensures cause { HasCause (K.faults sink.old) (K.faults sink.new) result }
+{
+    output.put(sink, b"-")?;
+    write_magnitude(output, sink, scale, units)
 }
 
 fn write_magnitude<K: Sink>(
@@ -94,8 +109,16 @@ fn write_magnitude<K: Sink>(
     ensures bytes { Passes result (K.written sink.old) (K.written sink.new) output.old output.new (printed_magnitude scale units) }
     ensures cause { HasCause (K.faults sink.old) (K.faults sink.new) result }
 {
-    write_number(output, sink, units / 10_u64.pow(u32::from(scale)))?;
+    write_number(output, sink, units / power_of_ten(scale))?;
     write_fraction(output, sink, scale, units)
+}
+
+fn power_of_ten(exponent: u8) -> u64
+    requires { exponent ≤ 18 }
+    ensures value { result ≡ 10 ^ exponent }
+    ensures least { 1 ≤ result }
+{
+    10_u64.pow(u32::from(exponent))
 }
 
 fn write_fraction<K: Sink>(
@@ -108,12 +131,26 @@ fn write_fraction<K: Sink>(
     ensures cause { HasCause (K.faults sink.old) (K.faults sink.new) result }
 {
     if scale == 0 {
-        return output.put(sink, b"");
+        output.put(sink, b"")
+    } else {
+        write_behind_point(output, sink, scale, units)
     }
+}
+
+fn write_behind_point<K: Sink>(
+    output: &mut Output,
+    sink: &mut K,
+    scale: u8,
+    units: u64,
+) -> Result<(), Failed>
+    ensures bytes { Passes result (K.written sink.old) (K.written sink.new) output.old output.new (46 ∷ last_digits scale units) }
+    ensures cause { HasCause (K.faults sink.old) (K.faults sink.new) result }
+{
     output.put(sink, b".")?;
     write_last_digits(output, sink, scale, units)
 }
 
+// So many digits of the number, the last ones, of which there are at most 18.
 fn write_last_digits<K: Sink>(
     output: &mut Output,
     sink: &mut K,
