@@ -207,6 +207,7 @@ is_required_time (Some column) = column.not_null && of_type column.ty
     of_type : Ty → Bool
     of_type ty.TtInteger = false
     of_type ty.TtBigint = false
+    of_type (ty.Number precision scale) = false
     of_type (ty.Varchar2 n) = false
     of_type ty.Timestamp = true
 

@@ -8,7 +8,7 @@ use Rattle.row_types.specs.declared.value.Value.{Value}
 use Rattle.tier_base.specs.declared.number.TableId.{TableId}
 use Rattle.expressions.specs.declared.condition.Comparator.TheVariants as is
 use Rattle.expressions.specs.declared.condition.Comparator.{Comparator}
-use Rattle.expressions.specs.Conditions.{is_null}
+use Rattle.row_types.specs.Values.{is_null}
 use Rattle.table_defs.specs.declared.definition.TableDef.{TableDef}
 use Rattle.table_defs.specs.declared.definition.ForeignKey.{ForeignKey}
 use Rattle.table_state.specs.declared.history.Entry.{Entry}
