@@ -15,7 +15,6 @@ use Rattle.table_defs.specs.Names.{place_of_table, same_name, table_id}
 use Rattle.table_state.specs.Operations.{table_of}
 use Rattle.table_state.specs.Tables.{TableState}
 use Rattle.evaluator.specs.declared.change.Change.{Change}
-use Rattle.sql_subset.specs.declared.stmt.Write.{Write as Spelt}
 use Rattle.sql_query.specs.declared.write.Write.{Write}
 use Rattle.resolution.specs.Results.{both}
 use Rattle.resolution.specs.Writes.{PlacedAction, PlacedChange, all_sound, change_of, change_seen, named_action, named_at, named_on, named_write, named_writes, resolved_writes}
@@ -48,7 +47,7 @@ same_defs own (g ∷ groups) = ap (λ l. g.def ∷ l) (same_defs own groups)
 pub same_tables : (t : Tier) (log : List Sealed) → tables_known t ≡ tables_seen (tier_state t log)
 same_tables t log = ap (unwrap_or t.known) (same_defs (own_in t.session) t.groups.items)
 
-pub same_uncached : (t : Tier) (log : List Sealed) (groups : List Group) (writes : List Spelt) → groups ≡ t.groups.items
+pub same_uncached : (t : Tier) (log : List Sealed) (groups : List Group) (writes : List Write) → groups ≡ t.groups.items
     → list_any (λ (x : Write). not (is_stored_name groups (w.table_of x))) writes ≡ write_uncached (tier_state t log) writes
 same_uncached t log groups writes e =
     ap (λ gs. list_any (λ (x : Write). not (is_stored_name gs (w.table_of x))) writes) e

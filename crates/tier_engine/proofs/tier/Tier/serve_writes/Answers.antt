@@ -1,6 +1,6 @@
 use Rattle.std.proofs.Common.{List, ap, ◌∙◌}
 use Rattle.served_lines.specs.declared.request.ConsoleRequest.TheVariants as console
-use Rattle.sql_subset.specs.declared.stmt.Write.{Write}
+use Rattle.sql_query.specs.declared.write.Write.{Write}
 use Rattle.tier_engine.specs.Standing.{tier_state}
 use Rattle.abstract_tier.specs.Steps.{console_asks}
 use Rattle.tier_engine.proofs.ServingLaws.{stopped_part, through_part, caused_serves}
