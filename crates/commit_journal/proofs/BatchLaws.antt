@@ -1,7 +1,7 @@
 -- Two writes, each with its sync: what they leave at each moment.
-use Rattle.std.proofs.Common.{◌≡◌, ℕ, ◌+◌, ◌≤◌, ◌⊎◌, List, [], ◌∷◌, ◌++◌, length, refl, sym, ap, subst, ◌∙◌, Option}
+use Rattle.std.proofs.Common.{◌≡◌, ℕ, ◌+◌, ◌≤◌, ◌⊎◌, List, [], ◌∷◌, ◌++◌, length, subst, Option}
 use Rattle.outside.specs.declared.disk.Slot.{Slot}
-use Rattle.outside.specs.Holding.{Slots, Held, slot_of, with_bytes}
+use Rattle.outside.specs.Holding.{Held, slot_of, with_bytes}
 use Rattle.outside.specs.Calls.{Changes, Torn, patched, Certain, Leaves}
 use Rattle.outside.proofs.Moments.{and_then, weaker}
 use Rattle.commit_journal.specs.Batching.{MidBatch, HasBatch}

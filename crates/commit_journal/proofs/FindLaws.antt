@@ -1,5 +1,5 @@
 -- What was scanned is what the slots say.
-use Rattle.std.proofs.Common.{◌≡◌, ℕ, ◌≤◌, List, [], ◌∷◌, ◌++◌, length, drop, refl, sym, ap, subst, ◌∙◌, Option, Some, None}
+use Rattle.std.proofs.Common.{◌≡◌, ℕ, ◌≤◌, List, [], ◌++◌, length, drop, sym, ap, subst, ◌∙◌, Option, Some, None}
 use Rattle.outside.specs.declared.disk.Slot.{Slot}
 use Rattle.outside.specs.Holding.{Slots, slot_of, other}
 use Rattle.journal_entries.specs.declared.standing.Standing.{Standing}

@@ -1,16 +1,15 @@
 -- A slot up to a gate, and what stands behind it.
-use Rattle.std.proofs.Common.{◌≡◌, ◌≢◌, ℕ, suc, ◌+◌, ◌-◌, ◌≤◌, ◌<◌, ◌^◌, ◌⊎◌, List, [], ◌∷◌, ◌++◌, length, take, drop, map, refl, sym, ap, subst, ◌∙◌, append_assoc, arith, inl, inr, Option, Some, None}
+use Rattle.std.proofs.Common.{◌≡◌, ◌≢◌, ℕ, ◌+◌, ◌≤◌, ◌^◌, List, [], ◌∷◌, ◌++◌, length, drop, refl, sym, ap, subst, ◌∙◌, append_assoc, arith}
 use Rattle.std.specs.Int.{w32, to_be_bytes}
-use Rattle.std.proofs.lemmas.List.{length-append, append-nil, map-append}
+use Rattle.std.proofs.lemmas.List.{length-append, append-nil}
 use Rattle.outside.specs.declared.disk.Slot.{Slot}
-use Rattle.outside.specs.Holding.{Slots, Held, slot_of, other}
-use Rattle.journal_entries.specs.declared.entry.Entry.{Entry}
+use Rattle.outside.specs.Holding.{Slots, slot_of, other}
 use Rattle.journal_entries.specs.declared.standing.Standing.{Standing}
 use Rattle.journal_entries.specs.declared.standing.Ending.TheVariants.{Whole}
 use Rattle.journal_entries.specs.Bodies.{Body, beginning}
 use Rattle.commit_journal.specs.declared.head.Head.{Head}
 use Rattle.commit_journal.specs.declared.head.Head.TheVariants.{Dead, Live}
-use Rattle.commit_journal.specs.Layout.{Placed, entries_of, head_of, Outcome, Closed, Damaged, IsBatch, Batches, closed, cut, broken, opened, Beats, Reads, counts, Gives, place_of}
+use Rattle.commit_journal.specs.Layout.{Placed, entries_of, head_of, Outcome, Closed, IsBatch, Batches, closed, cut, broken, opened, Beats, counts, Gives}
 use Rattle.commit_journal.specs.Resting.{IsFront}
 pub use Rattle.commit_journal.specs.Turning.{batch_of}
 

@@ -1,20 +1,16 @@
 -- What the slots say while a journal is opened.
-use Rattle.std.proofs.Common.{◌≡◌, ◌≢◌, ℕ, suc, ◌+◌, ◌≤◌, ◌<◌, ◌^◌, ◌⊎◌, Bool, true, false, List, [], ◌∷◌, ◌++◌, length, get_or, drop, refl, sym, ap, subst, ◌∙◌, append_assoc, arith, inl, inr, Option, Some, None}
-use Rattle.std.specs.Int.{w64, to_be_bytes}
-use Rattle.std.proofs.lemmas.List.{length-append, append-nil, drop_all}
+use Rattle.std.proofs.Common.{◌≡◌, ◌≢◌, ℕ, suc, ◌≤◌, ◌<◌, ◌⊎◌, List, [], ◌∷◌, ◌++◌, length, get_or, drop, refl, sym, ap, subst, ◌∙◌, arith, inl, inr, Option, Some, None}
+use Rattle.std.proofs.lemmas.List.{drop_all}
 use Rattle.outside.specs.declared.disk.Slot.{Slot}
 use Rattle.outside.specs.declared.disk.Slot.TheVariants.{First, Second}
 use Rattle.outside.specs.Holding.{Slots, Held, slot_of, other, with_slot, with_bytes}
 use Rattle.outside.specs.Calls.{Certain, Leaves, Rests, Changes, Torn, patched}
 use Rattle.outside.proofs.Moments.{slot_with, other_with, other_stays, weaker, and_then, rests_then, same_held, slots_from}
-use Rattle.journal_entries.specs.declared.entry.Entry.{Entry}
 use Rattle.journal_entries.specs.Bodies.{beginning, ends}
 use Rattle.commit_journal.specs.declared.head.Head.{Head}
 use Rattle.commit_journal.specs.declared.head.Head.TheVariants.{Dead, Faulty, Live}
-use Rattle.commit_journal.specs.declared.journal.Journal.{Journal}
 use Rattle.commit_journal.specs.declared.opening.Opened.{Opened}
-use Rattle.commit_journal.specs.Layout.{Placed, entries_of, head_of, Outcome, Closed, Damaged, Batches, closed, Beats, Reads, new, faulty, counts, place_of, Gives}
-use Rattle.commit_journal.specs.Resting.{IsFront, AtRest}
+use Rattle.commit_journal.specs.Layout.{Placed, head_of, Outcome, Closed, Batches, closed, Beats, Reads, new, faulty, counts, place_of}
 use Rattle.commit_journal.specs.Batching.{MidBatch, HasBatch}
 use Rattle.commit_journal.specs.Opening.{Finds, Keeps, Opens, HaveBytes}
 use Rattle.commit_journal.proofs.TurnLaws.{other_other, is_one, head_split}

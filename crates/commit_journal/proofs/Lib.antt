@@ -11,3 +11,6 @@ pub mod KeepLaws
 pub mod OneReading
 pub mod OneJournal
 pub mod StandingLaws
+pub mod AppendLaws
+pub mod NewLaws
+pub mod LookLaws

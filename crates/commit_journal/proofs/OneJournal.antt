@@ -1,11 +1,11 @@
 -- Two slots say one thing.
-use Rattle.std.proofs.Common.{◌≡◌, ℕ, List, [], refl, sym, ap, ◌∙◌, Option, Some, None}
+use Rattle.std.proofs.Common.{◌≡◌, ℕ, List, refl, sym, ap, ◌∙◌, Option, Some}
 use Rattle.outside.specs.declared.disk.Slot.{Slot}
 use Rattle.outside.specs.declared.disk.Slot.TheVariants.{First, Second}
 use Rattle.outside.specs.Holding.{Slots, slot_of, other}
 use Rattle.commit_journal.specs.declared.head.Head.{Head}
 use Rattle.commit_journal.specs.declared.head.Head.TheVariants.{Dead, Faulty, Live}
-use Rattle.commit_journal.specs.Layout.{Placed, head_of, Outcome, Beats, Reads, new, faulty, counts, place_of}
+use Rattle.commit_journal.specs.Layout.{Placed, head_of, Outcome, Reads, new, faulty, counts, place_of}
 use Rattle.commit_journal.proofs.KeepLaws.{reads_none, reads_counts, dead_at, no_faulty}
 use Rattle.commit_journal.proofs.OneReading.{one_batches}
 

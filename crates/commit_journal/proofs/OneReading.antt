@@ -1,18 +1,16 @@
 -- The slots say one thing.
-use Rattle.std.proofs.Common.{◌≡◌, ◌≢◌, ℕ, zero, suc, ◌+◌, ◌-◌, ◌≤◌, ◌<◌, ◌^◌, List, [], ◌∷◌, ◌++◌, length, take, drop, refl, sym, ap, subst, ◌∙◌, arith, true, Option, Some, None}
-use Rattle.std.specs.Int.{w32, to_be_bytes, from_be_bytes}
+use Rattle.std.proofs.Common.{◌≡◌, ◌≢◌, ℕ, ◌+◌, ◌≤◌, ◌^◌, List, [], ◌∷◌, ◌++◌, length, take, drop, refl, sym, ap, subst, ◌∙◌, arith}
+use Rattle.std.specs.Int.{w32, from_be_bytes}
 use Rattle.std.proofs.lemmas.List.{length-append, take_at, drop_at}
 use Rattle.std.proofs.lemmas.Nat.{from_be_bytes-to_be_bytes_4}
-use Rattle.outside.specs.declared.disk.Slot.{Slot}
-use Rattle.outside.specs.Holding.{Slots, slot_of, other}
 use Rattle.journal_entries.specs.declared.entry.Entry.{Entry}
 use Rattle.journal_entries.specs.declared.standing.Standing.{Standing}
 use Rattle.journal_entries.specs.declared.standing.Ending.{Ending}
 use Rattle.journal_entries.specs.declared.standing.Ending.TheVariants.{Whole, Stops}
-use Rattle.journal_entries.specs.Spelling.{entry_bytes, IsEntry}
-use Rattle.journal_entries.specs.Bodies.{Body, ends, stops, goes, behind, follows, Unreadable, beginning}
+use Rattle.journal_entries.specs.Spelling.{entry_bytes}
+use Rattle.journal_entries.specs.Bodies.{Body, ends, stops, goes, behind}
 use Rattle.journal_entries.proofs.BodyLaws.{one_entry, some_bytes}
-use Rattle.commit_journal.specs.Layout.{Placed, IsBatch, Outcome, Closed, Damaged, Batches, closed, cut, broken, opened, Reads}
+use Rattle.commit_journal.specs.Layout.{Placed, IsBatch, Outcome, Damaged, Batches, closed, cut, broken, opened}
 
 pub record SameBody (entries others : List Placed) (ending another : Ending) : Type 0 where
   pub entries_same : entries ≡ others
@@ -44,7 +42,7 @@ one_body version {s} {place} {bytes} {entries} {others} {ending} {another} (goes
       ending_same = rest-same.ending_same;
     }
 
-one_batch : (rest body more body' more' : List ℕ) → IsBatch rest body more → IsBatch rest body' more' → (body ≡ body') × (more ≡ more')
+pub one_batch : (rest body more body' more' : List ℕ) → IsBatch rest body more → IsBatch rest body' more' → (body ≡ body') × (more ≡ more')
 one_batch rest body more body' more' a b =
     let small : length body ≤ 2 ^ 24 = a.size in
     let small' : length body' ≤ 2 ^ 24 = b.size in
@@ -64,17 +62,17 @@ abbrev tail_cells : List ℕ → List ℕ
 tail_cells [] = []
 tail_cells (x ∷ xs) = xs
 
-not_open : {P : Type 0} (bytes : List ℕ) (gate : ℕ) (junk rest : List ℕ) → bytes ≡ gate ∷ junk → gate ≢ 1 → bytes ≡ 1 ∷ rest → P
+pub not_open : {P : Type 0} (bytes : List ℕ) (gate : ℕ) (junk rest : List ℕ) → bytes ≡ gate ∷ junk → gate ≢ 1 → bytes ≡ 1 ∷ rest → P
 not_open bytes gate junk rest a shut b = absurd (shut (ap head_cell (sym a ∙ b)))
 
-same_rest : (bytes rest rest' : List ℕ) → bytes ≡ 1 ∷ rest → bytes ≡ 1 ∷ rest' → rest' ≡ rest
+pub same_rest : (bytes rest rest' : List ℕ) → bytes ≡ 1 ∷ rest → bytes ≡ 1 ∷ rest' → rest' ≡ rest
 same_rest bytes rest rest' a b = ap tail_cells (sym b ∙ a)
 
 pub record SameRead (entries others : List Placed) (outcome another : Outcome) : Type 0 where
   pub entries_same : entries ≡ others
   pub outcome_same : outcome ≡ another
 
-no_cut : {P : Type 0} (bytes rest rest' body more : List ℕ) → bytes ≡ 1 ∷ rest → ((body more : List ℕ) → IsBatch rest body more → ⊥) → bytes ≡ 1 ∷ rest' → IsBatch rest' body more → P
+pub no_cut : {P : Type 0} (bytes rest rest' body more : List ℕ) → bytes ≡ 1 ∷ rest → ((body more : List ℕ) → IsBatch rest body more → ⊥) → bytes ≡ 1 ∷ rest' → IsBatch rest' body more → P
 no_cut bytes rest rest' body more a none b is = absurd (none body more (subst (λ (l : List ℕ). IsBatch l body more) (same_rest bytes rest rest' a b) is))
 
 abbrev stop_of : Ending → ℕ

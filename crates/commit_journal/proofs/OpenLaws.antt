@@ -1,20 +1,16 @@
 -- A slot that was read up to its closed gate is one at rest.
-use Rattle.std.proofs.Common.{◌≡◌, ◌≢◌, ℕ, zero, suc, ◌+◌, ◌-◌, ◌≤◌, ◌<◌, ◌^◌, ◌⊎◌, min, Bool, true, false, cond, eqb, ltb, List, [], ◌∷◌, ◌++◌, length, get_or, take, drop, map, refl, sym, ap, subst, ◌∙◌, append_assoc, arith, inl, inr, Option, Some, None}
+use Rattle.std.proofs.Common.{◌≡◌, ◌≢◌, ℕ, ◌+◌, ◌-◌, ◌≤◌, ◌<◌, ◌^◌, min, Bool, true, false, cond, eqb, ltb, List, [], ◌∷◌, ◌++◌, length, get_or, take, drop, refl, sym, ap, subst, ◌∙◌, append_assoc, arith, inl, inr}
 use Rattle.std.specs.Int.{w32, w64, to_be_bytes, from_be_bytes}
-use Rattle.std.proofs.lemmas.Bool.{eqb-true, eqb-false, le-ltb, lt-ltb, ltb-false, cases_lt}
-use Rattle.std.proofs.lemmas.List.{length-append, append-nil, length-take, take-append-drop, drop_at, take_at, drop_all, get_or-take, get_or_append_left, take-take, drop-take, take_min}
-use Rattle.outside.specs.declared.disk.Slot.{Slot}
-use Rattle.outside.specs.Holding.{Slots, Held, slot_of, other}
-use Rattle.outside.specs.Calls.{Certain, Leaves}
-use Rattle.journal_entries.specs.declared.entry.Entry.{Entry}
+use Rattle.std.proofs.lemmas.Bool.{le-ltb, lt-ltb, ltb-false, cases_lt}
+use Rattle.std.proofs.lemmas.List.{length-append, length-take, take-append-drop, drop_at, take_at, drop_all, get_or-take, take-take, drop-take, take_min}
+use Rattle.outside.specs.Holding.{Slots, slot_of, other}
 use Rattle.journal_entries.specs.declared.standing.Standing.{Standing}
-use Rattle.journal_entries.specs.declared.standing.Ending.TheVariants.{Whole}
-use Rattle.journal_entries.specs.Bodies.{Body, beginning, ends}
+use Rattle.journal_entries.specs.Bodies.{beginning, ends}
 use Rattle.commit_journal.specs.declared.head.Head.{Head}
 use Rattle.commit_journal.specs.declared.head.Head.TheVariants.{Dead, Faulty, Live}
 use Rattle.commit_journal.specs.declared.journal.Journal.{Journal}
 use Rattle.commit_journal.specs.Layout.{Placed, entries_of, generation_of, live_head, head_of, Outcome, Closed, Damaged, IsBatch, Batches, closed, cut, broken, opened}
-use Rattle.commit_journal.specs.Resting.{IsFront, AtRest, Rested}
+use Rattle.commit_journal.specs.Resting.{IsFront, AtRest}
 use Rattle.commit_journal.proofs.FrontLaws.{batch_of, batches_some}
 
 -- whole batches, a closed gate, and what may stand in its place

@@ -1,10 +1,10 @@
 -- Writing behind a gate, and opening it: what the slot's bytes are.
-use Rattle.std.proofs.Common.{◌≡◌, ℕ, suc, ◌+◌, ◌-◌, ◌≤◌, ◌<◌, ◌⊎◌, List, [], ◌∷◌, ◌++◌, length, get_or, take, drop, max, refl, sym, ap, subst, ◌∙◌, append_assoc, arith, inl, inr, Option, Some}
-use Rattle.std.proofs.lemmas.List.{take_at, drop_at, drop_more, take-append-drop, length-append, length-take, length-drop}
+use Rattle.std.proofs.Common.{◌≡◌, ℕ, suc, ◌+◌, ◌≤◌, ◌<◌, ◌⊎◌, List, [], ◌∷◌, ◌++◌, length, get_or, take, drop, refl, sym, ap, subst, ◌∙◌, append_assoc, arith, inl, inr, Option}
+use Rattle.std.proofs.lemmas.List.{take_at, drop_at, drop_more, take-append-drop, length-append}
 use Rattle.outside.specs.declared.disk.Slot.{Slot}
-use Rattle.outside.specs.Holding.{Slots, Held, slot_of, other, with_slot, with_bytes}
-use Rattle.outside.specs.Calls.{Changes, Torn, patched, Certain, Leaves}
-use Rattle.outside.proofs.Moments.{slot_with, other_with, other_stays, and_then, weaker}
+use Rattle.outside.specs.Holding.{Held, slot_of, other, with_bytes}
+use Rattle.outside.specs.Calls.{Changes, Torn, patched, Certain}
+use Rattle.outside.proofs.Moments.{slot_with, other_with, other_stays}
 use Rattle.commit_journal.specs.Batching.{MidBatch, HasBatch}
 
 module _ (front : List ℕ) (gate : ℕ) (junk : List ℕ) where

@@ -1,6 +1,6 @@
 -- Moving on to the other slot: which entries count at each moment.
-use Rattle.std.proofs.Common.{◌≡◌, ◌≢◌, ℕ, zero, suc, ◌+◌, ◌-◌, ◌≤◌, ◌<◌, ◌^◌, ◌⊎◌, Bool, true, false, cond, eqb, ltb, List, [], ◌∷◌, ◌++◌, length, get_or, take, drop, refl, sym, ap, subst, ◌∙◌, append_assoc, arith, inl, inr, Option, Some, None}
-use Rattle.std.specs.Int.{w32, w64, to_be_bytes, from_be_bytes}
+use Rattle.std.proofs.Common.{◌≡◌, ◌≢◌, ℕ, suc, ◌-◌, ◌≤◌, ◌<◌, ◌^◌, Bool, true, false, cond, eqb, ltb, List, [], ◌∷◌, ◌++◌, length, get_or, drop, refl, sym, ap, subst, ◌∙◌, append_assoc, arith, inl, inr, Option}
+use Rattle.std.specs.Int.{w64, to_be_bytes}
 use Rattle.std.proofs.lemmas.Bool.{eqb-true, eqb-false, le-ltb, ne_eqb}
 use Rattle.std.proofs.lemmas.List.{length-append, append-nil, drop_all}
 use Rattle.std.proofs.lemmas.Nat.{from_be_bytes-to_be_bytes_8}
@@ -19,7 +19,7 @@ use Rattle.journal_entries.specs.Bodies.{Body, beginning, ends, AllFollow, behin
 use Rattle.commit_journal.specs.declared.head.Head.{Head}
 use Rattle.commit_journal.specs.declared.head.Head.TheVariants.{Dead, Faulty, Live}
 use Rattle.commit_journal.specs.declared.journal.Journal.{Journal}
-use Rattle.commit_journal.specs.Layout.{Placed, entries_of, generation_of, live_head, head_of, Outcome, Closed, Damaged, Batches, closed, Beats, Reads, counts, Gives}
+use Rattle.commit_journal.specs.Layout.{Placed, entries_of, generation_of, live_head, head_of, Closed, Batches, closed, Beats, counts, Gives}
 use Rattle.commit_journal.specs.Resting.{IsFront, AtRest, Rested}
 use Rattle.commit_journal.specs.Turning.{CanTurn, MidTurn, Turned, batch_of, slot_bytes, MidRotation}
 use Rattle.commit_journal.proofs.FrontLaws.{front_more, front_gives}
@@ -77,6 +77,17 @@ beats_live : (slot : Slot) (g v g' : ℕ) (h : Head) → h ≡ Live v g' → g' 
 beats_live First g v g' h e lt = let le : g' ≤ g = omega arith in subst (λ (x : Head). Beats First g x) (sym e) le
 beats_live Second g v g' h e lt = subst (λ (x : Head). Beats Second g x) (sym e) lt
 
+-- a slot with this body as its only batch
+module _ (generation : ℕ) (lt : generation < 2 ^ 64) (body : List ℕ) (placed : List Placed) (t : Standing) (small : length body ≤ 2 ^ 24) (reads : Body 2 beginning 15 body placed (Whole t)) where
+  pub slot_front : IsFront 2 generation (header generation ++ batch_of body) placed t
+  slot_front = front_more 2 generation (header generation) [] beginning (header_front generation lt) body placed t small reads
+
+  pub slot_is : 1 ∷ slot_bytes generation body ≡ (header generation ++ batch_of body) ++ 0 ∷ []
+  slot_is = sym (append_assoc (header generation) (batch_of body) (0 ∷ []))
+
+  pub slot_size : length (slot_bytes generation body) ≡ length (header generation ++ batch_of body)
+  slot_size = omega (arith, length-append (to_be_bytes w64 generation) (batch_of body ++ 0 ∷ []), length-append (batch_of body) (0 ∷ []), length-append (header generation) (batch_of body))
+
 module _ (j : Journal) (o : Held) (flushed tail : List Entry) (r : AtRest j o.slots flushed tail) (generation : ℕ) (lt : generation < 2 ^ 64) (above : j.generation < generation) (body : List ℕ) (placed : List Placed) (t : Standing) (small : length body ≤ 2 ^ 24) (reads : Body 2 beginning 15 body placed (Whole t)) where
   abbrev target : Slot
   target = other j.slot
@@ -91,20 +102,14 @@ module _ (j : Journal) (o : Held) (flushed tail : List Entry) (r : AtRest j o.sl
     live = subst (λ (s : Slot). get_or (slot_of s o.slots) 0 0 ≡ 1) (sym (other_other j.slot)) (live_first (slot_of j.slot o.slots) j.version j.generation old_head);
   }
 
-  new_front : IsFront 2 generation (header generation ++ batch_of body) placed t
-  new_front = front_more 2 generation (header generation) [] beginning (header_front generation lt) body placed t small reads
-
-  new_bytes : 1 ∷ slot_bytes generation body ≡ (header generation ++ batch_of body) ++ 0 ∷ []
-  new_bytes = sym (append_assoc (header generation) (batch_of body) (0 ∷ []))
-
   new_gives : (slots : Slots) → slot_of target slots ≡ 1 ∷ slot_bytes generation body → Beats target generation (head_of (slot_of j.slot slots)) → Gives slots (entries_of placed)
   new_gives slots there beats =
-      let all = there ∙ new_bytes in
-      let end = new_front.onward (0 ∷ []) [] (Closed (length (header generation ++ batch_of body)) t) (closed 0 [] refl (λ (e : ◌≡◌ {A = ℕ} 0 1). absurd (omega arith))) in
+      let all = there ∙ slot_is generation lt body placed t small reads in
+      let end = (slot_front generation lt body placed t small reads).onward (0 ∷ []) [] (Closed (length (header generation ++ batch_of body)) t) (closed 0 [] refl (λ (e : ◌≡◌ {A = ℕ} 0 1). absurd (omega arith))) in
       let batches : Batches 2 beginning 10 (drop 10 (slot_of target slots)) placed (Closed (length (header generation ++ batch_of body)) t) =
       subst (λ (l : List ℕ). Batches 2 beginning 10 (drop 10 l) placed (Closed (length (header generation ++ batch_of body)) t)) (sym all)
       (subst (λ (l : List Placed). Batches 2 beginning 10 (drop 10 ((header generation ++ batch_of body) ++ 0 ∷ [])) l (Closed (length (header generation ++ batch_of body)) t)) (append-nil placed) end) in
-      let head : head_of (slot_of target slots) ≡ Live 2 generation = ap (λ (l : List ℕ). head_of l) all ∙ new_front.head (0 ∷ []) (omega arith) in
+      let head : head_of (slot_of target slots) ≡ Live 2 generation = ap (λ (l : List ℕ). head_of l) all ∙ (slot_front generation lt body placed t small reads).head (0 ∷ []) (omega arith) in
       let beats' : Beats target generation (head_of (slot_of (other target) slots)) = subst (λ (s : Slot). Beats target generation (head_of (slot_of s slots))) (sym (other_other j.slot)) beats in
       record { placed = placed; reads = counts target 2 generation (Closed (length (header generation ++ batch_of body)) t) head beats' batches; are = refl }
 
@@ -130,8 +135,6 @@ module _ (j : Journal) (o : Held) (flushed tail : List Entry) (r : AtRest j o.sl
   pub is_rotated : {D : Type 0} (held : D → Option Held) (moment : D → ℕ) (possible : D → ℕ → Held → Type 0) (d : D) (j' : Journal) → Turned held moment possible d target (slot_bytes generation body) o
       → j'.slot ≡ target → j'.version ≡ 2 → j'.generation ≡ generation → j'.gate ≡ length (slot_bytes generation body) → j'.standing ≡ t → length j'.staged.items ≤ 4 → Rested held moment possible d j' o (entries_of placed) []
   is_rotated held moment possible d j' h slot version gen gate standing short =
-      let size : length (slot_bytes generation body) ≡ length (header generation ++ batch_of body) =
-      omega (arith, length-append (to_be_bytes w64 generation) (batch_of body ++ 0 ∷ []), length-append (batch_of body) (0 ∷ []), length-append (header generation) (batch_of body)) in
       let old : slot_of j.slot h.now.slots ≡ 0 ∷ h.old.0 = subst (λ (s : Slot). slot_of s h.now.slots ≡ 0 ∷ h.old.0) (other_other j.slot) h.old.1 in
       let others : slot_of (other j'.slot) h.now.slots ≡ 0 ∷ h.old.0 = ap (λ (s : Slot). slot_of (other s) h.now.slots) slot ∙ ap (λ (s : Slot). slot_of s h.now.slots) (other_other j.slot) ∙ old in
       record {
@@ -145,10 +148,10 @@ module _ (j : Journal) (o : Held) (flushed tail : List Entry) (r : AtRest j o.sl
           placed = placed;
           before = t;
           tail_placed = [];
-          bytes = ap (λ (s : Slot). slot_of s h.now.slots) slot ∙ h.there ∙ new_bytes;
+          bytes = ap (λ (s : Slot). slot_of s h.now.slots) slot ∙ h.there ∙ slot_is generation lt body placed t small reads;
           shut = λ (e : ◌≡◌ {A = ℕ} 0 1). absurd (omega arith);
-          place = gate ∙ size;
-          is_front = rw (version, gen) new_front;
+          place = gate ∙ slot_size generation lt body placed t small reads;
+          is_front = rw (version, gen) (slot_front generation lt body placed t small reads);
           flushed_are = refl;
           other_dead = dead_from (slot_of (other j'.slot) h.now.slots) (λ (e : get_or (slot_of (other j'.slot) h.now.slots) 0 0 ≡ 1). let z : ◌≡◌ {A = ℕ} 0 1 = sym (ap (λ (l : List ℕ). get_or l 0 0) others) ∙ e in absurd (omega arith));
           other_some = let l : length (slot_of (other j'.slot) h.now.slots) ≡ suc (length h.old.0) = ap length others in omega arith;

@@ -1,13 +1,9 @@
 -- Reading the batches of a slot.
-use Rattle.std.proofs.Common.{zero-add, ◌≡◌, ◌≢◌, ℕ, zero, suc, ◌+◌, ◌-◌, ◌≤◌, ◌<◌, ◌^◌, ◌⊎◌, min, List, [], ◌∷◌, ◌++◌, length, get_or, take, drop, refl, sym, ap, subst, ◌∙◌, append_assoc, arith, inl, inr, Option}
+use Rattle.std.proofs.Common.{zero-add, ◌≡◌, ◌≢◌, ℕ, zero, suc, ◌+◌, ◌-◌, ◌≤◌, ◌<◌, ◌^◌, ◌⊎◌, min, List, [], ◌∷◌, ◌++◌, length, get_or, take, drop, refl, sym, ap, subst, ◌∙◌, append_assoc, arith, inl, inr}
 use Rattle.std.specs.Int.{w32, to_be_bytes, from_be_bytes}
 use Rattle.std.proofs.lemmas.List.{length-append, length-take, length-drop, take-append-drop, drop-drop, append-nil, drop_at, take_min}
 use Rattle.std.proofs.lemmas.Nat.{be_bytes_4, from_be_bytes-to_be_bytes_4}
-use Rattle.outside.specs.Holding.{Held, slot_of}
-use Rattle.outside.specs.Calls.{Certain, Leaves, Rests}
-use Rattle.outside.proofs.Moments.{rests_then}
 use Rattle.journal_entries.specs.Spelling.{IsBytes}
-use Rattle.journal_entries.specs.declared.entry.Entry.{Entry}
 use Rattle.journal_entries.specs.declared.standing.Standing.{Standing}
 use Rattle.journal_entries.specs.declared.standing.Ending.TheVariants.{Whole, Stops}
 use Rattle.journal_entries.specs.Bodies.{Body, beginning}

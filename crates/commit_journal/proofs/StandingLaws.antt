@@ -1,5 +1,5 @@
 -- The standing behind what a slot has.
-use Rattle.std.proofs.Common.{◌≡◌, ℕ, ◌+◌, List, [], ◌∷◌, ◌++◌, length, drop, map, refl, sym, ap, ◌∙◌}
+use Rattle.std.proofs.Common.{◌≡◌, ℕ, List, [], ◌∷◌, ◌++◌, length, refl, sym, ap, ◌∙◌}
 use Rattle.std.proofs.lemmas.List.{append-nil, map-append}
 use Rattle.outside.specs.Holding.{Slots}
 use Rattle.journal_entries.specs.declared.entry.Entry.{Entry}
@@ -7,7 +7,7 @@ use Rattle.journal_entries.specs.declared.standing.Standing.{Standing}
 use Rattle.journal_entries.specs.Bodies.{beginning, behind_all}
 use Rattle.journal_entries.proofs.BodyLaws.{behind_append, body_standing}
 use Rattle.commit_journal.specs.declared.journal.Journal.{Journal}
-use Rattle.commit_journal.specs.Layout.{Batches, closed, cut, broken, opened, Outcome, Closed, Damaged, Placed, entries_of}
+use Rattle.commit_journal.specs.Layout.{Batches, closed, cut, broken, opened, Outcome, Closed, Placed, entries_of}
 use Rattle.commit_journal.specs.Resting.{AtRest}
 
 closed_same : {p q : ℕ} {s t : Standing} → Closed p s ≡ Closed q t → t ≡ s

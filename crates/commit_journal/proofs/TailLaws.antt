@@ -1,10 +1,9 @@
 -- Noting an entry, and flushing the tail.
-use Rattle.std.proofs.Common.{◌≡◌, ◌≢◌, ℕ, zero, suc, ◌+◌, ◌-◌, ◌≤◌, ◌<◌, ◌^◌, ◌⊎◌, Bool, true, false, eqb, List, [], ◌∷◌, ◌++◌, length, take, drop, map, refl, sym, ap, subst, ◌∙◌, append_assoc, arith, inl, inr, Option, Some, None}
+use Rattle.std.proofs.Common.{◌≡◌, ◌≢◌, ℕ, ◌+◌, ◌-◌, ◌≤◌, ◌^◌, ◌⊎◌, true, false, eqb, List, [], ◌∷◌, ◌++◌, length, drop, refl, sym, ap, subst, ◌∙◌, append_assoc, arith, inl, inr, Option}
 use Rattle.std.specs.Int.{w32, to_be_bytes}
 use Rattle.std.specs.List.{flat_map}
 use Rattle.std.proofs.lemmas.Bool.{eqb-true, eqb-false}
-use Rattle.std.proofs.lemmas.List.{length-append, length-drop, length-take, append-nil, map-append, flat_map_more, drop_all, map_push, drop-append-le}
-use Rattle.outside.specs.declared.disk.Slot.{Slot}
+use Rattle.std.proofs.lemmas.List.{length-append, length-drop, append-nil, map-append, flat_map_more, drop_all, map_push, drop-append-le}
 use Rattle.outside.specs.Holding.{Slots, Held, slot_of, other}
 use Rattle.outside.specs.Calls.{Certain, Leaves}
 use Rattle.outside.proofs.Moments.{at_once, weaker}
@@ -15,7 +14,6 @@ use Rattle.journal_entries.specs.declared.standing.Ending.TheVariants.{Whole, St
 use Rattle.journal_entries.specs.Spelling.{entry_bytes, IsEntry}
 use Rattle.journal_entries.specs.Bodies.{Body, ends, stops, goes, behind, follows}
 use Rattle.journal_entries.proofs.BodyLaws.{some_bytes}
-use Rattle.commit_journal.specs.declared.head.Head.TheVariants.{Dead, Live}
 use Rattle.commit_journal.specs.declared.journal.Journal.{Journal}
 use Rattle.commit_journal.specs.Layout.{Placed, entries_of, head_of, Gives}
 use Rattle.commit_journal.specs.Resting.{IsFront, AtRest, HasRoom, MidFlush, Rested}

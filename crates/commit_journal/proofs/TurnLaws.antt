@@ -1,13 +1,13 @@
 -- Moving on to the other slot: what each call leaves.
-use Rattle.std.proofs.Common.{Result, Ok, zero, ◌≡◌, ◌≢◌, ℕ, suc, ◌+◌, ◌-◌, ◌≤◌, ◌<◌, ◌⊎◌, Bool, true, false, eqb, List, [], ◌∷◌, ◌++◌, length, get_or, take, drop, min, refl, sym, ap, subst, ◌∙◌, arith, inl, inr, Option, Some, None}
+use Rattle.std.proofs.Common.{Ok, zero, ◌≡◌, ◌≢◌, ℕ, suc, ◌+◌, ◌≤◌, ◌<◌, ◌⊎◌, true, false, eqb, List, [], ◌∷◌, ◌++◌, length, get_or, take, drop, refl, sym, ap, subst, ◌∙◌, arith, inl, inr, Option, Some}
 use Rattle.std.proofs.lemmas.Bool.{eqb-true, eqb-false}
-use Rattle.std.proofs.lemmas.List.{length-append, append-nil, length-take, get_or-take}
+use Rattle.std.proofs.lemmas.List.{append-nil, get_or-take}
 use Rattle.outside.specs.declared.disk.Slot.{Slot}
 use Rattle.outside.specs.declared.disk.Slot.TheVariants.{First, Second}
-use Rattle.outside.specs.Holding.{Slots, Held, slot_of, other, with_slot, with_bytes}
+use Rattle.outside.specs.Holding.{Held, slot_of, other, with_bytes}
 use Rattle.outside.specs.Calls.{Told, GoesOn, Stays, Same, Changes, Torn, Cut, patched, MayWrite, Wrote, MayCut, WasCut, Durable, Certain, Leaves}
-use Rattle.outside.proofs.Moments.{slot_with, other_with, other_stays, told_then, one_call, and_then, weaker, then_stays, cut_leaves, sync_certain}
-use Rattle.commit_journal.specs.Turning.{CanTurn, Filling, Filled, MidTurn, Turned}
+use Rattle.outside.proofs.Moments.{slot_with, other_with, other_stays, told_then, one_call, and_then, weaker, cut_leaves, sync_certain}
+use Rattle.commit_journal.specs.Turning.{Filling, Filled, HasBegun, MidTurn, Turned}
 use Rattle.commit_journal.proofs.Pieces.{torn_gate, put_gate}
 use Rattle.commit_journal.proofs.BatchLaws.{PutCrash, PutCertain}
 
@@ -121,9 +121,9 @@ head_split (x ∷ xs) e = (xs, ap (λ (n : ℕ). n ∷ xs) e)
 pub is_one : (P : Type 0) (n : ℕ) → (n ≡ 1 → P) → (n ≢ 1 → P) → P
 is_one P n yes-one not-one = elim (eqb n 1) as (λ b. eqb n 1 ≡ b → P) [ true ↦ λ e. yes-one (eqb-true n 1 e) | false ↦ λ e. not-one (eqb-false n 1 e) ] refl
 
-module _ (t : Slot) (bytes : List ℕ) (o : Held) (can : CanTurn t o) where
+module _ (t : Slot) (bytes : List ℕ) (o : Held) (dead : get_or (slot_of t o.slots) 0 0 ≢ 1) where
   pub turn_filling : (p : Held) → Filling t o p → MidTurn t bytes o p
-  turn_filling p f = record { beside = f.beside; there = inl (λ e. can.dead (sym f.first_same ∙ e), f.other_same) }
+  turn_filling p f = record { beside = f.beside; there = inl (λ e. dead (sym f.first_same ∙ e), f.other_same) }
 
   module _ (n : Held) (beside : n.history ≡ o.history) (other_same : slot_of (other t) n.slots ≡ slot_of (other t) o.slots) (there : slot_of t n.slots ≡ get_or (slot_of t o.slots) 0 0 ∷ bytes) where
     pub turn_opening : (p : Held) → (p ≡ n) ⊎ Changes t (Torn 0 1) n p → MidTurn t bytes o p
@@ -131,7 +131,7 @@ module _ (t : Slot) (bytes : List ℕ) (o : Held) (can : CanTurn t o) where
         let same : slot_of t p.slots ≡ get_or (slot_of t o.slots) 0 0 ∷ bytes = ap (λ (h : Held). slot_of t h.slots) e ∙ there in
         record {
           beside = ap (λ (h : Held). h.history) e ∙ beside;
-          there = inl (λ one. can.dead (sym (ap (λ (l : List ℕ). get_or l 0 0) same) ∙ one), ap (λ (h : Held). slot_of (other t) h.slots) e ∙ other_same);
+          there = inl (λ one. dead (sym (ap (λ (l : List ℕ). get_or l 0 0) same) ∙ one), ap (λ (h : Held). slot_of (other t) h.slots) e ∙ other_same);
         }
     turn_opening p (inr c) =
         let torn : Torn 0 1 (get_or (slot_of t o.slots) 0 0 ∷ bytes) (slot_of t p.slots) = subst (λ (l : List ℕ). Torn 0 1 l (slot_of t p.slots)) there c.there in
@@ -144,62 +144,66 @@ module _ (t : Slot) (bytes : List ℕ) (o : Held) (can : CanTurn t o) where
     abbrev pub opened_held : Held
     opened_held = with_bytes t (patched 0 (1 ∷ []) (slot_of t n.slots)) n
 
-    opened_there : slot_of t opened_held.slots ≡ 1 ∷ bytes
+    pub opened_there : slot_of t opened_held.slots ≡ 1 ∷ bytes
     opened_there = slot_with t (patched 0 (1 ∷ []) (slot_of t n.slots)) n.slots ∙ ap (λ (l : List ℕ). patched 0 (1 ∷ []) l) there ∙ put_gate [] (get_or (slot_of t o.slots) 0 0) bytes 1
 
-    opened_other : slot_of (other t) opened_held.slots ≡ slot_of (other t) o.slots
+    pub opened_other : slot_of (other t) opened_held.slots ≡ slot_of (other t) o.slots
     opened_other = other_with t (patched 0 (1 ∷ []) (slot_of t n.slots)) n.slots ∙ other_same
 
-    pub turn_closing : (p : Held) → (p ≡ opened_held) ⊎ Changes (other t) (Torn 0 1) opened_held p → MidTurn t bytes o p
-    turn_closing p (inl e) = record {
-      beside = ap (λ (h : Held). h.history) e ∙ beside;
-      there = inr (ap (λ (h : Held). slot_of t h.slots) e ∙ opened_there, inl (ap (λ (h : Held). slot_of (other t) h.slots) e ∙ opened_other));
-    }
-    turn_closing p (inr c) =
-        let split = head_split (slot_of (other t) o.slots) can.live in
-        let mine : slot_of t p.slots ≡ slot_of t opened_held.slots = subst (λ (s : Slot). slot_of s p.slots ≡ slot_of s opened_held.slots) (other_other t) (other_stays (other t) (Torn 0 1) opened_held p c) in
-        let torn : Torn 0 1 (1 ∷ split.0) (slot_of (other t) p.slots) = subst (λ (l : List ℕ). Torn 0 1 l (slot_of (other t) p.slots)) (opened_other ∙ split.1) c.there in
-        let is : slot_of (other t) p.slots ≡ get_or (slot_of (other t) p.slots) 0 0 ∷ split.0 = torn_gate [] 1 split.0 (slot_of (other t) p.slots) torn in
-        is_one (MidTurn t bytes o p) (get_or (slot_of (other t) p.slots) 0 0)
-        (λ one. record { beside = c.beside ∙ beside; there = inr (mine ∙ opened_there, inl (is ∙ ap (λ (x : ℕ). x ∷ split.0) one ∙ sym split.1)) })
-        (λ none. record { beside = c.beside ∙ beside; there = inr (mine ∙ opened_there, inr none) })
+    pub has_begun : {D : Type 0} (held : D → Option Held) (moment : D → ℕ) (possible : D → ℕ → Held → Type 0) (d : D) → Certain held moment possible d opened_held → HasBegun held moment possible d t bytes o
+    has_begun held moment possible d h = record { now = opened_held; certain = h; beside = beside; other_same = opened_other; there = opened_there }
 
-    abbrev pub last_held : Held
-    last_held = with_bytes (other t) (patched 0 (0 ∷ []) (slot_of (other t) opened_held.slots)) opened_held
+-- the target is live, and the other slot is closed
+module _ (t : Slot) (bytes : List ℕ) (o : Held) (live : get_or (slot_of (other t) o.slots) 0 0 ≡ 1) (n : Held) (beside : n.history ≡ o.history) (other_same : slot_of (other t) n.slots ≡ slot_of (other t) o.slots) (there : slot_of t n.slots ≡ 1 ∷ bytes) where
+  pub turn_closing : (p : Held) → (p ≡ n) ⊎ Changes (other t) (Torn 0 1) n p → MidTurn t bytes o p
+  turn_closing p (inl e) = record {
+    beside = ap (λ (h : Held). h.history) e ∙ beside;
+    there = inr (ap (λ (h : Held). slot_of t h.slots) e ∙ there, inl (ap (λ (h : Held). slot_of (other t) h.slots) e ∙ other_same));
+  }
+  turn_closing p (inr c) =
+      let split = head_split (slot_of (other t) o.slots) live in
+      let mine : slot_of t p.slots ≡ slot_of t n.slots = subst (λ (s : Slot). slot_of s p.slots ≡ slot_of s n.slots) (other_other t) (other_stays (other t) (Torn 0 1) n p c) in
+      let torn : Torn 0 1 (1 ∷ split.0) (slot_of (other t) p.slots) = subst (λ (l : List ℕ). Torn 0 1 l (slot_of (other t) p.slots)) (other_same ∙ split.1) c.there in
+      let is : slot_of (other t) p.slots ≡ get_or (slot_of (other t) p.slots) 0 0 ∷ split.0 = torn_gate [] 1 split.0 (slot_of (other t) p.slots) torn in
+      is_one (MidTurn t bytes o p) (get_or (slot_of (other t) p.slots) 0 0)
+      (λ one. record { beside = c.beside ∙ beside; there = inr (mine ∙ there, inl (is ∙ ap (λ (x : ℕ). x ∷ split.0) one ∙ sym split.1)) })
+      (λ none. record { beside = c.beside ∙ beside; there = inr (mine ∙ there, inr none) })
 
-    pub is_turned : {D : Type 0} (held : D → Option Held) (moment : D → ℕ) (possible : D → ℕ → Held → Type 0) (d : D) → Certain held moment possible d last_held → Turned held moment possible d t bytes o
-    is_turned held moment possible d h =
-        let split = head_split (slot_of (other t) o.slots) can.live in
-        record {
-          now = last_held;
-          certain = h;
-          beside = beside;
-          there = subst (λ (s : Slot). slot_of s last_held.slots ≡ slot_of s opened_held.slots) (other_other t) (other_with (other t) (patched 0 (0 ∷ []) (slot_of (other t) opened_held.slots)) opened_held.slots) ∙ opened_there;
-          old = (split.0, slot_with (other t) (patched 0 (0 ∷ []) (slot_of (other t) opened_held.slots)) opened_held.slots ∙ ap (λ (l : List ℕ). patched 0 (0 ∷ []) l) (opened_other ∙ split.1) ∙ put_gate [] 1 split.0 0);
-        }
+  abbrev pub last_held : Held
+  last_held = with_bytes (other t) (patched 0 (0 ∷ []) (slot_of (other t) n.slots)) n
 
-module _ {D : Type 0} (held : D → Option Held) (moment : D → ℕ) (possible : D → ℕ → Held → Type 0) (t u : Slot) (u-is : u ≡ other t) (bytes : List ℕ) (o : Held) (can : CanTurn t o) where
-  pub turn_first : (a b : D) → Leaves moment possible a b (Filling t o) → Leaves moment possible a b (MidTurn t bytes o)
-  turn_first a b f = weaker moment possible a b (Filling t o) (MidTurn t bytes o) (turn_filling t bytes o can) f
+  pub is_turned : {D : Type 0} (held : D → Option Held) (moment : D → ℕ) (possible : D → ℕ → Held → Type 0) (d : D) → Certain held moment possible d last_held → Turned held moment possible d t bytes o
+  is_turned held moment possible d h =
+      let split = head_split (slot_of (other t) o.slots) live in
+      record {
+        now = last_held;
+        certain = h;
+        beside = beside;
+        there = subst (λ (s : Slot). slot_of s last_held.slots ≡ slot_of s n.slots) (other_other t) (other_with (other t) (patched 0 (0 ∷ []) (slot_of (other t) n.slots)) n.slots) ∙ there;
+        old = (split.0, slot_with (other t) (patched 0 (0 ∷ []) (slot_of (other t) n.slots)) n.slots ∙ ap (λ (l : List ℕ). patched 0 (0 ∷ []) l) (other_same ∙ split.1) ∙ put_gate [] 1 split.0 0);
+      }
 
-  pub turn_second : (a b c : D) → Leaves moment possible a b (Filling t o) → Filled held moment possible b t bytes o → PutCrash held moment possible t b c 0 (1 ∷ []) → Leaves moment possible a c (MidTurn t bytes o)
-  turn_second a b c f n crash =
-      and_then moment possible a b c (MidTurn t bytes o) (turn_first a b f)
-      (weaker moment possible b c (λ p. (p ≡ n.now) ⊎ Changes t (Torn 0 1) n.now p) (MidTurn t bytes o) (turn_opening t bytes o can n.now n.beside n.other_same n.there) (crash n.now n.certain (omega arith)))
+module _ {D : Type 0} (held : D → Option Held) (moment : D → ℕ) (possible : D → ℕ → Held → Type 0) (t : Slot) (bytes : List ℕ) (o : Held) where
+  module _ (dead : get_or (slot_of t o.slots) 0 0 ≢ 1) where
+    pub begin_first : (a b : D) → Leaves moment possible a b (Filling t o) → Leaves moment possible a b (MidTurn t bytes o)
+    begin_first a b f = weaker moment possible a b (Filling t o) (MidTurn t bytes o) (turn_filling t bytes o dead) f
 
-  opened_is : (b c : D) → (n : Filled held moment possible b t bytes o) → PutCertain held moment possible t b c 0 (1 ∷ []) → Certain held moment possible c (opened_held t bytes o can n.now n.beside n.other_same n.there)
-  opened_is b c n certain = certain n.now n.certain (omega arith)
+    pub begin_second : (a b c : D) → Leaves moment possible a b (Filling t o) → Filled held moment possible b t bytes o → PutCrash held moment possible t b c 0 (1 ∷ []) → Leaves moment possible a c (MidTurn t bytes o)
+    begin_second a b c f n crash =
+        and_then moment possible a b c (MidTurn t bytes o) (begin_first a b f)
+        (weaker moment possible b c (λ p. (p ≡ n.now) ⊎ Changes t (Torn 0 1) n.now p) (MidTurn t bytes o) (turn_opening t bytes o dead n.now n.beside n.other_same n.there) (crash n.now n.certain (omega arith)))
 
-  pub turn_third : (a b c e : D) → Leaves moment possible a b (Filling t o) → Filled held moment possible b t bytes o → PutCrash held moment possible t b c 0 (1 ∷ []) → PutCertain held moment possible t b c 0 (1 ∷ []) → PutCrash held moment possible u c e 0 (0 ∷ [])
-      → Leaves moment possible a e (MidTurn t bytes o)
-  turn_third a b c e f n crash certain crash2 =
-      let m = opened_held t bytes o can n.now n.beside n.other_same n.there in
-      let crash2' : PutCrash held moment possible (other t) c e 0 (0 ∷ []) = subst (λ (s : Slot). PutCrash held moment possible s c e 0 (0 ∷ [])) u-is crash2 in
-      and_then moment possible a c e (MidTurn t bytes o) (turn_second a b c f n crash)
-      (weaker moment possible c e (λ p. (p ≡ m) ⊎ Changes (other t) (Torn 0 1) m p) (MidTurn t bytes o) (turn_closing t bytes o can n.now n.beside n.other_same n.there) (crash2' m (opened_is b c n certain) (omega arith)))
+    pub begin_done : (b c : D) → Filled held moment possible b t bytes o → PutCertain held moment possible t b c 0 (1 ∷ []) → HasBegun held moment possible c t bytes o
+    begin_done b c n certain = has_begun t bytes o dead n.now n.beside n.other_same n.there held moment possible c (certain n.now n.certain (omega arith))
 
-  pub turn_done : (b c e : D) → Filled held moment possible b t bytes o → PutCertain held moment possible t b c 0 (1 ∷ []) → PutCertain held moment possible u c e 0 (0 ∷ []) → Turned held moment possible e t bytes o
-  turn_done b c e n certain certain2 =
-      let m = opened_held t bytes o can n.now n.beside n.other_same n.there in
-      let certain2' : PutCertain held moment possible (other t) c e 0 (0 ∷ []) = subst (λ (s : Slot). PutCertain held moment possible s c e 0 (0 ∷ [])) u-is certain2 in
-      is_turned t bytes o can n.now n.beside n.other_same n.there held moment possible e (certain2' m (opened_is b c n certain) (omega arith))
+  module _ (u : Slot) (u-is : u ≡ other t) (live : get_or (slot_of (other t) o.slots) 0 0 ≡ 1) where
+    pub turn_crash : (a c e : D) → Leaves moment possible a c (MidTurn t bytes o) → HasBegun held moment possible c t bytes o → PutCrash held moment possible u c e 0 (0 ∷ []) → Leaves moment possible a e (MidTurn t bytes o)
+    turn_crash a c e begun n crash =
+        let crash' : PutCrash held moment possible (other t) c e 0 (0 ∷ []) = subst (λ (s : Slot). PutCrash held moment possible s c e 0 (0 ∷ [])) u-is crash in
+        and_then moment possible a c e (MidTurn t bytes o) begun
+        (weaker moment possible c e (λ p. (p ≡ n.now) ⊎ Changes (other t) (Torn 0 1) n.now p) (MidTurn t bytes o) (turn_closing t bytes o live n.now n.beside n.other_same n.there) (crash' n.now n.certain (omega arith)))
+
+    pub turn_done : (c e : D) → HasBegun held moment possible c t bytes o → PutCertain held moment possible u c e 0 (0 ∷ []) → Turned held moment possible e t bytes o
+    turn_done c e n certain =
+        let certain' : PutCertain held moment possible (other t) c e 0 (0 ∷ []) = subst (λ (s : Slot). PutCertain held moment possible s c e 0 (0 ∷ [])) u-is certain in
+        is_turned t bytes o live n.now n.beside n.other_same n.there held moment possible e (certain' n.now n.certain (omega arith))

@@ -2,7 +2,7 @@
 
 use Rattle.std.specs.Prelude.{◌≡◌, ℕ, ◌⊎◌, Option, List, ◌∷◌, ◌++◌}
 use Rattle.outside.specs.declared.disk.Slot.{Slot}
-use Rattle.outside.specs.Holding.{Slots, Held, slot_of, other}
+use Rattle.outside.specs.Holding.{Held, slot_of, other}
 use Rattle.outside.specs.Calls.{Certain}
 
 -- up to the gate the slot stays; the gate stays and anything stands behind it, or the bytes stand behind it

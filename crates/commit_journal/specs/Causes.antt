@@ -7,6 +7,8 @@ use Rattle.commit_journal.specs.declared.fault.OpenError.{OpenError}
 use Rattle.commit_journal.specs.declared.fault.OpenError.TheVariants as open_error
 use Rattle.commit_journal.specs.declared.fault.RotateError.{RotateError}
 use Rattle.commit_journal.specs.declared.fault.RotateError.TheVariants as rotate_error
+use Rattle.commit_journal.specs.declared.fault.ReserveError.{ReserveError}
+use Rattle.commit_journal.specs.declared.fault.ReserveError.TheVariants as reserve_error
 
 -- a failed disk call has its cause; want of memory needs none
 pub record OpenHasCause {T : Type 0} (before now : ℕ) (result : Result T OpenError) : Type 0 where
@@ -17,3 +19,8 @@ pub record OpenHasCause {T : Type 0} (before now : ℕ) (result : Result T OpenE
 pub record RotateHasCause {T : Type 0} (before now : ℕ) (result : Result T RotateError) : Type 0 where
   pub later : before ≤ now
   pub failed : IsErrOf result rotate_error.Disk → Rose before now
+
+-- where there is no room for a batch
+abbrev pub without_room : ReserveError → RotateError
+without_room reserve_error.Limit = rotate_error.Limit
+without_room reserve_error.Memory = rotate_error.Memory

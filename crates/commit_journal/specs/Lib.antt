@@ -5,3 +5,4 @@ pub mod Batching
 pub mod Turning
 pub mod Scanning
 pub mod Opening
+pub mod Looking

@@ -5,9 +5,10 @@ use Rattle.outside.specs.declared.disk.Slot.{Slot}
 use Rattle.outside.specs.Holding.{Slots, Held}
 use Rattle.outside.specs.Calls.{Certain}
 use Rattle.commit_journal.specs.declared.head.Head.{Head}
+use Rattle.commit_journal.specs.declared.head.Survey.{Survey}
 use Rattle.commit_journal.specs.declared.head.Head.TheVariants.{Dead, Faulty, Live}
 use Rattle.commit_journal.specs.declared.opening.Opened.{Opened}
-use Rattle.commit_journal.specs.Layout.{Placed, Reads, entries_of}
+use Rattle.commit_journal.specs.Layout.{Placed, Reads, entries_of, head_of}
 use Rattle.commit_journal.specs.Resting.{AtRest}
 
 -- the entries and the first damaged place of the slots; where there is none, a journal at rest
@@ -38,3 +39,17 @@ abbrev pub HeadFits : ℕ → Head → Type 0
 HeadFits len Dead = Unit {0}
 HeadFits len (Faulty place) = Unit {0}
 HeadFits len (Live version generation) = 11 ≤ len
+
+-- no slot is live, and none is without bytes
+pub record IsBlank (slots : Slots) : Type 0 where
+  pub first : head_of slots.first ≡ Dead
+  pub second : head_of slots.second ≡ Dead
+  pub have : HaveBytes slots
+
+-- these are the heads and the lengths of the slots, of a certain disk
+pub record Surveyed {D : Type 0} (held : D → Option Held) (moment : D → ℕ) (possible : D → ℕ → Held → Type 0) (d : D) (o : Held) (s : Survey) : Type 0 where
+  pub certain : Certain held moment possible d o
+  pub first_len : length o.slots.first ≡ s.first_len
+  pub first : head_of o.slots.first ≡ s.first
+  pub second_len : length o.slots.second ≡ s.second_len
+  pub second : head_of o.slots.second ≡ s.second

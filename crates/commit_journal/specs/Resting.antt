@@ -1,14 +1,13 @@
 -- A journal at rest over its slots.
 
-use Rattle.std.specs.Prelude.{◌≡◌, ◌≢◌, ℕ, ◌+◌, ◌-◌, ◌^◌, ◌<◌, ◌≤◌, ◌⊎◌, Option, List, [], ◌∷◌, ◌++◌, length, take, drop, vec_capacity}
+use Rattle.std.specs.Prelude.{◌≡◌, ◌≢◌, ℕ, ◌+◌, ◌^◌, ◌<◌, ◌≤◌, ◌⊎◌, Option, List, ◌∷◌, ◌++◌, length, drop, vec_capacity}
 use Rattle.std.specs.List.{flat_map}
-use Rattle.outside.specs.declared.disk.Slot.{Slot}
 use Rattle.outside.specs.Holding.{Slots, Held, slot_of, other}
 use Rattle.outside.specs.Calls.{Certain}
 use Rattle.journal_entries.specs.declared.entry.Entry.{Entry}
 use Rattle.journal_entries.specs.declared.standing.Standing.{Standing}
 use Rattle.journal_entries.specs.declared.standing.Ending.TheVariants.{Whole}
-use Rattle.journal_entries.specs.Spelling.{entry_bytes, IsEntry}
+use Rattle.journal_entries.specs.Spelling.{entry_bytes}
 use Rattle.journal_entries.specs.Bodies.{Body, beginning}
 use Rattle.commit_journal.specs.declared.head.Head.TheVariants.{Dead, Live}
 use Rattle.commit_journal.specs.declared.journal.Journal.{Journal}

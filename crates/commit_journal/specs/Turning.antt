@@ -4,7 +4,7 @@ use Rattle.std.specs.Prelude.{◌≡◌, ◌≢◌, ℕ, ◌-◌, ◌^◌, ◌<�
 use Rattle.std.specs.List.{flat_map}
 use Rattle.std.specs.Int.{w32, w64, to_be_bytes}
 use Rattle.outside.specs.declared.disk.Slot.{Slot}
-use Rattle.outside.specs.Holding.{Slots, Held, slot_of, other}
+use Rattle.outside.specs.Holding.{Held, slot_of, other}
 use Rattle.outside.specs.Calls.{Certain}
 use Rattle.journal_entries.specs.declared.entry.Entry.{Entry}
 use Rattle.journal_entries.specs.Spelling.{entry_bytes}
@@ -30,6 +30,14 @@ pub record MidTurn (target : Slot) (bytes : List ℕ) (o p : Held) : Type 0 wher
   pub there : ((slice_index (slot_of target p.slots) 0 ≢ 1) × (slot_of (other target) p.slots ≡ slot_of (other target) o.slots))
       ⊎ ((slot_of target p.slots ≡ 1 ∷ bytes) × ((slot_of (other target) p.slots ≡ slot_of (other target) o.slots) ⊎ (slice_index (slot_of (other target) p.slots) 0 ≢ 1)))
 
+-- the slot is live with these bytes, and the other one is as it was
+pub record HasBegun {D : Type 0} (held : D → Option Held) (moment : D → ℕ) (possible : D → ℕ → Held → Type 0) (d : D) (slot : Slot) (bytes : List ℕ) (o : Held) : Type 0 where
+  pub now : Held
+  pub certain : Certain held moment possible d now
+  pub beside : now.history ≡ o.history
+  pub other_same : slot_of (other slot) now.slots ≡ slot_of (other slot) o.slots
+  pub there : slot_of slot now.slots ≡ 1 ∷ bytes
+
 pub record Turned {D : Type 0} (held : D → Option Held) (moment : D → ℕ) (possible : D → ℕ → Held → Type 0) (d : D) (target : Slot) (bytes : List ℕ) (o : Held) : Type 0 where
   pub now : Held
   pub certain : Certain held moment possible d now
@@ -53,6 +61,11 @@ pub record MidRotation (o : Held) (entries others : List Entry) (p : Held) : Typ
 -- the entries are too many for one batch, or no generation is left
 abbrev pub IsPastRotation : Journal → List Entry → Type 0
 IsPastRotation j entries = (j.generation ≡ 2 ^ 64 - 1) ⊎ (2 ^ 24 < length (flat_map entry_bytes entries))
+
+-- the slot has a byte and isn't live
+pub record CanBegin (slot : Slot) (o : Held) : Type 0 where
+  pub some : 1 ≤ length (slot_of slot o.slots)
+  pub dead : slice_index (slot_of slot o.slots) 0 ≢ 1
 
 -- the target has a byte and isn't live, and the other slot is
 pub record CanTurn (target : Slot) (o : Held) : Type 0 where

@@ -8,6 +8,7 @@ ghost use Rattle.journal_entries.specs.declared.standing.Standing.{Standing as O
 ghost use Rattle.journal_entries.specs.declared.standing.Ending.TheVariants.{Whole};
 ghost use Rattle.journal_entries.specs.Bodies.{Body, beginning};
 ghost use Rattle.commit_journal.specs.Layout.{Placed, entries_of};
+ghost use Rattle.commit_journal.specs.Opening.{IsBlank};
 ghost use Rattle.commit_journal.specs.Resting.{AtRest, Rested};
 ghost use Rattle.commit_journal.specs.Turning.{MidRotation, slot_bytes};
 ghost use Rattle.commit_journal.specs.Causes.{RotateHasCause};
@@ -15,9 +16,10 @@ ghost use Rattle.commit_journal.specs.declared.fault.RotateError.TheVariants.{Li
 
 use crate::fault::RotateError;
 use crate::journal::Journal;
+use crate::placing::begin;
 use journal_entries::writing::put_bytes;
 use journal_entries::{Ending, Standing, read_body};
-use outside::Disk;
+use outside::{Disk, Slot};
 use std::alloc::{AllocError, Global};
 
 /// The bytes of a slot behind its first: a header of version 2, this body as a batch, and a closed gate.
@@ -35,15 +37,21 @@ pub(crate) fn slot_image(alloc: Global, generation: u64, body: &[u8]) -> Result<
     Ok(bytes)
 }
 
-/// What stands behind a body that reads as a slot's first batch.
-fn standing_behind(alloc: Global, body: &[u8]) -> Result<Standing, AllocError>
-    requires small { length body.now ≤ 2 ^ 24 }
-    requires reads { (placed : List Placed) × (t : OneStanding) × Body 2 beginning 15 body.now placed (Whole t) }
-    ensures { IfOk result (λ s. (placed : List Placed) (t : OneStanding) → Body 2 beginning 15 body.now placed (Whole t) → s ≡ t) }
+/// What stands behind a body that reads.
+pub(crate) fn standing_behind(
+    alloc: Global,
+    version: u8,
+    standing: Standing,
+    place: u64,
+    body: &[u8],
+) -> Result<Standing, AllocError>
+    requires small { place + length body.now < 2 ^ 64 }
+    requires reads { (placed : List Placed) × (t : OneStanding) × Body version standing place body.now placed (Whole t) }
+    ensures { IfOk result (λ s. (placed : List Placed) (t : OneStanding) → Body version standing place body.now placed (Whole t) → s ≡ t) }
 {
     let mut scratch = Vec::new(alloc);
-    match read_body(alloc, 2, Standing::beginning(), 15, body, &mut scratch)? {
-        Ending::Whole(standing) => Ok(standing),
+    match read_body(alloc, version, standing, place, body, &mut scratch)? {
+        Ending::Whole(behind) => Ok(behind),
         Ending::Stops(_) => unreachable!(),
     }
 }
@@ -63,6 +71,7 @@ impl Journal {
             Body 2 beginning 15 body.now placed (Whole t) → Leaves D.moment D.possible d.old d.new (MidRotation o flushed (entries_of placed)) }
         ensures moved { OnOk result ((o : Held) (flushed : List OneEntry) (placed : List Placed) (t : OneStanding) → Certain D.held D.moment D.possible d.old o → AtRest self.old o.slots flushed [] → self.old.generation < generation →
             Body 2 beginning 15 body.now placed (Whole t) → Rested D.held D.moment D.possible d.new self.new o (entries_of placed) []) }
+        ensures generation { OnOk result (self.new.generation ≡ generation) }
         ensures limit { (result ≡ Err Limit) ↔ (2 ^ 24 < length body.now) }
         ensures shares { D.shared d.new ≡ D.shared d.old }
         ensures cause { RotateHasCause (D.disk_faults d.old) (D.disk_faults d.new) result }
@@ -70,10 +79,49 @@ impl Journal {
         if body.len() > 16_777_216 {
             return Err(RotateError::Limit);
         }
-        let standing = standing_behind(alloc, body)?;
+        let standing = standing_behind(alloc, 2, Standing::beginning(), 15, body)?;
         let bytes = slot_image(alloc, generation, body)?;
         self.move_on(d, generation, standing, &bytes)?;
         Ok(())
+    }
+
+    /// A journal where no slot is live: fills slot 0 with this body as its only batch, and opens it. The body reads as a
+    /// slot's first batch. The other slot isn't written.
+    ///
+    /// `Limit` exactly where the body is longer than 2^24 bytes. `Memory` for want of memory. In both the disk isn't
+    /// called.
+    pub fn adopt_new<D: Disk>(
+        alloc: Global,
+        d: &mut D,
+        generation: u64,
+        body: &[u8],
+    ) -> Result<Journal, RotateError>
+        requires reads { (placed : List Placed) × (t : OneStanding) × Body 2 beginning 15 body.now placed (Whole t) }
+        ensures crash { (o : Held) (placed : List Placed) (t : OneStanding) → Certain D.held D.moment D.possible d.old o → IsBlank o.slots →
+            Body 2 beginning 15 body.now placed (Whole t) → Leaves D.moment D.possible d.old d.new (MidRotation o [] (entries_of placed)) }
+        ensures made { IfOk result (λ journal. (o : Held) (placed : List Placed) (t : OneStanding) → Certain D.held D.moment D.possible d.old o → IsBlank o.slots →
+            Body 2 beginning 15 body.now placed (Whole t) → Rested D.held D.moment D.possible d.new journal o (entries_of placed) []) }
+        ensures generation { IfOk result (λ journal. journal.generation ≡ generation) }
+        ensures limit { (result ≡ Err Limit) ↔ (2 ^ 24 < length body.now) }
+        ensures shares { D.shared d.new ≡ D.shared d.old }
+        ensures cause { RotateHasCause (D.disk_faults d.old) (D.disk_faults d.new) result }
+    {
+        if body.len() > 16_777_216 {
+            return Err(RotateError::Limit);
+        }
+        let standing = standing_behind(alloc, 2, Standing::beginning(), 15, body)?;
+        let bytes = slot_image(alloc, generation, body)?;
+        let mut staged = Vec::from_elem(alloc, 0, 4)?;
+        staged.reserve(1)?;
+        begin(d, Slot::First, &bytes)?;
+        Ok(Journal {
+            slot: Slot::First,
+            version: 2,
+            generation,
+            gate: bytes.len() as u64,
+            standing,
+            staged,
+        })
     }
 
     /// Whether the body reads behind the entries so far, or as a slot's first batch. The tail is empty.
@@ -83,10 +131,19 @@ impl Journal {
         ensures behind { first ≡ false → IfOk result (λ b. IsTrue b ↔ ((placed : List Placed) × (t : OneStanding) × Body self.now.version self.now.standing (self.now.gate + 5) body.now placed (Whole t))) }
     {
         if first {
-            return reads_whole(alloc, 2, Standing::beginning(), 15, body);
+            return reads_first(alloc, body);
         }
         reads_whole(alloc, self.version, self.standing, self.gate + 5, body)
     }
+}
+
+/// Whether the body reads as a slot's first batch.
+///
+/// It fails for want of memory alone.
+pub fn reads_first(alloc: Global, body: &[u8]) -> Result<bool, AllocError>
+    ensures { IfOk result (λ b. IsTrue b ↔ ((placed : List Placed) × (t : OneStanding) × Body 2 beginning 15 body.now placed (Whole t))) }
+{
+    reads_whole(alloc, 2, Standing::beginning(), 15, body)
 }
 
 /// Whether all of a body reads.

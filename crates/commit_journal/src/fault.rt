@@ -3,6 +3,7 @@
 ghost use Rattle.std.specs.Prelude.{◌≡◌};
 ghost use Rattle.commit_journal.specs.declared.fault.OpenError.TheVariants.{Disk, Memory};
 ghost use Rattle.commit_journal.specs.declared.fault.RotateError.TheVariants as rotate_error;
+ghost use Rattle.commit_journal.specs.Causes.{without_room};
 
 use outside::DiskFault;
 use std::alloc::{AllocError, AllocFailed};
@@ -40,12 +41,12 @@ impl<T: Drop> From<AllocFailed<T>> for OpenError {
     }
 }
 
-/// Why the journal didn't move on to the other slot.
+/// Why the journal didn't take a batch, or didn't move on to the other slot.
 #[derive(Clone, Copy, Debug, PartialEq, Eq)]
 pub enum RotateError {
     /// A disk call failed.
     Disk,
-    /// The batch would be too long, or no generation is left.
+    /// The batch or the slot would be too long, or no generation is left.
     Limit,
     /// Memory was wanting.
     Memory,
@@ -74,4 +75,15 @@ pub enum ReserveError {
     Limit,
     /// Memory was wanting.
     Memory,
+}
+
+impl From<ReserveError> for RotateError {
+    ghost from_gives = { λ error e. e ≡ without_room error };
+
+    fn from(error: ReserveError) -> RotateError {
+        match error {
+            ReserveError::Limit => RotateError::Limit,
+            ReserveError::Memory => RotateError::Memory,
+        }
+    }
 }

@@ -1,15 +1,16 @@
 //! Reading the heads of slots.
 
-ghost use Rattle.std.specs.Prelude.{◌≡◌, ◌^◌, length, IfOk};
+ghost use Rattle.std.specs.Prelude.{◌≡◌, ◌^◌, length, IfOk, Some, true};
 ghost use Rattle.commit_journal.specs.Causes.{OpenHasCause};
-ghost use Rattle.outside.specs.Calls.{Certain, Rests};
+ghost use Rattle.outside.specs.Calls.{Certain, Leaves, Rests};
 ghost use Rattle.outside.specs.Holding.{Held, slot_of};
 ghost use Rattle.commit_journal.specs.Layout.{head_of};
-ghost use Rattle.commit_journal.specs.Opening.{HeadFits};
+ghost use Rattle.commit_journal.specs.declared.head.Head.TheVariants.{Dead};
+ghost use Rattle.commit_journal.specs.Opening.{HeadFits, Keeps, Surveyed};
 
 use crate::fault::OpenError;
-use crate::head::Head;
-use crate::reading::read_bytes;
+use crate::head::{Head, Survey};
+use crate::reading::{read_bytes, settle, slot_length};
 use outside::{Disk, Slot};
 use std::alloc::Global;
 
@@ -60,4 +61,45 @@ pub(crate) fn head_at<D: Disk>(
 {
     let front = read_bytes(alloc, d, slot, 0, len.min(11) as usize)?;
     Ok(head_in(&front))
+}
+
+/// Makes both slots certain, and reads their heads.
+pub(crate) fn survey<D: Disk>(alloc: Global, d: &mut D) -> Result<Survey, OpenError>
+    ensures crash { (o : Held) → Certain D.held D.moment D.possible d.old o → Leaves D.moment D.possible d.old d.new (Keeps o) }
+    ensures found { IfOk result (λ s. (o : Held) → D.held d.old ≡ Some o → Surveyed D.held D.moment D.possible d.new o s) }
+    ensures first { IfOk result (λ s. HeadFits s.first_len s.first) }
+    ensures second { IfOk result (λ s. HeadFits s.second_len s.second) }
+    ensures shares { D.shared d.new ≡ D.shared d.old }
+    ensures cause { OpenHasCause (D.disk_faults d.old) (D.disk_faults d.new) result }
+{
+    settle(d)?;
+    let first_len = slot_length(d, Slot::First)?;
+    let first = head_at(alloc, d, Slot::First, first_len)?;
+    let second_len = slot_length(d, Slot::Second)?;
+    let second = head_at(alloc, d, Slot::Second, second_len)?;
+    Ok(Survey {
+        first,
+        first_len,
+        second,
+        second_len,
+    })
+}
+
+/// Whether a head is that of a slot that isn't live.
+fn is_dead(head: Head) -> bool
+    ensures { result ≡ true → head ≡ Dead }
+{
+    match head {
+        Head::Dead => true,
+        Head::Faulty(_) => false,
+        Head::Live(_, _) => false,
+    }
+}
+
+/// Whether no slot is live.
+pub(crate) fn is_blank(survey: Survey) -> bool
+    ensures first { result ≡ true → survey.first ≡ Dead }
+    ensures second { result ≡ true → survey.second ≡ Dead }
+{
+    is_dead(survey.first) && is_dead(survey.second)
 }

@@ -8,14 +8,13 @@ ghost use Rattle.outside.specs.Calls.{Certain, Leaves, Rests};
 ghost use Rattle.outside.specs.Holding.{Held, other, slot_of};
 ghost use Rattle.commit_journal.specs.declared.head.Head.TheVariants.{Dead, Live};
 ghost use Rattle.commit_journal.specs.Layout.{Batches, Beats, entries_of, head_of};
-ghost use Rattle.commit_journal.specs.Opening.{Finds, HaveBytes, HeadFits, Keeps, Opens};
+ghost use Rattle.commit_journal.specs.Opening.{Finds, HaveBytes, HeadFits, Keeps, Opens, Surveyed};
 
 use crate::fault::OpenError;
-use crate::head::Head;
-use crate::heading::head_at;
+use crate::head::{Head, Survey};
+use crate::heading::survey;
 use crate::journal::Journal;
 use crate::placing::{other as other_slot, put, write_batch};
-use crate::reading::{settle, slot_length};
 use crate::scan::Scan;
 use crate::scanning::read_batches;
 use journal_entries::{Entry, Standing};
@@ -271,18 +270,40 @@ fn open_by<D: Disk>(
     }
 }
 
-/// The journal on a disk, with the entries that it has.
+/// Opens the slots that this survey is of.
+pub(crate) fn open_surveyed<D: Disk>(
+    alloc: Global,
+    d: &mut D,
+    found: Survey,
+) -> Result<Opened, OpenError>
+    requires first { HeadFits found.first_len found.first }
+    requires second { HeadFits found.second_len found.second }
+    ensures crash { (o : Held) → Surveyed D.held D.moment D.possible d.old o found → HaveBytes o.slots → Leaves D.moment D.possible d.old d.new (Keeps o) }
+    ensures opened { IfOk result (λ r. (o : Held) → Surveyed D.held D.moment D.possible d.old o found → HaveBytes o.slots → Opens D.held D.moment D.possible d.new o r) }
+    ensures shares { D.shared d.new ≡ D.shared d.old }
+    ensures cause { OpenHasCause (D.disk_faults d.old) (D.disk_faults d.new) result }
+{
+    let opened = open_by(
+        alloc,
+        d,
+        found.first,
+        found.first_len,
+        found.second,
+        found.second_len,
+    )?;
+    Ok(opened)
+}
+
+/// The journal on a disk, with the entries that it has. Where no slot is live a new journal is made in slot 0.
+///
+/// `Disk` where a disk call failed, `Memory` for want of memory. After either the disk says what it said.
 pub fn open<D: Disk>(alloc: Global, d: &mut D) -> Result<Opened, OpenError>
     ensures crash { (o : Held) → Certain D.held D.moment D.possible d.old o → HaveBytes o.slots → Leaves D.moment D.possible d.old d.new (Keeps o) }
     ensures opened { IfOk result (λ r. (o : Held) → D.held d.old ≡ Some o → HaveBytes o.slots → Opens D.held D.moment D.possible d.new o r) }
     ensures shares { D.shared d.new ≡ D.shared d.old }
     ensures cause { OpenHasCause (D.disk_faults d.old) (D.disk_faults d.new) result }
 {
-    settle(d)?;
-    let first_len = slot_length(d, Slot::First)?;
-    let first = head_at(alloc, d, Slot::First, first_len)?;
-    let second_len = slot_length(d, Slot::Second)?;
-    let second = head_at(alloc, d, Slot::Second, second_len)?;
-    let opened = open_by(alloc, d, first, first_len, second, second_len)?;
+    let found = survey(alloc, d)?;
+    let opened = open_surveyed(alloc, d, found)?;
     Ok(opened)
 }

@@ -5,7 +5,7 @@ ghost use Rattle.commit_journal.specs.Batching.{HasBatch, MidBatch};
 ghost use Rattle.outside.specs.Calls.{Certain, Changes, Leaves, Torn, patched};
 ghost use Rattle.outside.specs.Faults.{HasCause};
 ghost use Rattle.outside.specs.Holding.{Held, other, slot_of, with_bytes};
-ghost use Rattle.commit_journal.specs.Turning.{CanTurn, Filled, Filling, MidTurn, Turned};
+ghost use Rattle.commit_journal.specs.Turning.{CanBegin, CanTurn, Filled, Filling, HasBegun, MidTurn, Turned};
 
 use outside::{Disk, DiskFault, Slot};
 
@@ -66,6 +66,18 @@ fn fill<D: Disk>(d: &mut D, slot: Slot, bytes: &[u8]) -> Result<(), DiskFault>
     Ok(())
 }
 
+/// Fills a slot that isn't live, and opens it.
+pub(crate) fn begin<D: Disk>(d: &mut D, slot: Slot, bytes: &[u8]) -> Result<(), DiskFault>
+    ensures crash { (o : Held) → Certain D.held D.moment D.possible d.old o → CanBegin slot o → Leaves D.moment D.possible d.old d.new (MidTurn slot bytes.now o) }
+    ensures begun { OnOk result ((o : Held) → Certain D.held D.moment D.possible d.old o → CanBegin slot o → HasBegun D.held D.moment D.possible d.new slot bytes.now o) }
+    ensures cause { HasCause (D.disk_faults d.old) (D.disk_faults d.new) result }
+    ensures shares { D.shared d.new ≡ D.shared d.old }
+{
+    fill(d, slot, bytes)?;
+    put(d, slot, 0, &[1])?;
+    Ok(())
+}
+
 /// Moves on to the target: fills it, opens it, and closes the other slot.
 pub(crate) fn turn_over<D: Disk>(d: &mut D, target: Slot, bytes: &[u8]) -> Result<(), DiskFault>
     ensures crash { (o : Held) → Certain D.held D.moment D.possible d.old o → CanTurn target o → Leaves D.moment D.possible d.old d.new (MidTurn target bytes.now o) }
@@ -73,8 +85,7 @@ pub(crate) fn turn_over<D: Disk>(d: &mut D, target: Slot, bytes: &[u8]) -> Resul
     ensures cause { HasCause (D.disk_faults d.old) (D.disk_faults d.new) result }
     ensures shares { D.shared d.new ≡ D.shared d.old }
 {
-    fill(d, target, bytes)?;
-    put(d, target, 0, &[1])?;
+    begin(d, target, bytes)?;
     put(d, other(target), 0, &[0])?;
     Ok(())
 }

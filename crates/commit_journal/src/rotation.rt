@@ -84,6 +84,7 @@ impl Journal {
             bytes.now ≡ slot_bytes generation body → length body ≤ 2 ^ 24 → Body 2 beginning 15 body placed (Whole standing) → Leaves D.moment D.possible d.old d.new (MidRotation o flushed (entries_of placed)) }
         ensures moved { OnOk result ((o : Held) (flushed tail : List OneEntry) (body : List ℕ) (placed : List Placed) → Certain D.held D.moment D.possible d.old o → AtRest self.old o.slots flushed tail → self.old.generation < generation →
             bytes.now ≡ slot_bytes generation body → length body ≤ 2 ^ 24 → Body 2 beginning 15 body placed (Whole standing) → Rested D.held D.moment D.possible d.new self.new o (entries_of placed) []) }
+        ensures generation { OnOk result (self.new.generation ≡ generation) }
         ensures cause { HasCause (D.disk_faults d.old) (D.disk_faults d.new) result }
         ensures shares { D.shared d.new ≡ D.shared d.old }
     {

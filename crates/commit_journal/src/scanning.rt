@@ -37,7 +37,7 @@ fn size_behind(head: &[u8], left: u64) -> Result<usize, bool>
 }
 
 /// What stands from a gate on. `left` is how many bytes the slot has from there.
-fn next_batch<D: Disk>(
+pub(crate) fn next_batch<D: Disk>(
     alloc: Global,
     d: &mut D,
     slot: Slot,

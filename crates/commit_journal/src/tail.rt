@@ -70,7 +70,7 @@ impl Journal {
         self.standing = self.standing.behind(&entry);
     }
 
-    /// Puts the tail on the disk as one batch. It takes no memory.
+    /// Puts the tail on the disk as one batch; where it is empty nothing is written. It takes no memory.
     pub fn flush<D: Disk>(&mut self, d: &mut D) -> Result<(), DiskFault>
         ensures crash { (o : Held) (flushed tail : List OneEntry) → Certain D.held D.moment D.possible d.old o → AtRest self.old o.slots flushed tail →
             Leaves D.moment D.possible d.old d.new (MidFlush o flushed tail) }
@@ -83,6 +83,21 @@ impl Journal {
         if self.staged.len() == 4 {
             return Ok(());
         }
+        self.write_tail(d)?;
+        Ok(())
+    }
+
+    /// Puts the tail on the disk as one batch, also where it is empty.
+    pub(crate) fn write_tail<D: Disk>(&mut self, d: &mut D) -> Result<(), DiskFault>
+        requires within { self.old.gate + length self.old.staged.items + 2 ≤ 2 ^ 30 }
+        ensures crash { (o : Held) (flushed tail : List OneEntry) → Certain D.held D.moment D.possible d.old o → AtRest self.old o.slots flushed tail →
+            Leaves D.moment D.possible d.old d.new (MidFlush o flushed tail) }
+        ensures flushed { OnOk result ((o : Held) (flushed tail : List OneEntry) → Certain D.held D.moment D.possible d.old o → AtRest self.old o.slots flushed tail →
+            Rested D.held D.moment D.possible d.new self.new o (flushed ++ tail) []) }
+        ensures standing { self.new.standing ≡ self.old.standing }
+        ensures shares { D.shared d.new ≡ D.shared d.old }
+        ensures cause { HasCause (D.disk_faults d.old) (D.disk_faults d.new) result }
+    {
         seal(&mut self.staged);
         let outcome = write_batch(d, self.slot, self.gate, &self.staged);
         let size = self.staged.len() as u64;

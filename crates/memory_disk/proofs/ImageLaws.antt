@@ -1,5 +1,5 @@
 -- What a crash may leave of a disk in memory, call by call.
-use Rattle.std.proofs.Common.{◌≡◌, ◌⊎◌, inl, inr, ℕ, ◌+◌, ◌≤◌, ◌<◌, List, [], ◌∷◌, ◌++◌, length, take, Option, Some, Result, Ok, refl, sym, ap, subst, ◌∙◌, arith}
+use Rattle.std.proofs.Common.{◌≡◌, inl, inr, ℕ, ◌+◌, ◌≤◌, List, [], ◌∷◌, ◌++◌, length, take, refl, sym, ap, subst, ◌∙◌, arith}
 use Rattle.std.proofs.lemmas.List.{length-append, take-append-le}
 use Rattle.outside.specs.declared.disk.Slot.{Slot}
 use Rattle.outside.specs.declared.disk.Slot.TheVariants.{First, Second}
@@ -42,6 +42,18 @@ idle_goes a b step idle =
       past = λ k p le h. possible_idle a b idle k p h;
       kept = λ k p le h. possible_idle b a (turned a b idle) k p h;
       since = λ k p lt le h. absurd (omega arith);
+    }
+
+-- a fault behind a call that was done
+pub then_idle : (a b c : MemoryDisk) (step : Held → Held → Type 0) → GoesOn moment_of possible_of a b step → IsIdle b c → GoesOn moment_of possible_of a c step
+then_idle a b c step g idle =
+    let same : length c.calls.items ≡ length b.calls.items = ap length idle.calls in
+    let le : length a.calls.items ≤ length b.calls.items = g.later in
+    record {
+      later = omega arith;
+      past = λ k p le h. g.past k p le (possible_idle b c idle k p h);
+      kept = λ k p le h. possible_idle c b (turned b c idle) k p (g.kept k p le h);
+      since = λ k p lt le h. g.since k p lt (omega arith) (possible_idle b c idle k p h);
     }
 
 pub idle_told : (a b : MemoryDisk) → IsIdle a b → held_of b ≡ held_of a

@@ -1,11 +1,9 @@
 -- What a crash may leave of a disk in memory. (This project's model of disk and crash.)
 
-use Rattle.std.specs.Prelude.{◌≡◌, ◌⊎◌, ℕ, List, [], ◌∷◌, Bool, true, false, length, take, if◌then◌else◌}
-use Rattle.tier_base.specs.declared.number.TableId.{TableId}
+use Rattle.std.specs.Prelude.{◌≡◌, ◌⊎◌, ℕ, List, [], ◌∷◌, length, take}
 use Rattle.outside.specs.declared.disk.Slot.{Slot}
 use Rattle.outside.specs.declared.disk.Slot.TheVariants.{First, Second}
 use Rattle.outside.specs.Calls.{Cut as IsCut, Torn, patched}
-use Rattle.outside.specs.Holding.{Held, Slots}
 use Rattle.memory_disk.specs.declared.call.DiskCall.{DiskCall}
 use Rattle.memory_disk.specs.declared.call.DiskCall.TheVariants.{Write, Cut, Sync}
 

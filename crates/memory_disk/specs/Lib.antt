@@ -1,3 +1,4 @@
 pub mod Images
 pub mod Possible
 pub mod DiskLaws
+pub mod Picking

@@ -10,6 +10,7 @@ ghost use Rattle.memory_disk.specs.DiskLaws.{certain_law, possible_law};
 ghost use Rattle.memory_disk.specs.Possible.{IsDone, IsIdle, IsUntouched, held_of, moment_of, possible_of, shared_of, told_of, unused};
 
 use crate::call::DiskCall;
+use crate::failure::{Failure, When};
 use crate::memory_disk::MemoryDisk;
 use crate::slots::{overwrite, read_from};
 use outside::{Disk, DiskFault, Slot};
@@ -17,10 +18,11 @@ use std::alloc::{AllocError, Global};
 use tier_base::Seq;
 
 impl MemoryDisk {
-    /// Two slots that were never used, each the one byte 00. The calls of these numbers, from 0, fail, and have no effect.
+    /// Two slots that were never used, each the one byte 00. Calls fail as planned, before their effect or after it. Of two
+    /// plans for one call the first counts.
     ///
     /// It fails for want of memory alone.
-    pub fn new(alloc: Global, failing: Vec<u64>) -> Result<MemoryDisk, AllocError>
+    pub fn new(alloc: Global, failing: Vec<Failure>) -> Result<MemoryDisk, AllocError>
         ensures held { IfOk result (λ d. told_of d ≡ Some unused) }
         ensures moment { IfOk result (λ d. moment_of d ≡ 0) }
     {
@@ -41,6 +43,16 @@ impl MemoryDisk {
         })
     }
 
+    /// Plans that a call fails. Calls are numbered over the disk's life; of two plans for one call the first counts.
+    ///
+    /// It fails for want of memory alone, and then plans nothing.
+    pub fn plan(&mut self, failure: Failure) -> Result<(), AllocError>
+        ensures { IsUntouched self.old self.new }
+    {
+        self.failing.push(failure)?;
+        Ok(())
+    }
+
     /// The calls so far that changed something, in order.
     pub fn calls(&self) -> &[DiskCall]
         ensures { result.now ≡ self.now.calls.items }
@@ -48,13 +60,16 @@ impl MemoryDisk {
         self.calls.as_slice()
     }
 
-    // Counts a call, and tells whether it is to fail.
-    fn fails(&mut self) -> bool
+    // Counts a call, and tells when it is to fail, if it is.
+    fn planned(&mut self) -> Option<When>
         ensures { IsUntouched self.old self.new }
     {
         let call = self.made;
         self.made = self.made.saturating_add(1);
-        self.failing.contains(&call)
+        match self.failing.iter().find(|failure| failure.call == call) {
+            None => None,
+            Some(failure) => Some(failure.when),
+        }
     }
 
     // Counts a fault.
@@ -179,7 +194,7 @@ impl Disk for MemoryDisk {
     ghost disk_faults = { λ d. d.faults };
 
     fn len(&mut self, slot: Slot) -> Result<u64, DiskFault> {
-        if self.fails() {
+        if self.planned().is_some() {
             return Err(self.fault());
         }
         match slot {
@@ -189,7 +204,7 @@ impl Disk for MemoryDisk {
     }
 
     fn read_at(&mut self, slot: Slot, at: u64, buf: &mut [u8]) -> Result<usize, DiskFault> {
-        if self.fails() {
+        if self.planned().is_some() {
             return Err(self.fault());
         }
         match slot {
@@ -200,10 +215,14 @@ impl Disk for MemoryDisk {
 
     /// It fails, with nothing written, where the place is behind the slot's end, and for want of memory.
     fn write_at(&mut self, slot: Slot, at: u64, bytes: &[u8]) -> Result<(), DiskFault> {
-        if self.fails() {
+        let planned = self.planned();
+        if planned == Some(When::Before) {
             return Err(self.fault());
         }
         if !self.write_slot(slot, at, bytes) {
+            return Err(self.fault());
+        }
+        if planned == Some(When::After) {
             return Err(self.fault());
         }
         Ok(())
@@ -211,10 +230,14 @@ impl Disk for MemoryDisk {
 
     /// It fails, with nothing cut, where the slot is shorter, and for want of memory.
     fn cut(&mut self, slot: Slot, len: u64) -> Result<(), DiskFault> {
-        if self.fails() {
+        let planned = self.planned();
+        if planned == Some(When::Before) {
             return Err(self.fault());
         }
         if !self.cut_slot(slot, len) {
+            return Err(self.fault());
+        }
+        if planned == Some(When::After) {
             return Err(self.fault());
         }
         Ok(())
@@ -222,10 +245,14 @@ impl Disk for MemoryDisk {
 
     /// It fails for want of memory, too.
     fn sync(&mut self, slot: Slot) -> Result<(), DiskFault> {
-        if self.fails() {
+        let planned = self.planned();
+        if planned == Some(When::Before) {
             return Err(self.fault());
         }
         if !self.sync_slot(slot) {
+            return Err(self.fault());
+        }
+        if planned == Some(When::After) {
             return Err(self.fault());
         }
         Ok(())

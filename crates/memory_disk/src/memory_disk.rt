@@ -5,6 +5,7 @@ ghost use Rattle.memory_disk.specs.Images.{after_calls, certain_image};
 ghost use Rattle.outside.specs.declared.disk.Slot.TheVariants.{First, Second};
 
 use crate::call::DiskCall;
+use crate::failure::Failure;
 use std::alloc::Global;
 
 /// A disk in memory, which tells everything: two slots, as they were at first and as they are, and the calls since that
@@ -19,8 +20,8 @@ pub struct MemoryDisk {
     pub(crate) second: Vec<u8>,
     /// How many calls there were, of all kinds.
     pub(crate) made: u64,
-    /// The numbers of calls that fail, from 0.
-    pub(crate) failing: Vec<u64>,
+    /// Which calls fail.
+    pub(crate) failing: Vec<Failure>,
     pub(crate) faults: u64,
     ghost first_is: { first.items ≡ (after_calls First calls.items (certain_image base_first.items)).seen },
     ghost second_is: { second.items ≡ (after_calls Second calls.items (certain_image base_second.items)).seen },

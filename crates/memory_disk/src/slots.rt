@@ -40,14 +40,13 @@ fn put(out: &mut Vec<u8>, bytes: &[u8])
     }
 }
 
-/// Writes the bytes from a place on. For want of memory the slot stays.
+/// Writes the bytes from a place on; from the end on, where the place is behind it. For want of memory the slot stays.
 pub(crate) fn overwrite(
     alloc: Global,
     slot: &mut Vec<u8>,
     at: usize,
     bytes: &[u8],
 ) -> Result<(), AllocError>
-    requires within { at ≤ length slot.old.items }
     ensures ok { OnOk result (slot.new.items ≡ patched at bytes.now slot.old.items) }
     ensures err { OnErr result (slot.new.items ≡ slot.old.items) }
 {

@@ -1,4 +1,4 @@
-use Rattle.std.proofs.Common.{ap, ◌∙◌, sym, arith, List, ℕ}
+use Rattle.std.proofs.Common.{ap, ◌∙◌, arith, List, ℕ}
 use Rattle.outside.specs.Holding.{slot_of}
 use Rattle.commit_journal.specs.Layout.{head_of}
 use Rattle.commit_journal.proofs.OpenLaws.{head_read}

@@ -1,21 +1,14 @@
-use Rattle.commit_journal.specs.Opening.{Keeps}
 use Rattle.outside.proofs.Moments.{and_then}
-use Rattle.commit_journal.proofs.KeepLaws.{steps_crash, at_last, len_1, len_2, head_1, head_2}
+use Rattle.commit_journal.specs.Opening.{Keeps}
 use Rattle.commit_journal.proofs.opening.open.Goals as goal
-
-pub returns-in_err-second-clause-crash : goal.returns-in_err-second-clause-crash
-returns-in_err-second-clause-crash g c = λ o h have. steps_crash g.D.Disk.held g.D.Disk.moment g.D.Disk.possible c.args.d.now c.settle.new.d c.slot_length.new.d c.head_at.new.d c.slot_length-2.new.d c.head_at-2.new.d c.settle.ensures.crash c.in_ok-settle.ensures.certain c.slot_length.ensures.rests c.head_at.ensures.rests c.slot_length-2.ensures.rests c.head_at-2.ensures.rests o h
 
 pub returns-in_err-opened-clause-crash : goal.returns-in_err-opened-clause-crash
 returns-in_err-opened-clause-crash g c = λ o h have.
-    and_then g.D.Disk.moment g.D.Disk.possible c.args.d.now c.head_at-2.new.d c.open_by.new.d (Keeps o) (steps_crash g.D.Disk.held g.D.Disk.moment g.D.Disk.possible c.args.d.now c.settle.new.d c.slot_length.new.d c.head_at.new.d c.slot_length-2.new.d c.head_at-2.new.d c.settle.ensures.crash c.in_ok-settle.ensures.certain c.slot_length.ensures.rests c.head_at.ensures.rests c.slot_length-2.ensures.rests c.head_at-2.ensures.rests o h)
-    (c.open_by.ensures.crash o (at_last g.D.Disk.held g.D.Disk.moment g.D.Disk.possible c.args.d.now c.settle.new.d c.slot_length.new.d c.head_at.new.d c.slot_length-2.new.d c.head_at-2.new.d c.settle.ensures.crash c.in_ok-settle.ensures.certain c.slot_length.ensures.rests c.head_at.ensures.rests c.slot_length-2.ensures.rests c.head_at-2.ensures.rests o h.told c.in_ok-first.first c.in_ok-second.second c.in_ok-first_len.first_len c.in_ok-second_len.second_len c.in_ok-first_len.ensures.length c.in_ok-first.ensures.head c.in_ok-second_len.ensures.length c.in_ok-second.ensures.head) have (head_1 g.D.Disk.held g.D.Disk.moment g.D.Disk.possible c.args.d.now c.settle.new.d c.slot_length.new.d c.head_at.new.d c.slot_length-2.new.d c.head_at-2.new.d c.settle.ensures.crash c.in_ok-settle.ensures.certain c.slot_length.ensures.rests c.head_at.ensures.rests c.slot_length-2.ensures.rests c.head_at-2.ensures.rests o h.told c.in_ok-first.first c.in_ok-second.second c.in_ok-first_len.first_len c.in_ok-second_len.second_len c.in_ok-first_len.ensures.length c.in_ok-first.ensures.head c.in_ok-second_len.ensures.length c.in_ok-second.ensures.head) (head_2 g.D.Disk.held g.D.Disk.moment g.D.Disk.possible c.args.d.now c.settle.new.d c.slot_length.new.d c.head_at.new.d c.slot_length-2.new.d c.head_at-2.new.d c.settle.ensures.crash c.in_ok-settle.ensures.certain c.slot_length.ensures.rests c.head_at.ensures.rests c.slot_length-2.ensures.rests c.head_at-2.ensures.rests o h.told c.in_ok-first.first c.in_ok-second.second c.in_ok-first_len.first_len c.in_ok-second_len.second_len c.in_ok-first_len.ensures.length c.in_ok-first.ensures.head c.in_ok-second_len.ensures.length c.in_ok-second.ensures.head))
+    and_then g.D.Disk.moment g.D.Disk.possible c.args.d.now c.survey.new.d c.open_surveyed.new.d (Keeps o) (c.survey.ensures.crash o h) (c.open_surveyed.ensures.crash o (c.in_ok-found.ensures.found o h.told) have)
 
 pub returns-clause-crash : goal.returns-clause-crash
 returns-clause-crash g c = λ o h have.
-    and_then g.D.Disk.moment g.D.Disk.possible c.args.d.now c.head_at-2.new.d c.open_by.new.d (Keeps o) (steps_crash g.D.Disk.held g.D.Disk.moment g.D.Disk.possible c.args.d.now c.settle.new.d c.slot_length.new.d c.head_at.new.d c.slot_length-2.new.d c.head_at-2.new.d c.settle.ensures.crash c.in_ok-settle.ensures.certain c.slot_length.ensures.rests c.head_at.ensures.rests c.slot_length-2.ensures.rests c.head_at-2.ensures.rests o h)
-    (c.open_by.ensures.crash o (at_last g.D.Disk.held g.D.Disk.moment g.D.Disk.possible c.args.d.now c.settle.new.d c.slot_length.new.d c.head_at.new.d c.slot_length-2.new.d c.head_at-2.new.d c.settle.ensures.crash c.in_ok-settle.ensures.certain c.slot_length.ensures.rests c.head_at.ensures.rests c.slot_length-2.ensures.rests c.head_at-2.ensures.rests o h.told c.in_ok-first.first c.in_ok-second.second c.in_ok-first_len.first_len c.in_ok-second_len.second_len c.in_ok-first_len.ensures.length c.in_ok-first.ensures.head c.in_ok-second_len.ensures.length c.in_ok-second.ensures.head) have (head_1 g.D.Disk.held g.D.Disk.moment g.D.Disk.possible c.args.d.now c.settle.new.d c.slot_length.new.d c.head_at.new.d c.slot_length-2.new.d c.head_at-2.new.d c.settle.ensures.crash c.in_ok-settle.ensures.certain c.slot_length.ensures.rests c.head_at.ensures.rests c.slot_length-2.ensures.rests c.head_at-2.ensures.rests o h.told c.in_ok-first.first c.in_ok-second.second c.in_ok-first_len.first_len c.in_ok-second_len.second_len c.in_ok-first_len.ensures.length c.in_ok-first.ensures.head c.in_ok-second_len.ensures.length c.in_ok-second.ensures.head) (head_2 g.D.Disk.held g.D.Disk.moment g.D.Disk.possible c.args.d.now c.settle.new.d c.slot_length.new.d c.head_at.new.d c.slot_length-2.new.d c.head_at-2.new.d c.settle.ensures.crash c.in_ok-settle.ensures.certain c.slot_length.ensures.rests c.head_at.ensures.rests c.slot_length-2.ensures.rests c.head_at-2.ensures.rests o h.told c.in_ok-first.first c.in_ok-second.second c.in_ok-first_len.first_len c.in_ok-second_len.second_len c.in_ok-first_len.ensures.length c.in_ok-first.ensures.head c.in_ok-second_len.ensures.length c.in_ok-second.ensures.head))
+    and_then g.D.Disk.moment g.D.Disk.possible c.args.d.now c.survey.new.d c.open_surveyed.new.d (Keeps o) (c.survey.ensures.crash o h) (c.open_surveyed.ensures.crash o (c.in_ok-found.ensures.found o h.told) have)
 
 pub returns-clause-opened : goal.returns-clause-opened
-returns-clause-opened g c = λ o told have.
-    c.in_ok-opened.ensures.opened o (at_last g.D.Disk.held g.D.Disk.moment g.D.Disk.possible c.args.d.now c.settle.new.d c.slot_length.new.d c.head_at.new.d c.slot_length-2.new.d c.head_at-2.new.d c.settle.ensures.crash c.in_ok-settle.ensures.certain c.slot_length.ensures.rests c.head_at.ensures.rests c.slot_length-2.ensures.rests c.head_at-2.ensures.rests o told c.in_ok-first.first c.in_ok-second.second c.in_ok-first_len.first_len c.in_ok-second_len.second_len c.in_ok-first_len.ensures.length c.in_ok-first.ensures.head c.in_ok-second_len.ensures.length c.in_ok-second.ensures.head) have (len_1 g.D.Disk.held g.D.Disk.moment g.D.Disk.possible c.args.d.now c.settle.new.d c.slot_length.new.d c.head_at.new.d c.slot_length-2.new.d c.head_at-2.new.d c.settle.ensures.crash c.in_ok-settle.ensures.certain c.slot_length.ensures.rests c.head_at.ensures.rests c.slot_length-2.ensures.rests c.head_at-2.ensures.rests o told c.in_ok-first.first c.in_ok-second.second c.in_ok-first_len.first_len c.in_ok-second_len.second_len c.in_ok-first_len.ensures.length c.in_ok-first.ensures.head c.in_ok-second_len.ensures.length c.in_ok-second.ensures.head) (len_2 g.D.Disk.held g.D.Disk.moment g.D.Disk.possible c.args.d.now c.settle.new.d c.slot_length.new.d c.head_at.new.d c.slot_length-2.new.d c.head_at-2.new.d c.settle.ensures.crash c.in_ok-settle.ensures.certain c.slot_length.ensures.rests c.head_at.ensures.rests c.slot_length-2.ensures.rests c.head_at-2.ensures.rests o told c.in_ok-first.first c.in_ok-second.second c.in_ok-first_len.first_len c.in_ok-second_len.second_len c.in_ok-first_len.ensures.length c.in_ok-first.ensures.head c.in_ok-second_len.ensures.length c.in_ok-second.ensures.head) (head_1 g.D.Disk.held g.D.Disk.moment g.D.Disk.possible c.args.d.now c.settle.new.d c.slot_length.new.d c.head_at.new.d c.slot_length-2.new.d c.head_at-2.new.d c.settle.ensures.crash c.in_ok-settle.ensures.certain c.slot_length.ensures.rests c.head_at.ensures.rests c.slot_length-2.ensures.rests c.head_at-2.ensures.rests o told c.in_ok-first.first c.in_ok-second.second c.in_ok-first_len.first_len c.in_ok-second_len.second_len c.in_ok-first_len.ensures.length c.in_ok-first.ensures.head c.in_ok-second_len.ensures.length c.in_ok-second.ensures.head) (head_2 g.D.Disk.held g.D.Disk.moment g.D.Disk.possible c.args.d.now c.settle.new.d c.slot_length.new.d c.head_at.new.d c.slot_length-2.new.d c.head_at-2.new.d c.settle.ensures.crash c.in_ok-settle.ensures.certain c.slot_length.ensures.rests c.head_at.ensures.rests c.slot_length-2.ensures.rests c.head_at-2.ensures.rests o told c.in_ok-first.first c.in_ok-second.second c.in_ok-first_len.first_len c.in_ok-second_len.second_len c.in_ok-first_len.ensures.length c.in_ok-first.ensures.head c.in_ok-second_len.ensures.length c.in_ok-second.ensures.head)
+returns-clause-opened g c = λ o told have. c.in_ok-opened.ensures.opened o (c.in_ok-found.ensures.found o told) have

@@ -1,4 +1,4 @@
-use Rattle.commit_journal.specs.declared.head.Head.TheVariants.{Dead, Faulty, Live}
+use Rattle.commit_journal.specs.declared.head.Head.TheVariants.{Live}
 use Rattle.commit_journal.proofs.KeepLaws.{second_damage}
 use Rattle.commit_journal.proofs.opening.open_first.Goals as goal
 

@@ -1,4 +1,4 @@
-use Rattle.std.proofs.Common.{◌+◌, arith, ◌∙◌}
+use Rattle.std.proofs.Common.{arith, ◌∙◌}
 use Rattle.outside.specs.Holding.{slot_of}
 use Rattle.outside.proofs.Moments.{rests_then}
 use Rattle.commit_journal.proofs.ScanLaws.{piece_more}

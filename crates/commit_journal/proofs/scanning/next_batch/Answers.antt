@@ -1,4 +1,4 @@
-use Rattle.std.proofs.Common.{Bool, Err, subst, ◌∙◌, drop, arith, ap, sym}
+use Rattle.std.proofs.Common.{Bool, Err, subst, ◌∙◌, drop, arith}
 use Rattle.outside.specs.Holding.{slot_of}
 use Rattle.commit_journal.specs.Scanning.{HeadSays}
 use Rattle.commit_journal.proofs.ScanLaws.{left_is, head_is, body_next}

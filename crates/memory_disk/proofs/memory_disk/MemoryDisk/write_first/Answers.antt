@@ -1,8 +1,7 @@
-use Rattle.std.proofs.Common.{◌≡◌, ◌∙◌, ◌∷◌, ◌++◌, [], List, ℕ, ap, sym, refl, take}
+use Rattle.std.proofs.Common.{◌∙◌, ◌∷◌, ◌++◌, [], List, ℕ, ap, sym}
 use Rattle.outside.specs.declared.disk.Slot.TheVariants.{First, Second}
 use Rattle.outside.specs.Calls.{patched}
-use Rattle.memory_disk.specs.declared.call.DiskCall.TheVariants.{Write, Cut, Sync}
-use Rattle.memory_disk.specs.Images.{Image}
+use Rattle.memory_disk.specs.declared.call.DiskCall.TheVariants.{Write}
 use Rattle.memory_disk.proofs.ImageLaws.{tie_push}
 use Rattle.memory_disk.specs.declared.call.DiskCall.{DiskCall}
 use Rattle.memory_disk.proofs.memory_disk.MemoryDisk.write_first.Goals as goal

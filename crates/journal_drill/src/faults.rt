@@ -1,0 +1,58 @@
+//! Calls of the disk that fail.
+
+use crate::error::DrillError;
+use crate::stops::tell_picks;
+use crate::tasks::{Task, run, stage};
+use crate::telling::tell_number;
+use memory_disk::{Failure, MemoryDisk, When};
+use std::alloc::Global;
+
+/// No task has more calls of the disk than this.
+const MOST: u64 = 16;
+
+/// What an opening finds, with each pick, after the task ended early at each of its calls of the disk, before the call's
+/// effect or after it.
+pub fn tell_faults(alloc: Global, task: Task, out: &mut Vec<u8>) -> Result<(), DrillError> {
+    for call in 0..MOST {
+        let before = failed(alloc, task, call, When::Before)?;
+        if let Some(disk) = before {
+            tell_fault(alloc, &disk, b"fault before", call, out)?;
+        }
+        let after = failed(alloc, task, call, When::After)?;
+        if let Some(disk) = after {
+            tell_fault(alloc, &disk, b"fault after", call, out)?;
+        }
+    }
+    Ok(())
+}
+
+/// The disk that the task leaves where this call fails; none where it has no such call.
+fn failed(
+    alloc: Global,
+    task: Task,
+    call: u64,
+    when: When,
+) -> Result<Option<MemoryDisk>, DrillError> {
+    let mut disk = stage(alloc, task)?;
+    disk.plan(Failure { call, when })?;
+    match run(alloc, task, &mut disk) {
+        Ok(()) => Ok(None),
+        Err(DrillError::Disk) => Ok(Some(disk)),
+        Err(error) => Err(error),
+    }
+}
+
+fn tell_fault(
+    alloc: Global,
+    disk: &MemoryDisk,
+    name: &[u8],
+    call: u64,
+    out: &mut Vec<u8>,
+) -> Result<(), DrillError> {
+    out.extend_from_slice(name)?;
+    tell_number(call, out)?;
+    out.extend_from_slice(b":")?;
+    tell_picks(alloc, disk, disk.moments(), out)?;
+    out.extend_from_slice(b"\n")?;
+    Ok(())
+}

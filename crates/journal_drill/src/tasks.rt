@@ -1,0 +1,115 @@
+//! Calls of the journal.
+
+use crate::error::DrillError;
+use commit_journal::{Journal, open, reads_first};
+use journal_entries::Entry;
+use memory_disk::MemoryDisk;
+use std::alloc::Global;
+use tier_base::Ticket;
+
+/// What is done on a disk.
+#[derive(Clone, Copy, Debug, PartialEq, Eq)]
+pub enum Task {
+    /// A journal is made.
+    Open,
+    /// A ticket is flushed to a new journal.
+    Flush,
+    /// A new journal moves on to slot 1 with a mark.
+    Rotate,
+    /// The same, of a slot of version 1.
+    Upgrade,
+    /// A body is put behind the entries of a new journal.
+    Append,
+    /// A body is put into slot 0 where no slot is live.
+    Adopt,
+}
+
+/// A slot that was never used.
+const UNUSED: [u8; 1] = [0];
+
+/// A new slot of version 2.
+const NEW: [u8; 11] = [1, 2, 0, 0, 0, 0, 0, 0, 0, 1, 0];
+
+/// A new slot of version 1.
+const OLD: [u8; 11] = [1, 1, 0, 0, 0, 0, 0, 0, 0, 1, 0];
+
+/// A body: ticket 1 of a write that is passed on.
+const PASSED: [u8; 9] = [3, 0, 0, 0, 0, 0, 0, 0, 1];
+
+/// The disk that a task begins on.
+pub fn stage(alloc: Global, task: Task) -> Result<MemoryDisk, DrillError> {
+    let first = match task {
+        Task::Open => Vec::from_slice(alloc, &UNUSED)?,
+        Task::Adopt => Vec::from_slice(alloc, &UNUSED)?,
+        Task::Upgrade => Vec::from_slice(alloc, &OLD)?,
+        Task::Flush => Vec::from_slice(alloc, &NEW)?,
+        Task::Rotate => Vec::from_slice(alloc, &NEW)?,
+        Task::Append => Vec::from_slice(alloc, &NEW)?,
+    };
+    let second = Vec::from_slice(alloc, &UNUSED)?;
+    let disk = MemoryDisk::of(alloc, first, second)?;
+    Ok(disk)
+}
+
+/// Does the task.
+pub fn run(alloc: Global, task: Task, disk: &mut MemoryDisk) -> Result<(), DrillError> {
+    match task {
+        Task::Adopt => adopt(alloc, disk),
+        Task::Open => {
+            let _ = open(alloc, disk)?;
+            Ok(())
+        }
+        Task::Flush => {
+            let mut journal = open(alloc, disk)?.journal;
+            flush(&mut journal, disk)
+        }
+        Task::Rotate => {
+            let mut journal = open(alloc, disk)?.journal;
+            rotate(alloc, &mut journal, disk)
+        }
+        Task::Upgrade => {
+            let mut journal = open(alloc, disk)?.journal;
+            rotate(alloc, &mut journal, disk)
+        }
+        Task::Append => {
+            let mut journal = open(alloc, disk)?.journal;
+            append(alloc, &mut journal, disk)
+        }
+    }
+}
+
+fn flush(journal: &mut Journal, disk: &mut MemoryDisk) -> Result<(), DrillError> {
+    let entry = Entry::Passed(Ticket(1));
+    if !journal.standing().allows(&entry) {
+        return Err(DrillError::Refused);
+    }
+    journal.reserve(9)?;
+    journal.note(entry);
+    journal.flush(disk)?;
+    Ok(())
+}
+
+fn rotate(alloc: Global, journal: &mut Journal, disk: &mut MemoryDisk) -> Result<(), DrillError> {
+    let mark = [Entry::Mark(Ticket(1))];
+    journal.rotate(alloc, disk, &mark)?;
+    Ok(())
+}
+
+fn append(alloc: Global, journal: &mut Journal, disk: &mut MemoryDisk) -> Result<(), DrillError> {
+    if journal.gate() > 1 << 30 {
+        return Err(DrillError::Refused);
+    }
+    if !journal.readable(alloc, &PASSED, false)? {
+        return Err(DrillError::Refused);
+    }
+    journal.append(alloc, disk, &PASSED)?;
+    Ok(())
+}
+
+fn adopt(alloc: Global, disk: &mut MemoryDisk) -> Result<(), DrillError> {
+    if !reads_first(alloc, &PASSED)? {
+        return Err(DrillError::Refused);
+    }
+    let _ = Journal::adopt_new(alloc, disk, 7, &PASSED)?;
+    Ok(())
+}
