@@ -3,3 +3,4 @@ mod SlotLaws
 mod OrderLaws
 mod ManyLaws
 mod FrontLaws
+pub mod SlotKeyLaws

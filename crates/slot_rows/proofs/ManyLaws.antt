@@ -82,7 +82,7 @@ clash_less : (k l : Row) → key_order k l ≡ Less → k ≡ l → ⊥
 clash_less k l less e = let x : key_order k k ≡ Less = ap (key_order k) e ∙ less in let y : key_order k k ≡ Equal = tied_itself key_total k in cc
 
 -- one key, one slot
-same_slot : (slab : Slab Row) (places slots : List ℕ) → T (fm.is_sorted key_order (entries_in slab places slots)) → (i j a b : ℕ) → slice_get slots i ≡ Some a → slice_get slots j ≡ Some b → key_of places (row_in slab a) ≡ key_of places (row_in slab b) → a ≡ b
+pub same_slot : (slab : Slab Row) (places slots : List ℕ) → T (fm.is_sorted key_order (entries_in slab places slots)) → (i j a b : ℕ) → slice_get slots i ≡ Some a → slice_get slots j ≡ Some b → key_of places (row_in slab a) ≡ key_of places (row_in slab b) → a ≡ b
 same_slot slab places [] h i j a b x y e = cc
 same_slot slab places (s ∷ slots) h zero zero a b x y e = cc
 same_slot slab places (s ∷ slots) h zero (suc j) a b x y e =
@@ -96,7 +96,7 @@ module _ (slab : Slab Row) (places : List ℕ) (entries : List Entry) (are : Are
   keys_are : fm.entries (table_in slab places entries) ≡ entries_in slab places (slots_of entries)
   keys_are = entries_of (entries_in slab places (slots_of entries)) (table_in slab places entries) are.slots.sorted refl
 
-  slot_of_key : (k : Row) (j : ℕ) → IsKeyAt (fm.entries (table_in slab places entries)) k j → (slot : ℕ) × (slice_get (slots_of entries) j ≡ Some slot) × (key_of places (row_in slab slot) ≡ k)
+  pub slot_of_key : (k : Row) (j : ℕ) → IsKeyAt (fm.entries (table_in slab places entries)) k j → (slot : ℕ) × (slice_get (slots_of entries) j ≡ Some slot) × (key_of places (row_in slab slot) ≡ k)
   slot_of_key k j found = key_slot slab places (slots_of entries) j k (subst (λ es. IsKeyAt es k j) keys_are found)
 
   pub key_of_slot : (j slot : ℕ) → slice_get (slots_of entries) j ≡ Some slot → IsKeyAt (fm.entries (table_in slab places entries)) (key_of places (row_in slab slot)) j

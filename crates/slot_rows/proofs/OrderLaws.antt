@@ -104,7 +104,7 @@ module _ (old new : Slab Row) (slot : ℕ) (row : Row) (vacant : get old slot �
   rows_stay : entries_in new places (slots_of entries) ≡ entries_in old places (slots_of entries)
   rows_stay = same_rows old new slot row vacant u places (slots_of entries) are.slots.live
 
-  other : (i s : ℕ) → slice_get (slots_of entries) i ≡ Some s → s ≢ slot
+  pub other : (i s : ℕ) → slice_get (slots_of entries) i ≡ Some s → s ≢ slot
   other i s is = λ q. let z : true ≡ false = sym (are.slots.live i s is) ∙ ap (λ t. is_some (get old t)) q ∙ ap is_some vacant in cc
 
   pub table_stays : table_in new places entries ≡ table_in old places entries

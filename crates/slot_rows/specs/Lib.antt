@@ -1,3 +1,4 @@
 pub mod Leads
 pub mod Orders
+pub mod SlotKeys
 pub mod Slots

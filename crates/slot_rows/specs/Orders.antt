@@ -1,10 +1,8 @@
 -- Several orders of the same rows (this project's rule).
-use Rattle.std.specs.Prelude.{◌≡◌, ◌≢◌, ℕ, ◌+◌, ◌<◌, ◌≤◌, ◌^◌, ◌++◌, List, [], ◌∷◌, Option, None, Some, true, insert, remove, is_some, length, take, slice_get, slice_index_or, refl}
-use Rattle.std.specs.Coded.{Coded, code_by, coded×, coded_list, coded_ℕ}
+use Rattle.std.specs.Prelude.{◌≡◌, ◌≢◌, ℕ, ◌+◌, ◌<◌, ◌≤◌, ◌^◌, ◌++◌, List, [], ◌∷◌, Option, None, Some, true, insert, remove, is_some, length, take, slice_get, slice_index_or}
 use Rattle.std.specs.FinMap as fm
 use Rattle.slab.specs.Slab.{Slab, get}
 use Rattle.row_types.specs.declared.value.Value.{Value}
-use Rattle.row_types.specs.contracts.value.Value as one
 use Rattle.key_rows.specs.Places.{IsKeyAt}
 use Rattle.indexed_rows.specs.Rows.{Table, key_of}
 use Rattle.slot_rows.specs.Slots.{AreOrdered, row_in, slots_of, table_in}
@@ -99,16 +97,3 @@ pub record SameOrder (old new : Order) : Type 0 where
 
 abbrev pub HasSpare : ℕ → Order → Type 0
 HasSpare more order = more ≤ length order.room.items
-
--- what clauses see: the rows by key, the columns of the key, those of each other order, and how many more rows go in
--- without memory
-pub record RowsHeld : Type 0 where
-  pub table : Table
-  pub places : List ℕ
-  pub orders : List (List ℕ)
-  pub spare : ℕ
-
-abbrev pub rows_held_code : Coded RowsHeld
-rows_held_code =
-    code_by (Table × (List ℕ × (List (List ℕ) × ℕ))) (coded× (fm.code (coded_list one.the_row.coded) (coded_list one.the_row.coded)) (coded× (coded_list coded_ℕ) (coded× (coded_list (coded_list coded_ℕ)) coded_ℕ))) (λ h. (h.table, (h.places, (h.orders, h.spare))))
-    (λ p. record { table = p.0; places = p.1.0; orders = p.1.1.0; spare = p.1.1.1 }) (λ _. refl)

@@ -41,16 +41,21 @@ fn order_to_key(places: &[usize], row: &[Value], key: &[Value]) -> Ordering
     }
 }
 
-// How the key of a row stands to that of another.
-fn order_of_rows(places: &[usize], row: &[Value], other: &[Value]) -> Ordering
-    ensures { result ≡ key_order (key_of places.now row.now) (key_of places.now other.now) }
+// How the key of a row stands to a row's values at some columns.
+fn order_of_rows(places: &[usize], row: &[Value], columns: &[usize], other: &[Value]) -> Ordering
+    ensures { result ≡ key_order (key_of places.now row.now) (key_of columns.now other.now) }
 {
-    match places.split_first() {
-        None => Ordering::Equal,
-        Some((place, places)) => {
+    match (places.split_first(), columns.split_first()) {
+        (None, None) => Ordering::Equal,
+        (None, Some(_)) => Ordering::Less,
+        (Some(_), None) => Ordering::Greater,
+        (Some((place, places)), Some((column, columns))) => {
             let null = Value::Null;
-            match order(value_at(row, *place, &null), value_at(other, *place, &null)) {
-                Ordering::Equal => order_of_rows(places, row, other),
+            match order(
+                value_at(row, *place, &null),
+                value_at(other, *column, &null),
+            ) {
+                Ordering::Equal => order_of_rows(places, row, columns, other),
                 decided => decided,
             }
         }
@@ -107,6 +112,33 @@ impl<'a> Probe<Entry> for ByRow<'a> {
             Ordering::Equal => order_of_rows(
                 self.places,
                 values_in(self.rows, entry.slot),
+                self.places,
+                self.row,
+            ),
+            decided => decided,
+        }
+    }
+}
+
+// The entry of a row's values at some columns, whose lead is beside it.
+#[derive(Drop)]
+pub(crate) struct ByOther<'a> {
+    pub(crate) rows: &'a Slab<Row>,
+    pub(crate) places: &'a [usize],
+    pub(crate) columns: &'a [usize],
+    pub(crate) row: &'a [Value],
+    pub(crate) lead: u64,
+}
+
+impl<'a> Probe<Entry> for ByOther<'a> {
+    ghost order_gives = { λ sought entry. lead_first entry.lead sought.lead (key_order (key_of sought.places.now (row_in sought.rows.now entry.slot)) (key_of sought.columns.now sought.row.now)) };
+
+    fn order(&self, entry: &Entry) -> Ordering {
+        match entry.lead.cmp(&self.lead) {
+            Ordering::Equal => order_of_rows(
+                self.places,
+                values_in(self.rows, entry.slot),
+                self.columns,
                 self.row,
             ),
             decided => decided,

@@ -8,7 +8,7 @@ ghost use Rattle.indexed_rows.specs.Rows.{key_of};
 ghost use Rattle.slot_rows.specs.Orders.{Awaits, EntersOrder, Includes, IsSlotWith, SameOrder, LeavesOrder};
 ghost use Rattle.slot_rows.specs.Slots.{AreOrdered, slots_of, table_in};
 
-use crate::compare::{ByKey, ByRow, values_in};
+use crate::compare::{ByKey, ByOther, ByRow, values_in};
 use crate::lead::{lead_of_key, lead_of_row};
 use long_list::{LongList, Spare};
 use row_types::{Row, Value};
@@ -98,6 +98,31 @@ impl Order {
             lead: lead_of_key(values),
         }) {
             Ok(place) => Some(self.slot_at(place)),
+            Err(_) => None,
+        }
+    }
+
+    // A slot whose row has at the first columns the values that a row of another table has at these columns.
+    pub(crate) fn search_for(
+        &self,
+        rows: &Slab<Row>,
+        columns: &[usize],
+        row: &[Value],
+    ) -> Option<usize>
+        requires ordered { AreOrdered rows.now self.now.places self.now.entries }
+        requires some { 0 < length columns.now }
+        requires columns { length columns.now ≤ length self.now.places }
+        ensures { IsSlotWith rows.now (slots_of self.now.entries) (take (length columns.now) self.now.places) (key_of columns.now row.now) result }
+    {
+        let (places, _) = self.places.as_slice().split_at(columns.len());
+        match self.entries.search(&ByOther {
+            rows,
+            places,
+            columns,
+            row,
+            lead: lead_of_row(columns, row),
+        }) {
+            Ok(at) => Some(self.slot_at(at)),
             Err(_) => None,
         }
     }

@@ -4,6 +4,7 @@ pub mod Copies
 pub mod Footprints
 pub mod Histories
 pub mod Independence
+pub mod OpRows
 pub mod Operations
 pub mod Refusals
 pub mod Sound

@@ -1,6 +1,7 @@
 //! Operations on rows.
 
 ghost use Rattle.std.specs.Prelude.{◌≡◌, ◌↔◌, IfOk, IsTrue};
+ghost use Rattle.table_state.specs.OpRows.{row_of};
 ghost use Rattle.table_state.specs.Operations.{table_of};
 
 use row_types::Row;
@@ -39,6 +40,17 @@ impl Op {
             Op::Insert(table, _) => *table,
             Op::Update(table, _, _) => *table,
             Op::Delete(table, _) => *table,
+        }
+    }
+
+    /// The row that the operation leaves in the table or takes out of it: of an update the second.
+    pub fn into_row(self) -> Row
+        ensures { result ≡ row_of self }
+    {
+        match self {
+            Op::Insert(_, row) => row,
+            Op::Update(_, _, row) => row,
+            Op::Delete(_, row) => row,
         }
     }
 

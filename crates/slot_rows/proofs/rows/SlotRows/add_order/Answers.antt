@@ -10,7 +10,7 @@ pub invariant_of-self : goal.invariant_of-self
 invariant_of-self c =
     let l = c.self.inside in
     let o = l.by_key in
-    (c.self.invariant.0, c.self.invariant.1, subst (Each (IsOther l.rows o.places o.entries (length o.room.items))) (sym c.in_err-push.ensures.items) c.self.invariant.2)
+    (c.self.invariant.0, c.self.invariant.1, subst (Each (IsOther l.rows o.places o.entries (length o.room.items))) (sym c.in_err-push.ensures.items) c.self.invariant.2, c.self.invariant.3)
 
 pub invariant_of-self-2 : goal.invariant_of-self-2
 invariant_of-self-2 c =
@@ -25,4 +25,5 @@ invariant_of-self-2 c =
       c.self.invariant.1,
       subst (Each (IsOther l.rows o.places o.entries (length o.room.items))) (sym c.in_ok-push.ensures.items)
           (each_more (IsOther l.rows o.places o.entries (length o.room.items)) l.others.items order c.self.invariant.2 (first_order l.rows o.places o.entries (length o.room.items) order none empty wider room)),
+      c.self.invariant.3,
     )

@@ -1,4 +1,4 @@
-use Rattle.std.proofs.Common.{◌≡◌, ◌<◌, ◌+◌, true, ap, sym, subst, cond, length, ◌∙◌, arith}
+use Rattle.std.proofs.Common.{◌≡◌, ◌<◌, ◌+◌, true, false, None, refl, ap, sym, subst, cond, length, ◌∙◌, arith}
 use Rattle.std.proofs.lemmas.List.Edits.{length-insert}
 use Rattle.std.specs.FinMap as fm
 use Rattle.key_rows.specs.Places.{IsGapFor, IsKeyAt}
@@ -6,23 +6,27 @@ use Rattle.key_rows.proofs.MapLaws.{has_key, no_key}
 use Rattle.indexed_rows.specs.Rows.{key_of, put_in}
 use Rattle.slot_rows.specs.Leads.{lead_of}
 use Rattle.slot_rows.specs.Orders.{Each, IsOther}
+use Rattle.slot_rows.specs.SlotKeys.{slot_entries, slot_keys_in}
 use Rattle.slot_rows.specs.Slots.{AreOrdered, slots_of, table_in}
 use Rattle.slot_rows.specs.declared.order.Entry.{Entry}
-use Rattle.slot_rows.proofs.OrderLaws.{gap_stays, order_entered, order_stays, put_where_there, slots_now, table_entered, table_len, table_stays}
+use Rattle.slot_rows.proofs.OrderLaws.{gap_stays, other, order_entered, order_stays, put_where_there, slots_now, table_entered, table_stays}
 use Rattle.slot_rows.proofs.ManyLaws.{columns_stay, each_awaits, each_entered}
+use Rattle.slot_rows.proofs.SlotKeyLaws.{slot_filled, slot_was_free}
 use Rattle.slot_rows.proofs.rows.SlotRows.insert_reserved.Goals as goal
 
 pub enter-requires-clause-fits : goal.enter-requires-clause-fits
 enter-requires-clause-fits c =
     let l = c.self.inside in
-    subst (λ n. n + 1 < 9223372036854775808) (ap (λ h. fm.len h.table) (sym c.self.view_is) ∙ table_len l.rows l.by_key.places l.by_key.entries c.self.invariant.0) c.requires.fits
+    let room : 0 < length l.by_key.room.items = subst (λ h. 0 < h.spare) (sym c.self.view_is) c.requires in
+    let fits = c.self.invariant.3 in omega (arith, room, fits)
 
 pub enter_all-requires : goal.enter_all-requires
 enter_all-requires c =
     let l = c.self.inside in
     let o = l.by_key in
     let gap = subst (λ v. IsGapFor (fm.entries (table_in l.rows o.places o.entries)) (key_of o.places v) c.in-Err.place) c.values.ensures c.in-Err.ensures.absent in
-    let fits = subst (λ n. n + 1 < 9223372036854775808) (ap (λ h. fm.len h.table) (sym c.self.view_is) ∙ table_len l.rows o.places o.entries c.self.invariant.0) c.requires.fits in
+    let room : 0 < length o.room.items = subst (λ h. 0 < h.spare) (sym c.self.view_is) c.requires in
+    let fits : length o.entries + 1 < 9223372036854775808 = (let most = c.self.invariant.3 in omega (arith, room, most)) in
     each_awaits l.rows c.insert_reserved-slot.new.self o.places o.entries (length o.room.items) c.self.invariant.0 c.args.row c.insert_reserved-slot.result c.in-Err.place c.insert_reserved-slot.ensures.was_vacant c.insert_reserved-slot.ensures.updates gap
     (omega (arith, c.enter.ensures.room)) fits l.others.items c.self.invariant.2
 
@@ -45,6 +49,7 @@ invariant_of-self c =
       omega (arith, c.self.invariant.1, c.insert_reserved-slot.ensures.len, c.insert_reserved-slot.ensures.capacity, c.enter.ensures.room),
       subst (λ ps. Each (IsOther new ps c.enter.new.self.entries (length c.enter.new.self.room.items)) c.enter_all.new.orders.items) (sym c.enter.ensures.places)
           (each_entered l.rows new o.places o.entries (length o.room.items) c.self.invariant.0 c.args.row slot c.in-Err.place fresh changed gap c.enter.new.self.entries slots long (length c.enter.new.self.room.items) c.enter.ensures.room l.others.items c.enter_all.new.orders.items c.self.invariant.2 c.enter_all.ensures),
+      (let most = c.self.invariant.3 in omega (arith, most, long, c.enter.ensures.room)),
     )
 
 pub returns-in-Ok-clause-table : goal.returns-in-Ok-clause-table
@@ -76,3 +81,36 @@ returns-in-Err-clause-table c =
 
 pub returns-in-Err-clause-orders : goal.returns-in-Err-clause-orders
 returns-in-Err-clause-orders c = columns_stay _ (λ x y k. k.places) c.self.inside.others.items c.enter_all.new.orders.items c.enter_all.ensures ∙ ap (λ h. h.orders) c.self.view_is
+
+pub returns-in-Ok-clause-slot : goal.returns-in-Ok-clause-slot
+returns-in-Ok-clause-slot c =
+    let l = c.self.inside in
+    let o = l.by_key in
+    let here = subst (λ v. IsKeyAt (fm.entries (table_in l.rows o.places o.entries)) (key_of o.places v) c.in-Ok.field-0) c.values.ensures c.in-Ok.ensures.found in
+    let has = has_key (table_in l.rows o.places o.entries) (key_of o.places c.args.row) c.in-Ok.field-0 here in (
+      subst (λ h. fm.contains_key h.table (key_of h.places c.args.row) ≡ true) c.self.view_is has,
+      refl,
+    )
+
+pub returns-in-Err-clause-slot : goal.returns-in-Err-clause-slot
+returns-in-Err-clause-slot c =
+    let l = c.self.inside in
+    let o = l.by_key in
+    let new = c.insert_reserved-slot.new.self in
+    let slot = c.insert_reserved-slot.result in
+    let fresh = c.insert_reserved-slot.ensures.was_vacant in
+    let changed = c.insert_reserved-slot.ensures.updates in
+    let e : Entry = record { lead = c.lead_of_row-lead.result; slot = slot } in
+    let key = key_of o.places c.args.row in
+    let gap = subst (λ v. IsGapFor (fm.entries (table_in l.rows o.places o.entries)) (key_of o.places v) c.in-Err.place) c.values.ensures c.in-Err.ensures.absent in
+    let stays = order_stays l.rows new slot c.args.row fresh changed o.places o.entries c.self.invariant.0 in
+    let gap_now = gap_stays l.rows new slot c.args.row fresh changed o.places o.entries c.self.invariant.0 key c.in-Err.place gap in
+    let slots = ap slots_of c.enter.ensures.entries ∙ slots_now new o.places o.entries c.in-Err.place e c.args.row changed.changed stays gap_now in
+    let live = other l.rows new slot c.args.row fresh changed o.places o.entries c.self.invariant.0 in
+    let filled = ap (λ ps. slot_keys_in new ps c.enter.new.self.entries) c.enter.ensures.places ∙ ap (λ xs. fm.from_entries (slot_entries new o.places xs)) slots
+    ∙ slot_filled l.rows o.places o.entries c.self.invariant.0 new slot c.args.row fresh changed live c.in-Err.place in (
+      subst (λ h. fm.contains_key h.table (key_of h.places c.args.row) ≡ false) c.self.view_is (no_key (table_in l.rows o.places o.entries) key c.in-Err.place gap),
+      subst (λ h. fm.get h.slots slot ≡ None) c.self.view_is (slot_was_free l.rows o.places o.entries c.self.invariant.0 new slot c.args.row fresh changed live),
+      filled ∙ ap (λ h. fm.insert h.slots slot (key_of h.places c.args.row)) c.self.view_is,
+      c.insert_reserved-slot.ensures.key ∙ ap (λ h. h.vacant) c.self.view_is,
+    )

@@ -12,6 +12,7 @@ invariant_of-self c =
       order_same l.rows c.reserve.new.self same l.by_key.places l.by_key.entries c.self.invariant.0,
       omega (arith, c.self.invariant.1, c.reserve.ensures.capacity, ap slab_len c.reserve.ensures.rest_kept),
       each_same l.rows c.reserve.new.self same l.by_key.places l.by_key.entries (length l.by_key.room.items) l.others.items c.self.invariant.2,
+      c.self.invariant.3,
     )
 
 pub invariant_of-self-in_err-reserve_all : goal.invariant_of-self-in_err-reserve_all
@@ -22,6 +23,7 @@ invariant_of-self-in_err-reserve_all c =
       omega (arith, c.self.invariant.1, c.reserve.ensures.capacity, ap slab_len c.reserve.ensures.rest_kept),
       each_kept c.reserve.new.self l.by_key.places l.by_key.entries (length l.by_key.room.items) l.others.items c.reserve_all.new.orders.items
           (each_same l.rows c.reserve.new.self same l.by_key.places l.by_key.entries (length l.by_key.room.items) l.others.items c.self.invariant.2) c.reserve_all.ensures.kept,
+      c.self.invariant.3,
     )
 
 pub returns-in_err-reserve_all-clause-orders : goal.returns-in_err-reserve_all-clause-orders
@@ -41,6 +43,7 @@ invariant_of-self-2 c =
           (subst (λ es. Each (IsOther new o.places es (length now.room.items)) c.reserve_all.new.orders.items) (sym c.reserve-2.ensures.kept.entries)
           (each_filled new o.places o.entries (length o.room.items) c.args.more (length now.room.items) l.others.items c.reserve_all.new.orders.items most
           (each_same l.rows new same o.places o.entries (length o.room.items) l.others.items c.self.invariant.2) c.in_ok-reserve_all.ensures.kept c.in_ok-reserve_all.ensures.ok)),
+      (let same = ap length c.reserve-2.ensures.kept.entries in omega (arith, most, same, c.if-more-len.false, c.len-2.ensures.value)),
     )
 
 pub returns-clause-orders : goal.returns-clause-orders

@@ -1,0 +1,4 @@
+mod RecentLaws
+mod TreeLaws
+mod JoinedLaws
+mod StoreLaws

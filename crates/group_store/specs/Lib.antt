@@ -1,0 +1,4 @@
+pub mod Joined
+pub mod Recent
+pub mod Stores
+pub mod Trees

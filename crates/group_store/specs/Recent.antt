@@ -1,0 +1,56 @@
+-- The rows of a root table, and their keys in the order of last use. (TimesTen Cache User's Guide, "Implementing aging in
+-- a cache group".)
+use Rattle.std.specs.Prelude.{◌≡◌, ℕ, List, [], ◌∷◌, ◌++◌, Option, Some, None, false, nat_eq, map, unwrap_or, refl, if◌then◌else◌}
+use Rattle.std.specs.List.{list_any}
+use Rattle.std.specs.Coded.{Coded, code_by, coded×, coded_list, coded_ℕ}
+use Rattle.std.specs.FinMap as fm
+use Rattle.row_types.specs.declared.value.Value.{Value}
+use Rattle.row_types.specs.contracts.value.Value as one
+use Rattle.key_rows.specs.Places.{IsKeyAt}
+use Rattle.indexed_rows.specs.Rows.{Table, is_same}
+use Rattle.recency.specs.Rings.{keys_without}
+use Rattle.slot_rows.specs.SlotKeys.{SlotKeys}
+
+-- what clauses see: the rows by key, the columns of the key, the keys with the oldest first, and how many more rows go in
+-- without memory
+pub record RecentHeld : Type 0 where
+  pub table : Table
+  pub places : List ℕ
+  pub keys : List (List Value)
+  pub spare : ℕ
+
+abbrev pub recent_held_code : Coded RecentHeld
+recent_held_code =
+    code_by (Table × (List ℕ × (List (List Value) × ℕ))) (coded× (fm.code (coded_list one.the_row.coded) (coded_list one.the_row.coded)) (coded× (coded_list coded_ℕ) (coded× (coded_list (coded_list one.the_row.coded)) coded_ℕ)))
+    (λ h. (h.table, (h.places, (h.keys, h.spare)))) (λ p. record { table = p.0; places = p.1.0; keys = p.1.1.0; spare = p.1.1.1 }) (λ _. refl)
+
+-- the key of the row in a slot
+abbrev pub key_in : SlotKeys → ℕ → List Value
+key_in slots s = unwrap_or (fm.get slots s) []
+
+abbrev pub keys_of : SlotKeys → List ℕ → List (List Value)
+keys_of slots recent = map (key_in slots) recent
+
+-- the slots of a list are those that have rows
+abbrev pub AreRecent : SlotKeys → List ℕ → Type 0
+AreRecent slots recent = (s : ℕ) → list_any (nat_eq s) recent ≡ fm.contains_key slots s
+
+-- a key becomes the newest, where the table doesn't have it yet
+abbrev pub entered_last : Table → List Value → List (List Value) → List (List Value)
+entered_last table key keys = if fm.contains_key table key then keys else keys ++ key ∷ []
+
+-- the place in key order of a key's row, where it has one
+abbrev pub IsRowPlace : Table → List Value → Option ℕ → Type 0
+IsRowPlace table key None = fm.contains_key table key ≡ false
+IsRowPlace table key (Some place) = IsKeyAt (fm.entries table) key place
+
+-- a key's row was taken out, and the key
+pub record TakesRecent (old new : RecentHeld) (key : List Value) (row : Option (List Value)) : Type 0 where
+  pub was : row ≡ fm.get old.table key
+  pub now : new.table ≡ fm.remove old.table key
+  pub keys : new.keys ≡ keys_without is_same key old.keys
+
+-- the same, whatever the row was
+pub record LosesRecent (old new : RecentHeld) (key : List Value) : Type 0 where
+  pub now : new.table ≡ fm.remove old.table key
+  pub keys : new.keys ≡ keys_without is_same key old.keys

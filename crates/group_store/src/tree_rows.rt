@@ -1,0 +1,271 @@
+//! The rows of a group's tree of tables.
+
+ghost use Rattle.std.specs.Prelude.{◌≡◌, ◌≤◌, ◌<◌, ◌+◌, ◌++◌, ◌∷◌, [], Some, MatchOption, OnOk, length, option_copied, if◌then◌else◌, nat_eq};
+ghost use Rattle.std.specs.FinMap as map;
+ghost use Rattle.indexed_rows.specs.Rows.{is_same, key_of, put_in, put_over};
+ghost use Rattle.instances.specs.Views.{kept_at};
+ghost use Rattle.recency.specs.Rings.{keys_without};
+ghost use Rattle.cache_store.specs.Operating.{change_at};
+ghost use Rattle.slot_rows.specs.SlotKeys.{IsKeyedBy};
+ghost use Rattle.group_store.specs.Recent.{IsRowPlace, entered_last};
+ghost use Rattle.group_store.specs.Trees.{CanGo, IsBare, IsChild, IsChildless, IsLeaf, cut_from};
+ghost use Rattle.group_store.specs.Joined.{AreJoined, IsRowOf, KeepsTree, TakesChild, layers_of, least_spare, places_at, tables_of};
+
+use crate::recent::RecentRows;
+use row_types::{Row, Value};
+use slot_rows::SlotRows;
+use std::alloc::{AllocError, Global};
+use tier_base::{Seq, TableId};
+
+// The rows of a child table, with an order of them by parent.
+pub(crate) struct ChildRows {
+    pub(crate) table: TableId,
+    pub(crate) parent: usize,
+    pub(crate) foreign: Seq<usize>,
+    pub(crate) rows: SlotRows,
+}
+
+impl Drop for ChildRows {
+    fn drop(self) {
+        let Self {
+            table: _,
+            parent: _,
+            foreign: _,
+            rows: _,
+        } = self;
+    }
+}
+
+// The rows of all tables. The root has place 0, and the children the places from 1 on.
+pub(crate) struct TreeRows {
+    pub(crate) roots: RecentRows,
+    pub(crate) children: Vec<ChildRows>,
+}
+
+impl Drop for TreeRows {
+    fn drop(self) {
+        let Self {
+            roots: _,
+            children: _,
+        } = self;
+    }
+}
+
+// A row, and the place of its table.
+pub(crate) struct Found<'a> {
+    pub(crate) place: usize,
+    pub(crate) row: &'a Row,
+}
+
+impl Drop for Found<'_> {
+    fn drop(self) {
+        let Self { place: _, row: _ } = self;
+    }
+}
+
+// A row of this table that refers to the key of another row, where its parent stands at the place.
+fn row_of<'a>(child: &'a ChildRows, place: usize, columns: &[usize], row: &Row) -> Option<&'a Row>
+    requires orders { child.now.rows.orders ≡ (child.now.foreign ++ child.now.rows.places) ∷ [] }
+    requires some { 0 < length child.now.foreign }
+    requires long { child.now.parent ≡ place → length child.now.foreign ≡ length columns.now }
+    ensures { IsRowOf child.now place (key_of columns.now row.now) (option_copied result) }
+{
+    if child.parent == place {
+        child.rows.find_for(0, columns, row)
+    } else {
+        None
+    }
+}
+
+impl TreeRows {
+    // The columns of the primary key of the table at a place.
+    pub(crate) fn places(&self, place: usize) -> &[usize]
+        requires { place ≤ length self.now.children.items }
+        ensures { result.now ≡ places_at self.now place }
+    {
+        if place == 0 {
+            return self.roots.places();
+        }
+        self.children[place - 1].rows.places()
+    }
+
+    // The row of a key in the table at a place. It stands under its key.
+    pub(crate) fn get(&self, place: usize, key: &[Value]) -> Option<&Row>
+        requires { place ≤ length self.now.children.items }
+        ensures value { option_copied result ≡ map.get (kept_at (tables_of self.now) place) key.now }
+        ensures keyed { IsKeyedBy (places_at self.now place) (kept_at (tables_of self.now) place) }
+    {
+        if place == 0 {
+            let _held = self.roots.len();
+            return self.roots.get(key);
+        }
+        let rows = &self.children[place - 1].rows;
+        let _held = rows.len();
+        rows.get(key)
+    }
+
+    // The place in key order of the row that has another row's key in the table at a place.
+    pub(crate) fn spot_of(&self, place: usize, row: &Row) -> Option<usize>
+        requires { place ≤ length self.now.children.items }
+        ensures { IsRowPlace (kept_at (tables_of self.now) place) (key_of (places_at self.now place) row.now) result }
+    {
+        if place == 0 {
+            return self.roots.place_of(row);
+        }
+        self.children[place - 1].rows.place_of(row)
+    }
+
+    // A row that refers to a row of the table at a place.
+    fn child_of(&self, place: usize, row: &Row) -> Option<Found<'_>>
+        requires joined { AreJoined self.now }
+        requires within { place ≤ length self.now.children.items }
+        ensures { MatchOption result (IsChildless (layers_of self.now) (tables_of self.now) place (key_of (places_at self.now place) row.now)) (λ found. IsChild (layers_of self.now) (tables_of self.now) place (key_of (places_at self.now place) row.now) found.place found.row.now) }
+    {
+        let columns = self.places(place);
+        for (at, child) in self.children.iter().enumerate() {
+            match row_of(child, place, columns, row) {
+                None => {}
+                Some(row) => return Some(Found { place: at + 1, row }),
+            }
+        }
+        None
+    }
+
+    // A row that no row refers to, and that leads to this one or is it. The depth is that of the tree.
+    fn leaf<'a>(&'a self, place: usize, row: &'a Row) -> Found<'a>
+        requires joined { AreJoined self.now }
+        requires within { place ≤ length self.now.children.items }
+        requires found { map.get (kept_at (tables_of self.now) place) (key_of (places_at self.now place) row.now) ≡ Some row.now }
+        ensures { IsLeaf self.now.roots.places (layers_of self.now) (tables_of self.now) place (key_of (places_at self.now place) row.now) result.place result.row.now }
+    {
+        match self.child_of(place, row) {
+            None => Found { place, row },
+            Some(found) => self.leaf(found.place, found.row),
+        }
+    }
+
+    // Of the rows that lead to the one at the top, one that no row refers to: the place of its table, and its place there.
+    fn lowest(&self, top: usize, key: &[Value]) -> Option<(usize, usize)>
+        requires joined { AreJoined self.now }
+        requires within { top ≤ length self.now.children.items }
+        ensures { MatchOption result (IsBare (layers_of self.now) (tables_of self.now) top key.now) (λ spot. CanGo (layers_of self.now) (tables_of self.now) top key.now spot.0 spot.1) }
+    {
+        match self.get(top, key) {
+            None => None,
+            Some(row) => match self.child_of(top, row) {
+                None => None,
+                Some(found) => {
+                    let leaf = self.leaf(found.place, found.row);
+                    match self.spot_of(leaf.place, leaf.row) {
+                        None => None,
+                        Some(spot) => Some((leaf.place, spot)),
+                    }
+                }
+            },
+        }
+    }
+
+    // Puts a row into the table at a place where its key has none there, as the newest of the root's. It takes no memory.
+    pub(crate) fn put(&mut self, place: usize, row: Row)
+        requires within { place ≤ length self.old.children.items }
+        requires room { 0 < least_spare self.old }
+        ensures tables { tables_of self.new ≡ change_at place (λ t. put_in t (key_of (places_at self.old place) row) row) (tables_of self.old) }
+        ensures same { KeepsTree self.old self.new }
+        ensures keys { self.new.roots.keys ≡ (if nat_eq place 0 then entered_last self.old.roots.table (key_of self.old.roots.places row) self.old.roots.keys else self.old.roots.keys) }
+        ensures spare { least_spare self.old ≤ least_spare self.new + 1 }
+    {
+        if place == 0 {
+            self.roots.insert_reserved(row);
+        } else {
+            let _ = self.children[place - 1].rows.insert_reserved(row);
+        }
+    }
+
+    // Puts a row over the one that its key has in the table at a place. It takes no memory.
+    pub(crate) fn replace(&mut self, place: usize, row: Row)
+        requires within { place ≤ length self.old.children.items }
+        requires room { 0 < least_spare self.old }
+        ensures tables { tables_of self.new ≡ change_at place (λ t. put_over t (key_of (places_at self.old place) row) row) (tables_of self.old) }
+        ensures same { KeepsTree self.old self.new }
+        ensures keys { self.new.roots.keys ≡ self.old.roots.keys }
+        ensures spare { least_spare self.old ≤ least_spare self.new + 1 }
+    {
+        if place == 0 {
+            self.roots.replace_reserved(row);
+        } else {
+            self.children[place - 1].rows.replace_reserved(row);
+        }
+    }
+
+    // Takes out the row that has another row's key in the table at a place. It takes no memory.
+    pub(crate) fn take(&mut self, place: usize, row: &Row)
+        requires { place ≤ length self.old.children.items }
+        ensures tables { tables_of self.new ≡ change_at place (λ t. map.remove t (key_of (places_at self.old place) row.now)) (tables_of self.old) }
+        ensures same { KeepsTree self.old self.new }
+        ensures keys { self.new.roots.keys ≡ (if nat_eq place 0 then keys_without is_same (key_of self.old.roots.places row.now) self.old.roots.keys else self.old.roots.keys) }
+        ensures spare { least_spare self.old ≤ least_spare self.new }
+    {
+        if place == 0 {
+            self.roots.remove_for(row);
+        } else {
+            self.children[place - 1].rows.remove_for(row);
+        }
+    }
+
+    // Makes room for so many more rows in each table.
+    //
+    // It fails for want of memory alone.
+    pub(crate) fn reserve(&mut self, alloc: Global, more: usize) -> Result<(), AllocError>
+        ensures tables { tables_of self.new ≡ tables_of self.old }
+        ensures same { KeepsTree self.old self.new }
+        ensures keys { self.new.roots.keys ≡ self.old.roots.keys }
+        ensures ok { OnOk result (more ≤ least_spare self.new) }
+        ensures spare { least_spare self.old ≤ least_spare self.new }
+    {
+        self.roots.reserve(alloc, more)?;
+        for place in 0..self.children.len() {
+            self.children[place].rows.reserve(alloc, more)?;
+        }
+        Ok(())
+    }
+
+    // Takes out the row at a place in key order of a child table. It takes no memory.
+    fn take_child(&mut self, place: usize, spot: usize)
+        requires child { 0 < place }
+        requires within { place ≤ length self.old.children.items }
+        requires there { spot < map.len (kept_at (tables_of self.old) place) }
+        ensures { TakesChild self.old self.new place spot }
+    {
+        let _ = self.children[place - 1].rows.remove_at(spot);
+    }
+
+    // Takes out the row of a key in the table at a place. It takes no memory.
+    fn take_key(&mut self, place: usize, key: &[Value])
+        requires { place ≤ length self.old.children.items }
+        ensures tables { tables_of self.new ≡ change_at place (λ t. map.remove t key.now) (tables_of self.old) }
+        ensures same { KeepsTree self.old self.new }
+        ensures keys { self.new.roots.keys ≡ (if nat_eq place 0 then keys_without is_same key.now self.old.roots.keys else self.old.roots.keys) }
+        ensures spare { least_spare self.old ≤ least_spare self.new }
+    {
+        if place == 0 {
+            let _ = self.roots.remove(key);
+        } else {
+            let _ = self.children[place - 1].rows.remove(key);
+        }
+    }
+
+    // Takes out the row of a key in the table at a place, and all rows that lead to it. It takes no memory.
+    pub(crate) fn cut(&mut self, top: usize, key: &[Value])
+        requires joined { AreJoined self.old }
+        requires within { top ≤ length self.old.children.items }
+        ensures tables { tables_of self.new ≡ cut_from (layers_of self.old) (tables_of self.old) top key.now }
+        ensures same { KeepsTree self.old self.new }
+        ensures keys { self.new.roots.keys ≡ (if nat_eq top 0 then keys_without is_same key.now self.old.roots.keys else self.old.roots.keys) }
+        ensures spare { least_spare self.old ≤ least_spare self.new }
+    {
+        while let Some((place, spot)) = self.lowest(top, key) {
+            self.take_child(place, spot);
+        }
+        self.take_key(top, key);
+    }
+}

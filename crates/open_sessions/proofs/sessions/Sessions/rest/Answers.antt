@@ -1,0 +1,28 @@
+use Rattle.std.proofs.Common.{ap}
+use Rattle.std.proofs.lemmas.List.Elements.{All-set}
+use Rattle.session_state.specs.Kept.{IsKept}
+use Rattle.session_state.specs.Sessions.{at_rest}
+use Rattle.open_sessions.proofs.SessionLaws.{apart_rest, found, none_has, numbers_set, on_none, on_one}
+use Rattle.open_sessions.proofs.sessions.Sessions.rest.Goals as goal
+
+pub returns-in-None-clause-seen : goal.returns-in-None-clause-seen
+returns-in-None-clause-seen c = λ schema sound. on_none c.args.id at_rest c.args.self.now.open.items (none_has _ c.args.self.now.open.items c.in-None.ensures)
+
+pub returns-in-Some-clause-seen : goal.returns-in-Some-clause-seen
+returns-in-Some-clause-seen c = λ schema sound.
+    let xs = c.args.self.now.open.items in
+    let s = c.index_mut.result.now in
+    let f = found c.args.id xs c.in-Some.place s c.in-Some.ensures c.index_mut.ensures.value in
+    on_one c.args.id at_rest xs c.in-Some.place s c.rest.new.self f.at f.has c.rest.ensures.seen sound.numbered
+
+pub returns-in-Some-clause-sound : goal.returns-in-Some-clause-sound
+returns-in-Some-clause-sound c = λ schema sound.
+    let xs = c.args.self.now.open.items in
+    let s = c.index_mut.result.now in
+    let t = c.rest.new.self in
+    let f = found c.args.id xs c.in-Some.place s c.in-Some.ensures c.index_mut.ensures.value in
+    record {
+      kept = All-set (IsKept schema) xs c.in-Some.place t (c.rest.ensures.kept schema) sound.kept;
+      apart = apart_rest schema xs c.in-Some.place s t f.at c.rest.ensures.seen sound.apart;
+      numbered = numbers_set schema xs c.in-Some.place s t f.at (ap (λ x. x.id) c.rest.ensures.seen) sound.numbered;
+    }
