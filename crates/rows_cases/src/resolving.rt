@@ -1,5 +1,7 @@
 // The order of refusals, against the rules as they are told, over the tables C (ID, NAME) and O (ID, CID, N).
 
+ghost use Rattle.std.specs.Prelude.{◌≡◌, [], IfOk};
+
 use crate::build::{column, name};
 use expressions::Comparator;
 use resolution::{resolve_query, resolve_write};
