@@ -7,4 +7,5 @@ pub mod InsertLaws
 pub mod DeleteLaws
 pub mod UpdateLaws
 pub mod OwnLaws
+pub mod AboveLaws
 pub mod TieLaws

@@ -25,7 +25,7 @@ abbrev Row : Type 0
 Row = List Value
 
 -- what was kept stays
-keeps : (s : TableState) (cs : List Child) (V : List Table) (i : ℕ) → i < length V → kept_at (with_children s cs V) i ≡ kept_at V i
+pub keeps : (s : TableState) (cs : List Child) (V : List Table) (i : ℕ) → i < length V → kept_at (with_children s cs V) i ≡ kept_at V i
 keeps s [] V i h = refl
 keeps s (c ∷ cs) V i h =
     let X = child_rows s (kept_at V c.parent) c in

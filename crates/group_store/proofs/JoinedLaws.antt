@@ -243,14 +243,14 @@ module _ (t : TreeRows) (i : ℕ) (c : ChildRows) (rows : RowsHeld) (is : slice_
   pub keeps_at : KeepsTree t tree_now
   keeps_at =
       let layers = layers_set t.children.items i c child_now is layer_now in
-      record { places = refl; layers = layers; joined = joined_kept t tree_now refl layers (kinds_set t.children.items i c child_now is (layer_now, orders)) }
+      record { places = refl; foreign = refl; layers = layers; joined = joined_kept t tree_now refl layers (kinds_set t.children.items i c child_now is (layer_now, orders)) }
 
 pub keeps_tree : (t : TreeRows) (place : ℕ) (c : ChildRows) (rows : RowsHeld) → slice_get t.children.items (place - 1) ≡ Some c → rows.places ≡ c.rows.places → rows.orders ≡ c.rows.orders
     → KeepsTree t (record { roots = t.roots; children = with_item t.children (place - 1) (record { table = c.table; parent = c.parent; foreign = c.foreign; rows = rows }) })
 keeps_tree t place c rows is places orders = keeps_at t (place - 1) c rows is places orders
 
 pub keeps_both : (a b c : TreeRows) → KeepsTree a b → KeepsTree b c → KeepsTree a c
-keeps_both a b c x y = record { places = y.places ∙ x.places; layers = y.layers ∙ x.layers; joined = λ j. y.joined (x.joined j) }
+keeps_both a b c x y = record { places = y.places ∙ x.places; foreign = y.foreign ∙ x.foreign; layers = y.layers ∙ x.layers; joined = λ j. y.joined (x.joined j) }
 
 pub tables_kept : (cs : List ChildRows) (i : ℕ) (c d : ChildRows) → slice_get cs i ≡ Some c → d.rows.table ≡ c.rows.table → map table_in (set cs i d) ≡ map table_in cs
 tables_kept [] i c d is same = cc
@@ -268,10 +268,10 @@ set_got (c ∷ cs) (suc i) d (suc j) x e = elim (set_got cs i d j x e) [
 ]
 
 -- the root's rows alone change
-pub keeps_children : (t : TreeRows) (roots : RecentHeld) → roots.places ≡ t.roots.places → KeepsTree t (record { roots = roots; children = t.children })
-keeps_children t roots places =
+pub keeps_children : (t : TreeRows) (roots : RecentHeld) → roots.places ≡ t.roots.places → roots.foreign ≡ t.roots.foreign → KeepsTree t (record { roots = roots; children = t.children })
+keeps_children t roots places foreign =
     let new : TreeRows = record { roots = roots; children = t.children } in
-    record { places = places; layers = refl; joined = joined_kept t new places refl (λ j e at. (e, at, (refl, refl))) }
+    record { places = places; foreign = foreign; layers = refl; joined = joined_kept t new places refl (λ j e at. (e, at, (refl, refl))) }
 
 -- there are as many children
 pub children_stay : (a b : TreeRows) → KeepsTree a b → length b.children.items ≡ length a.children.items

@@ -25,7 +25,7 @@ Row = List Value
 pub same_itself : (k : Row) → is_same k k ≡ true
 same_itself k = ap is_eq (tied_itself key_total k)
 
-abbrev any : ℕ → List ℕ → Bool
+abbrev pub any : ℕ → List ℕ → Bool
 any s xs = list_any (nat_eq s) xs
 
 unsigned_tied : (x y : ℕ) → eq_by_cmp nat_cmp x y ≡ nat_eq x y
@@ -55,7 +55,7 @@ has_some (Some x) e = (x, refl)
 pub in_slot : (slots : SlotKeys) (s : ℕ) (k : Row) → fm.get slots s ≡ Some k → key_in slots s ≡ k
 in_slot slots s k e = ap (λ o. unwrap_or o []) e
 
-map_append : (f : ℕ → Row) (xs ys : List ℕ) → map f (xs ++ ys) ≡ map f xs ++ map f ys
+pub map_append : (f : ℕ → Row) (xs ys : List ℕ) → map f (xs ++ ys) ≡ map f xs ++ map f ys
 map_append f [] ys = refl
 map_append f (x ∷ xs) ys = ap (λ l. f x ∷ l) (map_append f xs ys)
 
@@ -89,7 +89,7 @@ module _ (p q : ℕ → Bool) where
       by false e rest = ap (λ b. list_any p (cond (not b) (x ∷ filter (λ o. not (q o)) xs) (filter (λ o. not (q o)) xs)) || list_any p (cond b (x ∷ filter q xs) (filter q xs))) e
           ∙ or_first (list_any p (filter (λ o. not (q o)) xs)) (list_any p (filter q xs)) (p x) (list_any p xs) rest
 
-any_append : (p : ℕ → Bool) (xs ys : List ℕ) → list_any p (xs ++ ys) ≡ (list_any p xs || list_any p ys)
+pub any_append : (p : ℕ → Bool) (xs ys : List ℕ) → list_any p (xs ++ ys) ≡ (list_any p xs || list_any p ys)
 any_append p [] ys = refl
 any_append p (x ∷ xs) ys = ap (λ b. p x || b) (any_append p xs ys) ∙ assoc (p x) (list_any p xs) (list_any p ys)
   where
@@ -100,7 +100,7 @@ any_append p (x ∷ xs) ys = ap (λ b. p x || b) (any_append p xs ys) ∙ assoc 
 any_touched : (s slot : ℕ) (xs : List ℕ) → any s (touched nat_eq slot xs) ≡ any s xs
 any_touched s slot xs = any_append (nat_eq s) (keys_without nat_eq slot xs) (filter (nat_eq slot) xs) ∙ any_split (nat_eq s) (nat_eq slot) xs
 
-any_without : (s slot : ℕ) (xs : List ℕ) → any s (keys_without nat_eq slot xs) ≡ (any s xs && not (nat_eq s slot))
+pub any_without : (s slot : ℕ) (xs : List ℕ) → any s (keys_without nat_eq slot xs) ≡ (any s xs && not (nat_eq s slot))
 any_without s slot [] = refl
 any_without s slot (x ∷ xs) = by (nat_eq slot x) refl (any_without s slot xs)
   where

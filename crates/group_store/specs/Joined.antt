@@ -6,7 +6,7 @@ use Rattle.key_rows.specs.Places.{IsKeyAt}
 use Rattle.indexed_rows.specs.Rows.{Table, key_of}
 use Rattle.instances.specs.Views.{kept_at}
 use Rattle.cache_store.specs.Operating.{change_at}
-use Rattle.group_store.specs.Trees.{Layer, key_at}
+use Rattle.group_store.specs.Trees.{Layer, foreign_at, key_at}
 use Rattle.group_store.specs.declared.tree_rows.ChildRows.{ChildRows}
 use Rattle.group_store.specs.declared.tree_rows.TreeRows.{TreeRows}
 
@@ -22,6 +22,9 @@ tables_of t = t.roots.table ∷ map (λ c. c.rows.table) t.children.items
 
 abbrev pub places_at : TreeRows → ℕ → List ℕ
 places_at t place = key_at t.roots.places (layers_of t) place
+
+abbrev pub foreign_there : TreeRows → ℕ → List ℕ
+foreign_there t place = foreign_at t.roots.foreign (layers_of t) place
 
 -- a child table's parent stands before it, and its one other order is by parent
 pub record IsJoined (t : TreeRows) (i : ℕ) (c : ChildRows) : Type 0 where
@@ -48,15 +51,19 @@ pub record TakesChild (old new : TreeRows) (place spot : ℕ) : Type 0 where
   pub layers : layers_of new ≡ layers_of old
   pub joined : AreJoined old → AreJoined new
   pub spare : least_spare old ≤ least_spare new
-  pub leaves : (key : List Value) → IsKeyAt (entries (kept_at (tables_of old) place)) key spot → tables_of new ≡ change_at place (λ t. remove t key) (tables_of old)
+  pub leaves : (key : List Value) → IsKeyAt (entries (kept_at (tables_of old) place)) key spot →
+      tables_of new ≡ change_at place (λ t. remove t key) (tables_of old)
 
 -- a child row of one table that names the parent's key; none only where no row does
 abbrev pub IsRowOf : ChildRows → ℕ → List Value → Option (List Value) → Type 0
-IsRowOf c place key None = c.parent ≡ place → (child row : List Value) → get c.rows.table child ≡ Some row → key_of c.foreign row ≢ key
-IsRowOf c place key (Some row) = (c.parent ≡ place) × (get c.rows.table (key_of c.rows.places row) ≡ Some row) × (key_of c.foreign row ≡ key)
+IsRowOf c place key None =
+    c.parent ≡ place → (child row : List Value) → get c.rows.table child ≡ Some row → key_of c.foreign row ≢ key
+IsRowOf c place key (Some row) =
+    (c.parent ≡ place) × (get c.rows.table (key_of c.rows.places row) ≡ Some row) × (key_of c.foreign row ≡ key)
 
 -- the tables and their keys stay, and how they are joined
 pub record KeepsTree (old new : TreeRows) : Type 0 where
   pub places : new.roots.places ≡ old.roots.places
+  pub foreign : new.roots.foreign ≡ old.roots.foreign
   pub layers : layers_of new ≡ layers_of old
   pub joined : AreJoined old → AreJoined new

@@ -1,7 +1,7 @@
--- The rows of a root table, and their keys in the order of last use. (TimesTen Cache User's Guide, "Implementing aging in
--- a cache group".)
+-- The rows of a root table, and their keys in the order of last use. (TimesTen Cache User's Guide, "Implementing aging
+-- in a cache group".)
 use Rattle.std.specs.Prelude.{◌≡◌, ℕ, List, [], ◌∷◌, ◌++◌, Option, Some, None, false, nat_eq, map, unwrap_or, refl, if◌then◌else◌}
-use Rattle.std.specs.List.{list_any}
+use Rattle.std.specs.List.{filter, list_any}
 use Rattle.std.specs.Coded.{Coded, code_by, coded×, coded_list, coded_ℕ}
 use Rattle.std.specs.FinMap as fm
 use Rattle.row_types.specs.declared.value.Value.{Value}
@@ -9,20 +9,46 @@ use Rattle.row_types.specs.contracts.value.Value as one
 use Rattle.key_rows.specs.Places.{IsKeyAt}
 use Rattle.indexed_rows.specs.Rows.{Table, is_same}
 use Rattle.recency.specs.Rings.{keys_without}
-use Rattle.slot_rows.specs.SlotKeys.{SlotKeys}
+use Rattle.slot_rows.specs.SlotKeys.{RowsHeld, SlotKeys}
 
--- what clauses see: the rows by key, the columns of the key, the keys with the oldest first, and how many more rows go in
--- without memory
+-- what clauses see: the rows by key, the columns of the key, those of the foreign key, the keys with the oldest first,
+-- and how many more rows go in without memory
 pub record RecentHeld : Type 0 where
   pub table : Table
   pub places : List ℕ
+  pub foreign : List ℕ
   pub keys : List (List Value)
   pub spare : ℕ
 
+abbrev pub row_code : Coded (List Value)
+row_code = coded_list one.the_row.coded
+
 abbrev pub recent_held_code : Coded RecentHeld
 recent_held_code =
-    code_by (Table × (List ℕ × (List (List Value) × ℕ))) (coded× (fm.code (coded_list one.the_row.coded) (coded_list one.the_row.coded)) (coded× (coded_list coded_ℕ) (coded× (coded_list (coded_list one.the_row.coded)) coded_ℕ)))
-    (λ h. (h.table, (h.places, (h.keys, h.spare)))) (λ p. record { table = p.0; places = p.1.0; keys = p.1.1.0; spare = p.1.1.1 }) (λ _. refl)
+    code_by (Table × (List ℕ × (List ℕ × (List (List Value) × ℕ))))
+    (coded× (fm.code row_code row_code)
+    (coded× (coded_list coded_ℕ) (coded× (coded_list coded_ℕ) (coded× (coded_list row_code) coded_ℕ))))
+    (λ h. (h.table, (h.places, (h.foreign, (h.keys, h.spare)))))
+    (λ p. record { table = p.0; places = p.1.0; foreign = p.1.1.0; keys = p.1.1.1.0; spare = p.1.1.1.1 }) (λ _. refl)
+
+-- the orders beside the one by key: where there is a foreign key, one by its columns and then the key's
+abbrev pub orders_for : List ℕ → List ℕ → List (List ℕ)
+orders_for [] places = []
+orders_for (column ∷ foreign) places = ((column ∷ foreign) ++ places) ∷ []
+
+-- there are no rows, and these orders
+pub record HasOrders (primary columns : List ℕ) (held : RowsHeld) : Type 0 where
+  pub table : held.table ≡ fm.empty
+  pub slots : held.slots ≡ fm.empty
+  pub places : held.places ≡ primary
+  pub orders : held.orders ≡ orders_for columns primary
+
+-- there are no rows of these keys
+pub record HasNoRows (primary columns : List ℕ) (held : RecentHeld) : Type 0 where
+  pub table : held.table ≡ fm.empty
+  pub places : held.places ≡ primary
+  pub foreign : held.foreign ≡ columns
+  pub keys : held.keys ≡ []
 
 -- the key of the row in a slot
 abbrev pub key_in : SlotKeys → ℕ → List Value
@@ -34,6 +60,10 @@ keys_of slots recent = map (key_in slots) recent
 -- the slots of a list are those that have rows
 abbrev pub AreRecent : SlotKeys → List ℕ → Type 0
 AreRecent slots recent = (s : ℕ) → list_any (nat_eq s) recent ≡ fm.contains_key slots s
+
+-- no slot stands twice
+abbrev pub AreOnce : List ℕ → Type 0
+AreOnce recent = (s : ℕ) → filter (nat_eq s) recent ≡ (if list_any (nat_eq s) recent then s ∷ [] else [])
 
 -- a key becomes the newest, where the table doesn't have it yet
 abbrev pub entered_last : Table → List Value → List (List Value) → List (List Value)

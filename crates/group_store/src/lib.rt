@@ -1,9 +1,17 @@
 //! What a cache group keeps: the rows of its tree of tables, and its root keys in the order of last use.
 #![tactic(auto)]
 
+mod columns;
+mod directory;
+pub mod laws;
 mod recent;
+mod shown;
 mod store;
+#[cfg(test)]
+mod tests;
 mod tree_rows;
 
+pub use directory::{Directory, Home};
 pub use recent::RecentRows;
+pub use shown::Shown;
 pub use store::Store;

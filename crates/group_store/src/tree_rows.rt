@@ -1,16 +1,18 @@
 //! The rows of a group's tree of tables.
 
-ghost use Rattle.std.specs.Prelude.{◌≡◌, ◌≤◌, ◌<◌, ◌+◌, ◌++◌, ◌∷◌, [], Some, MatchOption, OnOk, length, option_copied, if◌then◌else◌, nat_eq};
+ghost use Rattle.std.specs.Prelude.{◌≡◌, ◌≤◌, ◌<◌, ◌+◌, ◌^◌, ◌++◌, ◌∷◌, [], Some, slice_get, MatchOption, OnOk, length, option_copied, if◌then◌else◌, nat_eq};
 ghost use Rattle.std.specs.FinMap as map;
 ghost use Rattle.indexed_rows.specs.Rows.{is_same, key_of, put_in, put_over};
 ghost use Rattle.instances.specs.Views.{kept_at};
 ghost use Rattle.recency.specs.Rings.{keys_without};
 ghost use Rattle.cache_store.specs.Operating.{change_at};
+ghost use Rattle.slot_rows.specs.Orders.{place_from};
 ghost use Rattle.slot_rows.specs.SlotKeys.{IsKeyedBy};
 ghost use Rattle.group_store.specs.Recent.{IsRowPlace, entered_last};
-ghost use Rattle.group_store.specs.Trees.{CanGo, IsBare, IsChild, IsChildless, IsLeaf, cut_from};
-ghost use Rattle.group_store.specs.Joined.{AreJoined, IsRowOf, KeepsTree, TakesChild, layers_of, least_spare, places_at, tables_of};
+ghost use Rattle.group_store.specs.Trees.{all_empty, CanGo, IsBare, IsChild, IsChildless, IsLeaf, cut_from};
+ghost use Rattle.group_store.specs.Joined.{AreJoined, IsRowOf, KeepsTree, TakesChild, foreign_there, layers_of, least_spare, places_at, tables_of};
 
+use crate::columns::place_of_child;
 use crate::recent::RecentRows;
 use row_types::{Row, Value};
 use slot_rows::SlotRows;
@@ -104,6 +106,46 @@ impl TreeRows {
         rows.get(key)
     }
 
+    // How many rows the table at a place has. Each stands under its key.
+    pub(crate) fn len(&self, place: usize) -> usize
+        requires { place ≤ length self.now.children.items }
+        ensures value { result ≡ map.len (kept_at (tables_of self.now) place) }
+        ensures fits { result < 2 ^ 63 }
+        ensures keyed { IsKeyedBy (places_at self.now place) (kept_at (tables_of self.now) place) }
+    {
+        if place == 0 {
+            return self.roots.len();
+        }
+        self.children[place - 1].rows.len()
+    }
+
+    // The row at a place in key order of the table at a place, where there is one.
+    pub(crate) fn row(&self, place: usize, at: usize) -> Option<&Row>
+        requires { place ≤ length self.now.children.items }
+        ensures { option_copied result ≡ slice_get (map.values (kept_at (tables_of self.now) place)) at }
+    {
+        if at >= self.len(place) {
+            return None;
+        }
+        if place == 0 {
+            return self.roots.row_at(at);
+        }
+        self.children[place - 1].rows.row_at(at)
+    }
+
+    // The first place in key order, from a place on, of a row of the table at a place that refers to a key.
+    pub(crate) fn child(&self, place: usize, key: &[Value], from: usize) -> Option<usize>
+        requires joined { AreJoined self.now }
+        requires within { place ≤ length self.now.children.items }
+        ensures { result ≡ place_from (kept_at (tables_of self.now) place) (foreign_there self.now place) key.now from }
+    {
+        if place == 0 {
+            return self.roots.child(key, from);
+        }
+        let child = &self.children[place - 1];
+        place_of_child(&child.rows, child.foreign.as_slice(), key, from)
+    }
+
     // The place in key order of the row that has another row's key in the table at a place.
     pub(crate) fn spot_of(&self, place: usize, row: &Row) -> Option<usize>
         requires { place ≤ length self.now.children.items }
@@ -119,7 +161,10 @@ impl TreeRows {
     fn child_of(&self, place: usize, row: &Row) -> Option<Found<'_>>
         requires joined { AreJoined self.now }
         requires within { place ≤ length self.now.children.items }
-        ensures { MatchOption result (IsChildless (layers_of self.now) (tables_of self.now) place (key_of (places_at self.now place) row.now)) (λ found. IsChild (layers_of self.now) (tables_of self.now) place (key_of (places_at self.now place) row.now) found.place found.row.now) }
+        ensures { MatchOption result (IsChildless (layers_of self.now) (tables_of self.now) place
+            (key_of (places_at self.now place) row.now))
+            (λ found. IsChild (layers_of self.now) (tables_of self.now) place
+            (key_of (places_at self.now place) row.now) found.place found.row.now) }
     {
         let columns = self.places(place);
         for (at, child) in self.children.iter().enumerate() {
@@ -135,8 +180,10 @@ impl TreeRows {
     fn leaf<'a>(&'a self, place: usize, row: &'a Row) -> Found<'a>
         requires joined { AreJoined self.now }
         requires within { place ≤ length self.now.children.items }
-        requires found { map.get (kept_at (tables_of self.now) place) (key_of (places_at self.now place) row.now) ≡ Some row.now }
-        ensures { IsLeaf self.now.roots.places (layers_of self.now) (tables_of self.now) place (key_of (places_at self.now place) row.now) result.place result.row.now }
+        requires found { map.get (kept_at (tables_of self.now) place)
+            (key_of (places_at self.now place) row.now) ≡ Some row.now }
+        ensures { IsLeaf self.now.roots.places (layers_of self.now) (tables_of self.now) place
+            (key_of (places_at self.now place) row.now) result.place result.row.now }
     {
         match self.child_of(place, row) {
             None => Found { place, row },
@@ -144,11 +191,13 @@ impl TreeRows {
         }
     }
 
-    // Of the rows that lead to the one at the top, one that no row refers to: the place of its table, and its place there.
+    // Of the rows that lead to the one at the top, one that no row refers to: the place of its table, and its place
+    // there.
     fn lowest(&self, top: usize, key: &[Value]) -> Option<(usize, usize)>
         requires joined { AreJoined self.now }
         requires within { top ≤ length self.now.children.items }
-        ensures { MatchOption result (IsBare (layers_of self.now) (tables_of self.now) top key.now) (λ spot. CanGo (layers_of self.now) (tables_of self.now) top key.now spot.0 spot.1) }
+        ensures { MatchOption result (IsBare (layers_of self.now) (tables_of self.now) top key.now)
+            (λ spot. CanGo (layers_of self.now) (tables_of self.now) top key.now spot.0 spot.1) }
     {
         match self.get(top, key) {
             None => None,
@@ -165,13 +214,16 @@ impl TreeRows {
         }
     }
 
-    // Puts a row into the table at a place where its key has none there, as the newest of the root's. It takes no memory.
+    // Puts a row into the table at a place where its key has none there, as the newest of the root's. It takes no
+    // memory.
     pub(crate) fn put(&mut self, place: usize, row: Row)
         requires within { place ≤ length self.old.children.items }
         requires room { 0 < least_spare self.old }
-        ensures tables { tables_of self.new ≡ change_at place (λ t. put_in t (key_of (places_at self.old place) row) row) (tables_of self.old) }
+        ensures tables { tables_of self.new ≡
+            change_at place (λ t. put_in t (key_of (places_at self.old place) row) row) (tables_of self.old) }
         ensures same { KeepsTree self.old self.new }
-        ensures keys { self.new.roots.keys ≡ (if nat_eq place 0 then entered_last self.old.roots.table (key_of self.old.roots.places row) self.old.roots.keys else self.old.roots.keys) }
+        ensures keys { self.new.roots.keys ≡ (if nat_eq place 0 then entered_last self.old.roots.table
+            (key_of self.old.roots.places row) self.old.roots.keys else self.old.roots.keys) }
         ensures spare { least_spare self.old ≤ least_spare self.new + 1 }
     {
         if place == 0 {
@@ -185,7 +237,8 @@ impl TreeRows {
     pub(crate) fn replace(&mut self, place: usize, row: Row)
         requires within { place ≤ length self.old.children.items }
         requires room { 0 < least_spare self.old }
-        ensures tables { tables_of self.new ≡ change_at place (λ t. put_over t (key_of (places_at self.old place) row) row) (tables_of self.old) }
+        ensures tables { tables_of self.new ≡
+            change_at place (λ t. put_over t (key_of (places_at self.old place) row) row) (tables_of self.old) }
         ensures same { KeepsTree self.old self.new }
         ensures keys { self.new.roots.keys ≡ self.old.roots.keys }
         ensures spare { least_spare self.old ≤ least_spare self.new + 1 }
@@ -200,9 +253,12 @@ impl TreeRows {
     // Takes out the row that has another row's key in the table at a place. It takes no memory.
     pub(crate) fn take(&mut self, place: usize, row: &Row)
         requires { place ≤ length self.old.children.items }
-        ensures tables { tables_of self.new ≡ change_at place (λ t. map.remove t (key_of (places_at self.old place) row.now)) (tables_of self.old) }
+        ensures tables { tables_of self.new ≡
+            change_at place (λ t. map.remove t (key_of (places_at self.old place) row.now)) (tables_of self.old) }
         ensures same { KeepsTree self.old self.new }
-        ensures keys { self.new.roots.keys ≡ (if nat_eq place 0 then keys_without is_same (key_of self.old.roots.places row.now) self.old.roots.keys else self.old.roots.keys) }
+        ensures keys { self.new.roots.keys ≡
+            (if nat_eq place 0 then keys_without is_same (key_of self.old.roots.places row.now) self.old.roots.keys
+            else self.old.roots.keys) }
         ensures spare { least_spare self.old ≤ least_spare self.new }
     {
         if place == 0 {
@@ -229,6 +285,18 @@ impl TreeRows {
         Ok(())
     }
 
+    // Takes out all rows. It takes no memory.
+    pub(crate) fn clear(&mut self, alloc: Global)
+        ensures tables { tables_of self.new ≡ all_empty (tables_of self.old) }
+        ensures same { KeepsTree self.old self.new }
+        ensures keys { self.new.roots.keys ≡ [] }
+    {
+        self.roots.clear(alloc);
+        for place in 0..self.children.len() {
+            self.children[place].rows.clear(alloc);
+        }
+    }
+
     // Takes out the row at a place in key order of a child table. It takes no memory.
     fn take_child(&mut self, place: usize, spot: usize)
         requires child { 0 < place }
@@ -240,32 +308,36 @@ impl TreeRows {
     }
 
     // Takes out the row of a key in the table at a place. It takes no memory.
-    fn take_key(&mut self, place: usize, key: &[Value])
+    fn take_key(&mut self, place: usize, key: &[Value]) -> Option<Row>
         requires { place ≤ length self.old.children.items }
+        ensures row { place ≡ 0 → result ≡ map.get self.old.roots.table key.now }
         ensures tables { tables_of self.new ≡ change_at place (λ t. map.remove t key.now) (tables_of self.old) }
         ensures same { KeepsTree self.old self.new }
-        ensures keys { self.new.roots.keys ≡ (if nat_eq place 0 then keys_without is_same key.now self.old.roots.keys else self.old.roots.keys) }
+        ensures keys { self.new.roots.keys ≡
+            (if nat_eq place 0 then keys_without is_same key.now self.old.roots.keys else self.old.roots.keys) }
         ensures spare { least_spare self.old ≤ least_spare self.new }
     {
         if place == 0 {
-            let _ = self.roots.remove(key);
+            self.roots.remove(key)
         } else {
-            let _ = self.children[place - 1].rows.remove(key);
+            self.children[place - 1].rows.remove(key)
         }
     }
 
     // Takes out the row of a key in the table at a place, and all rows that lead to it. It takes no memory.
-    pub(crate) fn cut(&mut self, top: usize, key: &[Value])
+    pub(crate) fn cut(&mut self, top: usize, key: &[Value]) -> Option<Row>
         requires joined { AreJoined self.old }
         requires within { top ≤ length self.old.children.items }
+        ensures row { top ≡ 0 → result ≡ map.get self.old.roots.table key.now }
         ensures tables { tables_of self.new ≡ cut_from (layers_of self.old) (tables_of self.old) top key.now }
         ensures same { KeepsTree self.old self.new }
-        ensures keys { self.new.roots.keys ≡ (if nat_eq top 0 then keys_without is_same key.now self.old.roots.keys else self.old.roots.keys) }
+        ensures keys { self.new.roots.keys ≡ (if nat_eq top 0 then keys_without is_same key.now self.old.roots.keys else
+            self.old.roots.keys) }
         ensures spare { least_spare self.old ≤ least_spare self.new }
     {
         while let Some((place, spot)) = self.lowest(top, key) {
             self.take_child(place, spot);
         }
-        self.take_key(top, key);
+        self.take_key(top, key)
     }
 }

@@ -14,8 +14,9 @@ use Rattle.row_types.proofs.OrderLaws.{key_exact, key_total, order_total}
 use Rattle.key_rows.proofs.MapLaws.{entries_of}
 use Rattle.key_rows.proofs.Sorted.{sorted_tail}
 use Rattle.indexed_rows.specs.Rows.{Table, key_of, put_over}
+use Rattle.indexed_rows.proofs.EntryLaws.{same_values}
 use Rattle.slot_rows.specs.Leads.{lead_first, lead_of}
-use Rattle.slot_rows.specs.Orders.{AllIn, Each, IsOther, IsRowWith, IsSlotWith, IsWider}
+use Rattle.slot_rows.specs.Orders.{AllIn, Each, EachNow, EmptiesOrder, IsOther, IsRowWith, IsSlotWith, IsWider}
 use Rattle.slot_rows.specs.Slots.{AreOrdered, entries_in, entry_in, row_in, slots_of, table_in}
 use Rattle.slot_rows.specs.declared.order.Entry.{Entry}
 use Rattle.slot_rows.specs.declared.order.Order.{Order}
@@ -64,7 +65,7 @@ front_rises (a ∷ x) (b ∷ y) (w ∷ v) less = by (order_of a b) refl less (fr
     by Equal e f rest = same_then (order_of a w) (order_of b w) _ _ (order_total.congr a b w e) (rest f)
     by Greater e f rest = cc
 
-front_key : (n : ℕ) (places : List ℕ) (row : Row) → take n (key_of places row) ≡ key_of (take n places) row
+pub front_key : (n : ℕ) (places : List ℕ) (row : Row) → take n (key_of places row) ≡ key_of (take n places) row
 front_key zero places row = refl
 front_key (suc n) [] row = refl
 front_key (suc n) (p ∷ places) row = ap (λ l. key_of (p ∷ []) row ++ l) (front_key n places row)
@@ -129,15 +130,15 @@ module _ (slab : Slab Row) (places : List ℕ) (entries : List Entry) (are : Are
 
 -- the slot of a row of the table
 module _ (slab : Slab Row) (places : List ℕ) (key row : Row) where
-  find_slot : (slots : List ℕ) → fm.find key_order key (entries_in slab places slots) ≡ Some row → (j : ℕ) × (slot : ℕ) × (slice_get slots j ≡ Some slot) × (row_in slab slot ≡ row)
+  pub find_slot : (slots : List ℕ) → fm.find key_order key (entries_in slab places slots) ≡ Some row → (j : ℕ) × (slot : ℕ) × (slice_get slots j ≡ Some slot) × (row_in slab slot ≡ row) × (key_of places (row_in slab slot) ≡ key)
   find_slot [] e = cc
-  find_slot (s ∷ slots) e = by (eq_by_cmp key_order key (key_of places (row_in slab s))) e (find_slot slots)
+  find_slot (s ∷ slots) e = by (eq_by_cmp key_order key (key_of places (row_in slab s))) refl e (find_slot slots)
     where
-      by : (b : Bool) → cond b (Some (row_in slab s)) (fm.find key_order key (entries_in slab places slots)) ≡ Some row
-          → (fm.find key_order key (entries_in slab places slots) ≡ Some row → (j : ℕ) × (slot : ℕ) × (slice_get slots j ≡ Some slot) × (row_in slab slot ≡ row))
-          → (j : ℕ) × (slot : ℕ) × (slice_get (s ∷ slots) j ≡ Some slot) × (row_in slab slot ≡ row)
-      by true e rest = (0, s, refl, (let z : row_in slab s ≡ row = cc in z))
-      by false e rest = let r = rest e in (suc r.0, r.1, r.2, r.3)
+      by : (b : Bool) → eq_by_cmp key_order key (key_of places (row_in slab s)) ≡ b → cond b (Some (row_in slab s)) (fm.find key_order key (entries_in slab places slots)) ≡ Some row
+          → (fm.find key_order key (entries_in slab places slots) ≡ Some row → (j : ℕ) × (slot : ℕ) × (slice_get slots j ≡ Some slot) × (row_in slab slot ≡ row) × (key_of places (row_in slab slot) ≡ key))
+          → (j : ℕ) × (slot : ℕ) × (slice_get (s ∷ slots) j ≡ Some slot) × (row_in slab slot ≡ row) × (key_of places (row_in slab slot) ≡ key)
+      by true t e rest = (0, s, refl, (let z : row_in slab s ≡ row = cc in z), sym (same_values key (key_of places (row_in slab s)) t))
+      by false t e rest = let r = rest e in (suc r.0, r.1, r.2, r.3, r.4)
 
 -- the slot found in another order is that of a row of the table
 module _ (slab : Slab Row) (places : List ℕ) (entries : List Entry) (are : AreOrdered slab places entries) (spare : ℕ) (order : Order) (is : IsOther slab places entries spare order) (columns : List ℕ) (values : Row) where
@@ -194,3 +195,16 @@ first_order slab places entries spare order none empty wider room = record {
   wider = wider;
   room = room;
 }
+
+pub none_ordered : (slab : Slab Row) (places : List ℕ) (entries : List Entry) → entries ≡ [] → AreOrdered slab places entries
+none_ordered slab places entries empty = subst (AreOrdered slab places) (sym empty) (record { slots = record { live = λ i s e. cc; sorted = tt }; led = λ i e x. cc })
+
+-- all orders lose their slots
+pub each_emptied : (slab new : Slab Row) (places : List ℕ) (entries now : List Entry) (spare : ℕ) → now ≡ [] → (orders after : List Order) → Each (IsOther slab places entries spare) orders → EachNow EmptiesOrder orders after → Each (IsOther new places now spare) after
+each_emptied slab new places entries now spare none [] [] is e = tt
+each_emptied slab new places entries now spare none [] (a ∷ after) is e = absurd e
+each_emptied slab new places entries now spare none (o ∷ orders) [] is e = absurd e
+each_emptied slab new places entries now spare none (o ∷ orders) (a ∷ after) is e = (
+  first_order new places now spare a none e.0.entries (subst (λ ps. IsWider ps places) (sym e.0.places) is.0.wider) (subst (λ r. spare ≤ length r.items) (sym e.0.room) is.0.room),
+  each_emptied slab new places entries now spare none orders after is.1 e.1,
+)

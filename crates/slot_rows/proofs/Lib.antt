@@ -3,4 +3,5 @@ mod SlotLaws
 mod OrderLaws
 mod ManyLaws
 mod FrontLaws
+mod NextLaws
 pub mod SlotKeyLaws

@@ -24,7 +24,7 @@ abbrev Row : Type 0
 Row = List Value
 
 -- keys by more columns
-key_of_append : (xs ys : List ℕ) (row : Row) → key_of (xs ++ ys) row ≡ key_of xs row ++ key_of ys row
+pub key_of_append : (xs ys : List ℕ) (row : Row) → key_of (xs ++ ys) row ≡ key_of xs row ++ key_of ys row
 key_of_append [] ys row = refl
 key_of_append (x ∷ xs) ys row = ap (λ l. unwrap_or (slice_get row x) Null ∷ l) (key_of_append xs ys row)
 
@@ -93,7 +93,7 @@ same_slot slab places (s ∷ slots) h (suc i) (suc j) a b x y e = same_slot slab
 
 -- the entries of the map are those of the order
 module _ (slab : Slab Row) (places : List ℕ) (entries : List Entry) (are : AreOrdered slab places entries) where
-  keys_are : fm.entries (table_in slab places entries) ≡ entries_in slab places (slots_of entries)
+  pub keys_are : fm.entries (table_in slab places entries) ≡ entries_in slab places (slots_of entries)
   keys_are = entries_of (entries_in slab places (slots_of entries)) (table_in slab places entries) are.slots.sorted refl
 
   pub slot_of_key : (k : Row) (j : ℕ) → IsKeyAt (fm.entries (table_in slab places entries)) k j → (slot : ℕ) × (slice_get (slots_of entries) j ≡ Some slot) × (key_of places (row_in slab slot) ≡ k)

@@ -1,5 +1,5 @@
 -- Entries in order: slots with leads.
-use Rattle.std.proofs.Common.{◌≡◌, ◌≢◌, ℕ, zero, suc, ◌<◌, List, [], ◌∷◌, length, get_or, slice_get, Option, Some, None, is_some, unwrap_or, true, false, cond, T, Result, IfOk, IfErr, refl, sym, ap, subst, ◌∙◌, inl, inr}
+use Rattle.std.proofs.Common.{◌≡◌, ◌≢◌, ℕ, zero, suc, ◌<◌, List, [], ◌∷◌, length, get_or, slice_get, Option, Some, None, is_some, unwrap_or, true, false, cond, T, Result, IfOk, IfErr, MatchResult, refl, sym, ap, subst, ◌∙◌, inl, inr}
 use Rattle.std.proofs.lemmas.List.{length-map}
 use Rattle.std.proofs.lemmas.Option.{slice_get-get_or}
 use Rattle.std.specs.List.{insert, remove}
@@ -9,8 +9,8 @@ use Rattle.slab.specs.Slab.{Slab, Updates, get}
 use Rattle.row_types.specs.declared.value.Value.{Value}
 use Rattle.row_types.specs.declared.value.Value.TheVariants.{Null}
 use Rattle.row_types.specs.Order.{key_order}
-use Rattle.key_rows.specs.Places.{IsGapFor, IsKeyAt}
-use Rattle.key_rows.proofs.MapLaws.{found_gap, found_key, goes_in, length_of, now_has, now_sorted, removed, slice_get_map}
+use Rattle.key_rows.specs.Places.{IsGapFor, IsKeyAt, IsSplitAt}
+use Rattle.key_rows.proofs.MapLaws.{found_gap, found_key, found_split, goes_in, length_of, now_has, now_sorted, removed, slice_get_map}
 use Rattle.slot_rows.specs.Leads.{lead, lead_first, lead_of}
 use Rattle.indexed_rows.specs.Rows.{Table, key_of, put_in}
 use Rattle.slot_rows.specs.Slots.{AreOrdered, AreSlots, entries_in, entry_in, row_in, slots_of, table_in}
@@ -72,6 +72,9 @@ module _ (slab : Slab Row) (places : List ℕ) (entries : List Entry) where
 
     pub sought_gap : IfErr r (IsGapFor (fm.entries (table_in slab places entries)) key)
     sought_gap = found_gap rows_of (table_in slab places entries) are.slots.sorted refl key r in_rows by_key
+
+    pub sought_split : MatchResult r (IsSplitAt (fm.entries (table_in slab places entries)) key) (IsSplitAt (fm.entries (table_in slab places entries)) key)
+    sought_split = found_split rows_of (table_in slab places entries) are.slots.sorted refl key r in_rows by_key
 
   -- the row at a place, and that of a key
   pub row_at_place : AreOrdered slab places entries → (i slot : ℕ) → i < length entries → slice_get (slots_of entries) i ≡ Some slot → get slab slot ≡ slice_get (fm.values (table_in slab places entries)) i

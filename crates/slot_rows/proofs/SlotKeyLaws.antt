@@ -130,8 +130,8 @@ module _ (slab : Slab Row) (places : List ℕ) (entries : List Entry) (are : Are
   got : (q : ℕ) → fm.get (slot_keys_in slab places entries) q ≡ fm.find nat_cmp q (slot_entries slab places (slots_of entries))
   got q = fm.get-from_entries nat_cmp_total (slot_entries slab places (slots_of entries)) q
 
-  slot_with : (slot : ℕ) (k : Row) → fm.get (slot_keys_in slab places entries) slot ≡ Some k → (j : ℕ) × (slice_get (slots_of entries) j ≡ Some slot) × (key_of places (row_in slab slot) ≡ k)
-  slot_with slot k e = which slab places (slots_of entries) slot k (sym (got slot) ∙ e)
+  slot_at_front : (slot : ℕ) (k : Row) → fm.get (slot_keys_in slab places entries) slot ≡ Some k → (j : ℕ) × (slice_get (slots_of entries) j ≡ Some slot) × (key_of places (row_in slab slot) ≡ k)
+  slot_at_front slot k e = which slab places (slots_of entries) slot k (sym (got slot) ∙ e)
 
   pub key_there : (j slot : ℕ) → slice_get (slots_of entries) j ≡ Some slot → fm.get (slot_keys_in slab places entries) slot ≡ Some (key_of places (row_in slab slot))
   key_there j slot at = got slot ∙ is_there slab places (slots_of entries) j slot at
@@ -150,13 +150,13 @@ module _ (slab : Slab Row) (places : List ℕ) (entries : List Entry) (are : Are
   -- and is the only one
   pub only_slot : (k : Row) (j slot : ℕ) → slice_get (slots_of entries) j ≡ Some slot → key_of places (row_in slab slot) ≡ k → (other : ℕ) → fm.get (slot_keys_in slab places entries) other ≡ Some k → slot ≡ other
   only_slot k j slot at is other e =
-      let w = slot_with other k e in
+      let w = slot_at_front other k e in
       same_slot slab places (slots_of entries) are.slots.sorted j w.0 slot other at w.1 (is ∙ sym w.2)
 
   -- a key in a slot is in the table
   pub in_table : (slot : ℕ) (k : Row) → fm.get (slot_keys_in slab places entries) slot ≡ Some k → fm.contains_key (table_in slab places entries) k ≡ true
   in_table slot k e =
-      let w = slot_with slot k e in
+      let w = slot_at_front slot k e in
       has_key (table_in slab places entries) k w.0 (subst (λ x. IsKeyAt (fm.entries (table_in slab places entries)) x w.0) w.2 (key_of_slot slab places entries are w.0 slot w.1))
 
   pub no_slot : (k : Row) (at : ℕ) → IsGapFor (fm.entries (table_in slab places entries)) k at → (slot : ℕ) → fm.get (slot_keys_in slab places entries) slot ≡ Some k → ⊥
@@ -165,7 +165,7 @@ module _ (slab : Slab Row) (places : List ℕ) (entries : List Entry) (are : Are
   -- its row is that of the table
   pub slot_row : (slot : ℕ) (k : Row) → fm.get (slot_keys_in slab places entries) slot ≡ Some k → get slab slot ≡ fm.get (table_in slab places entries) k
   slot_row slot k e =
-      let w = slot_with slot k e in
+      let w = slot_at_front slot k e in
       row_at_key slab places entries are k w.0 slot (subst (λ n. w.0 < n) (same_len entries) (inside (slots_of entries) w.0 slot w.1)) w.1 (subst (λ x. IsKeyAt (fm.entries (table_in slab places entries)) x w.0) w.2 (key_of_slot slab places entries are w.0 slot w.1))
 
   -- a row goes into a slot

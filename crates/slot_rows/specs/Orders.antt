@@ -1,10 +1,12 @@
 -- Several orders of the same rows (this project's rule).
-use Rattle.std.specs.Prelude.{◌≡◌, ◌≢◌, ℕ, ◌+◌, ◌<◌, ◌≤◌, ◌^◌, ◌++◌, List, [], ◌∷◌, Option, None, Some, true, insert, remove, is_some, length, take, slice_get, slice_index_or}
+use Rattle.std.specs.Prelude.{◌≡◌, ◌≢◌, ℕ, ◌+◌, ◌<◌, ◌≤◌, ◌^◌, ◌++◌, List, [], ◌∷◌, Option, None, Some, true, All, drop, insert, remove, is_some, length, take, slice_get, slice_index_or}
+use Rattle.std.specs.declared.cmp.Ordering.TheVariants.{Less}
 use Rattle.std.specs.FinMap as fm
 use Rattle.slab.specs.Slab.{Slab, get}
 use Rattle.row_types.specs.declared.value.Value.{Value}
 use Rattle.key_rows.specs.Places.{IsKeyAt}
-use Rattle.indexed_rows.specs.Rows.{Table, key_of}
+use Rattle.row_types.specs.Order.{key_order}
+use Rattle.indexed_rows.specs.Rows.{Table, first_from, has_key, key_of}
 use Rattle.slot_rows.specs.Slots.{AreOrdered, row_in, slots_of, table_in}
 use Rattle.slot_rows.specs.declared.order.Entry.{Entry}
 use Rattle.slot_rows.specs.declared.order.Order.{Order}
@@ -30,7 +32,8 @@ abbrev pub IsWider : List ℕ → List ℕ → Type 0
 IsWider wide places = (columns : List ℕ) × (wide ≡ columns ++ places)
 
 -- another order has the same slots as the order by key, by some columns and then the key's, and room for as many more
-pub record IsOther (slab : Slab (List Value)) (places : List ℕ) (entries : List Entry) (spare : ℕ) (order : Order) : Type 0 where
+pub record IsOther
+    (slab : Slab (List Value)) (places : List ℕ) (entries : List Entry) (spare : ℕ) (order : Order) : Type 0 where
   pub ordered : AreOrdered slab order.places order.entries
   pub entered : AllIn (slots_of entries) (slots_of order.entries)
   pub only : AllIn (slots_of order.entries) (slots_of entries)
@@ -42,7 +45,8 @@ pub record IsOther (slab : Slab (List Value)) (places : List ℕ) (entries : Lis
 pub record Awaits (slab : Slab (List Value)) (slot : ℕ) (order : Order) : Type 0 where
   pub ordered : AreOrdered slab order.places order.entries
   pub live : is_some (get slab slot) ≡ true
-  pub absent : (i : ℕ) → IsKeyAt (fm.entries (table_in slab order.places order.entries)) (key_of order.places (row_in slab slot)) i → ⊥
+  pub absent : (i : ℕ) →
+      IsKeyAt (fm.entries (table_in slab order.places order.entries)) (key_of order.places (row_in slab slot)) i → ⊥
   pub fits : length order.entries + 1 < 2 ^ 63
   pub room : 0 < length order.room.items
 
@@ -72,17 +76,35 @@ pub record LeavesOrder (slot : ℕ) (old new : Order) : Type 0 where
 
 -- a slot whose row has these values at these columns; none where no row has
 abbrev pub IsSlotWith : Slab (List Value) → List ℕ → List ℕ → List Value → Option ℕ → Type 0
-IsSlotWith slab slots columns values None = (i slot : ℕ) → slice_get slots i ≡ Some slot → key_of columns (row_in slab slot) ≢ values
-IsSlotWith slab slots columns values (Some slot) = (i : ℕ) × (slice_get slots i ≡ Some slot) × (key_of columns (row_in slab slot) ≡ values)
+IsSlotWith slab slots columns values None =
+    (i slot : ℕ) → slice_get slots i ≡ Some slot → key_of columns (row_in slab slot) ≢ values
+IsSlotWith slab slots columns values (Some slot) =
+    (i : ℕ) × (slice_get slots i ≡ Some slot) × (key_of columns (row_in slab slot) ≡ values)
 
 -- a row of the table with these values at these columns; none where no row has
 abbrev pub IsRowWith : Table → List ℕ → List ℕ → List Value → Option (List Value) → Type 0
-IsRowWith table places columns values None = (key row : List Value) → fm.get table key ≡ Some row → key_of columns row ≢ values
-IsRowWith table places columns values (Some row) = (fm.get table (key_of places row) ≡ Some row) × (key_of columns row ≡ values)
+IsRowWith table places columns values None =
+    (key row : List Value) → fm.get table key ≡ Some row → key_of columns row ≢ values
+IsRowWith table places columns values (Some row) =
+    (fm.get table (key_of places row) ≡ Some row) × (key_of columns row ≡ values)
 
 -- so many columns at the front of another order's
 abbrev pub first_columns : List (List ℕ) → ℕ → ℕ → List ℕ
 first_columns orders order n = take n (slice_index_or orders order [])
+
+-- the first n keys of the table are below this one, and the others are not
+pub record IsStart (table : Table) (key : List Value) (n : ℕ) : Type 0 where
+  pub within : n ≤ fm.len table
+  pub below : All (λ other. key_order other key ≡ Less) (take n (fm.keys table))
+  pub at_least : All (λ other. key_order other key ≢ Less) (drop n (fm.keys table))
+
+-- the first place in key order, from a place on, of a row with these values at these columns
+abbrev pub place_from : Table → List ℕ → List Value → ℕ → Option ℕ
+place_from table columns values from = first_from (has_key columns values) from (drop from (fm.values table))
+
+-- so many columns stand before the key's in another order
+abbrev pub HasBefore : List (List ℕ) → ℕ → List ℕ → ℕ → Type 0
+HasBefore orders order places n = n + length places ≡ length (slice_index_or orders order [])
 
 -- the row of a key was taken out
 pub record TakesRow (old new : Table) (key : List Value) (row : Option (List Value)) : Type 0 where
@@ -94,6 +116,12 @@ pub record SameOrder (old new : Order) : Type 0 where
   pub places : new.places ≡ old.places
   pub entries : new.entries ≡ old.entries
   pub room : length old.room.items ≤ length new.room.items
+
+-- the order has no slots, and as much room
+pub record EmptiesOrder (old new : Order) : Type 0 where
+  pub places : new.places ≡ old.places
+  pub entries : new.entries ≡ []
+  pub room : new.room ≡ old.room
 
 abbrev pub HasSpare : ℕ → Order → Type 0
 HasSpare more order = more ≤ length order.room.items

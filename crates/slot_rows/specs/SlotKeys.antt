@@ -21,8 +21,8 @@ slot_entries slab places slots = map (λ s. (s, key_of places (row_in slab s))) 
 abbrev pub slot_keys_in : Slab (List Value) → List ℕ → List Entry → SlotKeys
 slot_keys_in slab places entries = fm.from_entries (slot_entries slab places (slots_of entries))
 
--- what clauses see: the rows by key, the columns of the key, those of each other order, the key of the row in each slot,
--- the slot that the next row gets, and how many more rows go in without memory
+-- what clauses see: the rows by key, the columns of the key, those of each other order, the key of the row in each
+-- slot, the slot that the next row gets, and how many more rows go in without memory
 pub record RowsHeld : Type 0 where
   pub table : Table
   pub places : List ℕ
@@ -31,11 +31,23 @@ pub record RowsHeld : Type 0 where
   pub vacant : ℕ
   pub spare : ℕ
 
+abbrev pub held_row_code : Coded (List Value)
+held_row_code = coded_list one.the_row.coded
+
 abbrev pub rows_held_code : Coded RowsHeld
 rows_held_code =
-    code_by (Table × (List ℕ × (List (List ℕ) × (SlotKeys × (ℕ × ℕ))))) (coded× (fm.code (coded_list one.the_row.coded) (coded_list one.the_row.coded)) (coded× (coded_list coded_ℕ) (coded× (coded_list (coded_list coded_ℕ)) (coded× (fm.code coded_ℕ (coded_list one.the_row.coded)) (coded× coded_ℕ coded_ℕ)))))
+    code_by (Table × (List ℕ × (List (List ℕ) × (SlotKeys × (ℕ × ℕ)))))
+    (coded× (fm.code held_row_code held_row_code) (coded× (coded_list coded_ℕ)
+    (coded× (coded_list (coded_list coded_ℕ)) (coded× (fm.code coded_ℕ held_row_code) (coded× coded_ℕ coded_ℕ)))))
     (λ h. (h.table, (h.places, (h.orders, (h.slots, (h.vacant, h.spare))))))
-    (λ p. record { table = p.0; places = p.1.0; orders = p.1.1.0; slots = p.1.1.1.0; vacant = p.1.1.1.1.0; spare = p.1.1.1.1.1 }) (λ _. refl)
+    (λ p. record {
+      table = p.0;
+      places = p.1.0;
+      orders = p.1.1.0;
+      slots = p.1.1.1.0;
+      vacant = p.1.1.1.1.0;
+      spare = p.1.1.1.1.1;
+    }) (λ _. refl)
 
 -- no other slot has the key
 abbrev pub IsOnlySlot : RowsHeld → List Value → Option ℕ → Type 0
@@ -44,7 +56,8 @@ IsOnlySlot held key slot = (other : ℕ) → fm.get held.slots other ≡ Some ke
 -- the slot of the key's row, where the key has one
 abbrev pub IsSlotOf : RowsHeld → List Value → Option ℕ → Type 0
 IsSlotOf held key None = (fm.contains_key held.table key ≡ false) × IsOnlySlot held key None
-IsSlotOf held key (Some slot) = (fm.contains_key held.table key ≡ true) × (fm.get held.slots slot ≡ Some key) × IsOnlySlot held key (Some slot)
+IsSlotOf held key (Some slot) =
+    (fm.contains_key held.table key ≡ true) × (fm.get held.slots slot ≡ Some key) × IsOnlySlot held key (Some slot)
 
 -- the place in key order of the key's row, where the key has one
 abbrev pub IsPlaceOf : RowsHeld → List Value → Option ℕ → Type 0
@@ -54,7 +67,9 @@ IsPlaceOf held key (Some place) = IsKeyAt (fm.entries held.table) key place
 -- a row of the key went into a slot that had none; or its key has a row already, and nothing did
 abbrev pub PutsInSlot : RowsHeld → RowsHeld → List Value → Option ℕ → Type 0
 PutsInSlot old new key None = (fm.contains_key old.table key ≡ true) × (new.slots ≡ old.slots)
-PutsInSlot old new key (Some slot) = (fm.contains_key old.table key ≡ false) × (fm.get old.slots slot ≡ None) × (new.slots ≡ fm.insert old.slots slot key) × (slot ≡ old.vacant)
+PutsInSlot old new key (Some slot) =
+    (fm.contains_key old.table key ≡ false) × (fm.get old.slots slot ≡ None) ×
+    (new.slots ≡ fm.insert old.slots slot key) × (slot ≡ old.vacant)
 
 -- the key's row left its slot, where the key had one, and the next row gets that slot
 abbrev pub LeavesSlot : RowsHeld → RowsHeld → List Value → Type 0

@@ -1,11 +1,10 @@
 //! Rows compared by their keys, where they lie.
 
-ghost use Rattle.std.specs.Prelude.{◌≡◌, slice_get, unwrap_or};
+ghost use Rattle.std.specs.Prelude.{◌≡◌, ◌++◌, slice_get, unwrap_or};
 ghost use Rattle.row_types.specs.declared.value.Value.TheVariants.{Null};
 ghost use Rattle.row_types.specs.Order.{key_order};
-ghost use Rattle.slot_rows.specs.Leads.{lead_first};
-ghost use Rattle.indexed_rows.specs.Rows.{key_of};
-ghost use Rattle.slot_rows.specs.Slots.{row_in};
+ghost use Rattle.indexed_rows.specs.Rows.{is_same, key_of};
+ghost use Rattle.slot_rows.specs.Slots.{entry_order, row_in};
 
 use crate::order::Entry;
 use long_list::Probe;
@@ -62,6 +61,41 @@ fn order_of_rows(places: &[usize], row: &[Value], columns: &[usize], other: &[Va
     }
 }
 
+// How the key of a row stands to some values with a row's values at some columns behind them.
+fn order_to_parts(
+    places: &[usize],
+    row: &[Value],
+    values: &[Value],
+    columns: &[usize],
+    other: &[Value],
+) -> Ordering
+    ensures { result ≡ key_order (key_of places.now row.now) (values.now ++ key_of columns.now other.now) }
+{
+    match values.split_first() {
+        None => order_of_rows(places, row, columns, other),
+        Some((value, values)) => match places.split_first() {
+            None => Ordering::Less,
+            Some((place, places)) => {
+                let null = Value::Null;
+                match order(value_at(row, *place, &null), value) {
+                    Ordering::Equal => order_to_parts(places, row, values, columns, other),
+                    decided => decided,
+                }
+            }
+        },
+    }
+}
+
+// Whether a row has a key.
+pub(crate) fn is_key_of(places: &[usize], row: &[Value], key: &[Value]) -> bool
+    ensures { result ≡ is_same (key_of places.now row.now) key.now }
+{
+    match order_to_key(places, row, key) {
+        Ordering::Equal => true,
+        _ => false,
+    }
+}
+
 pub(crate) fn values_in(rows: &Slab<Row>, slot: usize) -> &[Value]
     ensures { result.now ≡ row_in rows.now slot }
 {
@@ -81,7 +115,7 @@ pub(crate) struct ByKey<'a> {
 }
 
 impl<'a> Probe<Entry> for ByKey<'a> {
-    ghost order_gives = { λ sought entry. lead_first entry.lead sought.lead (key_order (key_of sought.places.now (row_in sought.rows.now entry.slot)) sought.key.now) };
+    ghost order_gives = { λ sought. entry_order sought.rows.now sought.places.now sought.lead sought.key.now };
 
     fn order(&self, entry: &Entry) -> Ordering {
         match entry.lead.cmp(&self.lead) {
@@ -105,7 +139,8 @@ pub(crate) struct ByRow<'a> {
 }
 
 impl<'a> Probe<Entry> for ByRow<'a> {
-    ghost order_gives = { λ sought entry. lead_first entry.lead sought.lead (key_order (key_of sought.places.now (row_in sought.rows.now entry.slot)) (key_of sought.places.now sought.row.now)) };
+    ghost order_gives = { λ sought. entry_order sought.rows.now sought.places.now sought.lead
+        (key_of sought.places.now sought.row.now) };
 
     fn order(&self, entry: &Entry) -> Ordering {
         match entry.lead.cmp(&self.lead) {
@@ -131,13 +166,43 @@ pub(crate) struct ByOther<'a> {
 }
 
 impl<'a> Probe<Entry> for ByOther<'a> {
-    ghost order_gives = { λ sought entry. lead_first entry.lead sought.lead (key_order (key_of sought.places.now (row_in sought.rows.now entry.slot)) (key_of sought.columns.now sought.row.now)) };
+    ghost order_gives = { λ sought. entry_order sought.rows.now sought.places.now sought.lead
+        (key_of sought.columns.now sought.row.now) };
 
     fn order(&self, entry: &Entry) -> Ordering {
         match entry.lead.cmp(&self.lead) {
             Ordering::Equal => order_of_rows(
                 self.places,
                 values_in(self.rows, entry.slot),
+                self.columns,
+                self.row,
+            ),
+            decided => decided,
+        }
+    }
+}
+
+// The entry of some values with a row's values at some columns behind them, whose lead is beside it.
+#[derive(Drop)]
+pub(crate) struct ByParts<'a> {
+    pub(crate) rows: &'a Slab<Row>,
+    pub(crate) places: &'a [usize],
+    pub(crate) values: &'a [Value],
+    pub(crate) columns: &'a [usize],
+    pub(crate) row: &'a [Value],
+    pub(crate) lead: u64,
+}
+
+impl<'a> Probe<Entry> for ByParts<'a> {
+    ghost order_gives = { λ sought. entry_order sought.rows.now sought.places.now sought.lead
+        (sought.values.now ++ key_of sought.columns.now sought.row.now) };
+
+    fn order(&self, entry: &Entry) -> Ordering {
+        match entry.lead.cmp(&self.lead) {
+            Ordering::Equal => order_to_parts(
+                self.places,
+                values_in(self.rows, entry.slot),
+                self.values,
                 self.columns,
                 self.row,
             ),

@@ -1,14 +1,14 @@
 //! An order of rows in slots.
 
-ghost use Rattle.std.specs.Prelude.{◌≡◌, ◌≤◌, ◌<◌, ◌+◌, ◌^◌, [], length, IfOk, IfErr, OnOk, Some, slice_get, take, insert, remove};
+ghost use Rattle.std.specs.Prelude.{◌≡◌, ◌≤◌, ◌<◌, ◌+◌, ◌^◌, ◌++◌, [], length, IfOk, IfErr, OnOk, Some, slice_get, take, insert, remove};
 ghost use Rattle.std.specs.List.Sorted.{IsSearchInRange};
 ghost use Rattle.std.specs.FinMap as map;
 ghost use Rattle.key_rows.specs.Places.{IsGapFor, IsKeyAt};
 ghost use Rattle.indexed_rows.specs.Rows.{key_of};
-ghost use Rattle.slot_rows.specs.Orders.{Awaits, EntersOrder, Includes, IsSlotWith, SameOrder, LeavesOrder};
-ghost use Rattle.slot_rows.specs.Slots.{AreOrdered, slots_of, table_in};
+ghost use Rattle.slot_rows.specs.Orders.{Awaits, EmptiesOrder, EntersOrder, Includes, IsSlotWith, IsStart, SameOrder, LeavesOrder};
+ghost use Rattle.slot_rows.specs.Slots.{AreOrdered, slot_at_front, slots_of, table_in};
 
-use crate::compare::{ByKey, ByOther, ByRow, values_in};
+use crate::compare::{ByKey, ByOther, ByParts, ByRow, is_key_of, values_in};
 use crate::lead::{lead_of_key, lead_of_row};
 use long_list::{LongList, Spare};
 use row_types::{Row, Value};
@@ -57,8 +57,10 @@ impl Order {
     pub(crate) fn search(&self, rows: &Slab<Row>, key: &[Value]) -> Result<usize, usize>
         requires { AreOrdered rows.now self.now.places self.now.entries }
         ensures bound { IsSearchInRange result (length self.now.entries) }
-        ensures found { IfOk result (IsKeyAt (map.entries (table_in rows.now self.now.places self.now.entries)) key.now) }
-        ensures absent { IfErr result (IsGapFor (map.entries (table_in rows.now self.now.places self.now.entries)) key.now) }
+        ensures found { IfOk result (IsKeyAt (map.entries
+            (table_in rows.now self.now.places self.now.entries)) key.now) }
+        ensures absent { IfErr result (IsGapFor (map.entries
+            (table_in rows.now self.now.places self.now.entries)) key.now) }
     {
         self.entries.search(&ByKey {
             rows,
@@ -71,8 +73,10 @@ impl Order {
     pub(crate) fn search_row(&self, rows: &Slab<Row>, row: &[Value]) -> Result<usize, usize>
         requires { AreOrdered rows.now self.now.places self.now.entries }
         ensures bound { IsSearchInRange result (length self.now.entries) }
-        ensures found { IfOk result (IsKeyAt (map.entries (table_in rows.now self.now.places self.now.entries)) (key_of self.now.places row.now)) }
-        ensures absent { IfErr result (IsGapFor (map.entries (table_in rows.now self.now.places self.now.entries)) (key_of self.now.places row.now)) }
+        ensures found { IfOk result (IsKeyAt (map.entries (table_in rows.now self.now.places self.now.entries))
+            (key_of self.now.places row.now)) }
+        ensures absent { IfErr result (IsGapFor (map.entries (table_in rows.now self.now.places self.now.entries))
+            (key_of self.now.places row.now)) }
     {
         let places = self.places.as_slice();
         self.entries.search(&ByRow {
@@ -88,7 +92,8 @@ impl Order {
         requires ordered { AreOrdered rows.now self.now.places self.now.entries }
         requires some { 0 < length values.now }
         requires columns { length values.now ≤ length self.now.places }
-        ensures { IsSlotWith rows.now (slots_of self.now.entries) (take (length values.now) self.now.places) values.now result }
+        ensures { IsSlotWith rows.now (slots_of self.now.entries)
+            (take (length values.now) self.now.places) values.now result }
     {
         let (places, _) = self.places.as_slice().split_at(values.len());
         match self.entries.search(&ByKey {
@@ -112,7 +117,8 @@ impl Order {
         requires ordered { AreOrdered rows.now self.now.places self.now.entries }
         requires some { 0 < length columns.now }
         requires columns { length columns.now ≤ length self.now.places }
-        ensures { IsSlotWith rows.now (slots_of self.now.entries) (take (length columns.now) self.now.places) (key_of columns.now row.now) result }
+        ensures { IsSlotWith rows.now (slots_of self.now.entries) (take (length columns.now) self.now.places)
+            (key_of columns.now row.now) result }
     {
         let (places, _) = self.places.as_slice().split_at(columns.len());
         match self.entries.search(&ByOther {
@@ -124,6 +130,55 @@ impl Order {
         }) {
             Ok(at) => Some(self.slot_at(at)),
             Err(_) => None,
+        }
+    }
+
+    // The place of the first entry that isn't below some values with a row's values at some columns behind them.
+    pub(crate) fn first_at_least(
+        &self,
+        rows: &Slab<Row>,
+        values: &[Value],
+        columns: &[usize],
+        row: &[Value],
+    ) -> usize
+        requires ordered { AreOrdered rows.now self.now.places self.now.entries }
+        requires some { 0 < length values.now }
+        ensures { IsStart (table_in rows.now self.now.places self.now.entries)
+            (values.now ++ key_of columns.now row.now) result }
+    {
+        match self.entries.search(&ByParts {
+            rows,
+            places: self.places.as_slice(),
+            values,
+            columns,
+            row,
+            lead: lead_of_key(values),
+        }) {
+            Ok(place) => place,
+            Err(place) => place,
+        }
+    }
+
+    // The slot at a place, where there is one and its row has these values at the first columns.
+    pub(crate) fn slot_at_front(
+        &self,
+        rows: &Slab<Row>,
+        place: usize,
+        values: &[Value],
+    ) -> Option<usize>
+        requires { length values.now ≤ length self.now.places }
+        ensures { result ≡ slot_at_front rows.now (take (length values.now) self.now.places) values.now
+            (slice_get (slots_of self.now.entries) place) }
+    {
+        if place >= self.entries.len() {
+            return None;
+        }
+        let (places, _) = self.places.as_slice().split_at(values.len());
+        let slot = self.slot_at(place);
+        if is_key_of(places, values_in(rows, slot), values) {
+            Some(slot)
+        } else {
+            None
         }
     }
 
@@ -174,6 +229,13 @@ impl Order {
         ensures room { self.new.room ≡ self.old.room }
     {
         self.entries.remove(place).slot
+    }
+
+    // Takes out all slots. It takes no memory.
+    pub(crate) fn clear(&mut self, alloc: Global)
+        ensures { EmptiesOrder self.old self.new }
+    {
+        self.entries = LongList::new(alloc);
     }
 
     // Enters a slot with a row where it goes. It takes no memory.

@@ -1,7 +1,7 @@
 //! Several orders of the same rows.
 
 ghost use Rattle.std.specs.Prelude.{OnOk};
-ghost use Rattle.slot_rows.specs.Orders.{Awaits, Each, EachNow, EntersOrder, HasSpare, Includes, SameOrder, LeavesOrder};
+ghost use Rattle.slot_rows.specs.Orders.{Awaits, Each, EachNow, EmptiesOrder, EntersOrder, HasSpare, Includes, SameOrder, LeavesOrder};
 
 use crate::order::Order;
 use row_types::Row;
@@ -52,6 +52,19 @@ fn leave_each(orders: &mut [Order], rows: &Slab<Row>, slot: usize)
     }
 }
 
+// Takes all slots out of each. It takes no memory.
+fn clear_each(orders: &mut [Order], alloc: Global)
+    ensures { EachNow EmptiesOrder orders.old orders.new }
+{
+    match orders.split_first_mut() {
+        None => {}
+        Some((order, orders)) => {
+            order.clear(alloc);
+            clear_each(orders, alloc);
+        }
+    }
+}
+
 // Makes room in all until there is room for so many more slots.
 //
 // It fails for want of memory alone.
@@ -80,4 +93,11 @@ pub(crate) fn leave_all(orders: &mut Vec<Order>, rows: &Slab<Row>, slot: usize)
     ensures { EachNow (LeavesOrder slot) orders.old.items orders.new.items }
 {
     leave_each(orders.as_mut_slice(), rows, slot);
+}
+
+// Takes all slots out of all. It takes no memory.
+pub(crate) fn clear_all(orders: &mut Vec<Order>, alloc: Global)
+    ensures { EachNow EmptiesOrder orders.old.items orders.new.items }
+{
+    clear_each(orders.as_mut_slice(), alloc);
 }

@@ -5,12 +5,13 @@ ghost use Rattle.std.specs.FinMap as map;
 ghost use Rattle.key_rows.specs.Places.{IsKeyAt};
 ghost use Rattle.indexed_rows.specs.Rows.{key_of, put_in, put_over};
 ghost use Rattle.row_types.specs.declared.value.Value.{Value as OneValue};
-ghost use Rattle.slot_rows.specs.Orders.{IsRowWith, IsWider, TakesRow, first_columns};
+ghost use Rattle.slot_rows.specs.Orders.{HasBefore, IsRowWith, IsWider, TakesRow, first_columns, place_from};
 ghost use Rattle.slot_rows.specs.SlotKeys.{IsKeyedBy, IsPlaceOf, IsSlotOf, LeavesSlot, PutsInSlot};
 
+use crate::compare::values_in;
 use crate::lead::lead_of_row;
 use crate::order::Order;
-use crate::orders::{enter_all, leave_all, reserve_all};
+use crate::orders::{clear_all, enter_all, leave_all, reserve_all};
 use row_types::{Row, Value};
 use slab::Slab;
 use std::alloc::{AllocError, Global};
@@ -51,9 +52,19 @@ impl Model for SlotRows {
 
     ghost coded = { rows_held_code };
 
-    ghost view = { λ r. record { table = table_in r.rows r.by_key.places r.by_key.entries; places = r.by_key.places; orders = map (λ o. o.places) r.others.items; slots = slot_keys_in r.rows r.by_key.places r.by_key.entries; vacant = r.rows.vacant_key; spare = length r.by_key.room.items } };
+    ghost view = { λ r. record {
+      table = table_in r.rows r.by_key.places r.by_key.entries;
+      places = r.by_key.places;
+      orders = map (λ o. o.places) r.others.items;
+      slots = slot_keys_in r.rows r.by_key.places r.by_key.entries;
+      vacant = r.rows.vacant_key;
+      spare = length r.by_key.room.items;
+    } };
 
-    ghost invariant = { λ r. AreOrdered r.rows r.by_key.places r.by_key.entries × HasRoomFor r.rows (length r.by_key.room.items) × Each (IsOther r.rows r.by_key.places r.by_key.entries (length r.by_key.room.items)) r.others.items × (length r.by_key.entries + length r.by_key.room.items < 2 ^ 63) };
+    ghost invariant = { λ r. AreOrdered r.rows r.by_key.places r.by_key.entries ×
+        HasRoomFor r.rows (length r.by_key.room.items) ×
+        Each (IsOther r.rows r.by_key.places r.by_key.entries (length r.by_key.room.items)) r.others.items ×
+        (length r.by_key.entries + length r.by_key.room.items < 2 ^ 63) };
 }
 
 impl SlotRows {
@@ -110,14 +121,16 @@ impl SlotRows {
     /// The slot of the row at a place in key order, which is below the length.
     pub fn slot_at(&self, place: usize) -> usize
         requires { place < map.len self.now.table }
-        ensures { (key : List OneValue) → IsKeyAt (map.entries self.now.table) key place → IsSlotOf self.now key (Some result) }
+        ensures { (key : List OneValue) → IsKeyAt (map.entries self.now.table) key place → IsSlotOf
+            self.now key (Some result) }
     {
         self.by_key.slot_at(place)
     }
 
     /// The row in a slot, where the slot has one.
     pub fn row_in(&self, slot: usize) -> Option<&Row>
-        ensures { (key : List OneValue) → map.get self.now.slots slot ≡ Some key → option_copied result ≡ map.get self.now.table key }
+        ensures { (key : List OneValue) → map.get self.now.slots slot ≡ Some key → option_copied result ≡ map.get
+            self.now.table key }
     {
         self.rows.get(slot)
     }
@@ -138,7 +151,8 @@ impl SlotRows {
         requires there { order < length self.now.orders }
         requires some { 0 < length columns.now }
         requires columns { length columns.now ≤ length (slice_index_or self.now.orders order []) }
-        ensures { IsRowWith self.now.table self.now.places (first_columns self.now.orders order (length columns.now)) (key_of columns.now row.now) (option_copied result) }
+        ensures { IsRowWith self.now.table self.now.places (first_columns self.now.orders order (length columns.now))
+            (key_of columns.now row.now) (option_copied result) }
     {
         match self.others[order].search_for(&self.rows, columns, row.values()) {
             None => None,
@@ -151,11 +165,40 @@ impl SlotRows {
         requires there { order < length self.now.orders }
         requires some { 0 < length values.now }
         requires columns { length values.now ≤ length (slice_index_or self.now.orders order []) }
-        ensures { IsRowWith self.now.table self.now.places (first_columns self.now.orders order (length values.now)) values.now (option_copied result) }
+        ensures { IsRowWith self.now.table self.now.places (first_columns self.now.orders order (length values.now))
+            values.now (option_copied result) }
     {
         match self.others[order].search_front(&self.rows, values) {
             None => None,
             Some(slot) => self.rows.get(slot),
+        }
+    }
+
+    /// The first place in key order, from a place on, of a row that has these values at the columns that another order
+    /// has before the key's. It costs O(log n) comparisons.
+    pub fn next_with(&self, order: usize, values: &[Value], from: usize) -> Option<usize>
+        requires there { order < length self.now.orders }
+        requires some { 0 < length values.now }
+        requires before { HasBefore self.now.orders order self.now.places (length values.now) }
+        ensures { result ≡ place_from self.now.table
+            (first_columns self.now.orders order (length values.now)) values.now from }
+    {
+        if from >= self.by_key.entries.len() {
+            return None;
+        }
+        let places = self.by_key.places.as_slice();
+        let least = values_in(&self.rows, self.by_key.slot_at(from));
+        let other = &self.others[order];
+        let start = other.first_at_least(&self.rows, values, places, least);
+        match other.slot_at_front(&self.rows, start, values) {
+            None => None,
+            Some(slot) => match self
+                .by_key
+                .search_row(&self.rows, values_in(&self.rows, slot))
+            {
+                Ok(place) => Some(place),
+                Err(_) => None,
+            },
         }
     }
 
@@ -290,15 +333,30 @@ impl SlotRows {
     /// Takes out the row at a place in key order, which is below the length. It takes no memory.
     pub fn remove_at(&mut self, place: usize) -> Option<Row>
         requires { place < map.len self.old.table }
-        ensures taken { (key : List OneValue) → IsKeyAt (map.entries self.old.table) key place → TakesRow self.old.table self.new.table key result }
+        ensures taken { (key : List OneValue) → IsKeyAt (map.entries self.old.table) key place → TakesRow self.old.table
+            self.new.table key result }
         ensures places { self.new.places ≡ self.old.places }
         ensures orders { self.new.orders ≡ self.old.orders }
-        ensures slots { (key : List OneValue) → IsKeyAt (map.entries self.old.table) key place → LeavesSlot self.old self.new key }
+        ensures slots { (key : List OneValue) → IsKeyAt (map.entries self.old.table) key place →
+            LeavesSlot self.old self.new key }
         ensures spare { self.new.spare ≡ self.old.spare }
     {
         let slot = self.by_key.slot_at(place);
         leave_all(&mut self.others, &self.rows, slot);
         let _ = self.by_key.leave(place);
         self.rows.try_remove(slot)
+    }
+
+    /// Takes out all rows. It takes no memory, and the room stays.
+    pub fn clear(&mut self, alloc: Global)
+        ensures table { self.new.table ≡ map.empty }
+        ensures places { self.new.places ≡ self.old.places }
+        ensures orders { self.new.orders ≡ self.old.orders }
+        ensures slots { self.new.slots ≡ map.empty }
+        ensures spare { self.new.spare ≡ self.old.spare }
+    {
+        self.rows.clear();
+        self.by_key.clear(alloc);
+        clear_all(&mut self.others, alloc);
     }
 }

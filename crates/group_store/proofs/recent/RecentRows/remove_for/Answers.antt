@@ -17,7 +17,7 @@ returns-in-None-clause-taken c =
     let key = key_of l.rows.places c.args.row.now in
     record {
       now = ap (λ h. h.table) (sym c.self.view_is) ∙ without_none l.rows.table key c.in-None.ensures.0 ∙ ap (λ h. fm.remove h.table (key_of h.places c.args.row.now)) c.self.view_is;
-      keys = ap (λ h. h.keys) (sym c.self.view_is) ∙ not_left l.rows.slots l.recent.keys c.self.invariant key (λ other e. let z = c.in-None.ensures.1 other e in cc) ∙ ap (λ h. keys_without is_same (key_of h.places c.args.row.now) h.keys) c.self.view_is;
+      keys = ap (λ h. h.keys) (sym c.self.view_is) ∙ not_left l.rows.slots l.recent.keys c.self.invariant.0 key (λ other e. let z = c.in-None.ensures.1 other e in cc) ∙ ap (λ h. keys_without is_same (key_of h.places c.args.row.now) h.keys) c.self.view_is;
     }
 
 pub returns-in-Some-clause-taken : goal.returns-in-Some-clause-taken

@@ -14,7 +14,7 @@ pub add_order-requires-clause-empty : goal.add_order-requires-clause-empty
 add_order-requires-clause-empty c = ap fm.len c.new-rows.ensures.table ∙ fm.len-empty key_order (List Value)
 
 pub add_order-requires-clause-wider : goal.add_order-requires-clause-wider
-add_order-requires-clause-wider c = (c.args.foreign, c.in_ok-columns.ensures ∙ ap (λ ps. c.args.foreign ++ ps) (sym c.new-rows.ensures.places))
+add_order-requires-clause-wider c = (c.args.foreign, c.in_ok-columns.ensures ∙ ap (λ f. f ++ c.as_slice-2.result.now) c.as_slice.ensures ∙ ap (λ ps. c.args.foreign ++ ps) (c.as_slice-2.ensures ∙ sym c.new-rows.ensures.places))
 
 pub invariant_of-self : goal.invariant_of-self
 invariant_of-self c =
@@ -32,7 +32,7 @@ invariant_of-self-2 c =
     let before = subst (λ h. c.args.parent ≤ length h.layers) (sym c.self.view_is) c.requires.parent in
     let places : rows.places ≡ c.args.key = ap (λ h. h.places) c.in_ok-add_order.ensures.ok ∙ c.new-rows.ensures.places in
     let orders : rows.orders ≡ (c.args.foreign ++ rows.places) ∷ [] = ap (λ h. h.orders) c.in_ok-add_order.ensures.ok ∙ ap (λ os. os ++ c.in_ok-columns.columns ∷ []) c.new-rows.ensures.orders
-    ∙ ap (λ ps. ps ∷ []) (c.in_ok-columns.ensures ∙ ap (λ ps. c.args.foreign ++ ps) (sym places)) in
+    ∙ ap (λ ps. ps ∷ []) (c.in_ok-columns.ensures ∙ ap (λ f. f ++ c.as_slice-2.result.now) c.as_slice.ensures ∙ ap (λ ps. c.args.foreign ++ ps) (c.as_slice-2.ensures ∙ sym places)) in
     let one : IsJoined t (length t.children.items) child = record {
       before = omega (arith, before, long);
       orders = orders;

@@ -4,7 +4,7 @@ use Rattle.group_store.proofs.JoinedLaws.{keeps_children, least_root}
 use Rattle.group_store.proofs.store.Store.touch.Goals as goal
 
 pub invariant_of-self : goal.invariant_of-self
-invariant_of-self c = (keeps_children c.self.inside.rows c.touch.new.self c.touch.ensures.places).joined c.self.invariant
+invariant_of-self c = (keeps_children c.self.inside.rows c.touch.new.self c.touch.ensures.places c.touch.ensures.foreign).joined c.self.invariant
 
 pub returns-clause-spare : goal.returns-clause-spare
 returns-clause-spare c =

@@ -60,6 +60,7 @@ returns-clause-same c =
     let same = c.take_key.ensures.same in
     record {
       places = same.places ∙ ap (λ r. r.places) c.loop-place.invariant.roots;
+      foreign = same.foreign ∙ ap (λ r. r.foreign) c.loop-place.invariant.roots;
       layers = same.layers ∙ c.loop-place.invariant.layers;
       joined = λ _. same.joined c.loop-place.invariant.joined;
     }

@@ -18,7 +18,7 @@ insert_reserved-requires-else-place-eq0 c =
     omega (arith, room, c.requires.room)
 
 pub returns-then-place-eq0-clause-same : goal.returns-then-place-eq0-clause-same
-returns-then-place-eq0-clause-same c = keeps_children c.args.self.now c.insert_reserved.new.self c.insert_reserved.ensures.places
+returns-then-place-eq0-clause-same c = keeps_children c.args.self.now c.insert_reserved.new.self c.insert_reserved.ensures.places c.insert_reserved.ensures.foreign
 
 pub returns-then-place-eq0-clause-spare : goal.returns-then-place-eq0-clause-spare
 returns-then-place-eq0-clause-spare c =

@@ -6,7 +6,7 @@ use Rattle.group_store.proofs.JoinedLaws.{children_stay, item_there, keeps_at, k
 use Rattle.group_store.proofs.tree_rows.TreeRows.reserve.Goals as goal
 
 pub returns-in_err-reserve-clause-same : goal.returns-in_err-reserve-clause-same
-returns-in_err-reserve-clause-same c = keeps_children c.args.self.now c.reserve.new.self c.reserve.ensures.places
+returns-in_err-reserve-clause-same c = keeps_children c.args.self.now c.reserve.new.self c.reserve.ensures.places c.reserve.ensures.foreign
 
 pub returns-in_err-reserve-clause-spare : goal.returns-in_err-reserve-clause-spare
 returns-in_err-reserve-clause-spare c =
@@ -19,7 +19,7 @@ loop-place-init c =
     let more = least_root t.roots.spare c.reserve.new.self.spare 0 t.children.items (let s = c.reserve.ensures.spare in omega (arith, s)) in
     record {
       tables = ap (λ x. x ∷ map (λ d. d.rows.table) t.children.items) c.reserve.ensures.table;
-      same = keeps_children t c.reserve.new.self c.reserve.ensures.places;
+      same = keeps_children t c.reserve.new.self c.reserve.ensures.places c.reserve.ensures.foreign;
       keys = c.reserve.ensures.keys;
       spare = omega (arith, more);
       root = c.in_ok-reserve.ensures.ok;

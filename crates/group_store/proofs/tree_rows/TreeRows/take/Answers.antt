@@ -8,7 +8,7 @@ use Rattle.group_store.proofs.JoinedLaws.{item_there, keeps_children, keeps_tree
 use Rattle.group_store.proofs.tree_rows.TreeRows.take.Goals as goal
 
 pub returns-then-place-eq0-clause-same : goal.returns-then-place-eq0-clause-same
-returns-then-place-eq0-clause-same c = keeps_children c.args.self.now c.remove_for.new.self c.remove_for.ensures.places
+returns-then-place-eq0-clause-same c = keeps_children c.args.self.now c.remove_for.new.self c.remove_for.ensures.places c.remove_for.ensures.foreign
 
 pub returns-then-place-eq0-clause-spare : goal.returns-then-place-eq0-clause-spare
 returns-then-place-eq0-clause-spare c =

@@ -15,7 +15,7 @@ returns-else-place-eq0-clause-tables c =
     tables_changed t c.args.place d e (λ m. fm.remove m c.args.key.now) some is c.remove-else-place-eq0.ensures.table
 
 pub returns-then-place-eq0-clause-same : goal.returns-then-place-eq0-clause-same
-returns-then-place-eq0-clause-same c = keeps_children c.args.self.now c.remove.new.self c.remove.ensures.places
+returns-then-place-eq0-clause-same c = keeps_children c.args.self.now c.remove.new.self c.remove.ensures.places c.remove.ensures.foreign
 
 pub returns-then-place-eq0-clause-spare : goal.returns-then-place-eq0-clause-spare
 returns-then-place-eq0-clause-spare c =
