@@ -1,1 +1,3 @@
+mod GrownLaws
+mod LookupLaws
 mod SessionLaws

@@ -1,7 +1,9 @@
 -- One session of a list changes.
 use Rattle.std.proofs.Common.{◌≡◌, ◌≢◌, ℕ, zero, suc, ◌+◌, ◌<◌, ◌≤◌, Bool, true, false, not, cond, ◌||◌, nat_eq, List, [], ◌∷◌, ◌++◌, All, length, map, get_or, set, slice_get, Some, None, Result, Ok, Err, OnOk, OnErr, refl, sym, ap, subst, ◌∙◌, eq-eqb, arith}
 use Rattle.std.specs.List.{AllPairs, list_any, position, prefix_len, remove}
-use Rattle.std.proofs.lemmas.Bool.{eqb-true, lt-ltb}
+use Rattle.std.proofs.lemmas.Bool.{eqb-true, lt-ltb, or_parts}
+use Rattle.std.proofs.lemmas.List.{length-map}
+use Rattle.std.proofs.lemmas.Slice.Eq.{bytes_eq-Decides}
 use Rattle.std.proofs.lemmas.List.Elements.{All-cons, All-head, All-push, All-tail}
 use Rattle.std.proofs.lemmas.List.Quantifiers.{all_pairs_push, all_pairs_remove, position-Some}
 use Rattle.std.proofs.lemmas.Option.{get_or_from_slice_get, slice_get-get_or, slice_get_within}
@@ -11,11 +13,12 @@ use Rattle.table_state.specs.declared.operation.Op.{Op}
 use Rattle.session_state.specs.declared.session.Session.{Session}
 use Rattle.session_state.specs.Kept.{IsKept, seen_of}
 use Rattle.session_state.specs.Locks.{AreApart, IsApart, is_other}
-use Rattle.session_state.specs.Sessions.{OpenSession, at_rest, has_id, with_ops}
+use Rattle.session_state.specs.Sessions.{OpenSession, at_rest, begun, has_id, with_ops}
 use Rattle.session_state.proofs.ApartLaws.{apart_more, apart_none, apart_turned}
-use Rattle.session_state.proofs.ListLaws.{pairs_head, pairs_set, pairs_tail}
-use Rattle.open_sessions.specs.Opening.{AreApartPair, AreSessions, DifferInNumber, closed, has_number, on_session}
+use Rattle.session_state.proofs.ListLaws.{any_view, pairs_head, pairs_set, pairs_tail}
+use Rattle.open_sessions.specs.Opening.{AreApartPair, AreSessions, DifferInLabel, DifferInNumber, Opens, closed, on_session, seen_all}
 use Rattle.open_sessions.specs.declared.sessions.Sessions.{Sessions}
+use Rattle.open_sessions.specs.Lookups.{has_label, is_label_used}
 
 not_true : (b : Bool) → not b ≡ true → b ≡ false
 not_true true e = cc
@@ -147,6 +150,19 @@ module _ (schema : List TableDef) where
       (pairs_set DifferInNumber (map seen_of xs) i (seen_of s) (seen_of t) (seen_got xs i s at)
       (λ y n e. n (ap (λ d. d.0) (sym same) ∙ e)) (λ y n e. n (e ∙ ap (λ d. d.0) same)) pairs)
 
+  pub labels_set : (xs : List Session) (i : ℕ) (s t : Session) → slice_get xs i ≡ Some s → t.label ≡ s.label → AllPairs DifferInLabel (map seen_of xs) → AllPairs DifferInLabel (map seen_of (set xs i t))
+  labels_set xs i s t at same pairs =
+      subst (AllPairs DifferInLabel) (sym (seen_set xs i t))
+      (pairs_set DifferInLabel (map seen_of xs) i (seen_of s) (seen_of t) (seen_got xs i s at)
+      (λ y n e. n (sym same ∙ e)) (λ y n e. n (e ∙ same)) pairs)
+
+  -- the same operations
+  pub apart_same : (xs : List Session) (i : ℕ) (s t : Session) → slice_get xs i ≡ Some s → (seen_of t).ops ≡ (seen_of s).ops → AllPairs (AreApartPair schema) (map seen_of xs) → AllPairs (AreApartPair schema) (map seen_of (set xs i t))
+  apart_same xs i s t at same pairs =
+      subst (AllPairs (AreApartPair schema)) (sym (seen_set xs i t))
+      (pairs_set (AreApartPair schema) (map seen_of xs) i (seen_of s) (seen_of t) (seen_got xs i s at)
+      (λ y r. subst (λ o. IsApart schema o y.ops) (sym same) r) (λ y r. subst (IsApart schema y.ops) (sym same) r) pairs)
+
   -- operations that meet no other session
   module _ (id : SessionId) (ops : List Op) where
     record Apart (a b : OpenSession) : Type 0 where
@@ -209,6 +225,16 @@ no_number n (y ∷ xs) none (suc i) x at same = no_number n xs (by (nat_eq y.id.
     by true none = let w : true ≡ false = none in cc
     by false none = none
 
+-- a label that no session has
+pub no_label : (l : List ℕ) (xs : List Session) → list_any (λ x. has_label l (seen_of x)) xs ≡ false → (i : ℕ) (x : Session) → slice_get xs i ≡ Some x → x.label ≢ l
+no_label l [] none i x at same = cc
+no_label l (y ∷ xs) none zero x at same =
+    let z : y ≡ x = cc in
+    let has : has_label l (seen_of y) ≡ true = (bytes_eq-Decides y.label l).1 (ap (λ s. s.label) z ∙ same) in
+    let w : true ≡ false = sym (ap (λ b. b || list_any (λ x. has_label l (seen_of x)) xs) has) ∙ none in
+    cc
+no_label l (y ∷ xs) none (suc i) x at same = no_label l xs (or_parts (has_label l (seen_of y)) (list_any (λ x. has_label l (seen_of x)) xs) none).1 i x at same
+
 pub all_removed : {X : Type 0} (P : X → Type 0) (xs : List X) (i : ℕ) → All P xs → All P (remove xs i)
 all_removed P [] zero all = all
 all_removed P [] (suc i) all = all
@@ -220,8 +246,8 @@ seen_push [] s = refl
 seen_push (x ∷ xs) s = ap (λ l. seen_of x ∷ l) (seen_push xs s)
 
 -- a session that has written nothing, and has a number of its own
-pub sound_push : (schema : List TableDef) (old new : Sessions) (s : Session) → new.open.items ≡ old.open.items ++ s ∷ [] → IsKept schema s → (seen_of s).ops ≡ [] → has_number s.id.0 old ≡ false → AreSessions schema old → AreSessions schema new
-sound_push schema old new s items kept none number sound =
+pub sound_push : (schema : List TableDef) (old new : Sessions) (s : Session) → new.open.items ≡ old.open.items ++ s ∷ [] → IsKept schema s → (seen_of s).ops ≡ [] → list_any (λ x. nat_eq x.id.0 s.id.0) old.open.items ≡ false → list_any (λ x. has_label s.label (seen_of x)) old.open.items ≡ false → AreSessions schema old → AreSessions schema new
+sound_push schema old new s items kept none number free sound =
     let xs = old.open.items in
     let seen = ap (map seen_of) items ∙ seen_push xs s in
     record {
@@ -230,9 +256,28 @@ sound_push schema old new s items kept none number sound =
           (λ k d lt. let y = get_or (map seen_of xs) k d in subst (IsApart schema y.ops) (sym none) (apart_turned schema [] y.ops (apart_none schema y.ops))));
       numbered = subst (AllPairs DifferInNumber) (sym seen) (all_pairs_push DifferInNumber (map seen_of xs) (seen_of s) sound.numbered
           (λ k d lt. let w = unseen xs k (get_or (map seen_of xs) k d) (slice_get-get_or (map seen_of xs) k d lt) in λ same. no_number s.id.0 xs number k w.0 w.1 (ap (λ y. y.id.0) w.2 ∙ same)));
+      labelled = subst (AllPairs DifferInLabel) (sym seen) (all_pairs_push DifferInLabel (map seen_of xs) (seen_of s) sound.labelled
+          (λ k d lt. let w = unseen xs k (get_or (map seen_of xs) k d) (slice_get-get_or (map seen_of xs) k d lt) in λ same. no_label s.label xs free k w.0 w.1 (ap (λ y. y.label) w.2 ∙ same)));
     }
   where
     unseen : (xs : List Session) (k : ℕ) (y : OpenSession) → slice_get (map seen_of xs) k ≡ Some y → (x : Session) × (slice_get xs k ≡ Some x) × (seen_of x ≡ y)
     unseen [] k y at = cc
     unseen (x ∷ xs) zero y at = (x, refl, (let z : seen_of x ≡ y = cc in z))
     unseen (x ∷ xs) (suc k) y at = unseen xs k y at
+
+-- what a reader sees of the labels and numbers in use
+pub label_seen : (label : List ℕ) (xs : List Session) → list_any (λ s. has_label label (seen_of s)) xs ≡ is_label_used label (map seen_of xs)
+label_seen label xs = any_view seen_of (λ s. has_label label (seen_of s)) (has_label label) xs (λ x. refl)
+
+pub opened : (old new : Sessions) (s : Session) (id : SessionId) (label : List ℕ) (level : ℕ) (durable : Bool) → new.open.items ≡ old.open.items ++ s ∷ [] → seen_of s ≡ begun id label level durable
+    → list_any (λ x. nat_eq x.id.0 id.0) old.open.items ≡ false → list_any (λ x. has_label label (seen_of x)) old.open.items ≡ false → length old.open.items < 64
+    → Opens (seen_all old) (seen_all new) id label level durable
+opened old new s id label level durable items begins number free few = record {
+  seen = ap (map seen_of) items ∙ seen_push old.open.items s ∙ ap (λ y. map seen_of old.open.items ++ y ∷ []) begins;
+  number = sym (any_view seen_of (λ x. nat_eq x.id.0 id.0) (has_id id) old.open.items (λ x. refl)) ∙ number;
+  free = sym (label_seen label old.open.items) ∙ free;
+  few = (let long = length-map old.open.items seen_of in omega (arith, long, few));
+}
+
+pub limit_seen : (label : List ℕ) (xs : List Session) → 64 ≤ length xs → list_any (λ s. has_label label (seen_of s)) xs ≡ false → (64 ≤ length (map seen_of xs)) × (is_label_used label (map seen_of xs) ≡ false)
+limit_seen label xs many free = (let long = length-map xs seen_of in omega (arith, long, many), sym (label_seen label xs) ∙ free)

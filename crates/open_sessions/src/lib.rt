@@ -1,6 +1,7 @@
 //! The open sessions, and the row locks between them.
 #![tactic(auto)]
 
+pub mod laws;
 mod sessions;
 
 pub use sessions::{OpenError, Sessions};

@@ -63,7 +63,9 @@ pub record HasRoom (own : OwnRows) : Type 0 where
 
 -- Each table now has the own rows over those that it had, and where there are none it is as it was.
 pub record LiesOn (owns : List OwnRows) (s now : TableState) : Type 0 where
-  pub own : (t : TableId) (own : OwnRows) → slice_get owns t.0 ≡ Some own → Lies own.live own.fresh own.gone (table_at s t) (table_at now t)
+  pub own :
+      (t : TableId) (own : OwnRows) → slice_get owns t.0 ≡ Some own
+      → Lies own.live own.fresh own.gone (table_at s t) (table_at now t)
   pub other : (t : TableId) → slice_get owns t.0 ≡ None → table_at now t ≡ table_at s t
   pub schema : now.schema ≡ s.schema
   pub whole : length now.tables ≡ length s.tables
@@ -91,7 +93,9 @@ stepped_all (x ∷ xs) owns = stepped_all xs (stepped_with (slice_get owns x.0.0
 
 -- there is room for so many rows more in each table
 abbrev pub HaveRoom : ℕ → List OwnRows → Type 0
-HaveRoom n owns = (i : ℕ) (own : OwnRows) → slice_get owns i ≡ Some own → (len own.live + n < 2 ^ 63) × (len own.fresh + n < 2 ^ 63) × (len own.gone + n < 2 ^ 63)
+HaveRoom n owns =
+    (i : ℕ) (own : OwnRows) → slice_get owns i ≡ Some own
+    → (len own.live + n < 2 ^ 63) × (len own.fresh + n < 2 ^ 63) × (len own.gone + n < 2 ^ 63)
 
 -- each step is ready, and its table is there
 abbrev pub AreReady : ℕ → List (TableId × Step) → Type 0
@@ -112,4 +116,5 @@ abbrev pub AreStepsOf : List TableDef → List Op → List (TableId × Step) →
 AreStepsOf schema [] [] = Unit {0}
 AreStepsOf schema [] (x ∷ xs) = ⊥
 AreStepsOf schema (op ∷ ops) [] = ⊥
-AreStepsOf schema (op ∷ ops) (x ∷ xs) = (x.0 ≡ table_of op) × IsStepIn (slice_get schema (table_of op).0) op x.1 × AreStepsOf schema ops xs
+AreStepsOf schema (op ∷ ops) (x ∷ xs) =
+    (x.0 ≡ table_of op) × IsStepIn (slice_get schema (table_of op).0) op x.1 × AreStepsOf schema ops xs

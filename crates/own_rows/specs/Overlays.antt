@@ -30,7 +30,9 @@ AgreesWith own base = Agrees own.live own.fresh own.gone base
 -- the own rows fit on the tables
 pub record FitsOn (owns : List OwnRows) (s : TableState) : Type 0 where
   pub agrees : (t : TableId) (own : OwnRows) → slice_get owns t.0 ≡ Some own → AgreesWith own (table_at s t)
-  pub keyed : (t : TableId) (def : TableDef) → slice_get s.schema t.0 ≡ Some def → IsUnderKeys def.primary_key (table_at s t)
+  pub keyed :
+      (t : TableId) (def : TableDef) → slice_get s.schema t.0 ≡ Some def
+      → IsUnderKeys def.primary_key (table_at s t)
   pub small : (t : TableId) → len (table_at s t) < 2 ^ 63
   pub within : length owns ≤ length s.tables
   pub whole : length s.tables ≡ length s.schema

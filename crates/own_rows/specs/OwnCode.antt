@@ -1,6 +1,6 @@
 -- The code by which proofs tell own rows apart.
 
-use Rattle.std.specs.Prelude.{List, refl}
+use Rattle.std.specs.Prelude.{refl}
 use Rattle.std.specs.Coded.{Coded, code_by, coded×, coded_list}
 use Rattle.std.specs.FinMap as map
 use Rattle.row_types.specs.contracts.value.Value as one

@@ -1,6 +1,6 @@
 -- What open operations leave of all tables, and over which table states they lie. (This project's rule.)
 
-use Rattle.std.specs.Prelude.{◌≡◌, ℕ, ◌<◌, ◌^◌, List, Some, true, is_some, length, slice_get}
+use Rattle.std.specs.Prelude.{◌≡◌, ◌<◌, ◌^◌, List, Some, true, is_some, length}
 use Rattle.std.specs.FinMap.{len}
 use Rattle.tier_base.specs.declared.number.TableId.{TableId}
 use Rattle.table_defs.specs.declared.definition.TableDef.{TableDef}
@@ -15,10 +15,11 @@ use Rattle.own_rows.specs.Laying.{LiesOn}
 -- The own rows are what the operations make: over each state that knows the schema and on which these apply they lie as
 -- what they leave there.
 abbrev pub AreRowsOf : List TableDef → List Op → List OwnRows → Type 0
-AreRowsOf schema ops owns = (s now : TableState) → Knows schema s.schema → applied_all ops s ≡ Some now → LiesOn owns s now
+AreRowsOf schema ops owns =
+    (s now : TableState) → Knows schema s.schema → applied_all ops s ≡ Some now → LiesOn owns s now
 
--- The tables are such that operations lie on them: the operations apply, there are as many tables as definitions, rows stand
--- under their keys, and each table has fewer than 2^63 of them.
+-- The tables are such that operations lie on them: the operations apply, there are as many tables as definitions, rows
+-- stand under their keys, and each table has fewer than 2^63 of them.
 pub record AreShown (ops : List Op) (s : TableState) : Type 0 where
   pub applies : is_some (applied_all ops s) ≡ true
   pub whole : length s.tables ≡ length s.schema

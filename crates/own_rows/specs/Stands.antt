@@ -26,6 +26,8 @@ IsStand own base place (Fresh i) = StandsIn own.fresh own base place i
 
 -- the row of this key stands before the place, behind it or there; before it also where it was taken out
 abbrev pub IsSide : OwnRows → Table → ℕ → List Value → Ordering → Type 0
-IsSide own base place k Less = (rank (left_over own base) k < place) ⊎ ((rank (left_over own base) k ≡ place) × (contains_key (left_over own base) k ≡ false))
+IsSide own base place k Less =
+    (rank (left_over own base) k < place)
+    ⊎ ((rank (left_over own base) k ≡ place) × (contains_key (left_over own base) k ≡ false))
 IsSide own base place k Greater = place < rank (left_over own base) k
 IsSide own base place k Equal = StandsAt own.live own.gone base place k

@@ -38,7 +38,8 @@ pub(crate) fn child_in<S: Scan>(
     requires keyed { IsUnderKeys def.now.primary_key (table_at (S.state under.now) table) }
     requires small { map.len (table_at (S.state under.now) table) < 2 ^ 63 }
     requires def { slice_get (S.state under.now).schema table.0 ≡ Some def.now }
-    ensures { result ≡ first_from (refers_to key.now (Some def.now)) from (drop from (map.values (left_over own.now (table_at (S.state under.now) table)))) }
+    ensures { result ≡ first_from (refers_to key.now (Some def.now)) from
+        (drop from (map.values (left_over own.now (table_at (S.state under.now) table)))) }
 {
     if from >= len_in(under, table, own) {
         return None;
@@ -77,7 +78,8 @@ fn child_of_both<S: Scan>(
     requires small { map.len (table_at (S.state under.now) table) < 2 ^ 63 }
     requires def { slice_get (S.state under.now).schema table.0 ≡ Some def.now }
     requires starts { StartsAt own.now (table_at (S.state under.now) table) from at live }
-    ensures { result ≡ first_from (refers_to key.now (Some def.now)) from (drop from (map.values (left_over own.now (table_at (S.state under.now) table)))) }
+    ensures { result ≡ first_from (refers_to key.now (Some def.now)) from
+        (drop from (map.values (left_over own.now (table_at (S.state under.now) table)))) }
 {
     let places = def.primary_key.as_slice();
     let below = next_under(under, table, own, places, key, at);
@@ -111,7 +113,8 @@ fn foreign_places(foreign_key: &Option<ForeignKey>) -> &[usize]
 
 // Whether the key of a row is that of an own row or of one that was taken out.
 fn is_own(own: &OwnRows, places: &[usize], row: &Row) -> bool
-    ensures { result ≡ (map.contains_key own.now.live (key_of places.now row.now) || map.contains_key own.now.gone (key_of places.now row.now)) }
+    ensures { result ≡ (map.contains_key own.now.live (key_of places.now row.now)
+        || map.contains_key own.now.gone (key_of places.now row.now)) }
 {
     has_same_key(own.live.rows(), places, row) || has_same_key(&own.gone, places, row)
 }
@@ -126,7 +129,9 @@ fn next_under<S: Scan>(
     from: usize,
 ) -> Option<usize>
     requires { IsUnderKeys places.now (table_at (S.state under.now) table) }
-    ensures { result ≡ first_from (stays_and (refers_to key.now (slice_get (S.state under.now).schema table.0)) own.now.live own.now.gone) from (drop from (map.entries (table_at (S.state under.now) table))) }
+    ensures { result ≡ first_from
+        (stays_and (refers_to key.now (slice_get (S.state under.now).schema table.0)) own.now.live own.now.gone) from
+        (drop from (map.entries (table_at (S.state under.now) table))) }
 {
     let count = under.len(table);
     let mut at = from;
@@ -179,7 +184,9 @@ fn place_of_under<S: Scan>(
     requires agrees { AgreesWith own.now (table_at (S.state under.now) table) }
     requires keyed { IsUnderKeys places.now (table_at (S.state under.now) table) }
     requires small { map.len (table_at (S.state under.now) table) < 2 ^ 63 }
-    ensures { (entry : List Value × List Value) → slice_get (map.entries (table_at (S.state under.now) table)) at ≡ Some entry → result ≡ rank (left_over own.now (table_at (S.state under.now) table)) entry.0 }
+    ensures { (entry : List Value × List Value)
+        → slice_get (map.entries (table_at (S.state under.now) table)) at ≡ Some entry
+        → result ≡ rank (left_over own.now (table_at (S.state under.now) table)) entry.0 }
 {
     match under.row(table, at) {
         None => 0,
@@ -203,7 +210,8 @@ fn place_of_own<S: Scan>(
     requires keyed { IsUnderKeys places.now (table_at (S.state under.now) table) }
     requires small { map.len (table_at (S.state under.now) table) < 2 ^ 63 }
     requires within { at < map.len own.now.live }
-    ensures { (entry : List Value × List Value) → slice_get (map.entries own.now.live) at ≡ Some entry → result ≡ rank (left_over own.now (table_at (S.state under.now) table)) entry.0 }
+    ensures { (entry : List Value × List Value) → slice_get (map.entries own.now.live) at ≡ Some entry
+        → result ≡ rank (left_over own.now (table_at (S.state under.now) table)) entry.0 }
 {
     let (key, _) = own.live.rows().entry_at(at);
     let fresh = rank_of_key(&own.fresh, key);
@@ -222,7 +230,9 @@ fn is_before<S: Scan>(
 ) -> bool
     requires keyed { IsUnderKeys places.now (table_at (S.state under.now) table) }
     requires within { live < map.len own.now.live }
-    ensures { (a b : List Value × List Value) → slice_get (map.entries own.now.live) live ≡ Some a → slice_get (map.entries (table_at (S.state under.now) table)) at ≡ Some b → result ≡ is_lt (key_order a.0 b.0) }
+    ensures { (a b : List Value × List Value) → slice_get (map.entries own.now.live) live ≡ Some a
+        → slice_get (map.entries (table_at (S.state under.now) table)) at ≡ Some b
+        → result ≡ is_lt (key_order a.0 b.0) }
 {
     let (key, _) = own.live.rows().entry_at(live);
     match under.row(table, at) {

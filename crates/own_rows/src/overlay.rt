@@ -1,6 +1,6 @@
 //! Tables as a session sees them.
 
-ghost use Rattle.std.specs.Prelude.{◌≡◌};
+ghost use Rattle.std.specs.Prelude.{◌≡◌, []};
 ghost use Rattle.own_rows.specs.Overlays.{FitsOn, overlaid};
 
 use crate::children::child_in;
@@ -18,6 +18,12 @@ pub struct Overlay<'a, S: Scan> {
     ghost fits: { FitsOn own.now (S.state under.now) },
 }
 
+impl<'a, S: Scan> Drop for Overlay<'a, S> {
+    fn drop(self) {
+        let Self { under: _, own: _ } = self;
+    }
+}
+
 impl<'a, S: Scan> Overlay<'a, S> {
     /// The tables of a scan with own rows over them.
     pub(crate) fn new(under: &'a S, own: &'a [OwnRows]) -> Overlay<'a, S>
@@ -26,6 +32,14 @@ impl<'a, S: Scan> Overlay<'a, S> {
         ensures own { result.own.now ≡ own.now }
     {
         Overlay { under, own }
+    }
+
+    /// The tables of a scan with no own rows over them, which are as they were.
+    pub fn bare(under: &'a S) -> Overlay<'a, S>
+        requires { FitsOn [] (S.state under.now) }
+        ensures { ⟦<Overlay<'a, S> as Scan>⟧.state result ≡ S.state under.now }
+    {
+        Overlay { under, own: &[] }
     }
 }
 

@@ -33,17 +33,21 @@ pub enum Stand {
 fn place_left(own: &OwnRows, places: &[usize], row: &Row, at: usize) -> usize
     requires small { at < 2 ^ 63 }
     requires left { rank own.now.gone (key_of places.now row.now) ≤ at }
-    ensures { result ≡ at + rank own.now.fresh (key_of places.now row.now) - rank own.now.gone (key_of places.now row.now) }
+    ensures { result ≡ at + rank own.now.fresh (key_of places.now row.now)
+        - rank own.now.gone (key_of places.now row.now) }
 {
     let fresh = rank_of_row(&own.fresh, places, row);
     let gone = rank_of_row(&own.gone, places, row);
     at + fresh - gone
 }
 
-// Whether a row of the table below, which is or would be at place `here` of what is left, is before a place of it, behind
-// it or there.
+// Whether a row of the table below, which is or would be at place `here` of what is left, is before a place of it,
+// behind it or there.
 fn side(own: &OwnRows, places: &[usize], row: &Row, here: usize, place: usize) -> Ordering
-    ensures { (base : Table) (at : ℕ) → AgreesWith own.now base → slice_get (map.entries base) at ≡ Some (key_of places.now row.now, row.now) → here ≡ at + rank own.now.fresh (key_of places.now row.now) - rank own.now.gone (key_of places.now row.now) → IsSide own.now base place (key_of places.now row.now) result }
+    ensures { (base : Table) (at : ℕ) → AgreesWith own.now base
+        → slice_get (map.entries base) at ≡ Some (key_of places.now row.now, row.now)
+        → here ≡ at + rank own.now.fresh (key_of places.now row.now) - rank own.now.gone (key_of places.now row.now)
+        → IsSide own.now base place (key_of places.now row.now) result }
 {
     if here < place {
         return Ordering::Less;
@@ -80,7 +84,9 @@ fn gone_before<S: Scan>(
     at: usize,
 ) -> usize
     requires { IsUnderKeys places.now (table_at (S.state under.now) table) }
-    ensures there { (entry : List Value × List Value) → slice_get (map.entries (table_at (S.state under.now) table)) at ≡ Some entry → result ≡ rank own.now.gone entry.0 }
+    ensures there { (entry : List Value × List Value)
+        → slice_get (map.entries (table_at (S.state under.now) table)) at ≡ Some entry
+        → result ≡ rank own.now.gone entry.0 }
     ensures past { map.len (table_at (S.state under.now) table) ≤ at → result ≡ map.len own.now.gone }
     ensures bound { result ≤ map.len own.now.gone }
 {

@@ -96,7 +96,8 @@ fn lay(own: &mut [OwnRows], alloc: Global, table: TableId, step: Step)
     requires within { table.0 < length own.old }
     requires room { (rows : Own) → slice_get own.old table.0 ≡ Some rows → HasRoom rows }
     requires ready { IsReady step }
-    ensures { (rows : Own) → slice_get own.old table.0 ≡ Some rows → own.new ≡ slice_set own.old table.0 (stepped step rows) }
+    ensures { (rows : Own) → slice_get own.old table.0 ≡ Some rows
+        → own.new ≡ slice_set own.old table.0 (stepped step rows) }
 {
     step.make(alloc, &mut own[table.0 as usize]);
 }

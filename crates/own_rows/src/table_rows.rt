@@ -55,7 +55,8 @@ pub(crate) fn row_in<'a, S: Scan>(
     requires agrees { AgreesWith own.now (table_at (S.state under.now) table) }
     requires keyed { IsUnderKeys places.now (table_at (S.state under.now) table) }
     requires small { map.len (table_at (S.state under.now) table) < 2 ^ 63 }
-    ensures { option_copied result ≡ slice_get (map.values (left_over own.now (table_at (S.state under.now) table))) place }
+    ensures { option_copied result
+        ≡ slice_get (map.values (left_over own.now (table_at (S.state under.now) table))) place }
 {
     if place >= len_in(under, table, own) {
         return None;

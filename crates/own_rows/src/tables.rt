@@ -59,7 +59,8 @@ impl OwnTables {
     /// It fails for want of memory alone. Places that were made then stay, and say nothing.
     pub fn widen(&mut self, alloc: Global, schema: &BackingSchema) -> Result<(), AllocError>
         requires { length self.old ≤ length schema.now }
-        ensures rows { (known : List Def) (ops : List Op) → AreRowsOf known ops self.old → AreRowsOf known ops self.new }
+        ensures rows { (known : List Def) (ops : List Op)
+            → AreRowsOf known ops self.old → AreRowsOf known ops self.new }
         ensures room { (n : ℕ) → n < 2 ^ 63 → HaveRoom n self.old → HaveRoom n self.new }
         ensures within { length self.new ≤ length schema.now }
         ensures wide { OnOk result (length self.new ≡ length schema.now) }
@@ -71,7 +72,8 @@ impl OwnTables {
     pub fn lay(&mut self, alloc: Global, steps: Steps)
         requires ready { AreReady (length self.old) steps }
         requires room { HaveRoom (length steps) self.old }
-        ensures rows { (schema : List Def) (ops more : List Op) → length self.old ≡ length schema → AreStepsOf schema more steps → AreRowsOf schema ops self.old → AreRowsOf schema (ops ++ more) self.new }
+        ensures rows { (schema : List Def) (ops more : List Op) → length self.old ≡ length schema
+            → AreStepsOf schema more steps → AreRowsOf schema ops self.old → AreRowsOf schema (ops ++ more) self.new }
         ensures room { (n : ℕ) → HaveRoom (length steps + n) self.old → HaveRoom n self.new }
         ensures long { length self.new ≡ length self.old }
     {

@@ -40,14 +40,16 @@ fn bare(alloc: Global, def: &TableDef) -> Result<OwnRows, AllocError>
     })
 }
 
-/// A place for each table of the schema. It fails for want of memory alone; what was pushed then stays, and says nothing.
+/// A place for each table of the schema. It fails for want of memory alone; what was pushed then stays, and says
+/// nothing.
 pub(crate) fn widen_rows(
     alloc: Global,
     own: &mut Vec<OwnRows>,
     schema: &BackingSchema,
 ) -> Result<(), AllocError>
     requires { length own.old.items ≤ length schema.now }
-    ensures rows { (known : List Def) (ops : List Op) → AreRowsOf known ops own.old.items → AreRowsOf known ops own.new.items }
+    ensures rows { (known : List Def) (ops : List Op)
+        → AreRowsOf known ops own.old.items → AreRowsOf known ops own.new.items }
     ensures room { (n : ℕ) → n < 2 ^ 63 → HaveRoom n own.old.items → HaveRoom n own.new.items }
     ensures within { length own.new.items ≤ length schema.now }
     ensures wide { OnOk result (length own.new.items ≡ length schema.now) }

@@ -1,5 +1,5 @@
 -- Operations that meet no session conflict with none.
-use Rattle.std.proofs.Common.{◌≡◌, ℕ, zero, suc, Bool, true, false, cond, ◌||◌, ◌&&◌, Option, Some, None, List, [], ◌∷◌, ◌++◌, nat_eq, slice_get, get_or, refl, sym, ap, subst, ◌∙◌, eq-eqb}
+use Rattle.std.proofs.Common.{◌≡◌, ℕ, zero, suc, Bool, true, false, cond, ◌||◌, ◌&&◌, Option, Some, None, List, [], ◌∷◌, ◌++◌, nat_eq, slice_get, get_or, refl, sym, ap, ◌∙◌, eq-eqb}
 use Rattle.std.specs.List.{flat_map, list_any}
 use Rattle.std.specs.Option.{option_or}
 use Rattle.std.proofs.lemmas.Bool.{eqb-true, or_from, or_parts}
@@ -10,9 +10,8 @@ use Rattle.indexed_rows.proofs.EntryLaws.{same_itself, same_values}
 use Rattle.table_state.specs.declared.operation.Op.{Op}
 use Rattle.table_state.specs.declared.footprint.RowKey.{RowKey}
 use Rattle.table_state.specs.Footprints.{footprint_of, is_among, is_in, referred_by, same_row_key, written_by}
-use Rattle.std.specs.List.{All, find}
+use Rattle.std.specs.List.{find}
 use Rattle.std.specs.Option.{option_map}
-use Rattle.std.proofs.lemmas.Bool.{and_parts}
 use Rattle.std.proofs.lemmas.Option.{slice_get-get_or}
 use Rattle.session_state.specs.Locks.{AreApart, IsApart, first_some, holder_by, holder_of, holds, is_other, keeper, met, writer, writes}
 use Rattle.session_state.specs.Sessions.{OpenSession}

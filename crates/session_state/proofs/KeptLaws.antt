@@ -1,7 +1,7 @@
 -- Laws of what a session keeps.
-use Rattle.std.proofs.Common.{◌≡◌, ℕ, zero, suc, ◌+◌, ◌-◌, ◌*◌, ◌<◌, ◌≤◌, ◌^◌, Bool, true, false, ◌&&◌, Option, Some, None, List, [], ◌∷◌, ◌++◌, get_or, length, map, nat_lt, slice_get, refl, sym, ap, subst, ◌∙◌, arith, length-append}
-use Rattle.std.specs.List.{All, flat_map, list_all}
-use Rattle.std.proofs.lemmas.Bool.{and_parts, and_from, lt-ltb, ltb-true}
+use Rattle.std.proofs.Common.{◌≡◌, ℕ, ◌+◌, ◌*◌, ◌<◌, ◌≤◌, ◌^◌, true, Option, Some, None, List, [], ◌∷◌, ◌++◌, length, map, slice_get, refl, sym, ap, subst, ◌∙◌, arith, length-append}
+use Rattle.std.specs.List.{All, flat_map}
+use Rattle.std.proofs.lemmas.Bool.{and_parts, and_from, ltb-true}
 use Rattle.std.proofs.lemmas.List.Elements.{All-cons}
 use Rattle.std.proofs.lemmas.List.Folds.{list_all-append}
 use Rattle.std.proofs.lemmas.Option.{slice_get_within}
@@ -18,11 +18,9 @@ use Rattle.table_state.specs.declared.operation.Op.TheVariants.{Insert, Update, 
 use Rattle.table_state.specs.Footprints.{footprint_of, parent_key, referred_by, referred_key, rows_of, written_by, written_key}
 use Rattle.table_state.specs.Operations.{table_of}
 use Rattle.own_rows.specs.declared.own.OwnRows.{OwnRows}
-use Rattle.own_rows.specs.Knowing.{Knows}
 use Rattle.own_rows.specs.Laying.{HaveRoom}
 use Rattle.own_rows.specs.OwnTables.{AreRowsOf}
-use Rattle.own_rows.proofs.RowsLaws.{rows_grown, rows_none}
-use Rattle.own_rows.proofs.StepLaws.{found}
+use Rattle.own_rows.proofs.RowsLaws.{rows_none}
 use Rattle.session_state.specs.declared.session.Session.{Session}
 use Rattle.std.proofs.lemmas.List.{length-map}
 use Rattle.session_state.specs.declared.mark.Mark.{Mark}
@@ -49,6 +47,7 @@ kept_none schema s ops own written referred = record {
   written = subst (λ o. AreKeysOf (footprint_of schema o).written s.written) (sym ops) (subst (AreKeysOf []) (sym written) no_keys);
   referred = subst (λ o. AreKeysOf (footprint_of schema o).referred s.referred) (sym ops) (subst (AreKeysOf []) (sym referred) no_keys);
   defined = ap (are_defined schema) ops;
+  few = (let e : length s.ops.items ≡ 0 = ap length ops in omega arith);
   own_within = (let e : length s.own ≡ 0 = ap length own in omega arith);
   written_within = (let e : length s.written ≡ 0 = ap length written in omega arith);
   referred_within = (let e : length s.referred ≡ 0 = ap length referred in omega arith);
@@ -67,6 +66,7 @@ kept_wider schema old new kept ops rows written referred own_in written_in refer
   written = subst (λ o. AreKeysOf (footprint_of schema o).written new.written) (sym ops) written;
   referred = subst (λ o. AreKeysOf (footprint_of schema o).referred new.referred) (sym ops) referred;
   defined = ap (are_defined schema) ops ∙ kept.defined;
+  few = (let l : length new.ops.items ≡ length old.ops.items = ap length ops in let w = kept.few in omega arith);
   own_within = own_in;
   written_within = written_in;
   referred_within = referred_in;
@@ -76,12 +76,12 @@ kept_wider schema old new kept ops rows written referred own_in written_in refer
 }
 
 -- more operations
-pub kept_more : (schema : List TableDef) (more : List Op) (old new : Session) → IsKept schema old → are_defined schema more ≡ true → new.ops.items ≡ old.ops.items ++ more
+pub kept_more : (schema : List TableDef) (more : List Op) (old new : Session) → IsKept schema old → are_defined schema more ≡ true → length old.ops.items + length more ≤ greatest limit.Operations → new.ops.items ≡ old.ops.items ++ more
     → AreRowsOf schema (old.ops.items ++ more) new.own → AreKeysOf ((footprint_of schema old.ops.items).written ++ (footprint_of schema more).written) new.written → AreKeysOf ((footprint_of schema old.ops.items).referred ++ (footprint_of schema more).referred) new.referred
     → length new.own ≡ length old.own → length new.written ≡ length old.written → length new.referred ≡ length old.referred
     → ((n : ℕ) → HaveRoom (length more + n) old.own → HaveRoom n new.own) → ((n : ℕ) → KeysHaveRoom (length (footprint_of schema more).written + n) old.written → KeysHaveRoom n new.written) → ((n : ℕ) → KeysHaveRoom (length (footprint_of schema more).referred + n) old.referred → KeysHaveRoom n new.referred)
     → IsKept schema new
-kept_more schema more old new kept defined ops rows written referred own_long written_long referred_long own_room written_room referred_room =
+kept_more schema more old new kept defined few ops rows written referred own_long written_long referred_long own_room written_room referred_room =
     let print = footprint_more schema old.ops.items more in
     let all : length new.ops.items ≡ length old.ops.items + length more = ap length ops ∙ length-append old.ops.items more in
     let all_written : length (footprint_of schema new.ops.items).written ≡ length (footprint_of schema old.ops.items).written + length (footprint_of schema more).written = ap (λ o. length (footprint_of schema o).written) ops ∙ ap length print.0 ∙ length-append (footprint_of schema old.ops.items).written (footprint_of schema more).written in
@@ -91,6 +91,7 @@ kept_more schema more old new kept defined ops rows written referred own_long wr
       written = subst (λ o. AreKeysOf (footprint_of schema o).written new.written) (sym ops) (subst (λ k. AreKeysOf k new.written) (sym print.0) written);
       referred = subst (λ o. AreKeysOf (footprint_of schema o).referred new.referred) (sym ops) (subst (λ k. AreKeysOf k new.referred) (sym print.1) referred);
       defined = ap (are_defined schema) ops ∙ list_all-append (λ op. has_both schema (slice_get schema (table_of op).0)) old.ops.items more ∙ and_from (are_defined schema old.ops.items) (are_defined schema more) kept.defined defined;
+      few = omega arith;
       own_within = (let w = kept.own_within in omega arith);
       written_within = (let w = kept.written_within in omega arith);
       referred_within = (let w = kept.referred_within in omega arith);

@@ -1,5 +1,8 @@
 pub mod ApartLaws
+pub mod DefinedLaws
+pub mod GrownLaws
 pub mod HoldingLaws
 pub mod KeptLaws
 pub mod ListLaws
 pub mod LockLaws
+pub mod MeetingLaws

@@ -17,9 +17,9 @@ use Rattle.table_state.specs.Operations.{table_of}
 use Rattle.table_state.specs.Footprints.{referred_key, written_key}
 use Rattle.indexed_rows.specs.Rows.{Table}
 use Rattle.session_state.specs.declared.session.Session.{Session}
-use Rattle.session_state.specs.Holding.{is_held, keys_at}
+use Rattle.session_state.specs.Holding.{is_held}
 use Rattle.session_state.specs.Kept.{IsKept, seen_of}
-use Rattle.session_state.specs.Locks.{first_some, holder_by, holder_of, holds, is_other, keeper, met, writer, writes}
+use Rattle.session_state.specs.Locks.{first_some, holder_by, holds, is_other, keeper, met, writer, writes}
 use Rattle.session_state.proofs.ListLaws.{find_view}
 use Rattle.session_state.specs.Sessions.{OpenSession}
 

@@ -41,7 +41,9 @@ is_held keys key = contains_key (keys_at keys key.table) key.key
 
 -- exactly these keys are held
 abbrev pub AreKeysOf : List RowKey → List Table → Type 0
-AreKeysOf keys held = (t : TableId) (key : List Value) → is_held held (record { table = t; key = key }) ≡ is_among keys (record { table = t; key = key })
+AreKeysOf keys held =
+    (t : TableId) (key : List Value)
+    → is_held held (record { table = t; key = key }) ≡ is_among keys (record { table = t; key = key })
 
 -- each key's table is one of the first n
 abbrev pub KeysWithin : ℕ → List RowKey → Type 0

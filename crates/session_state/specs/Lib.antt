@@ -1,4 +1,5 @@
 pub mod Holding
 pub mod Kept
 pub mod Locks
+pub mod Meeting
 pub mod Sessions

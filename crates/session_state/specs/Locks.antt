@@ -42,7 +42,8 @@ first_some f (x ∷ xs) = option_or (f x) (first_some f xs)
 -- whom one operation meets: at the keys that it writes, then, of those that it names as parents, who wrote them
 abbrev pub holder_by : Option SessionId → List TableDef → List OpenSession → Op → Option SessionId
 holder_by but schema sessions op =
-    option_or (first_some (met but schema sessions) (written_by schema op)) (first_some (writer but schema sessions) (referred_by schema op))
+    option_or (first_some (met but schema sessions) (written_by schema op))
+    (first_some (writer but schema sessions) (referred_by schema op))
 
 -- whom operations meet: the first that meets a session decides, at its first such key
 abbrev pub holder_of : Option SessionId → List TableDef → List OpenSession → List Op → Option SessionId

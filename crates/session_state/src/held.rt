@@ -13,8 +13,8 @@ use std::alloc::{AllocError, Global};
 use std::marker::Model;
 use tier_base::TableId;
 
-/// Keys held, by the place of their table in the schema. Of tables past the end no key is held. Clauses see a list, a map
-/// without values for each table.
+/// Keys held, by the place of their table in the schema. Of tables past the end no key is held. Clauses see a list, a
+/// map without values for each table.
 #[derive(Drop)]
 pub struct HeldKeys {
     tables: Vec<Rows>,
@@ -69,7 +69,8 @@ impl HeldKeys {
     pub(crate) fn hold(&mut self, marks: Vec<Mark>)
         requires within { AreWithin (length self.old) marks.items }
         requires room { KeysHaveRoom (length marks.items) self.old }
-        ensures keys { (held : List OneKey) → AreKeysOf held self.old → AreKeysOf (held ++ map key_of_mark marks.items) self.new }
+        ensures keys { (held : List OneKey) → AreKeysOf held self.old
+            → AreKeysOf (held ++ map key_of_mark marks.items) self.new }
         ensures room { (n : ℕ) → KeysHaveRoom (length marks.items + n) self.old → KeysHaveRoom n self.new }
         ensures long { length self.new ≡ length self.old }
     {

@@ -25,14 +25,16 @@ fn is_other(but: Option<SessionId>, session: &Session) -> bool
 }
 
 fn is_held_by(session: &Session, table: TableId, places: &[usize], row: &Row) -> bool
-    ensures { result ≡ (is_held session.now.written (record { table = table; key = key_of places.now row.now }) || is_held session.now.referred (record { table = table; key = key_of places.now row.now })) }
+    ensures { result ≡ (is_held session.now.written (record { table = table; key = key_of places.now row.now })
+        || is_held session.now.referred (record { table = table; key = key_of places.now row.now })) }
 {
     session.written.has_key_of(table, places, row)
         || session.referred.has_key_of(table, places, row)
 }
 
 fn holds_key(session: &Session, table: TableId, key: &Key) -> bool
-    ensures { result ≡ (is_held session.now.written (record { table = table; key = key.now }) || is_held session.now.referred (record { table = table; key = key.now })) }
+    ensures { result ≡ (is_held session.now.written (record { table = table; key = key.now })
+        || is_held session.now.referred (record { table = table; key = key.now })) }
 {
     session.written.has_key(table, key) || session.referred.has_key(table, key)
 }
@@ -45,7 +47,8 @@ fn first_writer<'a>(
     places: &[usize],
     row: &Row,
 ) -> Option<&'a Session>
-    ensures { option_copied result ≡ find (λ s. is_other but (seen_of s) && is_held s.written (record { table = table; key = key_of places.now row.now })) sessions.now }
+    ensures { option_copied result ≡ find (λ s. is_other but (seen_of s)
+        && is_held s.written (record { table = table; key = key_of places.now row.now })) sessions.now }
 {
     sessions.iter().find(|session| {
         is_other(but, session) && session.written.has_key_of(table, places, row)
@@ -60,7 +63,9 @@ fn first_keeper<'a>(
     places: &[usize],
     row: &Row,
 ) -> Option<&'a Session>
-    ensures { option_copied result ≡ find (λ s. is_other but (seen_of s) && (is_held s.written (record { table = table; key = key_of places.now row.now }) || is_held s.referred (record { table = table; key = key_of places.now row.now }))) sessions.now }
+    ensures { option_copied result ≡ find (λ s. is_other but (seen_of s)
+        && (is_held s.written (record { table = table; key = key_of places.now row.now })
+        || is_held s.referred (record { table = table; key = key_of places.now row.now }))) sessions.now }
 {
     sessions.iter().find(|session| is_other(but, session)
         && is_held_by(session, table, places, row))
@@ -73,7 +78,9 @@ fn first_with_key<'a>(
     table: TableId,
     key: &Key,
 ) -> Option<&'a Session>
-    ensures { option_copied result ≡ find (λ s. is_other but (seen_of s) && (is_held s.written (record { table = table; key = key.now }) || is_held s.referred (record { table = table; key = key.now }))) sessions.now }
+    ensures { option_copied result ≡ find (λ s. is_other but (seen_of s)
+        && (is_held s.written (record { table = table; key = key.now })
+        || is_held s.referred (record { table = table; key = key.now }))) sessions.now }
 {
     sessions.iter().find(|session| is_other(but, session) && holds_key(session, table, key))
 }
@@ -95,7 +102,9 @@ fn writer(
     places: &[usize],
     row: &Row,
 ) -> Option<SessionId>
-    ensures { (schema : List Def) → All (IsKept schema) sessions.now → result ≡ writer but schema (map seen_of sessions.now) (record { table = table; key = key_of places.now row.now }) }
+    ensures { (schema : List Def) → All (IsKept schema) sessions.now
+        → result ≡ writer but schema (map seen_of sessions.now)
+        (record { table = table; key = key_of places.now row.now }) }
 {
     number_of(first_writer(sessions, but, table, places, row))
 }
@@ -108,7 +117,9 @@ fn keeper(
     places: &[usize],
     row: &Row,
 ) -> Option<SessionId>
-    ensures { (schema : List Def) → All (IsKept schema) sessions.now → result ≡ keeper but schema (map seen_of sessions.now) (record { table = table; key = key_of places.now row.now }) }
+    ensures { (schema : List Def) → All (IsKept schema) sessions.now
+        → result ≡ keeper but schema (map seen_of sessions.now)
+        (record { table = table; key = key_of places.now row.now }) }
 {
     number_of(first_keeper(sessions, but, table, places, row))
 }
@@ -120,7 +131,8 @@ pub fn keeper_of_key(
     table: TableId,
     key: &Key,
 ) -> Option<SessionId>
-    ensures { (schema : List Def) → All (IsKept schema) sessions.now → result ≡ keeper but schema (map seen_of sessions.now) (record { table = table; key = key.now }) }
+    ensures { (schema : List Def) → All (IsKept schema) sessions.now
+        → result ≡ keeper but schema (map seen_of sessions.now) (record { table = table; key = key.now }) }
 {
     number_of(first_with_key(sessions, but, table, key))
 }
@@ -133,7 +145,8 @@ fn met(
     def: Option<&TableDef>,
     row: &Row,
 ) -> Option<SessionId>
-    ensures { (schema : List Def) → All (IsKept schema) sessions.now → result ≡ first_some (met but schema (map seen_of sessions.now)) (written_key table (option_copied def.entry) row.now) }
+    ensures { (schema : List Def) → All (IsKept schema) sessions.now → result ≡ first_some
+        (met but schema (map seen_of sessions.now)) (written_key table (option_copied def.entry) row.now) }
 {
     match def {
         None => None,
@@ -154,7 +167,8 @@ fn parent_writer(
     def: Option<&TableDef>,
     row: &Row,
 ) -> Option<SessionId>
-    ensures { (schema : List Def) → All (IsKept schema) sessions.now → result ≡ first_some (writer but schema (map seen_of sessions.now)) (referred_key (option_copied def.entry) row.now) }
+    ensures { (schema : List Def) → All (IsKept schema) sessions.now → result ≡ first_some
+        (writer but schema (map seen_of sessions.now)) (referred_key (option_copied def.entry) row.now) }
 {
     match def {
         None => None,
@@ -233,9 +247,9 @@ fn first_holder(
     None
 }
 
-/// The session that operations meet at a row lock, but for the one that asks: the first operation that meets one decides, by
-/// the keys that it writes and then by the parents that it names. Where there is none, the operations conflict with those of
-/// no session but the one that asks. It takes no memory. (This project's rule.)
+/// The session that operations meet at a row lock, but for the one that asks: the first operation that meets one
+/// decides, by the keys that it writes and then by the parents that it names. Where there is none, the operations
+/// conflict with those of no session but the one that asks. It takes no memory. (This project's rule.)
 pub fn holder(
     sessions: &[Session],
     but: Option<SessionId>,

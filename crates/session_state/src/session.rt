@@ -1,6 +1,6 @@
 //! One open session.
 
-ghost use Rattle.std.specs.Prelude.{◌≡◌, ◌+◌, ◌++◌, ◌≤◌, List, [], IfOk, None, OnErr, OnOk, length, map, true};
+ghost use Rattle.std.specs.Prelude.{◌≡◌, ◌+◌, ◌++◌, ◌≤◌, List, [], IfOk, None, OnErr, OnOk, Some, length, map, true};
 ghost use Rattle.table_defs.specs.declared.definition.TableDef.{TableDef as Def};
 ghost use Rattle.tier_base.specs.declared.limit.Limit.{Limit as OneLimit};
 ghost use Rattle.tier_base.specs.declared.limit.Limit.TheVariants.{Operations};
@@ -12,9 +12,10 @@ ghost use Rattle.session_state.specs.Kept.{are_defined};
 
 use crate::held::HeldKeys;
 use crate::mark::{Mark, marks};
-use own_rows::{OwnTables, Steps, steps_of};
+use own_rows::{Overlay, OwnTables, Steps, steps_of};
 use std::alloc::{AllocError, Global};
 use table_defs::BackingSchema;
+use table_scan::Scan;
 use table_state::{Footprint, Op, Ops};
 use tier_base::{Label, SessionId};
 
@@ -42,7 +43,9 @@ pub struct Session {
 
 impl Session {
     ghost use Rattle.session_state.specs.Kept.{IsKept, seen_of};
-    ghost use Rattle.session_state.specs.Sessions.{at_rest, begun, with_flag, with_ops};
+    ghost use Rattle.session_state.specs.Sessions.{at_rest, begun, level_of, with_flag, with_ops};
+    ghost use Rattle.own_rows.specs.OwnTables.{AreShown};
+    ghost use Rattle.table_state.specs.Operations.{applied_all};
 
     /// A session that has written nothing. It takes no memory.
     pub fn start(alloc: Global, id: SessionId, label: Label, level: u8, durable: bool) -> Session
@@ -62,8 +65,8 @@ impl Session {
         }
     }
 
-    /// The transaction ends: its operations are forgotten, their keys are held no more, and the level that it was given is
-    /// gone. It takes no memory.
+    /// The transaction ends, as by COMMIT or ROLLBACK: its operations are forgotten, their keys are held no more, and
+    /// the level that it was given is gone. It takes no memory.
     pub fn rest(&mut self)
         ensures seen { seen_of self.new ≡ at_rest (seen_of self.old) }
         ensures kept { (schema : List Def) → IsKept schema self.new }
@@ -81,6 +84,26 @@ impl Session {
         ensures kept { (schema : List Def) → IsKept schema self.old → IsKept schema self.new }
     {
         self.flag = Some(level);
+    }
+
+    /// The level of passthrough that counts: that of the transaction, where it was given one, else the session's.
+    pub fn effective_level(&self) -> u8
+        ensures { result ≡ level_of (seen_of self.now) }
+    {
+        match self.flag {
+            None => self.level,
+            Some(level) => level,
+        }
+    }
+
+    /// The tables of a scan with the open operations over them: what these leave there. It takes no memory.
+    pub fn overlay<'a, S: Scan>(&'a self, under: &'a S) -> Overlay<'a, S>
+        requires kept { IsKept (S.state under.now).schema self.now }
+        requires shown { AreShown (seen_of self.now).ops (S.state under.now) }
+        ensures { applied_all (seen_of self.now).ops (S.state under.now)
+            ≡ Some (⟦<Overlay<'a, S> as Scan>⟧.state result) }
+    {
+        self.own.over(under)
     }
 
     /// The operations go behind the open ones, and their keys are held.
@@ -206,8 +229,10 @@ impl Drop for Ready {
 fn make_ready(alloc: Global, schema: &BackingSchema, ops: &Ops) -> Result<Ready, AllocError>
     requires { are_defined schema.now ops.now ≡ true }
     ensures steps { IfOk result (λ ready. AreStepsOf schema.now ops.now ready.steps) }
-    ensures written { IfOk result (λ ready. map key_of_mark ready.written.items ≡ (footprint_of schema.now ops.now).written) }
-    ensures referred { IfOk result (λ ready. map key_of_mark ready.referred.items ≡ (footprint_of schema.now ops.now).referred) }
+    ensures written { IfOk result (λ ready.
+        map key_of_mark ready.written.items ≡ (footprint_of schema.now ops.now).written) }
+    ensures referred { IfOk result (λ ready.
+        map key_of_mark ready.referred.items ≡ (footprint_of schema.now ops.now).referred) }
 {
     let footprint = Footprint::of(alloc, schema, ops.as_slice())?;
     let (written, referred) = footprint.into_parts();

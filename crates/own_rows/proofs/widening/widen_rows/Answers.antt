@@ -1,5 +1,5 @@
 -- A bare place more.
-use Rattle.std.proofs.Common.{◌≡◌, ◌+◌, length, sym, subst, arith}
+use Rattle.std.proofs.Common.{sym, subst, arith}
 use Rattle.own_rows.specs.Laying.{HaveRoom}
 use Rattle.own_rows.specs.OwnTables.{AreRowsOf}
 use Rattle.own_rows.proofs.RowsLaws.{one_more, room_wider, rows_wider}

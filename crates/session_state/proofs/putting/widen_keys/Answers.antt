@@ -1,5 +1,5 @@
 -- A place more without keys.
-use Rattle.std.proofs.Common.{◌≡◌, ◌≤◌, sym, subst, arith}
+use Rattle.std.proofs.Common.{sym, subst, arith}
 use Rattle.session_state.specs.Holding.{AreKeysOf, KeysHaveRoom}
 use Rattle.session_state.proofs.HoldingLaws.{keys_pad, keys_room_wider, one_more}
 use Rattle.session_state.proofs.putting.widen_keys.Goals as goal

@@ -2,7 +2,7 @@ use Rattle.std.proofs.Common.{◌<◌, All, length, map, sym, ap, subst, ◌∙�
 use Rattle.std.proofs.lemmas.List.{length-map}
 use Rattle.std.specs.List.{AllPairs}
 use Rattle.session_state.specs.Kept.{IsKept, seen_of}
-use Rattle.open_sessions.specs.Opening.{AreApartPair, DifferInNumber}
+use Rattle.open_sessions.specs.Opening.{AreApartPair, DifferInLabel, DifferInNumber}
 use Rattle.open_sessions.proofs.SessionLaws.{all_removed, closed_none, closed_one, found, none_has, pairs_removed}
 use Rattle.open_sessions.proofs.sessions.Sessions.close.Goals as goal
 
@@ -25,4 +25,5 @@ returns-in-Some-clause-sound c = λ schema sound.
       kept = subst (All (IsKept schema)) (sym c.remove.ensures.items) (all_removed (IsKept schema) xs i sound.kept);
       apart = subst (λ ys. AllPairs (AreApartPair schema) (map seen_of ys)) (sym c.remove.ensures.items) (pairs_removed schema (AreApartPair schema) xs i lt sound.apart);
       numbered = subst (λ ys. AllPairs DifferInNumber (map seen_of ys)) (sym c.remove.ensures.items) (pairs_removed schema DifferInNumber xs i lt sound.numbered);
+      labelled = subst (λ ys. AllPairs DifferInLabel (map seen_of ys)) (sym c.remove.ensures.items) (pairs_removed schema DifferInLabel xs i lt sound.labelled);
     }

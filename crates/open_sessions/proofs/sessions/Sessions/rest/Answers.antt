@@ -2,7 +2,7 @@ use Rattle.std.proofs.Common.{ap}
 use Rattle.std.proofs.lemmas.List.Elements.{All-set}
 use Rattle.session_state.specs.Kept.{IsKept}
 use Rattle.session_state.specs.Sessions.{at_rest}
-use Rattle.open_sessions.proofs.SessionLaws.{apart_rest, found, none_has, numbers_set, on_none, on_one}
+use Rattle.open_sessions.proofs.SessionLaws.{apart_rest, found, labels_set, none_has, numbers_set, on_none, on_one}
 use Rattle.open_sessions.proofs.sessions.Sessions.rest.Goals as goal
 
 pub returns-in-None-clause-seen : goal.returns-in-None-clause-seen
@@ -25,4 +25,5 @@ returns-in-Some-clause-sound c = λ schema sound.
       kept = All-set (IsKept schema) xs c.in-Some.place t (c.rest.ensures.kept schema) sound.kept;
       apart = apart_rest schema xs c.in-Some.place s t f.at c.rest.ensures.seen sound.apart;
       numbered = numbers_set schema xs c.in-Some.place s t f.at (ap (λ x. x.id) c.rest.ensures.seen) sound.numbered;
+      labelled = labels_set schema xs c.in-Some.place s t f.at (ap (λ x. x.label) c.rest.ensures.seen) sound.labelled;
     }

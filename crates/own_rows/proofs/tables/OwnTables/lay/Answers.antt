@@ -1,5 +1,5 @@
 -- The steps make the rows of the operations.
-use Rattle.std.proofs.Common.{◌≡◌, ◌++◌, length, sym, ap, subst, ◌∙◌}
+use Rattle.std.proofs.Common.{◌++◌, length, sym, ap, subst, ◌∙◌}
 use Rattle.std.proofs.lemmas.List.{with_items_is}
 use Rattle.own_rows.specs.Laying.{HaveRoom, stepped_all}
 use Rattle.own_rows.specs.OwnTables.{AreRowsOf}

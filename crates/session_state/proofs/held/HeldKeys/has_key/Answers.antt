@@ -1,6 +1,5 @@
 -- Where keys of the table are held.
 use Rattle.std.proofs.Common.{slice_get, ap, ◌∙◌}
-use Rattle.indexed_rows.specs.Rows.{key_of}
 use Rattle.session_state.proofs.LockLaws.{no_keys, some_keys}
 use Rattle.session_state.proofs.held.HeldKeys.has_key.Goals as goal
 

@@ -1,7 +1,7 @@
 -- The marks hold their keys.
 use Rattle.std.proofs.Common.{◌++◌, length, map, sym, ap, subst, ◌∙◌}
 use Rattle.std.proofs.lemmas.List.{with_items_is}
-use Rattle.session_state.specs.Holding.{AreKeysOf, AreWithin, KeysHaveRoom, key_of_mark, with_marks}
+use Rattle.session_state.specs.Holding.{AreKeysOf, KeysHaveRoom, key_of_mark, with_marks}
 use Rattle.session_state.proofs.HoldingLaws.{keys_more, marks_long, marks_room}
 use Rattle.session_state.proofs.held.HeldKeys.hold.Goals as goal
 

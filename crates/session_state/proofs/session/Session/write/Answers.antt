@@ -1,5 +1,5 @@
 -- All memory is taken first.
-use Rattle.std.proofs.Common.{◌+◌, ◌++◌, length, map, sym, ap, subst, ◌∙◌}
+use Rattle.std.proofs.Common.{arith, ◌+◌, ◌++◌, length, map, sym, ap, subst, ◌∙◌}
 use Rattle.table_state.specs.Footprints.{footprint_of}
 use Rattle.own_rows.specs.Laying.{AreStepsOf, HaveRoom}
 use Rattle.own_rows.proofs.StepLaws.{as_many, steps_ready}
@@ -45,6 +45,7 @@ returns-clause-kept c =
     let written_is = ap (λ v. map key_of_mark v.items) c.into_parts-steps.ensures.written ∙ c.in_ok-ready.ensures.written in
     let referred_is = ap (λ v. map key_of_mark v.items) c.into_parts-steps.ensures.referred ∙ c.in_ok-ready.ensures.referred in
     kept_more c.args.schema.now c.args.ops c.widen.new.self _ c.widen.ensures.kept c.requires.defined
+    (let same = ap (λ (s : OpenSession). length s.ops) c.widen.ensures.seen in let few = c.requires.few in omega arith)
     (c.in_ok-append.ensures.items ∙ ap (λ l. c.widen.new.self.ops.items ++ l) c.into_vec-more.ensures)
     (c.lay.ensures.rows c.args.schema.now c.widen.new.self.ops.items c.args.ops c.in_ok-widen.ensures.own are c.widen.ensures.kept.rows)
     (subst (λ k. AreKeysOf ((footprint_of c.args.schema.now c.widen.new.self.ops.items).written ++ k) c.hold.new.self) written_is (c.hold.ensures.keys _ c.widen.ensures.kept.written))
