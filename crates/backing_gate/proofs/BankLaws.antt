@@ -1,5 +1,6 @@
 -- Laws of tables and the history that left them.
-use Rattle.std.proofs.Common.{◌≡◌, ℕ, Some, None, Option, List, [], ◌∷◌, ◌++◌, refl, sym, ap, subst, ◌∙◌}
+use Rattle.std.proofs.Common.{◌≡◌, ℕ, ◌+◌, ◌<◌, Some, None, Option, List, [], ◌∷◌, ◌++◌, length, get_or, take, refl, sym, ap, subst, ◌∙◌}
+use Rattle.std.proofs.lemmas.List.{take_more}
 use Rattle.std.specs.Option.{option_and_then}
 use Rattle.row_types.specs.declared.value.Value.{Value}
 use Rattle.tier_base.specs.declared.number.TableId.{TableId}
@@ -25,6 +26,11 @@ state_push h e s is = state_of-append h (e ∷ []) ∙ ap (option_and_then (stat
 -- an entry came
 pub came : (h : List Entry) (e : Entry) (s n : TableState) → state_of h ≡ Some s → after_entry e s ≡ Some n → state_of (h ++ e ∷ []) ≡ Some n
 came h e s n is after = state_push h e s is ∙ ap (option_and_then (state_from [])) after
+
+-- a bank that went through the first entries goes through one more
+pub one_more : (entries : List Entry) (i : ℕ) (entry : Entry) (old new : List Entry) → i < length entries → entry ≡ get_or entries i entry → old ≡ take i entries → new ≡ old ++ entry ∷ [] → new ≡ take (i + 1) entries
+one_more entries i entry old new lt here is grows =
+    grows ∙ ap (λ (l : List Entry). l ++ entry ∷ []) is ∙ ap (λ (e : Entry). take i entries ++ e ∷ []) here ∙ sym (take_more entries i entry lt)
 
 -- it can't come
 pub stays_out : (h : List Entry) (e : Entry) (s : TableState) → state_of h ≡ Some s → after_entry e s ≡ None → state_of (h ++ e ∷ []) ≡ None

@@ -10,7 +10,10 @@ use Rattle.outside.specs.declared.fault.BankError.{BankError}
 use Rattle.outside.specs.declared.fault.BankError.TheVariants.{Failed, Memory}
 use Rattle.backing_gate.specs.Calling.{Begins, Ends, Unmarks, heeded, marked, wanting}
 use Rattle.backing_gate.specs.Heeding.{BankState, Goes, HasEffect, Heeds, IsMoment, MayVisit, bank_of}
-use Rattle.backing_gate.specs.Memory.{MemoryState, held_of, moment_of, possible_of, shared_of}
+use Rattle.memory_disk.specs.declared.memory_disk.MemoryDisk.{MemoryDisk}
+use Rattle.memory_disk.specs.Possible.{held_of as disk_held}
+use Rattle.backing_gate.specs.Memory.{MemoryState, held_of, moment_of, now_of, possible_of, shared_of}
+use Rattle.backing_gate.specs.declared.mark.Mark.{Mark}
 use Rattle.backing_gate.specs.Plans.{after_call}
 use Rattle.backing_gate.specs.Visits.{Visiting, after_bank_call, next_visit, visit_at}
 use Rattle.backing_gate.specs.declared.memory_site.Begun.{Begun}
@@ -22,7 +25,7 @@ use Rattle.backing_gate.specs.declared.visit.Side.TheVariants.{Before, Behind}
 use Rattle.backing_gate.proofs.MomentLaws.{Extends, around, extends_all, goes_on}
 
 -- what a call heeds is what is planned of it
-pub heeds_plan : {T : Type 0} (mark : Option ℕ) (plan : Option Outcome) (old new : BankState) (result : Result T BankError) (effect : Type 0) → Heeds (heeded mark plan) old new result effect → Heeds plan old new result effect
+pub heeds_plan : {T : Type 0} (mark : Option Mark) (plan : Option Outcome) (old new : BankState) (result : Result T BankError) (effect : Type 0) → Heeds (heeded mark plan) old new result effect → Heeds plan old new result effect
 heeds_plan (Some long) plan old new result effect h = h
 heeds_plan {T} None None old new result effect h = (h.1.1, λ failed. no result h.0 failed)
   where
@@ -44,7 +47,7 @@ pub heeds_all : {T : Type 0} (begun : Begun) (plan : Option Outcome) (old new : 
 heeds_all {T} begun plan old new result effect is h = heeds_plan {T = T} begun.mark plan old new result effect (subst (λ (o : Option Outcome). Heeds {T = T} o old new result effect) is h)
 
 without_mark : (begun : Begun) (plan : Option Outcome) → begun.outcome ≡ heeded begun.mark plan → begun.mark ≡ None → begun.outcome ≡ wanting plan
-without_mark begun plan is none = is ∙ ap (λ (m : Option ℕ). heeded m plan) none
+without_mark begun plan is none = is ∙ ap (λ (m : Option Mark). heeded m plan) none
 
 pub idle_all : {T : Type 0} (begun : Begun) (plan : Option Outcome) (old new : BankState) (result : Result T BankError) (effect : Type 0) → begun.outcome ≡ heeded begun.mark plan → Heeds begun.outcome old new result effect → begun.mark ≡ None → new.history ≡ old.history
 idle_all {T} begun plan old new result effect is h none = idle {T = T} plan old new result effect (subst (λ (o : Option Outcome). Heeds {T = T} o old new result effect) (without_mark begun plan is none) h)
@@ -62,7 +65,7 @@ none_comes : (shared : List TableId) (planned : Option (List Change)) (old new :
 none_comes shared None old new e = e
 none_comes shared (Some changes) old new e = inl e
 
-visit_of : (shared : List TableId) (planned : Option (List Change)) (old new : List Entry) (mark : Option ℕ) → MatchOption mark (new ≡ old) (λ long. MayVisit shared planned old new) → MayVisit shared planned old new
+visit_of : (shared : List TableId) (planned : Option (List Change)) (old new : List Entry) (mark : Option Mark) → MatchOption mark (new ≡ old) (λ mark. MayVisit shared planned old new) → MayVisit shared planned old new
 visit_of shared planned old new None e = none_comes shared planned old new e
 visit_of shared planned old new (Some long) h = h
 
@@ -79,8 +82,8 @@ grown_by_nothing old new tail is same = by tail is
     by (x ∷ t) e = let more : length new ≡ length old + length (x ∷ t) = ap length e ∙ length-append old (x ∷ t) in absurd (omega arith)
 
 module _ (kind : CallKind) (begun : Begun) (a b c d : MemoryState) (begins : Begins kind begun a b) (kept : c ≡ record b { history = c.history; bank_faults = c.bank_faults }) (ends : Ends begun c d) where
-  pub slots : d.slots ≡ a.slots
-  slots = ap (λ (s : MemoryState). s.slots) ends.state ∙ ap (λ (s : MemoryState). s.slots) kept ∙ ap (λ (s : MemoryState). s.slots) begins.state
+  disk : d.disk ≡ a.disk
+  disk = ap (λ (s : MemoryState). s.disk) ends.state ∙ ap (λ (s : MemoryState). s.disk) kept ∙ ap (λ (s : MemoryState). s.disk) begins.state
 
   visits_then : c.visits ≡ after_bank_call a.visits
   visits_then = ap (λ (s : MemoryState). s.visits) kept ∙ ap (λ (s : MemoryState). s.visits) begins.state
@@ -127,7 +130,7 @@ module _ (kind : CallKind) (begun : Begun) (a b c d : MemoryState) (begins : Beg
   module _ (step : List Entry → List Entry → Type 0) (own : step b.history c.history) (extends : Extends b.history c.history) (unmarked : begun.mark ≡ None → c.history ≡ b.history) where
     pub told : BankCall (shared_of a) step (held_of a) (held_of d)
     told = record {
-      slots = slots;
+      slots = ap (λ (x : MemoryDisk). (disk_held x).slots) disk;
       history = around a.visits.shared (next_visit Before a.visits) (next_visit Behind a.visits) step a.history b.history c.history d.history before own behind;
     }
 
@@ -140,13 +143,15 @@ module _ (kind : CallKind) (begun : Begun) (a b c d : MemoryState) (begins : Beg
     pub moment : IsMoment a d
     moment = by begun.mark refl begins.mark begins.came ends.came ends.past past_then
       where
-        by : (m : Option ℕ) → begun.mark ≡ m → IfSome m (λ long. long ≡ length a.history) → MatchOption m (b.history ≡ a.history) (λ long. MayVisit a.visits.shared (next_visit Before a.visits) a.history b.history)
-            → MatchOption m (d.history ≡ c.history) (λ long. MayVisit c.visits.shared (visit_at Behind begun.number c.visits.visits) c.history d.history) → MatchOption m (d.past ≡ c.past) (λ long. Unmarks long c d) → c.past ≡ marked m a.past → IsMoment a d
-        by None is long same_before same_behind past then = inl (past ∙ then, same_behind ∙ unmarked is ∙ same_before)
-        by (Some n) is long came_before came_behind unmarks then = elim (unmarks a.past then) [
-          | inl back ↦ inl (back.0, grown_by_nothing a.history d.history grown.0 grown.1 (back.1 ∙ long))
-          | inr stays ↦ inr (stays.0 ∙ then ∙ ap (λ (x : ℕ). a.past ++ x ∷ []) long, λ e. stays.1 (e ∙ sym long))
-        ]
+        by : (m : Option Mark) → begun.mark ≡ m → IfSome m (λ mark. mark ≡ now_of a) → MatchOption m (b.history ≡ a.history) (λ mark. MayVisit a.visits.shared (next_visit Before a.visits) a.history b.history)
+            → MatchOption m (d.history ≡ c.history) (λ mark. MayVisit c.visits.shared (visit_at Behind begun.number c.visits.visits) c.history d.history) → MatchOption m (d.past ≡ c.past) (λ mark. Unmarks mark c d) → c.past ≡ marked m a.past → IsMoment a d
+        by None is far same_before same_behind past then = inl (record { past = past ∙ then; same = same_behind ∙ unmarked is ∙ same_before })
+        by (Some n) is far came_before came_behind unmarks then =
+            let long : n.entries ≡ length a.history = ap (λ (m : Mark). m.entries) far in
+            elim (unmarks a.past then) [
+              | inl back ↦ inl (record { past = back.past; same = grown_by_nothing a.history d.history grown.0 grown.1 (back.same ∙ long) })
+              | inr stays ↦ inr (record { past = stays.past ∙ then ∙ ap (λ (m : Mark). a.past ++ m ∷ []) far; longer = λ e. stays.longer (e ∙ sym long) })
+            ]
 
     pub crash : GoesOn moment_of possible_of a d (BankCall (shared_of a) step)
-    crash = goes_on a d (BankCall (shared_of a) step) slots grown moment told
+    crash = goes_on a d (shared_of a) step disk grown moment told.history

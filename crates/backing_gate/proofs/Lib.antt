@@ -1,6 +1,8 @@
 pub mod BankLaws
 pub mod CallLaws
+pub mod CrashLaws
 pub mod DifferenceLaws
+pub mod DiskCallLaws
 pub mod GrowthLaws
 pub mod MomentLaws
 pub mod PlanLaws

@@ -1,5 +1,6 @@
 pub mod Calling
 pub mod Heeding
+pub mod Marks
 pub mod Memory
 pub mod Plans
 pub mod SiteCode

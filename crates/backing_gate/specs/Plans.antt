@@ -3,7 +3,7 @@
 use Rattle.std.specs.Prelude.{ℕ, ◌+◌, ◌-◌, ◌^◌, List, [], ◌∷◌, ◌++◌, Option, Bool, true, false, ◌&&◌, ◌==◌, min, find}
 use Rattle.std.specs.Option.{option_map}
 use Rattle.backing_gate.specs.declared.plan.CallKind.{CallKind}
-use Rattle.backing_gate.specs.declared.plan.CallKind.TheVariants.{Schema, Define, ApplyOnce, Find, Foreign, Snapshot, Len}
+use Rattle.backing_gate.specs.declared.plan.CallKind.TheVariants.{Schema, Define, ApplyOnce, Find, Foreign, Snapshot, Len, ReadAt, WriteAt, Cut, Sync}
 use Rattle.backing_gate.specs.declared.plan.CallCounts.{CallCounts}
 use Rattle.backing_gate.specs.declared.plan.Outcome.{Outcome}
 use Rattle.backing_gate.specs.declared.plan.Plan.{Plan}
@@ -13,8 +13,23 @@ pub record Planned : Type 0 where
   pub plans : List Plan
   pub calls : CallCounts
 
+abbrev pub no_calls : CallCounts
+no_calls = record {
+  schema = 0;
+  define = 0;
+  apply_once = 0;
+  find = 0;
+  foreign = 0;
+  snapshot = 0;
+  len = 0;
+  read_at = 0;
+  write_at = 0;
+  cut = 0;
+  sync = 0;
+}
+
 abbrev pub no_plans : Planned
-no_plans = record { plans = []; calls = record { schema = 0; define = 0; apply_once = 0; find = 0; foreign = 0; snapshot = 0; len = 0 } }
+no_plans = record { plans = []; calls = no_calls }
 
 abbrev pub number_of : CallKind → CallCounts → ℕ
 number_of Schema calls = calls.schema
@@ -24,6 +39,10 @@ number_of Find calls = calls.find
 number_of Foreign calls = calls.foreign
 number_of Snapshot calls = calls.snapshot
 number_of Len calls = calls.len
+number_of ReadAt calls = calls.read_at
+number_of WriteAt calls = calls.write_at
+number_of Cut calls = calls.cut
+number_of Sync calls = calls.sync
 
 -- one more, up to the last value of a count
 abbrev pub one_more : ℕ → ℕ
@@ -37,6 +56,10 @@ counted Find calls = record calls { find = one_more calls.find }
 counted Foreign calls = record calls { foreign = one_more calls.foreign }
 counted Snapshot calls = record calls { snapshot = one_more calls.snapshot }
 counted Len calls = record calls { len = one_more calls.len }
+counted ReadAt calls = record calls { read_at = one_more calls.read_at }
+counted WriteAt calls = record calls { write_at = one_more calls.write_at }
+counted Cut calls = record calls { cut = one_more calls.cut }
+counted Sync calls = record calls { sync = one_more calls.sync }
 
 abbrev pub same_kind : CallKind → CallKind → Bool
 same_kind Schema Schema = true
@@ -46,6 +69,10 @@ same_kind Find Find = true
 same_kind Foreign Foreign = true
 same_kind Snapshot Snapshot = true
 same_kind Len Len = true
+same_kind ReadAt ReadAt = true
+same_kind WriteAt WriteAt = true
+same_kind Cut Cut = true
+same_kind Sync Sync = true
 same_kind a b = false
 
 -- the plan is for the call of this kind and number

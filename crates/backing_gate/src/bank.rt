@@ -1,6 +1,6 @@
 //! Tables with the history that they come of.
 
-ghost use Rattle.std.specs.Prelude.{◌≡◌, [], ◌∷◌, ◌++◌, false, length, IfErr, IfOk, IfSome, IsSome, Ok, OnErr, OnOk, Some};
+ghost use Rattle.std.specs.Prelude.{◌≡◌, ◌≤◌, [], ◌∷◌, ◌++◌, false, length, take, IfErr, IfOk, IfSome, IsSome, Ok, OnErr, OnOk, Some};
 ghost use Rattle.std.specs.Result.{IsErrOf};
 ghost use Rattle.std.specs.FinMap.{get};
 ghost use Rattle.table_state.specs.declared.history.Entry.{Entry};
@@ -24,7 +24,7 @@ use row_types::{Key, Row};
 use std::alloc::{AllocError, Global};
 use std::marker::Model;
 use table_defs::{BackingSchema, TableDef};
-use table_state::{ApplyError, History, Op, Ops, Sealed, Tables, copied_ops};
+use table_state::{ApplyError, Entry, History, Op, Ops, Sealed, Tables, copied_ops};
 use tier_base::{Position, Seq, TableId, Ticket};
 use transactions::write_all;
 
@@ -38,12 +38,12 @@ struct Tried {
 
 /// The backing tables, with the history that left them. Clauses see the history.
 #[derive(Drop)]
-pub(crate) struct Bank {
+pub struct MemoryBank {
     ledger: Ledger,
     tables: Tables,
 }
 
-impl Model for Bank {
+impl Model for MemoryBank {
     ghost use Rattle.std.specs.Prelude.{◌≡◌, List, Some};
     ghost use Rattle.table_state.specs.declared.history.Entry.{Entry};
     ghost use Rattle.table_state.specs.Histories.{state_of};
@@ -55,22 +55,72 @@ impl Model for Bank {
     ghost invariant = { λ b. state_of b.ledger ≡ Some b.tables };
 }
 
-impl Bank {
+impl MemoryBank {
     /// A bank without tables. It takes no memory.
-    pub(crate) fn new(alloc: Global) -> Bank
+    pub fn new(alloc: Global) -> MemoryBank
         ensures { result ≡ [] }
     {
-        Bank {
+        MemoryBank {
             ledger: Ledger::new(alloc),
             tables: Tables::new(alloc),
         }
     }
 
     /// The history.
-    pub(crate) fn history(&self) -> &History
+    pub fn history(&self) -> &History
         ensures { result.now ≡ self.now }
     {
         self.ledger.entries()
+    }
+
+    /// A bank that went through the first entries of this one, so many as are asked for.
+    ///
+    /// It fails for want of memory alone.
+    pub(crate) fn at(&self, alloc: Global, entries: usize) -> Result<MemoryBank, AllocError>
+        requires { entries ≤ length self.now }
+        ensures { IfOk result (λ bank. bank ≡ take entries self.now) }
+    {
+        MemoryBank::following(alloc, &self.ledger.entries().as_slice()[..entries])
+    }
+
+    // A bank that goes through these entries.
+    fn following(alloc: Global, entries: &[Entry]) -> Result<MemoryBank, AllocError>
+        ensures { IfOk result (λ bank. bank ≡ entries.now) }
+    {
+        let mut bank = MemoryBank::new(alloc);
+        for entry in entries {
+            bank.follow(alloc, entry)?;
+        }
+        Ok(bank)
+    }
+
+    // Goes through one entry more. An entry that doesn't apply, or whose ticket is there, is told as want of memory: no
+    // bank went through such entries.
+    fn follow(&mut self, alloc: Global, entry: &Entry) -> Result<(), AllocError>
+        ensures { OnOk result (self.new ≡ self.old ++ entry.now ∷ []) }
+    {
+        match entry {
+            Entry::Definition(def) => self.define(alloc, def),
+            Entry::Foreign(ops) => match self.add_foreign(alloc, ops.as_slice()) {
+                Ok(()) => Ok(()),
+                Err(_) => Err(AllocError),
+            },
+            Entry::Own(ticket, ops) => self.follow_own(alloc, *ticket, ops.as_slice()),
+        }
+    }
+
+    // The same of a transaction of the tier.
+    fn follow_own(&mut self, alloc: Global, ticket: Ticket, ops: &[Op]) -> Result<(), AllocError>
+        ensures { OnOk result (self.new ≡ self.old ++ Entry.Own ticket ops.now ∷ []) }
+    {
+        if self.ledger.position_of(ticket).is_some() {
+            return Err(AllocError);
+        }
+        let ops = copied_ops(alloc, ops)?;
+        match self.record(alloc, &Sealed { ticket, ops }) {
+            Ok(()) => Ok(()),
+            Err(_) => Err(AllocError),
+        }
     }
 
     /// The definitions of the tables, in the order in which they were made.

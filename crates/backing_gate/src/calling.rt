@@ -3,13 +3,25 @@
 ghost use Rattle.std.specs.Prelude.{◌≡◌};
 ghost use Rattle.backing_gate.specs.Calling.{Begins, Ends, Unmarks, wanting};
 ghost use Rattle.backing_gate.specs.Heeding.{MayVisit};
+ghost use Rattle.backing_gate.specs.Memory.{now_of};
 ghost use Rattle.backing_gate.specs.Visits.{visit_at};
 
+use crate::mark::Mark;
 use crate::memory_site::{Begun, MemorySite};
 use crate::plan::{CallKind, Outcome, When};
 use crate::visit::Side;
 
 impl MemorySite {
+    /// How far the site is.
+    pub(crate) fn mark(&self) -> Mark
+        ensures { result ≡ now_of self.now }
+    {
+        Mark {
+            calls: self.disk.moments(),
+            entries: self.bank.history().len() as u64,
+        }
+    }
+
     /// Begins a call: counts it, marks its moment, and lets those transactions of others come that are planned before
     /// it. Where memory is wanting for the mark, nothing may come in this call.
     pub(crate) fn begin(&mut self, kind: CallKind) -> Begun
@@ -17,8 +29,8 @@ impl MemorySite {
     {
         let outcome = self.plans.next(kind);
         let number = self.visits.next();
-        let long = self.bank.history().len() as u64;
-        match self.past.push(long) {
+        let mark = self.mark();
+        match self.past.push(mark) {
             Err(_) => {
                 return Begun {
                     outcome: wanting(outcome),
@@ -31,7 +43,7 @@ impl MemorySite {
                 return Begun {
                     outcome,
                     number,
-                    mark: Some(long),
+                    mark: Some(mark),
                 };
             }
         }
@@ -44,9 +56,9 @@ impl MemorySite {
     {
         match begun.mark {
             None => {}
-            Some(long) => {
+            Some(mark) => {
                 self.heed_others(Side::Behind, begun.number);
-                self.unmark(long);
+                self.unmark(mark);
             }
         }
     }
@@ -66,11 +78,11 @@ impl MemorySite {
     }
 
     // Takes the mark back where the history is as long as it was.
-    fn unmark(&mut self, long: u64)
-        ensures past { Unmarks long self.old self.new }
+    fn unmark(&mut self, mark: Mark)
+        ensures past { Unmarks mark self.old self.new }
         ensures kept { self.new ≡ record self.old { past = self.new.past } }
     {
-        if self.bank.history().len() as u64 == long {
+        if self.bank.history().len() as u64 == mark.entries {
             let _ = self.past.pop();
         }
     }

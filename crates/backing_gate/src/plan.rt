@@ -21,8 +21,16 @@ pub enum CallKind {
     Foreign,
     /// `snapshot`.
     Snapshot,
-    /// `len`.
+    /// `len` of the disk.
     Len,
+    /// `read_at` of the disk.
+    ReadAt,
+    /// `write_at` of the disk.
+    WriteAt,
+    /// `cut` of the disk.
+    Cut,
+    /// `sync` of the disk.
+    Sync,
 }
 
 /// When a call fails.
@@ -71,6 +79,14 @@ pub struct CallCounts {
     pub snapshot: u64,
     /// Of `len`.
     pub len: u64,
+    /// Of `read_at`.
+    pub read_at: u64,
+    /// Of `write_at`.
+    pub write_at: u64,
+    /// Of `cut`.
+    pub cut: u64,
+    /// Of `sync`.
+    pub sync: u64,
 }
 
 impl CallCounts {
@@ -86,6 +102,10 @@ impl CallCounts {
             CallKind::Foreign => self.foreign,
             CallKind::Snapshot => self.snapshot,
             CallKind::Len => self.len,
+            CallKind::ReadAt => self.read_at,
+            CallKind::WriteAt => self.write_at,
+            CallKind::Cut => self.cut,
+            CallKind::Sync => self.sync,
         }
     }
 
@@ -101,6 +121,10 @@ impl CallCounts {
             CallKind::Foreign => self.foreign = self.foreign.saturating_add(1),
             CallKind::Snapshot => self.snapshot = self.snapshot.saturating_add(1),
             CallKind::Len => self.len = self.len.saturating_add(1),
+            CallKind::ReadAt => self.read_at = self.read_at.saturating_add(1),
+            CallKind::WriteAt => self.write_at = self.write_at.saturating_add(1),
+            CallKind::Cut => self.cut = self.cut.saturating_add(1),
+            CallKind::Sync => self.sync = self.sync.saturating_add(1),
         }
     }
 }
@@ -140,6 +164,10 @@ impl Plans {
                 foreign: 0,
                 snapshot: 0,
                 len: 0,
+                read_at: 0,
+                write_at: 0,
+                cut: 0,
+                sync: 0,
             },
         }
     }

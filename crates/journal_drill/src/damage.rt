@@ -50,12 +50,41 @@ pub fn tell_damage(alloc: Global, out: &mut Vec<u8>) -> Result<(), DrillError> {
 
 /// A slot whose body has a byte that begins no entry behind ticket 1.
 const BROKEN: [u8; 26] = [
-    1, 1, 0, 0, 0, 0, 0, 0, 0, 1, 1, 0, 0, 0, 10, 3, 0, 0, 0, 0, 0, 0, 0, 1, 9, 0,
+    1, 1, 0, 0, 0, 0, 0, 0, 0, 1, 1, 0, 0, 0, 10, 3, 0, 0, 0, 0, 0, 0, 0, 1, 0x7f, 0,
+];
+
+/// The same with the gate of the batch closed.
+const CLOSED: [u8; 26] = [
+    1, 1, 0, 0, 0, 0, 0, 0, 0, 1, 0, 0, 0, 0, 10, 3, 0, 0, 0, 0, 0, 0, 0, 1, 0x7f, 0,
+];
+
+/// The same with the byte FF as that gate.
+const TORN: [u8; 26] = [
+    1, 1, 0, 0, 0, 0, 0, 0, 0, 1, 0xff, 0, 0, 0, 10, 3, 0, 0, 0, 0, 0, 0, 0, 1, 0x7f, 0,
+];
+
+/// A slot with nothing behind its head, of version 7.
+const UNKNOWN: [u8; 11] = [1, 7, 0, 0, 0, 0, 0, 0, 0, 1, 0];
+
+/// A commit with ticket 1 that inserts 12.35, of scale 2, into A: of version 1, and of version 2.
+const SCALED_OLD: [u8; 41] = [
+    1, 1, 0, 0, 0, 0, 0, 0, 0, 1, 1, 0, 0, 0, 25, 1, 0, 0, 0, 0, 0, 0, 0, 1, 0, 1, 1, 1, 0x41, 1,
+    4, 2, 0, 0, 0, 0, 0, 0, 4, 0xd3, 0,
+];
+
+const SCALED: [u8; 41] = [
+    1, 2, 0, 0, 0, 0, 0, 0, 0, 1, 1, 0, 0, 0, 25, 1, 0, 0, 0, 0, 0, 0, 0, 1, 0, 1, 1, 1, 0x41, 1,
+    4, 2, 0, 0, 0, 0, 0, 0, 4, 0xd3, 0,
 ];
 
 /// Both slots: what is told of them, and the bytes of each.
-const PAIRS: [(&str, &[u8], &[u8]); 7] = [
+const PAIRS: [(&str, &[u8], &[u8]); 12] = [
     ("a byte that begins no entry", &BROKEN, &[0]),
+    ("the same behind a closed gate", &CLOSED, &[0]),
+    ("the same behind a gate of ff", &TORN, &[0]),
+    ("11 bytes of version 7", &UNKNOWN, &[0]),
+    ("a number with a scale in version 1", &SCALED_OLD, &[0]),
+    ("a number with a scale in version 2", &SCALED, &[0]),
     ("slot 1 alone", &[0], &WHOLE),
     ("equal generations", &NEW, &WHOLE),
     ("a greater generation in slot 1", &WHOLE, &GREATER),

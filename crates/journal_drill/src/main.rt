@@ -31,7 +31,7 @@ const TASKS: [(&str, Task); 6] = [
     ("a flush of a ticket", Task::Flush),
     ("a rotation with a mark", Task::Rotate),
     ("a version 1 slot, rotated with a mark", Task::Upgrade),
-    ("a body behind the others", Task::Append),
+    ("a commit as a body behind the others", Task::Append),
     ("a body in slot 0, where no slot is live", Task::Adopt),
 ];
 

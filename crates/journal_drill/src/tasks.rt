@@ -18,7 +18,7 @@ pub enum Task {
     Rotate,
     /// The same, of a slot of version 1.
     Upgrade,
-    /// A body is put behind the entries of a new journal.
+    /// A body, a commit, is put behind the entries of a new journal.
     Append,
     /// A body is put into slot 0 where no slot is live.
     Adopt,
@@ -35,6 +35,12 @@ const OLD: [u8; 11] = [1, 1, 0, 0, 0, 0, 0, 0, 0, 1, 0];
 
 /// A body: ticket 1 of a write that is passed on.
 const PASSED: [u8; 9] = [3, 0, 0, 0, 0, 0, 0, 0, 1];
+
+/// A body: a commit with ticket 1 that inserts (3, 30) into A.
+const COMMIT: [u8; 33] = [
+    1, 0, 0, 0, 0, 0, 0, 0, 1, 0, 1, 1, 1, 0x41, 2, 1, 0, 0, 0, 0, 0, 0, 0, 3, 1, 0, 0, 0, 0, 0, 0,
+    0, 30,
+];
 
 /// The disk that a task begins on.
 pub fn stage(alloc: Global, task: Task) -> Result<MemoryDisk, DrillError> {
@@ -99,10 +105,10 @@ fn append(alloc: Global, journal: &mut Journal, disk: &mut MemoryDisk) -> Result
     if journal.gate() > 1 << 30 {
         return Err(DrillError::Refused);
     }
-    if !journal.readable(alloc, &PASSED, false)? {
+    if !journal.readable(alloc, &COMMIT, false)? {
         return Err(DrillError::Refused);
     }
-    journal.append(alloc, disk, &PASSED)?;
+    journal.append(alloc, disk, &COMMIT)?;
     Ok(())
 }
 

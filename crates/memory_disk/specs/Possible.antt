@@ -5,6 +5,7 @@ use Rattle.tier_base.specs.declared.number.TableId.{TableId}
 use Rattle.outside.specs.declared.disk.Slot.TheVariants.{First, Second}
 use Rattle.outside.specs.Holding.{Held}
 use Rattle.memory_disk.specs.declared.call.DiskCall.{DiskCall}
+use Rattle.memory_disk.specs.declared.failure.Failure.{Failure}
 use Rattle.memory_disk.specs.declared.memory_disk.MemoryDisk.{MemoryDisk}
 use Rattle.memory_disk.specs.Images.{Image, after_calls, certain_image}
 
@@ -59,3 +60,11 @@ pub record IsUntouched (old new : MemoryDisk) : Type 0 where
 -- two slots that were never used
 abbrev pub unused : Held
 unused = record { slots = record { first = 0 ∷ []; second = 0 ∷ [] }; history = [] }
+
+-- which calls of it are planned to fail
+abbrev pub plans_of : MemoryDisk → List Failure
+plans_of d = d.failing.items
+
+-- no call of it is
+abbrev pub IsUnplanned : MemoryDisk → Type 0
+IsUnplanned d = plans_of d ≡ []

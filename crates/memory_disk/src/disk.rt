@@ -1,13 +1,14 @@
 //! How the disk in memory is a disk.
 
-ghost use Rattle.std.specs.Prelude.{◌≡◌, ◌+◌, ◌≤◌, [], ◌∷◌, length, true, false, IfOk, OnErr, OnOk, Some};
-ghost use Rattle.outside.specs.Calls.{Durable, GoesOn, HasLength, MayCut, MayWrite, ReadsFrom, Same, Stays, Told, WasCut, Wrote};
+ghost use Rattle.std.specs.Prelude.{◌≡◌, ◌+◌, ◌≤◌, [], ◌∷◌, length, true, false, IfOk, None, OnErr, OnOk, Some};
+ghost use Rattle.std.specs.Result.{IsErr, IsOk};
+ghost use Rattle.outside.specs.Calls.{Certain, Durable, GoesOn, HasLength, MayCut, MayWrite, ReadsFrom, Same, Stays, Told, WasCut, Wrote};
 ghost use Rattle.outside.specs.Faults.{HasCause, Rose};
 ghost use Rattle.outside.specs.Holding.{slot_of};
 ghost use Rattle.outside.specs.declared.disk.Slot.TheVariants.{First, Second};
 ghost use Rattle.memory_disk.specs.declared.call.DiskCall.TheVariants as call;
 ghost use Rattle.memory_disk.specs.DiskLaws.{certain_law, possible_law};
-ghost use Rattle.memory_disk.specs.Possible.{IsDone, IsIdle, IsUntouched, held_of, moment_of, possible_of, shared_of, told_of, unused};
+ghost use Rattle.memory_disk.specs.Possible.{IsDone, IsIdle, IsUnplanned, IsUntouched, held_of, moment_of, plans_of, possible_of, shared_of, told_of, unused};
 
 use crate::call::DiskCall;
 use crate::failure::{Failure, When};
@@ -25,6 +26,8 @@ impl MemoryDisk {
     pub fn new(alloc: Global, failing: Vec<Failure>) -> Result<MemoryDisk, AllocError>
         ensures held { IfOk result (λ d. told_of d ≡ Some unused) }
         ensures moment { IfOk result (λ d. moment_of d ≡ 0) }
+        ensures certain { IfOk result (λ d. Certain told_of moment_of possible_of d (held_of d)) }
+        ensures plans { IfOk result (λ d. plans_of d ≡ failing.items) }
     {
         let base_first = Vec::from_slice(alloc, &[0])?;
         let base_second = Vec::from_slice(alloc, &[0])?;
@@ -62,10 +65,15 @@ impl MemoryDisk {
 
     // Counts a call, and tells when it is to fail, if it is.
     fn planned(&mut self) -> Option<When>
-        ensures { IsUntouched self.old self.new }
+        ensures same { IsUntouched self.old self.new }
+        ensures plans { plans_of self.new ≡ plans_of self.old }
+        ensures unplanned { IsUnplanned self.old → result ≡ None }
     {
         let call = self.made;
         self.made = self.made.saturating_add(1);
+        if self.failing.is_empty() {
+            return None;
+        }
         match self.failing.iter().find(|failure| failure.call == call) {
             None => None,
             Some(failure) => Some(failure.when),
@@ -75,6 +83,7 @@ impl MemoryDisk {
     // Counts a fault.
     fn fault(&mut self) -> DiskFault
         ensures same { IsIdle self.old self.new }
+        ensures plans { plans_of self.new ≡ plans_of self.old }
         ensures rose { Rose self.old.faults self.new.faults }
         ensures later { self.old.faults ≤ self.new.faults }
     {
@@ -86,6 +95,7 @@ impl MemoryDisk {
     fn sync_slot(&mut self, slot: Slot) -> bool
         ensures done { result ≡ true → IsDone (call.Sync slot) self.old self.new }
         ensures else_same { result ≡ false → IsUntouched self.old self.new }
+        ensures plans { plans_of self.new ≡ plans_of self.old }
     {
         if self.calls.reserve(1).is_err() {
             return false;
@@ -107,6 +117,7 @@ impl MemoryDisk {
         requires { at ≤ length self.old.first.items }
         ensures done { OnOk result (IsDone (call.Write First at bytes.now) self.old self.new) }
         ensures else_same { OnErr result (IsUntouched self.old self.new) }
+        ensures plans { plans_of self.new ≡ plans_of self.old }
     {
         let copy = Seq::from_vec(Vec::from_slice(self.alloc, bytes)?);
         self.calls.reserve(1)?;
@@ -121,6 +132,7 @@ impl MemoryDisk {
         requires { at ≤ length self.old.second.items }
         ensures done { OnOk result (IsDone (call.Write Second at bytes.now) self.old self.new) }
         ensures else_same { OnErr result (IsUntouched self.old self.new) }
+        ensures plans { plans_of self.new ≡ plans_of self.old }
     {
         let copy = Seq::from_vec(Vec::from_slice(self.alloc, bytes)?);
         self.calls.reserve(1)?;
@@ -135,6 +147,7 @@ impl MemoryDisk {
         ensures within { result ≡ true → at ≤ length (slot_of slot (held_of self.old).slots) }
         ensures done { result ≡ true → IsDone (call.Write slot at bytes.now) self.old self.new }
         ensures else_same { result ≡ false → IsUntouched self.old self.new }
+        ensures plans { plans_of self.new ≡ plans_of self.old }
     {
         match slot {
             Slot::First => {
@@ -157,6 +170,7 @@ impl MemoryDisk {
         ensures within { result ≡ true → len ≤ length (slot_of slot (held_of self.old).slots) }
         ensures done { result ≡ true → IsDone (call.Cut slot len) self.old self.new }
         ensures else_same { result ≡ false → IsUntouched self.old self.new }
+        ensures plans { plans_of self.new ≡ plans_of self.old }
     {
         if self.calls.reserve(1).is_err() {
             return false;
@@ -193,7 +207,15 @@ impl Disk for MemoryDisk {
 
     ghost disk_faults = { λ d. d.faults };
 
-    fn len(&mut self, slot: Slot) -> Result<u64, DiskFault> {
+    fn len(&mut self, slot: Slot) -> Result<u64, DiskFault>
+        ensures told { Told (told_of self.old) (told_of self.new) (HasLength slot result) }
+        ensures crash { GoesOn moment_of possible_of self.old self.new Stays }
+        ensures shares { shared_of self.new ≡ shared_of self.old }
+        ensures cause { HasCause self.old.faults self.new.faults result }
+        ensures plans { plans_of self.new ≡ plans_of self.old }
+        ensures same { IsIdle self.old self.new }
+        ensures answers { IsUnplanned self.old → IsOk result }
+    {
         if self.planned().is_some() {
             return Err(self.fault());
         }
@@ -203,7 +225,15 @@ impl Disk for MemoryDisk {
         }
     }
 
-    fn read_at(&mut self, slot: Slot, at: u64, buf: &mut [u8]) -> Result<usize, DiskFault> {
+    fn read_at(&mut self, slot: Slot, at: u64, buf: &mut [u8]) -> Result<usize, DiskFault>
+        ensures told { Told (told_of self.old) (told_of self.new) (ReadsFrom slot at buf.new result) }
+        ensures crash { GoesOn moment_of possible_of self.old self.new Stays }
+        ensures shares { shared_of self.new ≡ shared_of self.old }
+        ensures cause { HasCause self.old.faults self.new.faults result }
+        ensures plans { plans_of self.new ≡ plans_of self.old }
+        ensures same { IsIdle self.old self.new }
+        ensures answers { IsUnplanned self.old → IsOk result }
+    {
         if self.planned().is_some() {
             return Err(self.fault());
         }
@@ -214,7 +244,14 @@ impl Disk for MemoryDisk {
     }
 
     /// It fails, with nothing written, where the place is behind the slot's end, and for want of memory.
-    fn write_at(&mut self, slot: Slot, at: u64, bytes: &[u8]) -> Result<(), DiskFault> {
+    fn write_at(&mut self, slot: Slot, at: u64, bytes: &[u8]) -> Result<(), DiskFault>
+        ensures told { Told (told_of self.old) (told_of self.new) (Wrote slot at bytes.now result) }
+        ensures crash { GoesOn moment_of possible_of self.old self.new (MayWrite (told_of self.old) slot at bytes.now) }
+        ensures shares { shared_of self.new ≡ shared_of self.old }
+        ensures cause { HasCause self.old.faults self.new.faults result }
+        ensures plans { plans_of self.new ≡ plans_of self.old }
+        ensures undone { IsUnplanned self.old → IsErr result → IsIdle self.old self.new }
+    {
         let planned = self.planned();
         if planned == Some(When::Before) {
             return Err(self.fault());
@@ -229,7 +266,14 @@ impl Disk for MemoryDisk {
     }
 
     /// It fails, with nothing cut, where the slot is shorter, and for want of memory.
-    fn cut(&mut self, slot: Slot, len: u64) -> Result<(), DiskFault> {
+    fn cut(&mut self, slot: Slot, len: u64) -> Result<(), DiskFault>
+        ensures told { Told (told_of self.old) (told_of self.new) (WasCut slot len result) }
+        ensures crash { GoesOn moment_of possible_of self.old self.new (MayCut (told_of self.old) slot len) }
+        ensures shares { shared_of self.new ≡ shared_of self.old }
+        ensures cause { HasCause self.old.faults self.new.faults result }
+        ensures plans { plans_of self.new ≡ plans_of self.old }
+        ensures undone { IsUnplanned self.old → IsErr result → IsIdle self.old self.new }
+    {
         let planned = self.planned();
         if planned == Some(When::Before) {
             return Err(self.fault());
@@ -244,7 +288,15 @@ impl Disk for MemoryDisk {
     }
 
     /// It fails for want of memory, too.
-    fn sync(&mut self, slot: Slot) -> Result<(), DiskFault> {
+    fn sync(&mut self, slot: Slot) -> Result<(), DiskFault>
+        ensures told { Told (told_of self.old) (told_of self.new) Same }
+        ensures crash { GoesOn moment_of possible_of self.old self.new Stays }
+        ensures durable { Durable (told_of self.old) slot result (possible_of self.new (moment_of self.new)) }
+        ensures shares { shared_of self.new ≡ shared_of self.old }
+        ensures cause { HasCause self.old.faults self.new.faults result }
+        ensures plans { plans_of self.new ≡ plans_of self.old }
+        ensures undone { IsUnplanned self.old → IsErr result → IsIdle self.old self.new }
+    {
         let planned = self.planned();
         if planned == Some(When::Before) {
             return Err(self.fault());

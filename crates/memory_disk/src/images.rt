@@ -4,7 +4,7 @@ ghost use Rattle.std.specs.Prelude.{◌≡◌, ◌≤◌, ◌+◌, ◌^◌, leng
 ghost use Rattle.outside.specs.Calls.{Certain};
 ghost use Rattle.outside.specs.declared.disk.Slot.TheVariants.{First, Second};
 ghost use Rattle.memory_disk.specs.Picking.{certain_chosen, choose_call, choose_calls, cut_chosen, drawn, patched_within, left_at, written_left, cut_left, next_draw, write_chosen};
-ghost use Rattle.memory_disk.specs.Possible.{held_of, moment_of, possible_of, told_of};
+ghost use Rattle.memory_disk.specs.Possible.{IsUnplanned, held_of, moment_of, possible_of, told_of};
 
 use crate::call::DiskCall;
 use crate::memory_disk::MemoryDisk;
@@ -244,6 +244,7 @@ impl MemoryDisk {
         ensures second { IfOk result (λ d. (held_of d).slots.second ≡ second.items) }
         ensures moment { IfOk result (λ d. moment_of d ≡ 0) }
         ensures certain { IfOk result (λ d. Certain told_of moment_of possible_of d (held_of d)) }
+        ensures unplanned { IfOk result IsUnplanned }
     {
         let base_first = Vec::from_slice(alloc, &first)?;
         let base_second = Vec::from_slice(alloc, &second)?;
@@ -277,6 +278,7 @@ impl MemoryDisk {
         ensures picked { IfOk result (λ d. held_of d ≡ left_at self.now moment pick) }
         ensures certain { IfOk result (λ d. Certain told_of moment_of possible_of d (held_of d)) }
         ensures moment { IfOk result (λ d. moment_of d ≡ 0) }
+        ensures unplanned { IfOk result IsUnplanned }
     {
         let calls = &self.calls[..moment as usize];
         let first = left_of(self.alloc, Slot::First, pick, &self.base_first, calls)?;

@@ -6,16 +6,16 @@ use Rattle.memory_disk.proofs.ImageLaws.{then_idle, done_behind, idle_told, cut_
 use Rattle.memory_disk.proofs.disk.MemoryDiskDisk.cut.Goals as goal
 
 pub returns-clause-told : goal.returns-clause-told
-returns-clause-told c = λ within. cut_told c.args.self.now c.cut_slot.new.self c.args.slot c.args.len (done_behind c.args.self.now c.planned-planned.new.self c.cut_slot.new.self _ c.planned-planned.ensures (c.cut_slot.ensures.done (search rules)))
+returns-clause-told c = λ within. cut_told c.args.self.now c.cut_slot.new.self c.args.slot c.args.len (done_behind c.args.self.now c.planned-planned.new.self c.cut_slot.new.self _ c.planned-planned.ensures.same (c.cut_slot.ensures.done (search rules)))
 
 pub returns-clause-crash : goal.returns-clause-crash
 returns-clause-crash c = cut_goes c.args.self.now c.cut_slot.new.self c.args.slot c.args.len
-    (subst (λ (o : Held). c.args.len ≤ length (slot_of c.args.slot o.slots)) (idle_told c.args.self.now c.planned-planned.new.self c.planned-planned.ensures.idle) (c.cut_slot.ensures.within (search rules)))
-    (done_behind c.args.self.now c.planned-planned.new.self c.cut_slot.new.self _ c.planned-planned.ensures (c.cut_slot.ensures.done (search rules)))
+    (subst (λ (o : Held). c.args.len ≤ length (slot_of c.args.slot o.slots)) (idle_told c.args.self.now c.planned-planned.new.self c.planned-planned.ensures.same.idle) (c.cut_slot.ensures.within (search rules)))
+    (done_behind c.args.self.now c.planned-planned.new.self c.cut_slot.new.self _ c.planned-planned.ensures.same (c.cut_slot.ensures.done (search rules)))
 
 pub returns-then-eq-2-clause-crash : goal.returns-then-eq-2-clause-crash
 returns-then-eq-2-clause-crash c = then_idle c.args.self.now c.cut_slot.new.self c.fault-then-eq-2.new.self (MayCut (told_of c.args.self.now) c.args.slot c.args.len)
     (cut_goes c.args.self.now c.cut_slot.new.self c.args.slot c.args.len
-    (subst (λ (o : Held). c.args.len ≤ length (slot_of c.args.slot o.slots)) (idle_told c.args.self.now c.planned-planned.new.self c.planned-planned.ensures.idle) (c.cut_slot.ensures.within (search rules)))
-    (done_behind c.args.self.now c.planned-planned.new.self c.cut_slot.new.self _ c.planned-planned.ensures (c.cut_slot.ensures.done (search rules))))
+    (subst (λ (o : Held). c.args.len ≤ length (slot_of c.args.slot o.slots)) (idle_told c.args.self.now c.planned-planned.new.self c.planned-planned.ensures.same.idle) (c.cut_slot.ensures.within (search rules)))
+    (done_behind c.args.self.now c.planned-planned.new.self c.cut_slot.new.self _ c.planned-planned.ensures.same (c.cut_slot.ensures.done (search rules))))
     c.fault-then-eq-2.ensures.same
