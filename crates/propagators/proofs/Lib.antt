@@ -1,0 +1,3 @@
+mod RoundSteps
+mod LeftLaws
+mod FollowLaws

@@ -1,0 +1,57 @@
+use Rattle.std.proofs.Common.{arith, rules, ℕ, ◌≡◌, ◌∷◌, ◌∙◌, Err, refl, subst, sym, drop, length, ap}
+use Rattle.std.specs.Prelude.{Result}
+use Rattle.std.proofs.lemmas.List.{length-drop}
+use Rattle.propagators.specs.Rounds.{TellsRound, doubts, doubts_at}
+use Rattle.propagators.specs.declared.rounds.RoundFault.{RoundFault}
+use Rattle.propagators.proofs.RoundSteps.{first_differs, first_leaves, goes_on, goes_same, settled_goes, shared_call, stopped_goes, told_stays}
+use Rattle.propagators.proofs.rounds.round.Goals as goal
+
+pub loop-sealed-init : goal.loop-sealed-init
+loop-sealed-init g c = record {
+  goes = goes_same (g.P.Disk.shared c.args.site.now) (g.P.Disk.held c.args.site.now) c.args.unsettled.now.items;
+  count = Prim.omega arith;
+  tells = λ some. some;
+  faults = Prim.omega arith;
+  shares = refl;
+  moment = Prim.omega arith;
+}
+
+pub returns-in_err-settle-clause-goes : goal.returns-in_err-settle-clause-goes
+returns-in_err-settle-clause-goes g c =
+    let items = c.loop-sealed.unsettled.items in
+    let s = c.in-Some.sealed.now in
+    let is : items ≡ s ∷ drop 1 items = first_leaves items s c.in-Some.ensures.item.3.0 c.in-Some.ensures.lookup in
+    let told : Err c.in_err-settle.field-0.0 ≡ c.from_residual.result = Prim.search rules in
+    subst
+    (λ (r : Result ℕ RoundFault). TellsRound (g.P.Disk.shared c.args.site.now) (g.P.Disk.held c.args.site.now) (g.P.Disk.held c.settle.new.site) (doubts r) c.args.unsettled.now.items items) told
+    (goes_on (g.P.Disk.shared c.args.site.now) (doubts_at c.in_err-settle.field-0.0) (g.P.Disk.held c.args.site.now) (g.P.Disk.held c.loop-sealed.site) (g.P.Disk.held c.settle.new.site) c.args.unsettled.now.items items items
+    c.loop-sealed.invariant.goes
+    (stopped_goes (g.P.Disk.shared c.args.site.now) (g.P.Disk.held c.loop-sealed.site) (g.P.Disk.held c.settle.new.site) items (drop 1 items) s c.in_err-settle.field-0.0 is (shared_call _ _ _ _ _ c.loop-sealed.invariant.shares c.in_err-settle.ensures.told)))
+
+pub loop-sealed-preserved : goal.loop-sealed-preserved
+loop-sealed-preserved g c =
+    let items = c.loop-sealed.unsettled.items in
+    let s = c.in-Some.sealed.now in
+    let new = c.pop_front.new.self.items in
+    let some = c.in-Some.ensures.item.3.0 in
+    let is : items ≡ s ∷ drop 1 items = first_leaves items s some c.in-Some.ensures.lookup in
+    let rest : new ≡ drop 1 items = c.pop_front.ensures.rest in
+    let left : items ≡ s ∷ new = is ∙ ap (λ l. s ∷ l) (sym rest) in
+    let shorter : length new ≡ length (drop 1 items) = ap length rest in
+    record {
+      goes = goes_on (g.P.Disk.shared c.args.site.now) 0 (g.P.Disk.held c.args.site.now) (g.P.Disk.held c.loop-sealed.site) (g.P.Disk.held c.settle.new.site) c.args.unsettled.now.items items new
+          c.loop-sealed.invariant.goes
+          (settled_goes (g.P.Disk.shared c.args.site.now) (g.P.Disk.held c.loop-sealed.site) (g.P.Disk.held c.settle.new.site) items new s c.in_ok-settle.field-0 left (shared_call _ _ _ _ _ c.loop-sealed.invariant.shares c.in_ok-settle.ensures.told));
+      count = Prim.omega (arith, shorter, length-drop 1 items, some, c.loop-sealed.invariant.count);
+      tells = λ some. told_stays (g.P.Disk.held c.loop-sealed.site) (g.P.Disk.held c.settle.new.site) _ c.settle.ensures.told (c.loop-sealed.invariant.tells some);
+      faults = Prim.omega (arith, c.loop-sealed.invariant.faults, c.settle.ensures.faults);
+      shares = c.settle.ensures.shares ∙ c.loop-sealed.invariant.shares;
+      moment = Prim.omega (arith, c.loop-sealed.invariant.moment, c.settle.ensures.moment);
+    }
+
+pub returns-in_err-settle-clause-differs : goal.returns-in_err-settle-clause-differs
+returns-in_err-settle-clause-differs g c = λ table key is some held tells.
+    let items = c.loop-sealed.unsettled.items in
+    let s = c.in-Some.sealed.now in
+    let e : items ≡ s ∷ drop 1 items = first_leaves items s c.in-Some.ensures.item.3.0 c.in-Some.ensures.lookup in
+    first_differs (g.P.Disk.shared c.args.site.now) (g.P.Disk.held c.loop-sealed.site) (g.P.Disk.held c.settle.new.site) items (drop 1 items) s c.in_err-settle.field-0.0 table key e (shared_call _ _ _ _ _ c.loop-sealed.invariant.shares c.in_err-settle.ensures.told) (Prim.search rules) (c.loop-sealed.invariant.tells some) held tells

@@ -1,0 +1,87 @@
+//! A round of propagation by one thread.
+
+ghost use Rattle.std.specs.Prelude.{◌≡◌, ◌≤◌, [], Err, IfOk, IsSome, List, Some, length};
+ghost use Rattle.std.specs.Result.{IsErrOf, OnOk};
+ghost use Rattle.outside.specs.Calls.{BankCall, Told};
+ghost use Rattle.outside.specs.Faults.{Rose};
+ghost use Rattle.outside.specs.Holding.{Held};
+ghost use Rattle.row_types.specs.declared.value.Value.{Value};
+ghost use Rattle.propagators.specs.Rounds.{DifferedAt, Settles, TellsRound, doubts};
+ghost use Rattle.propagators.specs.declared.rounds.RoundFault.TheVariants as stop;
+
+use outside::{Applied, BankError, Site};
+use row_types::Key;
+use std::collections::VecDeque;
+use table_state::Sealed;
+use tier_base::TableId;
+
+/// Why a round ended early.
+pub enum RoundFault {
+    /// A call of the bank failed.
+    Failed,
+    /// Memory was wanting.
+    Memory,
+    /// A backing row differs from what a committed transaction tells of it. Of the first operation that doesn't apply: the
+    /// table and the key of the row that isn't as it should be.
+    Differs(TableId, Key),
+}
+
+impl Drop for RoundFault {
+    fn drop(self) {
+        match self {
+            Self::Failed => {}
+            Self::Memory => {}
+            Self::Differs(_, _) => {}
+        }
+    }
+}
+
+/// Applies the unsettled transactions in turn, in ticket order, and lets those go whose receipt it sees. It gives their
+/// number. Transactions of others may come before, between and behind.
+///
+/// After a fault those without a receipt stay, in their order. `Failed` only where the count of bank faults rose in this
+/// call; the first that is left may then have come, and in no other case has one come that is left. `Differs` tells the
+/// first difference of the first that is left.
+///
+/// (TimesTen Cache User's Guide, asynchronous writethrough; the round is this project's rule.)
+pub fn round<P: Site>(site: &mut P, unsettled: &mut VecDeque<Sealed>) -> Result<u64, RoundFault>
+    ensures goes { TellsRound (P.Disk.shared site.old) (P.Disk.held site.old) (P.Disk.held site.new) (doubts result)
+        unsettled.old.items unsettled.new.items }
+    ensures all { OnOk result (unsettled.new.items ≡ []) }
+    ensures told { IfOk result (λ n. n ≡ length unsettled.old.items) }
+    ensures differs { (table : TableId) (key : List Value) → result ≡ Err (stop.Differs table key)
+        → IsSome (P.Disk.held site.old) → (held : Held) → P.Disk.held site.new ≡ Some held
+        → DifferedAt (P.Disk.shared site.old) table key unsettled.new.items held.history }
+    ensures faults { P.bank_faults site.old ≤ P.bank_faults site.new }
+    ensures moment { P.Disk.moment site.old ≤ P.Disk.moment site.new }
+    ensures shares { P.Disk.shared site.new ≡ P.Disk.shared site.old }
+    ensures cause { IsErrOf result stop.Failed → Rose (P.bank_faults site.old) (P.bank_faults site.new) }
+{
+    let mut receipts = 0;
+    while let Some(sealed) = unsettled.front() {
+        settle(site, sealed)?;
+        unsettled.pop_front();
+        receipts += 1;
+    }
+    Ok(receipts)
+}
+
+/// Sees to it that the transaction stands in the backing history.
+fn settle<P: Site>(site: &mut P, sealed: &Sealed) -> Result<(), RoundFault>
+    ensures told { Told (P.Disk.held site.old) (P.Disk.held site.new)
+        (BankCall (P.Disk.shared site.old) (Settles sealed.now result)) }
+    ensures faults { P.bank_faults site.old ≤ P.bank_faults site.new }
+    ensures moment { P.Disk.moment site.old ≤ P.Disk.moment site.new }
+    ensures shares { P.Disk.shared site.new ≡ P.Disk.shared site.old }
+    ensures cause { IsErrOf result stop.Failed → Rose (P.bank_faults site.old) (P.bank_faults site.new) }
+{
+    match site.apply_once(sealed, &[]) {
+        Ok(Applied::Now(_)) => Ok(()),
+        Ok(Applied::Before(_)) => Ok(()),
+        // It waits for no other.
+        Ok(Applied::NotReady(_)) => unreachable!(),
+        Ok(Applied::Differs(table, key, _)) => Err(RoundFault::Differs(table, key)),
+        Err(BankError::Failed) => Err(RoundFault::Failed),
+        Err(BankError::Memory) => Err(RoundFault::Memory),
+    }
+}
