@@ -12,7 +12,9 @@ use Rattle.indexed_rows.specs.Rows.{is_same}
 use Rattle.indexed_rows.proofs.EntryLaws.{same_itself}
 use Rattle.cache_tier.specs.Aging.{aged_rule, expired, with_horizon}
 use Rattle.cache_tier.specs.Distinct.{AgingKeepsApart, CommitKeepsApart, LoadKeepsApart, RefreshKeepsApart, UnloadKeepsApart, UseKeepsApart}
-use Rattle.cache_tier.specs.Groups.{AgingRule, ByTime, Group, LastUse, is_key, is_read_only, is_writethrough, without_keys}
+use Rattle.cache_tier.specs.declared.group.AgingRule.{AgingRule}
+use Rattle.cache_tier.specs.declared.group.AgingRule.TheVariants.{ByTime, LastUse}
+use Rattle.cache_tier.specs.Groups.{Group, is_key, is_read_only, is_writethrough, without_keys}
 use Rattle.cache_tier.specs.Recency.{entered, left_by, with_entered}
 use Rattle.cache_tier.specs.Standing.{AreDistinct}
 use Rattle.cache_tier.proofs.KeyLaws.{gone}

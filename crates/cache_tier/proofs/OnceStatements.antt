@@ -28,23 +28,24 @@ use Rattle.sql_query.specs.declared.write.Write.{Write}
 use Rattle.cache_tier.specs.declared.reply.Note.{Note}
 use Rattle.cache_tier.specs.declared.reply.Last.TheVariants.{Done}
 use Rattle.cache_tier.specs.declared.reply.Reply.{Reply}
-use Rattle.cache_tier.specs.declared.statement.Alter.{Alter}
-use Rattle.cache_tier.specs.declared.statement.ConsoleRequest.{ConsoleRequest}
-use Rattle.cache_tier.specs.declared.statement.ConsoleRequest.TheVariants as console
-use Rattle.cache_tier.specs.declared.statement.CreateGroup.{CreateGroup}
-use Rattle.cache_tier.specs.declared.statement.Line.{Line}
-use Rattle.cache_tier.specs.declared.statement.Line.TheVariants as says
-use Rattle.cache_tier.specs.declared.statement.Load.{Load}
-use Rattle.cache_tier.specs.declared.statement.OfGroup.{OfGroup}
-use Rattle.cache_tier.specs.declared.statement.RefreshState.{RefreshState}
-use Rattle.cache_tier.specs.declared.statement.RefreshState.TheVariants.{On, Off, Paused}
-use Rattle.cache_tier.specs.declared.statement.Request.{Request}
-use Rattle.cache_tier.specs.declared.statement.Request.TheVariants as asks_for
-use Rattle.cache_tier.specs.declared.statement.Stmt.{Stmt}
-use Rattle.cache_tier.specs.declared.statement.Stmt.TheVariants as statement
-use Rattle.cache_tier.specs.declared.statement.Which.{Which}
+use Rattle.sql_subset.specs.declared.stmt.Alter.{Alter}
+use Rattle.sql_subset.specs.declared.request.ConsoleRequest.{ConsoleRequest}
+use Rattle.sql_subset.specs.declared.request.ConsoleRequest.TheVariants as console
+use Rattle.sql_subset.specs.declared.stmt.CreateGroup.{CreateGroup}
+use Rattle.sql_subset.specs.declared.request.Line.{Line}
+use Rattle.sql_subset.specs.declared.request.Line.TheVariants as says
+use Rattle.sql_subset.specs.declared.stmt.Load.{Load}
+use Rattle.sql_subset.specs.declared.stmt.OfGroup.{OfGroup}
+use Rattle.sql_subset.specs.declared.stmt.RefreshState.{RefreshState}
+use Rattle.sql_subset.specs.declared.stmt.RefreshState.TheVariants.{On, Off, Paused}
+use Rattle.sql_subset.specs.declared.request.Request.{Request}
+use Rattle.sql_subset.specs.declared.request.Request.TheVariants as asks_for
+use Rattle.sql_subset.specs.declared.stmt.Stmt.{Stmt}
+use Rattle.sql_subset.specs.declared.stmt.Stmt.TheVariants as statement
+use Rattle.sql_subset.specs.declared.stmt.Which.{Which}
 use Rattle.cache_tier.specs.AlterSteps.{Alters, AltersTo, SetsStateAlone, SetsStateRefreshed, altered_entries, refreshed_state, state_answer, joins_something}
-use Rattle.cache_tier.specs.Called.{Called, Drain, RefreshSet, SetLevel}
+use Rattle.cache_tier.specs.declared.called.Called.{Called}
+use Rattle.cache_tier.specs.declared.called.Called.TheVariants.{Drain, RefreshSet, SetLevel}
 use Rattle.cache_tier.specs.ChangeSteps.{Changes}
 use Rattle.cache_tier.specs.CommitSteps.{AppliesNow, committed_unsettled, sealed_own, CommitsLater, CommitsNow, CommitsOwn, after_applied, is_synchronous_own}
 use Rattle.cache_tier.specs.Conditions.{asks_all, overflow_fault}
@@ -74,6 +75,7 @@ use Rattle.cache_tier.specs.TierStates.{ACommit, APassedWrite, Doubt, Doubted, S
 use Rattle.cache_tier.specs.UnloadSteps.{Unloads, unload_answer, unload_entries, unload_fault}
 use Rattle.cache_tier.specs.Wants.{Want, loaded_want}
 use Rattle.cache_tier.specs.WriteSteps.{WritesBy, WritesEffects, WritesOps, WritesPlaced, WritesShown}
+use Rattle.cache_tier.specs.Undone.{is_undone}
 use Rattle.cache_tier.specs.Worlds.{Answer, Becomes, Follows, StageFollows, Part, ThenStage, World, unless, Unless, Then, only}
 use Rattle.std.proofs.lemmas.List.Elements.{Contains-append_cases}
 use Rattle.std.specs.List.{Contains}
@@ -425,12 +427,14 @@ statement_leads : (s : Session) (st : Stmt) → PartLeads (DoesStatement s st)
 statement_leads s (statement.Select query) w w' reply q = selects_placed_leads s _ w w' reply q
 statement_leads s (statement.Write write) w w' reply q = writes_placed_leads s _ w w' reply q
 statement_leads s (statement.CreateGroup d) w w' reply q = creates_group_leads d w w' reply q
+statement_leads s (statement.CreateIndex i) w w' reply q = absurd q
 statement_leads s (statement.Load load) w w' reply q = loads_leads load w w' reply q
 statement_leads s (statement.Refresh load) w w' reply q = refreshes_leads load w w' reply q
 statement_leads s (statement.Unload u) w w' reply q = unloads_leads s u w w' reply q
 statement_leads s (statement.Flush u) w w' reply q = absurd q
 statement_leads s (statement.Alter a) w w' reply q = alters_leads a w w' reply q
-statement_leads s (statement.Drop name) w w' reply q = drops_leads s name w w' reply q
+statement_leads s (statement.DropGroup name) w w' reply q = drops_leads s name w w' reply q
+statement_leads s (statement.DropIndex name) w w' reply q = absurd q
 statement_leads s (statement.Call c) w w' reply q = called_leads s _ w w' reply q
 statement_leads s statement.Commit w w' reply q = commits_own_leads s s.own w w' reply q
 statement_leads s statement.Rollback w w' reply q = quiet _ w w' reply (kept w.tier) q
@@ -546,7 +550,8 @@ answered_leads base l w w' reply (inr q) = same w w' q.0
 
 heeds_leads : (base : ℕ) (said : Saying) → PartLeads (Heeds base said)
 heeds_leads base Silent w w' reply q = absurd q
-heeds_leads base (Says l) w w' reply q = answered_leads base l w w' reply q
+heeds_leads base (Says l) w w' reply q =
+    either_leads (is_undone l) (λ undone. tries_leads _ (refuses_leads _) w w' reply undone) (λ does. answered_leads base l w w' reply does) q
 heeds_leads base (WrongAt place) w w' reply q = tries_leads _ (refuses_leads _) w w' reply q
 heeds_leads base TooDeep w w' reply q = tries_leads _ (refuses_leads _) w w' reply q
 heeds_leads base TooLong w w' reply q = refuses_leads _ w w' reply q

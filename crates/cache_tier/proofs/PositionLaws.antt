@@ -10,7 +10,9 @@ use Rattle.table_state.specs.declared.operation.Op.{Op}
 use Rattle.table_state.specs.Operations.{table_of}
 use Rattle.table_state.specs.Tables.{TableState}
 use Rattle.cache_tier.specs.Aging.{aged, aged_rule, expired, leaving, with_horizon}
-use Rattle.cache_tier.specs.Groups.{AgingRule, ByTime, Group, LastUse, covers, is_explicit, is_on, is_read_only, used, without_keys}
+use Rattle.cache_tier.specs.declared.group.AgingRule.{AgingRule}
+use Rattle.cache_tier.specs.declared.group.AgingRule.TheVariants.{ByTime, LastUse}
+use Rattle.cache_tier.specs.Groups.{Group, covers, is_explicit, is_on, is_read_only, used, without_keys}
 use Rattle.cache_tier.specs.Recency.{entered, left_by, op_key, used_by_ops, used_root, used_row, with_commit, with_entered}
 use Rattle.cache_tier.specs.Sets.{OnePosition, alone, at_position, changed_from, has_something, holds_some, is_in_set, of_set, shows_in_set}
 use Rattle.cache_tier.specs.Shown.{instance_key}

@@ -6,7 +6,10 @@ use Rattle.std.specs.List.{filter}
 use Rattle.std.specs.FinMap.{keys, get}
 use Rattle.row_types.specs.declared.value.Value.{Value}
 use Rattle.table_state.specs.declared.history.Entry.{Entry}
-use Rattle.cache_tier.specs.Groups.{AgingRule, ByTime, Group, LastUse, TimeRule, is_read_only, without_keys}
+use Rattle.cache_tier.specs.declared.group.AgingRule.{AgingRule}
+use Rattle.cache_tier.specs.declared.group.AgingRule.TheVariants.{ByTime, LastUse}
+use Rattle.cache_tier.specs.declared.group.TimeRule.{TimeRule}
+use Rattle.cache_tier.specs.Groups.{Group, is_read_only, without_keys}
 use Rattle.cache_tier.specs.Locks.{is_busy}
 use Rattle.cache_tier.specs.Shown.{exceeds, shown_roots}
 use Rattle.cache_tier.specs.TierStates.{Settings, Tier}

@@ -11,9 +11,9 @@ use Rattle.cache_tier.specs.Reading.{Answers, Reads, as_it_was, backing_at}
 use Rattle.cache_tier.specs.Sets.{alone, changed, refreshed, Choice, has_something, of_set, shows_something}
 use Rattle.cache_tier.specs.TierStates.{Tier, refresh_tried}
 use Rattle.cache_tier.specs.Worlds.{Answer, Part, Then, World, only}
-use Rattle.cache_tier.specs.declared.statement.Alter.{Alter}
-use Rattle.cache_tier.specs.declared.statement.RefreshState.{RefreshState}
-use Rattle.cache_tier.specs.declared.statement.RefreshState.TheVariants.{On, Off, Paused}
+use Rattle.sql_subset.specs.declared.stmt.Alter.{Alter}
+use Rattle.sql_subset.specs.declared.stmt.RefreshState.{RefreshState}
+use Rattle.sql_subset.specs.declared.stmt.RefreshState.TheVariants.{On, Off, Paused}
 use Rattle.cache_tier.specs.Targets.{OnGroup}
 
 abbrev pub same_state : RefreshState → RefreshState → Bool

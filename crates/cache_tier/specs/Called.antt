@@ -15,17 +15,10 @@ use Rattle.table_defs.specs.Names.{same_name}
 use Rattle.sql_query.specs.declared.literal.Literal.{Literal}
 use Rattle.sql_query.specs.declared.literal.Literal.TheVariants.{Null, Number, Text, Time}
 use Rattle.sql_query.specs.Literals.{value_of}
+use Rattle.cache_tier.specs.declared.called.Called.{Called}
+use Rattle.cache_tier.specs.declared.called.Called.TheVariants.{Drain, RefreshSet, SetLevel}
 use Rattle.cache_tier.specs.Groups.{Group, group_at, is_on, is_read_only, place_called}
 use Rattle.cache_tier.specs.Rules.{named, no_type, plain}
-use Rattle.cache_tier.specs.TierStates.{Tier}
-
-pub data Called : Type 0 where
-  -- ttDrain
-  Drain : Called
-  -- ttCacheAutorefresh: the set of this interval
-  RefreshSet : ℕ → Called
-  -- ttOptSetFlag: the passthrough level of this transaction
-  SetLevel : ℕ → Called
 
 -- the text of an argument, '' being NULL
 abbrev pub text_in : Literal → Option (List ℕ)
@@ -69,11 +62,11 @@ refreshed_group name arguments (Some g) =
     else if are_held arguments then Ok (RefreshSet g.def.interval) else Err no_type
 
 -- 104, then 112
-abbrev pub called_refresh : Tier → List Literal → Option (List ℕ) → Result Called Rule
-called_refresh t arguments None = Err (plain code.TypeMismatch)
-called_refresh t arguments (Some text) =
+abbrev pub called_refresh : List Group → List Literal → Option (List ℕ) → Result Called Rule
+called_refresh groups arguments None = Err (plain code.TypeMismatch)
+called_refresh groups arguments (Some text) =
     if is_name text then refreshed_group (folded text) arguments
-    (group_at t.groups (place_called t.groups (folded text)))
+    (group_at groups (place_called groups (folded text)))
     else Err (record { code = code.UnknownGroup; detail = detail.NoType })
 
 -- from 0 to 3
@@ -93,15 +86,22 @@ level_in (Some (value.Number n)) =
 level_in (Some (value.Text bytes)) = Err (plain code.TypeMismatch)
 level_in (Some (value.Time seconds)) = Err (plain code.TypeMismatch)
 
--- 104 of the shape, 103 of another flag, 104 and 105 of the level
+-- 103 of another flag, by its name where it spells one
+abbrev pub unknown_flag : List ℕ → Rule
+unknown_flag text =
+    if is_name text then named code.UnknownColumn (folded text)
+    else record { code = code.UnknownColumn; detail = detail.NoType }
+
+-- 104 where the flag is no text, 103 of another flag, 104 and 105 of the level
+abbrev pub level_called : Literal → Option (List ℕ) → Result Called Rule
+level_called level None = Err (plain code.TypeMismatch)
+level_called level (Some text) =
+    if not (same_name (folded text) (codes "PASSTHROUGH")) then Err (unknown_flag text)
+    else (if is_integer level then level_in (value_of level) else Err (plain code.TypeMismatch))
+
+-- 104 of another number of arguments
 abbrev pub called_flag : List Literal → Result Called Rule
-called_flag (flag ∷ level ∷ []) = of_text (text_in flag)
-  where
-    of_text : Option (List ℕ) → Result Called Rule
-    of_text None = Err (plain code.TypeMismatch)
-    of_text (Some text) =
-        if not (same_name (folded text) (codes "PASSTHROUGH")) then Err (named code.UnknownColumn (folded text))
-        else (if is_integer level then level_in (value_of level) else Err (plain code.TypeMismatch))
+called_flag (flag ∷ level ∷ []) = level_called level (text_in flag)
 called_flag [] = Err (plain code.TypeMismatch)
 called_flag (one ∷ []) = Err (plain code.TypeMismatch)
 called_flag (one ∷ two ∷ three ∷ more) = Err (plain code.TypeMismatch)
@@ -111,9 +111,10 @@ called_drain [] = Ok Drain
 called_drain (one ∷ more) = Err (plain code.TypeMismatch)
 
 -- 103 of a procedure that there isn't
-abbrev pub called : Tier → List ℕ → List Literal → Result Called Rule
-called t procedure arguments =
+abbrev pub called : List Group → List ℕ → List Literal → Result Called Rule
+called groups procedure arguments =
     if same_name procedure (codes "TTDRAIN") then called_drain arguments
-    else if same_name procedure (codes "TTCACHEAUTOREFRESH") then called_refresh t arguments (spelt_group arguments)
+    else if same_name procedure (codes "TTCACHEAUTOREFRESH")
+    then called_refresh groups arguments (spelt_group arguments)
     else if same_name procedure (codes "TTOPTSETFLAG") then called_flag arguments
     else Err (named code.UnknownColumn procedure)

@@ -23,14 +23,14 @@ use Rattle.resolution.specs.Writes.{change_seen, named_writes, resolved_writes, 
 use Rattle.sql_query.specs.declared.write.Write.{Write}
 use Rattle.cache_tier.specs.declared.reply.Reply.{Reply}
 use Rattle.cache_tier.specs.declared.reply.Last.TheVariants.{Done}
-use Rattle.cache_tier.specs.declared.statement.ConsoleRequest.{ConsoleRequest}
-use Rattle.cache_tier.specs.declared.statement.ConsoleRequest.TheVariants as console
-use Rattle.cache_tier.specs.declared.statement.Request.{Request}
-use Rattle.cache_tier.specs.declared.statement.Request.TheVariants as asks_for
-use Rattle.cache_tier.specs.declared.statement.Stmt.{Stmt}
-use Rattle.cache_tier.specs.declared.statement.Stmt.TheVariants as says
-use Rattle.cache_tier.specs.declared.statement.Line.{Line}
-use Rattle.cache_tier.specs.declared.statement.Line.TheVariants as line
+use Rattle.sql_subset.specs.declared.request.ConsoleRequest.{ConsoleRequest}
+use Rattle.sql_subset.specs.declared.request.ConsoleRequest.TheVariants as console
+use Rattle.sql_subset.specs.declared.request.Request.{Request}
+use Rattle.sql_subset.specs.declared.request.Request.TheVariants as asks_for
+use Rattle.sql_subset.specs.declared.stmt.Stmt.{Stmt}
+use Rattle.sql_subset.specs.declared.stmt.Stmt.TheVariants as says
+use Rattle.sql_subset.specs.declared.request.Line.{Line}
+use Rattle.sql_subset.specs.declared.request.Line.TheVariants as line
 use Rattle.cache_tier.specs.Definitions.{names_in, table_names}
 use Rattle.cache_tier.specs.PassedSteps.{passed_reply}
 use Rattle.cache_tier.specs.Routes.{is_cached, is_written_through}
@@ -54,12 +54,14 @@ abbrev pub names_of : Stmt → List (List ℕ)
 names_of (says.Select q) = map (λ f. f.table) q.tables
 names_of (says.Write w) = table_of w ∷ []
 names_of (says.CreateGroup d) = table_names d
+names_of (says.CreateIndex i) = []
 names_of (says.Load load) = []
 names_of (says.Refresh load) = []
 names_of (says.Unload u) = []
 names_of (says.Flush u) = []
 names_of (says.Alter a) = []
-names_of (says.Drop name) = []
+names_of (says.DropGroup name) = []
+names_of (says.DropIndex name) = []
 names_of (says.Call c) = []
 names_of says.Commit = []
 names_of says.Rollback = []

@@ -5,7 +5,7 @@ use Rattle.instances.specs.declared.tree.Tree.{Tree}
 use Rattle.cache_tier.specs.JournalSteps.{Flushes, journal_fault}
 use Rattle.cache_tier.specs.declared.reply.Reply.{Reply}
 use Rattle.cache_tier.specs.declared.reply.Last.TheVariants.{Done}
-use Rattle.cache_tier.specs.declared.statement.CreateGroup.{CreateGroup}
+use Rattle.sql_subset.specs.declared.stmt.CreateGroup.{CreateGroup}
 use Rattle.cache_tier.specs.Definitions.{IsTreeOf, defined_by, new_group, placed_tables, text_of}
 use Rattle.cache_tier.specs.Journals.{Defines}
 use Rattle.cache_tier.specs.Reading.{Answers}

@@ -2,10 +2,9 @@
 -- "CREATE CACHE GROUP"; TimesTen Cache User's Guide, "Cache groups"; the letters and their order are this project's
 -- rule.)
 
-use Rattle.std.specs.Prelude.{◌≡◌, ℕ, List, [], ◌∷◌, ◌++◌, ◌==◌, Bool, true, false, ◌&&◌, ◌||◌, not, nat_eq, nat_lt, Option, Some, None, Ok, if◌then◌else◌, is_some, is_none, length, position, slice_get, unwrap_or}
+use Rattle.std.specs.Prelude.{◌≡◌, ℕ, suc, List, [], ◌∷◌, ◌++◌, ◌==◌, Bool, true, false, ◌&&◌, ◌||◌, not, nat_eq, nat_lt, Option, Some, None, Ok, if◌then◌else◌, is_some, is_none, length, map, position, slice_get, unwrap_or, find}
 use Rattle.std.specs.List.{list_any, flat_map}
-use Rattle.std.specs.Option.{option_and_then, option_map, option_or}
-use Rattle.std.specs.Cmp.Lexicographic.{pointwise}
+use Rattle.std.specs.Option.{option_and_then, option_or}
 use Rattle.tier_base.specs.declared.code.Code.TheVariants as code
 use Rattle.tier_base.specs.declared.limit.Limit.TheVariants as limit
 use Rattle.tier_base.specs.declared.number.TableId.{TableId}
@@ -15,11 +14,13 @@ use Rattle.row_types.specs.declared.column.Ty.TheVariants as ty
 use Rattle.row_types.specs.declared.declaration.ColumnDeclaration.{ColumnDeclaration}
 use Rattle.row_types.specs.declared.declaration.ForeignKeyDeclaration.{ForeignKeyDeclaration}
 use Rattle.row_types.specs.declared.declaration.TableDeclaration.{TableDeclaration}
+use Rattle.row_types.specs.declared.declaration.TypeDeclaration.{TypeDeclaration}
+use Rattle.row_types.specs.declared.declaration.TypeDeclaration.TheVariants as written
 use Rattle.row_types.specs.declared.rule.Letter.TheVariants as letter
 use Rattle.row_types.specs.declared.rule.Rule.{Rule}
 use Rattle.table_defs.specs.declared.definition.ForeignKey.{ForeignKey}
 use Rattle.table_defs.specs.declared.definition.TableDef.{TableDef}
-use Rattle.table_defs.specs.Declarations.{broken_at, has_type, key_count, key_places, resolved_reference, is_sound_reference, type_fault, wrong_name}
+use Rattle.table_defs.specs.Declarations.{broken_at, has_type, key_count, key_names, type_fault, wrong_name}
 use Rattle.table_defs.specs.Names.{place_of_table, same_name}
 use Rattle.instances.specs.declared.tree.Child.{Child}
 use Rattle.instances.specs.declared.tree.Root.{Root}
@@ -29,19 +30,21 @@ use Rattle.resolution.specs.Literals.{unheld_in_filter}
 use Rattle.resolution.specs.Placing.{filter_seen, placed_filter}
 use Rattle.resolution.specs.Scopes.{SeenColumn, columns_seen}
 use Rattle.resolution.specs.WrittenTypes.{is_sound_filter}
-use Rattle.cache_tier.specs.declared.statement.AgingClause.{AgingClause}
-use Rattle.cache_tier.specs.declared.statement.AgingRule.{AgingRule as AgingWords}
-use Rattle.cache_tier.specs.declared.statement.AgingRule.TheVariants as words
-use Rattle.cache_tier.specs.declared.statement.Autorefresh.{Autorefresh}
-use Rattle.cache_tier.specs.declared.statement.CreateGroup.{CreateGroup}
-use Rattle.cache_tier.specs.declared.statement.GroupKind.{GroupKind}
-use Rattle.cache_tier.specs.declared.statement.GroupKind.TheVariants.{ReadOnly, AsynchronousWritethrough, SynchronousWritethrough}
-use Rattle.cache_tier.specs.declared.statement.GroupTable.{GroupTable}
-use Rattle.cache_tier.specs.declared.statement.RefreshMode.TheVariants as mode
-use Rattle.cache_tier.specs.declared.statement.RefreshState.TheVariants as state
-use Rattle.cache_tier.specs.Groups.{AgingRule, ByTime, Group, GroupDef, LastUse, covers, is_called}
+use Rattle.sql_subset.specs.declared.stmt.AgingClause.{AgingClause}
+use Rattle.sql_subset.specs.declared.stmt.AgingRule.{AgingRule as AgingWords}
+use Rattle.sql_subset.specs.declared.stmt.AgingRule.TheVariants as words
+use Rattle.sql_subset.specs.declared.stmt.Autorefresh.{Autorefresh}
+use Rattle.sql_subset.specs.declared.stmt.CreateGroup.{CreateGroup}
+use Rattle.sql_subset.specs.declared.stmt.GroupKind.{GroupKind}
+use Rattle.sql_subset.specs.declared.stmt.GroupKind.TheVariants.{ReadOnly, AsynchronousWritethrough, SynchronousWritethrough, UserManaged}
+use Rattle.sql_subset.specs.declared.stmt.GroupTable.{GroupTable}
+use Rattle.sql_subset.specs.declared.stmt.RefreshMode.TheVariants as mode
+use Rattle.sql_subset.specs.declared.stmt.RefreshState.TheVariants as state
+use Rattle.cache_tier.specs.declared.group.AgingRule.{AgingRule}
+use Rattle.cache_tier.specs.declared.group.AgingRule.TheVariants.{ByTime, LastUse}
+use Rattle.cache_tier.specs.declared.group.GroupDef.{GroupDef}
+use Rattle.cache_tier.specs.Groups.{Group, defines_name, is_defined_on}
 use Rattle.cache_tier.specs.Rules.{at_limit, broken_if, lettered, named, no_type, plain, rule_in}
-use Rattle.cache_tier.specs.TierStates.{Tier}
 
 -- the text of the definition that the journal keeps, which reads back as the definition: here its name stands for it,
 -- in the product the printed statement
@@ -52,15 +55,16 @@ abbrev pub is_read_only_kind : GroupKind → Bool
 is_read_only_kind ReadOnly = true
 is_read_only_kind AsynchronousWritethrough = false
 is_read_only_kind SynchronousWritethrough = false
+is_read_only_kind UserManaged = false
 
 -- a table of the definition with the backing table of its name, and the tables of the definition before it
 pub record Placed : Type 0 where
   pub it : GroupTable
   pub id : TableId
   pub def : TableDef
-  pub before : List (List ℕ)
+  pub before : List GroupTable
 
-abbrev pub placed_if : List TableDef → List (List ℕ) → GroupTable → Option TableId → List Placed
+abbrev pub placed_if : List TableDef → List GroupTable → GroupTable → Option TableId → List Placed
 placed_if schema before g None = []
 placed_if schema before g (Some t) = of_def (slice_get schema t.0)
   where
@@ -68,11 +72,10 @@ placed_if schema before g (Some t) = of_def (slice_get schema t.0)
     of_def None = []
     of_def (Some def) = record { it = g; id = t; def = def; before = before } ∷ []
 
-abbrev pub placed_from : List TableDef → List (List ℕ) → List GroupTable → List Placed
+abbrev pub placed_from : List TableDef → List GroupTable → List GroupTable → List Placed
 placed_from schema before [] = []
 placed_from schema before (g ∷ more) =
-    placed_if schema before g (place_of_table schema g.table.name)
-    ++ placed_from schema (before ++ g.table.name ∷ []) more
+    placed_if schema before g (place_of_table schema g.table.name) ++ placed_from schema (before ++ g ∷ []) more
 
 -- the tables of a definition that there are at the bank
 abbrev pub placed_tables : List TableDef → CreateGroup → List Placed
@@ -108,15 +111,30 @@ abbrev pub is_known_column : List Column → Option (List ℕ) → Bool
 is_known_column columns None = true
 is_known_column columns (Some name) = is_some (column_named columns name)
 
+-- a type of the form that is written: a condition is judged by forms, and behind it whether there are such types
+abbrev pub form_of : TypeDeclaration → Ty
+form_of written.TtInteger = ty.TtInteger
+form_of written.TtBigint = ty.TtBigint
+form_of (written.Number precision scale) = ty.Number 1 0
+form_of (written.Varchar2 digits) = ty.Varchar2 1
+form_of written.Timestamp = ty.Timestamp
+
+-- the columns as the definition declares them: a condition and an AGING clause name these
+abbrev pub column_declared : ColumnDeclaration → Column
+column_declared c = record { name = c.name; ty = form_of c.ty; not_null = c.not_null }
+
+abbrev pub declared_columns : TableDeclaration → List Column
+declared_columns d = map column_declared d.columns
+
 abbrev pub scope_of : Placed → List SeenColumn
-scope_of p = columns_seen p.def.name p.def.columns
+scope_of p = columns_seen p.def.name (declared_columns p.it.table)
 
 -- 103: a name of the declaration, then the column of AGING, then a name of the condition
 abbrev pub column_fault : Placed → Option Rule
 column_fault p =
     option_or (broken_at code.UnknownColumn (wrong_name p.it.table))
     (option_or
-    (if is_known_column p.def.columns (aging_column p.it.aging)
+    (if is_known_column (declared_columns p.it.table) (aging_column p.it.aging)
     then None
     else broken_at code.UnknownColumn (aging_column p.it.aging))
     (rule_in (placed_filter (scope_of p) p.it.filter)))
@@ -125,25 +143,63 @@ abbrev pub first_fault : (Placed → Option Rule) → List Placed → Option Rul
 first_fault fault [] = None
 first_fault fault (p ∷ more) = option_or (fault p) (first_fault fault more)
 
--- 102, then 103, then 113
-abbrev pub definition_names : Tier → CreateGroup → Option Rule
-definition_names t d =
-    option_or (first_unknown t.schema (table_names d))
-    (option_or (first_fault column_fault (placed_tables t.schema d))
-    (broken_if (list_any (is_called d.name) t.groups) (named code.NameInUse d.name)))
+-- 102, then 103, then 113 where a group has the name
+abbrev pub definition_names : List TableDef → List GroupDef → CreateGroup → Option Rule
+definition_names schema groups d =
+    option_or (first_unknown schema (table_names d))
+    (option_or (first_fault column_fault (placed_tables schema d))
+    (broken_if (list_any (defines_name d.name) groups) (named code.NameInUse d.name)))
 
--- 104 of a condition, then 105 of a literal or of the number of a type
-abbrev pub definition_types : Tier → CreateGroup → Option Rule
-definition_types t d =
-    option_or
-    (broken_if (list_any (λ p. not (is_sound_filter (scope_of p) p.it.filter)) (placed_tables t.schema d))
-    (plain code.TypeMismatch))
-    (option_or (broken_if (list_any (λ p. unheld_in_filter p.it.filter) (placed_tables t.schema d)) no_type)
-    (first_fault (λ p. type_fault p.it.table.columns) (placed_tables t.schema d)))
+-- 104 of a condition
+abbrev pub has_unsound_filter : Placed → Bool
+has_unsound_filter p = not (is_sound_filter (scope_of p) p.it.filter)
 
--- a: there is one primary key, and it is the backing table's
+-- 105 of a literal of a condition, and of the number of a type
+abbrev pub has_unheld_filter : Placed → Bool
+has_unheld_filter p = unheld_in_filter p.it.filter
+
+abbrev pub column_type_fault : Placed → Option Rule
+column_type_fault p = type_fault p.it.table.columns
+
+-- 104, then 105
+abbrev pub types_fault : List Placed → Option Rule
+types_fault tables =
+    option_or (broken_if (list_any has_unsound_filter tables) (plain code.TypeMismatch))
+    (option_or (broken_if (list_any has_unheld_filter tables) no_type) (first_fault column_type_fault tables))
+
+abbrev pub definition_types : List TableDef → CreateGroup → Option Rule
+definition_types schema d = types_fault (placed_tables schema d)
+
+-- the column is there, and has this name
+abbrev pub has_column_name : List ℕ → Option Column → Bool
+has_column_name name None = false
+has_column_name name (Some column) = same_name column.name name
+
+-- these are the names of the columns at these places, in this order
+abbrev pub are_names_of : List Column → List ℕ → List (List ℕ) → Bool
+are_names_of columns [] [] = true
+are_names_of columns (place ∷ places) (name ∷ names) =
+    has_column_name name (slice_get columns place) && are_names_of columns places names
+are_names_of columns [] (name ∷ names) = false
+are_names_of columns (place ∷ places) [] = false
+
+-- the name of a column, where there is one
+abbrev pub own_key : Option ColumnDeclaration → List (List ℕ)
+own_key None = []
+own_key (Some c) = c.name ∷ []
+
+-- the primary key as it is declared: the names of its clause, else that of the column with PRIMARY KEY behind it
+abbrev pub declared_key : TableDeclaration → List (List ℕ)
+declared_key d = if length (key_names d) == 0 then own_key (find (λ c. c.primary_key) d.columns) else key_names d
+
+-- a: there is one primary key, and its columns have the names of those of the backing table's, in its order
 abbrev pub has_other_key : Placed → Bool
-has_other_key p = not (key_count p.it.table == 1 && pointwise nat_eq (key_places p.it.table) p.def.primary_key)
+has_other_key p =
+    not (key_count p.it.table == 1 && are_names_of p.def.columns p.def.primary_key (declared_key p.it.table))
+
+-- one of these tables has this name
+abbrev pub is_name_among : List GroupTable → List ℕ → Bool
+is_name_among tables name = list_any (λ g. same_name g.table.name name) tables
 
 -- b: the parent isn't an earlier table of the group, and the first table has none
 abbrev pub has_foreign_parent : Placed → Bool
@@ -151,7 +207,7 @@ has_foreign_parent p = of_key p.it.table.foreign_key
   where
     of_key : Option ForeignKeyDeclaration → Bool
     of_key None = false
-    of_key (Some f) = not (list_any (same_name f.parent) p.before)
+    of_key (Some f) = not (is_name_among p.before f.parent)
 
 -- the first table of the definition
 abbrev pub is_root : Placed → Bool
@@ -162,8 +218,8 @@ abbrev pub is_apart : Placed → Bool
 is_apart p = not (is_root p) && is_none p.it.table.foreign_key
 
 -- d: a table that is in a group already, or twice in this one
-abbrev pub is_grouped : List Group → Placed → Bool
-is_grouped groups p = list_any (covers p.id) groups || list_any (same_name p.def.name) p.before
+abbrev pub is_grouped : List GroupDef → Placed → Bool
+is_grouped groups p = list_any (is_defined_on p.id) groups || is_name_among p.before p.def.name
 
 abbrev pub same_columns : List ColumnDeclaration → List Column → Bool
 same_columns [] [] = true
@@ -176,22 +232,41 @@ abbrev pub same_bool : Bool → Bool → Bool
 same_bool true b = b
 same_bool false b = not b
 
-abbrev pub same_foreign : Option ForeignKey → Option ForeignKey → Bool
-same_foreign None None = true
-same_foreign (Some a) (Some b) =
-    pointwise nat_eq a.columns b.columns && nat_eq a.parent.0 b.parent.0 && same_bool a.cascade b.cascade
-same_foreign None (Some b) = false
-same_foreign (Some a) None = false
+-- the table of this name is the one of this number, which is there
+abbrev pub is_table_named : List TableDef → List ℕ → TableId → Bool
+is_table_named schema name t = of_place (place_of_table schema name)
+  where
+    of_place : Option TableId → Bool
+    of_place None = false
+    of_place (Some found) = nat_eq found.0 t.0
+
+-- these are the names of the columns of the table's primary key, in its order
+abbrev pub is_key_of : Option TableDef → List (List ℕ) → Bool
+is_key_of None names = false
+is_key_of (Some def) names = are_names_of def.columns def.primary_key names
+
+-- the foreign key of a table with these columns is declared as it is: its columns, its parent by the columns of that
+-- table's primary key, and ON DELETE CASCADE
+abbrev pub is_same_foreign : List TableDef → List Column → Option ForeignKeyDeclaration → Option ForeignKey → Bool
+is_same_foreign schema columns None None = true
+is_same_foreign schema columns (Some f) (Some foreign) =
+    are_names_of columns foreign.columns f.columns && is_table_named schema f.parent foreign.parent
+    && is_key_of (slice_get schema foreign.parent.0) f.parent_columns && same_bool f.cascade foreign.cascade
+is_same_foreign schema columns None (Some foreign) = false
+is_same_foreign schema columns (Some f) None = false
 
 -- e: other columns or types, or another foreign key or ON DELETE CASCADE; a root leaves its own out
 abbrev pub differs_from_backing : List TableDef → Placed → Bool
 differs_from_backing schema p =
-    not (same_columns p.it.table.columns p.def.columns)
-    || not (is_root p)
-    && not
-    (is_sound_reference p.it.table schema p.it.table.foreign_key
-    && same_foreign (option_map (resolved_reference p.it.table schema) p.it.table.foreign_key) p.def.foreign_key)
+    not
+    (same_columns p.it.table.columns p.def.columns
+    && (is_root p || is_same_foreign schema p.def.columns p.it.table.foreign_key p.def.foreign_key))
 
+-- f: a condition
+abbrev pub has_filter : Placed → Bool
+has_filter p = is_some p.it.filter
+
+-- h: aging by use, be it ON or OFF
 abbrev pub is_by_use : Option AgingClause → Bool
 is_by_use None = false
 is_by_use (Some clause) = of_rule clause.rule
@@ -211,6 +286,9 @@ is_required_time (Some column) = column.not_null && of_type column.ty
     of_type (ty.Varchar2 n) = false
     of_type ty.Timestamp = true
 
+abbrev pub has_use_aging : Placed → Bool
+has_use_aging p = is_by_use p.it.aging
+
 -- i: the aging column isn't a NOT NULL TIMESTAMP, or a child has an aging clause
 abbrev pub has_wrong_aging : Placed → Bool
 has_wrong_aging p = is_some p.it.aging && not (is_root p) || of_column (aging_column p.it.aging)
@@ -220,27 +298,27 @@ has_wrong_aging p = is_some p.it.aging && not (is_root p) || of_column (aging_co
     of_column (Some name) =
         not (is_required_time (option_and_then (slice_get p.def.columns) (column_named p.def.columns name)))
 
--- j: a foreign key to, or from, a table outside the group
+-- one of these tables has this number
+abbrev pub is_inside : List Placed → TableId → Bool
+is_inside all t = list_any (λ p. nat_eq p.id.0 t.0) all
+
+abbrev pub refers_inside : List Placed → Option ForeignKey → Bool
+refers_inside all None = false
+refers_inside all (Some f) = is_inside all f.parent
+
+-- j: a foreign key to a table outside the group
 abbrev pub refers_out : List Placed → Placed → Bool
-refers_out all p = of_key p.def.foreign_key
-  where
-    of_key : Option ForeignKey → Bool
-    of_key None = false
-    of_key (Some f) = not (list_any (λ q. nat_eq q.id.0 f.parent.0) all)
+refers_out all p = is_some p.def.foreign_key && not (refers_inside all p.def.foreign_key)
 
-abbrev pub refers_to_some : List Placed → TableDef → Bool
-refers_to_some all def = of_key def.foreign_key
-  where
-    of_key : Option ForeignKey → Bool
-    of_key None = false
-    of_key (Some f) = list_any (λ q. nat_eq q.id.0 f.parent.0) all
-
-abbrev pub is_inside : List Placed → TableDef → Bool
-is_inside all def = list_any (λ q. same_name q.def.name def.name) all
+-- or from one: of these tables, which are the schema's from a place on
+abbrev pub is_referred_to : List Placed → ℕ → List TableDef → Bool
+is_referred_to all place [] = false
+is_referred_to all place (def ∷ defs) =
+    refers_inside all def.foreign_key && not (is_inside all (record { 0 = place }))
+    || is_referred_to all (suc place) defs
 
 abbrev pub is_joined_outside : List TableDef → List Placed → Bool
-is_joined_outside schema all =
-    list_any (refers_out all) all || list_any (λ def. refers_to_some all def && not (is_inside all def)) schema
+is_joined_outside schema all = list_any (refers_out all) all || is_referred_to all 0 schema
 
 -- k: a number past this profile's range
 abbrev pub is_outside : ℕ → ℕ → ℕ → Bool
@@ -258,29 +336,44 @@ has_wrong_time (Some clause) = of_rule clause.rule
     of_rule words.LastUse = false
     of_rule (words.Time t) = is_outside 1 1000000000 t.lifetime || is_outside 1 1000000000 t.cycle
 
--- 114 by its first letter
-abbrev pub letter_fault : List TableDef → List Group → CreateGroup → List Placed → Option Rule
-letter_fault schema groups d tables =
+abbrev pub has_wrong_times : Placed → Bool
+has_wrong_times p = has_wrong_time p.it.aging
+
+-- 114 of tables that don't stand as the backing tables do, or not in one tree: the letters from a to e
+abbrev pub tables_fault : List TableDef → List GroupDef → List Placed → Option Rule
+tables_fault schema groups tables =
     option_or (broken_if (list_any has_other_key tables) (lettered letter.A))
     (option_or (broken_if (list_any has_foreign_parent tables) (lettered letter.B))
     (option_or (broken_if (list_any is_apart tables) (lettered letter.C))
     (option_or (broken_if (list_any (is_grouped groups) tables) (lettered letter.D))
-    (option_or (broken_if (list_any (differs_from_backing schema) tables) (lettered letter.E))
-    (option_or
-    (broken_if (not (is_read_only_kind d.kind) && list_any (λ p. is_some p.it.filter) tables) (lettered letter.F))
+    (broken_if (list_any (differs_from_backing schema) tables) (lettered letter.E)))))
+
+-- 114 of clauses that don't suit the kind, and of numbers: the letters from f to k
+abbrev pub clauses_fault : List TableDef → CreateGroup → List Placed → Option Rule
+clauses_fault schema d tables =
+    option_or (broken_if (not (is_read_only_kind d.kind) && list_any has_filter tables) (lettered letter.F))
     (option_or (broken_if (not (is_read_only_kind d.kind) && is_some d.autorefresh) (lettered letter.G))
     (option_or
-    (broken_if (is_read_only_kind d.kind && not d.dynamic && list_any (λ p. is_by_use p.it.aging) tables)
-    (lettered letter.H))
+    (broken_if (is_read_only_kind d.kind && not d.dynamic && list_any has_use_aging tables) (lettered letter.H))
     (option_or (broken_if (list_any has_wrong_aging tables) (lettered letter.I))
     (option_or (broken_if (not (is_read_only_kind d.kind) && is_joined_outside schema tables) (lettered letter.J))
-    (broken_if (has_wrong_interval d.autorefresh || list_any (λ p. has_wrong_time p.it.aging) tables)
-    (lettered letter.K)))))))))))
+    (broken_if (has_wrong_interval d.autorefresh || list_any has_wrong_times tables) (lettered letter.K))))))
 
--- 114, and then 119 of the groups
-abbrev pub definition_fault : Tier → CreateGroup → Option Rule
-definition_fault t d =
-    option_or (letter_fault t.schema t.groups d (placed_tables t.schema d)) (at_limit limit.Groups (length t.groups))
+-- 114 by its first letter
+abbrev pub letter_fault : List TableDef → List GroupDef → CreateGroup → List Placed → Option Rule
+letter_fault schema groups d tables = option_or (tables_fault schema groups tables) (clauses_fault schema d tables)
+
+-- 114, and then 119 of the groups, as many as there may be
+abbrev pub definition_fault : List TableDef → List GroupDef → CreateGroup → Option Rule
+definition_fault schema groups d =
+    option_or (letter_fault schema groups d (placed_tables schema d)) (at_limit limit.Groups (length groups))
+
+-- the first rule that the definition breaks: names, 122 where the session has uncommitted writes, types, 114 and 119
+abbrev pub definition_broken : List TableDef → List GroupDef → Bool → CreateGroup → Option Rule
+definition_broken schema groups has_writes d =
+    option_or (definition_names schema groups d)
+    (option_or (broken_if has_writes (plain code.TransactionOpen))
+    (option_or (definition_types schema d) (definition_fault schema groups d)))
 
 -- AUTOREFRESH without a part: INCREMENTAL, 5 MINUTES, PAUSED
 abbrev pub default_refresh : Autorefresh
@@ -308,9 +401,9 @@ pub record IsRootOf (p : Placed) (root : Root) : Type 0 where
   pub table : root.table ≡ p.id
   pub filter : placed_filter (scope_of p) p.it.filter ≡ Ok (filter_seen root.filter)
 
-abbrev pub parent_place : List (List ℕ) → Option ForeignKeyDeclaration → ℕ
+abbrev pub parent_place : List GroupTable → Option ForeignKeyDeclaration → ℕ
 parent_place before None = 0
-parent_place before (Some f) = unwrap_or (position (same_name f.parent) before) 0
+parent_place before (Some f) = unwrap_or (position (λ g. same_name g.table.name f.parent) before) 0
 
 pub record IsChildOf (p : Placed) (child : Child) : Type 0 where
   pub table : child.table ≡ p.id

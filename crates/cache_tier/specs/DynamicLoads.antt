@@ -7,7 +7,7 @@ use Rattle.std.specs.Prelude.{ℕ, List, [], ◌∷◌, Option, Some, None, ◌&
 use Rattle.std.specs.Bool.{MatchBool}
 use Rattle.row_types.specs.declared.value.Value.{Value}
 use Rattle.table_state.specs.Tables.{TableState}
-use Rattle.cache_tier.specs.declared.statement.RefreshState.TheVariants.{On}
+use Rattle.sql_subset.specs.declared.stmt.RefreshState.TheVariants.{On}
 use Rattle.cache_tier.specs.Groups.{Group, is_paused, is_read_only, place_over, with_keys}
 use Rattle.cache_tier.specs.Journals.{JournalEntry, SetsState}
 use Rattle.cache_tier.specs.Reading.{ReadsFirst, as_it_was, backing_at}

@@ -13,15 +13,17 @@ use Rattle.row_types.specs.declared.rule.Rule.{Rule}
 use Rattle.cache_tier.specs.declared.reply.Reply.{Reply}
 use Rattle.cache_tier.specs.declared.reply.Note.{Note}
 use Rattle.cache_tier.specs.declared.reply.Last.TheVariants.{No}
-use Rattle.cache_tier.specs.declared.statement.Request.TheVariants.{Statement}
-use Rattle.cache_tier.specs.declared.statement.Stmt.{Stmt}
+use Rattle.sql_subset.specs.declared.request.Request.TheVariants.{Statement}
+use Rattle.sql_subset.specs.declared.stmt.Stmt.{Stmt}
 use Rattle.cache_tier.specs.DueWork.{DueWork, due_sets, is_round_due}
 use Rattle.cache_tier.specs.Order.{refusal}
 use Rattle.cache_tier.specs.Aging.{aged_by_use, leaving, later}
 use Rattle.cache_tier.specs.CommitSteps.{CommitsAll}
 use Rattle.cache_tier.specs.DoubtSteps.{settled}
 use Rattle.cache_tier.specs.DynamicLoads.{state_loaded}
-use Rattle.cache_tier.specs.Groups.{ByTime, Group, TimeRule, is_key, is_read_only}
+use Rattle.cache_tier.specs.declared.group.AgingRule.TheVariants.{ByTime}
+use Rattle.cache_tier.specs.declared.group.TimeRule.{TimeRule}
+use Rattle.cache_tier.specs.Groups.{Group, is_key, is_read_only}
 use Rattle.cache_tier.specs.Routes.{Cached}
 use Rattle.cache_tier.specs.SelectSteps.{SelectsBy}
 use Rattle.cache_tier.specs.Sets.{OnePosition, alone, changed, of_set, refreshed}

@@ -4,10 +4,10 @@ use Rattle.std.specs.Prelude.{ℕ, List, [], ◌∷◌, Some, Option, codes, fal
 use Rattle.tier_base.specs.declared.code.Code.TheVariants as code
 use Rattle.cache_tier.specs.declared.reply.Reply.{Reply}
 use Rattle.cache_tier.specs.declared.reply.Last.TheVariants.{Done, No}
-use Rattle.cache_tier.specs.declared.statement.Line.TheVariants.{Session, Clock}
-use Rattle.cache_tier.specs.declared.statement.Request.{Request}
-use Rattle.cache_tier.specs.declared.statement.Request.TheVariants.{Open, Close, Statement}
-use Rattle.cache_tier.specs.declared.statement.Stmt.TheVariants.{Commit}
+use Rattle.sql_subset.specs.declared.request.Line.TheVariants.{Session, Clock}
+use Rattle.sql_subset.specs.declared.request.Request.{Request}
+use Rattle.sql_subset.specs.declared.request.Request.TheVariants.{Open, Close, Statement}
+use Rattle.sql_subset.specs.declared.stmt.Stmt.TheVariants.{Commit}
 use Rattle.cache_tier.specs.Journals.{new_journal}
 use Rattle.cache_tier.specs.Rules.{labelled}
 use Rattle.cache_tier.specs.Steps.{Asked, Run, Says}

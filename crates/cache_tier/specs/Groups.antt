@@ -9,37 +9,12 @@ use Rattle.row_types.specs.declared.value.Value.{Value}
 use Rattle.tier_base.specs.declared.number.TableId.{TableId}
 use Rattle.table_defs.specs.Names.{same_name}
 use Rattle.indexed_rows.specs.Rows.{is_same}
-use Rattle.instances.specs.declared.tree.Tree.{Tree}
 use Rattle.instances.specs.Trees.{place_of}
-use Rattle.cache_tier.specs.declared.statement.CreateGroup.{CreateGroup}
-use Rattle.cache_tier.specs.declared.statement.GroupKind.{GroupKind}
-use Rattle.cache_tier.specs.declared.statement.GroupKind.TheVariants.{ReadOnly, AsynchronousWritethrough, SynchronousWritethrough}
-use Rattle.cache_tier.specs.declared.statement.RefreshMode.{RefreshMode}
-use Rattle.cache_tier.specs.declared.statement.RefreshState.{RefreshState}
-use Rattle.cache_tier.specs.declared.statement.RefreshState.TheVariants.{On, Off, Paused}
-
--- an instance leaves when this column of its root row is so many seconds old; each cycle of so many seconds looks at it
-pub record TimeRule : Type 0 where
-  pub column : ℕ
-  pub lifetime : ℕ
-  pub cycle : ℕ
-
--- which instances leave: those not used for the longest time, or those whose time has passed
-pub data AgingRule : Type 0 where
-  LastUse : AgingRule
-  ByTime : TimeRule → AgingRule
-
--- What a definition says of a group, and the definition itself. Its mode and interval count where it is READONLY. It
--- has an aging rule where one stands there, or is the default, and is ON.
-pub record GroupDef : Type 0 where
-  pub name : List ℕ
-  pub kind : GroupKind
-  pub dynamic : Bool
-  pub tree : Tree
-  pub mode : RefreshMode
-  pub interval : ℕ
-  pub aging : Option AgingRule
-  pub declared : CreateGroup
+use Rattle.sql_subset.specs.declared.stmt.GroupKind.{GroupKind}
+use Rattle.sql_subset.specs.declared.stmt.GroupKind.TheVariants.{ReadOnly, AsynchronousWritethrough, SynchronousWritethrough, UserManaged}
+use Rattle.sql_subset.specs.declared.stmt.RefreshState.{RefreshState}
+use Rattle.sql_subset.specs.declared.stmt.RefreshState.TheVariants.{On, Off, Paused}
+use Rattle.cache_tier.specs.declared.group.GroupDef.{GroupDef}
 
 -- A group: its definition, and what changes.
 --   first     the first ticket that may be of its tables: the next one at its definition
@@ -67,6 +42,7 @@ is_read_only g = by_kind g.def.kind
     by_kind ReadOnly = true
     by_kind AsynchronousWritethrough = false
     by_kind SynchronousWritethrough = false
+    by_kind UserManaged = false
 
 abbrev pub is_synchronous : Group → Bool
 is_synchronous g = by_kind g.def.kind
@@ -75,6 +51,7 @@ is_synchronous g = by_kind g.def.kind
     by_kind ReadOnly = false
     by_kind AsynchronousWritethrough = false
     by_kind SynchronousWritethrough = true
+    by_kind UserManaged = false
 
 abbrev pub is_writethrough : Group → Bool
 is_writethrough g = not (is_read_only g)
@@ -100,13 +77,25 @@ is_paused On = false
 is_paused Off = false
 is_paused Paused = true
 
+-- one of the tables that it defines
+abbrev pub is_defined_on : TableId → GroupDef → Bool
+is_defined_on t def = is_some (place_of def.tree t)
+
 -- one of its tables
 abbrev pub covers : TableId → Group → Bool
-covers t g = is_some (place_of g.def.tree t)
+covers t g = is_defined_on t g.def
+
+-- it defines this name
+abbrev pub defines_name : List ℕ → GroupDef → Bool
+defines_name name def = same_name def.name name
 
 -- it has this name
 abbrev pub is_called : List ℕ → Group → Bool
-is_called name g = same_name g.def.name name
+is_called name g = defines_name name g.def
+
+-- the definitions of groups
+abbrev pub definitions_of : List Group → List GroupDef
+definitions_of groups = map (λ g. g.def) groups
 
 -- the place of the group of a name among all, and of the one that has a table
 abbrev pub place_called : List Group → List ℕ → Option ℕ

@@ -9,8 +9,8 @@ use Rattle.tier_base.specs.Limits.{greatest}
 use Rattle.table_state.specs.declared.history.Sealed.{Sealed}
 use Rattle.table_state.specs.declared.operation.Op.{Op}
 use Rattle.table_state.specs.declared.operation.Op.TheVariants.{Insert, Update, Delete}
-use Rattle.cache_tier.specs.declared.statement.CreateGroup.{CreateGroup}
-use Rattle.cache_tier.specs.declared.statement.RefreshState.{RefreshState}
+use Rattle.sql_subset.specs.declared.stmt.CreateGroup.{CreateGroup}
+use Rattle.sql_subset.specs.declared.stmt.RefreshState.{RefreshState}
 
 -- an entry of the journal: a commit of asynchronous writes, a synchronous one before it is applied, the number of a
 -- passed-on write, the next ticket where a slot begins, a definition (with its text), a drop, a STATE, a loaded flag

@@ -46,6 +46,7 @@ pub mod Steps
 pub mod Targets
 pub mod Tickets
 pub mod TierStates
+pub mod Undone
 pub mod UnloadSteps
 pub mod Wants
 pub mod Worked

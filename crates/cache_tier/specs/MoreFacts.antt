@@ -9,7 +9,7 @@ use Rattle.table_state.specs.declared.operation.Op.{Op}
 use Rattle.table_state.specs.Histories.{state_at}
 use Rattle.table_state.specs.Tables.{TableState}
 use Rattle.cache_tier.specs.declared.reply.Reply.{Reply}
-use Rattle.cache_tier.specs.declared.statement.GroupKind.TheVariants.{ReadOnly}
+use Rattle.sql_subset.specs.declared.stmt.GroupKind.TheVariants.{ReadOnly}
 use Rattle.cache_tier.specs.DynamicLoads.{state_loaded}
 use Rattle.cache_tier.specs.FirstRun.{start}
 use Rattle.cache_tier.specs.Groups.{Group}

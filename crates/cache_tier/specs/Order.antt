@@ -11,14 +11,14 @@ use Rattle.row_types.specs.declared.rule.Rule.{Rule}
 use Rattle.table_state.specs.Operations.{table_of}
 use Rattle.resolution.specs.Queries.{resolved_query}
 use Rattle.resolution.specs.Writes.{PlacedChange, named_write}
-use Rattle.cache_tier.specs.declared.statement.Load.{Load}
-use Rattle.cache_tier.specs.declared.statement.Stmt.{Stmt}
-use Rattle.cache_tier.specs.declared.statement.Stmt.TheVariants as says
-use Rattle.cache_tier.specs.declared.statement.Which.{Which}
+use Rattle.sql_subset.specs.declared.stmt.Load.{Load}
+use Rattle.sql_subset.specs.declared.stmt.Stmt.{Stmt}
+use Rattle.sql_subset.specs.declared.stmt.Stmt.TheVariants as says
+use Rattle.sql_subset.specs.declared.stmt.Which.{Which}
 use Rattle.cache_tier.specs.Called.{called}
-use Rattle.cache_tier.specs.Conditions.{asks_all, which_names, which_types}
+use Rattle.cache_tier.specs.Conditions.{asks_all, root_def, which_names, which_types}
 use Rattle.cache_tier.specs.Definitions.{definition_fault, definition_names, definition_types}
-use Rattle.cache_tier.specs.Groups.{Group, group_at, is_explicit, is_paused, is_read_only, is_synchronous, is_table_of, is_writethrough, place_called}
+use Rattle.cache_tier.specs.Groups.{Group, definitions_of, group_at, is_explicit, is_paused, is_read_only, is_synchronous, is_table_of, is_writethrough, place_called}
 use Rattle.cache_tier.specs.Routes.{is_written_through, visible, write_route}
 use Rattle.cache_tier.specs.Rules.{broken_if, named, open_writes, plain, rule_in}
 use Rattle.cache_tier.specs.TierStates.{Session, Tier, level_of}
@@ -73,9 +73,9 @@ is_past_range load = is_past 0 1000000 load.commit_every || is_past 1 128 load.p
 abbrev pub with_which : Tier → Group → Which → Option Rule → Broken
 with_which t g which state =
     record {
-      names = which_names t g which;
+      names = which_names (root_def t g) which;
       state = state;
-      types = which_types t g which;
+      types = which_types (root_def t g) which;
       table = None;
       definition = None;
     }
@@ -143,19 +143,21 @@ broken_by t s (says.Select q) = broken_by_name (rule_in (resolved_query (visible
 broken_by t s (says.Write w) = write_broken t s (named_write (visible (level_of s) t) w)
 broken_by t s (says.CreateGroup d) =
     record {
-      names = definition_names t d;
+      names = definition_names t.schema (definitions_of t.groups) d;
       state = open_writes s.own;
-      types = definition_types t d;
+      types = definition_types t.schema d;
       table = None;
-      definition = definition_fault t d;
+      definition = definition_fault t.schema (definitions_of t.groups) d;
     }
+broken_by t s (says.CreateIndex i) = nothing_broken
 broken_by t s (says.Load load) = of_group t load.group (load_broken t s load)
 broken_by t s (says.Refresh load) = of_group t load.group (refresh_broken t s load)
 broken_by t s (says.Unload u) = of_group t u.group (unload_broken t s u.which)
 broken_by t s (says.Flush u) = of_group t u.group (flush_broken t s u.which)
 broken_by t s (says.Alter a) = of_group t a.group (alter_broken s)
-broken_by t s (says.Drop name) = of_group t name (drop_broken s)
-broken_by t s (says.Call c) = broken_by_name (rule_in (called t c.procedure c.arguments))
+broken_by t s (says.DropGroup name) = of_group t name (drop_broken s)
+broken_by t s (says.DropIndex name) = nothing_broken
+broken_by t s (says.Call c) = broken_by_name (rule_in (called t.groups c.procedure c.arguments))
 broken_by t s says.Commit = nothing_broken
 broken_by t s says.Rollback = nothing_broken
 

@@ -3,11 +3,9 @@
 
 use Rattle.std.specs.Prelude.{List, [], ◌∷◌, ◌++◌, Option, Some, None, map, fold, if◌then◌else◌, slice_get}
 use Rattle.std.specs.List.{filter, flat_map}
-use Rattle.std.specs.FinMap.{keys, values}
-use Rattle.std.specs.FinSet.{FinSet}
-use Rattle.std.specs.FinSet as set
-use Rattle.row_types.specs.Order.{key_order}
+use Rattle.std.specs.FinMap.{empty, insert, keys, remove, values}
 use Rattle.row_types.specs.declared.value.Value.{Value}
+use Rattle.indexed_rows.specs.Rows.{Table}
 use Rattle.tier_base.specs.declared.number.TableId.{TableId}
 use Rattle.table_state.specs.declared.footprint.RowKey.{RowKey}
 use Rattle.table_state.specs.declared.operation.Op.{Op}
@@ -81,16 +79,16 @@ used_by_ops step (op ∷ ops) s g =
 abbrev pub after_writes : (Op → TableState → TableState) → List Op → TableState → Tier → Tier
 after_writes step ops s t = record t { groups = map (used_by_ops step ops s) t.groups }
 
--- the root keys that operations insert and leave there, and those that they delete
-abbrev pub entered_by : TableState → Group → Op → FinSet key_order → FinSet key_order
-entered_by s g (Insert t row) keys =
-    if same_table g.def.tree.root.table t then set.insert keys (root_key s g row) else keys
-entered_by s g (Update t old new) keys = keys
-entered_by s g (Delete t old) keys =
-    if same_table g.def.tree.root.table t then set.remove keys (root_key s g old) else keys
+-- the root rows that operations insert and leave there, by key, and the keys of those that they delete
+abbrev pub entered_by : TableState → Group → Op → Table → Table
+entered_by s g (Insert t row) rows =
+    if same_table g.def.tree.root.table t then insert rows (root_key s g row) row else rows
+entered_by s g (Update t old new) rows = rows
+entered_by s g (Delete t old) rows =
+    if same_table g.def.tree.root.table t then remove rows (root_key s g old) else rows
 
-abbrev pub entered : TableState → Group → List Op → FinSet key_order
-entered s g ops = fold (λ keys op. entered_by s g op keys) set.empty ops
+abbrev pub entered : TableState → Group → List Op → Table
+entered s g ops = fold (λ rows op. entered_by s g op rows) empty ops
 
 abbrev pub left_by : TableState → Group → Op → List (List Value)
 left_by s g (Insert t row) = []

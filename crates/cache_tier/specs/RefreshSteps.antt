@@ -7,7 +7,7 @@ use Rattle.std.specs.FinMap.{keys, len}
 use Rattle.indexed_rows.specs.Rows.{Table}
 use Rattle.table_state.specs.Tables.{TableState}
 use Rattle.cache_tier.specs.declared.reply.Last.TheVariants.{Done}
-use Rattle.cache_tier.specs.declared.statement.Load.{Load}
+use Rattle.sql_subset.specs.declared.stmt.Load.{Load}
 use Rattle.cache_tier.specs.Conditions.{overflow_fault}
 use Rattle.cache_tier.specs.Groups.{is_explicit, is_read_only, with_keys}
 use Rattle.cache_tier.specs.Reading.{Reads, as_it_was, backing_at}

@@ -8,7 +8,7 @@ use Rattle.tier_base.specs.declared.code.Code.TheVariants as code
 use Rattle.tier_base.specs.declared.limit.Limit.TheVariants as limit
 use Rattle.row_types.specs.declared.rule.Rule.{Rule}
 use Rattle.cache_tier.specs.declared.reply.Last.TheVariants.{Done}
-use Rattle.cache_tier.specs.declared.statement.OpenOptions.{OpenOptions}
+use Rattle.sql_subset.specs.declared.request.OpenOptions.{OpenOptions}
 use Rattle.cache_tier.specs.Rules.{at_limit, broken_if, labelled}
 use Rattle.cache_tier.specs.TierStates.{Session, Tier, is_labelled, with_session}
 use Rattle.cache_tier.specs.Worlds.{Answer, only}

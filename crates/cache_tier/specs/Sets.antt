@@ -9,8 +9,8 @@ use Rattle.row_types.specs.declared.value.Value.{Value}
 use Rattle.instances.specs.Views.{kept_at}
 use Rattle.instances.specs.Trees.{is_place}
 use Rattle.table_state.specs.Tables.{TableState}
-use Rattle.cache_tier.specs.declared.statement.RefreshState.{RefreshState}
-use Rattle.cache_tier.specs.declared.statement.RefreshState.TheVariants.{On, Off, Paused}
+use Rattle.sql_subset.specs.declared.stmt.RefreshState.{RefreshState}
+use Rattle.sql_subset.specs.declared.stmt.RefreshState.TheVariants.{On, Off, Paused}
 use Rattle.cache_tier.specs.Groups.{Group, is_explicit, is_on, is_read_only}
 use Rattle.cache_tier.specs.Reading.{ReadsFirst, backing_at}
 use Rattle.cache_tier.specs.Shown.{exceeds, instances_where}

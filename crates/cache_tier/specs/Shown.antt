@@ -22,7 +22,9 @@ use Rattle.instances.specs.declared.tree.Tree.{Tree}
 use Rattle.instances.specs.Trees.{place_of}
 use Rattle.instances.specs.Views.{kept_at, root_rows, rows_where, with_children}
 use Rattle.instances.specs.Roots.{root_of}
-use Rattle.cache_tier.specs.Groups.{Group, AgingRule, LastUse, ByTime, is_explicit, is_key, is_read_only, group_over}
+use Rattle.cache_tier.specs.declared.group.AgingRule.{AgingRule}
+use Rattle.cache_tier.specs.declared.group.AgingRule.TheVariants.{ByTime, LastUse}
+use Rattle.cache_tier.specs.Groups.{Group, is_explicit, is_key, is_read_only, group_over}
 use Rattle.order_laws.specs.Commits.{virtual_state}
 use Rattle.cache_tier.specs.TierStates.{Tier, Session}
 

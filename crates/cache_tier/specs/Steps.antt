@@ -1,6 +1,7 @@
 -- What one line does, and what a list of them does.
 
 use Rattle.std.specs.Prelude.{◌≡◌, ◌⊎◌, ℕ, ◌+◌, ◌-◌, ◌^◌, ◌≤◌, min, max, nat_eq, nat_lt, List, [], ◌∷◌, Bool, false, Option, Some, None, Result, Ok, Err, if◌then◌else◌, count_by}
+use Rattle.std.specs.Bool.{MatchBool}
 use Rattle.std.specs.Option.{is_none}
 use Rattle.tier_base.specs.Codes.{number_of}
 use Rattle.tier_base.specs.Limits.{greatest}
@@ -14,13 +15,15 @@ use Rattle.cache_tier.specs.declared.reply.Note.{Note}
 use Rattle.cache_tier.specs.declared.reply.Note.TheVariants.{Committed, RolledBack, Propagate, Refresh}
 use Rattle.cache_tier.specs.declared.reply.Last.{Last}
 use Rattle.cache_tier.specs.declared.reply.Last.TheVariants.{Done, No, Fault}
-use Rattle.cache_tier.specs.declared.statement.Line.{Line}
-use Rattle.cache_tier.specs.declared.statement.Line.TheVariants as says
-use Rattle.cache_tier.specs.declared.statement.Request.{Request}
-use Rattle.cache_tier.specs.declared.statement.Request.TheVariants as asks_for
-use Rattle.cache_tier.specs.declared.statement.Stmt.{Stmt}
-use Rattle.cache_tier.specs.declared.statement.Stmt.TheVariants as statement
-use Rattle.cache_tier.specs.Called.{Called, Drain, RefreshSet, SetLevel, called}
+use Rattle.sql_subset.specs.declared.request.Line.{Line}
+use Rattle.sql_subset.specs.declared.request.Line.TheVariants as says
+use Rattle.sql_subset.specs.declared.request.Request.{Request}
+use Rattle.sql_subset.specs.declared.request.Request.TheVariants as asks_for
+use Rattle.sql_subset.specs.declared.stmt.Stmt.{Stmt}
+use Rattle.sql_subset.specs.declared.stmt.Stmt.TheVariants as statement
+use Rattle.cache_tier.specs.Called.{called}
+use Rattle.cache_tier.specs.declared.called.Called.{Called}
+use Rattle.cache_tier.specs.declared.called.Called.TheVariants.{Drain, RefreshSet, SetLevel}
 use Rattle.cache_tier.specs.CommitSteps.{CommitsAll, RollsBack}
 use Rattle.cache_tier.specs.ConsoleSteps.{AsksSchema, DoesConsole, clock_answer}
 use Rattle.cache_tier.specs.DefineSteps.{CreatesGroup}
@@ -35,6 +38,7 @@ use Rattle.cache_tier.specs.SelectSteps.{Selects}
 use Rattle.cache_tier.specs.SessionSteps.{close_answer, flag_answer, open_answer, open_fault}
 use Rattle.cache_tier.specs.Sets.{RefreshesIfShown, set_size}
 use Rattle.cache_tier.specs.TierStates.{Session, Tier, cut, session_of}
+use Rattle.cache_tier.specs.Undone.{is_undone}
 use Rattle.cache_tier.specs.AlterSteps.{Alters}
 use Rattle.cache_tier.specs.DropSteps.{DropsGroup}
 use Rattle.cache_tier.specs.UnloadSteps.{Unloads}
@@ -58,13 +62,15 @@ abbrev pub DoesStatement : Session → Stmt → Part
 DoesStatement s (statement.Select q) w w' reply = Selects s q w w' reply
 DoesStatement s (statement.Write write) w w' reply = Writes s write w w' reply
 DoesStatement s (statement.CreateGroup d) w w' reply = CreatesGroup d w w' reply
+DoesStatement s (statement.CreateIndex i) w w' reply = ⊥
 DoesStatement s (statement.Load load) w w' reply = Loads load w w' reply
 DoesStatement s (statement.Refresh load) w w' reply = Refreshes load w w' reply
 DoesStatement s (statement.Unload u) w w' reply = Unloads s u w w' reply
 DoesStatement s (statement.Flush u) w w' reply = ⊥
 DoesStatement s (statement.Alter a) w w' reply = Alters a w w' reply
-DoesStatement s (statement.Drop name) w w' reply = DropsGroup s name w w' reply
-DoesStatement s (statement.Call c) w w' reply = DoesCalled s (called w.tier c.procedure c.arguments) w w' reply
+DoesStatement s (statement.DropGroup name) w w' reply = DropsGroup s name w w' reply
+DoesStatement s (statement.DropIndex name) w w' reply = ⊥
+DoesStatement s (statement.Call c) w w' reply = DoesCalled s (called w.tier.groups c.procedure c.arguments) w w' reply
 DoesStatement s statement.Commit w w' reply = CommitsAll s w w' reply
 DoesStatement s statement.Rollback w w' reply = RollsBack s w w' reply
 
@@ -175,7 +181,8 @@ pub record Counts (w w' : World) (reply : Reply) : Type 0 where
 -- One line that says this, where the moments are counted from this base. A silent one has no reply and does nothing.
 abbrev pub Heeds : ℕ → Saying → Part
 Heeds base Silent w w' reply = ⊥
-Heeds base (Says l) w w' reply = Answered base l w w' reply
+Heeds base (Says l) w w' reply =
+    MatchBool (is_undone l) (Tries (Refuses (wrong_at 0)) w w' reply) (Answered base l w w' reply)
 Heeds base (WrongAt place) w w' reply = Tries (Refuses (wrong_at place)) w w' reply
 Heeds base TooDeep w w' reply = Tries (Refuses (past limit.Depth)) w w' reply
 Heeds base TooLong w w' reply = Refuses (past limit.Line) w w' reply

@@ -15,8 +15,8 @@ use Rattle.table_state.specs.Tables.{TableState, table_at}
 use Rattle.cache_tier.specs.JournalSteps.{FlushesSome}
 use Rattle.cache_tier.specs.declared.reply.Reply.{Reply}
 use Rattle.cache_tier.specs.declared.reply.Last.TheVariants.{Done}
-use Rattle.cache_tier.specs.declared.statement.Which.{Which}
-use Rattle.cache_tier.specs.Conditions.{StandsForFilter, matches}
+use Rattle.sql_subset.specs.declared.stmt.Which.{Which}
+use Rattle.cache_tier.specs.Conditions.{StandsForFilter, matches, root_def}
 use Rattle.cache_tier.specs.DynamicLoads.{state_entries, state_loaded}
 use Rattle.cache_tier.specs.Groups.{Group, is_explicit, is_key, is_writethrough, place_called}
 use Rattle.cache_tier.specs.Journals.{JournalEntry, SetsLoaded}
@@ -102,7 +102,7 @@ pub record OnTarget (name : List ℕ) (which : Which) (part : Target → Part) (
   pub target : Target
   pub place : place_called w.tier.groups name ≡ Some target.place
   pub group : slice_get w.tier.groups target.place ≡ Some target.group
-  pub filter : StandsForFilter w.tier target.group which target.filter
+  pub filter : StandsForFilter (root_def w.tier target.group) which target.filter
   pub id : target.id ≡ which.id
   pub does : part target w w' reply
 

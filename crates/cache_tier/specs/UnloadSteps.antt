@@ -19,7 +19,7 @@ use Rattle.cache_tier.specs.TierStates.{Session}
 use Rattle.cache_tier.specs.Worlds.{Answer, Part, Then, Unless, World, only}
 use Rattle.std.specs.Option.{option_or}
 use Rattle.row_types.specs.declared.rule.Rule.{Rule}
-use Rattle.cache_tier.specs.declared.statement.OfGroup.{OfGroup}
+use Rattle.sql_subset.specs.declared.stmt.OfGroup.{OfGroup}
 use Rattle.cache_tier.specs.Locks.{instance_lock}
 use Rattle.cache_tier.specs.Targets.{Target, flag_entries, with_flag, OnTarget}
 

@@ -21,8 +21,8 @@ use Rattle.resolution.specs.Writes as write
 use Rattle.cache_tier.specs.Groups.{Group, is_read_only, group_over}
 use Rattle.cache_tier.specs.Shown.{shown_table}
 use Rattle.cache_tier.specs.TierStates.{Tier}
-use Rattle.cache_tier.specs.declared.statement.RefreshState.{RefreshState}
-use Rattle.cache_tier.specs.declared.statement.RefreshState.TheVariants.{On, Off, Paused}
+use Rattle.sql_subset.specs.declared.stmt.RefreshState.{RefreshState}
+use Rattle.sql_subset.specs.declared.stmt.RefreshState.TheVariants.{On, Off, Paused}
 
 -- the row of this key of a table, and all that goes with it
 pub record Want : Type 0 where

@@ -3,6 +3,7 @@
 
 mod assigning;
 mod building;
+pub mod filter;
 mod listing;
 mod placing;
 pub mod query;
@@ -11,6 +12,8 @@ pub mod resolved;
 pub mod scope;
 pub mod write;
 
+pub use filter::{ResolvedFilter, resolve_filter};
+pub use placing::family_of_literal;
 pub use query::resolve_query;
 pub use resolved::ResolvedQuery;
 pub use write::{resolve_write, resolve_writes};

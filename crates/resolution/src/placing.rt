@@ -167,7 +167,8 @@ fn standing_for(alloc: Global, literal: &Literal, unheld: &mut bool) -> Result<V
     }
 }
 
-fn family_of_literal(literal: &Literal) -> Option<Family>
+/// The family of a literal by its form; none of NULL and of the text without bytes, which suit everywhere.
+pub fn family_of_literal(literal: &Literal) -> Option<Family>
     ensures { result ≡ family_of_literal literal.now }
 {
     match literal {
