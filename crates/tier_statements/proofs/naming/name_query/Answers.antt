@@ -1,0 +1,10 @@
+use Rattle.std.proofs.Common.{sym, subst}
+use Rattle.resolution.specs.Queries.{query_seen, resolved_query}
+use Rattle.resolution.specs.Results.{Gives}
+use Rattle.tier_statements.proofs.NameLaws.{seen_at_0}
+use Rattle.tier_statements.proofs.naming.name_query.Goals as goal
+
+pub returns-then-level-eq0 : goal.returns-then-level-eq0
+returns-then-level-eq0 g c = λ t has.
+    subst (λ l. Gives query_seen (resolved_query l c.args.query.now) c.name_cached_query.result)
+    (sym (seen_at_0 c.args.schema.now _ t has c.args.level c.if-level-eq0.true)) c.name_cached_query.ensures
