@@ -1,0 +1,9 @@
+pub mod BankLaws
+pub mod CommitLaws
+pub mod DrainLaws
+pub mod RoundLaws
+pub mod SeenLaws
+pub mod SelectLaws
+pub mod SessionLaws
+pub mod TablingLaws
+pub mod WritingLaws

@@ -1,0 +1,9 @@
+pub mod Answering
+pub mod Committing
+pub mod Draining
+pub mod Refusing
+pub mod Selecting
+pub mod Sites
+pub mod Stored
+pub mod Tabling
+pub mod Writing

@@ -1,0 +1,144 @@
+//! SELECT.
+
+ghost use Rattle.std.specs.Prelude.{◌≡◌, [], IfErr, IfOk};
+ghost use Rattle.std.specs.List.{list_all, list_any};
+ghost use Rattle.resolution.specs.Queries.{query_seen};
+ghost use Rattle.tier_statements.specs.Answering.{IsAnswerTo};
+ghost use Rattle.group_catalog.specs.Catalogs.{groups_in};
+ghost use Rattle.cache_tier.specs.Groups.{definitions_of, is_defined_on};
+ghost use Rattle.cache_tier.specs.Routes.{is_cached, visible};
+ghost use Rattle.cache_tier.specs.Shown.{seen_by};
+ghost use Rattle.cache_tier.specs.TierStates.{Session as OneSession, Tier as AbstractTier, level_of};
+ghost use Rattle.cache_tier.specs.Worlds.{World};
+ghost use Rattle.cache_engine.specs.declared.query.Selected.TheVariants.{Answered};
+
+use crate::tier::Tier;
+use cache_tier::laws::tier_law;
+use cache_tier::reply::Reply;
+use group_catalog::Catalog;
+use group_store::Shown;
+use open_sessions::laws::label_law;
+use resolution::{ResolvedQuery, resolve_query};
+use row_types::Refused;
+use sql_query::Query;
+use std::alloc::Global;
+use table_defs::BackingSchema;
+use table_scan::laws::keyed_law;
+use tier_base::{SessionId, TableId};
+use tier_statements::answer_query;
+
+/// What becomes of a query that breaks no rule of its names.
+pub enum Selected {
+    /// It is answered in the cache.
+    Answered(Reply),
+    /// It is for the backing database, whole.
+    PassedOn(ResolvedQuery),
+}
+
+impl Drop for Selected {
+    fn drop(self) {
+        match self {
+            Self::Answered(_) => {}
+            Self::PassedOn(_) => {}
+        }
+    }
+}
+
+impl Tier {
+    ghost use Rattle.cache_engine.specs.Selecting.{HasNoDynamic, SelectsHere};
+    ghost use Rattle.cache_engine.specs.Stored.{HasSession, IsSound, IsStoredAs, ShowsRows};
+
+    /// SELECT of an open session: it is answered in the cache, over what the session sees; or it is for the backing
+    /// database, at level 3 and where a table isn't cached. The tier stays as it is.
+    ///
+    /// The refusal is the first broken rule: that of its names over the tables that the session's level lets it see, or
+    /// what the evaluator tells of it; or memory was wanting. (TimesTen SQL Reference, "SELECT"; TimesTen Cache User's
+    /// Guide, "Setting a passthrough level".)
+    pub fn select(&self, alloc: Global, id: SessionId, query: &Query) -> Result<Selected, Refused>
+        requires sound { IsSound self.now }
+        requires simple { query.now.groups ≡ [] }
+        ensures { (w : World) (s : OneSession) → IsStoredAs self.now w.tier → ShowsRows self.now w
+            → HasNoDynamic w.tier → HasSession self.now id s → SelectsHere self.now s query.now w result }
+    {
+        let level = self.level(id);
+        let resolved = resolve_query(alloc, self.names(level), query)?;
+        if level < 3 && self.has_all(tables_of(&resolved)) {
+            answered(self.answer(alloc, id, &resolved))
+        } else {
+            Ok(Selected::PassedOn(resolved))
+        }
+    }
+
+    // The level of passthrough that counts for a session now; 0 where no session has the number.
+    pub(crate) fn level(&self, id: SessionId) -> u8
+        requires { IsSound self.now }
+        ensures { (s : OneSession) → HasSession self.now id s → result ≡ level_of s }
+    {
+        label_law();
+        match self.sessions.level(id) {
+            Some(level) => level,
+            None => 0,
+        }
+    }
+
+    // The tables as a session of this level sees them.
+    pub(crate) fn names(&self, level: u8) -> &BackingSchema
+        requires { IsSound self.now }
+        ensures { (a : AbstractTier) → IsStoredAs self.now a → result.now ≡ visible level a }
+    {
+        if level == 0 {
+            &self.visible
+        } else {
+            &self.schema
+        }
+    }
+
+    // Whether each of these tables is cached.
+    fn has_all(&self, tables: &[TableId]) -> bool
+        ensures { (a : AbstractTier) → IsStoredAs self.now a → result ≡ list_all (is_cached a) tables.now }
+    {
+        have_all(&self.catalog, tables)
+    }
+
+    // The answer to a query over what a session sees.
+    fn answer(&self, alloc: Global, id: SessionId, query: &ResolvedQuery) -> Result<Reply, Refused>
+        requires { IsSound self.now }
+        ensures { (w : World) (s : OneSession) → ShowsRows self.now w → HasSession self.now id s
+            → IsAnswerTo query.now (seen_by s w.history w.tier) result }
+    {
+        keyed_law();
+        label_law();
+        tier_law();
+        let shown = Shown::new(&self.schema, self.stores.as_slice(), &self.directory);
+        let seen = self.sessions.overlay(id, &shown);
+        answer_query(alloc, &seen, query)
+    }
+}
+
+// Whether a group has each of these tables.
+fn have_all(catalog: &Catalog, tables: &[TableId]) -> bool
+    ensures { result ≡ list_all (λ table. list_any (is_defined_on table) (definitions_of (groups_in catalog.now)))
+        tables.now }
+{
+    tables.iter().all(|table| catalog.has_table(*table))
+}
+
+// A reply as an answer in the cache.
+fn answered(answer: Result<Reply, Refused>) -> Result<Selected, Refused>
+    ensures ok { IfOk answer (λ reply. result ≡ Ok (Answered reply)) }
+    ensures err { IfErr answer (λ error. result ≡ Err error) }
+{
+    match answer {
+        Ok(reply) => Ok(Selected::Answered(reply)),
+        Err(refused) => Err(refused),
+    }
+}
+
+fn tables_of(query: &ResolvedQuery) -> &[TableId]
+    ensures { result.now ≡ (query_seen query.now).tables }
+{
+    match query {
+        ResolvedQuery::Rows(plan) => plan.tables.as_slice(),
+        ResolvedQuery::Totals(_, plan) => plan.tables.as_slice(),
+    }
+}
