@@ -1,6 +1,6 @@
 //! Names of tables, columns and groups.
 
-ghost use Rattle.std.specs.Prelude.{◌≡◌, ◌↔◌, ◌<◌, ◌++◌, ◌∷◌, IfOk, IfSome, IsTrue, OnOk, false, true, length, nat_eq};
+ghost use Rattle.std.specs.Prelude.{◌≡◌, ◌↔◌, ◌<◌, ◌++◌, ◌∷◌, [], IfOk, IfSome, IsTrue, OnOk, false, true, length, nat_eq};
 ghost use Rattle.std.specs.List.{list_all, position};
 ghost use Rattle.tier_base.specs.declared.name.NameError.TheVariants.{Memory};
 ghost use Rattle.tier_base.specs.Names.{begins_with_letter, folded, is_identifier, is_name, is_word_byte};
@@ -62,6 +62,15 @@ impl Name {
             .map(|byte| byte.to_ascii_uppercase())
             .collect(alloc)?;
         Ok(Name { bytes: folded })
+    }
+
+    /// What stands in the place of a name that may not be found: no bytes, so that no name is the same. It takes no memory.
+    pub fn hidden(alloc: Global) -> Name
+        ensures { result ≡ [] }
+    {
+        Name {
+            bytes: Vec::new(alloc),
+        }
     }
 
     /// The name of a column with that of its table and a dot before it.
