@@ -1,7 +1,11 @@
 pub mod Answering
+pub mod Beginning
 pub mod Committing
 pub mod Draining
+pub mod Due
+pub mod Performing
 pub mod Refusing
+pub mod Requests
 pub mod Selecting
 pub mod Sites
 pub mod Stored

@@ -1,5 +1,6 @@
 //! The tier.
 
+use crate::clock::TierClock;
 use group_catalog::Catalog;
 use group_store::{Directory, Store};
 use open_sessions::Sessions;
@@ -28,6 +29,10 @@ pub struct Tier {
     pub(crate) unsettled: VecDeque<Sealed>,
     // the next ticket
     pub(crate) next: u64,
+    // the clock, and when what is due was done last
+    pub(crate) clock: TierClock,
+    // whether each session's operations are known to apply on the stored rows
+    pub(crate) verified: bool,
 }
 
 impl Drop for Tier {
@@ -42,6 +47,8 @@ impl Drop for Tier {
             sessions: _,
             unsettled: _,
             next: _,
+            clock: _,
+            verified: _,
         } = self;
     }
 }

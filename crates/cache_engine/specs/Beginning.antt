@@ -1,0 +1,68 @@
+-- How a tier begins over a backing database without transactions of a tier. (This project's model.)
+
+use Rattle.std.specs.Prelude.{◌≡◌, ℕ, ◌≤◌, List, ◌++◌, Option, Some, Result, Ok, Err}
+use Rattle.tier_base.specs.declared.number.Moment.{Moment}
+use Rattle.tier_base.specs.declared.number.TableId.{TableId}
+use Rattle.table_state.specs.declared.history.Entry.{Entry}
+use Rattle.table_state.specs.Histories.{state_of}
+use Rattle.table_state.specs.Tables.{TableState}
+use Rattle.order_laws.specs.Steps.{MayBegin}
+use Rattle.outside.specs.Holding.{Held}
+use Rattle.outside.specs.Others.{AreOthers}
+use Rattle.outside.specs.declared.fault.BankError.{BankError}
+use Rattle.cache_tier.specs.Journals.{no_journal}
+use Rattle.cache_tier.specs.TierStates.{Settings, opened}
+use Rattle.cache_tier.specs.Worlds.{World}
+use Rattle.cache_engine.specs.declared.tier.Tier.{Tier as Stored}
+use Rattle.cache_engine.specs.Performing.{KeepsSlots, StandsFor}
+use Rattle.cache_engine.specs.Sites.{SiteView}
+
+-- the world of a tier that is opened at a site with this history, which leaves this state; there is no journal
+abbrev pub opened_world : Settings → ℕ → TableState → List Entry → SiteView → World
+opened_world settings start s history site =
+    record {
+      tier = opened settings start s.schema;
+      history = history;
+      journal = no_journal;
+      bank_faults = site.bank_faults;
+      disk_faults = 0;
+      moment = site.moment;
+      shared = site.shared;
+    }
+
+-- the tier stands for an opened one, whose settings have this span between rounds
+abbrev pub IsOpened : Stored → Moment → ℕ → List Entry → SiteView → Type 0
+IsOpened t start propagate_ms history site =
+    (settings : Settings) (s : TableState) → settings.propagate_ms ≡ propagate_ms → state_of history ≡ Some s
+    → MayBegin history 1 → StandsFor t (opened_world settings start.0 s history site)
+
+-- what the site tells that it holds: transactions of others came, and the tier is opened over that
+pub record IsBegun (t : Stored) (start : Moment) (propagate_ms : ℕ) (before behind : SiteView) (there : Held)
+    : Type 0 where
+  pub held : Held
+  pub told : behind.held ≡ Some held
+  pub others : List Entry
+  pub came : AreOthers before.shared there.history others
+  pub is : held.history ≡ there.history ++ others
+  pub opened : IsOpened t start propagate_ms held.history behind
+
+abbrev pub Begins : Moment → ℕ → SiteView → SiteView → Result Stored BankError → Type 0
+Begins start propagate_ms before behind (Ok t) =
+    (there : Held) → before.held ≡ Some there → IsBegun t start propagate_ms before behind there
+Begins start propagate_ms before behind (Err e) = Unit {0}
+
+-- transactions of others alone came to what the site holds
+pub record OthersCame (shared : List TableId) (there : Held) (held : Option Held) : Type 0 where
+  pub now : Held
+  pub told : held ≡ Some now
+  pub others : List Entry
+  pub came : AreOthers shared there.history others
+  pub is : now.history ≡ there.history ++ others
+
+-- the count of faults and the moment don't fall, what others change stays, and so do the slots
+pub record BeginsAt (before behind : SiteView) : Type 0 where
+  pub later : before.bank_faults ≤ behind.bank_faults
+  pub moment : before.moment ≤ behind.moment
+  pub shares : behind.shared ≡ before.shared
+  pub slots : KeepsSlots before.held behind.held
+  pub others : (there : Held) → before.held ≡ Some there → OthersCame before.shared there behind.held

@@ -1,0 +1,58 @@
+-- What a request line does, by its bytes. (This project's rule.)
+
+use Rattle.std.specs.Prelude.{◌≡◌, ◌×◌, ◌≤◌, ℕ, nat_lt, List, [], ◌∷◌, Bool, Option, Some, None, length}
+use Rattle.std.specs.Bool.{MatchBool}
+use Rattle.tier_base.specs.declared.code.Code.TheVariants as code
+use Rattle.tier_base.specs.declared.limit.Limit.TheVariants as limit
+use Rattle.tier_base.specs.Limits.{greatest}
+use Rattle.sql_subset.specs.Lines as line
+use Rattle.cache_tier.specs.declared.reply.Reply.{Reply}
+use Rattle.cache_tier.specs.Steps.{Rose, Saying, Silent, Says, Step, TooDeep, TooLong, WrongAt, faults_in}
+use Rattle.cache_tier.specs.Worlds.{World}
+use Rattle.cache_engine.specs.Performing.{KeepsSlots}
+use Rattle.cache_engine.specs.Sites.{SiteView}
+
+-- the line is longer than a line may be
+abbrev pub is_long : List ℕ → Bool
+is_long bytes = nat_lt (greatest limit.Line) (length bytes)
+
+-- what the reader hears
+abbrev pub heard : line.Saying → Saying
+heard line.Silent = Silent
+heard (line.Says l) = Says l
+heard (line.WrongAt place) = WrongAt place
+heard line.TooDeep = TooDeep
+
+-- this is said by the bytes of a line
+abbrev pub IsHeard : List ℕ → Saying → Type 0
+IsHeard bytes said = (saying : line.Saying) × line.Means bytes saying × (said ≡ heard saying)
+
+abbrev pub IsSaid : List ℕ → Saying → Type 0
+IsSaid bytes said = MatchBool (is_long bytes) (said ≡ TooLong) (IsHeard bytes said)
+
+-- one line, whose moment is counted from this base
+abbrev pub LineStep : ℕ → World → List ℕ → World → Option Reply → Type 0
+LineStep base w bytes w' reply = (said : Saying) × IsSaid bytes said × Step base w said w' reply
+
+-- a line's bytes, and the base of its moment
+pub record Given : Type 0 where
+  pub base : ℕ
+  pub bytes : List ℕ
+
+-- one line after another
+abbrev pub LineRun : World → List Given → List (Option Reply) → World → Type 0
+LineRun w [] [] w' = w' ≡ w
+LineRun w [] (reply ∷ replies) w' = ⊥
+LineRun w (g ∷ lines) [] w' = ⊥
+LineRun w (g ∷ lines) (reply ∷ replies) w' =
+    (mid : World) × LineStep g.base w g.bytes mid reply × LineRun mid lines replies w'
+
+-- Counts and moments don't fall, what others change stays, and so do the slots. Each fault of the bank that a reply tells
+-- has a failed call of its own, and none of the journal is told.
+pub record IsLineCaused (before behind : SiteView) (reply : Option Reply) : Type 0 where
+  pub later : before.bank_faults ≤ behind.bank_faults
+  pub moment : before.moment ≤ behind.moment
+  pub shares : behind.shared ≡ before.shared
+  pub slots : KeepsSlots before.held behind.held
+  pub bank : (r : Reply) → reply ≡ Some r → Rose before.bank_faults (faults_in code.BackingFault r) behind.bank_faults
+  pub disk : (r : Reply) → reply ≡ Some r → faults_in code.JournalFault r ≡ 0
