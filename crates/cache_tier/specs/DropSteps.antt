@@ -1,7 +1,7 @@
 -- DROP CACHE GROUP. (TimesTen SQL Reference, "DROP CACHE GROUP"; that pending transactions are applied first is this
 -- project's rule.)
 
-use Rattle.std.specs.Prelude.{ℕ, List, [], ◌∷◌, true, not, Option}
+use Rattle.std.specs.Prelude.{ℕ, List, [], ◌∷◌, not, Option}
 use Rattle.std.specs.List.{filter}
 use Rattle.std.specs.Bool.{MatchBool}
 use Rattle.cache_tier.specs.JournalSteps.{FlushesSome}
@@ -13,7 +13,7 @@ use Rattle.cache_tier.specs.Rounds.{Round}
 use Rattle.cache_tier.specs.TierStates.{Tier, Session}
 use Rattle.cache_tier.specs.Worlds.{Answer, Part, Then, Unless, World, only, Tries}
 use Rattle.row_types.specs.declared.rule.Rule.{Rule}
-use Rattle.cache_tier.specs.Locks.{instance_lock}
+use Rattle.cache_tier.specs.Locks.{group_lock}
 use Rattle.cache_tier.specs.Targets.{OnGroup}
 
 -- the group is gone
@@ -23,9 +23,9 @@ without_group name t = record t { groups = filter (λ g. not (is_called name g))
 abbrev pub drop_answer : List ℕ → World → Answer
 drop_answer name w = (without_group name w.tier, only (Done 0))
 
--- 111: another session has written in some instance of the group
+-- 111: another session has written on a table of the group
 abbrev pub drop_fault : Session → Group → World → Option Rule
-drop_fault s g w = instance_lock s.label w.history w.tier g (λ key. true)
+drop_fault s g w = group_lock s.label w.tier g
 
 abbrev pub DropsRest : Session → Group → Part
 DropsRest s g w w' reply =

@@ -1,9 +1,9 @@
--- What is done to the journal: an entry is noted in memory, or flushed with the tail before it. Where there is no
--- journal yet, this file says that nothing is done. (This project's rule.)
+-- What is done to the journal: an entry is noted in memory, or flushed with the tail before it. Where the tier keeps no
+-- journal, nothing is done. (This project's rule.)
 
 use Rattle.tier_base.specs.declared.code.Code.TheVariants as code
 use Rattle.tier_base.specs.declared.limit.Limit.TheVariants as limit
-use Rattle.std.specs.Prelude.{◌≡◌, ℕ, ◌≤◌, List, [], ◌++◌, Option, Some, None, false, length, slice_get, Bool, true, ◌∷◌, nat_lt}
+use Rattle.std.specs.Prelude.{◌≡◌, ℕ, ◌≤◌, List, [], ◌++◌, Option, Some, None, false, length, slice_get, Bool, true, ◌&&◌, ◌∷◌, nat_lt}
 use Rattle.std.specs.Bool.{MatchBool}
 use Rattle.row_types.specs.declared.rule.Rule.{Rule}
 use Rattle.table_defs.specs.declared.definition.TableDef.{TableDef}
@@ -28,7 +28,7 @@ name_sizes w op = name_size w.tier.schema op
 
 -- 119 of the journal: these entries can't be flushed behind the tail
 abbrev pub journal_full : World → List JournalEntry → Bool
-journal_full w entries = is_full (name_sizes w) w.journal entries
+journal_full w entries = w.journal.kept && is_full (name_sizes w) w.journal entries
 
 -- the journal once the tail and these entries are flushed
 abbrev pub journal_with : World → List JournalEntry → Journal
@@ -49,7 +49,7 @@ flush_stop Failing = Some (faulty code.JournalFault)
 
 -- The tail and these entries are flushed as one batch, or the call failed, and they may be there or not. The tier,
 -- the history and the bank's count stay.
-pub record Flushes (entries : List JournalEntry) (w w' : World) (stop : Option Reply) : Type 0 where
+pub record FlushesKept (entries : List JournalEntry) (w w' : World) (stop : Option Reply) : Type 0 where
   pub result : Flushed
   pub tier : w'.tier ≡ w.tier
   pub history : w'.history ≡ w.history
@@ -60,13 +60,21 @@ pub record Flushes (entries : List JournalEntry) (w w' : World) (stop : Option R
   pub shared : w'.shared ≡ w.shared
   pub end : stop ≡ flush_stop result
 
+-- the same where a journal is kept
+abbrev pub Flushes : List JournalEntry → Stage
+Flushes entries w w' stop = OnlyWhere w.journal.kept (FlushesKept entries) w w' stop
+
 -- 119: the entries don't fit the journal
 abbrev pub journal_fault : World → List JournalEntry → Option Rule
 journal_fault w entries = broken_if (journal_full w entries) (past limit.JournalSlot)
 
 -- the entry waits in the tail
+abbrev pub NotesKept : JournalEntry → Stage
+NotesKept e w w' stop = (w' ≡ record w { journal = with_noted e w.journal }) × (stop ≡ None)
+
+-- the same where a journal is kept
 abbrev pub Notes : JournalEntry → Stage
-Notes e w w' stop = (w' ≡ record w { journal = with_noted e w.journal }) × (stop ≡ None)
+Notes e w w' stop = OnlyWhere w.journal.kept (NotesKept e) w w' stop
 
 -- with DURABLE 1 the tail is flushed with it before the answer
 abbrev pub Records : Bool → JournalEntry → Stage

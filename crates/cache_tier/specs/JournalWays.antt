@@ -15,6 +15,7 @@ pub record IsFront (least : List JournalEntry) (all entries : List JournalEntry)
 
 -- in one slot a journal is only given more, and flushes more
 pub record GoesOn (old new : Journal) : Type 0 where
+  pub kept : new.kept ≡ old.kept
   pub slot : new.generation ≡ old.generation
   pub more : List JournalEntry
   pub grows : given new ≡ given old ++ more
@@ -28,8 +29,8 @@ pub record Renewal : Type 0 where
 -- from one journal to another, over these rotations
 abbrev pub Leads : Journal → List Renewal → Journal → Type 0
 Leads old [] new = GoesOn old new
-Leads old (r ∷ renewals) new = GoesOn old r.before × (r.begun.generation ≡ r.before.generation + 1)
-    × (r.begun.tail ≡ []) × Leads r.begun renewals new
+Leads old (r ∷ renewals) new = GoesOn old r.before × (r.begun.kept ≡ r.before.kept)
+    × (r.begun.generation ≡ r.before.generation + 1) × (r.begun.tail ≡ []) × Leads r.begun renewals new
 
 -- the entries that the slots give at a moment on the way: of one slot those that were flushed when it began, or the
 -- line did, and a front of what came behind them

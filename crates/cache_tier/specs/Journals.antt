@@ -1,7 +1,7 @@
 -- The commit journal as a list of entries, and what they fold to. (This project's rule; the bytes of an entry are the
 -- journal format's.)
 
-use Rattle.std.specs.Prelude.{ℕ, ◌+◌, nat_eq, nat_lt, max, List, [], ◌∷◌, ◌++◌, Bool, ◌||◌, Option, Some, None, length, fold, sum_by, if◌then◌else◌}
+use Rattle.std.specs.Prelude.{ℕ, ◌+◌, nat_eq, nat_lt, max, List, [], ◌∷◌, ◌++◌, Bool, true, false, ◌||◌, Option, Some, None, length, fold, sum_by, if◌then◌else◌}
 use Rattle.row_types.specs.declared.value.Value.{Value}
 use Rattle.row_types.specs.declared.value.Value.TheVariants.{Null, Number, Text, Time}
 use Rattle.tier_base.specs.declared.limit.Limit.TheVariants as limit
@@ -24,9 +24,10 @@ pub data JournalEntry : Type 0 where
   SetsState : List ℕ → RefreshState → JournalEntry
   SetsLoaded : List ℕ → Bool → JournalEntry
 
--- The journal: the entries that are flushed, those in memory behind them, the length of the live slot, and its
--- generation.
+-- The journal: whether the tier keeps one (where it doesn't, nothing is done to it), the entries that are flushed, those
+-- in memory behind them, the length of the live slot, and its generation.
 pub record Journal : Type 0 where
+  pub kept : Bool
   pub flushed : List JournalEntry
   pub tail : List JournalEntry
   pub written : ℕ
@@ -83,6 +84,7 @@ abbrev pub flushed_batch : (Op → ℕ) → List JournalEntry → Journal → Jo
 flushed_batch name [] j = j
 flushed_batch name (e ∷ batch) j =
     record {
+      kept = j.kept;
       flushed = j.flushed ++ e ∷ batch;
       tail = [];
       written = j.written + 5 + body_size name (e ∷ batch);
@@ -95,11 +97,21 @@ flushed_with name entries j = flushed_batch name (j.tail ++ entries) j
 -- the other slot is begun anew with these entries
 abbrev pub rotated : (Op → ℕ) → List JournalEntry → Journal → Journal
 rotated name entries j =
-    record { flushed = entries; tail = []; written = 16 + body_size name entries; generation = j.generation + 1 }
+    record {
+      kept = j.kept;
+      flushed = entries;
+      tail = [];
+      written = 16 + body_size name entries;
+      generation = j.generation + 1;
+    }
 
 -- a new journal: a slot of eleven bytes
 abbrev pub new_journal : Journal
-new_journal = record { flushed = []; tail = []; written = 11; generation = 1 }
+new_journal = record { kept = true; flushed = []; tail = []; written = 11; generation = 1 }
+
+-- that of a tier without a journal
+abbrev pub no_journal : Journal
+no_journal = record { kept = false; flushed = []; tail = []; written = 0; generation = 0 }
 
 -- the ticket of an entry, where it has one; a mark isn't one
 abbrev pub ticket_in : JournalEntry → Option ℕ

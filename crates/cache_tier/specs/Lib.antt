@@ -33,6 +33,7 @@ pub mod Printing
 pub mod Reading
 pub mod Recency
 pub mod RefreshSteps
+pub mod Replying
 pub mod Rotations
 pub mod Rounds
 pub mod Routes

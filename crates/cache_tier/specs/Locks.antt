@@ -16,9 +16,10 @@ use Rattle.table_defs.specs.declared.definition.TableDef.{TableDef}
 use Rattle.table_state.specs.declared.footprint.RowKey.{RowKey}
 use Rattle.table_state.specs.declared.history.Entry.{Entry}
 use Rattle.table_state.specs.declared.operation.Op.{Op}
+use Rattle.table_state.specs.Operations.{table_of}
 use Rattle.table_state.specs.Tables.{TableState}
 use Rattle.table_state.specs.Footprints.{footprint_of, is_among, is_in, referred_by, written_by}
-use Rattle.cache_tier.specs.Groups.{Group, is_key}
+use Rattle.cache_tier.specs.Groups.{Group, covers, is_key}
 use Rattle.cache_tier.specs.Shown.{instances_where, root_key, all_over, shown_state}
 use Rattle.cache_tier.specs.TierStates.{Session, Tier, others}
 
@@ -87,10 +88,18 @@ has_writes_in history t g test s =
 abbrev pub writer_in : List Entry → Tier → List Session → Group → (List Value → Bool) → Option Session
 writer_in history t sessions g test = find (has_writes_in history t g test) sessions
 
--- 111 of UNLOAD and DROP: another session has written in one of these instances
+-- 111 of UNLOAD: another session has written in one of these instances
 abbrev pub instance_lock : List ℕ → List Entry → Tier → Group → (List Value → Bool) → Option Rule
 instance_lock label history t g test = option_map locked_by (writer_in history t (others label t) g test)
 
 -- some session has uncommitted writes in the instance of this key
 abbrev pub is_busy : List Entry → Tier → Group → List Value → Bool
 is_busy history t g key = is_some (writer_in history t t.sessions g (λ other. is_key (key ∷ []) other))
+
+-- one of the operations is on a table of the group
+abbrev pub writes_on : Group → List Op → Bool
+writes_on g ops = list_any (λ op. covers (table_of op) g) ops
+
+-- 111 of DROP: another session has uncommitted writes on a table of the group; the one opened earliest that has
+abbrev pub group_lock : List ℕ → Tier → Group → Option Rule
+group_lock label t g = option_map locked_by (find (λ s. writes_on g s.own) (others label t))

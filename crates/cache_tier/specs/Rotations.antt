@@ -1,7 +1,7 @@
 -- The rotation of a long journal: the other slot is begun anew with what counts. (This project's rule.)
 
 use Rattle.tier_base.specs.declared.code.Code.TheVariants as code
-use Rattle.std.specs.Prelude.{◌≡◌, ◌≤◌, nat_lt, List, ◌∷◌, ◌++◌, Bool, true, Option, Some, None, map}
+use Rattle.std.specs.Prelude.{◌≡◌, ◌≤◌, nat_lt, List, ◌∷◌, ◌++◌, Bool, true, ◌&&◌, Option, Some, None, map}
 use Rattle.std.specs.List.{filter}
 use Rattle.cache_tier.specs.declared.reply.Reply.{Reply}
 use Rattle.cache_tier.specs.Definitions.{text_of}
@@ -51,8 +51,9 @@ pub record Rotates (w w' : World) (stop : Option Reply) : Type 0 where
   pub shared : w'.shared ≡ w.shared
   pub end : stop ≡ rotation_stop result
 
+-- a journal is kept, and its slot is longer than the setting
 abbrev pub is_long : World → Bool
-is_long w = nat_lt w.tier.settings.rotate_bytes w.journal.written
+is_long w = w.journal.kept && nat_lt w.tier.settings.rotate_bytes w.journal.written
 
 abbrev pub RotatesIfLong : Stage
 RotatesIfLong w w' stop = OnlyWhere (is_long w) Rotates w w' stop

@@ -1,33 +1,61 @@
--- What is read but isn't done yet: user-managed groups, GROUP BY, indexes. (TimesTen Cache User's Guide, "User managed cache
--- groups"; TimesTen SQL Reference, "SELECT", "CREATE INDEX", "DROP INDEX"; that such a line is 101 at byte 0, before all but
--- its own 101 and 119, is this project's rule.)
+-- What is read but isn't done yet. User-managed groups, GROUP BY, indexes, dynamic and synchronous groups, aging, OPEN
+-- with a passthrough level or durable commits, and ttOptSetFlag come later. (TimesTen Cache User's Guide, "User managed
+-- cache groups", "Dynamic cache groups", "Synchronous writethrough", "Implementing aging on a cache group", "Setting a
+-- passthrough level"; TimesTen SQL Reference, "SELECT", "CREATE INDEX", "DROP INDEX"; TimesTen built-in procedures,
+-- "ttOptSetFlag"; that such a line is 101 at byte 0, before all but its own 101 and 119, is this project's rule.)
 
-use Rattle.std.specs.Prelude.{Bool, true, false, length, nat_lt}
+use Rattle.std.specs.Prelude.{Bool, true, false, ◌||◌, codes, is_some, length, nat_lt}
+use Rattle.std.specs.List.{list_any}
+use Rattle.table_defs.specs.Names.{same_name}
 use Rattle.sql_query.specs.declared.query.Query.{Query}
+use Rattle.sql_subset.specs.declared.stmt.Call.{Call}
+use Rattle.sql_subset.specs.declared.stmt.CreateGroup.{CreateGroup}
+use Rattle.sql_subset.specs.declared.stmt.GroupTable.{GroupTable}
 use Rattle.sql_subset.specs.declared.stmt.GroupKind.{GroupKind}
 use Rattle.sql_subset.specs.declared.stmt.GroupKind.TheVariants as kind
 use Rattle.sql_subset.specs.declared.stmt.Stmt.{Stmt}
 use Rattle.sql_subset.specs.declared.stmt.Stmt.TheVariants as says
 use Rattle.sql_subset.specs.declared.request.ConsoleRequest.{ConsoleRequest}
+use Rattle.sql_subset.specs.declared.request.OpenOptions.{OpenOptions}
 use Rattle.sql_subset.specs.declared.request.Request.{Request}
 use Rattle.sql_subset.specs.declared.request.Request.TheVariants as asks_for
 use Rattle.sql_subset.specs.declared.request.Line.{Line}
 use Rattle.sql_subset.specs.declared.request.Line.TheVariants as line
 
+-- USERMANAGED
 abbrev pub is_user_managed : GroupKind → Bool
 is_user_managed kind.ReadOnly = false
 is_user_managed kind.AsynchronousWritethrough = false
 is_user_managed kind.SynchronousWritethrough = false
 is_user_managed kind.UserManaged = true
 
+-- SYNCHRONOUS WRITETHROUGH
+abbrev pub is_synchronous_kind : GroupKind → Bool
+is_synchronous_kind kind.ReadOnly = false
+is_synchronous_kind kind.AsynchronousWritethrough = false
+is_synchronous_kind kind.SynchronousWritethrough = true
+is_synchronous_kind kind.UserManaged = false
+
+-- one of its tables has an AGING clause
+abbrev pub has_aging : CreateGroup → Bool
+has_aging d = list_any (λ (t : GroupTable). is_some t.aging) d.tables
+
+-- a definition of a group that isn't done yet: DYNAMIC is one, too
+abbrev pub is_undone_group : CreateGroup → Bool
+is_undone_group d = is_user_managed d.kind || is_synchronous_kind d.kind || d.dynamic || has_aging d
+
 -- the query groups its rows
 abbrev pub is_grouped : Query → Bool
 is_grouped q = nat_lt 0 (length q.groups)
 
+-- ttOptSetFlag, whatever its arguments
+abbrev pub sets_flag : Call → Bool
+sets_flag c = same_name c.procedure (codes "TTOPTSETFLAG")
+
 abbrev pub is_undone_statement : Stmt → Bool
 is_undone_statement (says.Select q) = is_grouped q
 is_undone_statement (says.Write w) = false
-is_undone_statement (says.CreateGroup d) = is_user_managed d.kind
+is_undone_statement (says.CreateGroup d) = is_undone_group d
 is_undone_statement (says.CreateIndex i) = true
 is_undone_statement (says.Load load) = false
 is_undone_statement (says.Refresh load) = false
@@ -36,12 +64,20 @@ is_undone_statement (says.Flush u) = false
 is_undone_statement (says.Alter a) = false
 is_undone_statement (says.DropGroup name) = false
 is_undone_statement (says.DropIndex name) = true
-is_undone_statement (says.Call c) = false
+is_undone_statement (says.Call c) = sets_flag c
 is_undone_statement says.Commit = false
 is_undone_statement says.Rollback = false
 
+-- OPEN with a passthrough level above 0
+abbrev pub passes_on : OpenOptions → Bool
+passes_on options = nat_lt 0 options.passthrough
+
+-- or with durable commits
+abbrev pub is_undone_open : OpenOptions → Bool
+is_undone_open options = passes_on options || options.durable
+
 abbrev pub is_undone_request : Request → Bool
-is_undone_request (asks_for.Open options) = false
+is_undone_request (asks_for.Open options) = is_undone_open options
 is_undone_request asks_for.Close = false
 is_undone_request (asks_for.Statement s) = is_undone_statement s
 
