@@ -1,6 +1,6 @@
 -- What the outside is asked by work that is due. (This project's rule.)
 
-use Rattle.std.specs.Prelude.{◌≡◌, ◌×◌, ◌≤◌, ℕ, false, count_by}
+use Rattle.std.specs.Prelude.{◌≡◌, ◌≤◌, ℕ, false, count_by}
 use Rattle.std.specs.Option.{IfSome}
 use Rattle.tier_base.specs.declared.code.Code.TheVariants as code
 use Rattle.cache_tier.specs.Steps.{Rose, faults_in, note_tells, tells}

@@ -22,7 +22,7 @@ impl Drop for Due {
 }
 
 impl Tier {
-    ghost use Rattle.std.specs.Prelude.{◌≡◌, ◌×◌, IfOk, OnErr};
+    ghost use Rattle.std.specs.Prelude.{◌≡◌, IfOk, OnErr};
     ghost use Rattle.cache_tier.specs.DueWork.{DueWork};
     ghost use Rattle.cache_tier.specs.Steps.{with_moment};
     ghost use Rattle.cache_engine.specs.Due.{IsDueCaused};
