@@ -3,7 +3,9 @@ pub mod Beginning
 pub mod Committing
 pub mod Draining
 pub mod Due
+pub mod Filling
 pub mod Performing
+pub mod Refreshing
 pub mod Refusing
 pub mod Requests
 pub mod Selecting
