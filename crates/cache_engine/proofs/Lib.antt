@@ -1,9 +1,14 @@
 pub mod BankLaws
 pub mod CommitLaws
 pub mod DrainLaws
+pub mod FillLaws
+pub mod FillSteps
+pub mod FreshLaws
+pub mod GroupRows
 pub mod RoundLaws
 pub mod SeenLaws
 pub mod SelectLaws
 pub mod SessionLaws
+pub mod ShownStores
 pub mod TablingLaws
 pub mod WritingLaws

@@ -4,6 +4,7 @@ pub mod Committing
 pub mod Draining
 pub mod Due
 pub mod Filling
+pub mod Fresh
 pub mod Performing
 pub mod Refreshing
 pub mod Refusing

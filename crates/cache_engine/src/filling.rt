@@ -111,8 +111,8 @@ fn fill(alloc: Global, store: &mut Store, tables: &[Rows]) -> Result<(), AllocEr
     requires { length tables.now ≤ length store.old.layers + 1 }
     ensures { OnOk result (SameButSpare (put_tables 0 (map values tables.now) store.old) store.new) }
 {
-    for (place, rows) in tables.iter().enumerate() {
-        fill_table(alloc, store, place, rows)?;
+    for place in 0..tables.len() {
+        fill_table(alloc, store, place, &tables[place])?;
     }
     Ok(())
 }

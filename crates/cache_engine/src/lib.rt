@@ -13,6 +13,7 @@ pub mod drain;
 pub mod dropping;
 pub mod due;
 mod filling;
+mod fresh;
 pub mod loading;
 pub mod loading_whole;
 pub mod query;
