@@ -5,5 +5,7 @@ pub mod RoundLaws
 pub mod SeenLaws
 pub mod SelectLaws
 pub mod SessionLaws
+pub mod StoreChanges
+pub mod StoreRows
 pub mod TablingLaws
 pub mod WritingLaws
