@@ -29,7 +29,8 @@ use Rattle.group_store.specs.Keeping.{IsFor, layer_for, primary_of}
 use Rattle.group_store.specs.Shown.{foreign_key_of}
 use Rattle.group_store.specs.Stores.{Kept, SameButSpare, put_rows, put_store, put_tables}
 use Rattle.group_store.specs.Trees.{Layer, key_at}
-use Rattle.group_store.proofs.FormLaws.{defined, key_for, primary}
+use Rattle.tier_laws.proofs.ShownTables.{defined_in, some_def}
+use Rattle.cache_engine.proofs.StoreForms.{key_for, primary}
 use Rattle.cache_tier.specs.Commits.{tables_of}
 use Rattle.tier_laws.proofs.SoundStates.{IsSoundState}
 use Rattle.tier_laws.proofs.ShownTrees.{sound_later}
@@ -137,7 +138,7 @@ get_front (d ∷ defs) more (suc i) e = get_front defs more i e
 
 module _ (schema more : List TableDef) (tree : Tree) (sound : is_sound schema tree ≡ true) where
   same_def : (place : ℕ) (t : TableId) → table_of tree place ≡ Some t → slice_get (schema ++ more) t.0 ≡ slice_get schema t.0
-  same_def place t at = let d = defined schema tree sound place t at in get_front schema more t.0 (ap is_some d.1)
+  same_def place t at = get_front schema more t.0 (defined_in schema tree place t sound at)
 
   same_layers : (children : List Child) → ((i : ℕ) (c : Child) → slice_get children i ≡ Some c → slice_get (schema ++ more) c.table.0 ≡ slice_get schema c.table.0) → map (layer_for (schema ++ more)) children ≡ map (layer_for schema) children
   same_layers [] same = refl
@@ -176,7 +177,7 @@ module _ (s : TableState) (tree : Tree) (is : IsSoundState s) (sound : is_sound 
 
   under : (place : ℕ) (t : TableId) → table_of tree place ≡ Some t → (key row : Row) → fm.get (table_at s t) key ≡ Some row → key_of (key_at k.key k.layers place) row ≡ key
   under place t there key row found =
-      let d = defined s.schema tree sound place t there in
+      let d = some_def (slice_get s.schema t.0) (defined_in s.schema tree place t sound there) in
       ap (λ ps. key_of ps row) (key_for s.schema tree k bare_form place t there ∙ primary s.schema t d.0 d.1) ∙ is.keyed t d.0 d.1 key row found
 
   in_table : (b : Bool) (v : Option Row) (row : Row) → cond b v None ≡ Some row → v ≡ Some row

@@ -14,7 +14,7 @@ use Rattle.group_store.specs.Keeping.{layer_for, primary_of}
 use Rattle.group_store.specs.Stores.{AddsChild, IsNewStore, Kept, SameButSpare, put_rows, put_store, put_tables}
 use Rattle.group_store.specs.Shown.{foreign_key_of}
 use Rattle.group_store.specs.Trees.{key_at}
-use Rattle.group_store.proofs.StoreLaws.{layers_put, row_more, same_rows, table_more}
+use Rattle.cache_engine.proofs.StoreForms.{layers_put, row_more, same_rows, table_more}
 use Rattle.cache_engine.specs.Filling.{bare_front, bare_store, parent_key}
 
 -- lists by place

@@ -10,5 +10,8 @@ pub mod SeenLaws
 pub mod SelectLaws
 pub mod SessionLaws
 pub mod ShownStores
+pub mod StoreChanges
+pub mod StoreForms
+pub mod StoreRows
 pub mod TablingLaws
 pub mod WritingLaws

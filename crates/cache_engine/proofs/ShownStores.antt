@@ -15,7 +15,7 @@ use Rattle.order_laws.proofs.TruthLaws.{never_both}
 use Rattle.group_store.specs.Keeping.{IsFor}
 use Rattle.group_store.specs.Shown.{kept_rows, rows_there, shown_by, stored_rows, tables_by}
 use Rattle.group_store.specs.Stores.{Kept, place_in}
-use Rattle.group_store.proofs.FormLaws.{place_same}
+use Rattle.cache_engine.proofs.StoreRows.{place_same}
 use Rattle.cache_tier.specs.Groups.{Group, covers, group_over}
 use Rattle.cache_tier.specs.Shown.{shown, shown_state, shown_table, table_of_group, tables_from}
 use Rattle.cache_tier.specs.TierStates.{Tier}

@@ -1,16 +1,15 @@
 -- The form of a store, and rows that are put in whatever its room.
-use Rattle.std.proofs.Common.{◌≡◌, ℕ, zero, suc, ◌+◌, not, cond, nat_lt, arith, List, [], ◌∷◌, length, map, Option, Some, None, slice_get, unwrap_or, refl, sym, ap, subst, ◌∙◌}
-use Rattle.std.proofs.lemmas.List.{length-map}
+use Rattle.std.proofs.Common.{◌≡◌, ℕ, zero, suc, ◌+◌, arith, List, [], ◌∷◌, length, map, Option, Some, None, slice_get, unwrap_or, refl, sym, ap, subst, ◌∙◌}
+use Rattle.key_rows.proofs.MapLaws.{slice_get_map}
 use Rattle.std.specs.Option.{option_map}
-use Rattle.std.specs.List.{position, prefix_len}
 use Rattle.row_types.specs.declared.value.Value.{Value}
 use Rattle.tier_base.specs.declared.number.TableId.{TableId}
 use Rattle.table_defs.specs.declared.definition.TableDef.{TableDef}
 use Rattle.instances.specs.declared.tree.Child.{Child}
 use Rattle.instances.specs.declared.tree.Tree.{Tree}
-use Rattle.instances.specs.Trees.{place_of, same_table, table_of}
+use Rattle.instances.specs.Trees.{table_of}
 use Rattle.group_store.specs.Keeping.{IsFor, layer_for, primary_of}
-use Rattle.group_store.specs.Stores.{Kept, SameButSpare, place_in, put_rows, put_store, put_tables}
+use Rattle.group_store.specs.Stores.{Kept, SameButSpare, put_rows, put_store, put_tables}
 use Rattle.group_store.specs.Trees.{key_at}
 
 pub same_itself : (s : Kept) → SameButSpare s s
@@ -55,23 +54,6 @@ module _ (place : ℕ) (rest later : List (List (List Value))) (rows : List (Lis
       let z : suc place ≡ place + 1 = omega arith in
       subst (λ p. SameButSpare start (put_tables p later next)) z
       (same_both start (put_tables (suc place) later (put_rows place rows now)) (put_tables (suc place) later next) (subst (λ l. SameButSpare start (put_tables place l now)) is before) (same_tables (suc place) later (put_rows place rows now) next one))
-
--- a table's place in the store is that in the tree
-first_in : (schema : List TableDef) (t : TableId) (cs : List Child) → prefix_len (λ l. not (same_table l.table t)) (map (layer_for schema) cs) ≡ prefix_len (λ c. not (same_table c.table t)) cs
-first_in schema t [] = refl
-first_in schema t (c ∷ cs) = ap (λ n. cond (not (same_table c.table t)) (1 + n) 0) (first_in schema t cs)
-
-pub place_same : (schema : List TableDef) (tree : Tree) (k : Kept) → IsFor schema tree k → (t : TableId) → place_in k t ≡ place_of tree t
-place_same schema tree k form t =
-    ap (λ r. cond (same_table r t) (Some 0) (option_map suc (position (λ l. same_table l.table t) k.layers))) form.table
-    ∙ ap (λ ls. cond (same_table tree.root.table t) (Some 0) (option_map suc (position (λ l. same_table l.table t) ls))) form.layers
-    ∙ ap (λ o. cond (same_table tree.root.table t) (Some 0) (option_map suc o)) among
-  where
-    among : position (λ l. same_table l.table t) (map (layer_for schema) tree.children) ≡ position (λ c. same_table c.table t) tree.children
-    among =
-        let first = first_in schema t tree.children in
-        let long = length-map tree.children (layer_for schema) in
-        λ i. cond (nat_lt (first i) (long i)) (Some (first i)) None
 
 -- the columns of a table's key
 pub key_for : (schema : List TableDef) (tree : Tree) (k : Kept) → IsFor schema tree k → (at : ℕ) (t : TableId) → table_of tree at ≡ Some t → key_at k.key k.layers at ≡ primary_of schema t

@@ -5,6 +5,7 @@ pub mod Draining
 pub mod Due
 pub mod Filling
 pub mod Fresh
+pub mod Grouping
 pub mod Performing
 pub mod Refreshing
 pub mod Refusing

@@ -80,6 +80,12 @@ AreKept schema (g ∷ groups) (s ∷ stores) = IsFor schema g.def.tree s × AreK
 abbrev pub AreWhole : List Kept → Type 0
 AreWhole stores = (k : ℕ) (s : Kept) → slice_get stores k ≡ Some s → length s.tables ≡ suc (length s.layers)
 
+-- no two groups have one name
+abbrev pub HaveOwnNames : List Group → Type 0
+HaveOwnNames groups =
+    (i j : ℕ) (g h : Group) → slice_get groups i ≡ Some g → slice_get groups j ≡ Some h → g.def.name ≡ h.def.name
+    → i ≡ j
+
 -- a group as the tier does them: it is loaded whole or by statements, nothing ages in it, and it isn't SYNCHRONOUS
 abbrev pub is_plain : Group → Bool
 is_plain g = is_explicit g && is_none g.def.aging && not (is_synchronous g)
@@ -96,6 +102,7 @@ pub record IsVerified (t : Stored) : Type 0 where
 --   kept      each group's store has the tables of its tree
 --   whole     and rows for each of them
 --   plain     the groups are such as the tier does
+--   named     no two of them have one name
 --   visible   the names that a session finds at level 0
 --   numbered  the tickets of the unsettled transactions rise below the next one
 --   verified  where that is noted, sessions may read and write
@@ -105,6 +112,7 @@ pub record IsSound (t : Stored) : Type 0 where
   pub kept : AreKept t.schema (groups_in t.catalog) t.stores.items
   pub whole : AreWhole t.stores.items
   pub plain : list_all is_plain (groups_in t.catalog) ≡ true
+  pub named : HaveOwnNames (groups_in t.catalog)
   pub visible : t.visible ≡ named_where_cached (groups_in t.catalog) t.schema
   pub numbered : RiseBetween 1 t.unsettled.items t.next
   pub verified : t.verified ≡ true → IsVerified t

@@ -1,7 +1,5 @@
 use Rattle.std.proofs.Common.{◌≡◌, ◌≤◌, ◌<◌, ◌∙◌, ap, arith, length, refl, subst, sym}
 use Rattle.std.specs.FinMap.{len, values}
-use Rattle.group_store.specs.Stores.{SameButSpare}
-use Rattle.group_store.proofs.StoreLaws.{same_both, same_rows}
 use Rattle.cache_engine.proofs.FillSteps.{all_rows, begun_rows, one_row, put_long, values_long}
 use Rattle.cache_engine.proofs.filling.fill_table.Goals as goal
 
