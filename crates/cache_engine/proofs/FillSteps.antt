@@ -10,12 +10,14 @@ use Rattle.indexed_rows.specs.Rows.{Table}
 use Rattle.instances.specs.declared.tree.Child.{Child}
 use Rattle.instances.specs.declared.tree.Tree.{Tree}
 use Rattle.instances.specs.Trees.{table_of}
+use Rattle.instances.specs.Views.{child_rows, kept_at, root_rows, view_of, with_children}
+use Rattle.table_state.specs.Tables.{TableState}
 use Rattle.group_store.specs.Keeping.{layer_for, primary_of}
 use Rattle.group_store.specs.Stores.{AddsChild, IsNewStore, Kept, SameButSpare, put_rows, put_store, put_tables}
 use Rattle.group_store.specs.Shown.{foreign_key_of}
 use Rattle.group_store.specs.Trees.{key_at}
-use Rattle.cache_engine.proofs.StoreForms.{layers_put, row_more, same_rows, table_more}
-use Rattle.cache_engine.specs.Filling.{bare_front, bare_store, parent_key}
+use Rattle.cache_engine.proofs.StoreForms.{layers_put, row_more, same_both, same_rows, same_tables, table_more}
+use Rattle.cache_engine.specs.Filling.{bare_front, bare_store, parent_key, viewed_store}
 
 -- lists by place
 
@@ -142,10 +144,10 @@ mapped_long f [] = refl
 mapped_long f (x ∷ xs) = ap suc (mapped_long f xs)
 
 pub values_long : (t : Table) → length (fm.values t) ≡ fm.len t
-values_long t = mapped_long (λ e. e.1) (fm.entries t)
+values_long t = mapped_long (λ e. e.1) (fm.entries t) ∙ sym (fm.len-entries t)
 
 pub at_index : {X : Type 0} (xs : List X) (i : ℕ) (x : X) → i < length xs → x ≡ get_or xs i x → slice_get xs i ≡ Some x
-at_index xs i x lt is = by xs i lt ∙ ap (λ y. Some y) (sym is)
+at_index {X = X} xs i x lt is = by xs i lt ∙ ap (λ y. Some y) (sym is)
   where
     by : (ys : List X) (k : ℕ) → k < length ys → slice_get ys k ≡ Some (get_or ys k x)
     by [] k lt = absurd (omega (arith, lt))
@@ -155,3 +157,36 @@ at_index xs i x lt is = by xs i lt ∙ ap (λ y. Some y) (sym is)
 pub if_ok : {T E : Type 0} {P Q : Type 0} (r : Result T E) → (P → Q) → OnOk r P → OnOk r Q
 if_ok (Ok x) f p = f p
 if_ok (Err e) f p = tt
+
+pub adds_so : (schema : List TableDef) (c : Child) (old new : Kept) (key foreign : List ℕ) → key ≡ primary_of schema c.table → foreign ≡ foreign_key_of schema c.table
+    → AddsChild old new (record { table = c.table; key = key; foreign = foreign; parent = c.parent }) → AddsChild old new (layer_for schema c)
+adds_so schema c old new key foreign key_is foreign_is adds = record {
+  table = adds.table;
+  key = adds.key;
+  foreign = adds.foreign;
+  layers = adds.layers ∙ (λ i. old.layers ++ record { table = c.table; key = key_is i; foreign = foreign_is i; parent = c.parent } ∷ []);
+  tables = adds.tables;
+  keys = adds.keys;
+}
+
+view_all : (s : TableState) (children : List Child) (kept : List Table) → length (with_children s children kept) ≡ length kept + length children
+view_all s [] kept = let z : length kept ≡ length kept + 0 = omega arith in z
+view_all s (c ∷ children) kept =
+    let rest = view_all s children (kept ++ child_rows s (kept_at kept c.parent) c ∷ []) in
+    let more = longer kept (child_rows s (kept_at kept c.parent) c) in
+    omega (arith, rest, more)
+  where
+    longer : (ts : List Table) (t : Table) → length (ts ++ t ∷ []) ≡ suc (length ts)
+    longer [] t = refl
+    longer (x ∷ ts) t = ap suc (longer ts t)
+
+pub view_fits : (schema : List TableDef) (tree : Tree) (s : TableState) (store : Kept) → SameButSpare (bare_store schema tree) store → length (view_of s tree) ≤ length store.layers + 1
+view_fits schema tree s store bare =
+    let long = view_all s tree.children (root_rows s tree.root ∷ []) in
+    let layers : length store.layers ≡ length tree.children = ap length bare.layers ∙ mapped_long (layer_for schema) tree.children in
+    omega (arith, long, layers)
+
+pub filled_so : (schema : List TableDef) (tree : Tree) (s : TableState) (rows : List Table) (bare store : Kept) → SameButSpare (bare_store schema tree) bare → rows ≡ view_of s tree → SameButSpare (put_tables 0 (map fm.values rows) bare) store → SameButSpare (viewed_store schema tree s) store
+filled_so schema tree s rows bare store is view filled =
+    same_both (viewed_store schema tree s) (put_tables 0 (map fm.values (view_of s tree)) bare) store (same_tables 0 (map fm.values (view_of s tree)) (bare_store schema tree) bare is)
+    (subst (λ r. SameButSpare (put_tables 0 (map fm.values r) bare) store) view filled)

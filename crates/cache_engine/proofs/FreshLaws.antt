@@ -125,6 +125,11 @@ nothing_shown h log g is unloaded p = ap (λ ts. kept_at ts p) (behind_it h log 
     by None = none_there p
     by (Some s) = all_empty s g.def.tree.children (rows_where (shows_root s g) (root_rows s g.def.tree.root) ∷ []) (first s) p
 
+-- the STATE plays no part
+stateless : (o : Option TableState) (g : Group) (st : Rattle.sql_subset.specs.declared.stmt.RefreshState.RefreshState) → shown_where o (record g { state = st }) ≡ shown_where o g
+stateless None g st = refl
+stateless (Some s) g st = refl
+
 -- lists of which some elements change
 
 pub changed_there : (c : Choice) (f : Group → Group) (from : ℕ) (groups : List Group) (k : ℕ) (g : Group) → slice_get groups k ≡ Some g → slice_get (changed_from c f from groups) k ≡ Some (cond (c (from + k) g) (f g) g)
@@ -293,7 +298,7 @@ module _ (h : List Entry) (log : List Sealed) (size : ℕ) (n : ℕ) (state : Ta
       same_loaded = ap (λ b. g.loaded || b) not_anew ∙ plain_or g.loaded
 
       still_shown : shown h log still ≡ shown h log g
-      still_shown = ap (λ b. shown h log (record g { state = (last k g).state; loaded = b })) same_loaded
+      still_shown = ap (λ b. shown h log (record g { state = (last k g).state; loaded = b })) same_loaded ∙ stateless (state_behind h log g) g (last k g).state
 
     -- what becomes of it
     pub one_becomes : (w : World) → h ≡ w.history → log ≡ w.tier.log → size ≡ length w.history → Becomes w g (last k g)

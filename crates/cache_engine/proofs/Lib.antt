@@ -5,6 +5,7 @@ pub mod FillLaws
 pub mod FillSteps
 pub mod FreshLaws
 pub mod GroupRows
+pub mod RefreshSteps
 pub mod RoundLaws
 pub mod SeenLaws
 pub mod SelectLaws

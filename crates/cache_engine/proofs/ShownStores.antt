@@ -43,14 +43,14 @@ stored_shown : (schema : List TableDef) (h : List Entry) (log : List Sealed) (gr
 stored_shown schema h log [] [] kept shows u = refl
 stored_shown schema h log [] (s ∷ stores) kept shows u = absurd kept
 stored_shown schema h log (g ∷ groups) [] kept shows u = absurd kept
-stored_shown schema h log (g ∷ groups) (s ∷ stores) kept shows u = by (place_of g.def.tree u) refl
+stored_shown schema h log (g ∷ groups) (s ∷ stores) kept shows u = by (place_of g.def.tree u) refl (stored_shown schema h log groups stores kept.1 (λ k a b v p at there place. shows (suc k) a b v p at there place) u)
   where
-    by : (o : Option ℕ) → place_of g.def.tree u ≡ o → stored_rows (s ∷ stores) u ≡ table_of_group h log u (find (covers u) (g ∷ groups))
-    by None e =
+    by : (o : Option ℕ) → place_of g.def.tree u ≡ o → stored_rows stores u ≡ table_of_group h log u (find (covers u) groups) → stored_rows (s ∷ stores) u ≡ table_of_group h log u (find (covers u) (g ∷ groups))
+    by None e rest =
         ap (λ o. unwrap_or (option_or o (kept_rows stores u)) empty) (rows_out schema g s u kept.0 e)
-        ∙ stored_shown schema h log groups stores kept.1 (λ k a b v p at there place. shows (suc k) a b v p at there place) u
+        ∙ rest
         ∙ sym (ap (λ (o : Option ℕ). table_of_group h log u (cond (is_some o) (Some g) (find (covers u) groups))) e)
-    by (Some p) e =
+    by (Some p) e rest =
         ap (λ o. unwrap_or (option_or o (kept_rows stores u)) empty) (rows_in schema g s u p kept.0 e)
         ∙ shows 0 g s u p refl refl e
         ∙ sym (ap (λ (o : Option ℕ). kept_at (shown h log g) (unwrap_or o 0)) e)
@@ -79,11 +79,11 @@ kept_there schema (h ∷ groups) (r ∷ stores) kept own zero g s u p at there p
     let one : h ≡ g = Prim.cc in
     let other : r ≡ s = Prim.cc in
     ap (λ o. option_or o (kept_rows stores u)) (rows_in schema h r u p kept.0 (ap (λ (x : Group). place_of x.def.tree u) one ∙ place)) ∙ ap (λ (x : Kept). Some (kept_at x.tables p)) other
-kept_there schema (h ∷ groups) (r ∷ stores) kept own (suc k) g s u p at there place = by (place_of h.def.tree u) refl
+kept_there schema (h ∷ groups) (r ∷ stores) kept own (suc k) g s u p at there place = by (place_of h.def.tree u) refl (kept_there schema groups stores kept.1 own.1 k g s u p at there place)
   where
-    by : (o : Option ℕ) → place_of h.def.tree u ≡ o → kept_rows (r ∷ stores) u ≡ Some (kept_at s.tables p)
-    by None e = ap (λ o. option_or o (kept_rows stores u)) (rows_out schema h r u kept.0 e) ∙ kept_there schema groups stores kept.1 own.1 k g s u p at there place
-    by (Some q) e =
+    by : (o : Option ℕ) → place_of h.def.tree u ≡ o → kept_rows stores u ≡ Some (kept_at s.tables p) → kept_rows (r ∷ stores) u ≡ Some (kept_at s.tables p)
+    by None e rest = ap (λ o. option_or o (kept_rows stores u)) (rows_out schema h r u kept.0 e) ∙ rest
+    by (Some q) e rest =
         let found : find (covers u) groups ≡ Some g = each_at (IsFound groups) groups k g (each_own groups own.1) at u (ap is_some place) in
         absurd (never_both (list_any (covers u) groups) (sym (any_found (covers u) groups) ∙ ap (λ (o : Option Group). is_some o) found) (own.0 u (ap is_some e)))
 

@@ -1,6 +1,6 @@
 //! A refresh of READONLY groups from one snapshot.
 
-ghost use Rattle.std.specs.Prelude.{◌≡◌, ◌++◌, ℕ, IfOk, OnOk, count_by, true};
+ghost use Rattle.std.specs.Prelude.{◌≡◌, ◌&&◌, ◌++◌, ℕ, IfOk, OnOk, count_by, true};
 ghost use Rattle.cache_tier.specs.Commits.{tables_of};
 ghost use Rattle.std.specs.List.{list_all};
 ghost use Rattle.instances.specs.Trees.{is_place};
@@ -104,8 +104,11 @@ fn push_tables(tables: &mut Vec<TableId>, tree: &Tree) -> Result<(), AllocError>
     ensures { OnOk result (tables.new.items ≡ tables.old.items ++ tables_of tree.now) }
 {
     tables.push(tree.root.table)?;
-    for child in tree.children.as_slice() {
-        tables.push(child.table)?;
+    for place in 0..tree.children.len() {
+        match tree.children.get(place) {
+            None => {}
+            Some(child) => tables.push(child.table)?,
+        }
     }
     Ok(())
 }
@@ -128,11 +131,18 @@ pub(crate) fn made_stores(
         let Some(group) = catalog.get(place) else {
             return Err(AllocError);
         };
-        let filled = is_chosen(chosen, place, group) && (group.loaded || is_place(place, loads));
+        let filled = is_filled(chosen, loads, place, group);
         let store = made_store(alloc, schema, group, filled, tables)?;
         made.push(store)?;
     }
     Ok(made)
+}
+
+// Whether the group at a place is chosen, and is loaded, or is so from now on.
+fn is_filled(chosen: Chosen, loads: Option<usize>, place: usize, group: &KeptGroup) -> bool
+    ensures { result ≡ is_filled (choice_of chosen) loads place (group_seen group.now) }
+{
+    is_chosen(chosen, place, group) && (group.loaded || is_place(place, loads))
 }
 
 fn made_store(
@@ -222,9 +232,9 @@ fn has_moment(sets: &[SetMoment], interval: u64) -> bool
 pub(crate) fn note_moment(sets: &mut Vec<SetMoment>, interval: u64, now: u64)
     ensures { sets.new.items ≡ moments_with interval now sets.old.items }
 {
-    for set in sets.iter_mut() {
-        if set.interval == interval {
-            set.refreshed = now;
+    for place in 0..sets.len() {
+        if sets[place].interval == interval {
+            sets[place].refreshed = now;
         }
     }
 }
@@ -238,13 +248,20 @@ pub(crate) fn shows_something(catalog: &Catalog, interval: u64) -> bool
         match catalog.get(place) {
             None => {}
             Some(group) => {
-                if is_in_set(interval, group) && group.loaded {
+                if shows_in_set(interval, group) {
                     return true;
                 }
             }
         }
     }
     false
+}
+
+// Whether the group is in the set of an interval, and is loaded.
+fn shows_in_set(interval: u64, group: &KeptGroup) -> bool
+    ensures { result ≡ (is_in_set interval (group_seen group.now) && group.now.loaded) }
+{
+    is_in_set(interval, group) && group.loaded
 }
 
 // How many groups the set of an interval has.
