@@ -5,12 +5,14 @@ pub mod FillLaws
 pub mod FillSteps
 pub mod FreshLaws
 pub mod GroupRows
+pub mod ReadLaws
 pub mod RefreshSteps
 pub mod RoundLaws
 pub mod SeenLaws
 pub mod SelectLaws
 pub mod SessionLaws
 pub mod ShownStores
+pub mod SoundParts
 pub mod StoreChanges
 pub mod StoreForms
 pub mod StoreRows
