@@ -22,4 +22,5 @@ pub mod serving;
 pub mod session;
 pub mod tier;
 pub mod unloading;
+mod verifying;
 pub mod writing;
