@@ -46,6 +46,7 @@ sound_behind t s is sessions own = record {
   sessions = sessions;
   stores = is.stores;
   kept = is.kept;
+  whole = is.whole;
   plain = is.plain;
   visible = is.visible;
   numbered = is.numbered;

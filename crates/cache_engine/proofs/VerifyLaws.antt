@@ -1,6 +1,8 @@
 -- Stored rows over which sessions read and write.
-use Rattle.std.proofs.Common.{◌≡◌, ℕ, zero, suc, ◌+◌, ◌<◌, ◌≤◌, ◌^◌, Bool, true, false, Option, Some, None, is_some, List, [], ◌∷◌, All, length, map, slice_get, refl, sym, ap, ◌∙◌, subst, arith, ◌⊎◌, inl, inr, unwrap_or}
+use Rattle.std.proofs.Common.{◌≡◌, ℕ, zero, suc, ◌+◌, ◌<◌, ◌≤◌, ◌^◌, Bool, true, false, Option, Some, None, is_some, List, [], ◌∷◌, All, length, map, get_or, slice_get, refl, sym, ap, ◌∙◌, subst, arith, ◌⊎◌, inl, inr, unwrap_or}
 use Rattle.std.specs.Option.{option_and_then, option_or}
+use Rattle.std.proofs.lemmas.Bool.{cases_lt}
+use Rattle.std.proofs.lemmas.List.{length-map}
 use Rattle.std.specs.FinMap.{empty, entries, get, get-empty, len, len-entries, values}
 use Rattle.row_types.specs.declared.column.Column.{Column}
 use Rattle.row_types.specs.declared.value.Value.{Value}
@@ -8,7 +10,7 @@ use Rattle.row_types.specs.Order.{key_order}
 use Rattle.tier_base.specs.declared.number.TableId.{TableId}
 use Rattle.table_defs.specs.declared.definition.TableDef.{TableDef}
 use Rattle.indexed_rows.specs.Rows.{Table, key_of}
-use Rattle.indexed_rows.proofs.EntryLaws.{has_at, mapped_at, read}
+use Rattle.indexed_rows.proofs.EntryLaws.{has_at, mapped_at, read, there}
 use Rattle.table_state.specs.declared.operation.Op.{Op}
 use Rattle.table_state.specs.declared.refusal.ApplyError.{ApplyError}
 use Rattle.table_state.specs.Independence.{IsWhole}
@@ -20,7 +22,9 @@ use Rattle.table_scan.specs.Keyed.{HasFit, IsKeyed, IsUnderKeys}
 use Rattle.slot_rows.specs.SlotKeys.{IsKeyedBy}
 use Rattle.instances.specs.Views.{kept_at}
 use Rattle.own_rows.specs.OwnTables.{AreShown}
+use Rattle.session_state.specs.Kept.{seen_of}
 use Rattle.session_state.specs.Sessions.{OpenSession}
+use Rattle.session_state.specs.declared.session.Session.{Session}
 use Rattle.open_sessions.specs.Opening.{seen_all}
 use Rattle.group_catalog.specs.Catalogs.{groups_in}
 use Rattle.group_store.specs.Keeping.{IsFor}
@@ -34,6 +38,12 @@ use Rattle.tier_statements.specs.Judging.{AreSmall}
 use Rattle.cache_engine.specs.declared.tier.Tier.{Tier as Stored}
 use Rattle.cache_engine.specs.Stored.{AreKept, IsSound, IsVerified, rows_of}
 
+below : (i n : ℕ) → i < n + 1 → (i < n) ⊎ (i ≡ n)
+below i n lt = elim (cases_lt i n) [
+  | inl less ↦ inl less
+  | inr more ↦ inr (omega (arith, lt, more))
+]
+
 -- rows that fit, by place in key order
 
 pub fit_all : (columns : List Column) (table : Table) (n : ℕ) → len table ≤ n → ((i : ℕ) (row : List Value) → i < n → slice_get (values table) i ≡ Some row → fits_columns columns row ≡ true) → HasFit columns table
@@ -45,9 +55,6 @@ fit_all columns table n long all key row e =
 pub one_more_fits : (columns : List Column) (table : Table) (n : ℕ) (row : List Value) → slice_get (values table) n ≡ Some row → fits_columns columns row ≡ true → ((i : ℕ) (row : List Value) → i < n → slice_get (values table) i ≡ Some row → fits_columns columns row ≡ true) → (i : ℕ) (other : List Value) → i < n + 1 → slice_get (values table) i ≡ Some other → fits_columns columns other ≡ true
 one_more_fits columns table n row here fits all i other lt is = by (below i n lt)
   where
-    below : (i n : ℕ) → i < n + 1 → (i < n) ⊎ (i ≡ n)
-    below i n lt = omega (arith, lt)
-
     by : (i < n) ⊎ (i ≡ n) → fits_columns columns other ≡ true
     by (inl less) = all i other less is
     by (inr same) =
@@ -112,6 +119,22 @@ all_apply (op ∷ ops) s none = by (broken_by op s) refl (applied op s) refl non
     by None f_is None o_is h rest = ap is_some (sym o_is) ∙ applies op s f_is
     by None f_is (Some n) o_is h rest = rest n h
 
+pub all_seen : (s : TableState) (xs : List Session) (n : ℕ) → length xs ≤ n → ((k : ℕ) (x : Session) → k < n → slice_get xs k ≡ Some x → is_some (applied_all x.ops.items s) ≡ true) → All (λ x. is_some (applied_all x.ops s) ≡ true) (map seen_of xs)
+all_seen s xs n long each k d lt =
+    let within : k < length xs = (let e = length-map xs seen_of in omega arith) in
+    let x = there xs k within in
+    let at = read (map seen_of xs) k (seen_of x.0) d (mapped_at seen_of xs k x.0 x.1) in
+    subst (λ (y : OpenSession). is_some (applied_all y.ops s) ≡ true) (sym at.1) (each k x.0 (omega arith) x.1)
+
+pub one_more_applies : (s : TableState) (xs : List Session) (n : ℕ) (here : Session) → n < length xs → here ≡ get_or xs n here → broken_by_all here.ops.items s ≡ None → ((k : ℕ) (x : Session) → k < n → slice_get xs k ≡ Some x → is_some (applied_all x.ops.items s) ≡ true) → (k : ℕ) (x : Session) → k < n + 1 → slice_get xs k ≡ Some x → is_some (applied_all x.ops.items s) ≡ true
+one_more_applies s xs n here within is none each k x lt at = by (below k n lt)
+  where
+    by : (k < n) ⊎ (k ≡ n) → is_some (applied_all x.ops.items s) ≡ true
+    by (inl less) = each k x less at
+    by (inr same) =
+        let got = (read xs n x here (ap (slice_get xs) (sym same) ∙ at)).1 in
+        subst (λ (y : Session). is_some (applied_all y.ops.items s) ≡ true) (is ∙ got) (all_apply here.ops.items s none)
+
 -- what makes a tier verified
 
 shown_where : (s : TableState) → IsWhole s → IsKeyed s → AreSmall s → (ops : List Op) → is_some (applied_all ops s) ≡ true → AreShown ops s
@@ -127,3 +150,24 @@ verified_by t keyed small seen same all = record {
   rows = shown_where (rows_of t) (whole_rows t) keyed small [] refl;
   own = subst (All (λ s. AreShown s.ops (rows_of t))) same (λ i s lt. shown_where (rows_of t) (whole_rows t) keyed small s.ops (all i s lt));
 }
+
+-- what one table's home says
+
+pub table_keyed : (t : Stored) → IsSound t → (table : TableId) (def : TableDef) → slice_get t.schema table.0 ≡ Some def → (home : Home) → Some home ≡ option_and_then (λ home. home) (slice_get t.directory table.0) → (s : Kept) → slice_get t.stores.items home.store ≡ Some s → IsKeyedBy (key_columns s home.place) (kept_at s.tables home.place) → HasFit def.columns (kept_at s.tables home.place) → IsUnderKeys def.primary_key (table_at (rows_of t) table) × HasFit def.columns (table_at (rows_of t) table)
+table_keyed t sound table def is home found s there keyed fit =
+    let shows = shows_table t.schema t.stores.items t.directory sound.stores table home found s there in
+    let housed = its_home t.schema t.stores.items t.directory sound.stores table home found in
+    let both : Some housed.store ≡ Some s = sym (store_there t.schema t.stores.items t.directory sound.stores table home found) ∙ there in
+    let same : housed.store ≡ s = cc in
+    let place = subst (λ x. place_in x table ≡ Some home.place) same housed.place in
+    let key = key_is t.schema (groups_in t.catalog) t.stores.items sound.kept home.store s there table home.place place def is in
+    subst (λ rows. IsUnderKeys def.primary_key rows × HasFit def.columns rows) (sym shows.rows)
+    (subst (λ columns. IsUnderKeys columns (kept_at s.tables home.place)) key keyed, fit)
+
+pub unkept_keyed : (t : Stored) → IsSound t → (table : TableId) (def : TableDef) → None ≡ option_and_then (λ home. home) (slice_get t.directory table.0) → IsUnderKeys def.primary_key (table_at (rows_of t) table) × HasFit def.columns (table_at (rows_of t) table)
+unkept_keyed t sound table def none =
+    nothing_stands def (table_at (rows_of t) table) (none_shown t.schema t.stores.items t.directory sound.stores table none)
+
+pub home_within : (t : Stored) → IsSound t → (table : TableId) (home : Home) → Some home ≡ option_and_then (λ home. home) (slice_get t.directory table.0) → (s : Kept) → slice_get t.stores.items home.store ≡ Some s → home.place ≤ length s.layers
+home_within t sound table home found s there =
+    (shows_table t.schema t.stores.items t.directory sound.stores table home found s there).within

@@ -1,6 +1,6 @@
 //! Whether the stored rows are such that sessions read and write over them.
 
-ghost use Rattle.std.specs.Prelude.{◌≡◌, ◌×◌, ◌≤◌, IsTrue, OnOk, Some, All, is_some, length, map, slice_get, true};
+ghost use Rattle.std.specs.Prelude.{◌≡◌, ◌≤◌, IsTrue, OnOk, Some, All, is_some, length, map, slice_get, true};
 ghost use Rattle.slot_rows.specs.SlotKeys.{IsKeyedBy};
 ghost use Rattle.table_defs.specs.declared.definition.TableDef.{TableDef as Def};
 ghost use Rattle.table_state.specs.Independence.{IsWhole};
@@ -109,9 +109,10 @@ fn fit(columns: &[Column], values: &[Value]) -> bool
     ensures { result ≡ fits_columns columns.now values.now }
 {
     match (columns.split_first(), values.split_first()) {
-        (Some((column, columns)), Some((value, values))) => {
-            fits(value, column).is_ok() && fit(columns, values)
-        }
+        (Some((column, columns)), Some((value, values))) => match fits(value, column) {
+            Err(_) => false,
+            Ok(()) => fit(columns, values),
+        },
         (None, None) => true,
         _ => false,
     }
@@ -124,8 +125,9 @@ fn do_apply<S: Scan>(alloc: Global, scan: &S, sessions: &[Session]) -> bool
     ensures { IsTrue result → All (λ s. is_some (applied_all s.ops (S.state scan.now)) ≡ true) (map seen_of sessions.now) }
 {
     for session in sessions {
-        if judge_ops(alloc, scan, session.ops.as_slice()).is_err() {
-            return false;
+        match judge_ops(alloc, scan, session.ops.as_slice()) {
+            Err(_) => return false,
+            Ok(()) => {}
         }
     }
     true
