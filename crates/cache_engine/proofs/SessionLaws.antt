@@ -48,6 +48,7 @@ sound_behind t s is sessions own = record {
   kept = is.kept;
   whole = is.whole;
   plain = is.plain;
+  named = is.named;
   visible = is.visible;
   numbered = is.numbered;
   verified = λ noted. record { rows = (is.verified noted).rows; own = own (is.verified noted) };

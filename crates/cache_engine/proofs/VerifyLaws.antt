@@ -3,6 +3,7 @@ use Rattle.std.proofs.Common.{◌≡◌, ℕ, zero, suc, ◌+◌, ◌<◌, ◌�
 use Rattle.std.specs.Option.{option_and_then, option_or}
 use Rattle.std.proofs.lemmas.Bool.{cases_lt}
 use Rattle.std.proofs.lemmas.List.{length-map}
+use Rattle.std.proofs.lemmas.List.Elements.{All-weaker}
 use Rattle.std.specs.FinMap.{empty, entries, get, get-empty, len, len-entries, values}
 use Rattle.row_types.specs.declared.column.Column.{Column}
 use Rattle.row_types.specs.declared.value.Value.{Value}
@@ -28,7 +29,7 @@ use Rattle.session_state.specs.declared.session.Session.{Session}
 use Rattle.open_sessions.specs.Opening.{seen_all}
 use Rattle.group_catalog.specs.Catalogs.{groups_in}
 use Rattle.group_store.specs.Keeping.{IsFor}
-use Rattle.group_store.specs.Shown.{shown_by, tables_by}
+use Rattle.group_store.specs.Shown.{shown_by, stored_rows, tables_by}
 use Rattle.group_store.specs.Stores.{Kept, key_columns, place_in}
 use Rattle.group_store.specs.declared.directory.Home.{Home}
 use Rattle.group_store.proofs.FormLaws.{key_for, place_same, primary, stands_there}
@@ -71,7 +72,7 @@ nothing_stands def table none = (
 )
   where
     gone : (key row : List Value) → get table key ≡ Some row → ⊥
-    gone key row e = let no : None ≡ Some row = sym (ap (λ t. get t key) none ∙ get-empty key) ∙ e in cc
+    gone key row e = let no : None ≡ Some row = sym (ap (λ t. get t key) none ∙ get-empty key_order key) ∙ e in cc
 
 -- the keys of a store's tables are those of the schema
 
@@ -94,7 +95,7 @@ whole_by rows n [] = refl
 whole_by rows n (def ∷ defs) = ap suc (whole_by rows (suc n) defs)
 
 pub whole_rows : (t : Stored) → IsWhole (rows_of t)
-whole_rows t = whole_by _ 0 t.schema
+whole_rows t = whole_by (stored_rows t.stores.items) 0 t.schema
 
 -- the tables below a number stand so
 abbrev pub AreKeyedBelow : Stored → ℕ → Type 0
@@ -148,8 +149,14 @@ shown_where s whole keyed small ops some = record {
 pub verified_by : (t : Stored) → IsKeyed (rows_of t) → AreSmall (rows_of t) → (seen : List OpenSession) → seen ≡ seen_all t.sessions → All (λ s. is_some (applied_all s.ops (rows_of t)) ≡ true) seen → IsVerified t
 verified_by t keyed small seen same all = record {
   rows = shown_where (rows_of t) (whole_rows t) keyed small [] refl;
-  own = subst (All (λ s. AreShown s.ops (rows_of t))) same (λ i s lt. shown_where (rows_of t) (whole_rows t) keyed small s.ops (all i s lt));
+  own = subst (All (λ s. AreShown s.ops (rows_of t))) same
+      (All-weaker (λ (s : OpenSession). is_some (applied_all s.ops (rows_of t)) ≡ true) (λ s. AreShown s.ops (rows_of t))
+      (λ s some. shown_where (rows_of t) (whole_rows t) keyed small s.ops some) seen all);
 }
+
+pub over_shown : (t : Stored) (s : TableState) → s ≡ rows_of t → IsKeyed (rows_of t) → AreSmall s → (seen : List OpenSession) → seen ≡ seen_all t.sessions → All (λ x. is_some (applied_all x.ops s) ≡ true) seen → IsVerified t
+over_shown t s same keyed small seen all_of applied =
+    verified_by t keyed (subst AreSmall same small) seen all_of (subst (λ r. All (λ (x : OpenSession). is_some (applied_all x.ops r) ≡ true) seen) same applied)
 
 -- what one table's home says
 

@@ -10,6 +10,7 @@ ghost use Rattle.table_scan.specs.Keyed.{HasFit, IsKeyed, IsUnderKeys};
 ghost use Rattle.instances.specs.Views.{kept_at};
 ghost use Rattle.session_state.specs.Kept.{seen_of};
 ghost use Rattle.group_store.specs.Stores.{key_columns};
+ghost use Rattle.tier_statements.specs.Judging.{AreSmall};
 
 use crate::tier::Tier;
 use group_store::{Home, Shown, Store};
@@ -52,7 +53,7 @@ impl Tier {
             return false;
         }
         let shown = Shown::new(&self.schema, self.stores.as_slice(), &self.directory);
-        are_small(&shown) && do_apply(alloc, &shown, self.sessions.as_slice())
+        do_apply(alloc, &shown, self.sessions.as_slice())
     }
 
     // Whether the rows of each table fit its columns. They stand under their keys.
@@ -75,12 +76,25 @@ impl Tier {
             → IsUnderKeys def.primary_key (table_at (rows_of self.now) table)
             × HasFit def.columns (table_at (rows_of self.now) table) }
     {
-        match (self.schema.get(table.0 as usize), self.directory.home(table)) {
-            (Some(def), Some(Home { store, place })) => match self.stores.get(store) {
+        match self.directory.home(table) {
+            None => true,
+            Some(Home { store, place }) => match self.stores.get(store) {
                 None => false,
-                Some(kept) => have_fit(kept, place, def.columns.as_slice()),
+                Some(kept) => self.has_fit(table, kept, place),
             },
-            (_, home) => home.is_none(),
+        }
+    }
+
+    // Whether the rows at a place of a store fit the columns of this table. They stand under the store's keys.
+    fn has_fit(&self, table: TableId, store: &Store, place: usize) -> bool
+        requires { place ≤ length store.now.layers }
+        ensures keys { IsKeyedBy (key_columns store.now place) (kept_at store.now.tables place) }
+        ensures fit { IsTrue result → (def : Def) → slice_get self.now.schema table.0 ≡ Some def
+            → HasFit def.columns (kept_at store.now.tables place) }
+    {
+        match self.schema.get(table.0 as usize) {
+            None => have_fit(store, place, &[]),
+            Some(def) => have_fit(store, place, def.columns.as_slice()),
         }
     }
 }
@@ -118,12 +132,17 @@ fn fit(columns: &[Column], values: &[Value]) -> bool
     }
 }
 
-// Whether each session's operations apply over the tables of a scan.
+// Whether the tables of a scan are small, and each session's operations apply over them.
 fn do_apply<S: Scan>(alloc: Global, scan: &S, sessions: &[Session]) -> bool
     requires whole { IsWhole (S.state scan.now) }
     requires keyed { IsKeyed (S.state scan.now) }
-    ensures { IsTrue result → All (λ s. is_some (applied_all s.ops (S.state scan.now)) ≡ true) (map seen_of sessions.now) }
+    ensures small { IsTrue result → AreSmall (S.state scan.now) }
+    ensures apply { IsTrue result
+        → All (λ s. is_some (applied_all s.ops (S.state scan.now)) ≡ true) (map seen_of sessions.now) }
 {
+    if !are_small(scan) {
+        return false;
+    }
     for session in sessions {
         match judge_ops(alloc, scan, session.ops.as_slice()) {
             Err(_) => return false,

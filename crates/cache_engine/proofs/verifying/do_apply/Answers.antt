@@ -10,7 +10,7 @@ loop-session-preserved g c =
     (ap (λ ops. broken_by_all ops (g.S.Scan.state c.args.scan.now)) (sym c.as_slice.ensures.value) ∙ c.in-Ok.ensures)
     c.loop-session.invariant
 
-pub returns : goal.returns
-returns g c = λ yes.
+pub returns-clause-apply : goal.returns-clause-apply
+returns-clause-apply g c = λ yes.
     all_seen (g.S.Scan.state c.args.scan.now) c.args.sessions.now c.loop-session.session-index c.loop-session-test.false
     c.loop-session.invariant
