@@ -1,9 +1,12 @@
 pub mod BankLaws
 pub mod CommitLaws
 pub mod DrainLaws
+pub mod NamingLaws
 pub mod RoundLaws
 pub mod SeenLaws
 pub mod SelectLaws
 pub mod SessionLaws
+pub mod SettlingLaws
+pub mod StandingLaws
 pub mod TablingLaws
 pub mod WritingLaws
