@@ -134,6 +134,7 @@ sound_settled t new sound tried rest = subst IsSound (sym tried) (record {
   sessions = sound.sessions;
   stores = sound.stores;
   kept = sound.kept;
+  whole = sound.whole;
   plain = sound.plain;
   visible = sound.visible;
   numbered = rise_rest 1 t.next rest.0 new.unsettled.items (subst (λ xs. RiseBetween 1 xs t.next) rest.1 sound.numbered);
@@ -168,9 +169,9 @@ applied laws t new before after few end round all sound w at stands apart =
     let seen = round_seen laws.left w left now.there few 1 t.next rise bank in
     let x = stands.stands in
     let stays = laws.shown w x bank.events now.there.history left w.tier.now
-        (laws.follow w.shared (live_tables (live_groups_of w.tier.groups)) x.flow.stand.over.backing.schema bank.events
-        w.history now.there.history w.tier.unsettled left x.flow.stand.over.backing (unshared_live w apart)
-        x.flow.stand.over.leaves bank.leads) in
+    (laws.follow w.shared (live_tables (live_groups_of w.tier.groups)) x.flow.stand.over.backing.schema bank.events
+    w.history now.there.history w.tier.unsettled left x.flow.stand.over.backing (unshared_live w apart)
+    x.flow.stand.over.leaves bank.leads) in
     let applies : Applies w (behind w a now.there after) (round_stop w.tier end) = record {
       result = end;
       came = seen.came;

@@ -21,10 +21,10 @@ abbrev pub named_def : List Group → TableId → TableDef → TableDef
 named_def groups table def = if is_uncached groups table then hidden def else def
 
 -- these are the definitions that sessions find, and where the tables are kept
-pub record AreNamed (groups : List Group) (stores : List Kept) (schema visible : List TableDef)
-    (directory : List (Option Home)) : Type 0 where
-  pub visible : visible ≡ named_where_cached groups schema
-  pub directory : directory ≡ homes_of stores (length schema)
+pub record AreNamed (groups : List Group) (stores : List Kept) (schema names : List TableDef)
+    (homes : List (Option Home)) : Type 0 where
+  pub visible : names ≡ named_where_cached groups schema
+  pub directory : homes ≡ homes_of stores (length schema)
 
 -- the directory has no home for a table from the first number on, below the second
 abbrev pub HasNoHome : List (Option Home) → ℕ → ℕ → Type 0

@@ -68,12 +68,7 @@ fn name_cached(
 {
     let mut visible = Vec::new(alloc);
     for number in 0..tables {
-        visible.push(name_one(
-            alloc,
-            catalog,
-            TableId(number),
-            &schema[number as usize],
-        )?)?;
+        visible.push(name_one(alloc, catalog, TableId(number), &schema[number as usize])?)?;
     }
     Ok(Seq::from_vec(visible))
 }
@@ -88,9 +83,10 @@ fn name_one(
     ensures { IfOk result (λ named. named ≡ named_def (groups_in catalog.now) table def.now) }
 {
     let mut named = def.copied(alloc)?;
-    if !catalog.has_table(table) {
-        named.name = Name::hidden(alloc);
+    if catalog.has_table(table) {
+        return Ok(named);
     }
+    named.name = Name::hidden(alloc);
     Ok(named)
 }
 

@@ -72,12 +72,7 @@ impl Tier {
     }
 
     /// FLUSH CACHE GROUP: it is refused for every kind of group that there is, with 112, 103 or 115.
-    pub fn flush(
-        &mut self,
-        alloc: Global,
-        id: SessionId,
-        flush: &OfGroup,
-    ) -> Result<Reply, Refused>
+    pub fn flush(&mut self, alloc: Global, id: SessionId, flush: &OfGroup) -> Result<Reply, Refused>
         requires { IsSound self.old }
         ensures performs { (site : SiteView) → PerformsIn self.old self.new site site id
             (Executes (statement.Flush flush.now)) result }
@@ -89,12 +84,7 @@ impl Tier {
     }
 
     /// SELECT without GROUP BY, as `select` answers it in the cache.
-    pub fn query(
-        &mut self,
-        alloc: Global,
-        id: SessionId,
-        query: &Query,
-    ) -> Result<Reply, Refused>
+    pub fn query(&mut self, alloc: Global, id: SessionId, query: &Query) -> Result<Reply, Refused>
         requires sound { IsSound self.old }
         requires simple { query.now.groups ≡ [] }
         ensures performs { (site : SiteView) → PerformsIn self.old self.new site site id
