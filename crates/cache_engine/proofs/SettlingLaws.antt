@@ -1,10 +1,10 @@
 -- A round by the stored tier: the tier stands for the abstract one behind it.
-use Rattle.std.proofs.Common.{◌≡◌, ◌≤◌, ◌<◌, ℕ, zero, suc, ◌+◌, ◌-◌, ◌^◌, Bool, true, false, cond, not, ◌&&◌, min, nat_lt, Option, Some, None, List, [], ◌∷◌, ◌++◌, All, length, map, filter, refl, sym, ap, ◌∙◌, subst, inl, inr, arith}
+use Rattle.std.proofs.Common.{◌≡◌, ◌≤◌, ◌<◌, ℕ, zero, suc, ◌+◌, ◌-◌, ◌^◌, Bool, true, false, cond, not, ◌&&◌, min, nat_eq, nat_lt, Option, Some, None, List, [], ◌∷◌, ◌++◌, All, length, map, filter, refl, sym, ap, ◌∙◌, subst, inl, inr, arith}
 use Rattle.std.specs.Prelude.{Result, Ok, Err}
 use Rattle.std.specs.Bool.{MatchBool}
 use Rattle.std.specs.List.{slice_get}
 use Rattle.std.specs.Result.{IsErrOf}
-use Rattle.std.proofs.lemmas.Bool.{lt-ltb}
+use Rattle.std.proofs.lemmas.Bool.{eqb-true, lt-ltb}
 use Rattle.tier_base.specs.declared.number.TableId.{TableId}
 use Rattle.tier_base.specs.declared.code.Code.TheVariants as code
 use Rattle.row_types.specs.declared.rule.Detail.TheVariants as detail
@@ -142,9 +142,8 @@ sound_settled t new sound tried rest = subst IsSound (sym tried) (record {
 })
 
 -- what a round leaves at the site
-pub record RoundAt (t new : Stored) (before after : SiteView) (few : ℕ) : Type 0 where
-  pub tried : IsTried t new
-  pub told : TellsRound before.shared before.held after.held few t.unsettled.items new.unsettled.items
+pub record RoundAt (old left : List Sealed) (before after : SiteView) (few : ℕ) : Type 0 where
+  pub told : TellsRound before.shared before.held after.held few old left
   pub faults : before.bank_faults ≤ after.bank_faults
   pub moment : before.moment ≤ after.moment
   pub shares : after.shared ≡ before.shared
@@ -158,9 +157,9 @@ round_of w t new before few was now shared history unsettled held =
     (subst (λ h. BankRound before.shared few t.unsettled.items h new.unsettled.items now.history) (sym history) held.round))
 
 -- the world behind a round with this end
-applied : AreLaws → (t new : Stored) (before after : SiteView) (few : ℕ) (end : RoundEnd) → RoundAt t new before after few → AllLeft end new.unsettled.items → IsSound t
+applied : AreLaws → (t new : Stored) (before after : SiteView) (few : ℕ) (end : RoundEnd) → IsTried t new → RoundAt t.unsettled.items new.unsettled.items before after few → AllLeft end new.unsettled.items → IsSound t
     → Performs t new before after (λ w w'. Round w w' (round_stop w.tier end))
-applied laws t new before after few end round all sound w at stands apart =
+applied laws t new before after few end tried round all sound w at stands apart =
     let left = new.unsettled.items in
     let a = settled_tier w.tier left in
     let now = told_behind at.there before.held after.held (HoldsRound before.shared few t.unsettled.items left) at.told round.told in
@@ -190,19 +189,19 @@ applied laws t new before after few end round all sound w at stands apart =
       end = refl;
     } in
     performed_behind new before after w a now.there (λ w'. Round w w' (round_stop w.tier end)) at now.told round.shares stands.unkept
-    (stored_settled t new w.tier stands.stored round.tried)
-    (rows_settled t new round.tried ∙ stands.shows ∙ sym stays.same)
+    (stored_settled t new w.tier stands.stored tried)
+    (rows_settled t new tried ∙ stands.shows ∙ sym stays.same)
     stays.stands
     (round_of_applies w (behind w a now.there after) (round_stop w.tier end) stands.unkept applies)
 
-pub settled_all : AreLaws → (t new : Stored) (before after : SiteView) (receipts : ℕ) → RoundAt t new before after 0 → new.unsettled.items ≡ [] → receipts ≡ length t.unsettled.items → IsSound t → Performs t new before after (λ w w'. SettlesAll w w' (Ok receipts))
-settled_all laws t new before after receipts round all count sound w at stands apart =
-    let it = applied laws t new before after 0 Drained round all sound w at stands apart in
+pub settled_all : AreLaws → (t new : Stored) (before after : SiteView) (receipts : ℕ) → IsTried t new → RoundAt t.unsettled.items new.unsettled.items before after 0 → new.unsettled.items ≡ [] → receipts ≡ length t.unsettled.items → IsSound t → Performs t new before after (λ w w'. SettlesAll w w' (Ok receipts))
+settled_all laws t new before after receipts tried round all count sound w at stands apart =
+    let it = applied laws t new before after 0 Drained tried round all sound w at stands apart in
     record { world = it.world; at = it.at; stands = it.stands; is = (it.is, count ∙ ap length (sym stands.stored.unsettled)) }
 
-ended : AreLaws → (t new : Stored) (before after : SiteView) (few : ℕ) (end : RoundEnd) (reply : Reply) → RoundAt t new before after few → AllLeft end new.unsettled.items → ((a : Tier) → IsStoredAs t a → round_stop a end ≡ Some reply) → IsSound t → Performs t new before after (λ w w'. SettlesAll w w' (Err reply))
-ended laws t new before after few end reply round all is sound w at stands apart =
-    let it = applied laws t new before after few end round all sound w at stands apart in
+ended : AreLaws → (t new : Stored) (before after : SiteView) (few : ℕ) (end : RoundEnd) (reply : Reply) → IsTried t new → RoundAt t.unsettled.items new.unsettled.items before after few → AllLeft end new.unsettled.items → ((a : Tier) → IsStoredAs t a → round_stop a end ≡ Some reply) → IsSound t → Performs t new before after (λ w w'. SettlesAll w w' (Err reply))
+ended laws t new before after few end reply tried round all is sound w at stands apart =
+    let it = applied laws t new before after few end tried round all sound w at stands apart in
     record {
       world = it.world;
       at = it.at;
@@ -227,12 +226,12 @@ still_told t new (stop.Differs table key) reply same told = elim told [
   | inr other ↦ inr other
 ]
 
-pub settled_so_far : AreLaws → (t new : Stored) (before after : SiteView) (fault : RoundFault) (reply : Reply) → RoundAt t new before after (doubts_at fault) → TellsRoundEnd t fault reply → IsSound t → Performs t new before after (λ w w'. SettlesAll w w' (Err reply))
-settled_so_far laws t new before after stop.Failed reply round told sound = ended laws t new before after 1 Failing reply round tt (λ a is. ap Some (sym told)) sound
-settled_so_far laws t new before after stop.Memory reply round told sound = ended laws t new before after 0 Wanting reply round tt (λ a is. ap Some (sym told)) sound
-settled_so_far laws t new before after (stop.Differs table key) reply round told sound = elim told [
-  | inl one ↦ ended laws t new before after 0 (Differing table key) reply round tt (difference_told t table key reply one) sound
-  | inr other ↦ ended laws t new before after 0 Wanting reply round tt (λ a is. ap Some (sym other)) sound
+pub settled_so_far : AreLaws → (t new : Stored) (before after : SiteView) (fault : RoundFault) (reply : Reply) → IsTried t new → RoundAt t.unsettled.items new.unsettled.items before after (doubts_at fault) → TellsRoundEnd t fault reply → IsSound t → Performs t new before after (λ w w'. SettlesAll w w' (Err reply))
+settled_so_far laws t new before after stop.Failed reply tried round told sound = ended laws t new before after 1 Failing reply tried round tt (λ a is. ap Some (sym told)) sound
+settled_so_far laws t new before after stop.Memory reply tried round told sound = ended laws t new before after 0 Wanting reply tried round tt (λ a is. ap Some (sym told)) sound
+settled_so_far laws t new before after (stop.Differs table key) reply tried round told sound = elim told [
+  | inl one ↦ ended laws t new before after 0 (Differing table key) reply tried round tt (difference_told t table key reply one) sound
+  | inr other ↦ ended laws t new before after 0 Wanting reply tried round tt (λ a is. ap Some (sym other)) sound
 ]
 
 pub few_doubts : (fault : RoundFault) → doubts_at fault ≤ 1
@@ -248,36 +247,36 @@ doubt_rose (stop.Differs table key) old new rose one = let no : 0 ≡ 1 = one in
 -- why a round ended
 
 -- a reply that tells no fault of the bank and none of the journal
-caused_by : (t new : Stored) (before after : SiteView) (few : ℕ) (reply : Reply) → RoundAt t new before after few → reply.notes ≡ [] → (tells code.BackingFault reply.last ≡ true → Rose before.bank_faults after.bank_faults) → tells code.JournalFault reply.last ≡ false → IsCaused before after reply
-caused_by t new before after few reply round bare bank disk = record {
+caused_by : (old left : List Sealed) (before after : SiteView) (few : ℕ) (reply : Reply) → RoundAt old left before after few → reply.notes ≡ [] → (tells code.BackingFault reply.last ≡ true → Rose before.bank_faults after.bank_faults) → tells code.JournalFault reply.last ≡ false → IsCaused before after reply
+caused_by old left before after few reply round bare bank disk = record {
   later = round.faults;
   moment = round.moment;
   shares = round.shares;
-  slots = slots_kept before.held after.held (HoldsRound before.shared few t.unsettled.items new.unsettled.items) (λ o n is. is.slots) round.told;
+  slots = slots_kept before.held after.held (HoldsRound before.shared few old left) (λ o n is. is.slots) round.told;
   bare = bare;
   bank = bank;
   disk = disk;
 }
 
-pub all_caused : (t new : Stored) (before after : SiteView) (receipts : ℕ) → RoundAt t new before after 0 → IsCaused before after (only (Done receipts))
-all_caused t new before after receipts round = caused_by t new before after 0 (only (Done receipts)) round refl (λ is. cc) refl
+pub all_caused : (old left : List Sealed) (before after : SiteView) (receipts : ℕ) → RoundAt old left before after 0 → IsCaused before after (only (Done receipts))
+all_caused old left before after receipts round = caused_by old left before after 0 (only (Done receipts)) round refl (λ is. cc) refl
 
-memory_caused : (t new : Stored) (before after : SiteView) (few : ℕ) (reply : Reply) → RoundAt t new before after few → reply ≡ faulty code.Memory → IsCaused before after reply
-memory_caused t new before after few reply round is =
-    subst (IsCaused before after) (sym is) (caused_by t new before after few (faulty code.Memory) round refl (λ b. cc) refl)
+memory_caused : (old left : List Sealed) (before after : SiteView) (few : ℕ) (reply : Reply) → RoundAt old left before after few → reply ≡ faulty code.Memory → IsCaused before after reply
+memory_caused old left before after few reply round is =
+    subst (IsCaused before after) (sym is) (caused_by old left before after few (faulty code.Memory) round refl (λ b. cc) refl)
 
-difference_caused : (t new : Stored) (before after : SiteView) (few : ℕ) (table : TableId) (key : List Value) (reply : Reply) → RoundAt t new before after few → TellsDifference t table key reply → IsCaused before after reply
-difference_caused t new before after few table key reply round told =
+difference_caused : (t : Stored) (old left : List Sealed) (before after : SiteView) (few : ℕ) (table : TableId) (key : List Value) (reply : Reply) → RoundAt old left before after few → TellsDifference t table key reply → IsCaused before after reply
+difference_caused t old left before after few table key reply round told =
     subst (IsCaused before after) (sym told.is)
-    (caused_by t new before after few (only (Fault (record { code = code.RowDiffers; detail = detail.Row told.def.name key }))) round refl (λ b. cc) refl)
+    (caused_by old left before after few (only (Fault (record { code = code.RowDiffers; detail = detail.Row told.def.name key }))) round refl (λ b. cc) refl)
 
-pub end_caused : (t new : Stored) (before after : SiteView) (fault : RoundFault) (reply : Reply) → RoundAt t new before after (doubts_at fault) → TellsRoundEnd t fault reply → IsCaused before after reply
-end_caused t new before after stop.Failed reply round told =
-    subst (IsCaused before after) (sym told) (caused_by t new before after 1 (faulty code.BackingFault) round refl (λ b. round.rose refl) refl)
-end_caused t new before after stop.Memory reply round told = memory_caused t new before after 0 reply round told
-end_caused t new before after (stop.Differs table key) reply round told = elim told [
-  | inl one ↦ difference_caused t new before after 0 table key reply round one
-  | inr other ↦ memory_caused t new before after 0 reply round other
+pub end_caused : (t : Stored) (old left : List Sealed) (before after : SiteView) (fault : RoundFault) (reply : Reply) → RoundAt old left before after (doubts_at fault) → TellsRoundEnd t fault reply → IsCaused before after reply
+end_caused t old left before after stop.Failed reply round told =
+    subst (IsCaused before after) (sym told) (caused_by old left before after 1 (faulty code.BackingFault) round refl (λ b. round.rose refl) refl)
+end_caused t old left before after stop.Memory reply round told = memory_caused old left before after 0 reply round told
+end_caused t old left before after (stop.Differs table key) reply round told = elim told [
+  | inl one ↦ difference_caused t old left before after 0 table key reply round one
+  | inr other ↦ memory_caused old left before after 0 reply round other
 ]
 
 -- the calls
@@ -309,12 +308,22 @@ round_done t new before after receipts performs w at stands apart =
     let it = performs w at stands apart in record { world = it.world; at = it.at; stands = it.stands; is = it.is.0 }
 
 -- where nothing is unsettled, nothing is called
-pub nothing_unsettled : (t : Stored) (seen : SiteView) → t.unsettled.items ≡ [] → Performs t t seen seen (λ w w'. RoundIfUnsettled w w' None)
-nothing_unsettled t seen none w at stands apart =
-    performed_here t seen w (λ w'. RoundIfUnsettled w w' None) at stands
-    (subst (λ b. MatchBool b (Round w w None) (Passes w w None)) (sym (ap (λ (xs : List Sealed). nat_lt 0 (length xs)) (stands.stored.unsettled ∙ none))) (refl, refl))
+none_of_length : (xs : List Sealed) (n : ℕ) → n ≡ length xs → nat_eq n 0 ≡ true → nat_lt 0 (length xs) ≡ false
+none_of_length xs n long none = ap (nat_lt 0) (sym long ∙ eqb-true n 0 none)
 
-pub pending_settled : (t new : Stored) (before after : SiteView) (end : Option Reply) → 0 < length t.unsettled.items → Performs t new before after (λ w w'. Round w w' end) → Performs t new before after (λ w w'. RoundIfUnsettled w w' end)
+pub some_unsettled : (t : Stored) (n : ℕ) (b : Bool) → n ≡ length t.unsettled.items → b ≡ nat_eq n 0 → b ≡ false → nat_lt 0 (length t.unsettled.items) ≡ true
+some_unsettled t n b long is some = ap (nat_lt 0) (sym long) ∙ by n (sym is ∙ some)
+  where
+    by : (k : ℕ) → nat_eq k 0 ≡ false → nat_lt 0 k ≡ true
+    by zero e = cc
+    by (suc k) e = lt-ltb 0 (suc k) (omega arith)
+
+pub nothing_unsettled : (t : Stored) (seen : SiteView) (n : ℕ) (b : Bool) → n ≡ length t.unsettled.items → b ≡ nat_eq n 0 → b ≡ true → Performs t t seen seen (λ w w'. RoundIfUnsettled w w' None)
+nothing_unsettled t seen n b long is none w at stands apart =
+    performed_here t seen w (λ w'. RoundIfUnsettled w w' None) at stands
+    (subst (λ b. MatchBool b (Round w w None) (Passes w w None)) (sym (ap (λ (xs : List Sealed). nat_lt 0 (length xs)) stands.stored.unsettled ∙ none_of_length t.unsettled.items n long (sym is ∙ none))) (refl, refl))
+
+pub pending_settled : (t new : Stored) (before after : SiteView) (end : Option Reply) → nat_lt 0 (length t.unsettled.items) ≡ true → Performs t new before after (λ w w'. Round w w' end) → Performs t new before after (λ w w'. RoundIfUnsettled w w' end)
 pending_settled t new before after end some performs w at stands apart =
     let it = performs w at stands apart in
     record {
@@ -322,5 +331,5 @@ pending_settled t new before after end some performs w at stands apart =
       at = it.at;
       stands = it.stands;
       is = subst (λ b. MatchBool b (Round w it.world end) (Passes w it.world end))
-          (sym (ap (λ (xs : List Sealed). nat_lt 0 (length xs)) stands.stored.unsettled ∙ lt-ltb 0 (length t.unsettled.items) some)) it.is;
+          (sym (ap (λ (xs : List Sealed). nat_lt 0 (length xs)) stands.stored.unsettled ∙ some)) it.is;
     }

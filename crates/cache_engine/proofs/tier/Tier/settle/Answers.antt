@@ -5,9 +5,8 @@ use Rattle.cache_engine.proofs.tier.Tier.settle.Goals as goal
 pub returns-in-Ok-clause-performs : goal.returns-in-Ok-clause-performs
 returns-in-Ok-clause-performs g c =
     settled_all (record { left = c.left_law.ensures; follow = c.follow_law.ensures; shown = c.round_shown_law.ensures })
-    c.args.self.now _ _ _ c.in-Ok.receipts
+    c.args.self.now _ _ _ c.in-Ok.receipts refl
     (record {
-      tried = refl;
       told = c.in-Ok.ensures.goes;
       faults = c.in-Ok.ensures.faults;
       moment = c.in-Ok.ensures.moment;
@@ -20,9 +19,8 @@ returns-in-Ok-clause-performs g c =
 pub returns-in-Err-clause-performs : goal.returns-in-Err-clause-performs
 returns-in-Err-clause-performs g c =
     settled_so_far (record { left = c.left_law.ensures; follow = c.follow_law.ensures; shown = c.round_shown_law.ensures })
-    c.args.self.now _ _ _ c.in-Err.fault c.reply_to_round.result
+    c.args.self.now _ _ _ c.in-Err.fault c.reply_to_round.result refl
     (record {
-      tried = refl;
       told = c.in-Err.ensures.goes;
       faults = c.in-Err.ensures.faults;
       moment = c.in-Err.ensures.moment;
@@ -40,9 +38,8 @@ returns-in-Err-clause-sound g c = sound_settled c.args.self.now _ c.requires ref
 
 pub returns-in-Ok-clause-cause : goal.returns-in-Ok-clause-cause
 returns-in-Ok-clause-cause g c =
-    all_caused c.args.self.now _ _ _ c.in-Ok.receipts
+    all_caused c.args.self.now.unsettled.items c.round.new.unsettled.items _ _ c.in-Ok.receipts
     (record {
-      tried = refl;
       told = c.in-Ok.ensures.goes;
       faults = c.in-Ok.ensures.faults;
       moment = c.in-Ok.ensures.moment;
@@ -53,9 +50,8 @@ returns-in-Ok-clause-cause g c =
 
 pub returns-in-Err-clause-cause : goal.returns-in-Err-clause-cause
 returns-in-Err-clause-cause g c =
-    end_caused c.args.self.now _ _ _ c.in-Err.fault c.reply_to_round.result
+    end_caused c.args.self.now c.args.self.now.unsettled.items c.round.new.unsettled.items _ _ c.in-Err.fault c.reply_to_round.result
     (record {
-      tried = refl;
       told = c.in-Err.ensures.goes;
       faults = c.in-Err.ensures.faults;
       moment = c.in-Err.ensures.moment;
