@@ -135,6 +135,7 @@ sound_settled t new sound tried rest = subst IsSound (sym tried) (record {
   stores = sound.stores;
   kept = sound.kept;
   whole = sound.whole;
+  named = sound.named;
   plain = sound.plain;
   visible = sound.visible;
   numbered = rise_rest 1 t.next rest.0 new.unsettled.items (subst (λ xs. RiseBetween 1 xs t.next) rest.1 sound.numbered);
