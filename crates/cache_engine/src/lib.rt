@@ -14,6 +14,7 @@ pub mod dropping;
 pub mod due;
 pub mod loading;
 pub mod loading_whole;
+mod naming;
 pub mod query;
 pub mod request;
 pub mod resting;
