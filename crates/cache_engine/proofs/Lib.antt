@@ -1,9 +1,16 @@
 pub mod BankLaws
 pub mod CommitLaws
 pub mod DrainLaws
+pub mod NamedLaws
+pub mod NamingLaws
+pub mod QueryLaws
+pub mod QuietLaws
 pub mod RoundLaws
 pub mod SeenLaws
 pub mod SelectLaws
 pub mod SessionLaws
+pub mod SettlingLaws
+pub mod StandingLaws
 pub mod TablingLaws
+pub mod VerifyLaws
 pub mod WritingLaws

@@ -3,6 +3,7 @@ pub mod Beginning
 pub mod Committing
 pub mod Draining
 pub mod Due
+pub mod Naming
 pub mod Performing
 pub mod Refusing
 pub mod Requests
