@@ -66,8 +66,8 @@ none_dynamic (g ∷ gs) plain =
     (none_dynamic gs (second_of (is_plain g) (list_all is_plain (map without_list gs)) plain))
   where
     by : (b : Bool) → not b ≡ true → list_any (λ g. g.def.dynamic) gs ≡ false → (b || list_any (λ g. g.def.dynamic) gs) ≡ false
-    by true no rest = cc
-    by false no rest = rest
+    by true h rest = cc
+    by false h rest = rest
 
 pub has_no_dynamic : (t : Stored) (a : Tier) → IsSound t → IsStoredAs t a → HasNoDynamic a
 has_no_dynamic t a sound is = none_dynamic a.groups (ap (list_all is_plain) is.groups ∙ sound.plain)
@@ -94,26 +94,26 @@ SelectsOver t id q r =
     (w : World) (s : Session) → IsStoredAs t w.tier → ShowsRows t w → HasNoDynamic w.tier → HasSession t id s → SelectsHere t s q w r
 
 query_done : UseLaw → (t : Stored) (site : SiteView) (s : Session) (q : Query) (w : World) (r : Result Selected Refused) → IsAt site w → StandsFor t w → SelectsHere t s q w r → IsPerformed t site (λ w'. Executes (statement.Select q) s w w' (reply_of (query_reply r)))
-query_done use t site s q w (Ok (Answered reply)) at is here =
+query_done law t site s q w (Ok (Answered reply)) at is here =
     let seen = seen_by s w.history w.tier in
     let after = after_use seen (map (row_key seen) (selected_rows here.plan seen)) w.tier in
     record {
       world = with_tier after w;
       at = at_still site w after at;
-      stands = stands_behind t t w after is here.stored refl (use w seen (map (row_key seen) (selected_rows here.plan seen)) is.stands);
+      stands = stands_behind t t w after is here.stored refl (law w seen (map (row_key seen) (selected_rows here.plan seen)) is.stands);
       is = inl (selects_unless s q w (with_tier after w) reply here.selects);
     }
-query_done use t site s q w (Ok (PassedOn resolved)) at is here =
+query_done law t site s q w (Ok (PassedOn resolved)) at is here =
     wanting t site (λ w w' reply. Unless (refusal w.tier s (statement.Select q)) (DoesStatement s (statement.Select q)) w w' reply) w at is
-query_done use t site s q w (Err (refused.Rule rule)) at is here =
+query_done law t site s q w (Err (refused.Rule rule)) at is here =
     record { world = w; at = at; stands = is; is = inl (selects_unless s q w w (only (No rule)) here) }
-query_done use t site s q w (Err refused.Memory) at is here =
+query_done law t site s q w (Err refused.Memory) at is here =
     wanting t site (λ w w' reply. Unless (refusal w.tier s (statement.Select q)) (DoesStatement s (statement.Select q)) w w' reply) w at is
 
 pub queried : UseLaw → (old new : Stored) (site : SiteView) (id : SessionId) (q : Query) (r : Result Selected Refused) (result : Result Reply Refused) → new ≡ record old { verified = new.verified } → IsSound new → SelectsOver new id q r → result ≡ query_reply r → PerformsIn old new site site id (Executes (statement.Select q)) result
-queried use old new site id q r result same sound selects is = λ s has w at stands unshared.
+queried law old new site id q r result same sound selects is = λ s has w at stands unshared.
     let there = subst (λ t. StandsFor t w) (sym same) (stands_noted old new.verified w stands) in
     let here = selects w s there.stored there.shows (has_no_dynamic new w.tier sound there.stored)
-        (subst (λ t. HasSession t id s) (sym same) (session_noted old new.verified id s has)) in
+    (subst (λ t. HasSession t id s) (sym same) (session_noted old new.verified id s has)) in
     subst (λ out. IsPerformed new site (λ w'. Executes (statement.Select q) s w w' (reply_of out))) (sym is)
-    (query_done use new site s q w r at there here)
+    (query_done law new site s q w r at there here)

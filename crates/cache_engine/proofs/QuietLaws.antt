@@ -6,11 +6,14 @@ use Rattle.tier_base.specs.declared.number.SessionId.{SessionId}
 use Rattle.row_types.specs.declared.rule.Refused.{Refused}
 use Rattle.row_types.specs.declared.rule.Refused.TheVariants as refused
 use Rattle.row_types.specs.declared.rule.Rule.{Rule}
+use Rattle.table_defs.specs.Declarations.{IsRefusedBy}
 use Rattle.outside.specs.Holding.{Held}
+use Rattle.sql_subset.specs.declared.stmt.Stmt.{Stmt}
+use Rattle.cache_tier.specs.Order.{refusal}
 use Rattle.cache_tier.specs.declared.reply.Last.{Last}
 use Rattle.cache_tier.specs.declared.reply.Last.TheVariants.{Done, No}
 use Rattle.cache_tier.specs.declared.reply.Reply.{Reply}
-use Rattle.cache_tier.specs.Steps.{tells}
+use Rattle.cache_tier.specs.Steps.{DoesStatement, tells}
 use Rattle.cache_tier.specs.TierStates.{Session, Tier, is_labelled, session_of}
 use Rattle.cache_tier.specs.Worlds.{Answer, IsUnshared, Part, Quiet, Tries, Unless, World, faulty, only}
 use Rattle.open_sessions.specs.Opening.{seen_all}
@@ -18,7 +21,7 @@ use Rattle.tier_laws.specs.Events.{StaysShown, with_tier}
 use Rattle.tier_statements.specs.Seen.{session_seen}
 use Rattle.cache_engine.specs.declared.tier.Tier.{Tier as Stored}
 use Rattle.cache_engine.specs.Answering.{Replies}
-use Rattle.cache_engine.specs.Performing.{IsCalm, IsPerformed, KeepsSlots, StandsFor, reply_of}
+use Rattle.cache_engine.specs.Performing.{Executes, IsCalm, IsPerformed, KeepsSlots, PerformsIn, StandsFor, reply_of}
 use Rattle.cache_engine.specs.Sites.{IsAt, SiteView}
 use Rattle.cache_engine.specs.Stored.{HasSession, IsStoredAs, KeepsTime, rows_of}
 use Rattle.cache_engine.proofs.SeenLaws.{find_seen}
@@ -121,3 +124,15 @@ answered_quietly old new site w fault answer (Err (refused.Rule rule)) at is row
     refusing new site fault (Quiet answer) w rule replies.0 at (stands_still old new w is replies.1 rows)
 answered_quietly old new site w fault answer (Err refused.Memory) at is rows stays replies =
     wanting new site (Unless fault (Quiet answer)) w at (stands_still old new w is replies rows)
+
+pub refused_quietly : (new : Stored) (site : SiteView) (fault : Option Rule) (part : Part) (w : World) (e : Refused) → IsRefusedBy fault e → IsAt site w → StandsFor new w → IsPerformed new site (λ w'. Tries (Unless fault part) w w' (reply_of (Err e)))
+refused_quietly new site fault part w (refused.Rule rule) broken at is = refusing new site fault part w rule broken at is
+refused_quietly new site fault part w refused.Memory broken at is = wanting new site (Unless fault part) w at is
+
+-- where it isn't known that sessions may read, memory is wanting
+pub stands_over : (old new : Stored) (w : World) → new ≡ record old { verified = new.verified } → StandsFor old w → StandsFor new w
+stands_over old new w same is = subst (λ t. StandsFor t w) (sym same) (stands_noted old new.verified w is)
+
+pub unverified : (old new : Stored) (site : SiteView) (id : SessionId) (st : Stmt) → new ≡ record old { verified = new.verified } → PerformsIn old new site site id (Executes st) (Err refused.Memory)
+unverified old new site id st same = λ s has w at is unshared.
+    wanting new site (λ w w' reply. Unless (refusal w.tier s st) (DoesStatement s st) w w' reply) w at (stands_over old new w same is)
