@@ -1,10 +1,12 @@
 pub mod BankLaws
+pub mod BeginningLaws
 pub mod CommitLaws
 pub mod DrainLaws
 pub mod NamedLaws
 pub mod NamingLaws
 pub mod QueryLaws
 pub mod QuietLaws
+pub mod OthersLaws
 pub mod RoundLaws
 pub mod SeenLaws
 pub mod SelectLaws

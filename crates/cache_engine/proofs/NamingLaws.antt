@@ -8,7 +8,8 @@ use Rattle.table_defs.specs.declared.definition.TableDef.{TableDef}
 use Rattle.cache_tier.specs.Groups.{Group, definitions_of, is_defined_on, is_table_of}
 use Rattle.cache_tier.specs.Routes.{hidden, hidden_where}
 use Rattle.group_store.specs.declared.directory.Home.{Home}
-use Rattle.cache_engine.specs.Naming.{HasNoHome, is_uncached, named_def}
+use Rattle.group_store.specs.Stores.{Kept}
+use Rattle.cache_engine.specs.Naming.{AreNamed, HasNoHome, is_uncached, named_def}
 use Rattle.cache_engine.specs.Stored.{named_where_cached}
 
 -- a group has the table
@@ -69,3 +70,8 @@ home_more directory first number o is none before n low high =
 
 pub home_fewer : (directory : List (Option Home)) (first number end : ℕ) → end ≤ number → HasNoHome directory first number → HasNoHome directory first end
 home_fewer directory first number end le before n low high = before n low (omega arith)
+
+-- the same of the same stores and the same schema
+pub named_as : (groups : List Group) (stores others : List Kept) (schema same visible : List TableDef) (directory : List (Option Home)) → stores ≡ others → schema ≡ same → AreNamed groups stores schema visible directory → AreNamed groups others same visible directory
+named_as groups stores others schema same visible directory one two named =
+    subst (λ ss. AreNamed groups ss same visible directory) one (subst (λ defs. AreNamed groups stores defs visible directory) two named)
