@@ -11,6 +11,8 @@ pub mod SelectLaws
 pub mod SessionLaws
 pub mod SettlingLaws
 pub mod StandingLaws
+pub mod StoreChanges
+pub mod StoreRows
 pub mod TablingLaws
 pub mod VerifyLaws
 pub mod WritingLaws

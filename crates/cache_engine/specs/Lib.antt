@@ -4,6 +4,7 @@ pub mod Committing
 pub mod Draining
 pub mod Due
 pub mod Naming
+pub mod Grouping
 pub mod Performing
 pub mod Refusing
 pub mod Requests
