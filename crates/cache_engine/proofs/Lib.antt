@@ -1,10 +1,14 @@
 pub mod BankLaws
+pub mod CalmLaws
 pub mod CommitLaws
+pub mod DefiningLaws
 pub mod DrainLaws
 pub mod NamedLaws
 pub mod NamingLaws
 pub mod QueryLaws
 pub mod QuietLaws
+pub mod GroupComes
+pub mod GroupingLaws
 pub mod RoundLaws
 pub mod SeenLaws
 pub mod SelectLaws

@@ -1,6 +1,7 @@
 pub mod Answering
 pub mod Beginning
 pub mod Committing
+pub mod Defining
 pub mod Draining
 pub mod Due
 pub mod Naming
