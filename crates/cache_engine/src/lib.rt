@@ -12,6 +12,7 @@ pub mod defining;
 pub mod drain;
 pub mod dropping;
 pub mod due;
+mod grouping;
 pub mod loading;
 pub mod loading_whole;
 mod naming;
