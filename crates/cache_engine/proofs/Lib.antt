@@ -11,6 +11,11 @@ pub mod QuietLaws
 pub mod OthersLaws
 pub mod GroupComes
 pub mod GroupingLaws
+pub mod FillLaws
+pub mod FillSteps
+pub mod FreshLaws
+pub mod GroupRows
+pub mod RefreshSteps
 pub mod RoundLaws
 pub mod SeenLaws
 pub mod SelectLaws
@@ -18,6 +23,9 @@ pub mod SessionLaws
 pub mod SettlingLaws
 pub mod StandingLaws
 pub mod StoreChanges
+pub mod ShownStores
+pub mod StoreChanges
+pub mod StoreForms
 pub mod StoreRows
 pub mod TablingLaws
 pub mod VerifyLaws
