@@ -8,11 +8,11 @@ use Rattle.tier_base.specs.declared.limit.Limit.TheVariants as limit
 use Rattle.row_types.specs.declared.rule.Detail.TheVariants as detail
 use Rattle.row_types.specs.declared.rule.Rule.{Rule}
 use Rattle.sql_subset.specs.Lines.{Means, Saying, Silent, Says, WrongAt, TooDeep}
-use Rattle.abstract_tier.specs.declared.reply.Reply.{Reply}
-use Rattle.abstract_tier.specs.declared.reply.Last.TheVariants.{Done, No}
-use Rattle.abstract_tier.specs.Answers.{only}
-use Rattle.abstract_tier.specs.Replying.{reply_bytes, replies_bytes}
-use Rattle.abstract_tier.specs.Steps.{is_long}
+use Rattle.cache_tier.specs.declared.reply.Reply.{Reply}
+use Rattle.cache_tier.specs.declared.reply.Last.TheVariants.{Done, No}
+use Rattle.cache_tier.specs.Worlds.{only}
+use Rattle.cache_tier.specs.Replying.{reply_bytes, replies_bytes}
+use Rattle.cache_engine.specs.Requests.{is_long}
 use Rattle.session_cli.specs.declared.checker.CheckFault.{CheckFault}
 use Rattle.session_cli.specs.declared.checker.CheckFault.TheVariants as fault
 use Rattle.session_cli.specs.declared.checker.Checker.{Checker}

@@ -2,21 +2,22 @@
 
 ghost use Rattle.std.specs.Prelude.{◌≡◌, ℕ, List, Option, IfOk};
 ghost use Rattle.sql_subset.specs.Lines.{Means, Saying};
-ghost use Rattle.abstract_tier.specs.Answers.{only};
-ghost use Rattle.abstract_tier.specs.declared.reply.Last.TheVariants.{No};
-ghost use Rattle.abstract_tier.specs.declared.reply.Reply.{Reply as TierReply};
+ghost use Rattle.cache_tier.specs.Worlds.{only};
+ghost use Rattle.cache_tier.specs.declared.reply.Last.TheVariants.{No};
+ghost use Rattle.cache_tier.specs.declared.reply.Reply.{Reply as TierReply};
 ghost use Rattle.session_cli.specs.Checking.{AreChecked, CheckHasCause, Checks, Tells};
 
 use crate::line::LineBuffer;
 use crate::output::Output;
 use crate::replies::write_reply;
-use abstract_tier::{Last, Reply};
+use cache_tier::reply::Reply;
 use outside::Sink;
 use row_types::{Detail, Rule};
 use sql_subset::line::{one_meaning, parse_line};
 use sql_subset::request::ParseError;
 use std::alloc::{AllocError, Global};
 use tier_base::{Code, Limit};
+use tier_statements::{done, refuses};
 
 /// The greatest number of bytes of a line.
 const LINE_BYTES: usize = 65_536;
@@ -42,7 +43,7 @@ pub fn check_line(alloc: Global, line: &[u8]) -> Result<Option<Reply>, AllocErro
     }
     match parse_line(alloc, line) {
         Ok(None) => Ok(None),
-        Ok(Some(_)) => Ok(Some(Reply::done(alloc, 0))),
+        Ok(Some(_)) => Ok(Some(done(alloc, 0))),
         Err(ParseError::At(byte)) => Ok(Some(broken(
             alloc,
             Code::Syntax,
@@ -59,7 +60,7 @@ pub fn check_line(alloc: Global, line: &[u8]) -> Result<Option<Reply>, AllocErro
 fn broken(alloc: Global, code: Code, detail: Detail) -> Reply
     ensures { result ≡ only (No (record { code = code; detail = detail })) }
 {
-    Reply::only(alloc, Last::No(Rule { code, detail }))
+    refuses(alloc, Rule { code, detail })
 }
 
 /// The replies of `check` are a function of the lines.

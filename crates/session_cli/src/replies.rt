@@ -6,12 +6,12 @@ ghost use Rattle.std.specs.Fmt.{decimal};
 ghost use Rattle.outside.specs.Faults.{HasCause};
 ghost use Rattle.row_types.specs.Printing.{printed_key};
 ghost use Rattle.tier_base.specs.Codes.{number_of};
-ghost use Rattle.abstract_tier.specs.Replying.{detail_bytes, last_bytes, letter_byte, note_bytes, reply_bytes, rule_bytes};
+ghost use Rattle.cache_tier.specs.Replying.{detail_bytes, last_bytes, letter_byte, note_bytes, reply_bytes, rule_bytes};
 ghost use Rattle.session_cli.specs.Output.{Passes};
 
 use crate::output::Output;
 use crate::values::{write_key, write_number};
-use abstract_tier::{Last, Note, Reply};
+use cache_tier::reply::{Last, Note, Reply};
 use outside::{Failed, Sink};
 use row_types::{Detail, Key, Letter, Rule};
 use tier_base::Code;

@@ -1,9 +1,11 @@
-use Rattle.std.proofs.Common.{refl}
+use Rattle.std.proofs.Common.{ℕ, Option, Some, None, Bool, refl}
+use Rattle.cache_engine.specs.Sites.{seen_at}
 use Rattle.session_cli.specs.declared.session.Session.{Session}
-use Rattle.session_cli.proofs.OpeningLaws.{with_tier}
+use Rattle.session_cli.proofs.OpeningLaws.{begins_still, opens_begun}
 use Rattle.session_cli.proofs.session.Session.open.Goals as goal
 
-pub returns-in-Ok-open-clause-told : goal.returns-in-Ok-open-clause-told
-returns-in-Ok-open-clause-told g c =
-    let session : Session = record { tier = c.in-Ok-open.tier; line = c.in-Ok.line; output = c.in-Ok-new.output } in
-    with_tier (g.P.Disk.shared c.args.site.now) session c.in-Ok-open.tier (g.P.Disk.held c.args.site.now) (g.P.Disk.held c.open.new.site) refl c.in-Ok.ensures c.in-Ok-new.ensures c.legal_law.ensures c.committed_law.ensures c.in-Ok-open.ensures.told
+pub returns-in-Ok-begin-clause-opens : goal.returns-in-Ok-begin-clause-opens
+returns-in-Ok-begin-clause-opens g c =
+    let session : Session = record { tier = c.in-Ok-begin.tier; line = c.in-Ok.line; output = c.in-Ok-new.output } in
+    opens_begun _ _ (g.C.Clock.coming c.args.clock.now) (g.C.Clock.coming c.now.new.clock) c.args.propagate_ms c.now.result c.in-Ok-begin.tier session refl c.now.ensures.told c.now.ensures.rest
+    c.in-Ok-begin.ensures.begins c.in-Ok-begin.ensures.later
