@@ -1,6 +1,6 @@
 -- The tier as it is stored, and the abstract tiers that it stands for. (This project's model.)
 
-use Rattle.std.specs.Prelude.{◌≡◌, ℕ, List, [], ◌∷◌, All, None, Some, Bool, true, ◌&&◌, map, not, find, unwrap_or, is_none}
+use Rattle.std.specs.Prelude.{◌≡◌, ℕ, suc, List, [], ◌∷◌, All, None, Some, Bool, true, ◌&&◌, map, not, find, unwrap_or, is_none, length, slice_get}
 use Rattle.std.specs.List.{list_all}
 use Rattle.std.specs.Option.{option_map}
 use Rattle.tier_base.specs.declared.number.SessionId.{SessionId}
@@ -76,6 +76,16 @@ AreKept schema [] (s ∷ stores) = ⊥
 AreKept schema (g ∷ groups) [] = ⊥
 AreKept schema (g ∷ groups) (s ∷ stores) = IsFor schema g.def.tree s × AreKept schema groups stores
 
+-- each store has rows for each of its tables
+abbrev pub AreWhole : List Kept → Type 0
+AreWhole stores = (k : ℕ) (s : Kept) → slice_get stores k ≡ Some s → length s.tables ≡ suc (length s.layers)
+
+-- no two groups have one name
+abbrev pub HaveOwnNames : List Group → Type 0
+HaveOwnNames groups =
+    (i j : ℕ) (g h : Group) → slice_get groups i ≡ Some g → slice_get groups j ≡ Some h → g.def.name ≡ h.def.name
+    → i ≡ j
+
 -- a group as the tier does them: it is loaded whole or by statements, nothing ages in it, and it isn't SYNCHRONOUS
 abbrev pub is_plain : Group → Bool
 is_plain g = is_explicit g && is_none g.def.aging && not (is_synchronous g)
@@ -90,7 +100,9 @@ pub record IsVerified (t : Stored) : Type 0 where
 --   sessions  each keeps what its operations leave and hold, and no two conflict
 --   stores    the tables of the groups are found by the directory, and their foreign keys are the schema's
 --   kept      each group's store has the tables of its tree
+--   whole     and rows for each of them
 --   plain     the groups are such as the tier does
+--   named     no two of them have one name
 --   visible   the names that a session finds at level 0
 --   numbered  the tickets of the unsettled transactions rise below the next one
 --   verified  where that is noted, sessions may read and write
@@ -98,7 +110,9 @@ pub record IsSound (t : Stored) : Type 0 where
   pub sessions : AreSessions t.schema t.sessions
   pub stores : AreHoused t.schema t.stores.items t.directory
   pub kept : AreKept t.schema (groups_in t.catalog) t.stores.items
+  pub whole : AreWhole t.stores.items
   pub plain : list_all is_plain (groups_in t.catalog) ≡ true
+  pub named : HaveOwnNames (groups_in t.catalog)
   pub visible : t.visible ≡ named_where_cached (groups_in t.catalog) t.schema
   pub numbered : RiseBetween 1 t.unsettled.items t.next
   pub verified : t.verified ≡ true → IsVerified t

@@ -8,14 +8,14 @@ use Rattle.outside.specs.Others.{Around}
 use Rattle.cache_tier.specs.declared.reply.Reply.{Reply}
 use Rattle.cache_tier.specs.WayFacts.{IsLed}
 use Rattle.cache_tier.specs.GoesOn.{IsLonger, LeadsTo}
-use Rattle.cache_tier.specs.JournalSteps.{Flushes, FlushesFitting, FlushesSome, Notes, Records, has_entries, journal_full}
+use Rattle.cache_tier.specs.JournalSteps.{Flushes, FlushesFitting, FlushesKept, FlushesSome, Notes, NotesKept, Records, has_entries, journal_full}
 use Rattle.cache_tier.specs.Journals.{Journal, JournalEntry}
 use Rattle.cache_tier.specs.Reading.{Answers, FollowsAt, Reads, ReadsFirst, StageFollowsAt, TellsPosition}
 use Rattle.cache_tier.specs.Rotations.{Rotates, is_long}
 use Rattle.cache_tier.specs.Rounds.{Applies, AppliesAndRotates, Round, RoundIfUnsettled, is_unsettled}
 use Rattle.cache_tier.specs.TierStates.{Tier}
 use Rattle.cache_tier.specs.Worlds.{Answer, BankCall, Becomes, Follows, OnlyWhere, Part, Passes, Quiet, Refuses, Stage, StageFollows, Then, ThenStage, Tries, Unless, World}
-use Rattle.cache_tier.proofs.WayLaws.{flush_leads, note_leads, rotate_leads, stays, ways_go_on}
+use Rattle.cache_tier.proofs.WayLaws.{kept_flush_leads, kept_note_leads, rotate_leads, stays, ways_go_on}
 
 pub same_number : (n : ℕ) → n ≤ n
 same_number n = omega arith
@@ -149,17 +149,23 @@ reads_first_leads tried next le p w w' stop q =
 kept : (w w' : World) → w'.history ≡ w.history → IsLonger w.history w'.history
 kept w w' e = record { more = []; is = e ∙ nothing_more w.history }
 
+kept_flushes_leads : (entries : List JournalEntry) → StageLeads (FlushesKept entries)
+kept_flushes_leads entries w w' stop f =
+    record { history = kept w w' f.history; journal = kept_flush_leads entries w w' stop f; bank = omega (arith, f.bank); disk = f.disk; moment = f.moment; shared = f.shared; next = next_of w w' w.tier f.tier (same_number w.tier.next) }
+
 pub flushes_leads : (entries : List JournalEntry) → StageLeads (Flushes entries)
-flushes_leads entries w w' stop f =
-    record { history = kept w w' f.history; journal = flush_leads entries w w' stop f; bank = omega (arith, f.bank); disk = f.disk; moment = f.moment; shared = f.shared; next = next_of w w' w.tier f.tier (same_number w.tier.next) }
+flushes_leads entries w w' stop f = only_where_leads w.journal.kept (FlushesKept entries) (kept_flushes_leads entries) w w' stop f
 
 pub flushes_some_leads : (entries : List JournalEntry) → StageLeads (FlushesSome entries)
 flushes_some_leads entries = only_where_leads (has_entries entries) (FlushesFitting entries) (λ w w' stop q. either_leads (journal_full w entries) (λ r. same w w' r.0) (λ f. flushes_leads entries w w' stop f) q)
 
-notes_leads : (e : JournalEntry) → StageLeads (Notes e)
-notes_leads e w w' stop q =
+kept_notes_leads : (e : JournalEntry) → StageLeads (NotesKept e)
+kept_notes_leads e w w' stop q =
     subst (λ x. LeadsTo w x) (sym q.0)
-    (record { history = no_longer w.history; journal = note_leads e w _ None (refl, refl); bank = omega arith; disk = omega arith; moment = omega arith; shared = refl; next = omega arith })
+    (record { history = no_longer w.history; journal = kept_note_leads e w _ None (refl, refl); bank = omega arith; disk = omega arith; moment = omega arith; shared = refl; next = omega arith })
+
+notes_leads : (e : JournalEntry) → StageLeads (Notes e)
+notes_leads e w w' stop q = only_where_leads w.journal.kept (NotesKept e) (kept_notes_leads e) w w' stop q
 
 pub records_leads : (durable : Bool) (e : JournalEntry) → StageLeads (Records durable e)
 records_leads true e w w' stop q = flushes_leads (e ∷ []) w w' stop q

@@ -17,7 +17,7 @@ use Rattle.outside.specs.declared.fault.BankError.{BankError}
 use Rattle.outside.specs.Others.{AreOthers}
 use Rattle.cache_tier.specs.declared.reply.Reply.{Reply}
 use Rattle.order_laws.specs.Commits.{Once}
-use Rattle.cache_tier.specs.JournalSteps.{Flushes, FlushesFitting, FlushesSome, Notes, Records, has_entries, journal_full}
+use Rattle.cache_tier.specs.JournalSteps.{Flushes, FlushesFitting, FlushesKept, FlushesSome, Notes, NotesKept, Records, has_entries, journal_full}
 use Rattle.cache_tier.specs.Journals.{JournalEntry}
 use Rattle.cache_tier.specs.Reading.{Answers, FollowsAt, Reads, ReadsFirst, StageFollowsAt, TellsPosition}
 use Rattle.cache_tier.specs.Rotations.{Rotates, is_long}
@@ -264,13 +264,13 @@ reads_first_leads tried next le p w w' stop q =
 -- the journal
 
 pub flushes_leads : (entries : List JournalEntry) → StageLeads (Flushes entries)
-flushes_leads entries w w' stop f = standing w w' f.history (keeps_of w w' w.tier f.tier (kept w.tier))
+flushes_leads entries w w' stop f = only_where_leads w.journal.kept (FlushesKept entries) (λ x x' end q. standing x x' q.history (keeps_of x x' x.tier q.tier (kept x.tier))) w w' stop f
 
 pub flushes_some_leads : (entries : List JournalEntry) → StageLeads (FlushesSome entries)
 flushes_some_leads entries = only_where_leads (has_entries entries) (FlushesFitting entries) (λ w w' stop q. either_leads (journal_full w entries) (λ r. same w w' r.0) (λ f. flushes_leads entries w w' stop f) q)
 
 notes_leads : (e : JournalEntry) → StageLeads (Notes e)
-notes_leads e w w' stop q = standing w w' (ap (λ (x : World). x.history) q.0) (keeps_of w w' w.tier (ap (λ (x : World). x.tier) q.0) (kept w.tier))
+notes_leads e w w' stop q = only_where_leads w.journal.kept (NotesKept e) (λ x x' end n. standing x x' (ap (λ (y : World). y.history) n.0) (keeps_of x x' x.tier (ap (λ (y : World). y.tier) n.0) (kept x.tier))) w w' stop q
 
 pub records_leads : (durable : Bool) (e : JournalEntry) → StageLeads (Records durable e)
 records_leads true e w w' stop q = flushes_leads (e ∷ []) w w' stop q

@@ -58,7 +58,7 @@ use Rattle.cache_tier.specs.DynamicLoads.{Brings, BringsAt, BringsInto, BringsRe
 use Rattle.cache_tier.specs.Tickets.{AreOnce, RunKeepsOnce, StepKeepsOnce}
 use Rattle.cache_tier.specs.Groups.{Group, is_explicit, is_read_only, is_writethrough}
 use Rattle.cache_tier.specs.InsertSteps.{Finds, Inserts, insert_answer, insert_fault}
-use Rattle.cache_tier.specs.JournalSteps.{Flushes, Records, journal_fault}
+use Rattle.cache_tier.specs.JournalSteps.{Flushes, FlushesKept, NotesKept, Records, journal_fault}
 use Rattle.cache_tier.specs.Journals.{Drops, JournalEntry, Numbers, Commits, Prepares}
 use Rattle.cache_tier.specs.LoadSteps.{Loads, LoadsReadOnly, LoadsWritethrough, added_answer, gained_answer}
 use Rattle.cache_tier.specs.Locks.{lock_fault}
@@ -76,7 +76,7 @@ use Rattle.cache_tier.specs.UnloadSteps.{Unloads, unload_answer, unload_entries,
 use Rattle.cache_tier.specs.Wants.{Want, loaded_want}
 use Rattle.cache_tier.specs.WriteSteps.{WritesBy, WritesEffects, WritesOps, WritesPlaced, WritesShown}
 use Rattle.cache_tier.specs.Undone.{is_undone}
-use Rattle.cache_tier.specs.Worlds.{Answer, Becomes, Follows, StageFollows, Part, ThenStage, World, unless, Unless, Then, only}
+use Rattle.cache_tier.specs.Worlds.{Answer, Becomes, Follows, OnlyWhere, StageFollows, Part, ThenStage, World, unless, Unless, Then, only}
 use Rattle.std.proofs.lemmas.List.Elements.{Contains-append_cases}
 use Rattle.std.specs.List.{Contains}
 use Rattle.table_state.specs.Histories.{has_ticket}
@@ -245,6 +245,19 @@ follow : (o : Option Reply) (part : Part) (mid w' : World) (reply : Reply) → F
 follow None part mid w' reply f k = k refl f
 follow (Some stop) part mid w' reply f k = same mid w' f.0
 
+-- what is done to the journal, where one is kept, leaves the history and the tier
+history_stays : (is_kept : Bool) (entries : List JournalEntry) (w w' : World) (stop : Option Reply) → OnlyWhere is_kept (FlushesKept entries) w w' stop → w'.history ≡ w.history
+history_stays true entries w w' stop f = f.history
+history_stays false entries w w' stop f = ap (λ (x : World). x.history) f.0
+
+flush_stays : (is_kept : Bool) (entries : List JournalEntry) (w w' : World) (stop : Option Reply) → OnlyWhere is_kept (FlushesKept entries) w w' stop → w'.tier ≡ w.tier
+flush_stays true entries w w' stop f = f.tier
+flush_stays false entries w w' stop f = ap (λ (x : World). x.tier) f.0
+
+note_stays : (is_kept : Bool) (e : JournalEntry) (w w' : World) (stop : Option Reply) → OnlyWhere is_kept (NotesKept e) w w' stop → w'.tier ≡ w.tier
+note_stays true e w w' stop n = ap (λ (x : World). x.tier) n.0
+note_stays false e w w' stop n = ap (λ (x : World). x.tier) n.0
+
 -- behind a stage that went on the ticket is drawn
 drawn : (p o : Option Reply) (m mid : World) → StageFollows p (Becomes (λ x. with_ticket x.tier)) m mid o → o ≡ None → mid ≡ record m { tier = with_ticket m.tier }
 drawn None o m mid n e = n.0
@@ -257,7 +270,7 @@ drawn_then entries part w w' reply rest q =
     on w q.mid w' (then_stage_leads _ _ (flushes_leads entries) (becomes_leads _ (λ x. ticket_next x.tier)) w q.mid q.stop q.first)
     (follow q.stop part q.mid w' reply q.next (λ e r.
     let is = drawn q.first.stop q.stop q.first.mid q.mid q.first.next e in
-    rest q.mid (ap (λ (x : World). x.history) is ∙ q.first.first.history) (ap (λ (x : World). x.tier.next) is ∙ ap (λ (t : Tier). t.next + 1) q.first.first.tier) r))
+    rest q.mid (ap (λ (x : World). x.history) is ∙ history_stays w.journal.kept entries w q.first.mid q.first.stop q.first.first) (ap (λ (x : World). x.tier.next) is ∙ ap (λ (t : Tier). t.next + 1) (flush_stays w.journal.kept entries w q.first.mid q.first.stop q.first.first)) r))
 
 unstanding : (ticket : ℕ) (history before : List Entry) → has_ticket ticket history ≡ false → HasNone before → has_ticket ticket (history ++ before) ≡ false
 unstanding ticket history before fresh none = has_ticket-append ticket history before ∙ ap (λ b. b || has_ticket ticket before) fresh ∙ none ticket
@@ -324,8 +337,8 @@ later_keeps x label t e = (omega arith, λ s c. by s (Contains-append_cases t.un
     by s (inr p) = let is = ap (λ (y : Sealed). y.ticket.0) (one_contained x s p) in inr (omega (arith, is, e))
 
 records_tier : (durable : Bool) (e : JournalEntry) (w mid : World) (stop : Option Reply) → Records durable e w mid stop → mid.tier ≡ w.tier
-records_tier true e w mid stop q = q.tier
-records_tier false e w mid stop q = ap (λ (x : World). x.tier) q.0
+records_tier true e w mid stop q = flush_stays w.journal.kept (e ∷ []) w mid stop q
+records_tier false e w mid stop q = note_stays w.journal.kept e w mid stop q
 
 commits_later_on : (s : Session) (w w' : World) (reply : Reply) → Then (Records s.durable (Commits (sealed_own w.tier s))) (Answers (λ mid. (committed_unsettled (sealed_own w.tier s) s.label mid.tier, only (Done w.tier.next)))) w w' reply → Keeps w w'
 commits_later_on s w w' reply p =

@@ -5,7 +5,7 @@ use Rattle.row_types.specs.declared.rule.Rule.{Rule}
 use Rattle.outside.specs.declared.fault.BankError.{BankError}
 use Rattle.cache_tier.specs.declared.reply.Reply.{Reply}
 use Rattle.cache_tier.specs.Groups.{Group}
-use Rattle.cache_tier.specs.JournalSteps.{Flushes, FlushesFitting, FlushesSome, Records, has_entries, journal_full}
+use Rattle.cache_tier.specs.JournalSteps.{Flushes, FlushesFitting, FlushesKept, FlushesSome, NotesKept, Records, has_entries, journal_full}
 use Rattle.cache_tier.specs.Journals.{JournalEntry}
 use Rattle.cache_tier.specs.Reading.{Answers, FollowsAt, Reads, ReadsFirst, StageFollowsAt}
 use Rattle.cache_tier.specs.Rotations.{Rotates, is_long}
@@ -106,14 +106,14 @@ reads_first_leads tried next le p w w' stop q =
 -- the journal and rounds: the groups stay
 
 pub flushes_leads : (entries : List JournalEntry) → StageLeads (Flushes entries)
-flushes_leads entries w w' stop f = of_tier w w' w.tier f.tier (kept w.tier)
+flushes_leads entries w w' stop f = only_where_leads w.journal.kept (FlushesKept entries) (λ x x' end q. of_tier x x' x.tier q.tier (kept x.tier)) w w' stop f
 
 pub flushes_some_leads : (entries : List JournalEntry) → StageLeads (FlushesSome entries)
 flushes_some_leads entries = only_where_leads (has_entries entries) (FlushesFitting entries) (λ w w' stop q. either_leads (journal_full w entries) (λ r. same w w' r.0) (λ f. flushes_leads entries w w' stop f) q)
 
 pub records_leads : (durable : Bool) (e : JournalEntry) → StageLeads (Records durable e)
 records_leads true e w w' stop q = flushes_leads (e ∷ []) w w' stop q
-records_leads false e w w' stop q = of_tier w w' w.tier (ap (λ (x : World). x.tier) q.0) (kept w.tier)
+records_leads false e w w' stop q = only_where_leads w.journal.kept (NotesKept e) (λ x x' end n. of_tier x x' x.tier (ap (λ (y : World). y.tier) n.0) (kept x.tier)) w w' stop q
 
 -- stages that keep the groups
 abbrev pub StageStays : Stage → Type 0
@@ -124,7 +124,7 @@ only_where_stays true stage s w w' stop q = s w w' stop q
 only_where_stays false stage s w w' stop q = ap (λ (x : World). x.tier.groups) q.0
 
 flushes_stays : (entries : List JournalEntry) → StageStays (Flushes entries)
-flushes_stays entries w w' stop f = ap (λ (t : Tier). t.groups) f.tier
+flushes_stays entries w w' stop f = only_where_stays w.journal.kept (FlushesKept entries) (λ x x' end q. ap (λ (t : Tier). t.groups) q.tier) w w' stop f
 
 pub flushes_some_stays : (entries : List JournalEntry) → StageStays (FlushesSome entries)
 flushes_some_stays entries = only_where_stays (has_entries entries) (FlushesFitting entries) (λ w w' stop q. either_leads (journal_full w entries) (λ r. ap (λ (x : World). x.tier.groups) r.0) (λ f. flushes_stays entries w w' stop f) q)

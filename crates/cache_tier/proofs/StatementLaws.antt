@@ -51,7 +51,7 @@ use Rattle.cache_tier.specs.DoubtSteps.{AsksRecorded, SettlesDoubt, TellsRecorde
 use Rattle.cache_tier.specs.DropSteps.{DropsAt, DropsGroup, DropsRest, drop_answer}
 use Rattle.cache_tier.specs.DueWork.{DueAging, DueDoubt, DueRound, DueSets, DueSetsOf, DueWork, Item, ItemFollows, ThenItem, due_sets, is_round_due}
 use Rattle.cache_tier.specs.DynamicLoads.{Brings, BringsAt, BringsInto, BringsReadOnly, BringsWritethrough, LoadsWanted, joined_tier, state_entries}
-use Rattle.cache_tier.specs.GoesOn.{IsLonger, LeadsTo, RunLeads, StepLeads}
+use Rattle.cache_tier.specs.GoesOn.{IsLonger, LeadsTo, RunKeepsJournal, RunLeads, StepKeepsJournal, StepLeads}
 use Rattle.cache_tier.specs.Groups.{Group, is_explicit, is_read_only, is_writethrough}
 use Rattle.cache_tier.specs.InsertSteps.{Finds, Inserts, insert_answer, insert_fault}
 use Rattle.cache_tier.specs.JournalSteps.{Flushes}
@@ -73,6 +73,7 @@ use Rattle.cache_tier.specs.Wants.{Want, loaded_want}
 use Rattle.cache_tier.specs.WriteSteps.{WritesBy, WritesEffects, WritesOps, WritesPlaced, WritesShown}
 use Rattle.cache_tier.specs.Undone.{is_undone}
 use Rattle.cache_tier.specs.Worlds.{Answer, Becomes, Part, ThenStage, World, unless}
+use Rattle.cache_tier.proofs.WayLaws.{kept_on_way}
 use Rattle.cache_tier.proofs.LeadLaws.{PartLeads, StageLeads, answers_leads, bank_leads, becomes_leads, either_leads, flushes_leads, flushes_some_leads, next_of, on, only_where_leads, passes_leads, quiet, reads_first_leads, reads_leads, records_leads, refuses_leads, round_if_unsettled_leads, round_leads, same, same_number, then_leads, then_stage_leads, tiered, tries_leads, unless_leads}
 
 -- what calls of the bank add
@@ -494,3 +495,12 @@ run_leads w w' [] [] e = same w w' e
 run_leads w w' (line ∷ lines) (reply ∷ replies) q = on w q.0 w' (step_leads line.base w q.0 line.said reply q.1) (run_leads q.0 w' lines replies q.2)
 run_leads w w' [] (reply ∷ replies) q = absurd q
 run_leads w w' (line ∷ lines) [] q = absurd q
+
+keeps_journal : (w w' : World) → LeadsTo w w' → w'.journal.kept ≡ w.journal.kept
+keeps_journal w w' l = kept_on_way w.journal w'.journal (l.journal).renewals (l.journal).leads
+
+pub step_keeps_journal : StepKeepsJournal
+step_keeps_journal base w w' said reply q = keeps_journal w w' (step_leads base w w' said reply q)
+
+pub run_keeps_journal : RunKeepsJournal
+run_keeps_journal w w' lines replies q = keeps_journal w w' (run_leads w w' lines replies q)

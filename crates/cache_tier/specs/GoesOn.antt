@@ -1,5 +1,5 @@
--- What each line of the tier keeps: the history only grows, the journal goes on or is begun anew, and counts, moments
--- and the next ticket never fall.
+-- What each line of the tier keeps: the history only grows, the journal goes on or is begun anew, or is none still, and
+-- counts, moments and the next ticket never fall.
 
 use Rattle.std.specs.Prelude.{◌≡◌, ℕ, ◌≤◌, List, ◌++◌, Option}
 use Rattle.table_state.specs.declared.history.Entry.{Entry}
@@ -27,3 +27,14 @@ StepLeads = (base : ℕ) (w w' : World) (said : Saying) (reply : Option Reply) �
 
 abbrev pub RunLeads : Type 0
 RunLeads = (w w' : World) (lines : List Asked) (replies : List (Option Reply)) → Run w lines replies w' → LeadsTo w w'
+
+-- whether a journal is kept stays
+abbrev pub StepKeepsJournal : Type 0
+StepKeepsJournal =
+    (base : ℕ) (w w' : World) (said : Saying) (reply : Option Reply) → Step base w said w' reply
+    → w'.journal.kept ≡ w.journal.kept
+
+abbrev pub RunKeepsJournal : Type 0
+RunKeepsJournal =
+    (w w' : World) (lines : List Asked) (replies : List (Option Reply)) → Run w lines replies w'
+    → w'.journal.kept ≡ w.journal.kept

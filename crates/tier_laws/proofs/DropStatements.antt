@@ -1,5 +1,5 @@
 -- What DROP makes of what is shown.
-use Rattle.std.proofs.Common.{◌≡◌, ℕ, zero, suc, Bool, true, false, cond, not, ◌&&◌, Some, List, [], ◌∷◌, ◌++◌, slice_get, refl, ap, ◌∙◌, arith}
+use Rattle.std.proofs.Common.{◌≡◌, ℕ, zero, suc, Bool, true, false, cond, not, ◌&&◌, Some, List, [], ◌∷◌, ◌++◌, find, slice_get, refl, ap, ◌∙◌, arith}
 use Rattle.std.specs.List.{filter, list_all, list_any}
 use Rattle.table_state.specs.declared.operation.Op.{Op}
 use Rattle.table_state.specs.Operations.{table_of}
@@ -9,13 +9,17 @@ use Rattle.order_laws.proofs.TruthLaws.{not_both}
 use Rattle.cache_tier.specs.Commits.{tables_of}
 use Rattle.cache_tier.specs.DropSteps.{drop_answer}
 use Rattle.cache_tier.specs.Groups.{Group, covers, is_called}
+use Rattle.cache_tier.specs.Locks.{locked_by, writes_on}
+use Rattle.cache_tier.specs.TierStates.{Session, others}
 use Rattle.cache_tier.specs.Worlds.{World}
 use Rattle.tier_laws.specs.Events.{with_tier}
 use Rattle.tier_laws.specs.Dropping.{ShowsWithout}
 use Rattle.tier_laws.specs.Standing.{Stands, own_writes}
-use Rattle.tier_laws.specs.Statements.{IsDroppable, writes_on}
+use Rattle.tier_laws.specs.Statements.{IsDroppable}
 use Rattle.tier_laws.proofs.DropLaws.{group_drops}
 use Rattle.tier_laws.proofs.GroupTables.{in_tree}
+use Rattle.tier_laws.proofs.SessionLists.{none_passes}
+use Rattle.tier_laws.proofs.UnloadStatements.{map_nothing}
 
 -- operations on no table of the group
 ops_off : (g : Group) (ops : List Op) → writes_on g ops ≡ false → are_off (tables_of g.def.tree) ops ≡ true
@@ -24,11 +28,11 @@ ops_off g (op ∷ ops) e =
     let (first, rest) = or_none (covers (table_of op) g) (writes_on g ops) e in
     (λ i. not ((in_tree g.def.tree (table_of op) ∙ first) i) && ops_off g ops rest i)
 
-owns_off : (g : Group) (owns : List (List Op)) → list_any (writes_on g) owns ≡ false → list_all (are_off (tables_of g.def.tree)) owns ≡ true
+owns_off : (g : Group) (sessions : List Session) → list_any (λ (s : Session). writes_on g s.own) sessions ≡ false → list_all (are_off (tables_of g.def.tree)) (own_writes sessions) ≡ true
 owns_off g [] e = refl
-owns_off g (own ∷ owns) e =
-    let (first, rest) = or_none (writes_on g own) (list_any (writes_on g) owns) e in
-    (λ i. ops_off g own first i && owns_off g owns rest i)
+owns_off g (s ∷ sessions) e =
+    let (first, rest) = or_none (writes_on g s.own) (list_any (λ (r : Session). writes_on g r.own) sessions) e in
+    (λ i. ops_off g s.own first i && owns_off g sessions rest i)
 
 -- the group of a name, and those before and behind it
 pub record Split (stays : Group → Bool) (groups : List Group) (g : Group) : Type 0 where
@@ -61,9 +65,16 @@ split_of p (y ∷ groups) (suc n) g at called alone =
       rest = ap (λ b. cond (not b) (y ∷ filter (λ h. not (p h)) groups) (filter (λ h. not (p h)) groups)) first ∙ ap (λ l. y ∷ l) s.rest;
     }
 
-module _ (w : World) (name : List ℕ) (place : ℕ) (g : Group) (st : Stands w) (may : IsDroppable w name place g) where
+module _ (w : World) (s : Session) (name : List ℕ) (place : ℕ) (g : Group) (st : Stands w) (may : IsDroppable w s name place g) where
   abbrev split : Split (λ h. not (is_called name h)) w.tier.groups g
   split = split_of (is_called name) w.tier.groups place g may.there may.called may.alone
+
+  abbrev writes : Session → Bool
+  writes r = writes_on g r.own
+
+  -- no session has written on its tables
+  unwritten : list_any writes w.tier.sessions ≡ false
+  unwritten = none_passes w.tier.sessions s writes st.sessions.labels may.session (ap (writes_on g) may.rests) (map_nothing locked_by (find writes (others s.label w.tier)) may.unlocked)
 
   pub drop_shows : ShowsWithout g w (with_tier (drop_answer name w).0 w)
   drop_shows = group_drops w name g st (record {
@@ -71,6 +82,6 @@ module _ (w : World) (name : List ℕ) (place : ℕ) (g : Group) (st : Stands w)
     behind = split.behind;
     is = split.is;
     rest = split.rest;
-    settled = λ t. (may.rests t).settled;
-    unwritten = λ t. owns_off g (own_writes w.tier.sessions) (may.rests t).unwritten;
+    settled = may.settled;
+    unwritten = λ t. owns_off g w.tier.sessions unwritten;
   })

@@ -1,13 +1,16 @@
 -- Lists of sessions, and of their writes.
-use Rattle.std.proofs.Common.{◌≡◌, ℕ, Bool, true, false, cond, not, ◌&&◌, ◌||◌, Some, List, [], ◌∷◌, ◌++◌, map, refl, sym, ap, ◌∙◌}
+use Rattle.std.proofs.Common.{◌≡◌, ℕ, Bool, true, false, cond, not, ◌&&◌, ◌||◌, Option, Some, None, is_some, List, [], ◌∷◌, ◌++◌, map, refl, sym, ap, ◌∙◌}
 use Rattle.std.specs.List.{filter, find, list_all, list_any}
 use Rattle.std.proofs.lemmas.Cmp.{nat_list_eq_equiv}
+use Rattle.std.proofs.lemmas.List.Folds.{list_any-append}
 use Rattle.table_state.specs.declared.operation.Op.{Op}
 use Rattle.table_state.specs.Tables.{TableState}
+use Rattle.order_laws.proofs.StepLaws.{or_none}
 use Rattle.order_laws.proofs.TruthLaws.{both_true}
 use Rattle.commit_flow.specs.OpenWrites.{AllApply, Applies}
 use Rattle.cache_tier.specs.TierStates.{Session, is_labelled}
 use Rattle.tier_laws.specs.Standing.{HaveOwnLabels, own_writes}
+use Rattle.tier_laws.proofs.GroupTables.{any_found}
 
 -- one session among all
 
@@ -167,3 +170,12 @@ all_without p [] own behind all = (both_true (p own) (list_all p behind) all).1
 all_without p (b ∷ before) own behind all =
     let (first, rest) = both_true (p b) (list_all p (before ++ own ∷ behind)) all in
     (λ i. first i && all_without p before own behind rest i)
+
+-- where the first test finds none of the other sessions, and this one doesn't pass, none of all passes
+pub none_passes : (sessions : List Session) (s : Session) (p : Session → Bool) → HaveOwnLabels sessions → find (is_labelled s.label) sessions ≡ Some s → p s ≡ false → find p (filter (λ r. not (is_labelled s.label r)) sessions) ≡ None → list_any p sessions ≡ false
+none_passes sessions s p own there off free =
+    let a = among_sessions sessions s own there in
+    let none : list_any p (filter (λ r. not (is_labelled s.label r)) sessions) ≡ false = sym (any_found p (filter (λ r. not (is_labelled s.label r)) sessions)) ∙ ap (λ (o : Option Session). is_some o) free in
+    let apart : (list_any p a.before || list_any p a.behind) ≡ false = sym (list_any-append p a.before a.behind) ∙ ap (list_any p) (sym (other_sessions sessions s a)) ∙ none in
+    let (before, behind) = or_none (list_any p a.before) (list_any p a.behind) apart in
+    ap (list_any p) a.is ∙ list_any-append p a.before (s ∷ a.behind) ∙ (λ i. before i || (off i || behind i))

@@ -1,9 +1,8 @@
 -- What UNLOAD makes of what is shown.
-use Rattle.std.proofs.Common.{◌≡◌, Bool, false, cond, not, ◌&&◌, ◌||◌, Option, Some, None, is_some, List, [], ◌∷◌, find, refl, sym, ap, subst, ◌∙◌}
+use Rattle.std.proofs.Common.{◌≡◌, Bool, false, cond, not, ◌&&◌, ◌||◌, Option, Some, None, List, [], ◌∷◌, find, refl, sym, ap, subst, ◌∙◌}
 use Rattle.std.specs.List.{list_any}
 use Rattle.std.specs.Option.{option_and_then, option_map, option_or}
 use Rattle.std.specs.FinMap.{contains_key, keys}
-use Rattle.std.proofs.lemmas.List.Folds.{list_any-append}
 use Rattle.indexed_rows.specs.Rows.{Table}
 use Rattle.table_state.specs.declared.footprint.RowKey.{RowKey}
 use Rattle.table_state.specs.Footprints.{footprint_of, is_in}
@@ -25,18 +24,18 @@ use Rattle.tier_laws.specs.Events.{with_tier}
 use Rattle.tier_laws.specs.Loading.{IsUntouchedBy, ShowsKeys}
 use Rattle.tier_laws.specs.Standing.{Each, Stands}
 use Rattle.tier_laws.specs.Statements.{IsUnloadable}
-use Rattle.tier_laws.proofs.GroupTables.{any_found, read_only_not}
+use Rattle.tier_laws.proofs.GroupTables.{read_only_not}
 use Rattle.tier_laws.proofs.KeyListLaws.{key_in_map}
 use Rattle.tier_laws.proofs.LoadLaws.{group_unloads}
 use Rattle.tier_laws.proofs.LockLaws.{untouched}
 use Rattle.tier_laws.proofs.PartLaws.{Row}
-use Rattle.tier_laws.proofs.SessionLists.{among_sessions, other_sessions}
+use Rattle.tier_laws.proofs.SessionLists.{none_passes}
 
 or_nothing : {X : Type 0} (a b : Option X) → option_or a b ≡ None → b ≡ None
 or_nothing None b e = e
 or_nothing (Some x) b e = Prim.cc
 
-map_nothing : {X Y : Type 0} (f : X → Y) (o : Option X) → option_map f o ≡ None → o ≡ None
+pub map_nothing : {X Y : Type 0} (f : X → Y) (o : Option X) → option_map f o ≡ None → o ≡ None
 map_nothing f None e = refl
 map_nothing f (Some x) e = Prim.cc
 
@@ -54,11 +53,7 @@ none_written w g test s rests =
 pub all_unwritten : (w : World) (st : Stands w) (g : Group) (test : Row → Bool) (s : Session) → find (Rattle.cache_tier.specs.TierStates.is_labelled s.label) w.tier.sessions ≡ Some s → s.own ≡ [] → instance_lock s.label w.history w.tier g test ≡ None → list_any (has_writes_in w.history w.tier g test) w.tier.sessions ≡ false
 all_unwritten w st g test s there rests free =
     let p = has_writes_in w.history w.tier g test in
-    let a = among_sessions w.tier.sessions s st.sessions.labels there in
-    let none : list_any p (others s.label w.tier) ≡ false = sym (any_found p (others s.label w.tier)) ∙ ap (λ (o : Option Session). is_some o) (map_nothing locked_by (find p (others s.label w.tier)) free) in
-    let apart : (list_any p a.before || list_any p a.behind) ≡ false = sym (list_any-append p a.before a.behind) ∙ ap (list_any p) (sym (other_sessions w.tier.sessions s a)) ∙ none in
-    let (before, behind) = or_none (list_any p a.before) (list_any p a.behind) apart in
-    ap (list_any p) a.is ∙ list_any-append p a.before (s ∷ a.behind) ∙ (λ i. before i || (none_written w g test s rests i || behind i))
+    none_passes w.tier.sessions s p st.sessions.labels there (none_written w g test s rests) (map_nothing locked_by (find p (others s.label w.tier)) free)
 
 module _ (w : World) (s : Session) (x : Target) (all : Bool) (st : Stands w) (may : IsUnloadable w s x) where
   abbrev v : TableState

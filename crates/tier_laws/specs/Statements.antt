@@ -2,16 +2,13 @@
 -- CACHE GROUP", "REFRESH CACHE GROUP", "UNLOAD CACHE GROUP", "DROP CACHE GROUP"; TimesTen Cache User's Guide, "Dynamic
 -- cache groups"; that a round comes first, and who holds what, is this project's rule.)
 
-use Rattle.std.specs.Prelude.{◌≡◌, ℕ, List, [], Bool, true, false, Some, None, length, slice_get}
-use Rattle.std.specs.List.{list_any}
-use Rattle.table_state.specs.declared.operation.Op.{Op}
-use Rattle.table_state.specs.Operations.{table_of}
-use Rattle.cache_tier.specs.Groups.{Group, covers, is_called, is_writethrough}
+use Rattle.std.specs.Prelude.{◌≡◌, ℕ, List, [], true, Some, None, length, slice_get}
+use Rattle.cache_tier.specs.DropSteps.{drop_fault}
+use Rattle.cache_tier.specs.Groups.{Group, is_called, is_writethrough}
 use Rattle.cache_tier.specs.Targets.{Target}
 use Rattle.cache_tier.specs.TierStates.{Session, session_of}
 use Rattle.cache_tier.specs.UnloadSteps.{unload_fault}
 use Rattle.cache_tier.specs.Worlds.{World}
-use Rattle.tier_laws.specs.Standing.{own_writes}
 
 -- the group at the place is this one, and a writethrough one
 pub record IsWrittenAt (groups : List Group) (place : ℕ) (g : Group) : Type 0 where
@@ -32,20 +29,14 @@ pub record IsUnloadable (w : World) (s : Session) (x : Target) : Type 0 where
   pub rests : s.own ≡ []
   pub unlocked : unload_fault s x w ≡ None
 
--- an operation of these is on a table of the group
-abbrev pub writes_on : Group → List Op → Bool
-writes_on g ops = list_any (λ op. covers (table_of op) g) ops
-
--- nothing is unsettled, and no session has written on a table of the group
-pub record IsAtRest (w : World) (g : Group) : Type 0 where
-  pub settled : w.tier.unsettled ≡ []
-  pub unwritten : list_any (writes_on g) (own_writes w.tier.sessions) ≡ false
-
--- The group at a place may be dropped by its name: no other one has this name, and it is at rest where it is a
--- writethrough one.
-pub record IsDroppable (w : World) (name : List ℕ) (place : ℕ) (g : Group) : Type 0 where
+-- A session may drop the group at a place by its name: no other one has this name, nothing is unsettled where it is a
+-- writethrough one, the session has no uncommitted writes, and DROP has no fault.
+pub record IsDroppable (w : World) (s : Session) (name : List ℕ) (place : ℕ) (g : Group) : Type 0 where
   pub there : slice_get w.tier.groups place ≡ Some g
   pub called : is_called name g ≡ true
   pub alone : (other : ℕ) (h : Group) → slice_get w.tier.groups other ≡ Some h → is_called name h ≡ true
       → other ≡ place
-  pub rests : is_writethrough g ≡ true → IsAtRest w g
+  pub settled : is_writethrough g ≡ true → w.tier.unsettled ≡ []
+  pub session : session_of w.tier s.label ≡ Some s
+  pub rests : s.own ≡ []
+  pub unlocked : drop_fault s g w ≡ None

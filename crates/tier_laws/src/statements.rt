@@ -38,8 +38,8 @@ pub fn unload_statement_law()
         (with_tier (unload_answer x all w).0 w) }
 {}
 
-/// A group goes by DROP. Its tables show nothing then.
+/// A group goes by DROP, where no other session has uncommitted writes on its tables. They show nothing then.
 pub fn drop_statement_law()
-    ensures { (w : World) (name : List ℕ) (place : ℕ) (g : Group) → Stands w → IsDroppable w name place g
-        → ShowsWithout g w (with_tier (drop_answer name w).0 w) }
+    ensures { (w : World) (s : Session) (name : List ℕ) (place : ℕ) (g : Group) → Stands w
+        → IsDroppable w s name place g → ShowsWithout g w (with_tier (drop_answer name w).0 w) }
 {}
