@@ -96,8 +96,8 @@ pub record OpenedAndEnded (status : Status) (settings : TierSettings) (there : H
   pub ended : IsLeftAlone (begins settings start opened) input
       → Ended status (begins settings start opened) input source behind
 
--- Where source, sink and site tell what they hold, and no tickets stand in the site's history, they tell it afterwards too,
--- and this is what the run did. Its moments are counted from what the clock answers.
+-- Where source, sink and site tell what they hold, and no tickets stand in the site's history, they tell it afterwards
+-- too, and this is what the run did. Its moments are counted from what the clock answers.
 abbrev pub Runs : TierSettings → Status → Option (List ℕ) → Outside → Option (List ℕ) → Outside → Type 0
 Runs settings status source before source' behind =
     (input start : List ℕ) (there : Held) → source ≡ Some input → before.written ≡ Some start
@@ -106,7 +106,9 @@ Runs settings status source before source' behind =
 
 -- Why a run doesn't begin: `clap` refuses the words, or it takes them and the settings are bad, or memory was wanting.
 abbrev pub Unstarted : List (List ℕ) → List ℕ → ℕ → Type 0
-Unstarted words settings status = ((status ≡ 1) × Refuses words) ⊎ (((status ≡ 2) × ((command : Command) × Asks words command) × AreBad settings) ⊎ (status ≡ 7))
+Unstarted words settings status =
+    ((status ≡ 1) × Refuses words) ⊎ (((status ≡ 2) × ((command : Command) × Asks words command)
+    × AreBad settings) ⊎ (status ≡ 7))
 
 -- the statuses with which a run ends
 abbrev pub number_of : Status → ℕ

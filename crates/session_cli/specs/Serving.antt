@@ -18,8 +18,8 @@ use Rattle.session_cli.specs.Output.{Splits, Passes}
 use Rattle.session_cli.specs.Outside.{Outside}
 use Rattle.session_cli.specs.Timing.{AreLeft, AreTimed, Coming, TakesBase}
 
--- Where a run begins: a world, the slots of its site, what the sink holds, and what moments are counted from: the first of
--- these is the opening's, and the others are the lines'.
+-- Where a run begins: a world, the slots of its site, what the sink holds, and what moments are counted from. The first
+-- of these is the opening's, and the others are the lines'.
 pub record Origin : Type 0 where
   pub world : World
   pub slots : Slots

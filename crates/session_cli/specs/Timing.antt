@@ -13,7 +13,8 @@ use Rattle.cache_engine.specs.Requests.{Given, is_long}
 abbrev pub Coming : Type 0
 Coming = ℕ → Option ℕ
 
--- what moments are counted from by the settings: the first moment of a script, again and again, or what the clock answers
+-- what moments are counted from by the settings: the first moment of a script, again and again, or what the clock
+-- answers
 abbrev pub bases_of : ClockSource → ℕ → Coming → Coming
 bases_of Script start clock n = Some start
 bases_of System start clock n = clock n
@@ -33,7 +34,8 @@ AreLeft coming given left = (n : ℕ) → left n ≡ coming (given + n)
 abbrev pub has_base : List ℕ → Bool
 has_base bytes = is_long bytes || not (is_silent bytes)
 
--- The bases of lines are the answers from this one on, each line's own in their order, and so many answers are given then.
+-- The bases of lines are the answers from this one on, each line's own in their order, and so many answers are given
+-- then.
 abbrev pub AreTimed : Coming → ℕ → List Given → ℕ → Type 0
 AreTimed coming given [] after = after ≡ given
 AreTimed coming given (g ∷ lines) after =

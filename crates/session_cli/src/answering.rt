@@ -30,8 +30,8 @@ pub fn respond<K: Sink, P: Site, C: Clock>(
     line: &[u8],
 ) -> Result<(), Failed>
     requires { IsSound tier.old }
-    ensures serves { (w : World)
-        → IsAt (seen_at (P.Disk.held site.old) (P.bank_faults site.old) (P.Disk.moment site.old) (P.Disk.shared site.old)) w
+    ensures serves { (w : World) → IsAt
+        (seen_at (P.Disk.held site.old) (P.bank_faults site.old) (P.Disk.moment site.old) (P.Disk.shared site.old)) w
         → StandsFor tier.old w → IsUnshared w → Responds result
         (seen (K.written sink.old) (C.coming clock.old) (P.Disk.held site.old)
         (P.bank_faults site.old) (P.Disk.moment site.old) (P.Disk.shared site.old))

@@ -66,7 +66,8 @@ fn broken(alloc: Global, code: Code, detail: Detail) -> Reply
 /// The replies of `check` are a function of the lines.
 pub fn check_law()
     ensures line { (line : List ℕ) (r s : Option TierReply) → Checks line r → Checks line s → r ≡ s }
-    ensures lines { (lines : List (List ℕ)) (rs ss : List (Option TierReply)) → AreChecked lines rs → AreChecked lines ss → rs ≡ ss }
+    ensures lines { (lines : List (List ℕ)) (rs ss : List (Option TierReply)) → AreChecked lines rs
+        → AreChecked lines ss → rs ≡ ss }
 {
     one_meaning();
 }
@@ -132,7 +133,8 @@ impl Checker {
         sink: &mut K,
         bytes: &[u8],
     ) -> Result<(), CheckFault>
-        ensures checks { (start given : List ℕ) → Checking start given (K.written sink.old) self.old → CheckFeeds result start given bytes.now (K.written sink.new) self.new }
+        ensures checks { (start given : List ℕ) → Checking start given (K.written sink.old) self.old
+            → CheckFeeds result start given bytes.now (K.written sink.new) self.new }
         ensures empty { OnOk result (self.new.output ≡ []) }
         ensures cause { CheckHasCause (K.faults sink.old) (K.faults sink.new) result }
     {
@@ -148,7 +150,8 @@ impl Checker {
     /// After an error all lines or all but the last are checked, and a front of the replies is written. `Sink` only
     /// where the sink failed or took nothing of something.
     pub fn finish<K: Sink>(&mut self, alloc: Global, sink: &mut K) -> Result<(), CheckFault>
-        ensures checks { (start given : List ℕ) → Checking start given (K.written sink.old) self.old → CheckFinishes result start given (K.written sink.new) }
+        ensures checks { (start given : List ℕ) → Checking start given (K.written sink.old) self.old
+            → CheckFinishes result start given (K.written sink.new) }
         ensures cause { CheckHasCause (K.faults sink.old) (K.faults sink.new) result }
     {
         self.end_input(alloc, sink)?;
@@ -160,7 +163,8 @@ impl Checker {
 
     // The same, but the replies may wait.
     fn end_input<K: Sink>(&mut self, alloc: Global, sink: &mut K) -> Result<(), CheckFault>
-        ensures checks { (start given : List ℕ) → Checking start given (K.written sink.old) self.old → CheckCloses result start given (K.written sink.new) self.new.output }
+        ensures checks { (start given : List ℕ) → Checking start given (K.written sink.old) self.old
+            → CheckCloses result start given (K.written sink.new) self.new.output }
         ensures cause { CheckHasCause (K.faults sink.old) (K.faults sink.new) result }
     {
         if self.line.is_empty() {
@@ -176,7 +180,8 @@ impl Checker {
         sink: &mut K,
         bytes: &[u8],
     ) -> Result<(), CheckFault>
-        ensures checks { (start given : List ℕ) → Checking start given (K.written sink.old) self.old → CheckFeeds result start given bytes.now (K.written sink.new) self.new }
+        ensures checks { (start given : List ℕ) → Checking start given (K.written sink.old) self.old
+            → CheckFeeds result start given bytes.now (K.written sink.new) self.new }
         ensures cause { CheckHasCause (K.faults sink.old) (K.faults sink.new) result }
     {
         for byte in bytes {
@@ -191,7 +196,8 @@ impl Checker {
         sink: &mut K,
         byte: u8,
     ) -> Result<(), CheckFault>
-        ensures checks { (start given : List ℕ) → Checking start given (K.written sink.old) self.old → CheckFeeds result start given (byte ∷ []) (K.written sink.new) self.new }
+        ensures checks { (start given : List ℕ) → Checking start given (K.written sink.old) self.old
+            → CheckFeeds result start given (byte ∷ []) (K.written sink.new) self.new }
         ensures cause { CheckHasCause (K.faults sink.old) (K.faults sink.new) result }
     {
         if byte == b'\n' {
@@ -203,7 +209,8 @@ impl Checker {
 
     // A line feed came.
     fn end_line<K: Sink>(&mut self, alloc: Global, sink: &mut K) -> Result<(), CheckFault>
-        ensures checks { (start given : List ℕ) → Checking start given (K.written sink.old) self.old → CheckFeeds result start given (10 ∷ []) (K.written sink.new) self.new }
+        ensures checks { (start given : List ℕ) → Checking start given (K.written sink.old) self.old
+            → CheckFeeds result start given (10 ∷ []) (K.written sink.new) self.new }
         ensures cause { CheckHasCause (K.faults sink.old) (K.faults sink.new) result }
     {
         tell(alloc, &mut self.output, sink, self.line.text())?;

@@ -49,13 +49,13 @@ const NO_MEMORY: u8 = 7;
 /// - 4: the sink failed in this call, or took nothing of something. A front of the replies is written.
 /// - 6: in `run`, the site failed in this call as the tier asked it for its schema at the opening. No line is answered,
 ///   and neither source nor sink is touched.
-/// - 7: want of memory before the first request, the words', the settings' and the opening's included; no line is answered
-///   then. In `check` also want of memory for a line. A front of the replies is then written.
+/// - 7: want of memory before the first request, the words', the settings' and the opening's included; no line is
+///   answered then. In `check` also want of memory for a line. A front of the replies is then written.
 /// - 10: exactly where 2^32 bytes were taken from the source without an end, and the sink took all replies. All lines
 ///   that ended in them are answered.
 ///
-/// `run` opens a tier over the site and lets it answer each line, and `check` says of each line whether it is spelt right.
-/// `check` calls neither site nor clock.
+/// `run` opens a tier over the site and lets it answer each line, and `check` says of each line whether it is spelt
+/// right. `check` calls neither site nor clock.
 ///
 /// Of the settings three act in `run`. The moments of the opening and of each line that isn't empty or a comment are
 /// counted from `start_ms` where `clock` is `"script"`, and the clock isn't asked; where it is `"system"`, each from an

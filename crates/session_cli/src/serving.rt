@@ -56,12 +56,12 @@ impl Status {
     }
 }
 
-/// Opens a tier over the site, lets it answer each request line of the source, and writes the replies into the sink. The
-/// moments of the opening and of the lines are counted from what the clock answers. After so many milliseconds as
-/// `propagate_ms` says a round is due; 0 where none ever is.
+/// Opens a tier over the site, lets it answer each request line of the source, and writes the replies into the sink.
+/// The moments of the opening and of the lines are counted from what the clock answers. After `propagate_ms`
+/// milliseconds a round is due; 0 where none ever is.
 ///
-/// One pass over the input, in pieces. All memory of its own is taken before the tier is opened, which asks the site for
-/// its schema. Replies are written before more of the input is asked for.
+/// One pass over the input, in pieces. All memory of its own is taken before the tier is opened, which asks the site
+/// for its schema. Replies are written before more of the input is asked for.
 pub fn serve<S: Source, K: Sink, P: Site, C: Clock>(
     alloc: Global,
     propagate_ms: u64,
@@ -70,7 +70,8 @@ pub fn serve<S: Source, K: Sink, P: Site, C: Clock>(
     site: &mut P,
     clock: &mut C,
 ) -> Status
-    ensures runs { (settings : TierSettings) → settings.propagate_ms ≡ propagate_ms → Runs settings result (S.left source.old)
+    ensures runs { (settings : TierSettings) → settings.propagate_ms ≡ propagate_ms
+        → Runs settings result (S.left source.old)
         (seen (K.written sink.old) (C.coming clock.old) (P.Disk.held site.old)
         (P.bank_faults site.old) (P.Disk.moment site.old) (P.Disk.shared site.old)) (S.left source.new)
         (seen (K.written sink.new) (C.coming clock.new) (P.Disk.held site.new)

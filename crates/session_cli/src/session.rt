@@ -37,8 +37,8 @@ impl Session {
     ghost use Rattle.session_cli.specs.Outside.{seen};
     ghost use Rattle.session_cli.specs.Serving.{Closes, Feeds, Finishes, IsLeftAlone, Origin, Serving};
 
-    /// A session over a tier that is opened over the site. All memory of its buffers is taken before. Transactions of others
-    /// may come as the site is asked for its schema. The tier's first moment is the clock's answer.
+    /// A session over a tier that is opened over the site. All memory of its buffers is taken before. Transactions of
+    /// others may come as the site is asked for its schema. The tier's first moment is the clock's answer.
     ///
     /// `Failed` only where the site failed as it was asked for its schema.
     pub fn open<P: Site, C: Clock>(
@@ -57,7 +57,8 @@ impl Session {
         ensures cause { BankHasCause (P.bank_faults site.old) (P.bank_faults site.new) result }
         ensures later { BeginsAt
             (seen_at (P.Disk.held site.old) (P.bank_faults site.old) (P.Disk.moment site.old) (P.Disk.shared site.old))
-            (seen_at (P.Disk.held site.new) (P.bank_faults site.new) (P.Disk.moment site.new) (P.Disk.shared site.new)) }
+            (seen_at (P.Disk.held site.new) (P.bank_faults site.new)
+            (P.Disk.moment site.new) (P.Disk.shared site.new)) }
     {
         let Ok(line) = LineBuffer::new(alloc) else {
             return Err(BankError::Memory);

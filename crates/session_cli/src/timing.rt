@@ -10,8 +10,8 @@ use tier_base::Moment;
 /// The greatest number of bytes of a line.
 const LINE_BYTES: usize = 65_536;
 
-/// What the moment of this line is counted from: what the clock answers. A line that is empty or a comment asks no clock,
-/// and has no moment.
+/// What the moment of this line is counted from: what the clock answers. A line that is empty or a comment asks no
+/// clock, and has no moment.
 pub fn line_base<C: Clock>(clock: &mut C, line: &[u8]) -> Moment
     ensures { TakesBase line.now (C.coming clock.old) (C.coming clock.new) result.0 }
 {
