@@ -5,6 +5,9 @@ use Rattle.std.proofs.lemmas.List.{length-append, length-take, length-drop}
 use Rattle.outside.specs.Holding.{Held}
 use Rattle.cache_tier.specs.TierStates.{Settings as TierSettings}
 use Rattle.cache_engine.specs.Beginning.{BeginsAt}
+use Rattle.command_line.specs.declared.settings.ClockSource.{ClockSource}
+use Rattle.command_line.specs.declared.settings.ClockSource.TheVariants.{Script, System}
+use Rattle.command_line.specs.declared.settings.Settings.{Settings}
 use Rattle.session_cli.specs.declared.session.Session.{Session}
 use Rattle.session_cli.specs.declared.serving.Status.{Status}
 use Rattle.session_cli.specs.declared.serving.Status.TheVariants.{Finished, SourceFailed, SinkFailed, SchemaFailed, NoMemory, LineUnchecked, InputTooLong}
@@ -13,6 +16,7 @@ use Rattle.session_cli.specs.Ends.{Ended, Gives, OpenedAndEnded, Outcome, Runs, 
 use Rattle.session_cli.specs.Opening.{HasNoTickets, Opened, Opens, begins}
 use Rattle.session_cli.specs.Outside.{Outside}
 use Rattle.session_cli.specs.Serving.{Origin, Serving, Whole, CutShort, IsLeftAlone}
+use Rattle.session_cli.specs.Timing.{Coming, bases_by, bases_of}
 use Rattle.session_cli.proofs.OpeningLaws.{begins_still, opened_at, serving_new}
 use Rattle.session_cli.proofs.ServingLaws.{left_front, serving_whole}
 
@@ -83,6 +87,55 @@ runs_opened settings propagate_ms session status source source' before mid behin
       ended = λ alone. serves (begins settings start new.opened) input is_source
           (serving_new there before.site before.coming settings session start mid new line output (written ∙ is_sink)) alone;
     }
+
+-- how a run ended doesn't go by what the clock would answer then
+whole_then : (o : Origin) (lines : List (List ℕ)) (now : Outside) (coming : Coming) → Whole o lines now → Whole o lines (record now { coming = coming })
+whole_then o lines now coming w = record { replies = w.replies; answered = w.answered; tells = w.tells }
+
+short_then : (o : Origin) (lines : List (List ℕ)) (now : Outside) (coming : Coming) → CutShort o lines now → CutShort o lines (record now { coming = coming })
+short_then o lines now coming c = record { replies = c.replies; answered = c.answered; count = c.count; tells = c.tells }
+
+untouched_then : (o : Origin) (now : Outside) (coming : Coming) → Untouched o now → Untouched o (record now { coming = coming })
+untouched_then o now coming u = record { unwritten = u.unwritten; held = u.held; tells = u.tells; slots = u.slots; history = u.history }
+
+outcome_then : (status : Status) (o : Origin) (given : List ℕ) (now : Outside) (coming : Coming) → Outcome status o given now → Outcome status o given (record now { coming = coming })
+outcome_then Finished o given now coming x = whole_then o (all_lines given) now coming x
+outcome_then SourceFailed o given now coming x = whole_then o (ended_lines given) now coming x
+outcome_then InputTooLong o given now coming x = whole_then o (ended_lines given) now coming x
+outcome_then SinkFailed o given now coming x = record { front = x.front; behind = x.behind; parts = x.parts; answered = by x.answered }
+  where
+    by : CutShort o (ended_lines x.front) now ⊎ CutShort o (all_lines x.front) now → CutShort o (ended_lines x.front) (record now { coming = coming }) ⊎ CutShort o (all_lines x.front) (record now { coming = coming })
+    by (inl c) = inl (short_then o (ended_lines x.front) now coming c)
+    by (inr c) = inr (short_then o (all_lines x.front) now coming c)
+outcome_then LineUnchecked o given now coming x = absurd x
+outcome_then SchemaFailed o given now coming x = untouched_then o now coming x
+outcome_then NoMemory o given now coming x = untouched_then o now coming x
+
+pub runs_then : (settings : TierSettings) (status : Status) (source source' : Option (List ℕ)) (before behind : Outside) (coming : Coming) → Runs settings status source before source' behind
+    → Runs settings status source before source' (record behind { coming = coming })
+runs_then settings status source source' before behind coming runs = λ input start there is_source is_sink is_site none.
+    let x = runs input start there is_source is_sink is_site none in
+    record {
+      site = x.site;
+      later = x.later;
+      opened = x.opened;
+      ended = λ alone.
+          let e = x.ended alone in
+          record { taken = e.taken; outcome = outcome_then status (begins settings start x.opened) e.taken.given behind coming e.outcome };
+    }
+
+-- the bases of a run are those by its settings
+pub runs_based : (settings : TierSettings) (status : Status) (source source' : Option (List ℕ)) (before behind : Outside) (bases coming : Coming) → before.coming ≡ bases → Runs settings status source before source' behind
+    → Runs settings status source (record before { coming = bases }) source' (record behind { coming = coming })
+runs_based settings status source source' before behind bases coming is runs =
+    subst (λ (b : Coming). Runs settings status source (record before { coming = b }) source' (record behind { coming = coming })) is
+    (runs_then settings status source source' before behind coming runs)
+
+pub bases_script : (s : Settings) (clock : Coming) → s.clock ≡ Script → (λ n. Some s.start_ms) ≡ bases_by s clock
+bases_script s clock is = sym (ap (λ (source : ClockSource). bases_of source s.start_ms clock) is)
+
+pub bases_system : (s : Settings) (clock : Coming) → s.clock ≡ System → clock ≡ bases_by s clock
+bases_system s clock is = sym (ap (λ (source : ClockSource). bases_of source s.start_ms clock) is)
 
 pub kept_told : (a b : Option (List ℕ)) (x : List ℕ) → a ≡ Some x → Keeps a b → b ≡ Some x
 kept_told None b x is k = cc

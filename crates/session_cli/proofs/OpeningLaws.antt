@@ -45,7 +45,7 @@ others_leave shared h (Foreign ops ∷ others) o none =
     (others_leave shared (h ++ Foreign ops ∷ []) others o.2 (with_one (state_of (h ++ Foreign ops ∷ [])) refl (o.1 none.state none.leaves)))
   where
     with_one : (x : Option TableState) → state_of (h ++ Foreign ops ∷ []) ≡ x → IsSome x → HasNoTickets (h ++ Foreign ops ∷ [])
-    with_one None is some = absurd some
+    with_one None is some = cc
     with_one (Some state) is some = record {
       state = state;
       leaves = is;

@@ -28,10 +28,10 @@ timed_push coming n (x ∷ gs) m g k timed one =
     (IsNext (coming n) x.base × AreTimed coming (n + 1) (gs ++ g ∷ []) k) (AreTimed coming n (gs ++ g ∷ []) k)
     (λ t. (t.0, timed_push coming (n + 1) gs m g k t.1 one)) (λ t. timed_push coming n gs m g k t one) timed
 
-pub record TimedOne (bases : Coming) (asked : ℕ) (g : Given) (left : Coming) : Type 0 where
+pub record TimedOne (bases : Coming) (asked : ℕ) (g : Given) (coming : Coming) : Type 0 where
   pub after : ℕ
   pub timed : AreTimed bases asked (g ∷ []) after
-  pub left : AreLeft bases after left
+  pub left : AreLeft bases after coming
 
 -- the base of a line is the next of those that are left
 pub timed_one : (bases now left : Coming) (asked : ℕ) (g : Given) → AreLeft bases asked now → TakesBase g.bytes now left g.base → TimedOne bases asked g left
@@ -53,9 +53,9 @@ bytes_push [] g = refl
 bytes_push (x ∷ gs) g = ap (λ l. x.bytes ∷ l) (bytes_push gs g)
 
 -- it has led to a world, and these answers are left
-pub record CameOn (o : Origin) (lines : List (List ℕ)) (replies : List (Option Reply)) (w : World) (left : Coming) : Type 0 where
+pub record CameOn (o : Origin) (lines : List (List ℕ)) (replies : List (Option Reply)) (w : World) (coming : Coming) : Type 0 where
   pub comes : Comes o lines replies w
-  pub left : AreLeft o.bases comes.asked left
+  pub left : AreLeft o.bases comes.asked coming
 
 pub comes_on : (o : Origin) (lines lines' : List (List ℕ)) (replies : List (Option Reply)) (w : World) (c : Comes o lines replies w) (now left : Coming) (g : Given) (r : Option Reply) (w' : World) → lines ++ g.bytes ∷ [] ≡ lines'
     → AreLeft o.bases c.asked now → TakesBase g.bytes now left g.base → LineStep g.base w g.bytes w' r → CameOn o lines' (replies ++ r ∷ []) w' left

@@ -126,6 +126,7 @@ comes_same o lines lines' replies w is c = record { given = c.given; are = c.are
 pub serving_byte : (o : Origin) (given : List ℕ) (b : ℕ) (now : Outside) (session session' : Session)
     → b ≢ 10 → session'.tier ≡ session.tier → session'.line ≡ front_of (session.line ++ b ∷ []) → session'.output ≡ session.output
     → Serving o given now session → Serving o (given ++ b ∷ []) now session'
+unfolding comes_same
 serving_byte o given b now session session' differs tier line output s = record {
   world = s.world;
   replies = s.replies;

@@ -50,12 +50,12 @@ pub record Opened (there : Held) (before behind : SiteView) (bases : Coming) : T
 -- the world of the tier that was opened so, over the schema of the state that the history leaves
 abbrev pub world_at : {there : Held} {before behind : SiteView} {bases : Coming} → TierSettings
     → Opened there before behind bases → World
-world_at settings x = opened_world settings x.start x.state x.held.history behind
+world_at {behind = behind} settings x = opened_world settings x.start x.state x.held.history behind
 
 -- where its run begins
 abbrev pub begins : {there : Held} {before behind : SiteView} {bases : Coming} → TierSettings → List ℕ
     → Opened there before behind bases → Origin
-begins settings written x = record {
+begins {bases = bases} settings written x = record {
   world = world_at settings x;
   slots = x.held.slots;
   written = written;
@@ -63,11 +63,11 @@ begins settings written x = record {
 }
 
 -- the tier of a session stands for the opened one, and of the bases one is taken
-pub record IsNew (there : Held) (before behind : SiteView) (bases left : Coming) (settings : TierSettings)
+pub record IsNew (there : Held) (before behind : SiteView) (bases coming : Coming) (settings : TierSettings)
     (session : Session) : Type 0 where
   pub opened : Opened there before behind bases
   pub stands : StandsFor session.tier (world_at settings opened)
-  pub left : AreLeft bases 1 left
+  pub left : AreLeft bases 1 coming
 
 -- so it is where the site tells a history without tickets, and the settings have this span between rounds
 abbrev pub Opens : ℕ → SiteView → SiteView → Coming → Coming → Session → Type 0

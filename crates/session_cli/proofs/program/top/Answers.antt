@@ -39,7 +39,7 @@ returns-in-Err-clause-write g c = λ four. absurd (no_other (texts c.args.words.
 pub returns-in-Run-clause-runs : goal.returns-in-Run-clause-runs
 returns-in-Run-clause-runs g c = λ asks s set.
     let same = c.settings_law.ensures.one c.args.settings.now s c.in-Ok.asked.settings set c.in-Ok.ensures.1 in
-    (c.run.result, c.number-in-Run.ensures, rw same c.run.ensures.runs)
+    (c.run.result, c.number.ensures, rw same c.run.ensures.runs)
 
 pub returns-in-Run-clause-unasked : goal.returns-in-Run-clause-unasked
 returns-in-Run-clause-unasked g c = λ s set script.
@@ -47,21 +47,21 @@ returns-in-Run-clause-unasked g c = λ s set script.
     c.run.ensures.unasked (sym (ap (λ (x : Settings). x.clock) same) ∙ script)
 
 pub returns-in-Run-clause-bad : goal.returns-in-Run-clause-bad
-returns-in-Run-clause-bad g c = λ task asks bad. absurd (bad c.in-Ok.ensures.1.0 c.in-Ok.ensures.1.1)
+returns-in-Run-clause-bad g c = λ task asks bad. absurd (bad c.in-Ok.asked.settings c.in-Ok.ensures.1)
 
 pub returns-in-Check-clause-bad : goal.returns-in-Check-clause-bad
-returns-in-Check-clause-bad g c = λ task asks bad. absurd (bad c.in-Ok.ensures.1.0 c.in-Ok.ensures.1.1)
+returns-in-Check-clause-bad g c = λ task asks bad. absurd (bad c.in-Ok.asked.settings c.in-Ok.ensures.1)
 
 pub returns-in-Run-clause-unread : goal.returns-in-Run-clause-unread
 returns-in-Run-clause-unread g c = λ auto. elim auto [
   | inl refuses ↦ absurd (refuses c.in-Ok.ensures.0.0)
-  | inr bad ↦ absurd (bad c.in-Ok.ensures.1.0 c.in-Ok.ensures.1.1)
+  | inr bad ↦ absurd (bad c.in-Ok.asked.settings c.in-Ok.ensures.1)
 ]
 
 pub returns-in-Check-clause-unread : goal.returns-in-Check-clause-unread
 returns-in-Check-clause-unread g c = λ auto. elim auto [
   | inl refuses ↦ absurd (refuses c.in-Ok.ensures.0.0)
-  | inr bad ↦ absurd (bad c.in-Ok.ensures.1.0 c.in-Ok.ensures.1.1)
+  | inr bad ↦ absurd (bad c.in-Ok.asked.settings c.in-Ok.ensures.1)
 ]
 
 pub returns-in-Check-clause-unopened : goal.returns-in-Check-clause-unopened
