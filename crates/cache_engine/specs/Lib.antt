@@ -1,8 +1,11 @@
 pub mod Answering
 pub mod Beginning
 pub mod Committing
+pub mod Defining
 pub mod Draining
 pub mod Due
+pub mod Naming
+pub mod Grouping
 pub mod Performing
 pub mod Refusing
 pub mod Requests
