@@ -45,7 +45,7 @@ use Rattle.cache_engine.specs.declared.query.Selected.{Selected}
 use Rattle.cache_engine.specs.declared.query.Selected.TheVariants.{Answered}
 use Rattle.cache_engine.specs.declared.tier.Tier.{Tier as Stored}
 use Rattle.cache_engine.specs.Selecting.{HasNoDynamic, IsPassedOn, IsSelected, SelectsHere, after_select}
-use Rattle.cache_engine.specs.Stored.{HasSession, IsSound, IsStoredAs, ShowsRows, rows_of, without_list}
+use Rattle.cache_engine.specs.Stored.{HasSession, IsSound, IsStoredAs, IsVerified, ShowsRows, rows_of, without_list}
 
 -- which tables are cached
 
@@ -108,8 +108,8 @@ find_lies rows p (x ∷ xs) base all = by (p x) (find_lies rows p xs base (All-t
     by false rest = rest
 
 -- its operations lie on the stored rows
-pub own_lies : (t : Stored) (id : SessionId) → IsSound t → AreShown (open_ops id (seen_all t.sessions)) (rows_of t)
-own_lies t id sound = find_lies (rows_of t) (has_id id) (seen_all t.sessions) sound.rows sound.own
+pub own_lies : (t : Stored) (id : SessionId) → IsVerified t → AreShown (open_ops id (seen_all t.sessions)) (rows_of t)
+own_lies t id is = find_lies (rows_of t) (has_id id) (seen_all t.sessions) is.rows is.own
 
 -- what it sees is what they leave there
 pub seen_is : OverIsApplied → NumberLaw → (t : Stored) (id : SessionId) (s : Session) (w : World) (state : TableState) → IsSound t → ShowsRows t w → HasSession t id s → applied_all (open_ops id (seen_all t.sessions)) (rows_of t) ≡ Some state → state ≡ seen_by s w.history w.tier
@@ -172,6 +172,7 @@ stored_used t a plan s is = record {
   unsettled = is.unsettled;
   next = is.next;
   doubt = is.doubt;
+  time = is.time;
 }
 
 -- where a query is answered

@@ -25,7 +25,7 @@ use Rattle.cache_tier.specs.SessionSteps.{close_answer, flag_answer, new_session
 use Rattle.cache_tier.specs.TierStates.{Session, Tier, is_labelled}
 use Rattle.cache_engine.specs.declared.tier.Tier.{Tier as Stored}
 use Rattle.cache_engine.specs.Answering.{FindsSession, IsSessionOf, Replies}
-use Rattle.cache_engine.specs.Stored.{HasSession, IsSound, IsStoredAs, rows_of}
+use Rattle.cache_engine.specs.Stored.{HasSession, IsSound, IsStoredAs, IsVerified, rows_of}
 use Rattle.tier_statements.specs.Seen.{session_seen}
 use Rattle.cache_engine.proofs.SeenLaws.{all_changed, any_seen, changed_seen, find_seen, found_label, left_seen}
 
@@ -38,11 +38,21 @@ stored_behind t s a ss is same = record {
   unsettled = is.unsettled;
   next = is.next;
   doubt = is.doubt;
+  time = is.time;
 }
 
-pub sound_behind : (t : Stored) (s : Sessions) → IsSound t → AreSessions t.schema s → All (λ x. AreShown x.ops (rows_of t)) (seen_all s) → IsSound (record t { sessions = s })
-sound_behind t s is sessions own =
-    record { sessions = sessions; stores = is.stores; visible = is.visible; rows = is.rows; own = own }
+pub sound_behind : (t : Stored) (s : Sessions) → IsSound t → AreSessions t.schema s → (IsVerified t → All (λ x. AreShown x.ops (rows_of t)) (seen_all s)) → IsSound (record t { sessions = s })
+sound_behind t s is sessions own = record {
+  sessions = sessions;
+  stores = is.stores;
+  kept = is.kept;
+  whole = is.whole;
+  plain = is.plain;
+  named = is.named;
+  visible = is.visible;
+  numbered = is.numbered;
+  verified = λ noted. record { rows = (is.verified noted).rows; own = own (is.verified noted) };
+}
 
 -- OPEN
 
@@ -135,21 +145,21 @@ session_left law t new a s id sound is has seen =
 abbrev pub OwnLies : Stored → OpenSession → Type 0
 OwnLies t s = AreShown s.ops (rows_of t)
 
-pub own_pushed : (t : Stored) (new : Sessions) (x : OpenSession) → IsSound t → seen_all new ≡ seen_all t.sessions ++ x ∷ [] → x.ops ≡ [] → All (OwnLies t) (seen_all new)
-own_pushed t new x sound seen none =
-    subst (All (OwnLies t)) (sym seen) (All-push (OwnLies t) (seen_all t.sessions) x sound.own (subst (λ ops. AreShown ops (rows_of t)) (sym none) sound.rows))
+pub own_pushed : (t : Stored) (new : Sessions) (x : OpenSession) → IsVerified t → seen_all new ≡ seen_all t.sessions ++ x ∷ [] → x.ops ≡ [] → All (OwnLies t) (seen_all new)
+own_pushed t new x is seen none =
+    subst (All (OwnLies t)) (sym seen) (All-push (OwnLies t) (seen_all t.sessions) x is.own (subst (λ ops. AreShown ops (rows_of t)) (sym none) is.rows))
 
-pub own_rested : (t : Stored) (new : Sessions) (id : SessionId) → IsSound t → seen_all new ≡ on_session id rested (seen_all t.sessions) → All (OwnLies t) (seen_all new)
-own_rested t new id sound seen =
-    subst (All (OwnLies t)) (sym seen) (all_changed (OwnLies t) (has_id id) rested (seen_all t.sessions) (λ x lies. sound.rows) sound.own)
+pub own_rested : (t : Stored) (new : Sessions) (id : SessionId) → IsVerified t → seen_all new ≡ on_session id rested (seen_all t.sessions) → All (OwnLies t) (seen_all new)
+own_rested t new id is seen =
+    subst (All (OwnLies t)) (sym seen) (all_changed (OwnLies t) (has_id id) rested (seen_all t.sessions) (λ x lies. is.rows) is.own)
 
-pub own_flagged : (t : Stored) (new : Sessions) (id : SessionId) (level : ℕ) → IsSound t → seen_all new ≡ on_session id (with_flag level) (seen_all t.sessions) → All (OwnLies t) (seen_all new)
-own_flagged t new id level sound seen =
-    subst (All (OwnLies t)) (sym seen) (all_changed (OwnLies t) (has_id id) (with_flag level) (seen_all t.sessions) (λ x lies. lies) sound.own)
+pub own_flagged : (t : Stored) (new : Sessions) (id : SessionId) (level : ℕ) → IsVerified t → seen_all new ≡ on_session id (with_flag level) (seen_all t.sessions) → All (OwnLies t) (seen_all new)
+own_flagged t new id level is seen =
+    subst (All (OwnLies t)) (sym seen) (all_changed (OwnLies t) (has_id id) (with_flag level) (seen_all t.sessions) (λ x lies. lies) is.own)
 
-pub own_left : (t : Stored) (new : Sessions) (id : SessionId) → IsSound t → seen_all new ≡ closed id (seen_all t.sessions) → All (OwnLies t) (seen_all new)
-own_left t new id sound seen =
-    subst (All (OwnLies t)) (sym seen) (All-filter (λ x. not (has_id id x)) (OwnLies t) (seen_all t.sessions) sound.own)
+pub own_left : (t : Stored) (new : Sessions) (id : SessionId) → IsVerified t → seen_all new ≡ closed id (seen_all t.sessions) → All (OwnLies t) (seen_all new)
+own_left t new id is seen =
+    subst (All (OwnLies t)) (sym seen) (All-filter (λ x. not (has_id id x)) (OwnLies t) (seen_all t.sessions) is.own)
 
-pub own_same : (t : Stored) (new : Sessions) → IsSound t → seen_all new ≡ seen_all t.sessions → All (OwnLies t) (seen_all new)
-own_same t new sound seen = subst (All (OwnLies t)) (sym seen) sound.own
+pub own_same : (t : Stored) (new : Sessions) → IsVerified t → seen_all new ≡ seen_all t.sessions → All (OwnLies t) (seen_all new)
+own_same t new is seen = subst (All (OwnLies t)) (sym seen) is.own

@@ -1,8 +1,9 @@
 -- How a tier begins over a backing database without transactions of a tier. (This project's model.)
 
-use Rattle.std.specs.Prelude.{◌≡◌, ℕ, ◌≤◌, List, ◌++◌, Option, Some, Result, Ok, Err}
+use Rattle.std.specs.Prelude.{◌≡◌, ℕ, ◌≤◌, List, [], ◌++◌, Option, Some, false, Result, Ok, Err}
 use Rattle.tier_base.specs.declared.number.Moment.{Moment}
 use Rattle.tier_base.specs.declared.number.TableId.{TableId}
+use Rattle.table_defs.specs.declared.definition.TableDef.{TableDef}
 use Rattle.table_state.specs.declared.history.Entry.{Entry}
 use Rattle.table_state.specs.Histories.{state_of}
 use Rattle.table_state.specs.Tables.{TableState}
@@ -11,8 +12,11 @@ use Rattle.outside.specs.Holding.{Held}
 use Rattle.outside.specs.Others.{AreOthers}
 use Rattle.outside.specs.declared.fault.BankError.{BankError}
 use Rattle.cache_tier.specs.Journals.{no_journal}
-use Rattle.cache_tier.specs.TierStates.{Settings, opened}
+use Rattle.cache_tier.specs.TierStates.{Settings, cut, opened}
 use Rattle.cache_tier.specs.Worlds.{World}
+use Rattle.group_catalog.specs.Catalogs.{groups_in}
+use Rattle.open_sessions.specs.Opening.{seen_all}
+use Rattle.cache_engine.specs.declared.clock.TierClock.{TierClock}
 use Rattle.cache_engine.specs.declared.tier.Tier.{Tier as Stored}
 use Rattle.cache_engine.specs.Performing.{KeepsSlots, StandsFor}
 use Rattle.cache_engine.specs.Sites.{SiteView}
@@ -66,3 +70,23 @@ pub record BeginsAt (before behind : SiteView) : Type 0 where
   pub shares : behind.shared ≡ before.shared
   pub slots : KeepsSlots before.held behind.held
   pub others : (there : Held) → before.held ≡ Some there → OthersCame before.shared there behind.held
+
+-- the clock of a tier that is opened at this moment
+pub record IsNewClock (c : TierClock) (start propagate_ms : ℕ) : Type 0 where
+  pub now : c.now ≡ cut start
+  pub added : c.added ≡ 0
+  pub round : c.round ≡ cut start
+  pub sets : c.sets.items ≡ []
+  pub due : c.propagate_ms ≡ propagate_ms
+
+-- the tier knows this schema, before its first line; no session is open, and there is no group
+pub record IsFresh (t : Stored) (schema : List TableDef) (start propagate_ms : ℕ) : Type 0 where
+  pub schema_is : t.schema ≡ schema
+  pub told : t.stale ≡ false
+  pub groups : groups_in t.catalog ≡ []
+  pub stores : t.stores.items ≡ []
+  pub sessions : seen_all t.sessions ≡ []
+  pub unsettled : t.unsettled.items ≡ []
+  pub next : t.next ≡ 1
+  pub clock : IsNewClock t.clock start propagate_ms
+  pub judged : t.verified ≡ false

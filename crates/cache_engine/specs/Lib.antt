@@ -1,8 +1,10 @@
 pub mod Answering
 pub mod Beginning
 pub mod Committing
+pub mod Defining
 pub mod Draining
 pub mod Due
+pub mod Naming
 pub mod Filling
 pub mod Fresh
 pub mod Grouping

@@ -43,6 +43,12 @@ pub record IsPassedOn (s : Session) (q : Query) (w : World) (resolved : Resolved
   pub is : resolved_query (visible (level_of s) w.tier) q ≡ Ok (query_seen resolved)
   pub way : query_route (level_of s) w.tier (query_seen resolved).tables ≡ route.PassedOn
 
+-- the reply to a query that is answered in the cache; one that is for the backing database isn't done yet
+abbrev pub query_reply : Result Selected Refused → Result Reply Refused
+query_reply (Ok (Answered reply)) = Ok reply
+query_reply (Ok (PassedOn resolved)) = Err refused.Memory
+query_reply (Err refused) = Err refused
+
 -- what becomes of a query, or the first rule that it breaks; memory may be wanting at any time
 abbrev pub SelectsHere : Stored → Session → Query → World → Result Selected Refused → Type 0
 SelectsHere t s q w (Ok (Answered reply)) = IsSelected t s q w reply

@@ -1,22 +1,25 @@
 //! How a tier begins.
 
+ghost use Rattle.std.specs.Prelude.{IfOk};
+ghost use Rattle.cache_engine.specs.Beginning.{IsFresh, IsNewClock};
+ghost use Rattle.cache_engine.specs.Stored.{IsSound};
+
 use crate::clock::TierClock;
+use crate::naming::name_tables;
 use crate::tier::Tier;
 use group_catalog::Catalog;
-use group_store::Directory;
 use open_sessions::Sessions;
 use outside::{BankError, Site};
-use std::alloc::Global;
+use std::alloc::{AllocError, Global};
 use std::collections::VecDeque;
 use table_defs::BackingSchema;
-use tier_base::Moment;
+use tier_base::{Limit, Moment};
+use tier_laws::opened_law;
 
 impl Tier {
-    ghost use Rattle.std.specs.Prelude.{◌≡◌, IfOk, ℕ};
     ghost use Rattle.outside.specs.Faults.{BankHasCause};
     ghost use Rattle.cache_engine.specs.Beginning.{Begins, BeginsAt};
     ghost use Rattle.cache_engine.specs.Sites.{seen_at};
-    ghost use Rattle.cache_engine.specs.Stored.{IsSound};
 
     /// A tier over a backing database in which no transaction of a tier stands. It asks for the schema; transactions of
     /// others may come in that call. `start` is its first moment, and `propagate_ms` says after how many milliseconds a
@@ -39,7 +42,55 @@ impl Tier {
             (seen_at (P.Disk.held site.old) (P.bank_faults site.old) (P.Disk.moment site.old) (P.Disk.shared site.old))
             (seen_at (P.Disk.held site.new) (P.bank_faults site.new) (P.Disk.moment site.new) (P.Disk.shared site.new)) }
     {
-        let _ = (&alloc, &site, &start, &propagate_ms);
-        Err(BankError::Memory)
+        opened_law();
+        match site.schema() {
+            Err(error) => Err(error),
+            Ok(schema) => match new_tier(alloc, schema, start, propagate_ms) {
+                Err(_) => Err(BankError::Memory),
+                Ok(tier) => Ok(tier),
+            },
+        }
+    }
+}
+
+// The tier that knows this schema, before its first line. It fails for want of memory alone.
+fn new_tier(
+    alloc: Global,
+    schema: BackingSchema,
+    start: Moment,
+    propagate_ms: u64,
+) -> Result<Tier, AllocError>
+    ensures fresh { IfOk result (λ tier. IsFresh tier schema start.0 propagate_ms) }
+    ensures sound { IfOk result IsSound }
+{
+    let catalog = Catalog::new(alloc);
+    let stores = Vec::new(alloc);
+    let (visible, directory) = name_tables(alloc, &catalog, stores.as_slice(), schema.as_slice())?;
+    Ok(Tier {
+        schema,
+        visible,
+        stale: false,
+        catalog,
+        stores,
+        directory,
+        sessions: Sessions::new(alloc),
+        unsettled: VecDeque::new(alloc),
+        next: 1,
+        clock: new_clock(alloc, start, propagate_ms),
+        verified: false,
+    })
+}
+
+// The clock of a tier that is opened at a moment. It takes no memory.
+fn new_clock(alloc: Global, start: Moment, propagate_ms: u64) -> TierClock
+    ensures { IsNewClock result start.0 propagate_ms }
+{
+    let now = start.0.min(Limit::Clock.number());
+    TierClock {
+        now,
+        added: 0,
+        round: now,
+        sets: Vec::new(alloc),
+        propagate_ms,
     }
 }

@@ -1,26 +1,28 @@
-//! ttDrain.
+//! Rounds of propagation, and ttDrain.
 
-ghost use Rattle.std.specs.Prelude.{◌≡◌, ◌≤◌, Err, IfOk};
+ghost use Rattle.std.specs.Prelude.{◌≡◌, [], IfOk, OnOk};
 ghost use Rattle.row_types.specs.declared.rule.Detail.TheVariants as detail;
-ghost use Rattle.outside.specs.Faults.{Rose};
-ghost use Rattle.cache_tier.specs.Worlds.{faulty};
+ghost use Rattle.cache_tier.specs.Rounds.{Drains, Round, RoundIfUnsettled};
+ghost use Rattle.cache_tier.specs.Worlds.{Tries};
 ghost use Rattle.tier_base.specs.declared.code.Code.TheVariants as code;
 
 use crate::tier::Tier;
 use cache_tier::reply::{Last, Reply};
 use outside::Site;
-use propagators::laws::left_law;
+use propagators::laws::{follow_law, left_law};
 use propagators::{RoundFault, round};
 use row_types::{Detail, Key, Rule};
 use std::alloc::{AllocError, Global};
 use tier_base::{Code, Name, TableId};
+use tier_laws::round_shown_law;
 use tier_statements::{done, faulty, only};
 
 impl Tier {
-    ghost use Rattle.cache_engine.specs.Draining.{AreNumbered, DrainsBank, SettlesAll};
+    ghost use Rattle.cache_engine.specs.Draining.{SettlesAll, settled_reply};
+    ghost use Rattle.cache_engine.specs.Performing.{IsCaused, IsStopCaused, Performs, stop_of};
     ghost use Rattle.cache_engine.specs.Refusing.{TellsRoundEnd};
-    ghost use Rattle.cache_engine.specs.Sites.{Serves, seen_at};
-    ghost use Rattle.cache_engine.specs.Stored.{IsSound, rows_of};
+    ghost use Rattle.cache_engine.specs.Sites.{seen_at};
+    ghost use Rattle.cache_engine.specs.Stored.{IsSound};
 
     /// CALL ttDrain: the unsettled transactions are applied at the bank, in ticket order. The reply tells how many got
     /// their receipt; nothing is unsettled then.
@@ -29,16 +31,16 @@ impl Tier {
     /// says, and 299 where memory was wanting; then those stay unsettled that have no receipt. (TimesTen Cache User's
     /// Guide, asynchronous writethrough; the call and its codes are this project's rule.)
     pub fn drain<P: Site>(&mut self, alloc: Global, site: &mut P) -> Reply
-        ensures serves { AreNumbered self.old → Serves self.old self.new
+        requires { IsSound self.old }
+        ensures performs { Performs self.old self.new
             (seen_at (P.Disk.held site.old) (P.bank_faults site.old) (P.Disk.moment site.old) (P.Disk.shared site.old))
             (seen_at (P.Disk.held site.new) (P.bank_faults site.new) (P.Disk.moment site.new) (P.Disk.shared site.new))
-            (λ w w'. DrainsBank w w' result) }
-        ensures sound { IsSound self.old → IsSound self.new }
-        ensures rows { rows_of self.new ≡ rows_of self.old }
-        ensures faults { P.bank_faults site.old ≤ P.bank_faults site.new }
-        ensures moment { P.Disk.moment site.old ≤ P.Disk.moment site.new }
-        ensures shares { P.Disk.shared site.new ≡ P.Disk.shared site.old }
-        ensures cause { result ≡ faulty code.BackingFault → Rose (P.bank_faults site.old) (P.bank_faults site.new) }
+            (λ w w'. Tries Drains w w' result) }
+        ensures sound { IsSound self.new }
+        ensures cause { IsCaused
+            (seen_at (P.Disk.held site.old) (P.bank_faults site.old) (P.Disk.moment site.old) (P.Disk.shared site.old))
+            (seen_at (P.Disk.held site.new) (P.bank_faults site.new) (P.Disk.moment site.new) (P.Disk.shared site.new))
+            result }
     {
         match self.settle(alloc, site) {
             Ok(receipts) => done(alloc, receipts),
@@ -46,21 +48,72 @@ impl Tier {
         }
     }
 
+    /// A round. The reply is the one with which it ended early; else nothing is unsettled.
+    pub(crate) fn settle_all<P: Site>(&mut self, alloc: Global, site: &mut P) -> Result<(), Reply>
+        requires { IsSound self.old }
+        ensures performs { Performs self.old self.new
+            (seen_at (P.Disk.held site.old) (P.bank_faults site.old) (P.Disk.moment site.old) (P.Disk.shared site.old))
+            (seen_at (P.Disk.held site.new) (P.bank_faults site.new) (P.Disk.moment site.new) (P.Disk.shared site.new))
+            (λ w w'. Round w w' (stop_of result)) }
+        ensures all { OnOk result (self.new.unsettled.items ≡ []) }
+        ensures same { self.new ≡ record self.old { unsettled = self.new.unsettled; clock = self.new.clock } }
+        ensures sound { IsSound self.new }
+        ensures cause { IsStopCaused
+            (seen_at (P.Disk.held site.old) (P.bank_faults site.old) (P.Disk.moment site.old) (P.Disk.shared site.old))
+            (seen_at (P.Disk.held site.new) (P.bank_faults site.new) (P.Disk.moment site.new) (P.Disk.shared site.new))
+            (stop_of result) }
+    {
+        match self.settle(alloc, site) {
+            Ok(_) => Ok(()),
+            Err(reply) => Err(reply),
+        }
+    }
+
+    /// A round, where a transaction is unsettled. The reply is the one with which it ended early; else nothing is
+    /// unsettled.
+    pub(crate) fn settle_pending<P: Site>(
+        &mut self,
+        alloc: Global,
+        site: &mut P,
+    ) -> Result<(), Reply>
+        requires { IsSound self.old }
+        ensures performs { Performs self.old self.new
+            (seen_at (P.Disk.held site.old) (P.bank_faults site.old) (P.Disk.moment site.old) (P.Disk.shared site.old))
+            (seen_at (P.Disk.held site.new) (P.bank_faults site.new) (P.Disk.moment site.new) (P.Disk.shared site.new))
+            (λ w w'. RoundIfUnsettled w w' (stop_of result)) }
+        ensures all { OnOk result (self.new.unsettled.items ≡ []) }
+        ensures same { self.new ≡ record self.old { unsettled = self.new.unsettled; clock = self.new.clock } }
+        ensures sound { IsSound self.new }
+        ensures cause { IsStopCaused
+            (seen_at (P.Disk.held site.old) (P.bank_faults site.old) (P.Disk.moment site.old) (P.Disk.shared site.old))
+            (seen_at (P.Disk.held site.new) (P.bank_faults site.new) (P.Disk.moment site.new) (P.Disk.shared site.new))
+            (stop_of result) }
+    {
+        if self.unsettled.is_empty() {
+            return Ok(());
+        }
+        self.settle_all(alloc, site)
+    }
+
     // A round, and how many got their receipt, or the reply with which it ended early.
     fn settle<P: Site>(&mut self, alloc: Global, site: &mut P) -> Result<u64, Reply>
-        ensures serves { AreNumbered self.old → Serves self.old self.new
+        requires { IsSound self.old }
+        ensures performs { Performs self.old self.new
             (seen_at (P.Disk.held site.old) (P.bank_faults site.old) (P.Disk.moment site.old) (P.Disk.shared site.old))
             (seen_at (P.Disk.held site.new) (P.bank_faults site.new) (P.Disk.moment site.new) (P.Disk.shared site.new))
             (λ w w'. SettlesAll w w' result) }
-        ensures sound { IsSound self.old → IsSound self.new }
-        ensures rows { rows_of self.new ≡ rows_of self.old }
-        ensures faults { P.bank_faults site.old ≤ P.bank_faults site.new }
-        ensures moment { P.Disk.moment site.old ≤ P.Disk.moment site.new }
-        ensures shares { P.Disk.shared site.new ≡ P.Disk.shared site.old }
-        ensures cause { result ≡ Err (faulty code.BackingFault)
-            → Rose (P.bank_faults site.old) (P.bank_faults site.new) }
+        ensures all { OnOk result (self.new.unsettled.items ≡ []) }
+        ensures same { self.new ≡ record self.old { unsettled = self.new.unsettled; clock = self.new.clock } }
+        ensures sound { IsSound self.new }
+        ensures cause { IsCaused
+            (seen_at (P.Disk.held site.old) (P.bank_faults site.old) (P.Disk.moment site.old) (P.Disk.shared site.old))
+            (seen_at (P.Disk.held site.new) (P.bank_faults site.new) (P.Disk.moment site.new) (P.Disk.shared site.new))
+            (settled_reply result) }
     {
         left_law();
+        follow_law();
+        round_shown_law();
+        self.clock.round = self.clock.now;
         match round(site, &mut self.unsettled) {
             Ok(receipts) => Ok(receipts),
             Err(fault) => Err(self.reply_to_round(alloc, &fault)),

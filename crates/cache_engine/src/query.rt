@@ -1,6 +1,6 @@
 //! SELECT.
 
-ghost use Rattle.std.specs.Prelude.{◌≡◌, [], IfErr, IfOk};
+ghost use Rattle.std.specs.Prelude.{◌≡◌, [], IfErr, IfOk, true};
 ghost use Rattle.std.specs.List.{list_all, list_any};
 ghost use Rattle.resolution.specs.Queries.{query_seen};
 ghost use Rattle.tier_statements.specs.Answering.{IsAnswerTo};
@@ -10,6 +10,7 @@ ghost use Rattle.cache_tier.specs.Routes.{is_cached, visible};
 ghost use Rattle.cache_tier.specs.Shown.{seen_by};
 ghost use Rattle.cache_tier.specs.TierStates.{Session as OneSession, Tier as AbstractTier, level_of};
 ghost use Rattle.cache_tier.specs.Worlds.{World};
+ghost use Rattle.cache_engine.specs.Selecting.{query_reply};
 ghost use Rattle.cache_engine.specs.declared.query.Selected.TheVariants.{Answered};
 
 use crate::tier::Tier;
@@ -28,6 +29,7 @@ use tier_base::{SessionId, TableId};
 use tier_statements::answer_query;
 
 /// What becomes of a query that breaks no rule of its names.
+#[derive(Drop)]
 pub enum Selected {
     /// It is answered in the cache.
     Answered(Reply),
@@ -35,16 +37,8 @@ pub enum Selected {
     PassedOn(ResolvedQuery),
 }
 
-impl Drop for Selected {
-    fn drop(self) {
-        match self {
-            Self::Answered(_) => {}
-            Self::PassedOn(_) => {}
-        }
-    }
-}
-
 impl Tier {
+    ghost use Rattle.cache_engine.specs.Performing.{IsCalm, reply_of};
     ghost use Rattle.cache_engine.specs.Selecting.{HasNoDynamic, SelectsHere};
     ghost use Rattle.cache_engine.specs.Stored.{HasSession, IsSound, IsStoredAs, ShowsRows};
 
@@ -56,8 +50,10 @@ impl Tier {
     /// Guide, "Setting a passthrough level".)
     pub fn select(&self, alloc: Global, id: SessionId, query: &Query) -> Result<Selected, Refused>
         requires sound { IsSound self.now }
+        requires verified { self.now.verified ≡ true }
         requires simple { query.now.groups ≡ [] }
-        ensures { (w : World) (s : OneSession) → IsStoredAs self.now w.tier → ShowsRows self.now w
+        ensures calm { IsCalm (reply_of (query_reply result)) }
+        ensures selects { (w : World) (s : OneSession) → IsStoredAs self.now w.tier → ShowsRows self.now w
             → HasNoDynamic w.tier → HasSession self.now id s → SelectsHere self.now s query.now w result }
     {
         let level = self.level(id);
@@ -102,8 +98,10 @@ impl Tier {
 
     // The answer to a query over what a session sees.
     fn answer(&self, alloc: Global, id: SessionId, query: &ResolvedQuery) -> Result<Reply, Refused>
-        requires { IsSound self.now }
-        ensures { (w : World) (s : OneSession) → ShowsRows self.now w → HasSession self.now id s
+        requires sound { IsSound self.now }
+        requires verified { self.now.verified ≡ true }
+        ensures calm { IsCalm (reply_of result) }
+        ensures answers { (w : World) (s : OneSession) → ShowsRows self.now w → HasSession self.now id s
             → IsAnswerTo query.now (seen_by s w.history w.tier) result }
     {
         keyed_law();
@@ -140,5 +138,16 @@ fn tables_of(query: &ResolvedQuery) -> &[TableId]
     match query {
         ResolvedQuery::Rows(plan) => plan.tables.as_slice(),
         ResolvedQuery::Totals(_, plan) => plan.tables.as_slice(),
+    }
+}
+
+/// The reply to a query that is answered in the cache. One that is for the backing database isn't done yet.
+pub(crate) fn reply_to_query(selected: Result<Selected, Refused>) -> Result<Reply, Refused>
+    ensures { result ≡ query_reply selected }
+{
+    match selected {
+        Err(refused) => Err(refused),
+        Ok(Selected::Answered(reply)) => Ok(reply),
+        Ok(Selected::PassedOn(_)) => Err(Refused::Memory),
     }
 }

@@ -1,17 +1,25 @@
 //! OPEN and CLOSE, COMMIT, ROLLBACK, FLUSH and SELECT of a session.
 
-ghost use Rattle.std.specs.Prelude.{◌≡◌, []};
+ghost use Rattle.std.specs.Prelude.{◌≡◌, [], Some, slice_get};
+ghost use Rattle.std.specs.Option.{option_or};
+ghost use Rattle.tier_base.specs.declared.code.Code.TheVariants as code;
+ghost use Rattle.table_defs.specs.Declarations.{IsRefusedBy};
 ghost use Rattle.sql_subset.specs.declared.stmt.Stmt.TheVariants as statement;
+ghost use Rattle.cache_tier.specs.Conditions.{which_names};
+ghost use Rattle.cache_tier.specs.Rules.{named};
 ghost use Rattle.cache_tier.specs.Worlds.{Tries};
 
+use crate::query::reply_to_query;
 use crate::tier::Tier;
 use cache_tier::reply::Reply;
-use row_types::Refused;
+use group_catalog::{KeptGroup, resolve_which};
+use row_types::{Detail, Refused, Rule};
 use sql_query::Query;
 use sql_subset::request::OpenOptions;
-use sql_subset::stmt::OfGroup;
+use sql_subset::stmt::{OfGroup, Which};
 use std::alloc::Global;
-use tier_base::{Label, SessionId};
+use tier_base::{Code, Label, Name, SessionId};
+use tier_laws::{session_law, use_shown_law};
 
 impl Tier {
     ghost use Rattle.cache_engine.specs.Performing.{ClosesSession, Executes, IsCalm, OpensSession, Performs, PerformsIn, reply_of};
@@ -31,8 +39,8 @@ impl Tier {
         ensures sound { IsSound self.new }
         ensures calm { IsCalm (reply_of result) }
     {
-        let _ = (&alloc, &label, &options);
-        Err(Refused::Memory)
+        session_law();
+        self.open(alloc, label, options)
     }
 
     /// CLOSE, as `close`.
@@ -43,8 +51,8 @@ impl Tier {
         ensures sound { IsSound self.new }
         ensures calm { IsCalm (reply_of result) }
     {
-        let _ = (&alloc, &id);
-        Err(Refused::Memory)
+        session_law();
+        Ok(self.close(alloc, id))
     }
 
     /// COMMIT: without writes as `rollback`, else as `commit`.
@@ -67,8 +75,8 @@ impl Tier {
         ensures sound { IsSound self.new }
         ensures calm { IsCalm (reply_of result) }
     {
-        let _ = (&alloc, &id);
-        Err(Refused::Memory)
+        session_law();
+        Ok(self.rollback(alloc, id))
     }
 
     /// FLUSH CACHE GROUP: it is refused for every kind of group that there is, with 112, 103 or 115.
@@ -79,8 +87,11 @@ impl Tier {
         ensures sound { IsSound self.new }
         ensures calm { IsCalm (reply_of result) }
     {
-        let _ = (&alloc, &id, &flush);
-        Err(Refused::Memory)
+        let _ = id;
+        match self.catalog.named(&flush.group) {
+            None => Err(refuse_name(alloc, Code::UnknownGroup, &flush.group)),
+            Some(group) => Err(self.refuse_flush(alloc, group, &flush.which)),
+        }
     }
 
     /// SELECT without GROUP BY, as `select` answers it in the cache.
@@ -92,7 +103,39 @@ impl Tier {
         ensures sound { IsSound self.new }
         ensures calm { IsCalm (reply_of result) }
     {
-        let _ = (&alloc, &id, &query);
-        Err(Refused::Memory)
+        use_shown_law();
+        match self.verify(alloc) {
+            Err(_) => Err(Refused::Memory),
+            Ok(()) => reply_to_query(self.select(alloc, id, query)),
+        }
+    }
+
+    // What FLUSH of a group is refused with: 103 of a name in its condition, or 115; or memory was wanting.
+    fn refuse_flush(&self, alloc: Global, group: &KeptGroup, which: &Which) -> Refused
+        ensures { IsRefusedBy
+            (option_or
+            (which_names (slice_get self.now.schema group.now.def.tree.root.table.0) which.now)
+            (Some (named code.WrongState group.now.def.name))) result }
+    {
+        match self.schema.get(group.def.tree.root.table.0 as usize) {
+            None => Refused::Memory,
+            Some(def) => match resolve_which(alloc, def, which) {
+                Err(refused) => refused,
+                Ok(_) => refuse_name(alloc, Code::WrongState, &group.def.name),
+            },
+        }
+    }
+}
+
+// The refusal with a name, or want of memory.
+fn refuse_name(alloc: Global, code: Code, name: &Name) -> Refused
+    ensures { IsRefusedBy (Some (named code name.now)) result }
+{
+    match name.copied(alloc) {
+        Err(_) => Refused::Memory,
+        Ok(name) => Refused::Rule(Rule {
+            code,
+            detail: Detail::Name(name),
+        }),
     }
 }

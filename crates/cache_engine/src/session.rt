@@ -20,6 +20,7 @@ use tier_statements::done;
 
 impl Tier {
     ghost use Rattle.cache_engine.specs.Answering.{Answers, AnswersIn, FindsSession};
+    ghost use Rattle.cache_engine.specs.Performing.{IsCalm, reply_of};
     ghost use Rattle.cache_engine.specs.Stored.{IsSound, rows_of};
 
     /// The number of the open session of a label.
@@ -49,6 +50,7 @@ impl Tier {
             (λ a. open_answer a label.now options) result }
         ensures rows { rows_of self.new ≡ rows_of self.old }
         ensures sound { IsSound self.new }
+        ensures calm { IsCalm (reply_of result) }
     {
         match self
             .sessions
@@ -70,6 +72,7 @@ impl Tier {
         ensures answers { AnswersIn self.old self.new id (λ s a. None) (λ s a. close_answer a s.label) (Ok result) }
         ensures rows { rows_of self.new ≡ rows_of self.old }
         ensures sound { IsSound self.new }
+        ensures calm { IsCalm result }
     {
         self.sessions.close(id);
         label_law();
@@ -83,6 +86,7 @@ impl Tier {
         ensures answers { AnswersIn self.old self.new id (λ s a. None) (λ s a. (ends s a, only (Done 0))) (Ok result) }
         ensures rows { rows_of self.new ≡ rows_of self.old }
         ensures sound { IsSound self.new }
+        ensures calm { IsCalm result }
     {
         self.sessions.rest(id);
         label_law();

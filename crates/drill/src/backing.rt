@@ -3,9 +3,8 @@
 use crate::error::DrillError;
 use evaluator::Change;
 use resolution::resolve_writes;
-use served_lines::request::{ConsoleRequest, Line};
-use served_lines::served;
 use sql_subset::line::parse_line;
+use sql_subset::request::{ConsoleRequest, Line};
 use std::alloc::{AllocError, Global};
 use table_defs::{BackingSchema, TableDef};
 use tier_base::Seq;
@@ -13,10 +12,7 @@ use tier_base::Seq;
 /// What the console asks by this line, none where it is no line of the console.
 pub fn asked(alloc: Global, line: &[u8]) -> Option<ConsoleRequest> {
     match parse_line(alloc, line) {
-        Ok(Some(line)) => match served(alloc, line) {
-            Ok(Some(Line::Console(request))) => Some(request),
-            _ => None,
-        },
+        Ok(Some(Line::Console(request))) => Some(request),
         _ => None,
     }
 }

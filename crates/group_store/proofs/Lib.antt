@@ -2,9 +2,9 @@ mod ChildLaws
 mod ClearLaws
 mod CommitLaws
 mod EnterLaws
-mod FormLaws
+pub mod FormLaws
 mod HidingLaws
-mod HomeLaws
+pub mod HomeLaws
 mod JoinedLaws
 mod KeepingLaws
 mod OnceLaws

@@ -1,12 +1,12 @@
 //! The list of open sessions.
 
-ghost use Rattle.std.specs.Prelude.{◌≡◌, ◌≤◌, ◌<◌, ◌++◌, ◌∷◌, List, [], Some, None, true, false, find, IfOk, IfErr, MatchOption, OnErr, OnOk, length, map, nat_eq, position};
+ghost use Rattle.std.specs.Prelude.{◌≡◌, ◌≤◌, ◌<◌, ◌++◌, ◌∷◌, All, List, [], Some, None, true, false, find, IfOk, IfErr, MatchOption, OnErr, OnOk, length, map, nat_eq, position};
 ghost use Rattle.std.specs.List.{list_any};
 ghost use Rattle.std.specs.Option.{option_copied, option_map};
 ghost use Rattle.table_defs.specs.declared.definition.TableDef.{TableDef as Def};
 ghost use Rattle.table_state.specs.Operations.{applied_all};
 ghost use Rattle.own_rows.specs.OwnTables.{AreShown};
-ghost use Rattle.session_state.specs.Kept.{are_defined, seen_of};
+ghost use Rattle.session_state.specs.Kept.{IsKept, are_defined, seen_of};
 ghost use Rattle.session_state.specs.Locks.{holder_of, keeper};
 ghost use Rattle.session_state.specs.Sessions.{at_rest, level_of, with_flag, with_ops};
 ghost use Rattle.tier_base.specs.declared.limit.Limit.TheVariants.{Operations};
@@ -168,6 +168,14 @@ impl Sessions {
         ensures { option_copied result ≡ find (λ s. has_label label.now (seen_of s)) self.now.open.items }
     {
         self.open.iter().find(|session| has_label(session, label))
+    }
+
+    /// The sessions, in the order in which they were opened. It takes no memory.
+    pub fn as_slice(&self) -> &[Session]
+        ensures seen { map seen_of result.now ≡ seen_all self.now }
+        ensures kept { (schema : List Def) → AreSessions schema self.now → All (IsKept schema) result.now }
+    {
+        self.open.as_slice()
     }
 
     /// The session of a number. It takes no memory.

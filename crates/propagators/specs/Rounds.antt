@@ -60,7 +60,11 @@ pub record Round (shared : List TableId) (few : ℕ) (old : List Sealed) (histor
   pub settled : (s : Sealed) → Contains certain s → Contains (left_in events) s
   pub at_most : length doubtful ≤ few
 
--- the same of what a site holds: its slots stay
+-- what is left is the rear of what there was
+abbrev pub IsRestOf : List Sealed → List Sealed → Type 0
+IsRestOf old new = (gone : List Sealed) × (old ≡ gone ++ new)
+
+-- a round over what a site holds: its slots stay
 pub record HoldsRound (shared : List TableId) (few : ℕ) (old new : List Sealed) (before after : Held) : Type 0 where
   pub slots : after.slots ≡ before.slots
   pub round : Round shared few old before.history new after.history

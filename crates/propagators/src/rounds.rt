@@ -6,7 +6,7 @@ ghost use Rattle.outside.specs.Calls.{BankCall, Told};
 ghost use Rattle.outside.specs.Faults.{Rose};
 ghost use Rattle.outside.specs.Holding.{Held};
 ghost use Rattle.row_types.specs.declared.value.Value.{Value};
-ghost use Rattle.propagators.specs.Rounds.{DifferedAt, Settles, TellsRound, doubts};
+ghost use Rattle.propagators.specs.Rounds.{DifferedAt, IsRestOf, Settles, TellsRound, doubts};
 ghost use Rattle.propagators.specs.declared.rounds.RoundFault.TheVariants as stop;
 
 use outside::{Applied, BankError, Site};
@@ -39,7 +39,7 @@ impl Drop for RoundFault {
 /// Applies the unsettled transactions in turn, in ticket order, and lets those go whose receipt it sees. It gives their
 /// number. Transactions of others may come before, between and behind.
 ///
-/// After a fault those without a receipt stay, in their order. `Failed` only where the count of bank faults rose in this
+/// After a fault those without a receipt stay, in their order, also where the site tells nothing. `Failed` only where the count of bank faults rose in this
 /// call; the first that is left may then have come, and in no other case has one come that is left. `Differs` tells the
 /// first difference of the first that is left.
 ///
@@ -49,6 +49,7 @@ pub fn round<P: Site>(site: &mut P, unsettled: &mut VecDeque<Sealed>) -> Result<
         unsettled.old.items unsettled.new.items }
     ensures all { OnOk result (unsettled.new.items ≡ []) }
     ensures told { IfOk result (λ n. n ≡ length unsettled.old.items) }
+    ensures rest { IsRestOf unsettled.old.items unsettled.new.items }
     ensures differs { (table : TableId) (key : List Value) → result ≡ Err (stop.Differs table key)
         → IsSome (P.Disk.held site.old) → (held : Held) → P.Disk.held site.new ≡ Some held
         → DifferedAt (P.Disk.shared site.old) table key unsettled.new.items held.history }

@@ -2,9 +2,9 @@
 use Rattle.std.proofs.Common.{◌≡◌, ◌≢◌, ℕ, ◌+◌, ◌-◌, ◌≤◌, ◌<◌, length, get_or, List, [], ◌∷◌, ◌++◌, take, drop, Option, Some, Result, Ok, Err, Bool, true, false, refl, sym, ◌∙◌, ap, ap₂, subst, append-nil, append_assoc, lit≤, inl, inr, take-append-drop}
 use Rattle.std.specs.Result.{IsErr, OnOk}
 use Rattle.std.specs.Io.KnownBytes.{Keeps}
-use Rattle.abstract_tier.specs.declared.reply.Reply.{Reply}
-use Rattle.abstract_tier.specs.Replying.{reply_bytes, replies_bytes}
-use Rattle.abstract_tier.specs.Steps.{is_long}
+use Rattle.cache_tier.specs.declared.reply.Reply.{Reply}
+use Rattle.cache_tier.specs.Replying.{reply_bytes, replies_bytes}
+use Rattle.cache_engine.specs.Requests.{is_long}
 use Rattle.sql_subset.specs.Lines.{Means, Saying}
 use Rattle.session_cli.specs.declared.checker.CheckFault.{CheckFault}
 use Rattle.session_cli.specs.declared.checker.CheckFault.TheVariants as fault

@@ -2,7 +2,7 @@
 use Rattle.std.proofs.Common.{◌≡◌, ◌≢◌, ℕ, zero, suc, ◌+◌, ◌≤◌, ◌<◌, ◌==◌, List, [], ◌∷◌, ◌++◌, length, take, map, Bool, true, false, if◌then◌else◌, refl, sym, ◌∙◌, ap, arith, min, get_or, append-nil, lit≤}
 use Rattle.std.proofs.lemmas.List.{take_all, take-append-le, length-take}
 use Rattle.std.proofs.lemmas.Bool.Decides.{nat_tests}
-use Rattle.abstract_tier.specs.Steps.{is_long}
+use Rattle.cache_engine.specs.Requests.{is_long}
 use Rattle.session_cli.specs.Cutting.{in_front, cut, without_return, front_of, text_of, ended_lines, last_line, all_lines}
 
 pub take_push : (n : ℕ) (xs : List ℕ) (b : ℕ) → take n (take n xs ++ b ∷ []) ≡ take n (xs ++ b ∷ [])

@@ -1,30 +1,23 @@
 -- The pieces of the input, from the first to the last.
-use Rattle.std.proofs.Common.{◌≡◌, ◌⊎◌, subst, ap₂, ℕ, min, ◌+◌, ◌-◌, ◌≤◌, ◌<◌, List, [], ◌∷◌, ◌++◌, length, take, drop, Option, Some, None, Result, Ok, Err, refl, sym, ◌∙◌, ap, append-nil, append_assoc, inl, inr, arith, lit≤, take-append-drop}
+use Rattle.std.proofs.Common.{◌≡◌, ◌⊎◌, subst, ℕ, min, ◌+◌, ◌-◌, ◌≤◌, ◌<◌, List, [], ◌∷◌, ◌++◌, length, take, drop, Option, Some, None, Result, Ok, Err, refl, sym, ◌∙◌, ap, append-nil, append_assoc, inl, inr, arith, take-append-drop}
 use Rattle.std.specs.Io.KnownBytes.{Consumes, IsAtEnd, Keeps}
 use Rattle.std.proofs.lemmas.List.{length-append, length-take, length-drop}
-use Rattle.std.proofs.lemmas.List.Elements.{filter-append}
-use Rattle.outside.specs.Holding.{Held, Slots}
-use Rattle.abstract_tier.specs.Steps.{World}
-use Rattle.table_state.specs.declared.operation.Op.{Op}
-use Rattle.table_state.specs.declared.history.Entry.{Entry}
-use Rattle.table_state.specs.declared.history.Entry.TheVariants.{Definition, Foreign, Own}
-use Rattle.table_defs.specs.declared.definition.TableDef.{TableDef}
-use Rattle.table_state.specs.Tables.{TableState}
-use Rattle.outside.specs.Calls.{Told}
-use Rattle.outside.specs.Others.{AreOthers}
-use Rattle.tier_base.specs.declared.number.TableId.{TableId}
-use Rattle.abstract_tier.specs.Commits.{is_own, own_entries}
-use Rattle.tier_engine.specs.Standing.{Mark}
-use Rattle.tier_engine.proofs.OthersStand.{foreign_leaves}
-use Rattle.outside.specs.declared.fault.BankError.{BankError}
-use Rattle.abstract_tier.specs.TierStates.{TierState, opened}
+use Rattle.outside.specs.Holding.{Held}
+use Rattle.cache_tier.specs.TierStates.{Settings as TierSettings}
+use Rattle.cache_engine.specs.Beginning.{BeginsAt}
+use Rattle.command_line.specs.declared.settings.ClockSource.{ClockSource}
+use Rattle.command_line.specs.declared.settings.ClockSource.TheVariants.{Script, System}
+use Rattle.command_line.specs.declared.settings.Settings.{Settings}
 use Rattle.session_cli.specs.declared.session.Session.{Session}
 use Rattle.session_cli.specs.declared.serving.Status.{Status}
 use Rattle.session_cli.specs.declared.serving.Status.TheVariants.{Finished, SourceFailed, SinkFailed, SchemaFailed, NoMemory, LineUnchecked, InputTooLong}
 use Rattle.session_cli.specs.Cutting.{ended_lines, all_lines}
-use Rattle.session_cli.specs.Serving.{Origin, Serving, Whole, CutShort, HasNoTickets, IsLeftAlone, IsNew, Opens, begins}
-use Rattle.session_cli.specs.Ends.{Ended, Gives, OpenedAndEnded, Serves, Taken, Untouched, with_more}
-use Rattle.session_cli.proofs.CuttingLaws.{front_short}
+use Rattle.session_cli.specs.Ends.{Ended, Gives, OpenedAndEnded, Outcome, Runs, Serves, Taken, Untouched}
+use Rattle.session_cli.specs.Opening.{HasNoTickets, Opened, Opens, begins}
+use Rattle.session_cli.specs.Outside.{Outside}
+use Rattle.session_cli.specs.Serving.{Origin, Serving, Whole, CutShort, IsLeftAlone}
+use Rattle.session_cli.specs.Timing.{Coming, bases_by, bases_of}
+use Rattle.session_cli.proofs.OpeningLaws.{begins_still, opened_at, serving_new}
 use Rattle.session_cli.proofs.ServingLaws.{left_front, serving_whole}
 
 -- Between two pieces: so much was given and so much is left.
@@ -36,164 +29,113 @@ pub record Taking (input : List ℕ) (room : ℕ) (source : Option (List ℕ)) :
   pub total : length given + room ≡ 4294967296
 
 -- And all that was given is taken in.
-pub record Going (o : Origin) (input : List ℕ) (room : ℕ) (source sink : Option (List ℕ)) (site : Option Held) (faults : ℕ) (mark : Mark) (session : Session) : Type 0 where
+pub record Going (o : Origin) (input : List ℕ) (room : ℕ) (source : Option (List ℕ)) (now : Outside) (session : Session) : Type 0 where
   pub taking : Taking input room source
-  pub serving : Serving o taking.given sink site faults mark session
-
-abbrev pub world : TierState → List Entry → ℕ → Mark → World
-world tier history faults mark = record { tier = tier; history = history; bank_faults = faults; moment = mark.moment; shared = mark.shared }
+  pub serving : Serving o taking.given now session
 
 -- at the beginning
 unfoldable pub taking_new : (input : List ℕ) (source : Option (List ℕ)) → source ≡ Some input → Taking input 4294967296 source
 taking_new input source is = record { given = []; left = input; tells = is; parts = refl; total = refl }
 
-pub serving_new : (session : Session) (start : List ℕ) (held : Held) (schema : List TableDef) (sink : Option (List ℕ)) (site : Option Held) (faults : ℕ) (mark : Mark) → IsNew session held.history schema → sink ≡ Some start → site ≡ Some held
-    → Serving (begins held schema start faults mark) [] sink site faults mark session
-serving_new session start held schema sink site faults mark n is_sink is_site = record {
-  log = [];
-  held = held;
-  replies = [];
-  tells = is_site;
-  slots = refl;
-  stands = n.stands;
-  legal = n.legal;
-  committed = n.committed;
-  run = ap (λ t. world t held.history faults mark) n.tier;
-  line = n.line ∙ sym (front_short [] (lit≤ tt));
-  passed = record { count = 0; written = rw is_sink (sym (append-nil start)); waits = n.output };
-}
-
-pub going_new : (session : Session) (input start : List ℕ) (held : Held) (schema : List TableDef) (source sink : Option (List ℕ)) (site : Option Held) (faults : ℕ) (mark : Mark) → IsNew session held.history schema → source ≡ Some input → sink ≡ Some start → site ≡ Some held
-    → Going (begins held schema start faults mark) input 4294967296 source sink site faults mark session
+pub going_new : (o : Origin) (session : Session) (input : List ℕ) (source : Option (List ℕ)) (now : Outside) → source ≡ Some input → Serving o [] now session → Going o input 4294967296 source now session
 unfolding taking_new
-going_new session input start held schema source sink site faults mark n is_source is_sink is_site = record {
-  taking = taking_new input source is_source;
-  serving = serving_new session start held schema sink site faults mark n is_sink is_site;
-}
+going_new o session input source now is s = record { taking = taking_new input source is; serving = s }
 
--- memory was wanting before the opening
-pub ended_unopened : (input start : List ℕ) (held : Held) (s : TableState) (source sink : Option (List ℕ)) (site : Option Held) (faults : ℕ) (mark : Mark) → source ≡ Some input → sink ≡ Some start → site ≡ Some held
-    → OpenedAndEnded NoMemory held s start input faults mark source sink site faults mark
-ended_unopened input start held s source sink site faults mark is_source is_sink is_site = record {
-  faults_then = faults;
-  mark_then = mark;
-  others = [];
-  later = omega arith;
-  goes_on = omega arith;
-  shares = refl;
-  came = tt;
-  ended = λ alone. record {
-    taken = record { given = []; left = input; tells = is_source; parts = refl; gives = refl };
-    outcome = record { unwritten = is_sink; held = held; tells = is_site; slots = refl; history = sym (append-nil held.history) };
-  };
-}
-
-own_foreign : (h : List Entry) (ops : List Op) → own_entries (h ++ Foreign ops ∷ []) ≡ own_entries h
-own_foreign h ops = filter-append is_own h (Foreign ops ∷ []) ∙ append-nil (own_entries h)
-
--- transactions of others apply, and keep the schema
-others_leave : (shared : List TableId) (h others : List Entry) (s : TableState) → AreOthers shared h others → HasNoTickets h s → (n : TableState) × HasNoTickets (h ++ others) n × (n.schema ≡ s.schema)
-others_leave shared h [] s o none = (s, subst (λ (l : List Entry). HasNoTickets l s) (sym (append-nil h)) none, refl)
-others_leave shared h (Definition def ∷ others) s o none = absurd o
-others_leave shared h (Own ticket ops ∷ others) s o none = absurd o
-others_leave shared h (Foreign ops ∷ others) s o none =
-    let (x, x_is, same) = foreign_leaves h ops s none.leaves (o.1 s none.leaves) in
-    let own : own_entries (h ++ Foreign ops ∷ []) ≡ [] = own_foreign h ops ∙ none.none in
-    further x same (others_leave shared (h ++ Foreign ops ∷ []) others x o.2 (record { leaves = x_is; none = own }))
-  where
-    further : (x : TableState) → x.schema ≡ s.schema → (n : TableState) × HasNoTickets ((h ++ Foreign ops ∷ []) ++ others) n × (n.schema ≡ x.schema) → (n : TableState) × HasNoTickets (h ++ Foreign ops ∷ others) n × (n.schema ≡ s.schema)
-    further x same (n, there, later) = (n, subst (λ (l : List Entry). HasNoTickets l n) (append_assoc h (Foreign ops ∷ []) others) there, later ∙ same)
-
--- what the opening of a session leaves of the site and makes of the session
-pub record Opened (shared : List TableId) (session : Session) (held : Held) (s : TableState) (site : Option Held) : Type 0 where
-  pub now : Held
-  pub tells : site ≡ Some now
-  pub slots : now.slots ≡ held.slots
-  pub others : List Entry
-  pub came : AreOthers shared held.history others
-  pub history : now.history ≡ held.history ++ others
-  pub new : IsNew session now.history s.schema
-
-pub session_opened : (shared : List TableId) (session : Session) (held : Held) (s : TableState) (before site : Option Held) → Told before site (Opens shared (Ok session)) → before ≡ Some held → HasNoTickets held.history s → Opened shared session held s site
-session_opened shared session held s None site told is none = cc
-session_opened shared session held s (Some b) None told is none = absurd told
-session_opened shared session held s (Some b) (Some now) told is none =
-    let same : b ≡ held = cc in
-    let came : AreOthers shared held.history told.others = subst (λ (x : Held). AreOthers shared x.history told.others) same told.came in
-    let grown : now.history ≡ held.history ++ told.others = told.is ∙ ap (λ (x : Held). x.history ++ told.others) same in
-    let (n, there, schema) = others_leave shared held.history told.others s came none in
-    record {
-      now = now;
-      tells = refl;
-      slots = told.slots ∙ ap (λ h. h.slots) same;
-      others = told.others;
-      came = came;
-      history = grown;
-      new = subst (λ (defs : List TableDef). IsNew session now.history defs) schema (told.fresh n (subst (λ (h : List Entry). HasNoTickets h n) (sym grown) there));
-    }
-
--- the origin of a run is that of what the site held after the opening
-pub same_origin : (held now : Held) (schema : List TableDef) (start : List ℕ) (faults : ℕ) (mark : Mark) → now.slots ≡ held.slots → now.history ≡ held.history → begins now schema start faults mark ≡ begins held schema start faults mark
-same_origin held now schema start faults mark slots history = ap₂ (λ (a : Slots) (h : List Entry). begins (record { slots = a; history = h }) schema start faults mark) slots history
-
--- after the opening the lines are served
-pub ended_opened : (session : Session) (status : Status) (held : Held) (s : TableState) (start input : List ℕ) (faults faults_then : ℕ) (mark mark_then : Mark) (before mid : Option Held) (source sink source' sink' : Option (List ℕ)) (site : Option Held) (faults' : ℕ) (mark' : Mark)
-    → Told before mid (Opens mark.shared (Ok session)) → faults ≤ faults_then → mark.moment ≤ mark_then.moment → mark_then.shared ≡ mark.shared → Serves session status source sink mid faults_then mark_then source' sink' site faults' mark'
-    → source ≡ Some input → sink ≡ Some start → before ≡ Some held → HasNoTickets held.history s → OpenedAndEnded status held s start input faults mark source' sink' site faults' mark'
-ended_opened session status held s start input faults faults_then mark mark_then before mid source sink source' sink' site faults' mark' told later goes_on shares serves is_source is_sink is_site none =
-    let o = session_opened mark.shared session held s before mid told is_site none in
-    let same = same_origin (with_more held o.others) o.now s.schema start faults_then mark_then o.slots o.history in
-    record {
-      faults_then = faults_then;
-      mark_then = mark_then;
-      others = o.others;
-      later = later;
-      goes_on = goes_on;
-      shares = shares;
-      came = o.came;
-      ended = λ alone. subst (λ (x : Origin). Ended status x input source' sink' site faults' mark') same
-          (serves input start o.now s.schema is_source is_sink o.tells o.new (subst (λ (x : Origin). IsLeftAlone x input) (sym same) alone));
-    }
+-- no line is answered
+ended_untouched : (status : Status) (o : Origin) (input : List ℕ) (source : Option (List ℕ)) (now : Outside) → (status ≡ SchemaFailed) ⊎ (status ≡ NoMemory) → source ≡ Some input → Untouched o now → Ended status o input source now
+ended_untouched SchemaFailed o input source now is told alone = record { taken = record { given = []; left = input; tells = told; parts = refl; gives = refl }; outcome = alone }
+ended_untouched NoMemory o input source now is told alone = record { taken = record { given = []; left = input; tells = told; parts = refl; gives = refl }; outcome = alone }
+ended_untouched Finished o input source now (inl e) told alone = cc
+ended_untouched Finished o input source now (inr e) told alone = cc
+ended_untouched SourceFailed o input source now (inl e) told alone = cc
+ended_untouched SourceFailed o input source now (inr e) told alone = cc
+ended_untouched SinkFailed o input source now (inl e) told alone = cc
+ended_untouched SinkFailed o input source now (inr e) told alone = cc
+ended_untouched LineUnchecked o input source now (inl e) told alone = cc
+ended_untouched LineUnchecked o input source now (inr e) told alone = cc
+ended_untouched InputTooLong o input source now (inl e) told alone = cc
+ended_untouched InputTooLong o input source now (inr e) told alone = cc
 
 -- the opening gave no session
-pub ended_refused : (status : Status) (e : BankError) (held : Held) (s : TableState) (start input : List ℕ) (faults faults' : ℕ) (mark mark' : Mark) (before site : Option Held) (source sink : Option (List ℕ))
-    → (status ≡ SchemaFailed) ⊎ (status ≡ NoMemory) → Told before site (Opens mark.shared (Err e)) → faults ≤ faults' → mark.moment ≤ mark'.moment → mark'.shared ≡ mark.shared
-    → source ≡ Some input → sink ≡ Some start → before ≡ Some held → OpenedAndEnded status held s start input faults mark source sink site faults' mark'
-ended_refused status e held s start input faults faults' mark mark' None site source sink is told later goes_on shares is_source is_sink is_site = cc
-ended_refused status e held s start input faults faults' mark mark' (Some b) None source sink is told later goes_on shares is_source is_sink is_site = absurd told
-ended_refused status e held s start input faults faults' mark mark' (Some b) (Some now) source sink is told later goes_on shares is_source is_sink is_site =
-    let same : b ≡ held = cc in
-    let alone : Untouched (begins (with_more held told.others) s.schema start faults' mark') sink (Some now) = record {
-      unwritten = is_sink;
-      held = now;
-      tells = refl;
-      slots = told.slots ∙ ap (λ h. h.slots) same;
-      history = told.is ∙ ap (λ (x : Held). x.history ++ told.others) same;
-    } in
+pub runs_refused : (settings : TierSettings) (status : Status) (source : Option (List ℕ)) (before behind : Outside) → (status ≡ SchemaFailed) ⊎ (status ≡ NoMemory) → BeginsAt before.site behind.site → behind.written ≡ before.written
+    → Runs settings status source before source behind
+runs_refused settings status source before behind is later unwritten = λ input start there is_source is_sink is_site none.
+    let opened = opened_at before.site behind.site before.coming there later is_site none in
     record {
-      faults_then = faults';
-      mark_then = mark';
-      others = told.others;
+      site = behind.site;
       later = later;
-      goes_on = goes_on;
-      shares = shares;
-      came = subst (λ (x : Held). AreOthers mark.shared x.history told.others) same told.came;
-      ended = λ left. by told.others status is alone;
+      opened = opened;
+      ended = λ alone. ended_untouched status (begins settings start opened) input source behind is is_source
+          (record { unwritten = unwritten ∙ is_sink; held = opened.held; tells = opened.told; slots = refl; history = refl });
     }
+
+-- memory was wanting before the opening
+pub runs_unopened : (settings : TierSettings) (source : Option (List ℕ)) (now behind : Outside) → behind.site ≡ now.site → behind.written ≡ now.written → Runs settings NoMemory source now source behind
+runs_unopened settings source now behind site written =
+    runs_refused settings NoMemory source now behind (inr refl) (rw site (begins_still now.site)) written
+
+-- after the opening the lines are served
+pub runs_opened : (settings : TierSettings) (propagate_ms : ℕ) (session : Session) (status : Status) (source source' : Option (List ℕ)) (before mid behind : Outside) → settings.propagate_ms ≡ propagate_ms
+    → BeginsAt before.site mid.site → mid.written ≡ before.written → session.line ≡ [] → session.output ≡ [] → Opens propagate_ms before.site mid.site before.coming mid.coming session
+    → Serves session status source mid source' behind → Runs settings status source before source' behind
+runs_opened settings propagate_ms session status source source' before mid behind ms later written line output opens serves = λ input start there is_source is_sink is_site none.
+    let new = opens there settings is_site none ms in
+    record {
+      site = mid.site;
+      later = later;
+      opened = new.opened;
+      ended = λ alone. serves (begins settings start new.opened) input is_source
+          (serving_new there before.site before.coming settings session start mid new line output (written ∙ is_sink)) alone;
+    }
+
+-- how a run ended doesn't go by what the clock would answer then
+whole_then : (o : Origin) (lines : List (List ℕ)) (now : Outside) (coming : Coming) → Whole o lines now → Whole o lines (record now { coming = coming })
+whole_then o lines now coming w = record { replies = w.replies; answered = w.answered; tells = w.tells }
+
+short_then : (o : Origin) (lines : List (List ℕ)) (now : Outside) (coming : Coming) → CutShort o lines now → CutShort o lines (record now { coming = coming })
+short_then o lines now coming c = record { replies = c.replies; answered = c.answered; count = c.count; tells = c.tells }
+
+untouched_then : (o : Origin) (now : Outside) (coming : Coming) → Untouched o now → Untouched o (record now { coming = coming })
+untouched_then o now coming u = record { unwritten = u.unwritten; held = u.held; tells = u.tells; slots = u.slots; history = u.history }
+
+outcome_then : (status : Status) (o : Origin) (given : List ℕ) (now : Outside) (coming : Coming) → Outcome status o given now → Outcome status o given (record now { coming = coming })
+outcome_then Finished o given now coming x = whole_then o (all_lines given) now coming x
+outcome_then SourceFailed o given now coming x = whole_then o (ended_lines given) now coming x
+outcome_then InputTooLong o given now coming x = whole_then o (ended_lines given) now coming x
+outcome_then SinkFailed o given now coming x = record { front = x.front; behind = x.behind; parts = x.parts; answered = by x.answered }
   where
-    by : (others : List Entry) (status : Status) → (status ≡ SchemaFailed) ⊎ (status ≡ NoMemory) → Untouched (begins (with_more held others) s.schema start faults' mark') sink (Some now) → Ended status (begins (with_more held others) s.schema start faults' mark') input source sink (Some now) faults' mark'
-    by others SchemaFailed is alone = record { taken = record { given = []; left = input; tells = is_source; parts = refl; gives = refl }; outcome = alone }
-    by others NoMemory is alone = record { taken = record { given = []; left = input; tells = is_source; parts = refl; gives = refl }; outcome = alone }
-    by others Finished (inl e) alone = cc
-    by others Finished (inr e) alone = cc
-    by others SourceFailed (inl e) alone = cc
-    by others SourceFailed (inr e) alone = cc
-    by others SinkFailed (inl e) alone = cc
-    by others SinkFailed (inr e) alone = cc
-    by others LineUnchecked (inl e) alone = cc
-    by others LineUnchecked (inr e) alone = cc
-    by others InputTooLong (inl e) alone = cc
-    by others InputTooLong (inr e) alone = cc
+    by : CutShort o (ended_lines x.front) now ⊎ CutShort o (all_lines x.front) now → CutShort o (ended_lines x.front) (record now { coming = coming }) ⊎ CutShort o (all_lines x.front) (record now { coming = coming })
+    by (inl c) = inl (short_then o (ended_lines x.front) now coming c)
+    by (inr c) = inr (short_then o (all_lines x.front) now coming c)
+outcome_then LineUnchecked o given now coming x = absurd x
+outcome_then SchemaFailed o given now coming x = untouched_then o now coming x
+outcome_then NoMemory o given now coming x = untouched_then o now coming x
+
+pub runs_then : (settings : TierSettings) (status : Status) (source source' : Option (List ℕ)) (before behind : Outside) (coming : Coming) → Runs settings status source before source' behind
+    → Runs settings status source before source' (record behind { coming = coming })
+runs_then settings status source source' before behind coming runs = λ input start there is_source is_sink is_site none.
+    let x = runs input start there is_source is_sink is_site none in
+    record {
+      site = x.site;
+      later = x.later;
+      opened = x.opened;
+      ended = λ alone.
+          let e = x.ended alone in
+          record { taken = e.taken; outcome = outcome_then status (begins settings start x.opened) e.taken.given behind coming e.outcome };
+    }
+
+-- the bases of a run are those by its settings
+pub runs_based : (settings : TierSettings) (status : Status) (source source' : Option (List ℕ)) (before behind : Outside) (bases coming : Coming) → before.coming ≡ bases → Runs settings status source before source' behind
+    → Runs settings status source (record before { coming = bases }) source' (record behind { coming = coming })
+runs_based settings status source source' before behind bases coming is runs =
+    subst (λ (b : Coming). Runs settings status source (record before { coming = b }) source' (record behind { coming = coming })) is
+    (runs_then settings status source source' before behind coming runs)
+
+pub bases_script : (s : Settings) (clock : Coming) → s.clock ≡ Script → (λ n. Some s.start_ms) ≡ bases_by s clock
+bases_script s clock is = sym (ap (λ (source : ClockSource). bases_of source s.start_ms clock) is)
+
+pub bases_system : (s : Settings) (clock : Coming) → s.clock ≡ System → clock ≡ bases_by s clock
+bases_system s clock is = sym (ap (λ (source : ClockSource). bases_of source s.start_ms clock) is)
 
 pub kept_told : (a b : Option (List ℕ)) (x : List ℕ) → a ≡ Some x → Keeps a b → b ≡ Some x
 kept_told None b x is k = cc
@@ -271,43 +213,43 @@ taking_on input room room' source source' buf bytes n are len within less p t =
 unfoldable pub taken_in_piece : (input : List ℕ) (room : ℕ) (source : Option (List ℕ)) → Taking input room source → Taken SinkFailed input source
 taken_in_piece input room source t = record { given = t.given; left = t.left; tells = t.tells; parts = t.parts; gives = omega (arith, t.total) }
 
-pub ended_source : (o : Origin) (input : List ℕ) (room : ℕ) (source source' sink : Option (List ℕ)) (site : Option Held) (faults : ℕ) (mark : Mark) (session : Session) → session.output ≡ [] → 0 < room → Keeps source source'
-    → Going o input room source sink site faults mark session → Ended SourceFailed o input source' sink site faults mark
+pub ended_source : (o : Origin) (input : List ℕ) (room : ℕ) (source source' : Option (List ℕ)) (now : Outside) (session : Session) → session.output ≡ [] → 0 < room → Keeps source source'
+    → Going o input room source now session → Ended SourceFailed o input source' now
 unfolding taken_failed
-ended_source o input room source source' sink site faults mark session none some kept g = record {
+ended_source o input room source source' now session none some kept g = record {
   taken = taken_failed input room source source' some kept g.taking;
-  outcome = serving_whole o g.taking.given sink site faults mark session none g.serving;
+  outcome = serving_whole o g.taking.given now session none g.serving;
 }
 
-pub ended_long : (o : Origin) (input : List ℕ) (room : ℕ) (source sink : Option (List ℕ)) (site : Option Held) (faults : ℕ) (mark : Mark) (session : Session) → session.output ≡ [] → room ≤ 0
-    → Going o input room source sink site faults mark session → Ended InputTooLong o input source sink site faults mark
+pub ended_long : (o : Origin) (input : List ℕ) (room : ℕ) (source : Option (List ℕ)) (now : Outside) (session : Session) → session.output ≡ [] → room ≤ 0
+    → Going o input room source now session → Ended InputTooLong o input source now
 unfolding taken_long
-ended_long o input room source sink site faults mark session none full g = record {
+ended_long o input room source now session none full g = record {
   taken = taken_long input room source full g.taking;
-  outcome = serving_whole o g.taking.given sink site faults mark session none g.serving;
+  outcome = serving_whole o g.taking.given now session none g.serving;
 }
 
-pub ended_all : (o : Origin) (input : List ℕ) (room : ℕ) (source source' sink sink' : Option (List ℕ)) (site site' : Option Held) (faults faults' : ℕ) (mark mark' : Mark) (session : Session) (buf : List ℕ) (n : ℕ) → n ≡ 0 → 0 < room → 0 < length buf
-    → TakeOf source source' n buf → (g : Going o input room source sink site faults mark session) → Whole o (all_lines g.taking.given) sink' site' faults' mark' → Ended Finished o input source' sink' site' faults' mark'
+pub ended_all : (o : Origin) (input : List ℕ) (room : ℕ) (source source' : Option (List ℕ)) (now behind : Outside) (session : Session) (buf : List ℕ) (n : ℕ) → n ≡ 0 → 0 < room → 0 < length buf
+    → TakeOf source source' n buf → (g : Going o input room source now session) → Whole o (all_lines g.taking.given) behind → Ended Finished o input source' behind
 unfolding taken_all
-ended_all o input room source source' sink sink' site site' faults faults' mark mark' session buf n none some space p g whole = record {
+ended_all o input room source source' now behind session buf n none some space p g whole = record {
   taken = taken_all input room source source' buf n none some space p g.taking;
   outcome = whole;
 }
 
-pub ended_unwritten : (o : Origin) (input : List ℕ) (room : ℕ) (source source' sink sink' : Option (List ℕ)) (site site' : Option Held) (faults faults' : ℕ) (mark mark' : Mark) (session : Session) (buf : List ℕ) (n : ℕ) → n ≡ 0
-    → TakeOf source source' n buf → (g : Going o input room source sink site faults mark session) → CutShort o (all_lines g.taking.given) sink' site' faults' mark' → Ended SinkFailed o input source' sink' site' faults' mark'
+pub ended_unwritten : (o : Origin) (input : List ℕ) (room : ℕ) (source source' : Option (List ℕ)) (now behind : Outside) (session : Session) (buf : List ℕ) (n : ℕ) → n ≡ 0
+    → TakeOf source source' n buf → (g : Going o input room source now session) → CutShort o (all_lines g.taking.given) behind → Ended SinkFailed o input source' behind
 unfolding taken_unwritten
-ended_unwritten o input room source source' sink sink' site site' faults faults' mark mark' session buf n none p g short = record {
+ended_unwritten o input room source source' now behind session buf n none p g short = record {
   taken = taken_unwritten input room source source' buf n none p g.taking;
   outcome = record { front = g.taking.given; behind = []; parts = sym (append-nil g.taking.given); answered = inr short };
 }
 
-pub ended_in_piece : (o : Origin) (input : List ℕ) (room room' : ℕ) (source source' sink sink' : Option (List ℕ)) (site site' : Option Held) (faults faults' : ℕ) (mark mark' : Mark) (session : Session) (buf bytes : List ℕ) (n : ℕ)
+pub ended_in_piece : (o : Origin) (input : List ℕ) (room room' : ℕ) (source source' : Option (List ℕ)) (now behind : Outside) (session : Session) (buf bytes : List ℕ) (n : ℕ)
     → bytes ≡ take n buf → length bytes ≡ n → n ≤ room → room' ≡ room - n → TakeOf source source' n buf
-    → (g : Going o input room source sink site faults mark session) → (m : ℕ) × CutShort o (ended_lines (g.taking.given ++ take m bytes)) sink' site' faults' mark' → Ended SinkFailed o input source' sink' site' faults' mark'
+    → (g : Going o input room source now session) → (m : ℕ) × CutShort o (ended_lines (g.taking.given ++ take m bytes)) behind → Ended SinkFailed o input source' behind
 unfolding taking_on taken_in_piece
-ended_in_piece o input room room' source source' sink sink' site site' faults faults' mark mark' session buf bytes n are len within less p g (m, short) = record {
+ended_in_piece o input room room' source source' now behind session buf bytes n are len within less p g (m, short) = record {
   taken = taken_in_piece input room' source' (taking_on input room room' source source' buf bytes n are len within less p g.taking);
   outcome = record {
     front = g.taking.given ++ take m bytes;
@@ -317,11 +259,11 @@ ended_in_piece o input room room' source source' sink sink' site site' faults fa
   };
 }
 
-pub going_on : (o : Origin) (input : List ℕ) (room room' : ℕ) (source source' sink sink' : Option (List ℕ)) (site site' : Option Held) (faults faults' : ℕ) (mark mark' : Mark) (session session' : Session) (buf bytes : List ℕ) (n : ℕ)
+pub going_on : (o : Origin) (input : List ℕ) (room room' : ℕ) (source source' : Option (List ℕ)) (now behind : Outside) (session session' : Session) (buf bytes : List ℕ) (n : ℕ)
     → bytes ≡ take n buf → length bytes ≡ n → n ≤ room → room' ≡ room - n → TakeOf source source' n buf
-    → (g : Going o input room source sink site faults mark session) → Serving o (g.taking.given ++ bytes) sink' site' faults' mark' session' → Going o input room' source' sink' site' faults' mark' session'
+    → (g : Going o input room source now session) → Serving o (g.taking.given ++ bytes) behind session' → Going o input room' source' behind session'
 unfolding taking_on
-going_on o input room room' source source' sink sink' site site' faults faults' mark mark' session session' buf bytes n are len within less p g s = record {
+going_on o input room room' source source' now behind session session' buf bytes n are len within less p g s = record {
   taking = taking_on input room room' source source' buf bytes n are len within less p g.taking;
   serving = s;
 }

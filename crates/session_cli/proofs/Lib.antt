@@ -1,9 +1,10 @@
+pub mod CheckLaws
 pub mod CuttingLaws
+pub mod DigitLaws
+pub mod EndsLaws
+pub mod FlatMaps
 pub mod OpeningLaws
 pub mod OutputLaws
-pub mod FlatMaps
+pub mod RunLaws
 pub mod ServingLaws
-pub mod EndsLaws
-pub mod CheckLaws
 pub mod TopLaws
-pub mod DigitLaws

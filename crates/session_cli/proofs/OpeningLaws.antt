@@ -1,43 +1,147 @@
--- The opening of a session.
-use Rattle.std.proofs.Common.{◌≡◌, Bool, List, [], ◌++◌, Option, Some, None, Ok, Err, refl, sym, append-nil}
-use Rattle.table_state.specs.declared.history.Entry.{Entry}
-use Rattle.table_state.specs.declared.history.Sealed.{Sealed}
-use Rattle.table_state.specs.Tables.{TableState}
+-- The opening of a run.
+use Rattle.std.proofs.Common.{◌≡◌, ◌||◌, ℕ, zero, suc, Bool, true, false, List, [], ◌∷◌, ◌++◌, Option, Some, None, Ok, Err, refl, sym, ◌∙◌, ap, arith, subst, append-nil, append_assoc, lit≤}
+use Rattle.std.specs.Option.{IsSome}
+use Rattle.tier_base.specs.declared.number.Moment.{Moment}
 use Rattle.tier_base.specs.declared.number.TableId.{TableId}
-use Rattle.outside.specs.Calls.{Told}
+use Rattle.table_state.specs.declared.history.Entry.{Entry}
+use Rattle.table_state.specs.declared.history.Entry.TheVariants.{Definition, Foreign, Own}
+use Rattle.table_state.specs.declared.operation.Op.{Op}
+use Rattle.table_state.specs.Histories.{has_ticket, is_of, state_of}
+use Rattle.table_state.specs.Tables.{TableState}
+use Rattle.table_state.proofs.HistoryLaws.{has_ticket-append}
 use Rattle.outside.specs.Holding.{Held}
-use Rattle.outside.specs.declared.fault.BankError.{BankError}
-use Rattle.tier_engine.specs.declared.tier.Tier.{Tier}
-use Rattle.order_laws.specs.Commits.{KeepsCommitOrder}
-use Rattle.abstract_tier.specs.ReadOnlyStates.{ShowCommitted}
-use Rattle.tier_engine.specs.Standing.{Begins, StandsFor, tier_state}
+use Rattle.outside.specs.Others.{AreOthers}
+use Rattle.order_laws.specs.Commits.{Once}
+use Rattle.order_laws.specs.Steps.{MayBegin}
+use Rattle.cache_tier.specs.TierStates.{Settings as TierSettings}
+use Rattle.cache_engine.specs.declared.tier.Tier.{Tier}
+use Rattle.cache_engine.specs.Beginning.{Begins, BeginsAt, OthersCame}
+use Rattle.cache_engine.specs.Performing.{KeepsSlots, StandsFor}
+use Rattle.cache_engine.specs.Sites.{IsAt, SiteView}
 use Rattle.session_cli.specs.declared.session.Session.{Session}
-use Rattle.session_cli.specs.Serving.{HasNoTickets, IsNew, Opens}
+use Rattle.session_cli.specs.Opening.{HasNoTickets, IsNew, Opened, Opens, begins, world_at}
+use Rattle.session_cli.specs.Outside.{Outside}
+use Rattle.session_cli.specs.Serving.{Serving}
+use Rattle.session_cli.specs.Timing.{AreLeft, Coming, IsNext}
+use Rattle.session_cli.proofs.CuttingLaws.{front_short}
+use Rattle.session_cli.proofs.ServingLaws.{kept_slots}
 
--- the site wasn't called
-pub not_called : (shared : List TableId) (site : Option Held) (e : BankError) → Told site site (Opens shared (Err e))
-not_called shared None e = tt
-not_called shared (Some held) e = record { slots = refl; others = []; came = tt; is = sym (append-nil held.history); fresh = tt }
+-- some moment is the next one, also where none is told
+record SomeNext (told : Option ℕ) : Type 0 where
+  moment : ℕ
+  is : IsNext told moment
 
--- the tier was opened, and the session has been given nothing
-pub with_tier : (shared : List TableId) (session : Session) (tier : Tier) (before after : Option Held) → session.tier ≡ tier → session.line ≡ [] → session.output ≡ []
-    → ((t : Tier) (log : List Sealed) (history : List Entry) → StandsFor t log history → KeepsCommitOrder history log)
-    → ((t : Tier) (log : List Sealed) (history : List Entry) → StandsFor t log history → ShowCommitted history (tier_state t log).read_only)
-    → Told before after (Begins shared (Ok tier)) → Told before after (Opens shared (Ok session))
-with_tier shared session tier None after is line output legal committed told = tt
-with_tier shared session tier (Some held) None is line output legal committed told = absurd told
-with_tier shared session tier (Some held) (Some now) is line output legal committed told = record {
-  slots = told.slots;
-  others = told.others;
-  came = told.came;
-  is = told.is;
-  fresh = λ (s : TableState) (none : HasNoTickets now.history s).
-      let x = told.opened s none.leaves none.none in
-      record { stands = rw is x.0; legal = legal session.tier [] now.history (rw is x.0); committed = committed session.tier [] now.history (rw is x.0); tier = rw is x.1; line = line; output = output };
+some_next : (told : Option ℕ) → SomeNext told
+some_next None = record { moment = 0; is = tt }
+some_next (Some moment) = record { moment = moment; is = refl }
+
+-- transactions of others leave a state, and are no tickets
+others_leave : (shared : List TableId) (h others : List Entry) → AreOthers shared h others → HasNoTickets h → HasNoTickets (h ++ others)
+others_leave shared h [] o none = subst HasNoTickets (sym (append-nil h)) none
+others_leave shared h (Definition def ∷ others) o none = absurd o
+others_leave shared h (Own ticket ops ∷ others) o none = absurd o
+others_leave shared h (Foreign ops ∷ others) o none =
+    subst HasNoTickets (append_assoc h (Foreign ops ∷ []) others)
+    (others_leave shared (h ++ Foreign ops ∷ []) others o.2 (with_one (state_of (h ++ Foreign ops ∷ [])) refl (o.1 none.state none.leaves)))
+  where
+    with_one : (x : Option TableState) → state_of (h ++ Foreign ops ∷ []) ≡ x → IsSome x → HasNoTickets (h ++ Foreign ops ∷ [])
+    with_one None is some = cc
+    with_one (Some state) is some = record {
+      state = state;
+      leaves = is;
+      none = λ t. has_ticket-append t h (Foreign ops ∷ []) ∙ ap (λ b. b || has_ticket t (Foreign ops ∷ [])) (none.none t);
+    }
+
+-- a history without tickets has each once
+none_twice : (h : List Entry) → ((t : ℕ) → has_ticket t h ≡ false) → Once h
+none_twice [] none = tt
+none_twice (Definition def ∷ h) none = none_twice h none
+none_twice (Foreign ops ∷ h) none = none_twice h none
+none_twice (Own ticket ops ∷ h) none = (behind ticket.0, none_twice h behind)
+  where
+    or_none : (a b : Bool) → (a || b) ≡ false → b ≡ false
+    or_none true b is = cc
+    or_none false b is = is
+
+    behind : (t : ℕ) → has_ticket t h ≡ false
+    behind t = or_none (is_of t (Own ticket ops)) (has_ticket t h) (none t)
+
+pub may_begin : (h : List Entry) → HasNoTickets h → MayBegin h 1
+may_begin h none = record {
+  state = none.state;
+  leaves = none.leaves;
+  once = none_twice h none.none;
+  first = lit≤ tt;
+  below = λ t le. none.none t;
 }
 
--- the tier wasn't opened
-pub without_tier : (shared : List TableId) (e : BankError) (before after : Option Held) → Told before after (Begins shared (Err e)) → Told before after (Opens shared (Err e))
-without_tier shared e None after told = tt
-without_tier shared e (Some held) None told = absurd told
-without_tier shared e (Some held) (Some now) told = record { slots = told.slots; others = told.others; came = told.came; is = told.is; fresh = tt }
+-- the tier was begun, and its session has been given nothing
+pub opens_begun : (before behind : SiteView) (bases left : Coming) (propagate_ms : ℕ) (start : Moment) (tier : Tier) (session : Session) → session.tier ≡ tier → IsNext (bases 0) start.0 → AreLeft bases 1 left
+    → Begins start propagate_ms before behind (Ok tier) → BeginsAt before behind → Opens propagate_ms before behind bases left session
+opens_begun before behind bases left propagate_ms start tier session is first more begins later = λ there settings told none ms.
+    let b = begins there told in
+    let no : HasNoTickets b.held.history = subst HasNoTickets (sym b.is) (others_leave before.shared there.history b.others b.came none) in
+    record {
+      opened = record {
+        start = start.0;
+        first = first;
+        held = b.held;
+        told = b.told;
+        slots = kept_slots before.held behind.held there b.held told b.told later.slots;
+        others = b.others;
+        came = b.came;
+        is = b.is;
+        state = no.state;
+        leaves = no.leaves;
+      };
+      stands = rw is (b.opened settings no.state ms no.leaves (may_begin b.held.history no));
+      left = more;
+    }
+
+-- the site was asked, or wasn't: others came
+pub opened_at : (before behind : SiteView) (bases : Coming) (there : Held) → BeginsAt before behind → before.held ≡ Some there → HasNoTickets there.history → Opened there before behind bases
+opened_at before behind bases there later told none =
+    let o = later.others there told in
+    let no : HasNoTickets o.now.history = subst HasNoTickets (sym o.is) (others_leave before.shared there.history o.others o.came none) in
+    let next = some_next (bases 0) in
+    record {
+      start = next.moment;
+      first = next.is;
+      held = o.now;
+      told = o.told;
+      slots = kept_slots before.held behind.held there o.now told o.told later.slots;
+      others = o.others;
+      came = o.came;
+      is = o.is;
+      state = no.state;
+      leaves = no.leaves;
+    }
+
+-- a site that isn't called begins so
+pub begins_still : (site : SiteView) → BeginsAt site site
+begins_still site = record {
+  later = omega arith;
+  moment = omega arith;
+  shares = refl;
+  slots = slots_still site.held;
+  others = λ there told. record { now = there; told = told; others = []; came = tt; is = sym (append-nil there.history) };
+}
+  where
+    slots_still : (held : Option Held) → KeepsSlots held held
+    slots_still None = tt
+    slots_still (Some held) = refl
+
+-- at the beginning nothing is given
+pub serving_new : (there : Held) (before : SiteView) (bases : Coming) (settings : TierSettings) (session : Session) (start : List ℕ) (now : Outside) (new : IsNew there before now.site bases now.coming settings session)
+    → session.line ≡ [] → session.output ≡ [] → now.written ≡ Some start → Serving (begins settings start new.opened) [] now session
+serving_new there before bases settings session start now new line output written = record {
+  world = world_at settings new.opened;
+  replies = [];
+  comes = record { given = []; are = refl; asked = 1; timed = refl; run = refl };
+  at = record { there = new.opened.held; told = new.opened.told; history = refl; faults = refl; moment = refl; shared = refl };
+  slots = refl;
+  stands = new.stands;
+  left = new.left;
+  line = line ∙ sym (front_short [] (lit≤ tt));
+  passed = record { count = 0; written = rw written (sym (append-nil start)); waits = output };
+}

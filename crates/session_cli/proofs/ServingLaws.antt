@@ -2,25 +2,26 @@
 use Rattle.std.proofs.Common.{◌≡◌, ◌≢◌, ℕ, zero, suc, ◌+◌, ◌<◌, length, get_or, List, [], ◌∷◌, ◌++◌, take, drop, Option, Some, None, Result, Ok, Err, refl, sym, ◌∙◌, ap, subst, append-nil, append_assoc, lit≤, take-append-drop}
 use Rattle.std.specs.Io.KnownBytes.{Appends}
 use Rattle.std.specs.Result.{IsErr, OnOk}
+use Rattle.table_state.specs.Tables.{TableState}
 use Rattle.outside.specs.Holding.{Held}
-use Rattle.tier_engine.specs.declared.tier.Tier.{Tier}
-use Rattle.abstract_tier.specs.declared.reply.Reply.{Reply}
-use Rattle.abstract_tier.specs.Replying.{reply_bytes, replies_bytes}
-use Rattle.tier_engine.specs.Standing.{IsApart, Mark, world_of}
-use Rattle.abstract_tier.specs.Steps.{World, Run, LineStep}
+use Rattle.order_laws.specs.Commits.{IsLegal, KeepsCommitOrder, conflicting}
+use Rattle.cache_tier.specs.declared.reply.Reply.{Reply}
+use Rattle.cache_tier.specs.Replying.{reply_bytes, replies_bytes}
+use Rattle.cache_tier.specs.Worlds.{IsUnshared, World}
+use Rattle.tier_laws.specs.Standing.{Stands}
+use Rattle.cache_engine.specs.declared.tier.Tier.{Tier}
+use Rattle.cache_engine.specs.Performing.{KeepsSlots, StandsFor}
+use Rattle.cache_engine.specs.Requests.{Given}
+use Rattle.cache_engine.specs.Sites.{IsAt, SiteView}
 use Rattle.session_cli.specs.declared.session.Session.{Session}
 use Rattle.session_cli.specs.Cutting.{cut, front_of, text_of, ended_lines, all_lines}
+use Rattle.session_cli.specs.Outside.{Outside}
 use Rattle.session_cli.specs.Output.{Splits, Breaks, Passes}
-use Rattle.session_cli.specs.Serving.{IsLeftAlone, Origin, Responds, Serving, Answered, Whole, CutShort, Feeds, Finishes, Closing, Closes}
+use Rattle.session_cli.specs.Serving.{Comes, IsLeftAlone, Origin, Responds, Serving, Answered, Whole, CutShort, Feeds, Finishes, Closing, Closes}
+use Rattle.session_cli.specs.Timing.{AreLeft}
 use Rattle.session_cli.proofs.CuttingLaws.{ended_push, rest_ended, ended_same, rest_push, front_push, front_short, text_front, take_one, take_within, all_ended, all_more}
 use Rattle.session_cli.proofs.OutputLaws.{splits_then, breaks_then}
-
--- a step more
-pub run_push : (w : World) (ls : List (List ℕ)) (rs : List (Option Reply)) (w1 : World) (l : List ℕ) (r : Option Reply) (w2 : World) → Run w ls rs w1 → LineStep w1 l w2 r → Run w (ls ++ l ∷ []) (rs ++ r ∷ []) w2
-run_push w [] [] w1 l r w2 run step = (w2, subst (λ (x : World). LineStep x l w2 r) run step, refl)
-run_push w [] (r' ∷ rs) w1 l r w2 run step = absurd run
-run_push w (l' ∷ ls) [] w1 l r w2 run step = absurd run
-run_push w (l' ∷ ls) (r' ∷ rs) w1 l r w2 (mid, first, rest) step = (mid, first, run_push mid ls rs w1 l r w2 rest step)
+use Rattle.session_cli.proofs.RunLaws.{CameOn, comes_on}
 
 pub replies_push : (rs : List (Option Reply)) (r : Option Reply) → replies_bytes (rs ++ r ∷ []) ≡ replies_bytes rs ++ reply_bytes r
 replies_push [] r = append-nil (reply_bytes r)
@@ -30,182 +31,208 @@ pub told_after : (a : List ℕ) (b : Option (List ℕ)) (xs : List ℕ) → Appe
 told_after a None xs p = absurd p
 told_after a (Some b) xs p = ap (λ l. Some l) p
 
--- the ended lines and one more are answered
-pub answered_line : {E : Type 0} (res : Result (Unit {0}) E) (o : Origin) (given : List ℕ) (sink sink' : Option (List ℕ)) (site site' : Option Held) (faults faults' : ℕ) (mark mark' : Mark) (session : Session) (tier' : Tier) (waiting' line : List ℕ)
-    → (s : Serving o given sink site faults mark session) → (r : Responds res sink sink' session.output waiting' site' faults faults' mark mark' session.tier tier' s.log s.held line)
-    → Answered o (ended_lines given ++ line ∷ []) (s.replies ++ r.reply ∷ []) site' faults' mark'
-answered_line res o given sink sink' site site' faults faults' mark mark' session tier' waiting' line s r = record {
-  last = world_of tier' r.served.log' r.served.held'.history faults' mark';
-  run = run_push o.world (ended_lines given) s.replies (world_of session.tier s.log s.held.history faults mark) line r.reply (world_of tier' r.served.log' r.served.held'.history faults' mark') s.run r.served.made;
-  held = r.served.held';
-  tells = r.served.tells;
-  slots = r.served.slots ∙ s.slots;
-  history = refl;
-  counted = refl;
-  now = refl;
-  shares = refl;
-  legal = r.legal;
-  committed = r.committed;
+-- a tier that stands does so over a legal history
+legal_of : (w : World) → Stands w → KeepsCommitOrder w.history w.tier.log
+legal_of w x s is =
+    let over = x.flow.stand.over in
+    let told : Some over.backing ≡ Some s = sym over.leaves ∙ is in
+    let same : over.backing ≡ s = cc in
+    subst (λ (state : TableState). IsLegal (conflicting state.schema) w.history w.tier.log) same over.legal
+
+-- a run has led to a world for which the tier stands
+pub answered_by : (o : Origin) (lines : List (List ℕ)) (replies : List (Option Reply)) (site : SiteView) (tier : Tier) (w : World) → Comes o lines replies w → (at : IsAt site w) → at.there.slots ≡ o.slots → StandsFor tier w
+    → Answered o lines replies site
+answered_by o lines replies site tier w comes at slots stands = record {
+  last = w;
+  comes = comes;
+  at = at;
+  slots = slots;
+  legal = legal_of w stands.stands;
+  read = stands.stands.read;
 }
 
+-- the slots of a site that tells what it holds
+pub kept_slots : (a b : Option Held) (x y : Held) → a ≡ Some x → b ≡ Some y → KeepsSlots a b → y.slots ≡ x.slots
+kept_slots None b x y is is' kept = cc
+kept_slots (Some a) None x y is is' kept = absurd kept
+kept_slots (Some a) (Some b) x y is is' kept =
+    let before : a ≡ x = cc in
+    let behind : b ≡ y = cc in
+    sym (ap (λ (h : Held). h.slots) behind) ∙ kept ∙ ap (λ (h : Held). h.slots) before
+
+-- the run goes on by a line that was answered
+came_line : {E : Type 0} (res : Result (Unit {0}) E) (o : Origin) (given : List ℕ) (lines : List (List ℕ)) (before behind : Outside) (session : Session) (tier' : Tier) (waiting' line : List ℕ) → ended_lines given ++ line ∷ [] ≡ lines
+    → (s : Serving o given before session) → (r : Responds res before behind session.output waiting' tier' s.world line)
+    → CameOn o lines (s.replies ++ r.reply ∷ []) r.world behind.coming
+came_line res o given lines before behind session tier' waiting' line is s r =
+    let g : Given = record { base = r.base; bytes = line } in
+    comes_on o (ended_lines given) lines s.replies s.world s.comes before.coming behind.coming g r.reply r.world is s.left r.took r.step
+
+-- the ended lines and one more are answered
+pub answered_line : {E : Type 0} (res : Result (Unit {0}) E) (o : Origin) (given : List ℕ) (lines : List (List ℕ)) (before behind : Outside) (session : Session) (tier' : Tier) (waiting' line : List ℕ) → ended_lines given ++ line ∷ [] ≡ lines
+    → (s : Serving o given before session) → KeepsSlots before.site.held behind.site.held → (r : Responds res before behind session.output waiting' tier' s.world line)
+    → Answered o lines (s.replies ++ r.reply ∷ []) behind.site
+answered_line res o given lines before behind session tier' waiting' line is s kept r =
+    answered_by o lines (s.replies ++ r.reply ∷ []) behind.site tier' r.world
+    (came_line res o given lines before behind session tier' waiting' line is s r).comes r.at
+    (kept_slots before.site.held behind.site.held s.at.there r.at.there s.at.told r.at.told kept ∙ s.slots) r.stands
+
 -- a front of the replies is written
-pub cut_short : (o : Origin) (lines : List (List ℕ)) (replies : List (Option Reply)) (sink : Option (List ℕ)) (site : Option Held) (faults : ℕ) (mark : Mark) → Answered o lines replies site faults mark → Breaks (Some o.written) sink (replies_bytes replies)
-    → CutShort o lines sink site faults mark
-cut_short o lines replies sink site faults mark a b = record { replies = replies; answered = a; count = b.count; tells = told_after o.written sink (take b.count (replies_bytes replies)) b.written }
+pub cut_short : (o : Origin) (lines : List (List ℕ)) (replies : List (Option Reply)) (now : Outside) → Answered o lines replies now.site → Breaks (Some o.written) now.written (replies_bytes replies) → CutShort o lines now
+cut_short o lines replies now a b = record { replies = replies; answered = a; count = b.count; tells = told_after o.written now.written (take b.count (replies_bytes replies)) b.written }
+
+-- a line feed ends the line that was given
+ended_by : (given line : List ℕ) (session : Session) → line ≡ text_of session.line → session.line ≡ front_of (cut given).1 → ended_lines given ++ line ∷ [] ≡ ended_lines (given ++ 10 ∷ [])
+ended_by given line session is front =
+    let text : line ≡ text_of (cut given).1 = is ∙ ap text_of front ∙ text_front (cut given).1 in
+    ap (λ l. ended_lines given ++ l ∷ []) text ∙ sym (ended_push given)
 
 -- a line feed came, and the reply was passed on
-pub serving_line : {E : Type 0} (o : Origin) (given : List ℕ) (sink sink' : Option (List ℕ)) (site site' : Option Held) (faults faults' : ℕ) (mark mark' : Mark) (session session' : Session) (line : List ℕ)
-    → line ≡ text_of session.line → session'.line ≡ [] → (s : Serving o given sink site faults mark session)
-    → Responds {E = E} (Ok tt) sink sink' session.output session'.output site' faults faults' mark mark' session.tier session'.tier s.log s.held line
-    → Serving o (given ++ 10 ∷ []) sink' site' faults' mark' session'
-unfolding answered_line
-serving_line o given sink sink' site site' faults faults' mark mark' session session' line is empty s r =
-    let text : line ≡ text_of (cut given).1 = is ∙ ap text_of s.line ∙ text_front (cut given).1 in
-    let lines : ended_lines given ++ line ∷ [] ≡ ended_lines (given ++ 10 ∷ []) = ap (λ l. ended_lines given ++ l ∷ []) text ∙ sym (ended_push given) in
-    let a = answered_line _ o given sink sink' site site' faults faults' mark mark' session session'.tier session'.output line s r in
+pub serving_line : {E : Type 0} (o : Origin) (given : List ℕ) (before behind : Outside) (session session' : Session) (line : List ℕ)
+    → line ≡ text_of session.line → session'.line ≡ [] → KeepsSlots before.site.held behind.site.held → (s : Serving o given before session)
+    → Responds {E = E} (Ok tt) before behind session.output session'.output session'.tier s.world line
+    → Serving o (given ++ 10 ∷ []) behind session'
+serving_line o given before behind session session' line is empty kept s r =
+    let lines = ended_by given line session is s.line in
+    let came = came_line _ o given (ended_lines (given ++ 10 ∷ [])) before behind session session'.tier session'.output line lines s r in
     record {
-      log = r.served.log';
-      held = r.served.held';
+      world = r.world;
       replies = s.replies ++ r.reply ∷ [];
-      tells = r.served.tells;
-      slots = a.slots;
-      stands = r.served.stands;
-      legal = r.legal;
-      committed = r.committed;
-      run = subst (λ (ls : List (List ℕ)). Run o.world ls (s.replies ++ r.reply ∷ []) (world_of session'.tier r.served.log' r.served.held'.history faults' mark')) lines a.run;
+      comes = came.comes;
+      at = r.at;
+      slots = kept_slots before.site.held behind.site.held s.at.there r.at.there s.at.told r.at.told kept ∙ s.slots;
+      stands = r.stands;
+      left = came.left;
       line = empty ∙ sym (ap front_of (rest_ended given) ∙ front_short [] (lit≤ tt));
-      passed = rw (replies_push s.replies r.reply) (splits_then (Some o.written) sink sink' (replies_bytes s.replies) session.output (reply_bytes r.reply) session'.output s.passed r.passed);
+      passed = rw (replies_push s.replies r.reply) (splits_then (Some o.written) before.written behind.written (replies_bytes s.replies) session.output (reply_bytes r.reply) session'.output s.passed r.passed);
     }
 
 -- a line feed came, and the sink failed
-pub cut_short_line : {E : Type 0} (e : E) (o : Origin) (given : List ℕ) (sink sink' : Option (List ℕ)) (site site' : Option Held) (faults faults' : ℕ) (mark mark' : Mark) (session : Session) (tier' : Tier) (waiting' line : List ℕ)
-    → line ≡ text_of session.line → (s : Serving o given sink site faults mark session)
-    → Responds (Err e) sink sink' session.output waiting' site' faults faults' mark mark' session.tier tier' s.log s.held line
-    → CutShort o (ended_lines (given ++ 10 ∷ [])) sink' site' faults' mark'
-cut_short_line e o given sink sink' site site' faults faults' mark mark' session tier' waiting' line is s r =
-    let text : line ≡ text_of (cut given).1 = is ∙ ap text_of s.line ∙ text_front (cut given).1 in
-    let lines : ended_lines given ++ line ∷ [] ≡ ended_lines (given ++ 10 ∷ []) = ap (λ l. ended_lines given ++ l ∷ []) text ∙ sym (ended_push given) in
-    let a = answered_line _ o given sink sink' site site' faults faults' mark mark' session tier' waiting' line s r in
-    subst (λ (ls : List (List ℕ)). CutShort o ls sink' site' faults' mark') lines
-    (cut_short o (ended_lines given ++ line ∷ []) (s.replies ++ r.reply ∷ []) sink' site' faults' mark' a
-    (rw (replies_push s.replies r.reply) (breaks_then (Some o.written) sink sink' (replies_bytes s.replies) session.output (reply_bytes r.reply) s.passed r.passed)))
+pub cut_short_line : {E : Type 0} (e : E) (o : Origin) (given : List ℕ) (before behind : Outside) (session : Session) (tier' : Tier) (waiting' line : List ℕ)
+    → line ≡ text_of session.line → KeepsSlots before.site.held behind.site.held → (s : Serving o given before session)
+    → Responds (Err e) before behind session.output waiting' tier' s.world line
+    → CutShort o (ended_lines (given ++ 10 ∷ [])) behind
+cut_short_line e o given before behind session tier' waiting' line is kept s r =
+    let lines = ended_by given line session is s.line in
+    let a = answered_line _ o given (ended_lines (given ++ 10 ∷ [])) before behind session tier' waiting' line lines s kept r in
+    cut_short o (ended_lines (given ++ 10 ∷ [])) (s.replies ++ r.reply ∷ []) behind a
+    (rw (replies_push s.replies r.reply) (breaks_then (Some o.written) before.written behind.written (replies_bytes s.replies) session.output (reply_bytes r.reply) s.passed r.passed))
+
+-- other lines of the same run
+comes_same : (o : Origin) (lines lines' : List (List ℕ)) (replies : List (Option Reply)) (w : World) → lines ≡ lines' → Comes o lines replies w → Comes o lines' replies w
+comes_same o lines lines' replies w is c = record { given = c.given; are = c.are ∙ is; asked = c.asked; timed = c.timed; run = c.run }
 
 -- another byte came
-pub serving_byte : (o : Origin) (given : List ℕ) (b : ℕ) (sink : Option (List ℕ)) (site : Option Held) (faults : ℕ) (mark : Mark) (session session' : Session)
+pub serving_byte : (o : Origin) (given : List ℕ) (b : ℕ) (now : Outside) (session session' : Session)
     → b ≢ 10 → session'.tier ≡ session.tier → session'.line ≡ front_of (session.line ++ b ∷ []) → session'.output ≡ session.output
-    → Serving o given sink site faults mark session → Serving o (given ++ b ∷ []) sink site faults mark session'
-serving_byte o given b sink site faults mark session session' differs tier line output s = record {
-  log = s.log;
-  held = s.held;
+    → Serving o given now session → Serving o (given ++ b ∷ []) now session'
+unfolding comes_same
+serving_byte o given b now session session' differs tier line output s = record {
+  world = s.world;
   replies = s.replies;
-  tells = s.tells;
+  comes = comes_same o (ended_lines given) (ended_lines (given ++ b ∷ [])) s.replies s.world (sym (ended_same given b differs)) s.comes;
+  at = s.at;
   slots = s.slots;
   stands = rw tier s.stands;
-  legal = s.legal;
-  committed = rw tier s.committed;
-  run = rw (ended_same given b differs, tier) s.run;
+  left = s.left;
   line = line ∙ ap (λ l. front_of (l ++ b ∷ [])) s.line ∙ front_push (cut given).1 b ∙ sym (ap front_of (rest_push given b differs));
   passed = rw output s.passed;
 }
 
 -- the sink failed behind a front of the bytes
-pub feeds_failed : {E : Type 0} (r : Result (Unit {0}) E) (o : Origin) (given bytes : List ℕ) (n : ℕ) (sink : Option (List ℕ)) (site : Option Held) (faults : ℕ) (mark : Mark) (session : Session) → IsErr r
-    → CutShort o (ended_lines (given ++ take n bytes)) sink site faults mark → Feeds r o given bytes sink site faults mark session
-feeds_failed (Ok done) o given bytes n sink site faults mark session is c = cc
-feeds_failed (Err e) o given bytes n sink site faults mark session is c = (n, c)
+pub feeds_failed : {E : Type 0} (r : Result (Unit {0}) E) (o : Origin) (given bytes : List ℕ) (n : ℕ) (now : Outside) (session : Session) → IsErr r
+    → CutShort o (ended_lines (given ++ take n bytes)) now → Feeds r o given bytes now session
+feeds_failed (Ok done) o given bytes n now session is c = cc
+feeds_failed (Err e) o given bytes n now session is c = (n, c)
 
-pub feeds_again : {E F : Type 0} (e : E) (r : Result (Unit {0}) F) (o : Origin) (given bytes : List ℕ) (sink : Option (List ℕ)) (site : Option Held) (faults : ℕ) (mark : Mark) (session session' : Session) → IsErr r
-    → Feeds (Err e) o given bytes sink site faults mark session → Feeds r o given bytes sink site faults mark session'
-feeds_again e (Ok done) o given bytes sink site faults mark session session' is c = cc
-feeds_again e (Err f) o given bytes sink site faults mark session session' is c = c
+pub feeds_again : {E F : Type 0} (e : E) (r : Result (Unit {0}) F) (o : Origin) (given bytes : List ℕ) (now : Outside) (session session' : Session) → IsErr r
+    → Feeds (Err e) o given bytes now session → Feeds r o given bytes now session'
+feeds_again e (Ok done) o given bytes now session session' is c = cc
+feeds_again e (Err f) o given bytes now session session' is c = c
 
 -- the sink failed at a byte of a piece
-pub feeds_byte_failed : {E F : Type 0} (e : E) (r : Result (Unit {0}) F) (o : Origin) (given bytes : List ℕ) (i : ℕ) (sink : Option (List ℕ)) (site : Option Held) (faults : ℕ) (mark : Mark) (session session' : Session) → IsErr r → i < length bytes
-    → Feeds (Err e) o (given ++ take i bytes) (get_or bytes i 0 ∷ []) sink site faults mark session → Feeds r o given bytes sink site faults mark session'
-feeds_byte_failed e r o given bytes i sink site faults mark session session' is lt (n, c) =
+pub feeds_byte_failed : {E F : Type 0} (e : E) (r : Result (Unit {0}) F) (o : Origin) (given bytes : List ℕ) (i : ℕ) (now : Outside) (session session' : Session) → IsErr r → i < length bytes
+    → Feeds (Err e) o (given ++ take i bytes) (get_or bytes i 0 ∷ []) now session → Feeds r o given bytes now session'
+feeds_byte_failed e r o given bytes i now session session' is lt (n, c) =
     let w = take_within bytes i n lt in
-    feeds_failed r o given bytes w.0 sink site faults mark session' is
-    (subst (λ (l : List ℕ). CutShort o (ended_lines l) sink site faults mark) (append_assoc given (take i bytes) (take n (get_or bytes i 0 ∷ [])) ∙ ap (λ l. given ++ l) w.1) c)
+    feeds_failed r o given bytes w.0 now session' is
+    (subst (λ (l : List ℕ). CutShort o (ended_lines l) now) (append_assoc given (take i bytes) (take n (get_or bytes i 0 ∷ [])) ∙ ap (λ l. given ++ l) w.1) c)
 
 -- a byte of a piece was taken in
-pub serving_more : (o : Origin) (given bytes : List ℕ) (i : ℕ) (sink : Option (List ℕ)) (site : Option Held) (faults : ℕ) (mark : Mark) (session : Session) → i < length bytes
-    → Serving o ((given ++ take i bytes) ++ get_or bytes i 0 ∷ []) sink site faults mark session → Serving o (given ++ take (i + 1) bytes) sink site faults mark session
-serving_more o given bytes i sink site faults mark session lt s =
-    subst (λ (l : List ℕ). Serving o l sink site faults mark session) (append_assoc given (take i bytes) (get_or bytes i 0 ∷ []) ∙ ap (λ l. given ++ l) (take_one bytes i lt)) s
+pub serving_more : (o : Origin) (given bytes : List ℕ) (i : ℕ) (now : Outside) (session : Session) → i < length bytes
+    → Serving o ((given ++ take i bytes) ++ get_or bytes i 0 ∷ []) now session → Serving o (given ++ take (i + 1) bytes) now session
+serving_more o given bytes i now session lt s =
+    subst (λ (l : List ℕ). Serving o l now session) (append_assoc given (take i bytes) (get_or bytes i 0 ∷ []) ∙ ap (λ l. given ++ l) (take_one bytes i lt)) s
 
 -- the ended lines are answered
-pub answered_here : (o : Origin) (given : List ℕ) (sink : Option (List ℕ)) (site : Option Held) (faults : ℕ) (mark : Mark) (session : Session) → (s : Serving o given sink site faults mark session) → Answered o (ended_lines given) s.replies site faults mark
-answered_here o given sink site faults mark session s = record {
-  last = world_of session.tier s.log s.held.history faults mark;
-  run = s.run;
-  held = s.held;
-  tells = s.tells;
-  slots = s.slots;
-  history = refl;
-  counted = refl;
-  now = refl;
-  shares = refl;
-  legal = s.legal;
-  committed = s.committed;
-}
+pub answered_here : (o : Origin) (given : List ℕ) (now : Outside) (session : Session) → (s : Serving o given now session) → Answered o (ended_lines given) s.replies now.site
+answered_here o given now session s = answered_by o (ended_lines given) s.replies now.site session.tier s.world s.comes s.at s.slots s.stands
 
 pub take_whole : (xs : List ℕ) → take (length xs) xs ≡ xs
 take_whole [] = refl
 take_whole (x ∷ xs) = ap (λ l. x ∷ l) (take_whole xs)
 
 -- what waited is written
-pub serving_flushed : {E : Type 0} (r : Result (Unit {0}) E) (o : Origin) (given bytes : List ℕ) (sink sink' : Option (List ℕ)) (site : Option Held) (faults : ℕ) (mark : Mark) (session session' : Session)
-    → session'.tier ≡ session.tier → session'.line ≡ session.line → Serving o (given ++ bytes) sink site faults mark session → Passes r sink sink' session.output session'.output []
-    → Feeds r o given bytes sink' site faults mark session'
-serving_flushed (Ok done) o given bytes sink sink' site faults mark session session' tier line s p = record {
-  log = s.log;
-  held = s.held;
-  replies = s.replies;
-  tells = s.tells;
-  slots = s.slots;
-  stands = rw tier s.stands;
-  legal = s.legal;
-  committed = rw tier s.committed;
-  run = rw tier s.run;
-  line = line ∙ s.line;
-  passed = subst (λ (l : List ℕ). Splits (Some o.written) sink' l session'.output) (append-nil (replies_bytes s.replies))
-      (splits_then (Some o.written) sink sink' (replies_bytes s.replies) session.output [] session'.output s.passed p);
-}
-serving_flushed (Err e) o given bytes sink sink' site faults mark session session' tier line s p = (
+pub serving_flushed : {E : Type 0} (r : Result (Unit {0}) E) (o : Origin) (given bytes : List ℕ) (before behind : Outside) (session session' : Session)
+    → behind.coming ≡ before.coming → behind.site ≡ before.site → session'.tier ≡ session.tier → session'.line ≡ session.line
+    → Serving o (given ++ bytes) before session → Passes r before.written behind.written session.output session'.output []
+    → Feeds r o given bytes behind session'
+serving_flushed (Ok done) o given bytes before behind session session' coming site tier line s p =
+    let at : IsAt behind.site s.world = rw site s.at in
+    record {
+      world = s.world;
+      replies = s.replies;
+      comes = s.comes;
+      at = at;
+      slots = same_there s.world before.site behind.site o (sym site) s.at at s.slots;
+      stands = rw tier s.stands;
+      left = rw coming s.left;
+      line = line ∙ s.line;
+      passed = subst (λ (l : List ℕ). Splits (Some o.written) behind.written l session'.output) (append-nil (replies_bytes s.replies))
+          (splits_then (Some o.written) before.written behind.written (replies_bytes s.replies) session.output [] session'.output s.passed p);
+    }
+  where
+    same_there : (w : World) (a b : SiteView) (o : Origin) → a ≡ b → (x : IsAt a w) (y : IsAt b w) → x.there.slots ≡ o.slots → y.there.slots ≡ o.slots
+    same_there w a b o is x y slots =
+        let told : Some x.there ≡ Some y.there = sym x.told ∙ ap (λ (v : SiteView). v.held) is ∙ y.told in
+        let same : x.there ≡ y.there = cc in
+        sym (ap (λ (h : Held). h.slots) same) ∙ slots
+serving_flushed (Err e) o given bytes before behind session session' coming site tier line s p = (
   length bytes,
-  subst (λ (l : List ℕ). CutShort o (ended_lines (given ++ l)) sink' site faults mark) (sym (take_whole bytes))
-      (cut_short o (ended_lines (given ++ bytes)) s.replies sink' site faults mark (answered_here o (given ++ bytes) sink site faults mark session s)
-      (subst (λ (l : List ℕ). Breaks (Some o.written) sink' l) (append-nil (replies_bytes s.replies)) (breaks_then (Some o.written) sink sink' (replies_bytes s.replies) session.output [] s.passed p))),
+  subst (λ (l : List ℕ). CutShort o (ended_lines (given ++ l)) behind) (sym (take_whole bytes))
+      (cut_short o (ended_lines (given ++ bytes)) s.replies behind (rw site (answered_here o (given ++ bytes) before session s))
+      (subst (λ (l : List ℕ). Breaks (Some o.written) behind.written l) (append-nil (replies_bytes s.replies)) (breaks_then (Some o.written) before.written behind.written (replies_bytes s.replies) session.output [] s.passed p))),
 )
 
 -- all lines end with a line feed
-pub closes_ended : (o : Origin) (given : List ℕ) (sink : Option (List ℕ)) (site : Option Held) (faults : ℕ) (mark : Mark) (session : Session) → session.line ≡ [] → Serving o given sink site faults mark session
-    → Closing o (all_lines given) sink site faults mark session.output
-closes_ended o given sink site faults mark session none s = record {
+pub closes_ended : (o : Origin) (given : List ℕ) (now : Outside) (session : Session) → session.line ≡ [] → Serving o given now session → Closing o (all_lines given) now session.output
+closes_ended o given now session none s = record {
   replies = s.replies;
-  answered = rw (all_ended given (sym s.line ∙ none)) (answered_here o given sink site faults mark session s);
+  answered = rw (all_ended given (sym s.line ∙ none)) (answered_here o given now session s);
   passed = s.passed;
 }
 
 -- the last line is answered
-pub closes_line : {E : Type 0} (r : Result (Unit {0}) E) (o : Origin) (given : List ℕ) (sink sink' : Option (List ℕ)) (site site' : Option Held) (faults faults' : ℕ) (mark mark' : Mark) (session : Session) (tier' : Tier) (waiting' line : List ℕ)
-    → line ≡ session.line → session.line ≢ [] → (s : Serving o given sink site faults mark session)
-    → Responds r sink sink' session.output waiting' site' faults faults' mark mark' session.tier tier' s.log s.held line
-    → Closes r o given sink' site' faults' mark' waiting'
-closes_line (Ok done) o given sink sink' site site' faults faults' mark mark' session tier' waiting' line is some s p = record {
-  replies = s.replies ++ p.reply ∷ [];
-  answered = rw (all_more given line (is ∙ s.line) (λ none. some (sym is ∙ none))) (answered_line _ o given sink sink' site site' faults faults' mark mark' session tier' waiting' line s p);
-  passed = rw (replies_push s.replies p.reply) (splits_then (Some o.written) sink sink' (replies_bytes s.replies) session.output (reply_bytes p.reply) waiting' s.passed p.passed);
-}
-closes_line (Err e) o given sink sink' site site' faults faults' mark mark' session tier' waiting' line is some s p =
-    rw (all_more given line (is ∙ s.line) (λ none. some (sym is ∙ none)))
-    (cut_short o (ended_lines given ++ line ∷ []) (s.replies ++ p.reply ∷ []) sink' site' faults' mark' (answered_line _ o given sink sink' site site' faults faults' mark mark' session tier' waiting' line s p)
-    (rw (replies_push s.replies p.reply) (breaks_then (Some o.written) sink sink' (replies_bytes s.replies) session.output (reply_bytes p.reply) s.passed p.passed)))
+pub closes_line : {E : Type 0} (r : Result (Unit {0}) E) (o : Origin) (given : List ℕ) (before behind : Outside) (session : Session) (tier' : Tier) (waiting' line : List ℕ)
+    → line ≡ session.line → session.line ≢ [] → KeepsSlots before.site.held behind.site.held → (s : Serving o given before session)
+    → Responds r before behind session.output waiting' tier' s.world line
+    → Closes r o given behind waiting'
+closes_line (Ok done) o given before behind session tier' waiting' line is some kept s p =
+    let lines = sym (all_more given line (is ∙ s.line) (λ none. some (sym is ∙ none))) in
+    record {
+      replies = s.replies ++ p.reply ∷ [];
+      answered = answered_line _ o given (all_lines given) before behind session tier' waiting' line lines s kept p;
+      passed = rw (replies_push s.replies p.reply) (splits_then (Some o.written) before.written behind.written (replies_bytes s.replies) session.output (reply_bytes p.reply) waiting' s.passed p.passed);
+    }
+closes_line (Err e) o given before behind session tier' waiting' line is some kept s p =
+    let lines = sym (all_more given line (is ∙ s.line) (λ none. some (sym is ∙ none))) in
+    cut_short o (all_lines given) (s.replies ++ p.reply ∷ []) behind (answered_line _ o given (all_lines given) before behind session tier' waiting' line lines s kept p)
+    (rw (replies_push s.replies p.reply) (breaks_then (Some o.written) before.written behind.written (replies_bytes s.replies) session.output (reply_bytes p.reply) s.passed p.passed))
 
-pub closes_failed : {E F : Type 0} (e : E) (r : Result (Unit {0}) F) (o : Origin) (given : List ℕ) (sink : Option (List ℕ)) (site : Option Held) (faults : ℕ) (mark : Mark) (waiting : List ℕ) → IsErr r
-    → Closes (Err e) o given sink site faults mark waiting → Finishes r o given sink site faults mark
-closes_failed e (Ok done) o given sink site faults mark waiting is c = cc
-closes_failed e (Err f) o given sink site faults mark waiting is c = c
+pub closes_failed : {E F : Type 0} (e : E) (r : Result (Unit {0}) F) (o : Origin) (given : List ℕ) (now : Outside) (waiting : List ℕ) → IsErr r
+    → Closes (Err e) o given now waiting → Finishes r o given now
+closes_failed e (Ok done) o given now waiting is c = cc
+closes_failed e (Err f) o given now waiting is c = c
 
 pub take_rest : (n : ℕ) (xs : List ℕ) → drop n xs ≡ [] → take n xs ≡ xs
 take_rest zero [] none = refl
@@ -214,35 +241,35 @@ take_rest (suc n) [] none = refl
 take_rest (suc n) (x ∷ xs) none = ap (λ l. x ∷ l) (take_rest n xs none)
 
 -- nothing is left to write
-all_written : (o : Origin) (lines : List (List ℕ)) (replies : List (Option Reply)) (sink : Option (List ℕ)) (site : Option Held) (faults : ℕ) (mark : Mark) → Answered o lines replies site faults mark
-    → Splits (Some o.written) sink (replies_bytes replies) [] → Whole o lines sink site faults mark
-all_written o lines replies sink site faults mark a p = record {
+all_written : (o : Origin) (lines : List (List ℕ)) (replies : List (Option Reply)) (now : Outside) → Answered o lines replies now.site
+    → Splits (Some o.written) now.written (replies_bytes replies) [] → Whole o lines now
+all_written o lines replies now a p = record {
   replies = replies;
   answered = a;
-  tells = told_after o.written sink (take p.count (replies_bytes replies)) p.written ∙ ap (λ l. Some (o.written ++ l)) (take_rest p.count (replies_bytes replies) (sym p.waits));
+  tells = told_after o.written now.written (take p.count (replies_bytes replies)) p.written ∙ ap (λ l. Some (o.written ++ l)) (take_rest p.count (replies_bytes replies) (sym p.waits));
 }
 
-pub finishes_closed : {E : Type 0} (r : Result (Unit {0}) E) (o : Origin) (given : List ℕ) (sink sink' : Option (List ℕ)) (site : Option Held) (faults : ℕ) (mark : Mark) (waiting waiting' : List ℕ)
-    → Closing o (all_lines given) sink site faults mark waiting → Passes r sink sink' waiting waiting' [] → OnOk r (waiting' ≡ []) → Finishes r o given sink' site faults mark
-finishes_closed (Ok done) o given sink sink' site faults mark waiting waiting' c p none =
-    all_written o (all_lines given) c.replies sink' site faults mark c.answered
-    (rw (← none) (subst (λ (l : List ℕ). Splits (Some o.written) sink' l waiting') (append-nil (replies_bytes c.replies)) (splits_then (Some o.written) sink sink' (replies_bytes c.replies) waiting [] waiting' c.passed p)))
-finishes_closed (Err e) o given sink sink' site faults mark waiting waiting' c p none =
-    cut_short o (all_lines given) c.replies sink' site faults mark c.answered
-    (subst (λ (l : List ℕ). Breaks (Some o.written) sink' l) (append-nil (replies_bytes c.replies)) (breaks_then (Some o.written) sink sink' (replies_bytes c.replies) waiting [] c.passed p))
+pub finishes_closed : {E : Type 0} (r : Result (Unit {0}) E) (o : Origin) (given : List ℕ) (before behind : Outside) (waiting waiting' : List ℕ) → behind.site ≡ before.site
+    → Closing o (all_lines given) before waiting → Passes r before.written behind.written waiting waiting' [] → OnOk r (waiting' ≡ []) → Finishes r o given behind
+finishes_closed (Ok done) o given before behind waiting waiting' site c p none =
+    all_written o (all_lines given) c.replies behind (rw site c.answered)
+    (rw (← none) (subst (λ (l : List ℕ). Splits (Some o.written) behind.written l waiting') (append-nil (replies_bytes c.replies)) (splits_then (Some o.written) before.written behind.written (replies_bytes c.replies) waiting [] waiting' c.passed p)))
+finishes_closed (Err e) o given before behind waiting waiting' site c p none =
+    cut_short o (all_lines given) c.replies behind (rw site c.answered)
+    (subst (λ (l : List ℕ). Breaks (Some o.written) behind.written l) (append-nil (replies_bytes c.replies)) (breaks_then (Some o.written) before.written behind.written (replies_bytes c.replies) waiting [] c.passed p))
 
 -- where nothing waits, all replies of the ended lines are written
-pub serving_whole : (o : Origin) (given : List ℕ) (sink : Option (List ℕ)) (site : Option Held) (faults : ℕ) (mark : Mark) (session : Session) → session.output ≡ [] → Serving o given sink site faults mark session → Whole o (ended_lines given) sink site faults mark
-serving_whole o given sink site faults mark session none s =
-    all_written o (ended_lines given) s.replies sink site faults mark (answered_here o given sink site faults mark session s) (rw (← none) s.passed)
+pub serving_whole : (o : Origin) (given : List ℕ) (now : Outside) (session : Session) → session.output ≡ [] → Serving o given now session → Whole o (ended_lines given) now
+serving_whole o given now session none s =
+    all_written o (ended_lines given) s.replies now (answered_here o given now session s) (rw (← none) s.passed)
 
 -- what is left alone in all bytes is so in a front of them
 pub left_front : (o : Origin) (bytes more : List ℕ) → IsLeftAlone o (bytes ++ more) → IsLeftAlone o bytes
-left_front o bytes more alone given left replies w parts run = alone given (left ++ more) replies w (ap (λ l. l ++ more) parts ∙ append_assoc given left more) run
+left_front o bytes more alone given left replies w parts comes = alone given (left ++ more) replies w (ap (λ l. l ++ more) parts ∙ append_assoc given left more) comes
 
 -- so the groups that the session has now are
-pub apart_now : (o : Origin) (given : List ℕ) (sink : Option (List ℕ)) (site : Option Held) (faults : ℕ) (mark : Mark) (session : Session) (s : Serving o given sink site faults mark session) → IsLeftAlone o given → IsApart session.tier s.log mark.shared
-apart_now o given sink site faults mark session s alone = alone given [] s.replies (world_of session.tier s.log s.held.history faults mark) (sym (append-nil given)) s.run
+pub unshared_now : (o : Origin) (given : List ℕ) (now : Outside) (session : Session) (s : Serving o given now session) → IsLeftAlone o given → IsUnshared s.world
+unshared_now o given now session s alone = alone given [] s.replies s.world (sym (append-nil given)) s.comes
 
 -- and before a byte of a piece
 pub alone_at : (o : Origin) (given bytes : List ℕ) (i : ℕ) → IsLeftAlone o (given ++ bytes) → IsLeftAlone o (given ++ take i bytes)

@@ -8,11 +8,11 @@ use Rattle.tier_base.specs.declared.limit.Limit.TheVariants as limit
 use Rattle.row_types.specs.declared.rule.Detail.TheVariants as detail
 use Rattle.row_types.specs.declared.rule.Rule.{Rule}
 use Rattle.sql_subset.specs.Lines.{Means, Saying, Silent, Says, WrongAt, TooDeep}
-use Rattle.abstract_tier.specs.declared.reply.Reply.{Reply}
-use Rattle.abstract_tier.specs.declared.reply.Last.TheVariants.{Done, No}
-use Rattle.abstract_tier.specs.Answers.{only}
-use Rattle.abstract_tier.specs.Replying.{reply_bytes, replies_bytes}
-use Rattle.abstract_tier.specs.Steps.{is_long}
+use Rattle.cache_tier.specs.declared.reply.Reply.{Reply}
+use Rattle.cache_tier.specs.declared.reply.Last.TheVariants.{Done, No}
+use Rattle.cache_tier.specs.Worlds.{only}
+use Rattle.cache_tier.specs.Replying.{reply_bytes, replies_bytes}
+use Rattle.cache_engine.specs.Requests.{is_long}
 use Rattle.session_cli.specs.declared.checker.CheckFault.{CheckFault}
 use Rattle.session_cli.specs.declared.checker.CheckFault.TheVariants as fault
 use Rattle.session_cli.specs.declared.checker.Checker.{Checker}
@@ -68,8 +68,10 @@ pub record CheckedShort (start : List ℕ) (lines : List (List ℕ)) (sink : Opt
 
 -- One line was checked, and its reply passed on; or memory was wanting, and nothing was done.
 abbrev pub Tells : Result (Unit {0}) CheckFault → Option (List ℕ) → Option (List ℕ) → List ℕ → List ℕ → List ℕ → Type 0
-Tells (Ok done) sink sink' waiting waiting' line = (reply : Option Reply) × Checks line reply × Splits sink sink' (waiting ++ reply_bytes reply) waiting'
-Tells (Err fault.Sink) sink sink' waiting waiting' line = (reply : Option Reply) × Checks line reply × Breaks sink sink' (waiting ++ reply_bytes reply)
+Tells (Ok done) sink sink' waiting waiting' line =
+    (reply : Option Reply) × Checks line reply × Splits sink sink' (waiting ++ reply_bytes reply) waiting'
+Tells (Err fault.Sink) sink sink' waiting waiting' line =
+    (reply : Option Reply) × Checks line reply × Breaks sink sink' (waiting ++ reply_bytes reply)
 Tells (Err fault.Memory) sink sink' waiting waiting' line = (sink' ≡ sink) × (waiting' ≡ waiting)
 
 -- After the bytes given: each line that ended is checked, a front of the replies is written and the others wait, and of
@@ -83,10 +85,12 @@ pub record Checking (start given : List ℕ) (sink : Option (List ℕ)) (checker
 -- More bytes were taken in, or at a fault a front of them.
 abbrev pub CheckFeeds : Result (Unit {0}) CheckFault → List ℕ → List ℕ → List ℕ → Option (List ℕ) → Checker → Type 0
 CheckFeeds (Ok done) start given bytes sink checker = Checking start (given ++ bytes) sink checker
-CheckFeeds (Err e) start given bytes sink checker = (n : ℕ) × CheckedShort start (ended_lines (given ++ take n bytes)) sink
+CheckFeeds (Err e) start given bytes sink checker =
+    (n : ℕ) × CheckedShort start (ended_lines (given ++ take n bytes)) sink
 
 -- The end of the input came: all lines are checked, a front of the replies is written and the others wait.
-pub record CheckClosing (start : List ℕ) (lines : List (List ℕ)) (sink : Option (List ℕ)) (waiting : List ℕ) : Type 0 where
+pub record CheckClosing (start : List ℕ) (lines : List (List ℕ)) (sink : Option (List ℕ)) (waiting : List ℕ)
+    : Type 0 where
   pub replies : List (Option Reply)
   pub checked : AreChecked lines replies
   pub passed : Splits (Some start) sink (replies_bytes replies) waiting
@@ -143,7 +147,8 @@ pub record CheckEnded (status : Status) (start input : List ℕ) (source sink : 
 
 -- Where source and sink tell what they hold, they tell it afterwards too, and this is what the run did.
 abbrev pub CheckRuns : Status → Option (List ℕ) → Option (List ℕ) → Option (List ℕ) → Option (List ℕ) → Type 0
-CheckRuns status source sink source' sink' = (input start : List ℕ) → source ≡ Some input → sink ≡ Some start → CheckEnded status start input source' sink'
+CheckRuns status source sink source' sink' =
+    (input start : List ℕ) → source ≡ Some input → sink ≡ Some start → CheckEnded status start input source' sink'
 
 -- A checker that has been given nothing.
 pub record IsNewChecker (checker : Checker) : Type 0 where

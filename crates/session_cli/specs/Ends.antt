@@ -1,38 +1,38 @@
 -- What a run of the program means.
 
 use Rattle.std.specs.Prelude.{◌≡◌, ℕ, ◌^◌, ◌<◌, ◌≤◌, ◌⊎◌, List, [], ◌++◌, Option, Some, length}
-use Rattle.table_defs.specs.declared.definition.TableDef.{TableDef}
-use Rattle.table_state.specs.declared.history.Entry.{Entry}
-use Rattle.table_state.specs.Tables.{TableState}
 use Rattle.outside.specs.Holding.{Held}
-use Rattle.outside.specs.Others.{AreOthers}
-use Rattle.tier_engine.specs.Standing.{Mark}
 use Rattle.command_line.specs.declared.command.Command.{Command}
 use Rattle.command_line.specs.Keys.{AreBad}
 use Rattle.command_line.specs.Words.{Asks, Refuses}
+use Rattle.cache_tier.specs.TierStates.{Settings as TierSettings}
+use Rattle.cache_engine.specs.Beginning.{BeginsAt}
+use Rattle.cache_engine.specs.Sites.{SiteView}
 use Rattle.session_cli.specs.declared.serving.Status.{Status}
 use Rattle.session_cli.specs.declared.session.Session.{Session}
 use Rattle.session_cli.specs.declared.serving.Status.TheVariants.{Finished, SourceFailed, SinkFailed, SchemaFailed, NoMemory, LineUnchecked, InputTooLong}
 use Rattle.session_cli.specs.Cutting.{ended_lines, all_lines}
-use Rattle.session_cli.specs.Serving.{Origin, Whole, CutShort, HasNoTickets, IsLeftAlone, IsNew, begins}
+use Rattle.session_cli.specs.Opening.{HasNoTickets, Opened, begins}
+use Rattle.session_cli.specs.Outside.{Outside}
+use Rattle.session_cli.specs.Serving.{Origin, Serving, Whole, CutShort, IsLeftAlone}
 
 -- at most this many bytes are taken without an end
 abbrev pub input_limit : ℕ
 input_limit = 2 ^ 32
 
 -- a front of the bytes given was answered, and a front of its replies is written
-pub record Stops (o : Origin) (given : List ℕ) (sink : Option (List ℕ)) (site : Option Held) (faults : ℕ) (mark : Mark) : Type 0 where
+pub record Stops (o : Origin) (given : List ℕ) (now : Outside) : Type 0 where
   pub front : List ℕ
   pub behind : List ℕ
   pub parts : given ≡ front ++ behind
-  pub answered : CutShort o (ended_lines front) sink site faults mark ⊎ CutShort o (all_lines front) sink site faults mark
+  pub answered : CutShort o (ended_lines front) now ⊎ CutShort o (all_lines front) now
 
--- No line is answered: nothing is written, and the site holds what it held. Only its count of faults and its mark may
+-- No line is answered: nothing is written, and the site holds what it held. Only its count of faults and its moment may
 -- have risen.
-pub record Untouched (o : Origin) (sink : Option (List ℕ)) (site : Option Held) : Type 0 where
-  pub unwritten : sink ≡ Some o.written
+pub record Untouched (o : Origin) (now : Outside) : Type 0 where
+  pub unwritten : now.written ≡ Some o.written
   pub held : Held
-  pub tells : site ≡ Some held
+  pub tells : now.site.held ≡ Some held
   pub slots : held.slots ≡ o.slots
   pub history : held.history ≡ o.world.history
 
@@ -59,58 +59,56 @@ abbrev pub Takes : Status → Option (List ℕ) → Option (List ℕ) → Type 0
 Takes status source source' = (input : List ℕ) → source ≡ Some input → Taken status input source'
 
 -- how the run ended, by the bytes given
-abbrev pub Outcome : Status → Origin → List ℕ → Option (List ℕ) → Option Held → ℕ → Mark → Type 0
+abbrev pub Outcome : Status → Origin → List ℕ → Outside → Type 0
 -- all lines are answered
-Outcome Finished o given sink site faults mark = Whole o (all_lines given) sink site faults mark
+Outcome Finished o given now = Whole o (all_lines given) now
 -- the lines that ended are answered
-Outcome SourceFailed o given sink site faults mark = Whole o (ended_lines given) sink site faults mark
-Outcome InputTooLong o given sink site faults mark = Whole o (ended_lines given) sink site faults mark
+Outcome SourceFailed o given now = Whole o (ended_lines given) now
+Outcome InputTooLong o given now = Whole o (ended_lines given) now
 -- a front of the replies is written
-Outcome SinkFailed o given sink site faults mark = Stops o given sink site faults mark
+Outcome SinkFailed o given now = Stops o given now
 -- a run that answers lines doesn't end so
-Outcome LineUnchecked o given sink site faults mark = ⊥
+Outcome LineUnchecked o given now = ⊥
 -- no line is answered
-Outcome SchemaFailed o given sink site faults mark = Untouched o sink site
-Outcome NoMemory o given sink site faults mark = Untouched o sink site
+Outcome SchemaFailed o given now = Untouched o now
+Outcome NoMemory o given now = Untouched o now
 
 -- The source gave a front of its bytes, and so the run ended.
-pub record Ended (status : Status) (o : Origin) (input : List ℕ) (source sink : Option (List ℕ)) (site : Option Held) (faults : ℕ) (mark : Mark) : Type 0 where
+pub record Ended (status : Status) (o : Origin) (input : List ℕ) (source : Option (List ℕ)) (now : Outside)
+    : Type 0 where
   pub taken : Taken status input source
-  pub outcome : Outcome status o taken.given sink site faults mark
+  pub outcome : Outcome status o taken.given now
 
--- Where source, sink and site tell what they hold, the session is new over the site's history, and others change no table of
--- a group, they tell it afterwards too, and this is what the run did.
-abbrev pub Serves : Session → Status → Option (List ℕ) → Option (List ℕ) → Option Held → ℕ → Mark → Option (List ℕ) → Option (List ℕ) → Option Held → ℕ → Mark → Type 0
-Serves session status source sink site faults mark source' sink' site' faults' mark' =
-    (input start : List ℕ) (held : Held) (schema : List TableDef) → source ≡ Some input → sink ≡ Some start → site ≡ Some held → IsNew session held.history schema →
-    IsLeftAlone (begins held schema start faults mark) input → Ended status (begins held schema start faults mark) input source' sink' site' faults' mark'
-
--- with these entries more
-abbrev pub with_more : Held → List Entry → Held
-with_more held entries = record { slots = held.slots; history = held.history ++ entries }
+-- Where the source tells what is left, the session has been given nothing of a run, and others change no table of a
+-- group, it is told afterwards, too, and this is what the run did.
+abbrev pub Serves : Session → Status → Option (List ℕ) → Outside → Option (List ℕ) → Outside → Type 0
+Serves session status source before source' behind =
+    (o : Origin) (input : List ℕ) → source ≡ Some input → Serving o [] before session → IsLeftAlone o input
+    → Ended status o input source' behind
 
 -- Before the first line the tier is opened, which may raise the site's count of faults and its moment, and in which
 -- transactions of others may come. Then the run begins, and ends so where others change no table of a group.
-pub record OpenedAndEnded (status : Status) (held : Held) (s : TableState) (start input : List ℕ) (faults : ℕ) (mark : Mark) (source sink : Option (List ℕ)) (site : Option Held) (faults' : ℕ) (mark' : Mark) : Type 0 where
-  pub faults_then : ℕ
-  pub mark_then : Mark
-  pub others : List Entry
-  pub later : faults ≤ faults_then
-  pub goes_on : mark.moment ≤ mark_then.moment
-  pub shares : mark_then.shared ≡ mark.shared
-  pub came : AreOthers mark.shared held.history others
-  pub ended : IsLeftAlone (begins (with_more held others) s.schema start faults_then mark_then) input → Ended status (begins (with_more held others) s.schema start faults_then mark_then) input source sink site faults' mark'
+pub record OpenedAndEnded (status : Status) (settings : TierSettings) (there : Held) (start input : List ℕ)
+    (before : Outside) (source : Option (List ℕ)) (behind : Outside) : Type 0 where
+  pub site : SiteView
+  pub later : BeginsAt before.site site
+  pub opened : Opened there before.site site before.coming
+  pub ended : IsLeftAlone (begins settings start opened) input
+      → Ended status (begins settings start opened) input source behind
 
--- Where source, sink and site tell what they hold, and no tickets stand in the site's history, they tell it afterwards too,
--- and this is what the run did.
-abbrev pub Runs : Status → Option (List ℕ) → Option (List ℕ) → Option Held → ℕ → Mark → Option (List ℕ) → Option (List ℕ) → Option Held → ℕ → Mark → Type 0
-Runs status source sink site faults mark source' sink' site' faults' mark' =
-    (input start : List ℕ) (held : Held) (s : TableState) → source ≡ Some input → sink ≡ Some start → site ≡ Some held → HasNoTickets held.history s →
-    OpenedAndEnded status held s start input faults mark source' sink' site' faults' mark'
+-- Where source, sink and site tell what they hold, and no tickets stand in the site's history, they tell it afterwards
+-- too, and this is what the run did. Its moments are counted from what the clock answers.
+abbrev pub Runs : TierSettings → Status → Option (List ℕ) → Outside → Option (List ℕ) → Outside → Type 0
+Runs settings status source before source' behind =
+    (input start : List ℕ) (there : Held) → source ≡ Some input → before.written ≡ Some start
+    → before.site.held ≡ Some there → HasNoTickets there.history
+    → OpenedAndEnded status settings there start input before source' behind
 
 -- Why a run doesn't begin: `clap` refuses the words, or it takes them and the settings are bad, or memory was wanting.
 abbrev pub Unstarted : List (List ℕ) → List ℕ → ℕ → Type 0
-Unstarted words settings status = ((status ≡ 1) × Refuses words) ⊎ (((status ≡ 2) × ((command : Command) × Asks words command) × AreBad settings) ⊎ (status ≡ 7))
+Unstarted words settings status =
+    ((status ≡ 1) × Refuses words) ⊎ (((status ≡ 2) × ((command : Command) × Asks words command)
+    × AreBad settings) ⊎ (status ≡ 7))
 
 -- the statuses with which a run ends
 abbrev pub number_of : Status → ℕ

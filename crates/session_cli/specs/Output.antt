@@ -15,6 +15,7 @@ pub record Breaks (sink sink' : Option (List ℕ)) (bytes : List ℕ) : Type 0 w
   pub written : Appends sink sink' (take count bytes)
 
 -- Bytes go behind those that wait: a front of all is written, and after no fault the others wait.
-abbrev pub Passes : {E : Type 0} → Result (Unit {0}) E → Option (List ℕ) → Option (List ℕ) → List ℕ → List ℕ → List ℕ → Type 0
+abbrev pub Passes : {E : Type 0} → Result (Unit {0}) E → Option (List ℕ) → Option (List ℕ) → List ℕ → List ℕ
+    → List ℕ → Type 0
 Passes (Ok done) sink sink' waiting waiting' bytes = Splits sink sink' (waiting ++ bytes) waiting'
 Passes (Err e) sink sink' waiting waiting' bytes = Breaks sink sink' (waiting ++ bytes)

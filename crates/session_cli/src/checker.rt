@@ -2,21 +2,22 @@
 
 ghost use Rattle.std.specs.Prelude.{◌≡◌, ℕ, List, Option, IfOk};
 ghost use Rattle.sql_subset.specs.Lines.{Means, Saying};
-ghost use Rattle.abstract_tier.specs.Answers.{only};
-ghost use Rattle.abstract_tier.specs.declared.reply.Last.TheVariants.{No};
-ghost use Rattle.abstract_tier.specs.declared.reply.Reply.{Reply as TierReply};
+ghost use Rattle.cache_tier.specs.Worlds.{only};
+ghost use Rattle.cache_tier.specs.declared.reply.Last.TheVariants.{No};
+ghost use Rattle.cache_tier.specs.declared.reply.Reply.{Reply as TierReply};
 ghost use Rattle.session_cli.specs.Checking.{AreChecked, CheckHasCause, Checks, Tells};
 
 use crate::line::LineBuffer;
 use crate::output::Output;
 use crate::replies::write_reply;
-use abstract_tier::{Last, Reply};
+use cache_tier::reply::Reply;
 use outside::Sink;
 use row_types::{Detail, Rule};
 use sql_subset::line::{one_meaning, parse_line};
 use sql_subset::request::ParseError;
 use std::alloc::{AllocError, Global};
 use tier_base::{Code, Limit};
+use tier_statements::{done, refuses};
 
 /// The greatest number of bytes of a line.
 const LINE_BYTES: usize = 65_536;
@@ -42,7 +43,7 @@ pub fn check_line(alloc: Global, line: &[u8]) -> Result<Option<Reply>, AllocErro
     }
     match parse_line(alloc, line) {
         Ok(None) => Ok(None),
-        Ok(Some(_)) => Ok(Some(Reply::done(alloc, 0))),
+        Ok(Some(_)) => Ok(Some(done(alloc, 0))),
         Err(ParseError::At(byte)) => Ok(Some(broken(
             alloc,
             Code::Syntax,
@@ -59,13 +60,14 @@ pub fn check_line(alloc: Global, line: &[u8]) -> Result<Option<Reply>, AllocErro
 fn broken(alloc: Global, code: Code, detail: Detail) -> Reply
     ensures { result ≡ only (No (record { code = code; detail = detail })) }
 {
-    Reply::only(alloc, Last::No(Rule { code, detail }))
+    refuses(alloc, Rule { code, detail })
 }
 
 /// The replies of `check` are a function of the lines.
 pub fn check_law()
     ensures line { (line : List ℕ) (r s : Option TierReply) → Checks line r → Checks line s → r ≡ s }
-    ensures lines { (lines : List (List ℕ)) (rs ss : List (Option TierReply)) → AreChecked lines rs → AreChecked lines ss → rs ≡ ss }
+    ensures lines { (lines : List (List ℕ)) (rs ss : List (Option TierReply)) → AreChecked lines rs
+        → AreChecked lines ss → rs ≡ ss }
 {
     one_meaning();
 }
@@ -131,7 +133,8 @@ impl Checker {
         sink: &mut K,
         bytes: &[u8],
     ) -> Result<(), CheckFault>
-        ensures checks { (start given : List ℕ) → Checking start given (K.written sink.old) self.old → CheckFeeds result start given bytes.now (K.written sink.new) self.new }
+        ensures checks { (start given : List ℕ) → Checking start given (K.written sink.old) self.old
+            → CheckFeeds result start given bytes.now (K.written sink.new) self.new }
         ensures empty { OnOk result (self.new.output ≡ []) }
         ensures cause { CheckHasCause (K.faults sink.old) (K.faults sink.new) result }
     {
@@ -147,7 +150,8 @@ impl Checker {
     /// After an error all lines or all but the last are checked, and a front of the replies is written. `Sink` only
     /// where the sink failed or took nothing of something.
     pub fn finish<K: Sink>(&mut self, alloc: Global, sink: &mut K) -> Result<(), CheckFault>
-        ensures checks { (start given : List ℕ) → Checking start given (K.written sink.old) self.old → CheckFinishes result start given (K.written sink.new) }
+        ensures checks { (start given : List ℕ) → Checking start given (K.written sink.old) self.old
+            → CheckFinishes result start given (K.written sink.new) }
         ensures cause { CheckHasCause (K.faults sink.old) (K.faults sink.new) result }
     {
         self.end_input(alloc, sink)?;
@@ -159,7 +163,8 @@ impl Checker {
 
     // The same, but the replies may wait.
     fn end_input<K: Sink>(&mut self, alloc: Global, sink: &mut K) -> Result<(), CheckFault>
-        ensures checks { (start given : List ℕ) → Checking start given (K.written sink.old) self.old → CheckCloses result start given (K.written sink.new) self.new.output }
+        ensures checks { (start given : List ℕ) → Checking start given (K.written sink.old) self.old
+            → CheckCloses result start given (K.written sink.new) self.new.output }
         ensures cause { CheckHasCause (K.faults sink.old) (K.faults sink.new) result }
     {
         if self.line.is_empty() {
@@ -175,7 +180,8 @@ impl Checker {
         sink: &mut K,
         bytes: &[u8],
     ) -> Result<(), CheckFault>
-        ensures checks { (start given : List ℕ) → Checking start given (K.written sink.old) self.old → CheckFeeds result start given bytes.now (K.written sink.new) self.new }
+        ensures checks { (start given : List ℕ) → Checking start given (K.written sink.old) self.old
+            → CheckFeeds result start given bytes.now (K.written sink.new) self.new }
         ensures cause { CheckHasCause (K.faults sink.old) (K.faults sink.new) result }
     {
         for byte in bytes {
@@ -190,7 +196,8 @@ impl Checker {
         sink: &mut K,
         byte: u8,
     ) -> Result<(), CheckFault>
-        ensures checks { (start given : List ℕ) → Checking start given (K.written sink.old) self.old → CheckFeeds result start given (byte ∷ []) (K.written sink.new) self.new }
+        ensures checks { (start given : List ℕ) → Checking start given (K.written sink.old) self.old
+            → CheckFeeds result start given (byte ∷ []) (K.written sink.new) self.new }
         ensures cause { CheckHasCause (K.faults sink.old) (K.faults sink.new) result }
     {
         if byte == b'\n' {
@@ -202,7 +209,8 @@ impl Checker {
 
     // A line feed came.
     fn end_line<K: Sink>(&mut self, alloc: Global, sink: &mut K) -> Result<(), CheckFault>
-        ensures checks { (start given : List ℕ) → Checking start given (K.written sink.old) self.old → CheckFeeds result start given (10 ∷ []) (K.written sink.new) self.new }
+        ensures checks { (start given : List ℕ) → Checking start given (K.written sink.old) self.old
+            → CheckFeeds result start given (10 ∷ []) (K.written sink.new) self.new }
         ensures cause { CheckHasCause (K.faults sink.old) (K.faults sink.new) result }
     {
         tell(alloc, &mut self.output, sink, self.line.text())?;

@@ -20,7 +20,8 @@ const PIECE_BYTES: usize = 65_536;
 ///
 /// One pass over the input, in pieces. Replies are written before more of the input is asked for.
 pub fn check<S: Source, K: Sink>(alloc: Global, source: &mut S, sink: &mut K) -> Status
-    ensures checks { CheckRuns result (S.left source.old) (K.written sink.old) (S.left source.new) (K.written sink.new) }
+    ensures checks { CheckRuns result (S.left source.old) (K.written sink.old)
+        (S.left source.new) (K.written sink.new) }
     ensures takes { Takes result (S.left source.old) (S.left source.new) }
     ensures read { result ≡ Status.SourceFailed → Rose (S.faults source.old) (S.faults source.new) }
     ensures write { result ≡ Status.SinkFailed → Rose (K.faults sink.old) (K.faults sink.new) }
@@ -45,7 +46,8 @@ fn check_pieces<S: Source, K: Sink>(
 ) -> Status
     requires new { IsNewChecker checker.old }
     requires room { 0 < length piece.old }
-    ensures checks { CheckRuns result (S.left source.old) (K.written sink.old) (S.left source.new) (K.written sink.new) }
+    ensures checks { CheckRuns result (S.left source.old) (K.written sink.old)
+        (S.left source.new) (K.written sink.new) }
     ensures takes { Takes result (S.left source.old) (S.left source.new) }
     ensures read { result ≡ Status.SourceFailed → Rose (S.faults source.old) (S.faults source.new) }
     ensures write { result ≡ Status.SinkFailed → Rose (K.faults sink.old) (K.faults sink.new) }

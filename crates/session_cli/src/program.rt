@@ -2,23 +2,33 @@
 
 ghost use Rattle.std.specs.Prelude.{◌≡◌, ◌⊎◌, ℕ, List, Option, MatchResult};
 ghost use Rattle.outside.specs.Faults.{Rose};
-ghost use Rattle.abstract_tier.specs.declared.reply.Reply.{Reply};
-ghost use Rattle.tier_engine.specs.Standing.{mark_of};
-ghost use Rattle.abstract_tier.specs.Steps.{AreCaused, Run, World};
+ghost use Rattle.cache_tier.specs.declared.reply.Reply.{Reply};
+ghost use Rattle.cache_tier.specs.MoreFacts.{FaultsAreCaused};
+ghost use Rattle.cache_tier.specs.Worlds.{World};
+ghost use Rattle.cache_engine.specs.Requests.{Given, LineRun};
 ghost use Rattle.command_line.specs.declared.command.Command.{Command as Task};
-ghost use Rattle.command_line.specs.declared.settings.Settings.{Settings};
+ghost use Rattle.command_line.specs.declared.settings.ClockSource.TheVariants.{Script};
+ghost use Rattle.command_line.specs.declared.settings.Settings.{Settings as Set};
 ghost use Rattle.command_line.specs.Keys.{AreBad, IsSetBy};
 ghost use Rattle.command_line.specs.Words.{Asks, Refuses, texts};
 ghost use Rattle.session_cli.specs.Checking.{AreChecked, CheckRuns};
 ghost use Rattle.session_cli.specs.Ends.{Runs, Takes, Unstarted, number_of};
+ghost use Rattle.session_cli.specs.Opening.{tier_settings};
+ghost use Rattle.session_cli.specs.Outside.{seen};
+ghost use Rattle.session_cli.specs.Timing.{bases_by};
 
 use crate::checker::check_law;
 use crate::checking::check;
+use crate::fixed_clock::FixedClock;
+use crate::laws::caused_law;
 use crate::serving::{Status, serve};
-use abstract_tier::fault_law;
-use command_line::{Command, CommandError, SettingsError, read_command, read_settings};
+use command_line::{
+    ClockSource, Command, CommandError, Settings, SettingsError, read_command, read_settings,
+    settings_law,
+};
 use outside::{Clock, Sink, Site, Source};
 use std::alloc::Global;
+use tier_base::Moment;
 
 /// The status where the words aren't taken.
 const WRONG_WORDS: u8 = 1;
@@ -39,13 +49,17 @@ const NO_MEMORY: u8 = 7;
 /// - 4: the sink failed in this call, or took nothing of something. A front of the replies is written.
 /// - 6: in `run`, the site failed in this call as the tier asked it for its schema at the opening. No line is answered,
 ///   and neither source nor sink is touched.
-/// - 7: want of memory before the first request, the words', the settings' and the opening's included; no line is answered
-///   then. In `check` also want of memory for a line. A front of the replies is then written.
+/// - 7: want of memory before the first request, the words', the settings' and the opening's included; no line is
+///   answered then. In `check` also want of memory for a line. A front of the replies is then written.
 /// - 10: exactly where 2^32 bytes were taken from the source without an end, and the sink took all replies. All lines
 ///   that ended in them are answered.
 ///
-/// `run` opens a tier over the site and lets it answer each line, and `check` says of each line whether it is spelt right.
-/// For now no setting acts, and the clock isn't asked. `check` doesn't call the site.
+/// `run` opens a tier over the site and lets it answer each line, and `check` says of each line whether it is spelt
+/// right. `check` calls neither site nor clock.
+///
+/// Of the settings three act in `run`. The moments of the opening and of each line that isn't empty or a comment are
+/// counted from `start_ms` where `clock` is `"script"`, and the clock isn't asked; where it is `"system"`, each from an
+/// answer of the clock, in their order. After `propagate_ms` milliseconds a round of propagation is due.
 ///
 /// Others may change tables of the backing database in each of the site's calls. Of `run` something is said where no
 /// writethrough group is over a table that others change in the run: those are the tier's to write.
@@ -61,40 +75,93 @@ pub fn top<'a, S: Source, K: Sink, P: Site, C: Clock>(
     ensures words { result ≡ 1 → Refuses (texts words.entry.now) }
     ensures refused { Refuses (texts words.entry.now) → (result ≡ 1) ⊎ (result ≡ 7) }
     ensures settings { result ≡ 2 → ((task : Task) × Asks (texts words.entry.now) task) × AreBad settings.now }
-    ensures bad { (task : Task) → Asks (texts words.entry.now) task → AreBad settings.now → (result ≡ 2) ⊎ (result ≡ 7) }
-    ensures idle { (result ≡ 1) ⊎ (result ≡ 2) → (source.new ≡ source.old) × (sink.new ≡ sink.old) × (site.new ≡ site.old) }
-    ensures unread { Refuses (texts words.entry.now) ⊎ AreBad settings.now → (source.new ≡ source.old) × (sink.new ≡ sink.old) × (site.new ≡ site.old) }
-    ensures runs { Asks (texts words.entry.now) Task.Run → (s : Settings) → IsSetBy settings.now s → ((status : Status) × (result ≡ number_of status)
-        × Runs status (S.left source.old) (K.written sink.old) (P.Disk.held site.old) (P.bank_faults site.old) (mark_of (P.Disk.moment site.old) (P.Disk.shared site.old)) (S.left source.new) (K.written sink.new) (P.Disk.held site.new) (P.bank_faults site.new) (mark_of (P.Disk.moment site.new) (P.Disk.shared site.new))) }
-    ensures checks { Asks (texts words.entry.now) Task.Check → (s : Settings) → IsSetBy settings.now s → ((status : Status) × (result ≡ number_of status)
+    ensures bad { (task : Task) → Asks (texts words.entry.now) task → AreBad settings.now
+        → (result ≡ 2) ⊎ (result ≡ 7) }
+    ensures idle { (result ≡ 1) ⊎ (result ≡ 2)
+        → (source.new ≡ source.old) × (sink.new ≡ sink.old) × (site.new ≡ site.old) × (clock.new ≡ clock.old) }
+    ensures unread { Refuses (texts words.entry.now) ⊎ AreBad settings.now
+        → (source.new ≡ source.old) × (sink.new ≡ sink.old) × (site.new ≡ site.old) × (clock.new ≡ clock.old) }
+    ensures runs { Asks (texts words.entry.now) Task.Run → (s : Set) → IsSetBy settings.now s
+        → ((status : Status) × (result ≡ number_of status) × Runs (tier_settings s) status (S.left source.old)
+        (seen (K.written sink.old) (bases_by s (C.coming clock.old)) (P.Disk.held site.old)
+        (P.bank_faults site.old) (P.Disk.moment site.old) (P.Disk.shared site.old)) (S.left source.new)
+        (seen (K.written sink.new) (bases_by s (C.coming clock.new)) (P.Disk.held site.new)
+        (P.bank_faults site.new) (P.Disk.moment site.new) (P.Disk.shared site.new))) }
+    ensures checks { Asks (texts words.entry.now) Task.Check → (s : Set) → IsSetBy settings.now s
+        → ((status : Status) × (result ≡ number_of status)
         × CheckRuns status (S.left source.old) (K.written sink.old) (S.left source.new) (K.written sink.new)) }
-    ensures takes { (task : Task) → Asks (texts words.entry.now) task → (s : Settings) → IsSetBy settings.now s → ((status : Status) × (result ≡ number_of status) × Takes status (S.left source.old) (S.left source.new)) }
+    ensures takes { (task : Task) → Asks (texts words.entry.now) task → (s : Set) → IsSetBy settings.now s
+        → ((status : Status) × (result ≡ number_of status) × Takes status (S.left source.old) (S.left source.new)) }
     ensures read { result ≡ 3 → Rose (S.faults source.old) (S.faults source.new) }
     ensures write { result ≡ 4 → Rose (K.faults sink.old) (K.faults sink.new) }
     ensures unopened { result ≡ 6 → (source.new ≡ source.old) × (sink.new ≡ sink.old) }
     ensures schema { result ≡ 6 → Rose (P.bank_faults site.old) (P.bank_faults site.new) }
-    // In the run that the clause `runs` speaks of, each fault of the bank that is told has a failed call of its own.
-    ensures caused { (w w' : World) (lines : List (List ℕ)) (replies : List (Option Reply)) → Run w lines replies w' → AreCaused w replies w' }
+    // In the run that the clause `runs` speaks of, each fault that is told has a failed call of its own.
+    ensures caused { (w w' : World) (lines : List Given) (replies : List (Option Reply)) → LineRun w lines replies w'
+        → FaultsAreCaused w w' replies }
     // What `check` replies is a function of the lines.
-    ensures same { (lines : List (List ℕ)) (rs ss : List (Option Reply)) → AreChecked lines rs → AreChecked lines ss → rs ≡ ss }
-    ensures apart { Asks (texts words.entry.now) Task.Check → site.new ≡ site.old }
-    ensures unasked { clock.new ≡ clock.old }
+    ensures same { (lines : List (List ℕ)) (rs ss : List (Option Reply)) → AreChecked lines rs → AreChecked lines ss
+        → rs ≡ ss }
+    ensures apart { Asks (texts words.entry.now) Task.Check → (site.new ≡ site.old) × (clock.new ≡ clock.old) }
+    ensures unasked { (s : Set) → IsSetBy settings.now s → s.clock ≡ Script → clock.new ≡ clock.old }
 {
-    fault_law();
+    caused_law();
     check_law();
-    let command = match asked_command(alloc, words, settings) {
-        Ok(command) => command,
+    settings_law();
+    let asked = match asked_task(alloc, words, settings) {
+        Ok(asked) => asked,
         Err(status) => return status,
     };
-    match command {
-        Command::Run => serve(alloc, source, sink, site).number(),
+    match asked.command {
+        Command::Run => run(alloc, &asked.settings, source, sink, site, clock).number(),
         Command::Check => check(alloc, source, sink).number(),
     }
 }
 
-/// The command that the words name, where the settings are good too; else the status.
-fn asked_command<'a>(alloc: Global, words: &'a [&'a str], settings: &[u8]) -> Result<Command, u8>
-    ensures { MatchResult result (λ task. Asks (texts words.entry.now) task × ((s : Settings) × IsSetBy settings.now s)) (Unstarted (texts words.entry.now) settings.now) }
+/// The command `run` with these settings.
+fn run<S: Source, K: Sink, P: Site, C: Clock>(
+    alloc: Global,
+    settings: &Settings,
+    source: &mut S,
+    sink: &mut K,
+    site: &mut P,
+    clock: &mut C,
+) -> Status
+    ensures runs { Runs (tier_settings settings.now) result (S.left source.old)
+        (seen (K.written sink.old) (bases_by settings.now (C.coming clock.old)) (P.Disk.held site.old)
+        (P.bank_faults site.old) (P.Disk.moment site.old) (P.Disk.shared site.old)) (S.left source.new)
+        (seen (K.written sink.new) (bases_by settings.now (C.coming clock.new)) (P.Disk.held site.new)
+        (P.bank_faults site.new) (P.Disk.moment site.new) (P.Disk.shared site.new)) }
+    ensures takes { Takes result (S.left source.old) (S.left source.new) }
+    ensures read { result ≡ Status.SourceFailed → Rose (S.faults source.old) (S.faults source.new) }
+    ensures write { result ≡ Status.SinkFailed → Rose (K.faults sink.old) (K.faults sink.new) }
+    ensures unopened { (result ≡ Status.SchemaFailed) ⊎ (result ≡ Status.NoMemory)
+        → (source.new ≡ source.old) × (sink.new ≡ sink.old) }
+    ensures schema { result ≡ Status.SchemaFailed → Rose (P.bank_faults site.old) (P.bank_faults site.new) }
+    ensures unasked { settings.now.clock ≡ Script → clock.new ≡ clock.old }
+{
+    match settings.clock {
+        ClockSource::Script => {
+            let mut fixed = FixedClock(Moment(settings.start_ms));
+            serve(alloc, settings.propagate_ms, source, sink, site, &mut fixed)
+        }
+        ClockSource::System => serve(alloc, settings.propagate_ms, source, sink, site, clock),
+    }
+}
+
+/// What the program is asked to do.
+#[derive(Clone, Copy, Debug)]
+struct AskedTask {
+    // the command that the words name
+    command: Command,
+    settings: Settings,
+}
+
+/// The command that the words name, with the settings, where these are good too; else the status.
+fn asked_task<'a>(alloc: Global, words: &'a [&'a str], settings: &[u8]) -> Result<AskedTask, u8>
+    ensures { MatchResult result
+        (λ asked. Asks (texts words.entry.now) asked.command × IsSetBy settings.now asked.settings)
+        (Unstarted (texts words.entry.now) settings.now) }
 {
     let command = match read_command(alloc, words) {
         Ok(command) => command,
@@ -102,7 +169,7 @@ fn asked_command<'a>(alloc: Global, words: &'a [&'a str], settings: &[u8]) -> Re
         Err(CommandError::Memory) => return Err(NO_MEMORY),
     };
     match read_settings(alloc, settings) {
-        Ok(_) => Ok(command),
+        Ok(settings) => Ok(AskedTask { command, settings }),
         Err(SettingsError::Bad) => Err(WRONG_SETTINGS),
         Err(SettingsError::Memory) => Err(NO_MEMORY),
     }

@@ -6,12 +6,12 @@ ghost use Rattle.std.specs.Fmt.{decimal};
 ghost use Rattle.outside.specs.Faults.{HasCause};
 ghost use Rattle.row_types.specs.Printing.{printed_key};
 ghost use Rattle.tier_base.specs.Codes.{number_of};
-ghost use Rattle.abstract_tier.specs.Replying.{detail_bytes, last_bytes, letter_byte, note_bytes, reply_bytes, rule_bytes};
+ghost use Rattle.cache_tier.specs.Replying.{detail_bytes, last_bytes, letter_byte, note_bytes, reply_bytes, rule_bytes};
 ghost use Rattle.session_cli.specs.Output.{Passes};
 
 use crate::output::Output;
 use crate::values::{write_key, write_number};
-use abstract_tier::{Last, Note, Reply};
+use cache_tier::reply::{Last, Note, Reply};
 use outside::{Failed, Sink};
 use row_types::{Detail, Key, Letter, Rule};
 use tier_base::Code;
@@ -21,7 +21,8 @@ use tier_base::Code;
 /// `Failed` only where the sink failed or took nothing of something: a front of what waited and of the reply is then
 /// written.
 pub fn write_reply<K: Sink>(output: &mut Output, sink: &mut K, reply: &Reply) -> Result<(), Failed>
-    ensures bytes { Passes result (K.written sink.old) (K.written sink.new) output.old output.new (reply_bytes (Some reply.now)) }
+    ensures bytes { Passes result (K.written sink.old) (K.written sink.new) output.old output.new
+        (reply_bytes (Some reply.now)) }
     ensures cause { HasCause (K.faults sink.old) (K.faults sink.new) result }
 {
     write_notes(output, sink, reply.notes.as_slice())?;
@@ -30,7 +31,8 @@ pub fn write_reply<K: Sink>(output: &mut Output, sink: &mut K, reply: &Reply) ->
 }
 
 fn write_notes<K: Sink>(output: &mut Output, sink: &mut K, notes: &[Note]) -> Result<(), Failed>
-    ensures bytes { Passes result (K.written sink.old) (K.written sink.new) output.old output.new (flat_map note_bytes notes.now) }
+    ensures bytes { Passes result (K.written sink.old) (K.written sink.new) output.old output.new
+        (flat_map note_bytes notes.now) }
     ensures cause { HasCause (K.faults sink.old) (K.faults sink.new) result }
 {
     for note in notes {
@@ -40,7 +42,8 @@ fn write_notes<K: Sink>(output: &mut Output, sink: &mut K, notes: &[Note]) -> Re
 }
 
 fn write_note<K: Sink>(output: &mut Output, sink: &mut K, note: &Note) -> Result<(), Failed>
-    ensures bytes { Passes result (K.written sink.old) (K.written sink.new) output.old output.new (note_bytes note.now) }
+    ensures bytes { Passes result (K.written sink.old) (K.written sink.new) output.old output.new
+        (note_bytes note.now) }
     ensures cause { HasCause (K.faults sink.old) (K.faults sink.new) result }
 {
     match note {
@@ -57,7 +60,8 @@ fn write_refresh<K: Sink>(
     code: Code,
     interval: u64,
 ) -> Result<(), Failed>
-    ensures bytes { Passes result (K.written sink.old) (K.written sink.new) output.old output.new (codes "note " ++ (decimal (number_of code) ++ (codes " refresh " ++ (decimal interval ++ 10 ∷ [])))) }
+    ensures bytes { Passes result (K.written sink.old) (K.written sink.new) output.old output.new
+        (codes "note " ++ (decimal (number_of code) ++ (codes " refresh " ++ (decimal interval ++ 10 ∷ [])))) }
     ensures cause { HasCause (K.faults sink.old) (K.faults sink.new) result }
 {
     output.put(sink, b"note ")?;
@@ -72,7 +76,8 @@ fn write_coded<K: Sink>(
     code: Code,
     word: &[u8],
 ) -> Result<(), Failed>
-    ensures bytes { Passes result (K.written sink.old) (K.written sink.new) output.old output.new (codes "note " ++ (decimal (number_of code) ++ word.now)) }
+    ensures bytes { Passes result (K.written sink.old) (K.written sink.new) output.old output.new
+        (codes "note " ++ (decimal (number_of code) ++ word.now)) }
     ensures cause { HasCause (K.faults sink.old) (K.faults sink.new) result }
 {
     output.put(sink, b"note ")?;
@@ -81,7 +86,8 @@ fn write_coded<K: Sink>(
 }
 
 fn write_last<K: Sink>(output: &mut Output, sink: &mut K, last: &Last) -> Result<(), Failed>
-    ensures bytes { Passes result (K.written sink.old) (K.written sink.new) output.old output.new (last_bytes last.now) }
+    ensures bytes { Passes result (K.written sink.old) (K.written sink.new) output.old output.new
+        (last_bytes last.now) }
     ensures cause { HasCause (K.faults sink.old) (K.faults sink.new) result }
 {
     match last {
@@ -98,7 +104,8 @@ fn write_numbered<K: Sink>(
     word: &[u8],
     number: u64,
 ) -> Result<(), Failed>
-    ensures bytes { Passes result (K.written sink.old) (K.written sink.new) output.old output.new (word.now ++ (decimal number ++ 10 ∷ [])) }
+    ensures bytes { Passes result (K.written sink.old) (K.written sink.new) output.old output.new
+        (word.now ++ (decimal number ++ 10 ∷ [])) }
     ensures cause { HasCause (K.faults sink.old) (K.faults sink.new) result }
 {
     output.put(sink, word)?;
@@ -112,7 +119,8 @@ fn write_ruled<K: Sink>(
     word: &[u8],
     rule: &Rule,
 ) -> Result<(), Failed>
-    ensures bytes { Passes result (K.written sink.old) (K.written sink.new) output.old output.new (word.now ++ (rule_bytes rule.now ++ 10 ∷ [])) }
+    ensures bytes { Passes result (K.written sink.old) (K.written sink.new) output.old output.new
+        (word.now ++ (rule_bytes rule.now ++ 10 ∷ [])) }
     ensures cause { HasCause (K.faults sink.old) (K.faults sink.new) result }
 {
     output.put(sink, word)?;
@@ -120,7 +128,8 @@ fn write_ruled<K: Sink>(
 }
 
 fn write_rule_line<K: Sink>(output: &mut Output, sink: &mut K, rule: &Rule) -> Result<(), Failed>
-    ensures bytes { Passes result (K.written sink.old) (K.written sink.new) output.old output.new (rule_bytes rule.now ++ 10 ∷ []) }
+    ensures bytes { Passes result (K.written sink.old) (K.written sink.new) output.old output.new
+        (rule_bytes rule.now ++ 10 ∷ []) }
     ensures cause { HasCause (K.faults sink.old) (K.faults sink.new) result }
 {
     write_rule(output, sink, rule)?;
@@ -128,7 +137,8 @@ fn write_rule_line<K: Sink>(output: &mut Output, sink: &mut K, rule: &Rule) -> R
 }
 
 fn write_rule<K: Sink>(output: &mut Output, sink: &mut K, rule: &Rule) -> Result<(), Failed>
-    ensures bytes { Passes result (K.written sink.old) (K.written sink.new) output.old output.new (rule_bytes rule.now) }
+    ensures bytes { Passes result (K.written sink.old) (K.written sink.new) output.old output.new
+        (rule_bytes rule.now) }
     ensures cause { HasCause (K.faults sink.old) (K.faults sink.new) result }
 {
     write_code(output, sink, rule.code)?;
@@ -136,14 +146,16 @@ fn write_rule<K: Sink>(output: &mut Output, sink: &mut K, rule: &Rule) -> Result
 }
 
 fn write_code<K: Sink>(output: &mut Output, sink: &mut K, code: Code) -> Result<(), Failed>
-    ensures bytes { Passes result (K.written sink.old) (K.written sink.new) output.old output.new (decimal (number_of code)) }
+    ensures bytes { Passes result (K.written sink.old) (K.written sink.new) output.old output.new
+        (decimal (number_of code)) }
     ensures cause { HasCause (K.faults sink.old) (K.faults sink.new) result }
 {
     write_number(output, sink, u64::from(code.number()))
 }
 
 fn write_detail<K: Sink>(output: &mut Output, sink: &mut K, detail: &Detail) -> Result<(), Failed>
-    ensures bytes { Passes result (K.written sink.old) (K.written sink.new) output.old output.new (detail_bytes detail.now) }
+    ensures bytes { Passes result (K.written sink.old) (K.written sink.new) output.old output.new
+        (detail_bytes detail.now) }
     ensures cause { HasCause (K.faults sink.old) (K.faults sink.new) result }
 {
     match detail {
@@ -160,7 +172,8 @@ fn write_detail<K: Sink>(output: &mut Output, sink: &mut K, detail: &Detail) -> 
 
 // A blank and a number.
 fn write_place<K: Sink>(output: &mut Output, sink: &mut K, number: u64) -> Result<(), Failed>
-    ensures bytes { Passes result (K.written sink.old) (K.written sink.new) output.old output.new (32 ∷ decimal number) }
+    ensures bytes { Passes result (K.written sink.old) (K.written sink.new) output.old output.new
+        (32 ∷ decimal number) }
     ensures cause { HasCause (K.faults sink.old) (K.faults sink.new) result }
 {
     output.put(sink, b" ")?;
@@ -174,7 +187,8 @@ fn write_row<K: Sink>(
     name: &[u8],
     key: &Key,
 ) -> Result<(), Failed>
-    ensures bytes { Passes result (K.written sink.old) (K.written sink.new) output.old output.new (32 ∷ name.now ++ 32 ∷ printed_key key.now) }
+    ensures bytes { Passes result (K.written sink.old) (K.written sink.new) output.old output.new
+        (32 ∷ name.now ++ 32 ∷ printed_key key.now) }
     ensures cause { HasCause (K.faults sink.old) (K.faults sink.new) result }
 {
     write_word(output, sink, name)?;
@@ -192,7 +206,8 @@ fn write_word<K: Sink>(output: &mut Output, sink: &mut K, word: &[u8]) -> Result
 }
 
 fn write_number_line<K: Sink>(output: &mut Output, sink: &mut K, number: u64) -> Result<(), Failed>
-    ensures bytes { Passes result (K.written sink.old) (K.written sink.new) output.old output.new (decimal number ++ 10 ∷ []) }
+    ensures bytes { Passes result (K.written sink.old) (K.written sink.new) output.old output.new
+        (decimal number ++ 10 ∷ []) }
     ensures cause { HasCause (K.faults sink.old) (K.faults sink.new) result }
 {
     write_number(output, sink, number)?;

@@ -2,11 +2,13 @@
 
 ghost use Rattle.std.specs.Prelude.{◌≡◌, ◌<◌, ◌⊎◌, [], length};
 ghost use Rattle.outside.specs.Faults.{Rose};
+ghost use Rattle.cache_tier.specs.TierStates.{Settings as TierSettings};
+ghost use Rattle.cache_engine.specs.Stored.{IsSound};
 ghost use Rattle.session_cli.specs.Ends.{Runs, Serves, Takes};
-ghost use Rattle.tier_engine.specs.Standing.{mark_of};
+ghost use Rattle.session_cli.specs.Outside.{seen};
 
 use crate::session::Session;
-use outside::{BankError, Sink, Site, Source};
+use outside::{BankError, Clock, Sink, Site, Source};
 use std::alloc::Global;
 
 /// At most so many bytes are taken without an end.
@@ -55,29 +57,39 @@ impl Status {
 }
 
 /// Opens a tier over the site, lets it answer each request line of the source, and writes the replies into the sink.
+/// The moments of the opening and of the lines are counted from what the clock answers. After `propagate_ms`
+/// milliseconds a round is due; 0 where none ever is.
 ///
-/// One pass over the input, in pieces. All memory of its own is taken before the tier is opened, which asks the site for
-/// its schema. Replies are written before more of the input is asked for.
-pub fn serve<S: Source, K: Sink, P: Site>(
+/// One pass over the input, in pieces. All memory of its own is taken before the tier is opened, which asks the site
+/// for its schema. Replies are written before more of the input is asked for.
+pub fn serve<S: Source, K: Sink, P: Site, C: Clock>(
     alloc: Global,
+    propagate_ms: u64,
     source: &mut S,
     sink: &mut K,
     site: &mut P,
+    clock: &mut C,
 ) -> Status
-    ensures runs { Runs result (S.left source.old) (K.written sink.old) (P.Disk.held site.old) (P.bank_faults site.old) (mark_of (P.Disk.moment site.old) (P.Disk.shared site.old)) (S.left source.new) (K.written sink.new) (P.Disk.held site.new) (P.bank_faults site.new) (mark_of (P.Disk.moment site.new) (P.Disk.shared site.new)) }
+    ensures runs { (settings : TierSettings) → settings.propagate_ms ≡ propagate_ms
+        → Runs settings result (S.left source.old)
+        (seen (K.written sink.old) (C.coming clock.old) (P.Disk.held site.old)
+        (P.bank_faults site.old) (P.Disk.moment site.old) (P.Disk.shared site.old)) (S.left source.new)
+        (seen (K.written sink.new) (C.coming clock.new) (P.Disk.held site.new)
+        (P.bank_faults site.new) (P.Disk.moment site.new) (P.Disk.shared site.new)) }
     ensures takes { Takes result (S.left source.old) (S.left source.new) }
     ensures read { result ≡ Status.SourceFailed → Rose (S.faults source.old) (S.faults source.new) }
     ensures write { result ≡ Status.SinkFailed → Rose (K.faults sink.old) (K.faults sink.new) }
-    ensures unopened { (result ≡ Status.SchemaFailed) ⊎ (result ≡ Status.NoMemory) → (source.new ≡ source.old) × (sink.new ≡ sink.old) }
+    ensures unopened { (result ≡ Status.SchemaFailed) ⊎ (result ≡ Status.NoMemory)
+        → (source.new ≡ source.old) × (sink.new ≡ sink.old) }
     ensures schema { result ≡ Status.SchemaFailed → Rose (P.bank_faults site.old) (P.bank_faults site.new) }
 {
     let Ok(mut piece) = vec![in alloc; 0u8; PIECE_BYTES] else {
         return Status::NoMemory;
     };
-    match Session::open(alloc, site) {
+    match Session::open(alloc, site, clock, propagate_ms) {
         Ok(mut session) => {
             let piece = piece.as_mut_slice();
-            serve_pieces(alloc, &mut session, piece, source, sink, site)
+            serve_pieces(alloc, &mut session, piece, source, sink, site, clock)
         }
         Err(BankError::Failed) => Status::SchemaFailed,
         Err(BankError::Memory) => Status::NoMemory,
@@ -85,17 +97,23 @@ pub fn serve<S: Source, K: Sink, P: Site>(
 }
 
 // The same with a new session, which has been given nothing, and a buffer for pieces.
-fn serve_pieces<S: Source, K: Sink, P: Site>(
+fn serve_pieces<S: Source, K: Sink, P: Site, C: Clock>(
     alloc: Global,
     session: &mut Session,
     piece: &mut [u8],
     source: &mut S,
     sink: &mut K,
     site: &mut P,
+    clock: &mut C,
 ) -> Status
     requires empty { session.old.output ≡ [] }
     requires room { 0 < length piece.old }
-    ensures serves { Serves session.old result (S.left source.old) (K.written sink.old) (P.Disk.held site.old) (P.bank_faults site.old) (mark_of (P.Disk.moment site.old) (P.Disk.shared site.old)) (S.left source.new) (K.written sink.new) (P.Disk.held site.new) (P.bank_faults site.new) (mark_of (P.Disk.moment site.new) (P.Disk.shared site.new)) }
+    requires sound { IsSound session.old.tier }
+    ensures serves { Serves session.old result (S.left source.old)
+        (seen (K.written sink.old) (C.coming clock.old) (P.Disk.held site.old)
+        (P.bank_faults site.old) (P.Disk.moment site.old) (P.Disk.shared site.old)) (S.left source.new)
+        (seen (K.written sink.new) (C.coming clock.new) (P.Disk.held site.new)
+        (P.bank_faults site.new) (P.Disk.moment site.new) (P.Disk.shared site.new)) }
     ensures takes { Takes result (S.left source.old) (S.left source.new) }
     ensures read { result ≡ Status.SourceFailed → Rose (S.faults source.old) (S.faults source.new) }
     ensures write { result ≡ Status.SinkFailed → Rose (K.faults sink.old) (K.faults sink.new) }
@@ -108,12 +126,12 @@ fn serve_pieces<S: Source, K: Sink, P: Site>(
             return Status::SourceFailed;
         };
         if count == 0 {
-            match session.finish(alloc, sink, site) {
+            match session.finish(alloc, sink, site, clock) {
                 Ok(()) => return Status::Finished,
                 Err(_) => return Status::SinkFailed,
             }
         }
-        let Ok(()) = session.feed(alloc, sink, site, &piece[..count]) else {
+        let Ok(()) = session.feed(alloc, sink, site, clock, &piece[..count]) else {
             return Status::SinkFailed;
         };
         room -= count as u64;

@@ -3,9 +3,9 @@
 use crate::answering::respond;
 use crate::line::LineBuffer;
 use crate::output::Output;
-use outside::{BankError, Failed, Sink, Site};
+use cache_engine::tier::Tier;
+use outside::{BankError, Clock, Failed, Sink, Site};
 use std::alloc::Global;
-use tier_engine::{Tier, committed_law, legal_law};
 
 /// What is kept between the pieces of the input.
 pub struct Session {
@@ -29,32 +29,45 @@ impl Drop for Session {
 
 impl Session {
     ghost use Rattle.std.specs.Prelude.{◌≡◌, ◌++◌, ◌∷◌, [], List, ℕ, OnOk, IfOk};
-    ghost use Rattle.std.specs.Prelude.{◌≤◌};
-    ghost use Rattle.outside.specs.Calls.{Told};
     ghost use Rattle.outside.specs.Faults.{BankHasCause, HasCause};
-    ghost use Rattle.session_cli.specs.Serving.{Closes, Feeds, Finishes, IsLeftAlone, Opens, Origin, Serving};
-    ghost use Rattle.tier_engine.specs.Standing.{mark_of};
+    ghost use Rattle.cache_engine.specs.Beginning.{BeginsAt};
+    ghost use Rattle.cache_engine.specs.Sites.{seen_at};
+    ghost use Rattle.cache_engine.specs.Stored.{IsSound};
+    ghost use Rattle.session_cli.specs.Opening.{Opens};
+    ghost use Rattle.session_cli.specs.Outside.{seen};
+    ghost use Rattle.session_cli.specs.Serving.{Closes, Feeds, Finishes, IsLeftAlone, Origin, Serving};
 
-    /// A session over a tier that is opened over the site. All memory of its buffers is taken before. Transactions of others
-    /// may come as the site is asked for its schema.
+    /// A session over a tier that is opened over the site. All memory of its buffers is taken before. Transactions of
+    /// others may come as the site is asked for its schema. The tier's first moment is the clock's answer.
     ///
     /// `Failed` only where the site failed as it was asked for its schema.
-    pub fn open<P: Site>(alloc: Global, site: &mut P) -> Result<Session, BankError>
-        ensures told { Told (P.Disk.held site.old) (P.Disk.held site.new) (Opens (P.Disk.shared site.old) result) }
-        ensures empty { IfOk result (λ session. session.output ≡ []) }
+    pub fn open<P: Site, C: Clock>(
+        alloc: Global,
+        site: &mut P,
+        clock: &mut C,
+        propagate_ms: u64,
+    ) -> Result<Session, BankError>
+        ensures opens { IfOk result (Opens propagate_ms
+            (seen_at (P.Disk.held site.old) (P.bank_faults site.old) (P.Disk.moment site.old) (P.Disk.shared site.old))
+            (seen_at (P.Disk.held site.new) (P.bank_faults site.new) (P.Disk.moment site.new) (P.Disk.shared site.new))
+            (C.coming clock.old) (C.coming clock.new)) }
+        ensures line { IfOk result (λ session. session.line ≡ []) }
+        ensures output { IfOk result (λ session. session.output ≡ []) }
+        ensures sound { IfOk result (λ session. IsSound session.tier) }
         ensures cause { BankHasCause (P.bank_faults site.old) (P.bank_faults site.new) result }
-        ensures moment { P.Disk.moment site.old ≤ P.Disk.moment site.new }
-        ensures shares { P.Disk.shared site.new ≡ P.Disk.shared site.old }
+        ensures later { BeginsAt
+            (seen_at (P.Disk.held site.old) (P.bank_faults site.old) (P.Disk.moment site.old) (P.Disk.shared site.old))
+            (seen_at (P.Disk.held site.new) (P.bank_faults site.new)
+            (P.Disk.moment site.new) (P.Disk.shared site.new)) }
     {
-        legal_law();
-        committed_law();
         let Ok(line) = LineBuffer::new(alloc) else {
             return Err(BankError::Memory);
         };
         let Ok(output) = Output::new(alloc) else {
             return Err(BankError::Memory);
         };
-        match Tier::open(alloc, site) {
+        let start = clock.now();
+        match Tier::begin(alloc, site, start, propagate_ms) {
             Ok(tier) => Ok(Session { tier, line, output }),
             Err(error) => Err(error),
         }
@@ -64,18 +77,26 @@ impl Session {
     ///
     /// `Failed` only where the sink failed or took nothing of something: the lines that end in a front of the piece
     /// are then answered, and a front of the replies is written.
-    pub fn feed<K: Sink, P: Site>(
+    pub fn feed<K: Sink, P: Site, C: Clock>(
         &mut self,
         alloc: Global,
         sink: &mut K,
         site: &mut P,
+        clock: &mut C,
         bytes: &[u8],
     ) -> Result<(), Failed>
-        ensures serves { (o : Origin) (given : List ℕ) → IsLeftAlone o (given ++ bytes.now) → Serving o given (K.written sink.old) (P.Disk.held site.old) (P.bank_faults site.old) (mark_of (P.Disk.moment site.old) (P.Disk.shared site.old)) self.old → Feeds result o given bytes.now (K.written sink.new) (P.Disk.held site.new) (P.bank_faults site.new) (mark_of (P.Disk.moment site.new) (P.Disk.shared site.new)) self.new }
+        requires { IsSound self.old.tier }
+        ensures serves { (o : Origin) (given : List ℕ) → IsLeftAlone o (given ++ bytes.now) → Serving o given
+            (seen (K.written sink.old) (C.coming clock.old) (P.Disk.held site.old)
+            (P.bank_faults site.old) (P.Disk.moment site.old) (P.Disk.shared site.old)) self.old
+            → Feeds result o given bytes.now
+            (seen (K.written sink.new) (C.coming clock.new) (P.Disk.held site.new)
+            (P.bank_faults site.new) (P.Disk.moment site.new) (P.Disk.shared site.new)) self.new }
         ensures empty { OnOk result (self.new.output ≡ []) }
+        ensures sound { IsSound self.new.tier }
         ensures cause { HasCause (K.faults sink.old) (K.faults sink.new) result }
     {
-        self.take_in(alloc, sink, site, bytes)?;
+        self.take_in(alloc, sink, site, clock, bytes)?;
         self.output.flush(sink)
     }
 
@@ -83,27 +104,43 @@ impl Session {
     ///
     /// `Failed` only where the sink failed or took nothing of something: all lines are then answered, and a front of
     /// the replies is written.
-    pub fn finish<K: Sink, P: Site>(
+    pub fn finish<K: Sink, P: Site, C: Clock>(
         &mut self,
         alloc: Global,
         sink: &mut K,
         site: &mut P,
+        clock: &mut C,
     ) -> Result<(), Failed>
-        ensures serves { (o : Origin) (given : List ℕ) → IsLeftAlone o given → Serving o given (K.written sink.old) (P.Disk.held site.old) (P.bank_faults site.old) (mark_of (P.Disk.moment site.old) (P.Disk.shared site.old)) self.old → Finishes result o given (K.written sink.new) (P.Disk.held site.new) (P.bank_faults site.new) (mark_of (P.Disk.moment site.new) (P.Disk.shared site.new)) }
+        requires { IsSound self.old.tier }
+        ensures serves { (o : Origin) (given : List ℕ) → IsLeftAlone o given → Serving o given
+            (seen (K.written sink.old) (C.coming clock.old) (P.Disk.held site.old)
+            (P.bank_faults site.old) (P.Disk.moment site.old) (P.Disk.shared site.old)) self.old
+            → Finishes result o given
+            (seen (K.written sink.new) (C.coming clock.new) (P.Disk.held site.new)
+            (P.bank_faults site.new) (P.Disk.moment site.new) (P.Disk.shared site.new)) }
+        ensures sound { IsSound self.new.tier }
         ensures cause { HasCause (K.faults sink.old) (K.faults sink.new) result }
     {
-        self.end_input(alloc, sink, site)?;
+        self.end_input(alloc, sink, site, clock)?;
         self.output.flush(sink)
     }
 
     // The same, but the replies may wait.
-    fn end_input<K: Sink, P: Site>(
+    fn end_input<K: Sink, P: Site, C: Clock>(
         &mut self,
         alloc: Global,
         sink: &mut K,
         site: &mut P,
+        clock: &mut C,
     ) -> Result<(), Failed>
-        ensures serves { (o : Origin) (given : List ℕ) → IsLeftAlone o given → Serving o given (K.written sink.old) (P.Disk.held site.old) (P.bank_faults site.old) (mark_of (P.Disk.moment site.old) (P.Disk.shared site.old)) self.old → Closes result o given (K.written sink.new) (P.Disk.held site.new) (P.bank_faults site.new) (mark_of (P.Disk.moment site.new) (P.Disk.shared site.new)) self.new.output }
+        requires { IsSound self.old.tier }
+        ensures serves { (o : Origin) (given : List ℕ) → IsLeftAlone o given → Serving o given
+            (seen (K.written sink.old) (C.coming clock.old) (P.Disk.held site.old)
+            (P.bank_faults site.old) (P.Disk.moment site.old) (P.Disk.shared site.old)) self.old
+            → Closes result o given
+            (seen (K.written sink.new) (C.coming clock.new) (P.Disk.held site.new)
+            (P.bank_faults site.new) (P.Disk.moment site.new) (P.Disk.shared site.new)) self.new.output }
+        ensures sound { IsSound self.new.tier }
         ensures cause { HasCause (K.faults sink.old) (K.faults sink.new) result }
     {
         if self.line.is_empty() {
@@ -115,52 +152,77 @@ impl Session {
             &mut self.output,
             sink,
             site,
+            clock,
             self.line.as_bytes(),
         )
     }
 
     // The same as `feed`, but the replies may wait.
-    fn take_in<K: Sink, P: Site>(
+    fn take_in<K: Sink, P: Site, C: Clock>(
         &mut self,
         alloc: Global,
         sink: &mut K,
         site: &mut P,
+        clock: &mut C,
         bytes: &[u8],
     ) -> Result<(), Failed>
-        ensures serves { (o : Origin) (given : List ℕ) → IsLeftAlone o (given ++ bytes.now) → Serving o given (K.written sink.old) (P.Disk.held site.old) (P.bank_faults site.old) (mark_of (P.Disk.moment site.old) (P.Disk.shared site.old)) self.old → Feeds result o given bytes.now (K.written sink.new) (P.Disk.held site.new) (P.bank_faults site.new) (mark_of (P.Disk.moment site.new) (P.Disk.shared site.new)) self.new }
+        requires { IsSound self.old.tier }
+        ensures serves { (o : Origin) (given : List ℕ) → IsLeftAlone o (given ++ bytes.now) → Serving o given
+            (seen (K.written sink.old) (C.coming clock.old) (P.Disk.held site.old)
+            (P.bank_faults site.old) (P.Disk.moment site.old) (P.Disk.shared site.old)) self.old
+            → Feeds result o given bytes.now
+            (seen (K.written sink.new) (C.coming clock.new) (P.Disk.held site.new)
+            (P.bank_faults site.new) (P.Disk.moment site.new) (P.Disk.shared site.new)) self.new }
+        ensures sound { IsSound self.new.tier }
         ensures cause { HasCause (K.faults sink.old) (K.faults sink.new) result }
     {
         for byte in bytes {
-            self.take_byte(alloc, sink, site, *byte)?;
+            self.take_byte(alloc, sink, site, clock, *byte)?;
         }
         Ok(())
     }
 
-    fn take_byte<K: Sink, P: Site>(
+    fn take_byte<K: Sink, P: Site, C: Clock>(
         &mut self,
         alloc: Global,
         sink: &mut K,
         site: &mut P,
+        clock: &mut C,
         byte: u8,
     ) -> Result<(), Failed>
-        ensures serves { (o : Origin) (given : List ℕ) → IsLeftAlone o given → Serving o given (K.written sink.old) (P.Disk.held site.old) (P.bank_faults site.old) (mark_of (P.Disk.moment site.old) (P.Disk.shared site.old)) self.old → Feeds result o given (byte ∷ []) (K.written sink.new) (P.Disk.held site.new) (P.bank_faults site.new) (mark_of (P.Disk.moment site.new) (P.Disk.shared site.new)) self.new }
+        requires { IsSound self.old.tier }
+        ensures serves { (o : Origin) (given : List ℕ) → IsLeftAlone o given → Serving o given
+            (seen (K.written sink.old) (C.coming clock.old) (P.Disk.held site.old)
+            (P.bank_faults site.old) (P.Disk.moment site.old) (P.Disk.shared site.old)) self.old
+            → Feeds result o given (byte ∷ [])
+            (seen (K.written sink.new) (C.coming clock.new) (P.Disk.held site.new)
+            (P.bank_faults site.new) (P.Disk.moment site.new) (P.Disk.shared site.new)) self.new }
+        ensures sound { IsSound self.new.tier }
         ensures cause { HasCause (K.faults sink.old) (K.faults sink.new) result }
     {
         if byte == b'\n' {
-            return self.end_line(alloc, sink, site);
+            return self.end_line(alloc, sink, site, clock);
         }
         self.line.push(byte);
         Ok(())
     }
 
     // A line feed came.
-    fn end_line<K: Sink, P: Site>(
+    fn end_line<K: Sink, P: Site, C: Clock>(
         &mut self,
         alloc: Global,
         sink: &mut K,
         site: &mut P,
+        clock: &mut C,
     ) -> Result<(), Failed>
-        ensures serves { (o : Origin) (given : List ℕ) → IsLeftAlone o given → Serving o given (K.written sink.old) (P.Disk.held site.old) (P.bank_faults site.old) (mark_of (P.Disk.moment site.old) (P.Disk.shared site.old)) self.old → Feeds result o given (10 ∷ []) (K.written sink.new) (P.Disk.held site.new) (P.bank_faults site.new) (mark_of (P.Disk.moment site.new) (P.Disk.shared site.new)) self.new }
+        requires { IsSound self.old.tier }
+        ensures serves { (o : Origin) (given : List ℕ) → IsLeftAlone o given → Serving o given
+            (seen (K.written sink.old) (C.coming clock.old) (P.Disk.held site.old)
+            (P.bank_faults site.old) (P.Disk.moment site.old) (P.Disk.shared site.old)) self.old
+            → Feeds result o given (10 ∷ [])
+            (seen (K.written sink.new) (C.coming clock.new) (P.Disk.held site.new)
+            (P.bank_faults site.new) (P.Disk.moment site.new) (P.Disk.shared site.new)) self.new }
+        ensures sound { IsSound self.new.tier }
         ensures cause { HasCause (K.faults sink.old) (K.faults sink.new) result }
     {
         respond(
@@ -169,6 +231,7 @@ impl Session {
             &mut self.output,
             sink,
             site,
+            clock,
             self.line.text(),
         )?;
         self.line.clear();

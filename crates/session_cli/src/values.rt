@@ -29,7 +29,8 @@ pub fn write_number<K: Sink>(output: &mut Output, sink: &mut K, number: u64) -> 
 ///
 /// `Failed` as `Output::put`.
 pub fn write_key<K: Sink>(output: &mut Output, sink: &mut K, key: &Key) -> Result<(), Failed>
-    ensures bytes { Passes result (K.written sink.old) (K.written sink.new) output.old output.new (printed_key key.now) }
+    ensures bytes { Passes result (K.written sink.old) (K.written sink.new) output.old output.new
+        (printed_key key.now) }
     ensures cause { HasCause (K.faults sink.old) (K.faults sink.new) result }
 {
     match key.values().split_first() {
@@ -42,7 +43,8 @@ pub fn write_key<K: Sink>(output: &mut Output, sink: &mut K, key: &Key) -> Resul
 }
 
 fn write_behind<K: Sink>(output: &mut Output, sink: &mut K, values: &[Value]) -> Result<(), Failed>
-    ensures bytes { Passes result (K.written sink.old) (K.written sink.new) output.old output.new (flat_map printed_behind values.now) }
+    ensures bytes { Passes result (K.written sink.old) (K.written sink.new) output.old output.new
+        (flat_map printed_behind values.now) }
     ensures cause { HasCause (K.faults sink.old) (K.faults sink.new) result }
 {
     for value in values {
@@ -52,7 +54,8 @@ fn write_behind<K: Sink>(output: &mut Output, sink: &mut K, values: &[Value]) ->
 }
 
 fn write_one_behind<K: Sink>(output: &mut Output, sink: &mut K, value: &Value) -> Result<(), Failed>
-    ensures bytes { Passes result (K.written sink.old) (K.written sink.new) output.old output.new (printed_behind value.now) }
+    ensures bytes { Passes result (K.written sink.old) (K.written sink.new) output.old output.new
+        (printed_behind value.now) }
     ensures cause { HasCause (K.faults sink.old) (K.faults sink.new) result }
 {
     output.put(sink, b"|")?;
@@ -73,7 +76,8 @@ fn write_value<K: Sink>(output: &mut Output, sink: &mut K, value: &Value) -> Res
 
 // The number with exactly its scale's digits behind the point, and no point at scale 0.
 fn write_decimal<K: Sink>(output: &mut Output, sink: &mut K, number: Number) -> Result<(), Failed>
-    ensures bytes { Passes result (K.written sink.old) (K.written sink.new) output.old output.new (printed_number number) }
+    ensures bytes { Passes result (K.written sink.old) (K.written sink.new) output.old output.new
+        (printed_number number) }
     ensures cause { HasCause (K.faults sink.old) (K.faults sink.new) result }
 {
     let units = number.units();
@@ -92,7 +96,8 @@ fn write_below_zero<K: Sink>(
     units: u64,
 ) -> Result<(), Failed>
     requires { scale ≤ 18 }
-    ensures bytes { Passes result (K.written sink.old) (K.written sink.new) output.old output.new (45 ∷ printed_magnitude scale units) }
+    ensures bytes { Passes result (K.written sink.old) (K.written sink.new) output.old output.new
+        (45 ∷ printed_magnitude scale units) }
     ensures cause { HasCause (K.faults sink.old) (K.faults sink.new) result }
 {
     output.put(sink, b"-")?;
@@ -106,7 +111,8 @@ fn write_magnitude<K: Sink>(
     units: u64,
 ) -> Result<(), Failed>
     requires { scale ≤ 18 }
-    ensures bytes { Passes result (K.written sink.old) (K.written sink.new) output.old output.new (printed_magnitude scale units) }
+    ensures bytes { Passes result (K.written sink.old) (K.written sink.new) output.old output.new
+        (printed_magnitude scale units) }
     ensures cause { HasCause (K.faults sink.old) (K.faults sink.new) result }
 {
     write_number(output, sink, units / power_of_ten(scale))?;
@@ -127,7 +133,8 @@ fn write_fraction<K: Sink>(
     scale: u8,
     units: u64,
 ) -> Result<(), Failed>
-    ensures bytes { Passes result (K.written sink.old) (K.written sink.new) output.old output.new (printed_fraction scale units) }
+    ensures bytes { Passes result (K.written sink.old) (K.written sink.new) output.old output.new
+        (printed_fraction scale units) }
     ensures cause { HasCause (K.faults sink.old) (K.faults sink.new) result }
 {
     if scale == 0 {
@@ -143,7 +150,8 @@ fn write_behind_point<K: Sink>(
     scale: u8,
     units: u64,
 ) -> Result<(), Failed>
-    ensures bytes { Passes result (K.written sink.old) (K.written sink.new) output.old output.new (46 ∷ last_digits scale units) }
+    ensures bytes { Passes result (K.written sink.old) (K.written sink.new) output.old output.new
+        (46 ∷ last_digits scale units) }
     ensures cause { HasCause (K.faults sink.old) (K.faults sink.new) result }
 {
     output.put(sink, b".")?;
@@ -157,7 +165,8 @@ fn write_last_digits<K: Sink>(
     count: u8,
     number: u64,
 ) -> Result<(), Failed>
-    ensures bytes { Passes result (K.written sink.old) (K.written sink.new) output.old output.new (last_digits count number) }
+    ensures bytes { Passes result (K.written sink.old) (K.written sink.new) output.old output.new
+        (last_digits count number) }
     ensures cause { HasCause (K.faults sink.old) (K.faults sink.new) result }
 {
     if count == 0 {
@@ -178,7 +187,8 @@ fn write_quoted<K: Sink>(output: &mut Output, sink: &mut K, text: &[u8]) -> Resu
 
 // The bytes, each quote twice.
 fn write_doubled<K: Sink>(output: &mut Output, sink: &mut K, text: &[u8]) -> Result<(), Failed>
-    ensures bytes { Passes result (K.written sink.old) (K.written sink.new) output.old output.new (flat_map doubled_quote text.now) }
+    ensures bytes { Passes result (K.written sink.old) (K.written sink.new) output.old output.new
+        (flat_map doubled_quote text.now) }
     ensures cause { HasCause (K.faults sink.old) (K.faults sink.new) result }
 {
     for byte in text {

@@ -116,8 +116,8 @@ fn lay_op(
 // More operations and more rows of a table than memory can hold.
 const MOST: usize = 0x4000_0000_0000_0000;
 
-// Whether each table has fewer rows than memory can hold.
-fn are_small<S: Scan>(scan: &S) -> bool
+/// Whether each table has fewer rows than memory can hold.
+pub fn are_small<S: Scan>(scan: &S) -> bool
     requires { IsWhole (S.state scan.now) }
     ensures { IsTrue result → AreSmall (S.state scan.now) }
 {

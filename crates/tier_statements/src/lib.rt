@@ -13,7 +13,7 @@ mod routing;
 
 pub use answering::answer_query;
 pub use catalog::Catalog;
-pub use judging::{apply_fault, judge_ops};
+pub use judging::{apply_fault, are_small, judge_ops};
 pub use keys::{has_key, taken};
 pub use locks::lock_fault;
 pub use naming::{name_query, name_write};

@@ -1,4 +1,4 @@
-use Rattle.std.proofs.Common.{arith, rules, ℕ, ◌≡◌, ◌∷◌, ◌∙◌, Err, refl, subst, sym, drop, length, ap}
+use Rattle.std.proofs.Common.{append_assoc, arith, rules, ℕ, ◌≡◌, ◌++◌, ◌∷◌, ◌∙◌, [], Err, refl, subst, sym, drop, length, ap}
 use Rattle.std.specs.Prelude.{Result}
 use Rattle.std.proofs.lemmas.List.{length-drop}
 use Rattle.propagators.specs.Rounds.{TellsRound, doubts, doubts_at}
@@ -10,6 +10,7 @@ pub loop-sealed-init : goal.loop-sealed-init
 loop-sealed-init g c = record {
   goes = goes_same (g.P.Disk.shared c.args.site.now) (g.P.Disk.held c.args.site.now) c.args.unsettled.now.items;
   count = Prim.omega arith;
+  rest = ([], refl);
   tells = λ some. some;
   faults = Prim.omega arith;
   shares = refl;
@@ -43,6 +44,11 @@ loop-sealed-preserved g c =
           c.loop-sealed.invariant.goes
           (settled_goes (g.P.Disk.shared c.args.site.now) (g.P.Disk.held c.loop-sealed.site) (g.P.Disk.held c.settle.new.site) items new s c.in_ok-settle.field-0 left (shared_call _ _ _ _ _ c.loop-sealed.invariant.shares c.in_ok-settle.ensures.told));
       count = Prim.omega (arith, shorter, length-drop 1 items, some, c.loop-sealed.invariant.count);
+      rest = (
+        c.loop-sealed.invariant.rest.0 ++ s ∷ [],
+        c.loop-sealed.invariant.rest.1 ∙ ap (λ l. c.loop-sealed.invariant.rest.0 ++ l) left
+            ∙ sym (append_assoc c.loop-sealed.invariant.rest.0 (s ∷ []) new),
+      );
       tells = λ some. told_stays (g.P.Disk.held c.loop-sealed.site) (g.P.Disk.held c.settle.new.site) _ c.settle.ensures.told (c.loop-sealed.invariant.tells some);
       faults = Prim.omega (arith, c.loop-sealed.invariant.faults, c.settle.ensures.faults);
       shares = c.settle.ensures.shares ∙ c.loop-sealed.invariant.shares;

@@ -2,11 +2,11 @@ use Rattle.std.proofs.Common.{Some, None, rules}
 use Rattle.session_cli.proofs.answering.respond.Goals as goal
 
 pub returns-in-Some-clause-serves : goal.returns-in-Some-clause-serves
-returns-in-Some-clause-serves g c = λ log held told stands apart.
-    let served = c.in-Some.ensures.step log held told stands apart in
-    record { reply = Some c.in-Some.reply; served = served; legal = c.legal_law.ensures _ _ _ served.stands; committed = c.committed_law.ensures _ _ _ served.stands; passed = c.write_reply.ensures.bytes }
+returns-in-Some-clause-serves g c = λ w at stands unshared.
+    let served = c.in-Some.ensures.performs w at stands unshared in
+    record { base = c.line_base-base.result.0; took = c.line_base-base.ensures; reply = Some c.in-Some.reply; world = served.world; at = served.at; stands = served.stands; step = served.is; passed = c.write_reply.ensures.bytes }
 
 pub returns-in-None-clause-serves : goal.returns-in-None-clause-serves
-returns-in-None-clause-serves g c = λ log held told stands apart.
-    let served = c.in-None.ensures.step log held told stands apart in
-    record { reply = None; served = served; legal = c.legal_law.ensures _ _ _ served.stands; committed = c.committed_law.ensures _ _ _ served.stands; passed = search rules }
+returns-in-None-clause-serves g c = λ w at stands unshared.
+    let served = c.in-None.ensures.performs w at stands unshared in
+    record { base = c.line_base-base.result.0; took = c.line_base-base.ensures; reply = None; world = served.world; at = served.at; stands = served.stands; step = served.is; passed = search rules }

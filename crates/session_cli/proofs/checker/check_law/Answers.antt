@@ -1,5 +1,5 @@
 use Rattle.session_cli.proofs.CheckLaws.{check_same, checked_same}
-use Rattle.abstract_tier.specs.Steps.{is_long}
+use Rattle.cache_engine.specs.Requests.{is_long}
 use Rattle.session_cli.proofs.checker.check_law.Goals as goal
 
 pub returns-clause-line : goal.returns-clause-line

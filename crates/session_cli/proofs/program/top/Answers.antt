@@ -1,8 +1,10 @@
-use Rattle.std.proofs.Common.{refl, inl, inr, sym, ◌∙◌}
+use Rattle.std.proofs.Common.{refl, inl, inr, sym, ◌∙◌, ap}
 use Rattle.command_line.specs.declared.command.Command.TheVariants as command
+use Rattle.command_line.specs.declared.settings.Settings.{Settings}
 use Rattle.command_line.specs.Words.{texts}
 use Rattle.session_cli.specs.declared.serving.Status.TheVariants.{NoMemory}
-use Rattle.session_cli.proofs.EndsLaws.{ended_unopened, taken_unstarted}
+use Rattle.session_cli.specs.Opening.{tier_settings}
+use Rattle.session_cli.proofs.EndsLaws.{runs_unopened, taken_unstarted}
 use Rattle.session_cli.proofs.CheckLaws.{check_unstarted}
 use Rattle.session_cli.proofs.TopLaws.{words_of, refused_of, settings_of, bad_of, is_schema, none_left, no_other}
 use Rattle.session_cli.proofs.program.top.Goals as goal
@@ -20,7 +22,7 @@ pub returns-in-Err-clause-bad : goal.returns-in-Err-clause-bad
 returns-in-Err-clause-bad g c = λ task asks bad. bad_of (texts c.args.words.now) c.args.settings.now c.in-Err.status c.in-Err.ensures task asks
 
 pub returns-in-Err-clause-runs : goal.returns-in-Err-clause-runs
-returns-in-Err-clause-runs g c = λ asks s set. (NoMemory, none_left (texts c.args.words.now) c.args.settings.now c.in-Err.status c.in-Err.ensures command.Run asks s set, λ input start held s source sink site none. ended_unopened input start held s _ _ _ _ _ source sink site)
+returns-in-Err-clause-runs g c = λ asks s set. (NoMemory, none_left (texts c.args.words.now) c.args.settings.now c.in-Err.status c.in-Err.ensures command.Run asks s set, runs_unopened (tier_settings s) _ _ _ refl refl)
 
 pub returns-in-Err-clause-checks : goal.returns-in-Err-clause-checks
 returns-in-Err-clause-checks g c = λ asks s set. (NoMemory, none_left (texts c.args.words.now) c.args.settings.now c.in-Err.status c.in-Err.ensures command.Check asks s set, λ input start source sink. check_unstarted input start _ _ source sink)
@@ -34,22 +36,32 @@ returns-in-Err-clause-read g c = λ three. absurd (no_other (texts c.args.words.
 pub returns-in-Err-clause-write : goal.returns-in-Err-clause-write
 returns-in-Err-clause-write g c = λ four. absurd (no_other (texts c.args.words.now) c.args.settings.now c.in-Err.status 4 c.in-Err.ensures (inr refl) four)
 
+pub returns-in-Run-clause-runs : goal.returns-in-Run-clause-runs
+returns-in-Run-clause-runs g c = λ asks s set.
+    let same = c.settings_law.ensures.one c.args.settings.now s c.in-Ok.asked.settings set c.in-Ok.ensures.1 in
+    (c.run.result, c.number.ensures, rw same c.run.ensures.runs)
+
+pub returns-in-Run-clause-unasked : goal.returns-in-Run-clause-unasked
+returns-in-Run-clause-unasked g c = λ s set script.
+    let same = c.settings_law.ensures.one c.args.settings.now s c.in-Ok.asked.settings set c.in-Ok.ensures.1 in
+    c.run.ensures.unasked (sym (ap (λ (x : Settings). x.clock) same) ∙ script)
+
 pub returns-in-Run-clause-bad : goal.returns-in-Run-clause-bad
-returns-in-Run-clause-bad g c = λ task asks bad. absurd (bad c.in-Ok.ensures.1.0 c.in-Ok.ensures.1.1)
+returns-in-Run-clause-bad g c = λ task asks bad. absurd (bad c.in-Ok.asked.settings c.in-Ok.ensures.1)
 
 pub returns-in-Check-clause-bad : goal.returns-in-Check-clause-bad
-returns-in-Check-clause-bad g c = λ task asks bad. absurd (bad c.in-Ok.ensures.1.0 c.in-Ok.ensures.1.1)
+returns-in-Check-clause-bad g c = λ task asks bad. absurd (bad c.in-Ok.asked.settings c.in-Ok.ensures.1)
 
 pub returns-in-Run-clause-unread : goal.returns-in-Run-clause-unread
 returns-in-Run-clause-unread g c = λ auto. elim auto [
   | inl refuses ↦ absurd (refuses c.in-Ok.ensures.0.0)
-  | inr bad ↦ absurd (bad c.in-Ok.ensures.1.0 c.in-Ok.ensures.1.1)
+  | inr bad ↦ absurd (bad c.in-Ok.asked.settings c.in-Ok.ensures.1)
 ]
 
 pub returns-in-Check-clause-unread : goal.returns-in-Check-clause-unread
 returns-in-Check-clause-unread g c = λ auto. elim auto [
   | inl refuses ↦ absurd (refuses c.in-Ok.ensures.0.0)
-  | inr bad ↦ absurd (bad c.in-Ok.ensures.1.0 c.in-Ok.ensures.1.1)
+  | inr bad ↦ absurd (bad c.in-Ok.asked.settings c.in-Ok.ensures.1)
 ]
 
 pub returns-in-Check-clause-unopened : goal.returns-in-Check-clause-unopened

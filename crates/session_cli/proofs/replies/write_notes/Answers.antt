@@ -1,5 +1,5 @@
 use Rattle.std.proofs.Common.{rules}
-use Rattle.abstract_tier.specs.Replying.{note_bytes}
+use Rattle.cache_tier.specs.Replying.{note_bytes}
 use Rattle.session_cli.proofs.FlatMaps.{goes_on, goes_wrong, same_there}
 use Rattle.session_cli.proofs.replies.write_notes.Goals as goal
 

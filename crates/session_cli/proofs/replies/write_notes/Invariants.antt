@@ -1,7 +1,7 @@
 -- What comes before the element has passed.
 use Rattle.std.proofs.Common.{◌++◌, ◌≤◌, take}
 use Rattle.std.specs.List.{flat_map}
-use Rattle.abstract_tier.specs.Replying.{note_bytes}
+use Rattle.cache_tier.specs.Replying.{note_bytes}
 use Rattle.session_cli.specs.Output.{Splits}
 use Rattle.session_cli.proofs.replies.write_notes.Given as goal
 

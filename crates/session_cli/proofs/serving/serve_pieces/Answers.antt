@@ -1,15 +1,14 @@
 use Rattle.std.proofs.Common.{rules, ◌≡◌, ◌≤◌, ◌++◌, ◌∙◌, ap, length, take, drop, refl, arith, lit≤}
 use Rattle.std.proofs.lemmas.List.{take-append-le, length-take-le}
-use Rattle.tier_engine.specs.Standing.{mark_of}
-use Rattle.session_cli.specs.Serving.{begins}
 use Rattle.session_cli.proofs.EndsLaws.{alone_given, alone_piece, going_new, taking_new, going_on, taking_on, ended_source, ended_long, ended_all, ended_unwritten, ended_in_piece, taken_failed, taken_long, taken_all, taken_unwritten, taken_in_piece, has_room, fits_room, keeps_length}
 use Rattle.session_cli.proofs.serving.serve_pieces.Goals as goal
 
 pub loop-room-init : goal.loop-room-init
 loop-room-init g c = record {
-  going = λ input start held schema source sink site new alone. going_new c.args.session.now input start held schema _ _ _ _ _ new source sink site;
+  going = λ o input source new alone. going_new o c.args.session.now input _ _ source new;
   taking = λ input source. taking_new input _ source;
   empty = c.requires.empty;
+  sound = c.requires.sound;
   within = lit≤ tt;
   space = c.requires.room;
   read = search rules;
@@ -17,18 +16,18 @@ loop-room-init g c = record {
 }
 
 pub returns-in_default-clause-serves : goal.returns-in_default-clause-serves
-returns-in_default-clause-serves g c = λ input start held schema source sink site new alone.
-    ended_source _ input c.loop-room.room _ _ _ _ _ _ c.loop-room.session c.loop-room.invariant.empty c.loop-room-test.true c.in_default.ensures.bytes (c.loop-room.invariant.going input start held schema source sink site new alone)
+returns-in_default-clause-serves g c = λ o input source new alone.
+    ended_source o input c.loop-room.room _ _ _ c.loop-room.session c.loop-room.invariant.empty c.loop-room-test.true c.in_default.ensures.bytes (c.loop-room.invariant.going o input source new alone)
 
 pub returns-in_default-clause-takes : goal.returns-in_default-clause-takes
 returns-in_default-clause-takes g c = λ input source. taken_failed input c.loop-room.room _ _ c.loop-room-test.true c.in_default.ensures.bytes (c.loop-room.invariant.taking input source)
 
 pub returns-in-Ok-finish-clause-serves : goal.returns-in-Ok-finish-clause-serves
-returns-in-Ok-finish-clause-serves g c = λ input start held schema source sink site new alone.
-    let going = c.loop-room.invariant.going input start held schema source sink site new alone in
-    ended_all _ input c.loop-room.room _ _ _ _ _ _ _ _ _ _ c.loop-room.session c.take.new.buf c.in-Ok.count c.if-count-eq0.true c.loop-room-test.true
+returns-in-Ok-finish-clause-serves g c = λ o input source new alone.
+    let going = c.loop-room.invariant.going o input source new alone in
+    ended_all o input c.loop-room.room _ _ _ _ c.loop-room.session c.take.new.buf c.in-Ok.count c.if-count-eq0.true c.loop-room-test.true
     (has_room c.take.new.buf c.loop-room.piece c.min-want.result c.loop-room.room c.min-want.ensures c.take.auto.buf c.loop-room-test.true c.loop-room.invariant.space) c.in-Ok.ensures.bytes going
-    (c.in-Ok-finish.ensures.serves _ going.taking.given (alone_given (begins held schema start (g.P.Site.bank_faults c.args.site.now) (mark_of (g.P.Disk.moment c.args.site.now) (g.P.Disk.shared c.args.site.now))) input _ _ going.taking alone) going.serving)
+    (c.in-Ok-finish.ensures.serves o going.taking.given (alone_given o input _ _ going.taking alone) going.serving)
 
 pub returns-in-Ok-finish-clause-takes : goal.returns-in-Ok-finish-clause-takes
 returns-in-Ok-finish-clause-takes g c = λ input source.
@@ -37,21 +36,21 @@ returns-in-Ok-finish-clause-takes g c = λ input source.
     (c.loop-room.invariant.taking input source)
 
 pub returns-in-Err-clause-serves : goal.returns-in-Err-clause-serves
-returns-in-Err-clause-serves g c = λ input start held schema source sink site new alone.
-    let going = c.loop-room.invariant.going input start held schema source sink site new alone in
-    ended_unwritten _ input c.loop-room.room _ _ _ _ _ _ _ _ _ _ c.loop-room.session c.take.new.buf c.in-Ok.count c.if-count-eq0.true c.in-Ok.ensures.bytes going (c.in-Err.ensures.serves _ going.taking.given (alone_given (begins held schema start (g.P.Site.bank_faults c.args.site.now) (mark_of (g.P.Disk.moment c.args.site.now) (g.P.Disk.shared c.args.site.now))) input _ _ going.taking alone) going.serving)
+returns-in-Err-clause-serves g c = λ o input source new alone.
+    let going = c.loop-room.invariant.going o input source new alone in
+    ended_unwritten o input c.loop-room.room _ _ _ _ c.loop-room.session c.take.new.buf c.in-Ok.count c.if-count-eq0.true c.in-Ok.ensures.bytes going (c.in-Err.ensures.serves o going.taking.given (alone_given o input _ _ going.taking alone) going.serving)
 
 pub returns-in-Err-clause-takes : goal.returns-in-Err-clause-takes
 returns-in-Err-clause-takes g c = λ input source. taken_unwritten input c.loop-room.room _ _ c.take.new.buf c.in-Ok.count c.if-count-eq0.true c.in-Ok.ensures.bytes (c.loop-room.invariant.taking input source)
 
 pub returns-in_default-feed-clause-serves : goal.returns-in_default-feed-clause-serves
-returns-in_default-feed-clause-serves g c = λ input start held schema source sink site new alone.
-    let going = c.loop-room.invariant.going input start held schema source sink site new alone in
+returns-in_default-feed-clause-serves g c = λ o input source new alone.
+    let going = c.loop-room.invariant.going o input source new alone in
     let bytes = take c.in-Ok.count (c.take.new.buf ++ drop c.min-want.result c.loop-room.piece) in
     let are : bytes ≡ take c.in-Ok.count c.take.new.buf = take-append-le c.in-Ok.count c.take.new.buf (drop c.min-want.result c.loop-room.piece) c.in-Ok.ensures.bound in
-    ended_in_piece _ input c.loop-room.room _ _ _ _ _ _ _ _ _ _ _ c.loop-room.session c.take.new.buf bytes c.in-Ok.count are (ap length are ∙ length-take-le c.in-Ok.count c.take.new.buf c.in-Ok.ensures.bound)
+    ended_in_piece o input c.loop-room.room _ _ _ _ _ c.loop-room.session c.take.new.buf bytes c.in-Ok.count are (ap length are ∙ length-take-le c.in-Ok.count c.take.new.buf c.in-Ok.ensures.bound)
     (fits_room c.take.new.buf c.loop-room.piece c.min-want.result c.loop-room.room c.in-Ok.count c.min-want.ensures c.take.auto.buf c.in-Ok.ensures.bound) refl c.in-Ok.ensures.bytes going
-    (c.in_default-feed.ensures.serves _ going.taking.given (alone_piece (begins held schema start (g.P.Site.bank_faults c.args.site.now) (mark_of (g.P.Disk.moment c.args.site.now) (g.P.Disk.shared c.args.site.now))) input _ _ _ c.take.new.buf bytes c.in-Ok.count are c.in-Ok.ensures.bytes going.taking alone) going.serving)
+    (c.in_default-feed.ensures.serves o going.taking.given (alone_piece o input _ _ _ c.take.new.buf bytes c.in-Ok.count are c.in-Ok.ensures.bytes going.taking alone) going.serving)
 
 pub returns-in_default-feed-clause-takes : goal.returns-in_default-feed-clause-takes
 returns-in_default-feed-clause-takes g c = λ input source.
@@ -67,14 +66,15 @@ loop-room-preserved g c =
     let are : bytes ≡ take c.in-Ok.count c.take.new.buf = take-append-le c.in-Ok.count c.take.new.buf (drop c.min-want.result c.loop-room.piece) c.in-Ok.ensures.bound in
     let within : c.in-Ok.count ≤ c.loop-room.room = fits_room c.take.new.buf c.loop-room.piece c.min-want.result c.loop-room.room c.in-Ok.count c.min-want.ensures c.take.auto.buf c.in-Ok.ensures.bound in
     record {
-      going = λ input start held schema source sink site new alone.
-          let going = c.loop-room.invariant.going input start held schema source sink site new alone in
-          going_on _ input c.loop-room.room _ _ _ _ _ _ _ _ _ _ _ c.loop-room.session _ c.take.new.buf bytes c.in-Ok.count are (ap length are ∙ length-take-le c.in-Ok.count c.take.new.buf c.in-Ok.ensures.bound)
-          within refl c.in-Ok.ensures.bytes going (c.in-Ok-feed.ensures.serves _ going.taking.given (alone_piece (begins held schema start (g.P.Site.bank_faults c.args.site.now) (mark_of (g.P.Disk.moment c.args.site.now) (g.P.Disk.shared c.args.site.now))) input _ _ _ c.take.new.buf bytes c.in-Ok.count are c.in-Ok.ensures.bytes going.taking alone) going.serving);
+      going = λ o input source new alone.
+          let going = c.loop-room.invariant.going o input source new alone in
+          going_on o input c.loop-room.room _ _ _ _ _ c.loop-room.session _ c.take.new.buf bytes c.in-Ok.count are (ap length are ∙ length-take-le c.in-Ok.count c.take.new.buf c.in-Ok.ensures.bound)
+          within refl c.in-Ok.ensures.bytes going (c.in-Ok-feed.ensures.serves o going.taking.given (alone_piece o input _ _ _ c.take.new.buf bytes c.in-Ok.count are c.in-Ok.ensures.bytes going.taking alone) going.serving);
       taking = λ input source.
           taking_on input c.loop-room.room _ _ _ c.take.new.buf bytes c.in-Ok.count are (ap length are ∙ length-take-le c.in-Ok.count c.take.new.buf c.in-Ok.ensures.bound)
           within refl c.in-Ok.ensures.bytes (c.loop-room.invariant.taking input source);
       empty = c.in-Ok-feed.ensures.empty;
+      sound = c.in-Ok-feed.ensures.sound;
       within = omega arith;
       space = omega (arith, keeps_length c.take.new.buf c.loop-room.piece c.min-want.result c.take.auto.buf, c.loop-room.invariant.space);
       read = search rules;
@@ -82,8 +82,8 @@ loop-room-preserved g c =
     }
 
 pub returns-clause-serves : goal.returns-clause-serves
-returns-clause-serves g c = λ input start held schema source sink site new alone.
-    ended_long _ input c.loop-room.room _ _ _ _ _ c.loop-room.session c.loop-room.invariant.empty c.loop-room-test.false (c.loop-room.invariant.going input start held schema source sink site new alone)
+returns-clause-serves g c = λ o input source new alone.
+    ended_long o input c.loop-room.room _ _ c.loop-room.session c.loop-room.invariant.empty c.loop-room-test.false (c.loop-room.invariant.going o input source new alone)
 
 pub returns-clause-takes : goal.returns-clause-takes
 returns-clause-takes g c = λ input source. taken_long input c.loop-room.room _ c.loop-room-test.false (c.loop-room.invariant.taking input source)

@@ -1,19 +1,20 @@
 -- Between two pieces.
 use Rattle.std.proofs.Common.{◌≡◌, ℕ, List, [], ◌≤◌, ◌<◌, length, Some}
-use Rattle.outside.specs.Holding.{Held}
-use Rattle.table_defs.specs.declared.definition.TableDef.{TableDef}
-use Rattle.tier_engine.specs.Standing.{mark_of}
-use Rattle.session_cli.specs.Serving.{IsLeftAlone, IsNew, begins}
+use Rattle.cache_engine.specs.Stored.{IsSound}
+use Rattle.session_cli.specs.Outside.{seen}
+use Rattle.session_cli.specs.Serving.{IsLeftAlone, Origin, Serving}
 use Rattle.session_cli.proofs.EndsLaws.{Going, Taking}
 use Rattle.session_cli.proofs.serving.serve_pieces.Given as goal
 
 abbrev pub invariant-loop-room : goal.invariant-loop-room
 invariant-loop-room g l = record {
-  going : (input start : List ℕ) (held : Held) (schema : List TableDef) → g.S.Source.left l.fn.source ≡ Some input → g.K.Sink.written l.fn.sink ≡ Some start → g.P.Disk.held l.fn.site ≡ Some held → IsNew l.fn.session held.history schema
-      → IsLeftAlone (begins held schema start (g.P.Site.bank_faults l.fn.site) (mark_of (g.P.Disk.moment l.fn.site) (g.P.Disk.shared l.fn.site))) input
-      → Going (begins held schema start (g.P.Site.bank_faults l.fn.site) (mark_of (g.P.Disk.moment l.fn.site) (g.P.Disk.shared l.fn.site))) input l.room (g.S.Source.left l.source) (g.K.Sink.written l.sink) (g.P.Disk.held l.site) (g.P.Site.bank_faults l.site) (mark_of (g.P.Disk.moment l.site) (g.P.Disk.shared l.site)) l.session;
+  going : (o : Origin) (input : List ℕ) → g.S.Source.left l.fn.source ≡ Some input
+      → Serving o [] (seen (g.K.Sink.written l.fn.sink) (g.C.Clock.coming l.fn.clock) (g.P.Disk.held l.fn.site) (g.P.Site.bank_faults l.fn.site) (g.P.Disk.moment l.fn.site) (g.P.Disk.shared l.fn.site)) l.fn.session
+      → IsLeftAlone o input
+      → Going o input l.room (g.S.Source.left l.source) (seen (g.K.Sink.written l.sink) (g.C.Clock.coming l.clock) (g.P.Disk.held l.site) (g.P.Site.bank_faults l.site) (g.P.Disk.moment l.site) (g.P.Disk.shared l.site)) l.session;
   taking : (input : List ℕ) → g.S.Source.left l.fn.source ≡ Some input → Taking input l.room (g.S.Source.left l.source);
   empty : l.session.output ≡ [];
+  sound : IsSound l.session.tier;
   within : l.room ≤ 4294967296;
   space : 0 < length l.piece;
   read : g.S.Source.faults l.fn.source ≤ g.S.Source.faults l.source;

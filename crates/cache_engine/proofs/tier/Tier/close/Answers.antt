@@ -14,5 +14,5 @@ pub returns-clause-sound : goal.returns-clause-sound
 returns-clause-sound c =
     sound_behind c.args.self.now c.close.new.self c.requires
     (c.close.ensures.sound c.args.self.now.schema c.requires.sessions)
-    (own_left c.args.self.now c.close.new.self c.args.id c.requires
+    (λ is. own_left c.args.self.now c.close.new.self c.args.id is
     (c.close.ensures.seen c.args.self.now.schema c.requires.sessions))

@@ -1,9 +1,14 @@
-use Rattle.cache_engine.proofs.RoundLaws.{drain_ended, drained}
+use Rattle.std.proofs.Common.{sym, subst}
+use Rattle.cache_engine.specs.Performing.{IsCaused}
+use Rattle.cache_engine.proofs.SettlingLaws.{drain_ended, drained}
 use Rattle.cache_engine.proofs.tier.Tier.drain.Goals as goal
 
-pub returns-in-Ok-clause-serves : goal.returns-in-Ok-clause-serves
-returns-in-Ok-clause-serves g c = λ numbered.
-    drained c.args.self.now _ _ _ c.in-Ok.receipts c.done.result c.done.ensures (c.in-Ok.ensures.serves numbered)
+pub returns-in-Ok-clause-performs : goal.returns-in-Ok-clause-performs
+returns-in-Ok-clause-performs g c =
+    drained c.args.self.now _ _ _ c.in-Ok.receipts c.done.result c.done.ensures c.in-Ok.ensures.performs
 
-pub returns-in-Err-clause-serves : goal.returns-in-Err-clause-serves
-returns-in-Err-clause-serves g c = λ numbered. drain_ended c.args.self.now _ _ _ c.in-Err.reply (c.in-Err.ensures.serves numbered)
+pub returns-in-Err-clause-performs : goal.returns-in-Err-clause-performs
+returns-in-Err-clause-performs g c = drain_ended c.args.self.now _ _ _ c.in-Err.reply c.in-Err.ensures.performs
+
+pub returns-in-Ok-clause-cause : goal.returns-in-Ok-clause-cause
+returns-in-Ok-clause-cause g c = subst (IsCaused _ _) (sym c.done.ensures) c.in-Ok.ensures.cause

@@ -14,7 +14,7 @@ pub returns-in-Ok-clause-sound : goal.returns-in-Ok-clause-sound
 returns-in-Ok-clause-sound c =
     sound_behind c.args.self.now c.open.new.self c.requires
     (c.open.ensures.sound c.args.self.now.schema c.requires.sessions)
-    (own_pushed c.args.self.now c.open.new.self _ c.requires c.in-Ok.ensures.ok.seen refl)
+    (λ is. own_pushed c.args.self.now c.open.new.self _ is c.in-Ok.ensures.ok.seen refl)
 
 pub returns-in_ok-refuse_label-in-Err-Label-clause-answers :
     goal.returns-in_ok-refuse_label-in-Err-Label-clause-answers
@@ -34,22 +34,22 @@ pub returns-in_ok-refuse_label-in-Err-Label-clause-sound : goal.returns-in_ok-re
 returns-in_ok-refuse_label-in-Err-Label-clause-sound c =
     sound_behind c.args.self.now c.open.new.self c.requires
     (c.open.ensures.sound c.args.self.now.schema c.requires.sessions)
-    (own_same c.args.self.now c.open.new.self c.requires c.in-Err-Label.ensures.err)
+    (λ is. own_same c.args.self.now c.open.new.self is c.in-Err-Label.ensures.err)
 
 pub returns-in_err-refuse_label-in-Err-Label-clause-sound : goal.returns-in_err-refuse_label-in-Err-Label-clause-sound
 returns-in_err-refuse_label-in-Err-Label-clause-sound c =
     sound_behind c.args.self.now c.open.new.self c.requires
     (c.open.ensures.sound c.args.self.now.schema c.requires.sessions)
-    (own_same c.args.self.now c.open.new.self c.requires c.in-Err-Label.ensures.err)
+    (λ is. own_same c.args.self.now c.open.new.self is c.in-Err-Label.ensures.err)
 
 pub returns-in-Err-Limit-clause-sound : goal.returns-in-Err-Limit-clause-sound
 returns-in-Err-Limit-clause-sound c =
     sound_behind c.args.self.now c.open.new.self c.requires
     (c.open.ensures.sound c.args.self.now.schema c.requires.sessions)
-    (own_same c.args.self.now c.open.new.self c.requires c.in-Err-Limit.ensures.err)
+    (λ is. own_same c.args.self.now c.open.new.self is c.in-Err-Limit.ensures.err)
 
 pub returns-in-Err-Memory-clause-sound : goal.returns-in-Err-Memory-clause-sound
 returns-in-Err-Memory-clause-sound c =
     sound_behind c.args.self.now c.open.new.self c.requires
     (c.open.ensures.sound c.args.self.now.schema c.requires.sessions)
-    (own_same c.args.self.now c.open.new.self c.requires c.in-Err-Memory.ensures.err)
+    (λ is. own_same c.args.self.now c.open.new.self is c.in-Err-Memory.ensures.err)

@@ -16,5 +16,5 @@ pub returns-clause-sound : goal.returns-clause-sound
 returns-clause-sound c =
     sound_behind c.args.self.now c.rest.new.self c.requires
     (c.rest.ensures.sound c.args.self.now.schema c.requires.sessions)
-    (own_rested c.args.self.now c.rest.new.self c.args.id c.requires
+    (λ is. own_rested c.args.self.now c.rest.new.self c.args.id is
     (c.rest.ensures.seen c.args.self.now.schema c.requires.sessions))

@@ -16,5 +16,5 @@ pub returns-clause-sound : goal.returns-clause-sound
 returns-clause-sound c =
     sound_behind c.args.self.now c.set_flag.new.self c.requires
     (c.set_flag.ensures.sound c.args.self.now.schema c.requires.sessions)
-    (own_flagged c.args.self.now c.set_flag.new.self c.args.id c.args.level c.requires
+    (λ is. own_flagged c.args.self.now c.set_flag.new.self c.args.id c.args.level is
     (c.set_flag.ensures.seen c.args.self.now.schema c.requires.sessions))

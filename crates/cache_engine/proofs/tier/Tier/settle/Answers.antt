@@ -1,12 +1,12 @@
 use Rattle.std.proofs.Common.{arith, refl}
-use Rattle.cache_engine.proofs.RoundLaws.{doubt_rose, few_doubts, settled_all, settled_so_far, still_told}
+use Rattle.cache_engine.proofs.SettlingLaws.{all_caused, doubt_rose, end_caused, few_doubts, settled_all, settled_so_far, sound_settled, still_told}
 use Rattle.cache_engine.proofs.tier.Tier.settle.Goals as goal
 
-pub returns-in-Ok-clause-serves : goal.returns-in-Ok-clause-serves
-returns-in-Ok-clause-serves g c = λ numbered.
-    settled_all c.left_law.ensures c.args.self.now _ _ _ c.in-Ok.receipts
+pub returns-in-Ok-clause-performs : goal.returns-in-Ok-clause-performs
+returns-in-Ok-clause-performs g c =
+    settled_all (record { left = c.left_law.ensures; follow = c.follow_law.ensures; shown = c.round_shown_law.ensures })
+    c.args.self.now _ _ _ c.in-Ok.receipts refl
     (record {
-      rest = record { schema = refl; stale = refl; catalog = refl; sessions = refl; next = refl };
       told = c.in-Ok.ensures.goes;
       faults = c.in-Ok.ensures.faults;
       moment = c.in-Ok.ensures.moment;
@@ -14,13 +14,13 @@ returns-in-Ok-clause-serves g c = λ numbered.
       one = omega arith;
       rose = λ one. absurd (omega (arith, one));
     })
-    c.in-Ok.ensures.all c.in-Ok.ensures.told numbered
+    c.in-Ok.ensures.all c.in-Ok.ensures.told c.requires
 
-pub returns-in-Err-clause-serves : goal.returns-in-Err-clause-serves
-returns-in-Err-clause-serves g c = λ numbered.
-    settled_so_far c.left_law.ensures c.args.self.now _ _ _ c.in-Err.fault c.reply_to_round.result
+pub returns-in-Err-clause-performs : goal.returns-in-Err-clause-performs
+returns-in-Err-clause-performs g c =
+    settled_so_far (record { left = c.left_law.ensures; follow = c.follow_law.ensures; shown = c.round_shown_law.ensures })
+    c.args.self.now _ _ _ c.in-Err.fault c.reply_to_round.result refl
     (record {
-      rest = record { schema = refl; stale = refl; catalog = refl; sessions = refl; next = refl };
       told = c.in-Err.ensures.goes;
       faults = c.in-Err.ensures.faults;
       moment = c.in-Err.ensures.moment;
@@ -28,5 +28,35 @@ returns-in-Err-clause-serves g c = λ numbered.
       one = few_doubts c.in-Err.fault;
       rose = doubt_rose c.in-Err.fault _ _ c.in-Err.ensures.cause;
     })
-    (still_told c.args.self.now _ c.in-Err.fault c.reply_to_round.result
-    (record { schema = refl; stale = refl; catalog = refl; sessions = refl; next = refl }) c.reply_to_round.ensures) numbered
+    (still_told c.args.self.now _ c.in-Err.fault c.reply_to_round.result refl c.reply_to_round.ensures) c.requires
+
+pub returns-in-Ok-clause-sound : goal.returns-in-Ok-clause-sound
+returns-in-Ok-clause-sound g c = sound_settled c.args.self.now _ c.requires refl c.in-Ok.ensures.rest
+
+pub returns-in-Err-clause-sound : goal.returns-in-Err-clause-sound
+returns-in-Err-clause-sound g c = sound_settled c.args.self.now _ c.requires refl c.in-Err.ensures.rest
+
+pub returns-in-Ok-clause-cause : goal.returns-in-Ok-clause-cause
+returns-in-Ok-clause-cause g c =
+    all_caused c.args.self.now.unsettled.items c.round.new.unsettled.items _ _ c.in-Ok.receipts
+    (record {
+      told = c.in-Ok.ensures.goes;
+      faults = c.in-Ok.ensures.faults;
+      moment = c.in-Ok.ensures.moment;
+      shares = c.in-Ok.ensures.shares;
+      one = omega arith;
+      rose = λ one. absurd (omega (arith, one));
+    })
+
+pub returns-in-Err-clause-cause : goal.returns-in-Err-clause-cause
+returns-in-Err-clause-cause g c =
+    end_caused c.args.self.now c.args.self.now.unsettled.items c.round.new.unsettled.items _ _ c.in-Err.fault c.reply_to_round.result
+    (record {
+      told = c.in-Err.ensures.goes;
+      faults = c.in-Err.ensures.faults;
+      moment = c.in-Err.ensures.moment;
+      shares = c.in-Err.ensures.shares;
+      one = few_doubts c.in-Err.fault;
+      rose = doubt_rose c.in-Err.fault _ _ c.in-Err.ensures.cause;
+    })
+    (still_told c.args.self.now _ c.in-Err.fault c.reply_to_round.result refl c.reply_to_round.ensures)

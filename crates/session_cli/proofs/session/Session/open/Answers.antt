@@ -1,9 +1,13 @@
-use Rattle.std.proofs.Common.{refl}
+use Rattle.std.proofs.Common.{◌≡◌, ◌+◌, ◌∙◌, ap, arith, refl}
 use Rattle.session_cli.specs.declared.session.Session.{Session}
-use Rattle.session_cli.proofs.OpeningLaws.{with_tier}
+use Rattle.session_cli.specs.Timing.{AreLeft}
+use Rattle.session_cli.proofs.OpeningLaws.{opens_begun}
 use Rattle.session_cli.proofs.session.Session.open.Goals as goal
 
-pub returns-in-Ok-open-clause-told : goal.returns-in-Ok-open-clause-told
-returns-in-Ok-open-clause-told g c =
-    let session : Session = record { tier = c.in-Ok-open.tier; line = c.in-Ok.line; output = c.in-Ok-new.output } in
-    with_tier (g.P.Disk.shared c.args.site.now) session c.in-Ok-open.tier (g.P.Disk.held c.args.site.now) (g.P.Disk.held c.open.new.site) refl c.in-Ok.ensures c.in-Ok-new.ensures c.legal_law.ensures c.committed_law.ensures c.in-Ok-open.ensures.told
+pub returns-in-Ok-begin-clause-opens : goal.returns-in-Ok-begin-clause-opens
+returns-in-Ok-begin-clause-opens g c =
+    let session : Session = record { tier = c.in-Ok-begin.tier; line = c.in-Ok.line; output = c.in-Ok-new.output } in
+    let coming = g.C.Clock.coming c.args.clock.now in
+    let left : AreLeft coming 1 (g.C.Clock.coming c.now-start.new.self) = λ n. c.now-start.ensures.rest n ∙ (let e : n + 1 ≡ 1 + n = omega arith in ap coming e) in
+    opens_begun _ _ coming (g.C.Clock.coming c.now-start.new.self) c.args.propagate_ms c.now-start.result c.in-Ok-begin.tier session refl c.now-start.ensures.told left
+    c.in-Ok-begin.ensures.begins c.in-Ok-begin.ensures.later

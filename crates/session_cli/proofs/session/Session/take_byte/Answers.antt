@@ -6,4 +6,4 @@ pub returns-then-byte-eq10-clause-serves : goal.returns-then-byte-eq10-clause-se
 returns-then-byte-eq10-clause-serves g c = λ o given alone s. rw c.if-byte-eq10.true (c.end_line.ensures.serves o given alone s)
 
 pub returns-clause-serves : goal.returns-clause-serves
-returns-clause-serves g c = λ o given alone s. serving_byte o given c.args.byte _ _ _ _ c.args.self.now _ c.if-byte-eq10.false refl c.push.ensures refl s
+returns-clause-serves g c = λ o given alone s. serving_byte o given c.args.byte _ c.args.self.now _ c.if-byte-eq10.false refl c.push.ensures refl s

@@ -1,6 +1,6 @@
 use Rattle.std.proofs.Common.{refl, inl, inr, rules}
 use Rattle.command_line.specs.Keys.{AreBad}
-use Rattle.session_cli.proofs.program.asked_command.Goals as goal
+use Rattle.session_cli.proofs.program.asked_task.Goals as goal
 
 pub returns-in-Err-Bad : goal.returns-in-Err-Bad
 returns-in-Err-Bad c =

@@ -1,0 +1,131 @@
+-- A tier that begins.
+use Rattle.std.proofs.Common.{◌≡◌, ◌≤◌, ℕ, suc, true, false, Option, Some, None, List, [], ◌∷◌, ◌++◌, length, map, slice_get, refl, sym, ap, ◌∙◌, subst, arith}
+use Rattle.std.specs.List.{list_all}
+use Rattle.tier_base.specs.declared.number.Moment.{Moment}
+use Rattle.tier_base.specs.declared.number.TableId.{TableId}
+use Rattle.table_defs.specs.declared.definition.TableDef.{TableDef}
+use Rattle.table_state.specs.declared.history.Entry.{Entry}
+use Rattle.table_state.specs.Histories.{state_of}
+use Rattle.table_state.specs.Tables.{TableState}
+use Rattle.order_laws.specs.Commits.{RiseBetween}
+use Rattle.order_laws.specs.Steps.{MayBegin}
+use Rattle.outside.specs.Bank.{Grows, TellsSchema}
+use Rattle.outside.specs.Calls as site
+use Rattle.outside.specs.Holding.{Held}
+use Rattle.outside.specs.Others.{Around}
+use Rattle.std.specs.Prelude.{Result, Ok, Err}
+use Rattle.open_sessions.specs.Opening.{AreSessions, seen_all}
+use Rattle.group_catalog.specs.Catalogs.{groups_in}
+use Rattle.group_store.specs.Shown.{shown_by, stored_rows, tables_by}
+use Rattle.group_store.specs.Stores.{Kept}
+use Rattle.tier_statements.specs.Seen.{session_seen}
+use Rattle.cache_tier.specs.Shown.{shown_state, shown_table, tables_from}
+use Rattle.cache_tier.specs.TierStates.{Settings, Tier, opened}
+use Rattle.cache_tier.specs.Worlds.{World}
+use Rattle.tier_laws.specs.Events.{with_tier}
+use Rattle.tier_laws.specs.Standing.{Stands}
+use Rattle.cache_engine.specs.declared.tier.Tier.{Tier as Stored}
+use Rattle.cache_engine.specs.declared.clock.TierClock.{TierClock}
+use Rattle.cache_engine.specs.Beginning.{Begins, BeginsAt, IsBegun, IsFresh, IsNewClock, IsOpened, OthersCame, opened_world}
+use Rattle.cache_engine.specs.Naming.{AreNamed}
+use Rattle.cache_engine.specs.Performing.{KeepsSlots, StandsFor}
+use Rattle.cache_engine.specs.Sites.{SiteView}
+use Rattle.cache_engine.specs.Stored.{AreKept, HaveOwnNames, IsSound, IsStoredAs, KeepsTime, is_plain, refreshed_in, rows_of, set_seen, without_list}
+use Rattle.cache_engine.proofs.BankLaws.{told_behind}
+use Rattle.cache_engine.proofs.OthersLaws.{came_by, schema_told}
+use Rattle.cache_engine.proofs.StandingLaws.{slots_kept}
+
+-- what is stored
+
+time_fresh : (c : TierClock) (start propagate_ms : ℕ) (settings : Settings) → settings.propagate_ms ≡ propagate_ms → IsNewClock c start propagate_ms → KeepsTime c (opened settings start []).now 0 (opened settings start []).now [] settings
+time_fresh c start propagate_ms settings due new = record {
+  moment = sym new.now;
+  additions = sym new.added;
+  tried = sym new.round;
+  refreshes = λ interval. ap (λ xs. refreshed_in (map set_seen xs) interval) (sym new.sets);
+  due = due ∙ sym new.due;
+}
+
+pub stored_fresh : (t : Stored) (schema : List TableDef) (start propagate_ms : ℕ) (settings : Settings) (s : TableState) → settings.propagate_ms ≡ propagate_ms → s.schema ≡ schema → IsFresh t schema start propagate_ms → IsStoredAs t (opened settings start s.schema)
+stored_fresh t schema start propagate_ms settings s due same new = record {
+  schema = same ∙ sym new.schema_is;
+  stale = sym new.told;
+  groups = sym new.groups;
+  sessions = ap (map session_seen) (sym new.sessions);
+  unsettled = sym new.unsettled;
+  next = sym new.next;
+  doubt = refl;
+  time = time_fresh t.clock start propagate_ms settings due new.clock;
+}
+
+none_shown : (history : List Entry) (a : Tier) (place : ℕ) (defs : List TableDef) → a.groups ≡ [] → tables_by (stored_rows []) place defs ≡ tables_from (shown_table history a) place defs
+none_shown history a place [] none = refl
+none_shown history a place (def ∷ defs) none =
+    ap (λ (t : List Rattle.indexed_rows.specs.Rows.Table). t) (ap (λ gs. Rattle.cache_tier.specs.Shown.table_of_group history a.log (record { 0 = place }) (Rattle.cache_tier.specs.Groups.group_over gs (record { 0 = place })) ∷ tables_by (stored_rows []) (suc place) defs) (sym none))
+    ∙ ap (λ ts. shown_table history a (record { 0 = place }) ∷ ts) (none_shown history a (suc place) defs none)
+
+shows_fresh : (t : Stored) (schema : List TableDef) (start propagate_ms : ℕ) (settings : Settings) (s : TableState) (history : List Entry) → s.schema ≡ schema → IsFresh t schema start propagate_ms → rows_of t ≡ shown_state history (opened settings start s.schema)
+shows_fresh t schema start propagate_ms settings s history same new =
+    ap (shown_by t.schema) new.stores
+    ∙ ap (λ defs. shown_by defs []) (new.schema_is ∙ sym same)
+    ∙ ap (λ ts. let z : TableState = record { schema = s.schema; tables = ts } in z) (none_shown history (opened settings start s.schema) 0 s.schema refl)
+
+-- what the parts ask of one another
+
+none_there : {X : Type 0} (xs : List X) (k : ℕ) (x : X) → xs ≡ [] → slice_get xs k ≡ Some x → ⊥
+none_there [] k x none at = cc
+none_there (y ∷ xs) k x none at = cc
+
+pub sound_fresh : (t : Stored) (schema : List TableDef) (start propagate_ms : ℕ) → IsFresh t schema start propagate_ms → AreSessions t.schema t.sessions → AreNamed (groups_in t.catalog) t.stores.items t.schema t.visible t.directory → IsSound t
+sound_fresh t schema start propagate_ms new sessions named = record {
+  sessions = sessions;
+  stores = record { homes = named.directory; over = λ k s at. absurd (none_there t.stores.items k s new.stores at) };
+  kept = subst (λ gs. AreKept t.schema gs t.stores.items) (sym new.groups) (subst (AreKept t.schema []) (sym new.stores) tt);
+  whole = λ k s at. absurd (none_there t.stores.items k s new.stores at);
+  plain = ap (list_all is_plain) new.groups;
+  named = λ i j g h at other same. absurd (none_there (groups_in t.catalog) i g new.groups at);
+  visible = named.visible;
+  numbered = subst (λ n. RiseBetween 1 t.unsettled.items n) (sym new.next) (subst (λ xs. RiseBetween 1 xs 1) (sym new.unsettled) (let one : 1 ≤ 1 = omega arith in one));
+  verified = λ is. let no : false ≡ true = sym new.judged ∙ is in cc;
+}
+
+-- the law of a tier that is opened
+abbrev pub OpenedLaw : Type 0
+OpenedLaw =
+    (w : World) (settings : Settings) (moment : ℕ) (s : TableState) → state_of w.history ≡ Some s
+    → MayBegin w.history 1 → Stands (with_tier (opened settings moment s.schema) w)
+
+opened_there : OpenedLaw → (t : Stored) (schema : List TableDef) (start : Moment) (propagate_ms : ℕ) (history : List Entry) (seen : SiteView) → ((s : TableState) → state_of history ≡ Some s → s.schema ≡ schema) → IsFresh t schema start.0 propagate_ms → IsOpened t start propagate_ms history seen
+opened_there law t schema start propagate_ms history seen told new settings s due is may = record {
+  stored = stored_fresh t schema start.0 propagate_ms settings s due (told s is) new;
+  shows = shows_fresh t schema start.0 propagate_ms settings s history (told s is) new;
+  stands = law (opened_world settings start.0 s history seen) settings start.0 s is may;
+  unkept = refl;
+}
+
+pub begun : OpenedLaw → (t : Stored) (schema : List TableDef) (start : Moment) (propagate_ms : ℕ) (before after : SiteView) → site.Told before.held after.held (site.BankCall before.shared (TellsSchema (Ok schema))) → IsFresh t schema start.0 propagate_ms → Begins start propagate_ms before after (Ok t)
+begun law t schema start propagate_ms before after told new there was =
+    let now = told_behind there before.held after.held (site.BankCall before.shared (TellsSchema (Ok schema))) was told in
+    let came = came_by before.shared (TellsSchema (Ok schema)) there.history now.there.history (λ a b tells. tells.0) now.is.history in
+    record {
+      held = now.there;
+      told = now.told;
+      others = came.entries;
+      came = came.others;
+      is = came.is;
+      opened = opened_there law t schema start propagate_ms now.there.history after
+          (λ s is. schema_told before.shared schema there.history now.there.history s now.is.history is) new;
+    }
+
+-- what the call leaves of the site
+pub began_at : (before after : SiteView) (step : List Entry → List Entry → Type 0) → ((a b : List Entry) → step a b → Grows [] a b) → site.Told before.held after.held (site.BankCall before.shared step) → before.bank_faults ≤ after.bank_faults → before.moment ≤ after.moment → after.shared ≡ before.shared → BeginsAt before after
+began_at before after step reads told later moment shares = record {
+  later = later;
+  moment = moment;
+  shares = shares;
+  slots = slots_kept before.held after.held (site.BankCall before.shared step) (λ o n call. call.slots) told;
+  others = λ there was.
+      let now = told_behind there before.held after.held (site.BankCall before.shared step) was told in
+      let came = came_by before.shared step there.history now.there.history reads now.is.history in
+      record { now = now.there; told = now.told; others = came.entries; came = came.others; is = came.is };
+}
