@@ -1,9 +1,14 @@
 pub mod BankLaws
+pub mod CauseLaws
 pub mod BeginningLaws
 pub mod CalmLaws
 pub mod CommitLaws
 pub mod DefiningLaws
 pub mod DrainLaws
+pub mod DueLaws
+pub mod EarlyLaws
+pub mod LineLaws
+pub mod RequestLaws
 pub mod FillLaws
 pub mod FillSteps
 pub mod FreshLaws
@@ -29,5 +34,6 @@ pub mod StoreChanges
 pub mod StoreForms
 pub mod StoreRows
 pub mod TablingLaws
+pub mod WantLaws
 pub mod VerifyLaws
 pub mod WritingLaws

@@ -13,6 +13,7 @@ pub mod Refreshing
 pub mod Refusing
 pub mod Requests
 pub mod Selecting
+pub mod Serving
 pub mod Sites
 pub mod Stored
 pub mod Tabling

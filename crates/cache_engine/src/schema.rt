@@ -33,7 +33,6 @@ impl Tier {
             (seen_at (P.Disk.held site.new) (P.bank_faults site.new) (P.Disk.moment site.new) (P.Disk.shared site.new))
             (stop_of result) }
     {
-        let _ = (&alloc, &site, &line);
         Err(faulty(alloc, Code::Memory))
     }
 }

@@ -1,0 +1,13 @@
+use Rattle.cache_engine.proofs.LineLaws.{worked_end, worked_on}
+use Rattle.cache_engine.proofs.tier.Tier.work_and_answer.Goals as goal
+
+pub returns-in-Some-clause-performs : goal.returns-in-Some-clause-performs
+returns-in-Some-clause-performs g c =
+    worked_end c.args.self.now c.begin_line.new.self _ _ c.args.base.0 c.args.line c.in-Ok.field-0.notes c.in-Ok.field-0.stop
+    c.in-Some.reply c.with_notes.result c.in-Some.is c.with_notes.ensures c.in-Ok.ensures.performs
+
+pub returns-in-None-clause-performs : goal.returns-in-None-clause-performs
+returns-in-None-clause-performs g c =
+    worked_on c.args.self.now c.begin_line.new.self c.answer_line.new.self _ _ _ c.args.base.0 c.args.line c.in-Ok.field-0.notes
+    c.in-Ok.field-0.stop c.answer_line.result c.with_notes-in-None.result c.in-None.is c.with_notes-in-None.ensures
+    c.in-Ok.ensures.performs c.answer_line.ensures.performs
