@@ -1,6 +1,7 @@
 pub mod BankLaws
 pub mod BeginningLaws
 pub mod CalmLaws
+pub mod ChangedLaws
 pub mod CommitLaws
 pub mod DefiningLaws
 pub mod DrainLaws
@@ -10,6 +11,7 @@ pub mod FreshLaws
 pub mod GroupComes
 pub mod GroupRows
 pub mod GroupingLaws
+pub mod HeldLaws
 pub mod NamedLaws
 pub mod NamingLaws
 pub mod OthersLaws
@@ -30,4 +32,5 @@ pub mod StoreForms
 pub mod StoreRows
 pub mod TablingLaws
 pub mod VerifyLaws
+pub mod WriteLaws
 pub mod WritingLaws
