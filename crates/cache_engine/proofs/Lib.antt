@@ -2,6 +2,7 @@ pub mod BankLaws
 pub mod CauseLaws
 pub mod BeginningLaws
 pub mod CalmLaws
+pub mod ChangedLaws
 pub mod CommitLaws
 pub mod DefiningLaws
 pub mod DrainLaws
@@ -15,6 +16,7 @@ pub mod FreshLaws
 pub mod GroupComes
 pub mod GroupRows
 pub mod GroupingLaws
+pub mod HeldLaws
 pub mod NamedLaws
 pub mod NamingLaws
 pub mod OthersLaws
@@ -36,4 +38,5 @@ pub mod StoreRows
 pub mod TablingLaws
 pub mod WantLaws
 pub mod VerifyLaws
+pub mod WriteLaws
 pub mod WritingLaws

@@ -1,5 +1,6 @@
 pub mod Answering
 pub mod Beginning
+pub mod Changing
 pub mod Committing
 pub mod Defining
 pub mod Draining
