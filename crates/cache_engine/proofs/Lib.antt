@@ -1,3 +1,4 @@
+pub mod AskingLaws
 pub mod BankLaws
 pub mod BeginningLaws
 pub mod CalmLaws
@@ -11,6 +12,7 @@ pub mod GroupComes
 pub mod GroupRows
 pub mod GroupingLaws
 pub mod NamedLaws
+pub mod GrowingLaws
 pub mod NamingLaws
 pub mod OthersLaws
 pub mod QueryLaws

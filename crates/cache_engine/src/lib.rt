@@ -15,6 +15,7 @@ pub mod due;
 mod grouping;
 mod filling;
 mod fresh;
+mod growing;
 pub mod loading;
 pub mod loading_whole;
 mod naming;
