@@ -1,3 +1,4 @@
+pub mod AskingLaws
 pub mod BankLaws
 pub mod CauseLaws
 pub mod BeginningLaws
@@ -18,6 +19,7 @@ pub mod GroupRows
 pub mod GroupingLaws
 pub mod HeldLaws
 pub mod NamedLaws
+pub mod GrowingLaws
 pub mod NamingLaws
 pub mod OthersLaws
 pub mod QueryLaws

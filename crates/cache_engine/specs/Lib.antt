@@ -5,6 +5,7 @@ pub mod Committing
 pub mod Defining
 pub mod Draining
 pub mod Due
+pub mod Growing
 pub mod Naming
 pub mod Filling
 pub mod Fresh

@@ -17,6 +17,7 @@ mod filling;
 mod fresh;
 mod grouping;
 mod holding;
+mod growing;
 pub mod loading;
 pub mod loading_whole;
 mod naming;
