@@ -1,3 +1,4 @@
+pub mod AimLaws
 pub mod BankLaws
 pub mod BeginningLaws
 pub mod CalmLaws
@@ -13,6 +14,14 @@ pub mod GroupingLaws
 pub mod NamedLaws
 pub mod NamingLaws
 pub mod OthersLaws
+pub mod FlagLaws
+pub mod GatherLaws
+pub mod LoadLaws
+pub mod LoadedLaws
+pub mod MatchLaws
+pub mod NamedLaws
+pub mod NamingLaws
+pub mod PutLaws
 pub mod QueryLaws
 pub mod QuietLaws
 pub mod ReadLaws
@@ -27,7 +36,12 @@ pub mod SoundParts
 pub mod StandingLaws
 pub mod StoreChanges
 pub mod StoreForms
+pub mod SnapshotLaws
+pub mod StandingLaws
+pub mod StorePairs
 pub mod StoreRows
 pub mod TablingLaws
+pub mod TakeLaws
+pub mod TakenLaws
 pub mod VerifyLaws
 pub mod WritingLaws

@@ -1,9 +1,13 @@
+pub mod Aiming
 pub mod Answering
 pub mod Beginning
+pub mod Choosing
 pub mod Committing
 pub mod Defining
 pub mod Draining
 pub mod Due
+pub mod Putting
+pub mod Gathering
 pub mod Naming
 pub mod Filling
 pub mod Fresh
@@ -16,4 +20,5 @@ pub mod Selecting
 pub mod Sites
 pub mod Stored
 pub mod Tabling
+pub mod Taking
 pub mod Writing

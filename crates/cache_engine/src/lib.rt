@@ -1,6 +1,7 @@
 //! The tier as it is stored: parts that are kept, and one method for each statement.
 #![tactic(auto)]
 
+mod aiming;
 pub mod altering;
 pub mod beginning;
 pub mod calling;
@@ -15,8 +16,10 @@ pub mod due;
 mod grouping;
 mod filling;
 mod fresh;
+mod gathering;
 pub mod loading;
 pub mod loading_whole;
+mod loading_written;
 mod naming;
 pub mod query;
 mod refreshing;
