@@ -6,13 +6,13 @@ pub mod Committing
 pub mod Defining
 pub mod Draining
 pub mod Due
-pub mod Putting
-pub mod Gathering
-pub mod Naming
 pub mod Filling
 pub mod Fresh
+pub mod Gathering
 pub mod Grouping
+pub mod Naming
 pub mod Performing
+pub mod Putting
 pub mod Refreshing
 pub mod Refusing
 pub mod Requests
