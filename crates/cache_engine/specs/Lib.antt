@@ -5,8 +5,11 @@ pub mod Defining
 pub mod Draining
 pub mod Due
 pub mod Naming
+pub mod Filling
+pub mod Fresh
 pub mod Grouping
 pub mod Performing
+pub mod Refreshing
 pub mod Refusing
 pub mod Requests
 pub mod Selecting

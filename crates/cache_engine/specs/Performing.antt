@@ -1,7 +1,7 @@
 -- That the stored tier stands for the one of a world, and that what is done to it is what the abstract tier does. (This
 -- project's model.)
 
-use Rattle.std.specs.Prelude.{◌≡◌, ℕ, ◌≤◌, List, [], Option, Some, None, true, false, Result, Ok, Err}
+use Rattle.std.specs.Prelude.{◌≡◌, ℕ, ◌≤◌, List, [], Option, Some, None, true, false, Bool, Result, Ok, Err}
 use Rattle.tier_base.specs.declared.code.Code.TheVariants as code
 use Rattle.tier_base.specs.declared.number.SessionId.{SessionId}
 use Rattle.row_types.specs.declared.rule.Refused.{Refused}
