@@ -1,14 +1,20 @@
+pub mod Aiming
 pub mod Answering
 pub mod Beginning
+pub mod Changing
+pub mod Choosing
 pub mod Committing
 pub mod Defining
 pub mod Draining
 pub mod Due
+pub mod Growing
 pub mod Naming
 pub mod Filling
 pub mod Fresh
+pub mod Gathering
 pub mod Grouping
 pub mod Performing
+pub mod Putting
 pub mod Refreshing
 pub mod Refusing
 pub mod Requests
@@ -17,4 +23,5 @@ pub mod Serving
 pub mod Sites
 pub mod Stored
 pub mod Tabling
+pub mod Taking
 pub mod Writing

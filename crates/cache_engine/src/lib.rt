@@ -1,6 +1,7 @@
 //! The tier as it is stored: parts that are kept, and one method for each statement.
 #![tactic(auto)]
 
+mod aiming;
 pub mod altering;
 pub mod beginning;
 pub mod calling;
@@ -16,9 +17,17 @@ pub mod early;
 mod filling;
 mod fresh;
 mod grouping;
+mod holding;
+mod growing;
+mod filling;
+mod fresh;
+mod gathering;
+mod grouping;
 pub mod loading;
 pub mod loading_whole;
+mod loading_written;
 mod naming;
+pub mod preparing;
 pub mod query;
 mod refreshing;
 pub mod request;
