@@ -36,6 +36,7 @@ use Rattle.cache_engine.specs.Serving.{AsksAndDoes, DoesAdmitted, IsAdmitted, Wo
 use Rattle.cache_engine.specs.Sites.{IsAt, SiteView}
 use Rattle.cache_engine.specs.Stored.{IsStoredAs}
 use Rattle.cache_engine.proofs.DueLaws.{KeepsWho, asked_keeps, due_keeps, still_unshared, who_on}
+use Rattle.cache_engine.proofs.WantLaws.{told_as}
 
 -- another part that the same worlds meet
 pub performed : (old new : Stored) (before behind : SiteView) (one other : World → World → Type 0) → ((w w' : World) → StandsFor old w → one w w' → other w w') → Performs old new before behind one → Performs old new before behind other
@@ -52,10 +53,6 @@ then_performed old mid new before between behind one other both keeps joins p q 
     let d = p w at stands unshared in
     let e = q d.world d.at d.stands (still_unshared w d.world (keeps w d.world stands d.is) unshared) in
     record { world = e.world; at = e.at; stands = e.stands; is = joins w d.world e.world stands d.is e.is }
-
-pub told_as : (r : Refused) → reply_of (Err r) ≡ reply_to r
-told_as (refused.Rule rule) = refl
-told_as refused.Memory = refl
 
 -- SESSIONS
 
@@ -126,10 +123,6 @@ pub console_performed : (old new : Stored) (before behind : SiteView) (request :
 console_performed old new before behind request reply p =
     performed old new before behind (λ w w'. Tries (DoesConsole request) w w' reply) (λ w w'. DoesAdmitted (says.Console request) w w' reply)
     (λ w w' stands done free. done) p
-
--- nothing is done where the session isn't found, though it was there
-pub unfound : (t : Stored) (site : SiteView) (l : Line) → Performs t t site site (λ w w'. DoesAdmitted l w w' (faulty code.Memory))
-unfound t site l = λ w at stands unshared. record { world = w; at = at; stands = stands; is = λ free. inr (refl, refl) }
 
 -- the sum of the additions
 pub clock_told : (t : Stored) (site : SiteView) (ms : ℕ) (reply : Reply) → reply ≡ only (Done t.clock.added) → Performs t t site site (λ w w'. DoesAdmitted (says.Clock ms) w w' reply)
@@ -232,14 +225,6 @@ worked_on old mid new before between behind base l notes stop last reply is e p 
       answer = e;
     }))
     p q
-
-pub not_worked : (old new : Stored) (before behind : SiteView) (base : ℕ) (l : Line) (reply : Reply) → new ≡ old → behind ≡ before → reply ≡ faulty code.Memory → Performs old new before behind (λ w w'. WorksAndAnswers base l w w' reply)
-not_worked old new before behind base l reply same there e = λ w at stands unshared. record {
-  world = w;
-  at = subst (λ site. IsAt site w) (sym there) at;
-  stands = subst (λ t. StandsFor t w) (sym same) stands;
-  is = λ free. inr (refl, e);
-}
 
 -- LINES THAT ARE READ
 
