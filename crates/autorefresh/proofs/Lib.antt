@@ -1,3 +1,0 @@
-pub mod CopyLaws
-pub mod KeepingLaws
-pub mod PuttingLaws

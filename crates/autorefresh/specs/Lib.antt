@@ -1,4 +1,0 @@
-pub mod Keeping
-pub mod Putting
-pub mod Refreshes
-pub mod Sets

@@ -1,3 +1,0 @@
-pub mod GroupRules
-pub mod Limits
-pub mod LiteralValues

@@ -1,6 +1,0 @@
-use Rattle.std.proofs.Common.{arith}
-use Rattle.std.proofs.lemmas.Grind.{common_steps}
-use Rattle.served_lines.proofs.literals.constants_in.Goals as goal
-
-pub loop-expression-preserved : goal.loop-expression-preserved
-loop-expression-preserved c = grind (arith, common_steps)

@@ -1,4 +1,0 @@
-pub mod ConsoleStoring
-pub mod ReadOnlyStoring
-pub mod Standing
-pub mod Storing
