@@ -7,6 +7,7 @@ pub mod CalmLaws
 pub mod ChangedLaws
 pub mod CommitLaws
 pub mod DefiningLaws
+pub mod CreatingLaws
 pub mod DrainLaws
 pub mod DueLaws
 pub mod EarlyLaws
@@ -36,6 +37,7 @@ pub mod RefreshSteps
 pub mod RoundLaws
 pub mod SeenLaws
 pub mod SelectLaws
+pub mod ServingLaws
 pub mod SessionLaws
 pub mod SettlingLaws
 pub mod ShownStores
