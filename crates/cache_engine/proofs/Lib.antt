@@ -33,6 +33,12 @@ pub mod QueryLaws
 pub mod QuietLaws
 pub mod ReadLaws
 pub mod RefreshSteps
+pub mod OthersLaws
+pub mod DropLocks
+pub mod DroppingLaws
+pub mod GroupComes
+pub mod GroupGoes
+pub mod GroupingLaws
 pub mod RoundLaws
 pub mod SeenLaws
 pub mod SelectLaws
