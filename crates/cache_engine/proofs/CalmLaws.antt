@@ -1,6 +1,8 @@
 -- Replies that tell no fault, and parts that leave all as it was.
-use Rattle.std.proofs.Common.{◌≡◌, ℕ, ◌∙◌, ap, unwrap_or, false, Option, Some, None, Err, List, [], refl, sym, subst, inl, inr, le_refl}
+use Rattle.std.proofs.Common.{◌&&◌, Bool, true, ◌≡◌, ℕ, ◌∙◌, ap, unwrap_or, false, Option, Some, None, Err, List, [], refl, sym, subst, inl, inr, le_refl}
 use Rattle.tier_base.specs.declared.code.Code.TheVariants as code
+use Rattle.std.specs.Bool.{MatchBool}
+use Rattle.tier_base.specs.declared.limit.Limit.TheVariants as limit
 use Rattle.tier_base.specs.declared.number.SessionId.{SessionId}
 use Rattle.row_types.specs.declared.rule.Refused.TheVariants as refused
 use Rattle.row_types.specs.declared.rule.Rule.{Rule}
@@ -15,10 +17,13 @@ use Rattle.order_laws.proofs.TruthLaws.{never_both}
 use Rattle.sql_subset.specs.declared.stmt.Stmt.{Stmt}
 use Rattle.cache_tier.specs.declared.reply.Last.{Last}
 use Rattle.cache_tier.specs.declared.reply.Last.TheVariants.{No}
+use Rattle.cache_tier.specs.Journals.{JournalEntry, is_full}
+use Rattle.cache_tier.specs.JournalSteps.{Flushes, FlushesFitting, FlushesKept, FlushesSome, has_entries, name_sizes}
 use Rattle.cache_tier.specs.Order.{refusal}
+use Rattle.cache_tier.specs.Rules.{past}
 use Rattle.cache_tier.specs.Steps.{DoesStatement, tells}
 use Rattle.cache_tier.specs.TierStates.{Session}
-use Rattle.cache_tier.specs.Worlds.{Unless, World, only}
+use Rattle.cache_tier.specs.Worlds.{Passes, Unless, World, only}
 use Rattle.cache_engine.specs.declared.tier.Tier.{Tier as Stored}
 use Rattle.cache_engine.specs.Performing.{Executes, IsCalm, KeepsSlots, PerformsIn, StandsFor}
 use Rattle.cache_engine.specs.Sites.{SiteView}
@@ -64,3 +69,19 @@ refused_by t site id st rule is = λ s has w at stands unshared. record {
   stands = stands;
   is = inl (subst (λ o. Unless o (DoesStatement s st) w w (only (No rule))) (sym (is s w has stands.stored)) (refl, refl));
 }
+
+-- nothing is flushed where there is no journal
+pub flushes_none : (w : World) (entries : List JournalEntry) → w.journal.kept ≡ false → FlushesSome entries w w None
+flushes_none w entries unkept = by (has_entries entries)
+  where
+    flushes : Flushes entries w w None
+    flushes = subst (λ b. MatchBool b (FlushesKept entries w w None) (Passes w w None)) (sym unkept) (refl, refl)
+
+    fits : FlushesFitting entries w w None
+    fits =
+        subst (λ b. MatchBool b ((w ≡ w) × (None ≡ Some (only (No (past limit.JournalSlot))))) (Flushes entries w w None))
+        (sym (ap (λ b. b && is_full (name_sizes w) w.journal entries) unkept)) flushes
+
+    by : (b : Bool) → MatchBool b (FlushesFitting entries w w None) (Passes w w None)
+    by true = fits
+    by false = (refl, refl)

@@ -6,13 +6,14 @@ pub mod Choosing
 pub mod Committing
 pub mod Defining
 pub mod Draining
+pub mod Dropping
 pub mod Due
-pub mod Growing
-pub mod Naming
 pub mod Filling
 pub mod Fresh
 pub mod Gathering
 pub mod Grouping
+pub mod Growing
+pub mod Naming
 pub mod Performing
 pub mod Putting
 pub mod Refreshing

@@ -126,8 +126,8 @@ impl Tier {
     }
 }
 
-// The refusal with a name, or want of memory.
-fn refuse_name(alloc: Global, code: Code, name: &Name) -> Refused
+/// The refusal with a name, or want of memory.
+pub(crate) fn refuse_name(alloc: Global, code: Code, name: &Name) -> Refused
     ensures { IsRefusedBy (Some (named code name.now)) result }
 {
     match name.copied(alloc) {
