@@ -4,6 +4,8 @@ pub mod CalmLaws
 pub mod CommitLaws
 pub mod DefiningLaws
 pub mod DrainLaws
+pub mod DueLaws
+pub mod DueStored
 pub mod NamedLaws
 pub mod NamingLaws
 pub mod QueryLaws

@@ -4,6 +4,7 @@ pub mod Committing
 pub mod Defining
 pub mod Draining
 pub mod Due
+pub mod DueItems
 pub mod Naming
 pub mod Filling
 pub mod Fresh

@@ -12,6 +12,8 @@ pub mod defining;
 pub mod drain;
 pub mod dropping;
 pub mod due;
+mod due_sets;
+mod due_work;
 mod grouping;
 mod filling;
 mod fresh;
