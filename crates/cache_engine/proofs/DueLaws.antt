@@ -1,283 +1,186 @@
--- Items of due work, one behind the other, and what they tell.
-use Rattle.std.proofs.Common.{◌≡◌, ◌≤◌, ℕ, zero, suc, ◌+◌, ◌^◌, min, Bool, true, false, cond, ◌&&◌, ◌||◌, nat_eq, Option, Some, None, List, [], ◌∷◌, ◌++◌, length, map, drop, count_by, refl, sym, ap, subst, ◌∙◌, append_assoc, arith}
-use Rattle.std.specs.Prelude.{Result, Ok, Err}
-use Rattle.std.proofs.lemmas.List.{append-nil}
+-- What the work that is due keeps: the open sessions, the definitions of the groups, and which tables others change.
+use Rattle.std.proofs.Common.{◌≡◌, ◌∙◌, ℕ, suc, Bool, true, false, cond, Option, Some, None, List, [], ◌∷◌, Result, Ok, Err, ◌&&◌, ◌||◌, map, refl, sym, ap, inl, inr}
 use Rattle.tier_base.specs.declared.number.TableId.{TableId}
-use Rattle.tier_base.specs.declared.code.Code.{Code}
-use Rattle.tier_base.specs.declared.code.Code.TheVariants as code
-use Rattle.tier_base.specs.Codes.{number_of}
-use Rattle.outside.specs.Holding.{Held}
-use Rattle.cache_tier.specs.DueWork.{Idle, Item, Noted, ThenItem, is_noted, noted, noted_code, notes_of, stopped, stopped_by}
-use Rattle.cache_tier.specs.Groups.{Group, covers, definitions_of, is_defined_on, is_table_of, is_writethrough}
-use Rattle.cache_tier.specs.Steps.{Rose, faults_in, note_tells, tells}
-use Rattle.cache_tier.specs.Worlds.{IsUnshared, Stage, World}
-use Rattle.cache_tier.specs.declared.reply.Last.{Last}
-use Rattle.cache_tier.specs.declared.reply.Last.TheVariants.{Done, Fault, No}
+use Rattle.table_state.specs.declared.history.Entry.{Entry}
+use Rattle.table_defs.specs.declared.definition.TableDef.{TableDef}
+use Rattle.outside.specs.Others.{is_shared}
+use Rattle.outside.specs.declared.fault.BankError.{BankError}
+use Rattle.sql_subset.specs.declared.request.Line.{Line}
+use Rattle.cache_tier.specs.declared.group.AgingRule.{AgingRule}
+use Rattle.cache_tier.specs.declared.group.AgingRule.TheVariants.{ByTime, LastUse}
 use Rattle.cache_tier.specs.declared.reply.Note.{Note}
+use Rattle.cache_tier.specs.declared.reply.Note.TheVariants.{Refresh}
 use Rattle.cache_tier.specs.declared.reply.Reply.{Reply}
-use Rattle.group_catalog.specs.Catalogs.{groups_in}
-use Rattle.cache_engine.specs.declared.tier.Tier.{Tier as Stored}
-use Rattle.cache_engine.specs.Due.{IsDueCaused}
-use Rattle.cache_engine.specs.DueItems.{DoesItem, due_of, note_of, notes_since}
-use Rattle.cache_engine.specs.Performing.{IsCaused, IsStopCaused, KeepsSlots, Performs, StandsFor}
-use Rattle.cache_engine.specs.Refreshing.{has_moment}
-use Rattle.cache_engine.specs.Sites.{IsAt, SiteView}
-use Rattle.cache_engine.specs.Stored.{IsStoredAs, without_list}
+use Rattle.cache_tier.specs.Aging.{after_aging, aged, aged_rule, is_aging_due}
+use Rattle.cache_tier.specs.ConsoleSteps.{Asked, AsksSchema, asks_schema, told}
+use Rattle.cache_tier.specs.DoubtSteps.{SettlesDoubt}
+use Rattle.cache_tier.specs.DueWork.{DueAging, DueDoubt, DueRound, DueSets, DueSetsOf, DueWork, Item, ItemFollows, Noted, ThenItem, due_sets, is_round_due}
+use Rattle.cache_tier.specs.Groups.{Group, covers, definitions_of, is_table_of, is_writethrough}
+use Rattle.cache_tier.specs.JournalSteps.{Flushes, FlushesKept}
+use Rattle.cache_tier.specs.Reading.{StageFollowsAt, backing_at}
+use Rattle.cache_tier.specs.Rotations.{Rotates, RotatesIfLong, is_long}
+use Rattle.cache_tier.specs.Rounds.{Applies, AppliesAndRotates, Round}
+use Rattle.cache_tier.specs.Sets.{Choice, RefreshesIfShown, RefreshesSet, at_position, changed_from, of_set, refreshed, shows_something}
+use Rattle.cache_tier.specs.TierStates.{Doubt, Tier, refresh_tried}
+use Rattle.cache_tier.specs.Worlds.{Becomes, IsUnshared, OnlyWhere, Stage, StageFollows, World}
 
--- notes behind notes
+-- the sessions, the definitions of the groups, and the tables that others change stay
+pub record KeepsWho (w w' : World) : Type 0 where
+  pub sessions : w'.tier.sessions ≡ w.tier.sessions
+  pub groups : definitions_of w'.tier.groups ≡ definitions_of w.tier.groups
+  pub shared : w'.shared ≡ w.shared
 
-drop_none : {X : Type 0} (l : List X) → drop 0 l ≡ l
-drop_none [] = refl
-drop_none (x ∷ l) = refl
+pub who_on : (a b c : World) → KeepsWho a b → KeepsWho b c → KeepsWho a c
+who_on a b c p q = record { sessions = q.sessions ∙ p.sessions; groups = q.groups ∙ p.groups; shared = q.shared ∙ p.shared }
 
-pub since_is : (earlier more notes : List Note) → notes ≡ earlier ++ more → notes_since earlier notes ≡ more
-since_is earlier more notes is = ap (drop (length earlier)) is ∙ past earlier
+who_same : (w w' : World) → w' ≡ w → KeepsWho w w'
+who_same w w' e = record { sessions = ap (λ x. x.tier.sessions) e; groups = ap (λ x. definitions_of x.tier.groups) e; shared = ap (λ x. x.shared) e }
+
+-- where the tier is changed so
+who_tier : (w w' : World) (t : Tier) → w'.tier ≡ t → w'.shared ≡ w.shared → t.sessions ≡ w.tier.sessions → definitions_of t.groups ≡ definitions_of w.tier.groups → KeepsWho w w'
+who_tier w w' t e shared sessions groups = record { sessions = ap (λ (x : Tier). x.sessions) e ∙ sessions; groups = ap (λ (x : Tier). definitions_of x.groups) e ∙ groups; shared = shared }
+
+abbrev StageKeeps : Stage → Type 0
+StageKeeps stage = (w w' : World) (stop : Option Reply) → stage w w' stop → KeepsWho w w'
+
+abbrev ItemKeeps : Item → Type 0
+ItemKeeps item = (w w' : World) (notes : List Note) (stop : Option Reply) → item w w' notes stop → KeepsWho w w'
+
+-- where it is wanted
+where_keeps : (stage : Stage) (w w' : World) (stop : Option Reply) → StageKeeps stage → (wanted : Bool) → OnlyWhere wanted stage w w' stop → KeepsWho w w'
+where_keeps stage w w' stop keeps true p = keeps w w' stop p
+where_keeps stage w w' stop keeps false p = who_same w w' p.0
+
+-- the definitions behind a change of chosen groups
+changed_defs : (chosen : Choice) (change : Group → Group) → ((g : Group) → (change g).def ≡ g.def) → (place : ℕ) (gs : List Group) → definitions_of (changed_from chosen change place gs) ≡ definitions_of gs
+changed_defs chosen change same place [] = refl
+changed_defs chosen change same place (g ∷ gs) =
+    ap (λ d. d ∷ definitions_of (changed_from chosen change (suc place) gs)) (by (chosen place g))
+    ∙ ap (λ ds. g.def ∷ ds) (changed_defs chosen change same (suc place) gs)
   where
-    past : (l : List Note) → drop (length l) (l ++ more) ≡ more
-    past [] = drop_none more
-    past (x ∷ l) = past l
+    by : (b : Bool) → (cond b (change g) g).def ≡ g.def
+    by true = same g
+    by false = refl
 
-pub since_self : (notes : List Note) → notes_since notes notes ≡ []
-since_self notes = since_is notes [] notes (sym (append-nil notes))
+mapped_defs : (change : Group → Group) → ((g : Group) → (change g).def ≡ g.def) → (gs : List Group) → definitions_of (map change gs) ≡ definitions_of gs
+mapped_defs change same [] = refl
+mapped_defs change same (g ∷ gs) = ap (λ d. d ∷ definitions_of (map change gs)) (same g) ∙ ap (λ ds. g.def ∷ ds) (mapped_defs change same gs)
 
-pub since_none : (notes : List Note) → notes_since [] notes ≡ notes
-since_none notes = drop_none notes
+cond_def : (b : Bool) (g h k : Group) → h.def ≡ g.def → k.def ≡ g.def → (cond b h k).def ≡ g.def
+cond_def true g h k p q = p
+cond_def false g h k p q = q
 
-order_both : (earlier between notes : List Note) → between ≡ earlier ++ notes_since earlier between → notes ≡ between ++ notes_since between notes
-    → notes ≡ earlier ++ (notes_since earlier between ++ notes_since between notes)
-order_both earlier between notes is next =
-    next ∙ ap (λ l. l ++ notes_since between notes) is
-    ∙ append_assoc earlier (notes_since earlier between) (notes_since between notes)
+-- aging
+rule_def : (history : List Entry) (t : Tier) (rule : Option AgingRule) (g : Group) → (aged_rule history t rule g).def ≡ g.def
+rule_def history t None g = refl
+rule_def history t (Some LastUse) g = refl
+rule_def history t (Some (ByTime rule)) g = cond_def _ g _ _ refl refl
 
--- counts
+aging_defs : (history : List Entry) (t : Tier) → definitions_of (after_aging history t).groups ≡ definitions_of t.groups
+aging_defs history t =
+    mapped_defs (λ g. cond (is_aging_due t g) (aged history t g) g)
+    (λ g. cond_def (is_aging_due t g) g (aged history t g) g (rule_def history t g.def.aging g) refl) t.groups
 
-count_both : (p : Note → Bool) (a b : List Note) → count_by p (a ++ b) ≡ count_by p a + count_by p b
-count_both p [] b = refl
-count_both p (x ∷ a) b = by (p x) (count_both p a b)
-  where
-    by : (t : Bool) → count_by p (a ++ b) ≡ count_by p a + count_by p b → cond t 1 0 + count_by p (a ++ b) ≡ (cond t 1 0 + count_by p a) + count_by p b
-    by true rest = omega (arith, rest)
-    by false rest = omega (arith, rest)
+aging_keeps : ItemKeeps DueAging
+aging_keeps w w' notes stop p =
+    who_on w (record w { tier = after_aging w.history w.tier }) w'
+    (record { sessions = refl; groups = aging_defs w.history w.tier; shared = refl }) (who_same _ w' p.0)
 
-rose_both : (b n m k a cap : ℕ) → b ≤ m → min (b + n) cap ≤ m → m ≤ a → min (m + k) cap ≤ a → min (b + (n + k)) cap ≤ a
-rose_both b n m k a cap one risen two more = omega (arith, one, risen, two, more)
+-- a round
+flush_keeps : StageKeeps (Flushes [])
+flush_keeps w w' stop p =
+    where_keeps (FlushesKept []) w w' stop (λ a b end f. who_tier a b a.tier f.tier f.shared refl refl) w.journal.kept p
 
-rose_none : (b a cap : ℕ) → b ≤ a → min (b + 0) cap ≤ a
-rose_none b a cap le = omega (arith, le)
+apply_keeps : StageKeeps Applies
+apply_keeps w w' stop a = who_tier w w' _ a.tier a.shared refl refl
 
-slots_both : (x y z : Option Held) → KeepsSlots x y → KeepsSlots y z → KeepsSlots x z
-slots_both None y z one two = tt
-slots_both (Some x) None z one two = absurd one
-slots_both (Some x) (Some y) None one two = absurd two
-slots_both (Some x) (Some y) (Some z) one two = two ∙ one
+rotate_keeps : StageKeeps RotatesIfLong
+rotate_keeps w w' stop p =
+    where_keeps Rotates w w' stop (λ a b end r. who_tier a b a.tier r.tier r.shared refl refl) (is_long w) p
 
-slots_same : (x : Option Held) → KeepsSlots x x
-slots_same None = tt
-slots_same (Some x) = refl
+both_keep : StageKeeps AppliesAndRotates
+both_keep w w' stop p = who_on w p.mid w' (apply_keeps w p.mid p.applied p.applies) (rotate_keeps p.mid w' p.turned p.rotates)
 
-caused_both : (b m a : SiteView) (n k : List Note) (stop : Option Reply) → IsDueCaused b m (due_of n None) → IsDueCaused m a (due_of k stop) → IsDueCaused b a (due_of (n ++ k) stop)
-caused_both b m a n k stop one two =
-    let first = one.later in
-    let second = two.later in
-    let t = count_both (note_tells code.BackingFault) n k in
-    record {
-      later = omega (arith, first, second);
-      moment = let x = one.moment in let y = two.moment in omega (arith, x, y);
-      shares = two.shares ∙ one.shares;
-      slots = slots_both b.held m.held a.held one.slots two.slots;
-      bank = (omega (arith, first, second), subst (λ c. min (b.bank_faults + c) (2 ^ 64 - 1) ≤ a.bank_faults) (sym t)
-          (rose_both b.bank_faults (count_by (note_tells code.BackingFault) n) m.bank_faults (count_by (note_tells code.BackingFault) k) a.bank_faults (2 ^ 64 - 1) first one.bank.1 second two.bank.1));
-      disk = count_both (note_tells code.JournalFault) n k ∙ (λ i. one.disk i + two.disk i);
-      stop = two.stop;
-    }
+follows_keep : (stage : Stage) → StageKeeps stage → (stop : Option Reply) (w w' : World) (end : Option Reply) → StageFollows stop stage w w' end → KeepsWho w w'
+follows_keep stage keeps None w w' end p = keeps w w' end p
+follows_keep stage keeps (Some stop) w w' end p = who_same w w' p.0
 
--- the tables of groups that keep their definitions
+round_keeps : StageKeeps Round
+round_keeps w w' stop p = who_on w p.mid w' (flush_keeps w p.mid p.stop p.first) (follows_keep AppliesAndRotates both_keep p.stop p.mid w' stop p.next)
 
-written_by : (gs hs : List Group) (u : TableId) → definitions_of hs ≡ definitions_of gs → is_table_of is_writethrough hs u ≡ is_table_of is_writethrough gs u
-written_by [] [] u same = refl
-written_by [] (h ∷ hs) u same = cc
-written_by (g ∷ gs) [] u same = cc
-written_by (g ∷ gs) (h ∷ hs) u same =
-    let first : h.def ≡ g.def = cc in
-    let rest : definitions_of hs ≡ definitions_of gs = cc in
-    λ i. (is_writethrough (record h { def = first i }) && is_defined_on u (first i)) || written_by gs hs u rest i
+-- a refresh of a set
+becomes_keep : (change : World → Tier) (w w' : World) (stop : Option Reply) → (change w).sessions ≡ w.tier.sessions → definitions_of (change w).groups ≡ definitions_of w.tier.groups → Becomes change w w' stop → KeepsWho w w'
+becomes_keep change w w' stop sessions groups p =
+    who_on w (record w { tier = change w }) w' (record { sessions = sessions; groups = groups; shared = refl }) (who_same _ w' p.0)
 
-bare_defs : (gs : List Group) → definitions_of (map without_list gs) ≡ definitions_of gs
-bare_defs [] = refl
-bare_defs (g ∷ gs) = ap (λ l. g.def ∷ l) (bare_defs gs)
+read_keeps : (interval : ℕ) (result : Result ℕ BankError) (w w' : World) (stop : Option Reply) → StageFollowsAt result (λ n. Becomes (λ x. refreshed (of_set interval None) n (backing_at x n) x.tier)) w w' stop → KeepsWho w w'
+read_keeps interval (Err e) w w' stop p = who_same w w' p.0
+read_keeps interval (Ok n) w w' stop (inl p) =
+    becomes_keep (λ x. refreshed (of_set interval None) n (backing_at x n) x.tier) w w' stop refl
+    (changed_defs (of_set interval None) (at_position n (backing_at w n)) (λ g. refl) 0 w.tier.groups) p
+read_keeps interval (Ok n) w w' stop (inr p) = who_same w w' p.0
 
-stored_defs : (t : Stored) (w : World) → StandsFor t w → definitions_of w.tier.groups ≡ definitions_of (groups_in t.catalog)
-stored_defs t w is = sym (bare_defs w.tier.groups) ∙ ap definitions_of is.stored.groups
+set_keeps : (interval : ℕ) → StageKeeps (RefreshesSet interval)
+set_keeps interval w w' stop p =
+    who_on w p.mid w' (who_tier w p.mid (refresh_tried interval w.tier) p.tier (p.call).shared refl refl)
+    (read_keeps interval p.result p.mid w' stop p.goes_on)
 
--- others leave them alone still
-apart_still : (old new : Stored) (before behind : SiteView) (w w' : World) → definitions_of (groups_in new.catalog) ≡ definitions_of (groups_in old.catalog) → behind.shared ≡ before.shared → StandsFor old w → IsAt before w → StandsFor new w' → IsAt behind w' → IsUnshared w → IsUnshared w'
-apart_still old new before behind w w' defs shares was at is there apart t shared =
-    written_by w.tier.groups w'.tier.groups t (stored_defs new w' is ∙ defs ∙ sym (stored_defs old w was))
-    ∙ apart t (subst (λ tables. Rattle.outside.specs.Others.is_shared tables t ≡ true) (there.shared ∙ shares ∙ sym at.shared) shared)
+shown_keeps : (interval : ℕ) → StageKeeps (RefreshesIfShown interval)
+shown_keeps interval w w' stop p =
+    where_keeps (RefreshesSet interval) w w' stop (set_keeps interval) (shows_something interval w.tier.groups) p
 
--- one item, and then another
+-- items, one after the other
+item_follows : (item : Item) → ItemKeeps item → (end : Option Reply) (w w' : World) (notes : List Note) (stop : Option Reply) → ItemFollows end item w w' notes stop → KeepsWho w w'
+item_follows item keeps None w w' notes stop p = keeps w w' notes stop p
+item_follows item keeps (Some end) w w' notes stop p = who_same w w' p.0
 
-pub then_items : (one other : Item) (old mid new : Stored) (b m a : SiteView) (earlier between notes : List Note) (stop : Option Reply) → DoesItem one old mid b m earlier between None → DoesItem other mid new m a between notes stop
-    → DoesItem (ThenItem one other) old new b a earlier notes stop
-then_items one other old mid new b m a earlier between notes stop first second =
-    let order = order_both earlier between notes first.order second.order in
-    let all = since_is earlier (notes_since earlier between ++ notes_since between notes) notes order in
-    record {
-      performs = λ w at stands apart.
-          let p = first.performs w at stands apart in
-          let q = second.performs p.world p.at p.stands (apart_still old mid b m w p.world first.groups first.cause.shares stands at p.stands p.at apart) in
-          record {
-            world = q.world;
-            at = q.at;
-            stands = q.stands;
-            is = record {
-              mid = p.world;
-              before = notes_since earlier between;
-              behind = notes_since between notes;
-              end = None;
-              first = p.is;
-              next = q.is;
-              all = all;
-            };
-          };
-      order = order ∙ ap (λ l. earlier ++ l) (sym all);
-      cause = subst (λ l. IsDueCaused b a (due_of l stop)) (sym all) (caused_both b m a (notes_since earlier between) (notes_since between notes) stop first.cause second.cause);
-      groups = second.groups ∙ first.groups;
-      entries = λ i there. second.entries i (first.entries i there);
-    }
+then_keeps : (one other : Item) → ItemKeeps one → ItemKeeps other → ItemKeeps (ThenItem one other)
+then_keeps one other first second w w' notes stop p =
+    who_on w p.mid w' (first w p.mid p.before p.end p.first) (item_follows other second p.end p.mid w' p.behind stop p.next)
 
-pub stopped_item : (one other : Item) (old new : Stored) (b a : SiteView) (earlier notes : List Note) (end : Reply) → DoesItem one old new b a earlier notes (Some end) → DoesItem (ThenItem one other) old new b a earlier notes (Some end)
-stopped_item one other old new b a earlier notes end first = record {
-  performs = λ w at stands apart.
-      let p = first.performs w at stands apart in
-      record {
-        world = p.world;
-        at = p.at;
-        stands = p.stands;
-        is = record {
-          mid = p.world;
-          before = notes_since earlier notes;
-          behind = [];
-          end = Some end;
-          first = p.is;
-          next = (refl, refl, refl);
-          all = sym (append-nil (notes_since earlier notes));
-        };
-      };
-  order = first.order;
-  cause = first.cause;
-  groups = first.groups;
-  entries = first.entries;
-}
+sets_keep : (intervals : List ℕ) → ItemKeeps (DueSetsOf intervals)
+sets_keep [] w w' notes stop p = who_same w w' p.0
+sets_keep (interval ∷ more) w w' notes stop p =
+    then_keeps (Noted (λ c. Refresh c interval) (RefreshesIfShown interval)) (DueSetsOf more)
+    (λ a b told end q. shown_keeps interval a b q.end q.does) (sets_keep more) w w' notes stop p
 
--- nothing is due
+due_round_keeps : ItemKeeps DueRound
+due_round_keeps w w' notes stop p = where_keeps Round w w' p.end round_keeps (is_round_due w.tier) p.does
 
-idle_caused : (b : SiteView) → IsDueCaused b b (due_of [] None)
-idle_caused b = record {
-  later = omega arith;
-  moment = omega arith;
-  shares = refl;
-  slots = slots_same b.held;
-  bank = (let le : b.bank_faults ≤ b.bank_faults = omega arith in le, rose_none b.bank_faults b.bank_faults (2 ^ 64 - 1) (omega arith));
-  disk = refl;
-  stop = tt;
-}
+rest_keeps : ItemKeeps (ThenItem DueRound (ThenItem DueSets DueAging))
+rest_keeps =
+    then_keeps DueRound (ThenItem DueSets DueAging) due_round_keeps
+    (then_keeps DueSets DueAging (λ w w' notes stop p. sets_keep (due_sets w.tier) w w' notes stop p) aging_keeps)
 
-pub idle_item : (item : Item) (t : Stored) (b : SiteView) (notes : List Note) → ((w : World) → StandsFor t w → item w w [] None) → DoesItem item t t b b notes notes None
-idle_item item t b notes idle = record {
-  performs = λ w at stands apart. record { world = w; at = at; stands = stands; is = subst (λ l. item w w l None) (sym (since_self notes)) (idle w stands) };
-  order = sym (append-nil notes) ∙ ap (λ l. notes ++ l) (sym (since_self notes));
-  cause = subst (λ l. IsDueCaused b b (due_of l None)) (sym (since_self notes)) (idle_caused b);
-  groups = refl;
-  entries = λ i there. there;
-}
+no_doubt : (d : Option Doubt) (w w' : World) (notes : List Note) (stop : Option Reply) → d ≡ None → SettlesDoubt d w w' notes stop → KeepsWho w w'
+no_doubt None w w' notes stop none p = who_same w w' p.0
+no_doubt (Some d) w w' notes stop none p = absurd (Prim.cc none)
 
--- the item is another one in these worlds
-pub as_item : (one other : Item) (old new : Stored) (b a : SiteView) (earlier notes : List Note) (stop : Option Reply) → ((w w' : World) → StandsFor old w → one w w' (notes_since earlier notes) stop → other w w' (notes_since earlier notes) stop) → DoesItem one old new b a earlier notes stop → DoesItem other old new b a earlier notes stop
-as_item one other old new b a earlier notes stop turns does = record {
-  performs = λ w at stands apart.
-      let p = does.performs w at stands apart in
-      record { world = p.world; at = p.at; stands = p.stands; is = turns w p.world stands p.is };
-  order = does.order;
-  cause = does.cause;
-  groups = does.groups;
-  entries = does.entries;
-}
+-- all that is due, where no ticket is in doubt
+pub due_keeps : (w w' : World) (notes : List Note) (stop : Option Reply) → w.tier.doubt ≡ None → DueWork w w' notes stop → KeepsWho w w'
+due_keeps w w' notes stop none p =
+    who_on w p.mid w' (no_doubt w.tier.doubt w p.mid p.before p.end none p.first)
+    (item_follows (ThenItem DueRound (ThenItem DueSets DueAging)) rest_keeps p.end p.mid w' p.behind stop p.next)
 
--- a failure that is noted
+-- the question for the schema
+told_keeps : (result : Result (List TableDef) BankError) (w w' : World) → w'.tier ≡ told result w.tier → w'.shared ≡ w.shared → KeepsWho w w'
+told_keeps (Ok schema) w w' e shared = who_tier w w' _ e shared refl refl
+told_keeps (Err error) w w' e shared = who_tier w w' _ e shared refl refl
 
-tells_by : (interval : Option ℕ) (c d : Code) → note_tells d (note_of interval c) ≡ nat_eq (number_of c) (number_of d)
-tells_by None c d = refl
-tells_by (Some interval) c d = refl
+pub asked_keeps : (l : Line) (w w' : World) (stop : Option Reply) → AsksSchema l w w' stop → KeepsWho w w'
+asked_keeps l w w' stop p =
+    where_keeps Asked w w' stop (λ a b end q. told_keeps q.result a b q.tier (q.call).shared) (asks_schema w.tier l) p
 
-or_false : (x y : Bool) → (x || y) ≡ false → x ≡ false
-or_false true y e = cc
-or_false false y e = refl
+-- which tables are of writethrough groups is told by the definitions
+same_live : (t : TableId) (gs hs : List Group) → definitions_of hs ≡ definitions_of gs → is_table_of is_writethrough hs t ≡ is_table_of is_writethrough gs t
+same_live t [] [] e = refl
+same_live t [] (h ∷ hs) e = absurd (Prim.cc e)
+same_live t (g ∷ gs) [] e = absurd (Prim.cc e)
+same_live t (g ∷ gs) (h ∷ hs) e =
+    let first : h.def ≡ g.def = Prim.cc e in
+    let rest : definitions_of hs ≡ definitions_of gs = Prim.cc e in
+    λ i. (is_writethrough (record h { def = first i }) && covers t (record h { def = first i })) || same_live t gs hs rest i
 
--- a reply that ends the line tells neither
-tells_none : (reply : Reply) (last : Last) (c : Code) → reply.last ≡ last → reply.notes ≡ [] → tells c last ≡ false → faults_in c reply ≡ 0
-tells_none reply last c is bare none =
-    (λ i. count_by (note_tells c) (bare i) + cond (tells c (is i)) 1 0) ∙ ap (λ b. cond b 1 0) none
-
-stop_caused : (b a : SiteView) (reply : Reply) (last : Last) → reply.last ≡ last → IsCaused b a reply → tells code.BackingFault last ≡ false → IsDueCaused b a (due_of [] (Some reply))
-stop_caused b a reply last is c none = record {
-  later = c.later;
-  moment = c.moment;
-  shares = c.shares;
-  slots = c.slots;
-  bank = (c.later, rose_none b.bank_faults a.bank_faults (2 ^ 64 - 1) c.later);
-  disk = refl;
-  stop = (tells_none reply last code.BackingFault is c.bare none, tells_none reply last code.JournalFault is c.bare (ap (tells code.JournalFault) (sym is) ∙ c.disk));
-}
-
-note_caused : (b a : SiteView) (interval : Option ℕ) (c : Code) (reply : Reply) → IsCaused b a reply → (tells code.BackingFault reply.last ≡ nat_eq (number_of c) (number_of code.BackingFault)) → (tells code.JournalFault reply.last ≡ nat_eq (number_of c) (number_of code.JournalFault)) → IsDueCaused b a (due_of (note_of interval c ∷ []) None)
-note_caused b a interval c reply caused bank disk = record {
-  later = caused.later;
-  moment = caused.moment;
-  shares = caused.shares;
-  slots = caused.slots;
-  bank = (caused.later, by (nat_eq (number_of c) (number_of code.BackingFault)) (tells_by interval c code.BackingFault) bank);
-  disk = ap (λ t. cond t 1 0 + 0) (tells_by interval c code.JournalFault ∙ sym disk ∙ caused.disk);
-  stop = tt;
-}
-  where
-    by : (t : Bool) → note_tells code.BackingFault (note_of interval c) ≡ t → tells code.BackingFault reply.last ≡ t → min (b.bank_faults + count_by (note_tells code.BackingFault) (note_of interval c ∷ [])) (2 ^ 64 - 1) ≤ a.bank_faults
-    by true e told = subst (λ x. min (b.bank_faults + (cond x 1 0 + 0)) (2 ^ 64 - 1) ≤ a.bank_faults) (sym e) (caused.bank told)
-    by false e told = subst (λ x. min (b.bank_faults + (cond x 1 0 + 0)) (2 ^ 64 - 1) ≤ a.bank_faults) (sym e) (rose_none b.bank_faults a.bank_faults (2 ^ 64 - 1) caused.later)
-
-noted_caused : (b a : SiteView) (interval : Option ℕ) (end : Option Reply) → IsStopCaused b a end → IsDueCaused b a (due_of (noted (note_of interval) end) (stopped end))
-noted_caused b a interval None c = record {
-  later = c.later;
-  moment = c.moment;
-  shares = c.shares;
-  slots = c.slots;
-  bank = (c.later, rose_none b.bank_faults a.bank_faults (2 ^ 64 - 1) c.later);
-  disk = refl;
-  stop = tt;
-}
-noted_caused b a interval (Some reply) c = by reply.last refl
-  where
-    by : (last : Last) → reply.last ≡ last → IsDueCaused b a (due_of (notes_of (note_of interval) (noted_code last)) (stopped_by reply (noted_code last)))
-    by (Done n) is = stop_caused b a reply (Done n) is c refl
-    by (No rule) is = stop_caused b a reply (No rule) is c refl
-    by (Fault rule) is = of (is_noted rule.code) refl
-      where
-        of : (t : Bool) → is_noted rule.code ≡ t → IsDueCaused b a (due_of (notes_of (note_of interval) (cond t (Some rule.code) None)) (stopped_by reply (cond t (Some rule.code) None)))
-        of true e = note_caused b a interval rule.code reply c (ap (tells code.BackingFault) is) (ap (tells code.JournalFault) is)
-        of false e = stop_caused b a reply (Fault rule) is c (or_false (nat_eq (number_of rule.code) (number_of code.BackingFault)) (nat_eq (number_of rule.code) (number_of code.Memory)) e)
-
--- a stage whose failure becomes a note
-pub noted_item : (interval : Option ℕ) (stage : Stage) (old new : Stored) (b a : SiteView) (earlier notes : List Note) (end : Option Reply) (stop : Option Reply) → Performs old new b a (λ w w'. stage w w' end) → IsStopCaused b a end
-    → definitions_of (groups_in new.catalog) ≡ definitions_of (groups_in old.catalog) → ((i : ℕ) → has_moment old.clock.sets.items i ≡ true → has_moment new.clock.sets.items i ≡ true)
-    → notes ≡ earlier ++ noted (note_of interval) end → stop ≡ stopped end → DoesItem (Noted (note_of interval) stage) old new b a earlier notes stop
-noted_item interval stage old new b a earlier notes end stop performs caused groups entries told ends =
-    let since = since_is earlier (noted (note_of interval) end) notes told in
-    record {
-      performs = λ w at stands apart.
-          let p = performs w at stands apart in
-          record { world = p.world; at = p.at; stands = p.stands; is = record { end = end; does = p.is; told = since; ends = ends } };
-      order = told ∙ ap (λ l. earlier ++ l) (sym since);
-      cause = subst (λ l. IsDueCaused b a (due_of l stop)) (sym since) (subst (λ s. IsDueCaused b a (due_of (noted (note_of interval) end) s)) (sym ends) (noted_caused b a interval end caused));
-      groups = groups;
-      entries = entries;
-    }
+pub still_unshared : (w w' : World) → KeepsWho w w' → IsUnshared w → IsUnshared w'
+still_unshared w w' keeps unshared = λ t shared.
+    same_live t w.tier.groups w'.tier.groups keeps.groups ∙ unshared t (ap (λ tables. is_shared tables t) (sym keeps.shared) ∙ shared)

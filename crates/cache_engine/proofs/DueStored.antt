@@ -33,7 +33,7 @@ use Rattle.cache_engine.specs.Performing.{Performs, StandsFor}
 use Rattle.cache_engine.specs.Refreshing.{has_moment, is_noted, moment_in, moments_with}
 use Rattle.cache_engine.specs.Sites.{IsAt, SiteView}
 use Rattle.cache_engine.specs.Stored.{IsSound, IsStoredAs, KeepsTime, is_plain, refreshed_in, set_seen, without_list}
-use Rattle.cache_engine.proofs.DueLaws.{as_item, idle_item, since_none, stopped_item, then_items}
+use Rattle.cache_engine.proofs.DueItemLaws.{as_item, idle_item, since_none, stopped_item, then_items}
 use Rattle.cache_engine.proofs.QuietLaws.{at_still}
 
 -- which sets are due

@@ -1,9 +1,5 @@
 -- What is stored and shown where one store changes, or another comes.
-<<<<<<< HEAD
 use Rattle.std.proofs.Common.{◌≡◌, ◌≢◌, ℕ, zero, suc, ◌⊎◌, inl, inr, Bool, true, false, cond, nat_eq, Option, Some, None, is_some, List, [], ◌∷◌, length, set, slice_get, unwrap_or, position, refl, sym, ap, subst, ◌∙◌}
-=======
-use Rattle.std.proofs.Common.{◌≡◌, ◌≢◌, ℕ, zero, suc, ◌+◌, ◌<◌, ◌≤◌, ◌⊎◌, inl, inr, Bool, true, false, cond, nat_eq, Option, Some, None, is_some, List, [], ◌∷◌, ◌++◌, length, map, set, slice_get, unwrap_or, position, refl, sym, ap, subst, ◌∙◌, arith}
->>>>>>> w_h6
 use Rattle.std.specs.Option.{option_map, option_or}
 use Rattle.std.proofs.lemmas.Bool.Decides.{eqb_tells}
 use Rattle.tier_base.specs.declared.number.TableId.{TableId}
@@ -16,13 +12,8 @@ use Rattle.instances.specs.Trees.{place_of, same_table, table_of}
 use Rattle.instances.specs.Views.{kept_at}
 use Rattle.key_rows.proofs.MapLaws.{slice_get_map}
 use Rattle.group_store.specs.Keeping.{IsFor, layer_for}
-<<<<<<< HEAD
 use Rattle.group_store.specs.Shown.{AreHoused, IsOver, foreign_key_of, home_from, home_of, homes_from}
 use Rattle.group_store.specs.Stores.{Kept, place_in}
-=======
-use Rattle.group_store.specs.Shown.{AreHoused, IsOver, foreign_key_of, home_from, home_of, homes_from, homes_of}
-use Rattle.group_store.specs.Stores.{Kept, foreign_columns, place_in}
->>>>>>> w_h6
 use Rattle.group_store.specs.Trees.{foreign_at}
 use Rattle.group_store.specs.declared.directory.Home.{Home}
 use Rattle.cache_tier.specs.Groups.{Group, covers, definitions_of}
@@ -34,11 +25,7 @@ use Rattle.cache_engine.specs.declared.tier.Tier.{Tier as Stored}
 use Rattle.cache_engine.specs.Grouping.{SameTree}
 use Rattle.cache_engine.specs.Performing.{StandsFor}
 use Rattle.cache_engine.specs.Stored.{AreKept, IsSound, ShowsRows}
-<<<<<<< HEAD
 use Rattle.cache_engine.proofs.StoreRows.{are_kept, kept_is_shown, one_place, place_same, shows_kept, store_here}
-=======
-use Rattle.cache_engine.proofs.StoreRows.{KeepShown, StoreOf, are_kept, kept_is_shown, one_place, place_same, shows_kept, store_here}
->>>>>>> w_h6
 
 -- lists with one element changed
 

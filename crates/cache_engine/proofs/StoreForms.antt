@@ -66,4 +66,3 @@ key_for schema tree k form (suc i) t e = ap (λ ls. unwrap_or (option_map (λ l.
 
 pub primary : (schema : List TableDef) (t : TableId) (def : TableDef) → slice_get schema t.0 ≡ Some def → primary_of schema t ≡ def.primary_key
 primary schema t def e = ap (λ o. unwrap_or (option_map (λ d. d.primary_key) o) []) e
-

@@ -1,26 +1,17 @@
 -- What each store keeps of its group's tables, and what is shown of them.
-<<<<<<< HEAD
 use Rattle.std.proofs.Common.{◌≡◌, ℕ, zero, suc, ◌+◌, Bool, true, false, not, cond, nat_lt, ◌||◌, Option, Some, None, is_some, List, [], ◌∷◌, length, map, slice_get, unwrap_or, find, position, refl, sym, ap, subst, ◌∙◌, arith}
-=======
-use Rattle.std.proofs.Common.{◌≡◌, ◌≢◌, ℕ, zero, suc, ◌+◌, ◌<◌, ◌≤◌, ◌⊎◌, inl, inr, Bool, true, false, not, cond, nat_lt, ◌||◌, Option, Some, None, is_some, List, [], ◌∷◌, length, map, set, slice_get, unwrap_or, find, position, refl, sym, ap, subst, ◌∙◌, arith}
->>>>>>> w_h6
 use Rattle.std.specs.List.{list_any, prefix_len}
 use Rattle.std.specs.Option.{option_map, option_or}
 use Rattle.std.specs.FinMap.{empty}
 use Rattle.std.proofs.lemmas.List.{length-map}
 use Rattle.tier_base.specs.declared.number.TableId.{TableId}
 use Rattle.table_defs.specs.declared.definition.TableDef.{TableDef}
-<<<<<<< HEAD
-=======
-use Rattle.table_state.specs.declared.history.Entry.{Entry}
->>>>>>> w_h6
 use Rattle.table_state.specs.Tables.{TableState, table_at}
 use Rattle.indexed_rows.specs.Rows.{Table}
 use Rattle.instances.specs.declared.tree.Child.{Child}
 use Rattle.instances.specs.declared.tree.Tree.{Tree}
 use Rattle.instances.specs.Trees.{place_of, same_table}
 use Rattle.instances.specs.Views.{kept_at}
-<<<<<<< HEAD
 use Rattle.group_store.specs.Keeping.{IsFor, layer_for}
 use Rattle.group_store.specs.Shown.{kept_rows, shown_by, stored_rows, tables_by}
 use Rattle.group_store.specs.Stores.{Kept, place_in}
@@ -30,20 +21,6 @@ use Rattle.cache_tier.specs.Shown.{shown_state, table_of_group}
 use Rattle.cache_tier.specs.TierStates.{Tier}
 use Rattle.cache_tier.specs.Worlds.{World}
 use Rattle.tier_laws.specs.Standing.{HaveOwnTables, IsCatalogued}
-=======
-use Rattle.group_catalog.specs.Catalogs.{groups_in}
-use Rattle.group_store.specs.Keeping.{IsFor, layer_for}
-use Rattle.group_store.specs.Shown.{AreHoused, IsOver, home_from, home_of, homes_from, homes_of, kept_rows, rows_there, shown_by, stored_rows, tables_by}
-use Rattle.group_store.specs.Stores.{Kept, foreign_columns, place_in}
-use Rattle.group_store.specs.declared.directory.Home.{Home}
-use Rattle.order_laws.proofs.TruthLaws.{never_both}
-use Rattle.cache_tier.specs.Groups.{Group, covers, definitions_of, group_over}
-use Rattle.cache_tier.specs.declared.group.GroupDef.{GroupDef}
-use Rattle.cache_tier.specs.Shown.{shown_state, shown_table, table_of_group}
-use Rattle.cache_tier.specs.TierStates.{Tier}
-use Rattle.cache_tier.specs.Worlds.{World}
-use Rattle.tier_laws.specs.Standing.{Each, HaveOwnTables, IsCatalogued}
->>>>>>> w_h6
 use Rattle.tier_laws.proofs.ChosenGroups.{each_at}
 use Rattle.tier_laws.proofs.GroupTables.{IsFound, each_own, over_is_found}
 use Rattle.tier_laws.proofs.ShownTables.{no_table_shown, same_state, shown_whole, table_shown}

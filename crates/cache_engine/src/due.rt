@@ -14,17 +14,12 @@ use std::alloc::{AllocError, Global};
 use tier_base::{Limit, Moment, Seq};
 
 /// What became of the work that was due.
+#[derive(Drop)]
 pub struct Due {
     /// What is told of it, in its order.
     pub notes: Seq<Note>,
     /// The reply with which it ended the line.
     pub stop: Option<Reply>,
-}
-
-impl Drop for Due {
-    fn drop(self) {
-        let Self { notes: _, stop: _ } = self;
-    }
 }
 
 impl Tier {

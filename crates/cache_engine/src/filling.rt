@@ -118,12 +118,7 @@ fn fill(alloc: Global, store: &mut Store, tables: &[Rows]) -> Result<(), AllocEr
 }
 
 // Puts rows into the table of a store at a place of its tree.
-fn fill_table(
-    alloc: Global,
-    store: &mut Store,
-    place: usize,
-    rows: &Rows,
-) -> Result<(), AllocError>
+fn fill_table(alloc: Global, store: &mut Store, place: usize, rows: &Rows) -> Result<(), AllocError>
     requires { place ≤ length store.old.layers }
     ensures { OnOk result (SameButSpare (put_rows place (values rows.now) store.old) store.new) }
 {

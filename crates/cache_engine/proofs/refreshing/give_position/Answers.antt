@@ -13,8 +13,8 @@ loop-place-preserved c =
     let choice = choice_of c.args.chosen in
     let change = positioned c.args.position.0 in
     elim c.if-is_chosen_at.branch [
-      then-is_chosen_at w ↦ ap groups_in w.catalog-is ∙ w.with_position.ensures ∙ position_given choice change was now c.loop-place.place c.loop-place.invariant (sym c.is_chosen_at.ensures ∙ w.if-is_chosen_at.true)
-    | else-is_chosen_at w ↦ ap groups_in w.catalog-is ∙ position_kept choice change was now c.loop-place.place c.loop-place.invariant (sym c.is_chosen_at.ensures ∙ w.if-is_chosen_at.false)
+      | then-is_chosen_at w ↦ ap groups_in w.catalog-is ∙ w.with_position.ensures ∙ position_given choice change was now c.loop-place.place c.loop-place.invariant (sym c.is_chosen_at.ensures ∙ w.if-is_chosen_at.true)
+      | else-is_chosen_at w ↦ ap groups_in w.catalog-is ∙ position_kept choice change was now c.loop-place.place c.loop-place.invariant (sym c.is_chosen_at.ensures ∙ w.if-is_chosen_at.false)
     ]
 
 pub with_position-requires : goal.with_position-requires

@@ -16,21 +16,21 @@ loop-place-preserved c =
     let within : c.loop-place.place < length c.loop-place.sets.items = omega (arith, test, long) in
     let at = set_at sets old c.args.interval c.args.now i s (omega (arith, long, was)) c.loop-place.invariant.same c.index.ensures lt in
     elim c.if-index-interval.branch [
-      then-index-interval w ↦
-        let items : c.if-index-interval.sets.items ≡ set sets i (record { interval = w.index_mut.result.now.interval; refreshed = c.args.now }) = ap (λ v. v.items) w.sets-is in
-        record {
-          same = moment_passed c.args.interval c.args.now sets old i s c.if-index-interval.sets.items at c.loop-place.invariant.same
-              (items ∙ ap (λ x. set sets i (record { interval = x.interval; refreshed = c.args.now })) (same_got sets i w.index_mut.result.now s within w.index_mut.ensures.value c.index.ensures)
-              ∙ ap (set sets i) (sym (noted_here c.args.interval c.args.now s w.if-index-interval.true)));
-          long = ap length items ∙ set_long sets i (record { interval = w.index_mut.result.now.interval; refreshed = c.args.now }) ∙ long;
-          was = was;
-        }
-    | else-index-interval w ↦
-        let items : c.if-index-interval.sets.items ≡ sets = ap (λ v. v.items) w.sets-is in
-        record {
-          same = moment_passed c.args.interval c.args.now sets old i s c.if-index-interval.sets.items at c.loop-place.invariant.same
-              (items ∙ sym (ap (set sets i) (not_noted c.args.interval c.args.now s w.if-index-interval.false) ∙ set_same sets i s (there_now sets i s within c.index.ensures)));
-          long = ap length items ∙ long;
-          was = was;
-        }
+      | then-index-interval w ↦
+          let items : c.if-index-interval.sets.items ≡ set sets i (record { interval = w.index_mut.result.now.interval; refreshed = c.args.now }) = ap (λ v. v.items) w.sets-is in
+          record {
+            same = moment_passed c.args.interval c.args.now sets old i s c.if-index-interval.sets.items at c.loop-place.invariant.same
+                (items ∙ ap (λ x. set sets i (record { interval = x.interval; refreshed = c.args.now })) (same_got sets i w.index_mut.result.now s within w.index_mut.ensures.value c.index.ensures)
+                ∙ ap (set sets i) (sym (noted_here c.args.interval c.args.now s w.if-index-interval.true)));
+            long = ap length items ∙ set_long sets i (record { interval = w.index_mut.result.now.interval; refreshed = c.args.now }) ∙ long;
+            was = was;
+          }
+      | else-index-interval w ↦
+          let items : c.if-index-interval.sets.items ≡ sets = ap (λ v. v.items) w.sets-is in
+          record {
+            same = moment_passed c.args.interval c.args.now sets old i s c.if-index-interval.sets.items at c.loop-place.invariant.same
+                (items ∙ sym (ap (set sets i) (not_noted c.args.interval c.args.now s w.if-index-interval.false) ∙ set_same sets i s (there_now sets i s within c.index.ensures)));
+            long = ap length items ∙ long;
+            was = was;
+          }
     ]

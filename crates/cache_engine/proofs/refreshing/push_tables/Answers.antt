@@ -6,9 +6,9 @@ use Rattle.cache_engine.proofs.refreshing.push_tables.Goals.{in-None, in-Some+in
 pub loop-place-preserved : goal.loop-place-preserved
 loop-place-preserved c =
     elim c.match-get.branch [
-      in-None w ↦ ap (λ v. v.items) w.tables-is ∙ none_pushed c.args.tree.now c.loop-place.place c.args.tables.now.items c.loop-place.tables.items (sym w.in-None.ensures) c.loop-place.invariant
-    | in-Some+in_ok-push-in-Some w ↦ child_pushed c.args.tree.now c.loop-place.place w.in-Some.child.now c.args.tables.now.items c.loop-place.tables.items c.match-get.tables.items (sym w.in-Some.ensures) c.loop-place.invariant
-        (ap (λ v. v.items) w.tables-is ∙ w.in_ok-push-in-Some.ensures.items)
+      | in-None w ↦ ap (λ v. v.items) w.tables-is ∙ none_pushed c.args.tree.now c.loop-place.place c.args.tables.now.items c.loop-place.tables.items (sym w.in-None.ensures) c.loop-place.invariant
+      | in-Some+in_ok-push-in-Some w ↦ child_pushed c.args.tree.now c.loop-place.place w.in-Some.child.now c.args.tables.now.items c.loop-place.tables.items c.match-get.tables.items (sym w.in-Some.ensures) c.loop-place.invariant
+          (ap (λ v. v.items) w.tables-is ∙ w.in_ok-push-in-Some.ensures.items)
     ]
 
 pub returns : goal.returns

@@ -14,15 +14,15 @@ loop-place-preserved c =
     let i = c.loop-place.place in
     let size = c.loop-place.size in
     elim c.match-get.branch [
-      in-None w ↦ record {
+      | in-None w ↦ record {
         few = let is = w.size-is in omega (arith, is, few);
         same = counted_none test groups i size c.match-get.size (sym w.in-None.ensures) w.size-is c.loop-place.invariant.same;
       }
-    | in-Some+then-is_in_set w ↦ record {
+      | in-Some+then-is_in_set w ↦ record {
         few = let is = w.size-is in omega (arith, is, few);
         same = counted_in test groups i size c.match-get.size (group_seen w.in-Some.group.now) (sym w.in-Some.ensures) (sym w.if-is_in_set.ensures) w.size-is c.loop-place.invariant.same;
       }
-    | in-Some+else-is_in_set w ↦ record {
+      | in-Some+else-is_in_set w ↦ record {
         few = let is = w.size-is in omega (arith, is, few);
         same = counted_out test groups i size c.match-get.size (group_seen w.in-Some.group.now) (sym w.in-Some.ensures) (sym w.if-is_in_set.ensures) w.size-is c.loop-place.invariant.same;
       }

@@ -20,12 +20,12 @@ pub loop-place-preserved : goal.loop-place-preserved
 loop-place-preserved c =
     let groups = groups_in c.args.catalog.now in
     elim c.match-get.branch [
-      in-None w ↦ stays_past (shows_something c.args.interval) groups c.loop-place.place (sym w.in-None.ensures) ∙ c.loop-place.invariant
-    | in-Some+else-shows_in_set w ↦
-        let g = group_seen w.in-Some.group.now in
-        let there = sym w.in-Some.ensures in
-        let rest = shows_something c.args.interval (drop (c.loop-place.place + 1) groups) in
-        sym (sym c.loop-place.invariant ∙ shows_one c.args.interval groups c.loop-place.place g there
-        ∙ ap (λ b. (is_in_set c.args.interval g && b) || rest) (something_there g (explicit_there groups c.loop-place.place g c.requires there))
-        ∙ ap (λ b. b || rest) (sym w.if-shows_in_set.ensures))
+      | in-None w ↦ stays_past (shows_something c.args.interval) groups c.loop-place.place (sym w.in-None.ensures) ∙ c.loop-place.invariant
+      | in-Some+else-shows_in_set w ↦
+          let g = group_seen w.in-Some.group.now in
+          let there = sym w.in-Some.ensures in
+          let rest = shows_something c.args.interval (drop (c.loop-place.place + 1) groups) in
+          sym (sym c.loop-place.invariant ∙ shows_one c.args.interval groups c.loop-place.place g there
+          ∙ ap (λ b. (is_in_set c.args.interval g && b) || rest) (something_there g (explicit_there groups c.loop-place.place g c.requires there))
+          ∙ ap (λ b. b || rest) (sym w.if-shows_in_set.ensures))
     ]

@@ -13,12 +13,12 @@ loop-place-preserved c =
     let i = c.loop-place.place in
     let rest = tables_read choice (i + 1) (drop (i + 1) groups) in
     elim c.match-get.branch [
-      in-None w ↦ ap (λ v. v.items ++ rest) w.tables-is ∙ tables_none choice groups i c.loop-place.tables.items (tables_read choice 0 groups) (sym w.in-None.ensures) c.loop-place.invariant
-    | in-Some+then-is_chosen+in_ok-push_tables-in-Some w ↦
-        tables_taken choice groups i (group_seen w.in-Some.group.now) c.loop-place.tables.items c.match-get.tables.items (tables_read choice 0 groups) (sym w.in-Some.ensures) (sym w.if-is_chosen.ensures)
-        (ap (λ v. v.items) w.tables-is ∙ w.in_ok-push_tables-in-Some.ensures) c.loop-place.invariant
-    | in-Some+else-is_chosen w ↦
-        ap (λ v. v.items ++ rest) w.tables-is ∙ tables_passed choice groups i (group_seen w.in-Some.group.now) c.loop-place.tables.items (tables_read choice 0 groups) (sym w.in-Some.ensures) (sym w.if-is_chosen.ensures) c.loop-place.invariant
+      | in-None w ↦ ap (λ v. v.items ++ rest) w.tables-is ∙ tables_none choice groups i c.loop-place.tables.items (tables_read choice 0 groups) (sym w.in-None.ensures) c.loop-place.invariant
+      | in-Some+then-is_chosen+in_ok-push_tables-in-Some w ↦
+          tables_taken choice groups i (group_seen w.in-Some.group.now) c.loop-place.tables.items c.match-get.tables.items (tables_read choice 0 groups) (sym w.in-Some.ensures) (sym w.if-is_chosen.ensures)
+          (ap (λ v. v.items) w.tables-is ∙ w.in_ok-push_tables-in-Some.ensures) c.loop-place.invariant
+      | in-Some+else-is_chosen w ↦
+          ap (λ v. v.items ++ rest) w.tables-is ∙ tables_passed choice groups i (group_seen w.in-Some.group.now) c.loop-place.tables.items (tables_read choice 0 groups) (sym w.in-Some.ensures) (sym w.if-is_chosen.ensures) c.loop-place.invariant
     ]
 
 pub returns : goal.returns
