@@ -8,6 +8,9 @@ pub mod Defining
 pub mod Draining
 pub mod Dropping
 pub mod Due
+pub mod DueItems
+pub mod Growing
+pub mod Naming
 pub mod Filling
 pub mod Fresh
 pub mod Gathering

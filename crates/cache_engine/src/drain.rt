@@ -57,6 +57,7 @@ impl Tier {
             (λ w w'. Round w w' (stop_of result)) }
         ensures all { OnOk result (self.new.unsettled.items ≡ []) }
         ensures same { self.new ≡ record self.old { unsettled = self.new.unsettled; clock = self.new.clock } }
+        ensures clock { self.new.clock ≡ record self.old.clock { round = self.old.clock.now } }
         ensures sound { IsSound self.new }
         ensures cause { IsStopCaused
             (seen_at (P.Disk.held site.old) (P.bank_faults site.old) (P.Disk.moment site.old) (P.Disk.shared site.old))
@@ -104,6 +105,7 @@ impl Tier {
             (λ w w'. SettlesAll w w' result) }
         ensures all { OnOk result (self.new.unsettled.items ≡ []) }
         ensures same { self.new ≡ record self.old { unsettled = self.new.unsettled; clock = self.new.clock } }
+        ensures clock { self.new.clock ≡ record self.old.clock { round = self.old.clock.now } }
         ensures sound { IsSound self.new }
         ensures cause { IsCaused
             (seen_at (P.Disk.held site.old) (P.bank_faults site.old) (P.Disk.moment site.old) (P.Disk.shared site.old))

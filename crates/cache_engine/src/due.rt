@@ -1,11 +1,17 @@
 //! What is due before a line.
 
+ghost use Rattle.std.specs.Prelude.{◌≡◌, ◌≤◌, ◌+◌, [], IfOk, IfSome, length, max, vec_capacity, vec_len};
+ghost use Rattle.cache_tier.specs.Steps.{added_by};
+ghost use Rattle.cache_tier.specs.TierStates.{Tier as AbstractTier, cut};
+
+use crate::clock::SetMoment;
+use crate::due_sets::{due_intervals, with_entries};
 use crate::tier::Tier;
 use cache_tier::reply::{Note, Reply};
 use outside::Site;
 use sql_subset::request::Line;
 use std::alloc::{AllocError, Global};
-use tier_base::{Moment, Seq};
+use tier_base::{Limit, Moment, Seq};
 
 /// What became of the work that was due.
 #[derive(Drop)]
@@ -49,6 +55,62 @@ impl Tier {
             (seen_at (P.Disk.held site.old) (P.bank_faults site.old) (P.Disk.moment site.old) (P.Disk.shared site.old))
             (seen_at (P.Disk.held site.new) (P.bank_faults site.new) (P.Disk.moment site.new) (P.Disk.shared site.new))) }
     {
-        Err(AllocError)
+        let Some(added) = added_by(self.clock.added, line) else {
+            return Err(AllocError);
+        };
+        let now = moment_of(self.clock.now, base, added);
+        let intervals = due_intervals(alloc, &self.catalog, self.clock.sets.as_slice(), now)?;
+        let sets = with_entries(alloc, self.clock.sets.as_slice(), intervals.as_slice())?;
+        let mut notes = room_for_notes(alloc, intervals.as_slice())?;
+        self.set_clock(now, added, sets);
+        let stop = self.do_due(alloc, site, intervals.as_slice(), &mut notes);
+        Ok(Due {
+            notes: Seq::from_vec(notes),
+            stop,
+        })
     }
+
+    // The moment of a line comes.
+    fn set_clock(&mut self, now: u64, added: u64, sets: Vec<SetMoment>)
+        requires { IsSound self.old }
+        ensures set { self.new ≡ record self.old {
+            clock = record self.old.clock { now = now; added = added; sets = sets } } }
+        ensures sound { IsSound self.new }
+    {
+        self.clock.now = now;
+        self.clock.added = added;
+        self.clock.sets = sets;
+    }
+}
+
+// The clock's additions with those of the line; none where they leave 64 bits.
+fn added_by(added: u64, line: &Line) -> Option<u64>
+    ensures { IfSome result (λ sum. (a : AbstractTier) → a.added ≡ added → added_by line.now a ≡ sum) }
+{
+    match line {
+        Line::Clock(ms) => added.checked_add(*ms),
+        Line::Session(_, _) => Some(added),
+        Line::Console(_) => Some(added),
+    }
+}
+
+// The greater of the last moment and the base with the additions, cut at the end of the year 9999.
+fn moment_of(now: u64, base: Moment, added: u64) -> u64
+    ensures { result ≡ cut (max now (base.0 + added)) }
+{
+    base.0
+        .saturating_add(added)
+        .max(now)
+        .min(Limit::Clock.number())
+}
+
+// Room for a note of the round, and for one of each set.
+fn room_for_notes(alloc: Global, intervals: &[u64]) -> Result<Vec<Note>, AllocError>
+    ensures items { IfOk result (λ notes. notes.items ≡ []) }
+    ensures room { IfOk result (λ notes. vec_len notes + (length intervals.now + 1) ≤ vec_capacity notes) }
+{
+    let Some(room) = intervals.len().checked_add(1) else {
+        return Err(AllocError);
+    };
+    Vec::with_capacity(alloc, room)
 }

@@ -59,7 +59,7 @@ pub(crate) fn is_read_only(group: &KeptGroup) -> bool
     }
 }
 
-fn is_on(state: RefreshState) -> bool
+pub(crate) fn is_on(state: RefreshState) -> bool
     ensures { result ≡ is_on state }
 {
     match state {

@@ -1,0 +1,283 @@
+-- Items of due work, one behind the other, and what they tell.
+use Rattle.std.proofs.Common.{◌≡◌, ◌≤◌, ℕ, zero, suc, ◌+◌, ◌^◌, min, Bool, true, false, cond, ◌&&◌, ◌||◌, nat_eq, Option, Some, None, List, [], ◌∷◌, ◌++◌, length, map, drop, count_by, refl, sym, ap, subst, ◌∙◌, append_assoc, arith}
+use Rattle.std.specs.Prelude.{Result, Ok, Err}
+use Rattle.std.proofs.lemmas.List.{append-nil}
+use Rattle.tier_base.specs.declared.number.TableId.{TableId}
+use Rattle.tier_base.specs.declared.code.Code.{Code}
+use Rattle.tier_base.specs.declared.code.Code.TheVariants as code
+use Rattle.tier_base.specs.Codes.{number_of}
+use Rattle.outside.specs.Holding.{Held}
+use Rattle.cache_tier.specs.DueWork.{Idle, Item, Noted, ThenItem, is_noted, noted, noted_code, notes_of, stopped, stopped_by}
+use Rattle.cache_tier.specs.Groups.{Group, covers, definitions_of, is_defined_on, is_table_of, is_writethrough}
+use Rattle.cache_tier.specs.Steps.{Rose, faults_in, note_tells, tells}
+use Rattle.cache_tier.specs.Worlds.{IsUnshared, Stage, World}
+use Rattle.cache_tier.specs.declared.reply.Last.{Last}
+use Rattle.cache_tier.specs.declared.reply.Last.TheVariants.{Done, Fault, No}
+use Rattle.cache_tier.specs.declared.reply.Note.{Note}
+use Rattle.cache_tier.specs.declared.reply.Reply.{Reply}
+use Rattle.group_catalog.specs.Catalogs.{groups_in}
+use Rattle.cache_engine.specs.declared.tier.Tier.{Tier as Stored}
+use Rattle.cache_engine.specs.Due.{IsDueCaused}
+use Rattle.cache_engine.specs.DueItems.{DoesItem, due_of, note_of, notes_since}
+use Rattle.cache_engine.specs.Performing.{IsCaused, IsStopCaused, KeepsSlots, Performs, StandsFor}
+use Rattle.cache_engine.specs.Refreshing.{has_moment}
+use Rattle.cache_engine.specs.Sites.{IsAt, SiteView}
+use Rattle.cache_engine.specs.Stored.{IsStoredAs, without_list}
+
+-- notes behind notes
+
+drop_none : {X : Type 0} (l : List X) → drop 0 l ≡ l
+drop_none [] = refl
+drop_none (x ∷ l) = refl
+
+pub since_is : (earlier more notes : List Note) → notes ≡ earlier ++ more → notes_since earlier notes ≡ more
+since_is earlier more notes is = ap (drop (length earlier)) is ∙ past earlier
+  where
+    past : (l : List Note) → drop (length l) (l ++ more) ≡ more
+    past [] = drop_none more
+    past (x ∷ l) = past l
+
+pub since_self : (notes : List Note) → notes_since notes notes ≡ []
+since_self notes = since_is notes [] notes (sym (append-nil notes))
+
+pub since_none : (notes : List Note) → notes_since [] notes ≡ notes
+since_none notes = drop_none notes
+
+order_both : (earlier between notes : List Note) → between ≡ earlier ++ notes_since earlier between → notes ≡ between ++ notes_since between notes
+    → notes ≡ earlier ++ (notes_since earlier between ++ notes_since between notes)
+order_both earlier between notes is next =
+    next ∙ ap (λ l. l ++ notes_since between notes) is
+    ∙ append_assoc earlier (notes_since earlier between) (notes_since between notes)
+
+-- counts
+
+count_both : (p : Note → Bool) (a b : List Note) → count_by p (a ++ b) ≡ count_by p a + count_by p b
+count_both p [] b = refl
+count_both p (x ∷ a) b = by (p x) (count_both p a b)
+  where
+    by : (t : Bool) → count_by p (a ++ b) ≡ count_by p a + count_by p b → cond t 1 0 + count_by p (a ++ b) ≡ (cond t 1 0 + count_by p a) + count_by p b
+    by true rest = omega (arith, rest)
+    by false rest = omega (arith, rest)
+
+rose_both : (b n m k a cap : ℕ) → b ≤ m → min (b + n) cap ≤ m → m ≤ a → min (m + k) cap ≤ a → min (b + (n + k)) cap ≤ a
+rose_both b n m k a cap one risen two more = omega (arith, one, risen, two, more)
+
+rose_none : (b a cap : ℕ) → b ≤ a → min (b + 0) cap ≤ a
+rose_none b a cap le = omega (arith, le)
+
+slots_both : (x y z : Option Held) → KeepsSlots x y → KeepsSlots y z → KeepsSlots x z
+slots_both None y z one two = tt
+slots_both (Some x) None z one two = absurd one
+slots_both (Some x) (Some y) None one two = absurd two
+slots_both (Some x) (Some y) (Some z) one two = two ∙ one
+
+slots_same : (x : Option Held) → KeepsSlots x x
+slots_same None = tt
+slots_same (Some x) = refl
+
+caused_both : (b m a : SiteView) (n k : List Note) (stop : Option Reply) → IsDueCaused b m (due_of n None) → IsDueCaused m a (due_of k stop) → IsDueCaused b a (due_of (n ++ k) stop)
+caused_both b m a n k stop one two =
+    let first = one.later in
+    let second = two.later in
+    let t = count_both (note_tells code.BackingFault) n k in
+    record {
+      later = omega (arith, first, second);
+      moment = let x = one.moment in let y = two.moment in omega (arith, x, y);
+      shares = two.shares ∙ one.shares;
+      slots = slots_both b.held m.held a.held one.slots two.slots;
+      bank = (omega (arith, first, second), subst (λ c. min (b.bank_faults + c) (2 ^ 64 - 1) ≤ a.bank_faults) (sym t)
+          (rose_both b.bank_faults (count_by (note_tells code.BackingFault) n) m.bank_faults (count_by (note_tells code.BackingFault) k) a.bank_faults (2 ^ 64 - 1) first one.bank.1 second two.bank.1));
+      disk = count_both (note_tells code.JournalFault) n k ∙ (λ i. one.disk i + two.disk i);
+      stop = two.stop;
+    }
+
+-- the tables of groups that keep their definitions
+
+written_by : (gs hs : List Group) (u : TableId) → definitions_of hs ≡ definitions_of gs → is_table_of is_writethrough hs u ≡ is_table_of is_writethrough gs u
+written_by [] [] u same = refl
+written_by [] (h ∷ hs) u same = cc
+written_by (g ∷ gs) [] u same = cc
+written_by (g ∷ gs) (h ∷ hs) u same =
+    let first : h.def ≡ g.def = cc in
+    let rest : definitions_of hs ≡ definitions_of gs = cc in
+    λ i. (is_writethrough (record h { def = first i }) && is_defined_on u (first i)) || written_by gs hs u rest i
+
+bare_defs : (gs : List Group) → definitions_of (map without_list gs) ≡ definitions_of gs
+bare_defs [] = refl
+bare_defs (g ∷ gs) = ap (λ l. g.def ∷ l) (bare_defs gs)
+
+stored_defs : (t : Stored) (w : World) → StandsFor t w → definitions_of w.tier.groups ≡ definitions_of (groups_in t.catalog)
+stored_defs t w is = sym (bare_defs w.tier.groups) ∙ ap definitions_of is.stored.groups
+
+-- others leave them alone still
+apart_still : (old new : Stored) (before behind : SiteView) (w w' : World) → definitions_of (groups_in new.catalog) ≡ definitions_of (groups_in old.catalog) → behind.shared ≡ before.shared → StandsFor old w → IsAt before w → StandsFor new w' → IsAt behind w' → IsUnshared w → IsUnshared w'
+apart_still old new before behind w w' defs shares was at is there apart t shared =
+    written_by w.tier.groups w'.tier.groups t (stored_defs new w' is ∙ defs ∙ sym (stored_defs old w was))
+    ∙ apart t (subst (λ tables. Rattle.outside.specs.Others.is_shared tables t ≡ true) (there.shared ∙ shares ∙ sym at.shared) shared)
+
+-- one item, and then another
+
+pub then_items : (one other : Item) (old mid new : Stored) (b m a : SiteView) (earlier between notes : List Note) (stop : Option Reply) → DoesItem one old mid b m earlier between None → DoesItem other mid new m a between notes stop
+    → DoesItem (ThenItem one other) old new b a earlier notes stop
+then_items one other old mid new b m a earlier between notes stop first second =
+    let order = order_both earlier between notes first.order second.order in
+    let all = since_is earlier (notes_since earlier between ++ notes_since between notes) notes order in
+    record {
+      performs = λ w at stands apart.
+          let p = first.performs w at stands apart in
+          let q = second.performs p.world p.at p.stands (apart_still old mid b m w p.world first.groups first.cause.shares stands at p.stands p.at apart) in
+          record {
+            world = q.world;
+            at = q.at;
+            stands = q.stands;
+            is = record {
+              mid = p.world;
+              before = notes_since earlier between;
+              behind = notes_since between notes;
+              end = None;
+              first = p.is;
+              next = q.is;
+              all = all;
+            };
+          };
+      order = order ∙ ap (λ l. earlier ++ l) (sym all);
+      cause = subst (λ l. IsDueCaused b a (due_of l stop)) (sym all) (caused_both b m a (notes_since earlier between) (notes_since between notes) stop first.cause second.cause);
+      groups = second.groups ∙ first.groups;
+      entries = λ i there. second.entries i (first.entries i there);
+    }
+
+pub stopped_item : (one other : Item) (old new : Stored) (b a : SiteView) (earlier notes : List Note) (end : Reply) → DoesItem one old new b a earlier notes (Some end) → DoesItem (ThenItem one other) old new b a earlier notes (Some end)
+stopped_item one other old new b a earlier notes end first = record {
+  performs = λ w at stands apart.
+      let p = first.performs w at stands apart in
+      record {
+        world = p.world;
+        at = p.at;
+        stands = p.stands;
+        is = record {
+          mid = p.world;
+          before = notes_since earlier notes;
+          behind = [];
+          end = Some end;
+          first = p.is;
+          next = (refl, refl, refl);
+          all = sym (append-nil (notes_since earlier notes));
+        };
+      };
+  order = first.order;
+  cause = first.cause;
+  groups = first.groups;
+  entries = first.entries;
+}
+
+-- nothing is due
+
+idle_caused : (b : SiteView) → IsDueCaused b b (due_of [] None)
+idle_caused b = record {
+  later = omega arith;
+  moment = omega arith;
+  shares = refl;
+  slots = slots_same b.held;
+  bank = (let le : b.bank_faults ≤ b.bank_faults = omega arith in le, rose_none b.bank_faults b.bank_faults (2 ^ 64 - 1) (omega arith));
+  disk = refl;
+  stop = tt;
+}
+
+pub idle_item : (item : Item) (t : Stored) (b : SiteView) (notes : List Note) → ((w : World) → StandsFor t w → item w w [] None) → DoesItem item t t b b notes notes None
+idle_item item t b notes idle = record {
+  performs = λ w at stands apart. record { world = w; at = at; stands = stands; is = subst (λ l. item w w l None) (sym (since_self notes)) (idle w stands) };
+  order = sym (append-nil notes) ∙ ap (λ l. notes ++ l) (sym (since_self notes));
+  cause = subst (λ l. IsDueCaused b b (due_of l None)) (sym (since_self notes)) (idle_caused b);
+  groups = refl;
+  entries = λ i there. there;
+}
+
+-- the item is another one in these worlds
+pub as_item : (one other : Item) (old new : Stored) (b a : SiteView) (earlier notes : List Note) (stop : Option Reply) → ((w w' : World) → StandsFor old w → one w w' (notes_since earlier notes) stop → other w w' (notes_since earlier notes) stop) → DoesItem one old new b a earlier notes stop → DoesItem other old new b a earlier notes stop
+as_item one other old new b a earlier notes stop turns does = record {
+  performs = λ w at stands apart.
+      let p = does.performs w at stands apart in
+      record { world = p.world; at = p.at; stands = p.stands; is = turns w p.world stands p.is };
+  order = does.order;
+  cause = does.cause;
+  groups = does.groups;
+  entries = does.entries;
+}
+
+-- a failure that is noted
+
+tells_by : (interval : Option ℕ) (c d : Code) → note_tells d (note_of interval c) ≡ nat_eq (number_of c) (number_of d)
+tells_by None c d = refl
+tells_by (Some interval) c d = refl
+
+or_false : (x y : Bool) → (x || y) ≡ false → x ≡ false
+or_false true y e = cc
+or_false false y e = refl
+
+-- a reply that ends the line tells neither
+tells_none : (reply : Reply) (last : Last) (c : Code) → reply.last ≡ last → reply.notes ≡ [] → tells c last ≡ false → faults_in c reply ≡ 0
+tells_none reply last c is bare none =
+    (λ i. count_by (note_tells c) (bare i) + cond (tells c (is i)) 1 0) ∙ ap (λ b. cond b 1 0) none
+
+stop_caused : (b a : SiteView) (reply : Reply) (last : Last) → reply.last ≡ last → IsCaused b a reply → tells code.BackingFault last ≡ false → IsDueCaused b a (due_of [] (Some reply))
+stop_caused b a reply last is c none = record {
+  later = c.later;
+  moment = c.moment;
+  shares = c.shares;
+  slots = c.slots;
+  bank = (c.later, rose_none b.bank_faults a.bank_faults (2 ^ 64 - 1) c.later);
+  disk = refl;
+  stop = (tells_none reply last code.BackingFault is c.bare none, tells_none reply last code.JournalFault is c.bare (ap (tells code.JournalFault) (sym is) ∙ c.disk));
+}
+
+note_caused : (b a : SiteView) (interval : Option ℕ) (c : Code) (reply : Reply) → IsCaused b a reply → (tells code.BackingFault reply.last ≡ nat_eq (number_of c) (number_of code.BackingFault)) → (tells code.JournalFault reply.last ≡ nat_eq (number_of c) (number_of code.JournalFault)) → IsDueCaused b a (due_of (note_of interval c ∷ []) None)
+note_caused b a interval c reply caused bank disk = record {
+  later = caused.later;
+  moment = caused.moment;
+  shares = caused.shares;
+  slots = caused.slots;
+  bank = (caused.later, by (nat_eq (number_of c) (number_of code.BackingFault)) (tells_by interval c code.BackingFault) bank);
+  disk = ap (λ t. cond t 1 0 + 0) (tells_by interval c code.JournalFault ∙ sym disk ∙ caused.disk);
+  stop = tt;
+}
+  where
+    by : (t : Bool) → note_tells code.BackingFault (note_of interval c) ≡ t → tells code.BackingFault reply.last ≡ t → min (b.bank_faults + count_by (note_tells code.BackingFault) (note_of interval c ∷ [])) (2 ^ 64 - 1) ≤ a.bank_faults
+    by true e told = subst (λ x. min (b.bank_faults + (cond x 1 0 + 0)) (2 ^ 64 - 1) ≤ a.bank_faults) (sym e) (caused.bank told)
+    by false e told = subst (λ x. min (b.bank_faults + (cond x 1 0 + 0)) (2 ^ 64 - 1) ≤ a.bank_faults) (sym e) (rose_none b.bank_faults a.bank_faults (2 ^ 64 - 1) caused.later)
+
+noted_caused : (b a : SiteView) (interval : Option ℕ) (end : Option Reply) → IsStopCaused b a end → IsDueCaused b a (due_of (noted (note_of interval) end) (stopped end))
+noted_caused b a interval None c = record {
+  later = c.later;
+  moment = c.moment;
+  shares = c.shares;
+  slots = c.slots;
+  bank = (c.later, rose_none b.bank_faults a.bank_faults (2 ^ 64 - 1) c.later);
+  disk = refl;
+  stop = tt;
+}
+noted_caused b a interval (Some reply) c = by reply.last refl
+  where
+    by : (last : Last) → reply.last ≡ last → IsDueCaused b a (due_of (notes_of (note_of interval) (noted_code last)) (stopped_by reply (noted_code last)))
+    by (Done n) is = stop_caused b a reply (Done n) is c refl
+    by (No rule) is = stop_caused b a reply (No rule) is c refl
+    by (Fault rule) is = of (is_noted rule.code) refl
+      where
+        of : (t : Bool) → is_noted rule.code ≡ t → IsDueCaused b a (due_of (notes_of (note_of interval) (cond t (Some rule.code) None)) (stopped_by reply (cond t (Some rule.code) None)))
+        of true e = note_caused b a interval rule.code reply c (ap (tells code.BackingFault) is) (ap (tells code.JournalFault) is)
+        of false e = stop_caused b a reply (Fault rule) is c (or_false (nat_eq (number_of rule.code) (number_of code.BackingFault)) (nat_eq (number_of rule.code) (number_of code.Memory)) e)
+
+-- a stage whose failure becomes a note
+pub noted_item : (interval : Option ℕ) (stage : Stage) (old new : Stored) (b a : SiteView) (earlier notes : List Note) (end : Option Reply) (stop : Option Reply) → Performs old new b a (λ w w'. stage w w' end) → IsStopCaused b a end
+    → definitions_of (groups_in new.catalog) ≡ definitions_of (groups_in old.catalog) → ((i : ℕ) → has_moment old.clock.sets.items i ≡ true → has_moment new.clock.sets.items i ≡ true)
+    → notes ≡ earlier ++ noted (note_of interval) end → stop ≡ stopped end → DoesItem (Noted (note_of interval) stage) old new b a earlier notes stop
+noted_item interval stage old new b a earlier notes end stop performs caused groups entries told ends =
+    let since = since_is earlier (noted (note_of interval) end) notes told in
+    record {
+      performs = λ w at stands apart.
+          let p = performs w at stands apart in
+          record { world = p.world; at = p.at; stands = p.stands; is = record { end = end; does = p.is; told = since; ends = ends } };
+      order = told ∙ ap (λ l. earlier ++ l) (sym since);
+      cause = subst (λ l. IsDueCaused b a (due_of l stop)) (sym since) (subst (λ s. IsDueCaused b a (due_of (noted (note_of interval) end) s)) (sym ends) (noted_caused b a interval end caused));
+      groups = groups;
+      entries = entries;
+    }

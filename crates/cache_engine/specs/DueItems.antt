@@ -1,0 +1,61 @@
+-- What items of due work do to the stored tier, and which sets are due. (TimesTen Cache User's Guide, "Automatically
+-- refreshing a cache group"; this project's model.)
+
+use Rattle.std.specs.Prelude.{◌≡◌, ℕ, nat_lt, List, ◌++◌, Bool, true, ◌&&◌, Option, Some, None, drop, length}
+use Rattle.std.specs.List.{filter}
+use Rattle.tier_base.specs.declared.code.Code.{Code}
+use Rattle.cache_tier.specs.Aging.{is_over}
+use Rattle.cache_tier.specs.DueWork.{Item, intervals}
+use Rattle.cache_tier.specs.Groups.{Group, definitions_of}
+use Rattle.cache_tier.specs.declared.reply.Note.{Note}
+use Rattle.cache_tier.specs.declared.reply.Note.TheVariants.{Propagate, Refresh}
+use Rattle.cache_tier.specs.declared.reply.Reply.{Reply}
+use Rattle.group_catalog.specs.Catalogs.{groups_in}
+use Rattle.cache_engine.specs.declared.clock.SetMoment.{SetMoment}
+use Rattle.cache_engine.specs.declared.due.Due.{Due}
+use Rattle.cache_engine.specs.declared.tier.Tier.{Tier as Stored}
+use Rattle.cache_engine.specs.Due.{IsDueCaused}
+use Rattle.cache_engine.specs.Performing.{Performs}
+use Rattle.cache_engine.specs.Refreshing.{has_moment, moment_in}
+use Rattle.cache_engine.specs.Sites.{SiteView}
+
+-- a set is due at a moment: its interval after its last refresh
+abbrev pub is_due_at : ℕ → List SetMoment → ℕ → Bool
+is_due_at now sets interval = is_over now (moment_in sets interval) interval
+
+-- the intervals of the sets that are due, rising
+abbrev pub due_at : ℕ → List SetMoment → List Group → List ℕ
+due_at now sets groups = filter (is_due_at now sets) (intervals groups)
+
+-- a round is due so long after the last one; never, where that is 0
+abbrev pub round_is_due : ℕ → ℕ → ℕ → Bool
+round_is_due now round propagate_ms = nat_lt 0 propagate_ms && is_over now round propagate_ms
+
+-- nothing has come that makes other sets due
+pub record KeepsSets (old new : Stored) : Type 0 where
+  pub catalog : new.catalog ≡ old.catalog
+  pub now : new.clock.now ≡ old.clock.now
+  pub sets : new.clock.sets ≡ old.clock.sets
+
+-- what a failed round tells, and a failed refresh of the set of an interval
+abbrev pub note_of : Option ℕ → Code → Note
+note_of None c = Propagate c
+note_of (Some interval) c = Refresh c interval
+
+-- the notes behind earlier ones
+abbrev pub notes_since : List Note → List Note → List Note
+notes_since earlier notes = drop (length earlier) notes
+
+abbrev pub due_of : List Note → Option Reply → Due
+due_of notes stop = record { notes = notes; stop = stop }
+
+-- The stored tier does an item of due work in each world, and its notes come behind the earlier ones. Each fault that they
+-- tell has its cause, the groups keep their definitions, and no set loses the entry of its last refresh.
+pub record DoesItem (item : Item) (old new : Stored) (before behind : SiteView) (earlier notes : List Note)
+    (stop : Option Reply) : Type 0 where
+  pub performs : Performs old new before behind (λ w w'. item w w' (notes_since earlier notes) stop)
+  pub order : notes ≡ earlier ++ notes_since earlier notes
+  pub cause : IsDueCaused before behind (due_of (notes_since earlier notes) stop)
+  pub groups : definitions_of (groups_in new.catalog) ≡ definitions_of (groups_in old.catalog)
+  pub entries : (interval : ℕ) → has_moment old.clock.sets.items interval ≡ true
+      → has_moment new.clock.sets.items interval ≡ true

@@ -1,0 +1,215 @@
+//! The items of due work.
+
+ghost use Rattle.std.specs.Prelude.{◌≡◌, ◌≤◌, ◌<◌, ◌+◌, ◌++◌, ℕ, Some, length, true, vec_capacity, vec_len};
+ghost use Rattle.std.specs.List.{list_all};
+ghost use Rattle.cache_tier.specs.DueWork.{DueRound, DueSetsOf, DueWork, Noted, noted, noted_code, stopped};
+ghost use Rattle.cache_tier.specs.Groups.{definitions_of};
+ghost use Rattle.cache_tier.specs.Sets.{RefreshesIfShown};
+ghost use Rattle.group_catalog.specs.Catalogs.{groups_in};
+ghost use Rattle.cache_engine.specs.DueItems.{DoesItem, due_at, note_of, round_is_due};
+ghost use Rattle.cache_engine.specs.Performing.{stop_of};
+ghost use Rattle.cache_engine.specs.Refreshing.{has_moment};
+
+use crate::refreshing::{note_moment, shows_something};
+use crate::tier::Tier;
+use cache_tier::reply::{Last, Note, Reply};
+use outside::Site;
+use std::alloc::Global;
+use tier_base::Code;
+use tier_statements::faulty;
+
+impl Tier {
+    ghost use Rattle.cache_engine.specs.DueItems.{KeepsSets};
+    ghost use Rattle.cache_engine.specs.Performing.{IsStopCaused, Performs};
+    ghost use Rattle.cache_engine.specs.Sites.{seen_at};
+    ghost use Rattle.cache_engine.specs.Stored.{IsSound};
+
+    // What is due is done: the round, and the sets of these intervals. Its notes come behind the others, and it is the reply
+    // that ends the line.
+    pub(crate) fn do_due<P: Site>(
+        &mut self,
+        alloc: Global,
+        site: &mut P,
+        intervals: &[u64],
+        notes: &mut Vec<Note>,
+    ) -> Option<Reply>
+        requires sound { IsSound self.old }
+        requires room { vec_len notes.old + (length intervals.now + 1) ≤ vec_capacity notes.old }
+        requires entries { list_all (has_moment self.old.clock.sets.items) intervals.now ≡ true }
+        requires due { intervals.now
+            ≡ due_at self.old.clock.now self.old.clock.sets.items (groups_in self.old.catalog) }
+        ensures does { DoesItem DueWork self.old self.new
+            (seen_at (P.Disk.held site.old) (P.bank_faults site.old) (P.Disk.moment site.old) (P.Disk.shared site.old))
+            (seen_at (P.Disk.held site.new) (P.bank_faults site.new) (P.Disk.moment site.new) (P.Disk.shared site.new))
+            notes.old.items notes.new.items result }
+        ensures sound { IsSound self.new }
+    {
+        match self.settle_due(alloc, site, notes) {
+            Some(stop) => Some(stop),
+            None => self.refresh_sets(alloc, site, intervals, notes),
+        }
+    }
+
+    // A round, where it is due.
+    fn settle_due<P: Site>(
+        &mut self,
+        alloc: Global,
+        site: &mut P,
+        notes: &mut Vec<Note>,
+    ) -> Option<Reply>
+        requires sound { IsSound self.old }
+        requires room { vec_len notes.old < vec_capacity notes.old }
+        ensures does { DoesItem DueRound self.old self.new
+            (seen_at (P.Disk.held site.old) (P.bank_faults site.old) (P.Disk.moment site.old) (P.Disk.shared site.old))
+            (seen_at (P.Disk.held site.new) (P.bank_faults site.new) (P.Disk.moment site.new) (P.Disk.shared site.new))
+            notes.old.items notes.new.items result }
+        ensures sound { IsSound self.new }
+        ensures same { KeepsSets self.old self.new }
+        ensures capacity { vec_capacity notes.new ≡ vec_capacity notes.old }
+        ensures few { vec_len notes.new ≤ vec_len notes.old + 1 }
+    {
+        if !is_round_due(self.clock.now, self.clock.round, self.clock.propagate_ms) {
+            return None;
+        }
+        let end = self.settle_all(alloc, site);
+        note_end(end, None, notes)
+    }
+
+    // The sets of these intervals are refreshed, one after the other.
+    fn refresh_sets<P: Site>(
+        &mut self,
+        alloc: Global,
+        site: &mut P,
+        intervals: &[u64],
+        notes: &mut Vec<Note>,
+    ) -> Option<Reply>
+        requires sound { IsSound self.old }
+        requires room { vec_len notes.old + length intervals.now ≤ vec_capacity notes.old }
+        requires entries { list_all (has_moment self.old.clock.sets.items) intervals.now ≡ true }
+        ensures does { DoesItem (DueSetsOf intervals.now) self.old self.new
+            (seen_at (P.Disk.held site.old) (P.bank_faults site.old) (P.Disk.moment site.old) (P.Disk.shared site.old))
+            (seen_at (P.Disk.held site.new) (P.bank_faults site.new) (P.Disk.moment site.new) (P.Disk.shared site.new))
+            notes.old.items notes.new.items result }
+        ensures sound { IsSound self.new }
+    {
+        match intervals.split_first() {
+            None => None,
+            Some((interval, more)) => match self.refresh_due(alloc, site, *interval, notes) {
+                Some(stop) => Some(stop),
+                None => self.refresh_sets(alloc, site, more, notes),
+            },
+        }
+    }
+
+    // The set of an interval is refreshed; a failure becomes a note.
+    fn refresh_due<P: Site>(
+        &mut self,
+        alloc: Global,
+        site: &mut P,
+        interval: u64,
+        notes: &mut Vec<Note>,
+    ) -> Option<Reply>
+        requires sound { IsSound self.old }
+        requires room { vec_len notes.old < vec_capacity notes.old }
+        requires entry { has_moment self.old.clock.sets.items interval ≡ true }
+        ensures does { DoesItem (Noted (note_of (Some interval)) (RefreshesIfShown interval)) self.old self.new
+            (seen_at (P.Disk.held site.old) (P.bank_faults site.old) (P.Disk.moment site.old) (P.Disk.shared site.old))
+            (seen_at (P.Disk.held site.new) (P.bank_faults site.new) (P.Disk.moment site.new) (P.Disk.shared site.new))
+            notes.old.items notes.new.items result }
+        ensures sound { IsSound self.new }
+        ensures capacity { vec_capacity notes.new ≡ vec_capacity notes.old }
+        ensures few { vec_len notes.new ≤ vec_len notes.old + 1 }
+    {
+        let end = self.refresh_set(alloc, site, interval);
+        note_end(end, Some(interval), notes)
+    }
+
+    // The set of an interval is refreshed, where it has something to show. It is noted that this was tried: the set has an
+    // entry for that.
+    //
+    // The bank isn't read yet: memory is wanting, where the set has something to show.
+    pub(crate) fn refresh_set<P: Site>(
+        &mut self,
+        alloc: Global,
+        site: &mut P,
+        interval: u64,
+    ) -> Result<(), Reply>
+        requires sound { IsSound self.old }
+        requires entry { has_moment self.old.clock.sets.items interval ≡ true }
+        ensures performs { Performs self.old self.new
+            (seen_at (P.Disk.held site.old) (P.bank_faults site.old) (P.Disk.moment site.old) (P.Disk.shared site.old))
+            (seen_at (P.Disk.held site.new) (P.bank_faults site.new) (P.Disk.moment site.new) (P.Disk.shared site.new))
+            (λ w w'. RefreshesIfShown interval w w' (stop_of result)) }
+        ensures groups { definitions_of (groups_in self.new.catalog) ≡ definitions_of (groups_in self.old.catalog) }
+        ensures entries { (i : ℕ) → has_moment self.old.clock.sets.items i ≡ true
+            → has_moment self.new.clock.sets.items i ≡ true }
+        ensures sound { IsSound self.new }
+        ensures cause { IsStopCaused
+            (seen_at (P.Disk.held site.old) (P.bank_faults site.old) (P.Disk.moment site.old) (P.Disk.shared site.old))
+            (seen_at (P.Disk.held site.new) (P.bank_faults site.new) (P.Disk.moment site.new) (P.Disk.shared site.new))
+            (stop_of result) }
+    {
+        let _ = &site;
+        if !shows_something(&self.catalog, interval) {
+            return Ok(());
+        }
+        note_moment(&mut self.clock.sets, interval, self.clock.now);
+        Err(faulty(alloc, Code::Memory))
+    }
+}
+
+// Whether a round is due so long after the last one; never, where that is 0.
+fn is_round_due(now: u64, round: u64, propagate_ms: u64) -> bool
+    ensures { result ≡ round_is_due now round propagate_ms }
+{
+    match round.checked_add(propagate_ms) {
+        None => false,
+        Some(due) => propagate_ms > 0 && due <= now,
+    }
+}
+
+// What ended a stage becomes a note, of a round or of the set of an interval, or it ends the line.
+fn note_end(end: Result<(), Reply>, interval: Option<u64>, notes: &mut Vec<Note>) -> Option<Reply>
+    requires { vec_len notes.old < vec_capacity notes.old }
+    ensures notes { notes.new.items ≡ notes.old.items ++ noted (note_of interval) (stop_of end) }
+    ensures stop { result ≡ stopped (stop_of end) }
+    ensures capacity { vec_capacity notes.new ≡ vec_capacity notes.old }
+    ensures few { vec_len notes.new ≤ vec_len notes.old + 1 }
+{
+    match end {
+        Ok(()) => None,
+        Err(reply) => match noted_code(&reply.last) {
+            None => Some(reply),
+            Some(code) => {
+                notes.push_reserved(note_of(interval, code));
+                None
+            }
+        },
+    }
+}
+
+fn note_of(interval: Option<u64>, code: Code) -> Note
+    ensures { result ≡ note_of interval code }
+{
+    match interval {
+        None => Note::Propagate(code),
+        Some(interval) => Note::Refresh(code, interval),
+    }
+}
+
+// The code of a fault that becomes a note.
+fn noted_code(last: &Last) -> Option<Code>
+    ensures { result ≡ noted_code last.now }
+{
+    match last {
+        Last::Done(_) => None,
+        Last::No(_) => None,
+        Last::Fault(rule) => {
+            if rule.code == Code::BackingFault || rule.code == Code::Memory {
+                Some(rule.code)
+            } else {
+                None
+            }
+        }
+    }
+}
