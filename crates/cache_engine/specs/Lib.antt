@@ -15,8 +15,6 @@ pub mod Filling
 pub mod Fresh
 pub mod Gathering
 pub mod Grouping
-pub mod Growing
-pub mod Naming
 pub mod Performing
 pub mod Putting
 pub mod Refreshing

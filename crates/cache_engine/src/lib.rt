@@ -19,7 +19,6 @@ mod grouping;
 pub mod early;
 mod filling;
 mod fresh;
-mod grouping;
 mod holding;
 mod growing;
 mod gathering;
