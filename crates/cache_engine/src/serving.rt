@@ -39,9 +39,6 @@ impl Tier {
             (seen_at (P.Disk.held site.new) (P.bank_faults site.new) (P.Disk.moment site.new) (P.Disk.shared site.new))
             (reply_of result) }
     {
-<<<<<<< HEAD
-        Err(Refused::Memory)
-=======
         match request {
             ConsoleRequest::CreateTable(declaration) => {
                 self.create_table(alloc, site, declaration)
@@ -87,7 +84,6 @@ impl Tier {
             }
             Err(BankError::Memory) => Err(Refused::Memory),
         }
->>>>>>> 0fc31e7 (cache_engine: CREATE TABLE of the console)
     }
 }
 

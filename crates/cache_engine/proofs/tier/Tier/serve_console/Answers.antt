@@ -1,14 +1,3 @@
-<<<<<<< HEAD
-use Rattle.cache_tier.specs.ConsoleSteps.{DoesConsole}
-use Rattle.cache_engine.proofs.WantLaws.{wanting, wanting_caused}
-use Rattle.cache_engine.proofs.tier.Tier.serve_console.Goals as goal
-
-pub returns-clause-performs : goal.returns-clause-performs
-returns-clause-performs g c = wanting c.args.self.now _ (DoesConsole c.args.request.now)
-
-pub returns-clause-cause : goal.returns-clause-cause
-returns-clause-cause g c = wanting_caused _
-=======
 use Rattle.cache_engine.specs.Performing.{reply_of}
 use Rattle.cache_engine.proofs.ServingLaws.{nothing_served, table_served}
 use Rattle.cache_engine.proofs.tier.Tier.serve_console.Goals as goal
@@ -17,4 +6,3 @@ pub returns-in-CreateTable-clause-performs : goal.returns-in-CreateTable-clause-
 returns-in-CreateTable-clause-performs g c =
     table_served c.args.self.now c.create_table.new.self _ _ c.args.request.now c.in-CreateTable.declaration
     (reply_of c.create_table.result) c.in-CreateTable.is c.create_table.ensures.performs
->>>>>>> 0fc31e7 (cache_engine: CREATE TABLE of the console)
