@@ -22,7 +22,7 @@ pub mod GroupRows
 pub mod GroupingLaws
 pub mod HeldLaws
 pub mod LoadLaws
-pub mod LoadedLaws
+pub mod LoadingLaws
 pub mod MatchLaws
 pub mod NamedLaws
 pub mod GrowingLaws
@@ -50,6 +50,7 @@ pub mod TablingLaws
 pub mod WantLaws
 pub mod TakeLaws
 pub mod TakenLaws
+pub mod TakenParts
 pub mod VerifyLaws
 pub mod WriteLaws
 pub mod WritingLaws

@@ -361,11 +361,7 @@ fn overflow() -> Rule
 }
 
 /// Puts these rows into a store, all memory first.
-pub(crate) fn fill(
-    alloc: Global,
-    store: &mut Store,
-    tables: Seq<Seq<Row>>,
-) -> Result<(), Refused>
+pub(crate) fn fill(alloc: Global, store: &mut Store, tables: Seq<Seq<Row>>) -> Result<(), Refused>
     requires { length tables ≤ length store.old.layers + 1 }
     ensures ok { OnOk result (SameButSpare (put_tables 0 tables store.old) store.new) }
     ensures err { OnErr result (SameButSpare store.old store.new) }
