@@ -33,7 +33,7 @@ pub mod GrowingLaws
 pub mod HeldLaws
 pub mod LineLaws
 pub mod LoadLaws
-pub mod LoadedLaws
+pub mod LoadingLaws
 pub mod MatchLaws
 pub mod PutLaws
 pub mod ReadLaws
@@ -56,6 +56,7 @@ pub mod StoreRows
 pub mod TablingLaws
 pub mod TakeLaws
 pub mod TakenLaws
+pub mod TakenParts
 pub mod VerifyLaws
 pub mod WantLaws
 pub mod WriteLaws

@@ -76,50 +76,12 @@ use Rattle.cache_engine.proofs.LoadLaws.{filled_shown, has_roots, its_roots, sto
 use Rattle.cache_engine.proofs.MatchLaws.{HasRoots, all_shown, count_coming, instances_of_keys, matching_is, shown_alike}
 use Rattle.cache_engine.proofs.SnapshotLaws.{IsRead, is_read, tree_asked}
 use Rattle.cache_engine.proofs.StandingLaws.{performed_behind, performed_here}
+use Rattle.cache_engine.proofs.TakenParts.{matching_sound, rows_room, stored_room}
 use Rattle.cache_engine.proofs.StorePairs.{SameForm, filled_form, form_set, housed_still, kept_still, room_forms, rows_still, whole_still}
 use Rattle.cache_engine.proofs.StoreRows.{are_kept, kept_is_shown, shows_kept}
 
 abbrev Row : Type 0
 Row = List Value
-
--- room alone is another
-
-module _ (old new : Stored) (same : IsSameButRoom old new) where
-  pub rows_room : rows_of new ≡ rows_of old
-  rows_room = ap (λ d. shown_by d new.stores.items) same.rest.schema ∙ rows_still old.schema old.stores.items new.stores.items same.stores
-
-  pub stored_room : (a : Tier) → IsStoredAs old a → IsStoredAs new a
-  stored_room a is = record {
-    schema = is.schema ∙ sym same.rest.schema;
-    stale = is.stale ∙ sym same.rest.stale;
-    groups = is.groups ∙ ap groups_in (sym same.catalog);
-    sessions = is.sessions ∙ ap (λ s. map session_seen (seen_all s)) (sym same.rest.sessions);
-    unsettled = is.unsettled ∙ sym (λ i. (same.rest.unsettled i).items);
-    next = is.next ∙ sym same.rest.next;
-    doubt = is.doubt;
-    time = subst (λ (c : TierClock). KeepsTime c a.now a.added a.round a.sets a.settings) (sym same.rest.clock) is.time;
-  }
-
-  pub sound_room : IsSound old → IsSound new
-  sound_room sound = record {
-    sessions = subst (λ s. AreSessions new.schema s) (sym same.rest.sessions) (subst (λ d. AreSessions d old.sessions) (sym same.rest.schema) sound.sessions);
-    stores =
-        subst (λ h. AreHoused new.schema new.stores.items h) (sym (λ i. same.rest.directory i))
-        (subst (λ d. AreHoused d new.stores.items old.directory) (sym same.rest.schema) (housed_still old.schema old.stores.items new.stores.items old.directory (room_forms old.stores.items new.stores.items same.stores) sound.stores));
-    kept =
-        subst (λ c. AreKept new.schema (groups_in c) new.stores.items) (sym same.catalog)
-        (subst (λ d. AreKept d (groups_in old.catalog) new.stores.items) (sym same.rest.schema)
-        (kept_still old.schema (groups_in old.catalog) old.stores.items new.stores.items (room_forms old.stores.items new.stores.items same.stores) sound.kept));
-    whole = whole_still old.stores.items new.stores.items (room_forms old.stores.items new.stores.items same.stores) sound.whole;
-    plain = ap (λ c. list_all is_plain (groups_in c)) same.catalog ∙ sound.plain;
-    named = subst (λ c. HaveOwnNames (groups_in c)) (sym same.catalog) sound.named;
-    visible = same.rest.visible ∙ sound.visible ∙ (λ i. named_where_cached (groups_in (sym same.catalog i)) (sym same.rest.schema i));
-    numbered = subst (λ u. RiseBetween 1 u.items new.next) (sym same.rest.unsettled) (subst (λ m. RiseBetween 1 old.unsettled.items m) (sym same.rest.next) sound.numbered);
-    verified = λ noted. let v = sound.verified (sym same.verified ∙ noted) in record {
-      rows = subst (AreShown []) (sym rows_room) v.rows;
-      own = subst (λ s. All (λ x. AreShown x.ops (rows_of new)) (seen_all s)) (sym same.rest.sessions) (subst (λ r. All (λ x. AreShown x.ops r) (seen_all old.sessions)) (sym rows_room) v.own);
-    };
-  }
 
 -- no journal is kept, so nothing is flushed
 
@@ -195,8 +157,8 @@ flag_seen more g writes = ap (λ b. without_list (cond (b || is_explicit g) (rec
 
 -- The snapshot came.
 module _ (old : Stored) (before after : SiteView) (place : ℕ) (which : ResolvedWhich) (refreshes : Bool) (x : Target) (of : IsOfTarget x place which) (writes : is_writethrough x.group ≡ true) (sound : IsSound old) (asked : List TableId) (asks : AsksTree old place asked) (snapshot : Snapshot)
-  (told : site.Told before.held after.held (site.BankCall before.shared (TakesSnapshot asked (Ok snapshot)))) (faults : before.bank_faults ≤ after.bank_faults) (moment : before.moment ≤ after.moment) (shares : after.shared ≡ before.shared)
-  (w : World) (at : IsAt before w) (stands : StandsFor old w) (apart : IsUnshared w) (here : IsSettledAt place x.group w) where
+    (told : site.Told before.held after.held (site.BankCall before.shared (TakesSnapshot asked (Ok snapshot)))) (faults : before.bank_faults ≤ after.bank_faults) (moment : before.moment ≤ after.moment) (shares : after.shared ≡ before.shared)
+    (w : World) (at : IsAt before w) (stands : StandsFor old w) (apart : IsUnshared w) (here : IsSettledAt place x.group w) where
   now : TellsBehind at.there after.held (site.BankCall before.shared (TakesSnapshot asked (Ok snapshot)))
   now = told_behind at.there before.held after.held (site.BankCall before.shared (TakesSnapshot asked (Ok snapshot))) at.told told
 
@@ -491,37 +453,6 @@ module _ (old : Stored) (before after : SiteView) (place : ℕ) (which : Resolve
       let def : k.1.group.def ≡ x.group.def = ap (λ (g : Group). g.def) (seen_at_place old w.tier place x.group k.1.group stands.stored here.there k.1.there) in
       left_so new (only (No rule)) k.0 (overflowed refreshes rule (ap (λ (d : GroupDef). overflows_in c d.tree which) (sym def) ∙ k.1.is) k.2)
   read_so new (Err refused.Memory) sound_new k = left_so new (faulty code.Memory) k (wanted refreshes)
-
--- what is taken in leaves the tier sound
-pub taken_sound : (old new : Stored) (place : ℕ) (which : ResolvedWhich) (refreshes : Bool) (s : TableState) (reply : Reply) → IsSound old → TakesIn old new place which refreshes s reply → IsSound new
-taken_sound old new place which refreshes s reply sound k =
-    let forms : Pairs SameForm old.stores.items (slice_set old.stores.items place k.filled) =
-        form_set old.stores.items place k.store k.filled k.kept (filled_form (map fm.values (gathered_in s k.group.def.tree k.store which)) k.store k.filled k.rows) in
-    let items : slice_set old.stores.items place k.filled ≡ new.stores.items = sym k.stores in
-    let same : Pairs SameForm old.stores.items new.stores.items = subst (Pairs SameForm old.stores.items) items forms in
-    record {
-      sessions = subst (λ z. AreSessions new.schema z) (sym k.rest.sessions) (subst (λ d. AreSessions d old.sessions) (sym k.rest.schema) sound.sessions);
-      stores =
-          subst (λ h. AreHoused new.schema new.stores.items h) (sym (λ i. k.rest.directory i))
-          (subst (λ d. AreHoused d new.stores.items old.directory) (sym k.rest.schema) (housed_still old.schema old.stores.items new.stores.items old.directory same sound.stores));
-      kept =
-          subst (λ gs. AreKept new.schema gs new.stores.items) (sym k.groups)
-          (kept_loaded (alone place) new.schema 0 (groups_in old.catalog) new.stores.items
-          (subst (λ d. AreKept d (groups_in old.catalog) new.stores.items) (sym k.rest.schema) (kept_still old.schema (groups_in old.catalog) old.stores.items new.stores.items same sound.kept)));
-      whole = whole_still old.stores.items new.stores.items same sound.whole;
-      plain = ap (list_all is_plain) k.groups ∙ plain_loaded (alone place) 0 (groups_in old.catalog) ∙ sound.plain;
-      named = subst HaveOwnNames (sym k.groups) (names_loaded (alone place) 0 (groups_in old.catalog) sound.named);
-      visible =
-          k.rest.visible ∙ sound.visible ∙ ap (named_where_cached (groups_in old.catalog)) (sym k.rest.schema)
-          ∙ sym (ap (λ gs. named_where_cached gs new.schema) k.groups ∙ visible_loaded (alone place) 0 (groups_in old.catalog) new.schema);
-      numbered = subst (λ u. RiseBetween 1 u.items new.next) (sym k.rest.unsettled) (subst (λ m. RiseBetween 1 old.unsettled.items m) (sym k.rest.next) sound.numbered);
-      verified = λ noted. let no : false ≡ true = sym k.unverified ∙ noted in cc;
-    }
-
-pub matching_sound : (old new : Stored) (place : ℕ) (which : ResolvedWhich) (refreshes : Bool) (s : TableState) (result : Result Reply Refused) → IsSound old → TakesMatching old new place which refreshes s result → IsSound new
-matching_sound old new place which refreshes s (Ok reply) sound k = taken_sound old new place which refreshes s reply sound k
-matching_sound old new place which refreshes s (Err (refused.Rule rule)) sound k = sound_room old new k.0 sound
-matching_sound old new place which refreshes s (Err refused.Memory) sound k = sound_room old new k sound
 
 pub read_all : (old new : Stored) (before after : SiteView) (place : ℕ) (which : ResolvedWhich) (refreshes : Bool) (asked : List TableId) (snapshot : Snapshot) (tables : TableState) (result : Result Reply Refused) → IsSound old → AsksTree old place asked → tables ≡ snapshot.tables
     → site.Told before.held after.held (site.BankCall before.shared (TakesSnapshot asked (Ok snapshot))) → before.bank_faults ≤ after.bank_faults → before.moment ≤ after.moment → after.shared ≡ before.shared

@@ -48,8 +48,10 @@ impl Tier {
             (seen_at (P.Disk.held site.new) (P.bank_faults site.new) (P.Disk.moment site.new) (P.Disk.shared site.new))
             (reply_of result) }
     {
-        let aim = self.aim(alloc, id, load, false)?;
-        self.load_aimed(alloc, site, &aim, false)
+        match self.aim(alloc, id, load, false) {
+            Err(refused) => Err(refused),
+            Ok(aim) => self.load_aimed(alloc, site, &aim, false),
+        }
     }
 
     /// REFRESH CACHE GROUP. A READONLY group that is PAUSED is loaded anew and becomes ON. A writethrough group gains the
@@ -76,8 +78,10 @@ impl Tier {
             (seen_at (P.Disk.held site.new) (P.bank_faults site.new) (P.Disk.moment site.new) (P.Disk.shared site.new))
             (reply_of result) }
     {
-        let aim = self.aim(alloc, id, load, true)?;
-        self.load_aimed(alloc, site, &aim, true)
+        match self.aim(alloc, id, load, true) {
+            Err(refused) => Err(refused),
+            Ok(aim) => self.load_aimed(alloc, site, &aim, true),
+        }
     }
 
     // What LOAD does, or REFRESH, once its group is found and nothing refuses it.

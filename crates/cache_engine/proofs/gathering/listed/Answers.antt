@@ -1,4 +1,4 @@
-use Rattle.std.proofs.Common.{◌≡◌, ◌++◌, ◌∷◌, [], ◌∙◌, ap, map, rules, sym}
+use Rattle.std.proofs.Common.{◌≡◌, ◌++◌, ◌∷◌, [], ◌∙◌, rules}
 use Rattle.std.specs.FinMap.{values}
 use Rattle.cache_engine.proofs.GatherLaws.{mapped_all, mapped_more}
 use Rattle.cache_engine.proofs.gathering.listed.Goals as goal

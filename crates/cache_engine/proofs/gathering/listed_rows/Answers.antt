@@ -1,4 +1,4 @@
-use Rattle.std.proofs.Common.{◌≡◌, ◌++◌, ◌∷◌, [], ◌∙◌, ap, rules, sym}
+use Rattle.std.proofs.Common.{◌≡◌, ◌++◌, ◌∷◌, [], ◌∙◌, rules, sym}
 use Rattle.std.specs.FinMap.{values}
 use Rattle.cache_engine.proofs.GatherLaws.{took_all, took_more, values_long}
 use Rattle.cache_engine.proofs.gathering.listed_rows.Goals as goal

@@ -1,4 +1,4 @@
-use Rattle.std.proofs.Common.{◌≡◌, ◌∙◌, false, is_none, length, rules, sym, true}
+use Rattle.std.proofs.Common.{◌≡◌, ◌∙◌, false, is_none, rules, sym, true}
 use Rattle.std.specs.FinMap.{values}
 use Rattle.evaluator.specs.Writes.{selects}
 use Rattle.cache_engine.proofs.GatherLaws.{none_at_all, none_more, some_there, values_long}

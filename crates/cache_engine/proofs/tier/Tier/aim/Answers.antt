@@ -1,4 +1,3 @@
-use Rattle.std.proofs.Common.{◌≡◌, Some, rules, sym}
 use Rattle.cache_engine.proofs.AimLaws.{aimed_with, unknown_aimed}
 use Rattle.cache_engine.proofs.tier.Tier.aim.Goals as goal
 

@@ -1,5 +1,5 @@
 use Rattle.cache_engine.specs.Performing.{reply_of}
-use Rattle.cache_engine.proofs.LoadedLaws.{behind_round}
+use Rattle.cache_engine.proofs.LoadingLaws.{behind_round}
 use Rattle.cache_engine.proofs.tier.Tier.load_behind.Goals as goal
 
 pub returns-in-Ok-clause-reads : goal.returns-in-Ok-clause-reads

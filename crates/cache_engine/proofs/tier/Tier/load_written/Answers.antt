@@ -1,6 +1,7 @@
 use Rattle.std.proofs.Common.{refl, subst, sym}
 use Rattle.cache_engine.specs.Taking.{AsksTree}
-use Rattle.cache_engine.proofs.TakenLaws.{matching_sound, read_all, reads_failed, reads_wanting}
+use Rattle.cache_engine.proofs.TakenLaws.{read_all, reads_failed, reads_wanting}
+use Rattle.cache_engine.proofs.TakenParts.{matching_sound}
 use Rattle.cache_engine.proofs.tier.Tier.load_written.Goals as goal
 
 pub returns-in-Err-clause-reads : goal.returns-in-Err-clause-reads

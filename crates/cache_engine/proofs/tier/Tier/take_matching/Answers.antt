@@ -1,6 +1,6 @@
-use Rattle.std.proofs.Common.{refl, subst, sym}
+use Rattle.std.proofs.Common.{subst, sym}
 use Rattle.cache_engine.specs.Putting.{HasPlaceFor}
-use Rattle.cache_engine.proofs.TakeLaws.{not_gathered, place_for, place_within, room_alone, taken}
+use Rattle.cache_engine.proofs.TakeLaws.{not_gathered, place_for, place_within}
 use Rattle.cache_engine.proofs.tier.Tier.take_matching.Goals as goal
 
 pub returns-in-Err : goal.returns-in-Err
