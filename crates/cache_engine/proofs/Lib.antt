@@ -10,6 +10,7 @@ pub mod FreshLaws
 pub mod GroupComes
 pub mod GroupRows
 pub mod GroupingLaws
+pub mod LoadedLaws
 pub mod NamedLaws
 pub mod NamingLaws
 pub mod OthersLaws
@@ -29,5 +30,6 @@ pub mod StoreChanges
 pub mod StoreForms
 pub mod StoreRows
 pub mod TablingLaws
+pub mod TriedLaws
 pub mod VerifyLaws
 pub mod WritingLaws

@@ -4,10 +4,11 @@ pub mod Committing
 pub mod Defining
 pub mod Draining
 pub mod Due
-pub mod Naming
 pub mod Filling
 pub mod Fresh
 pub mod Grouping
+pub mod Loaded
+pub mod Naming
 pub mod Performing
 pub mod Refreshing
 pub mod Refusing
