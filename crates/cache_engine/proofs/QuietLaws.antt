@@ -133,6 +133,9 @@ refused_quietly new site fault part w refused.Memory broken at is = wanting new 
 pub stands_over : (old new : Stored) (w : World) → new ≡ record old { verified = new.verified } → StandsFor old w → StandsFor new w
 stands_over old new w same is = subst (λ t. StandsFor t w) (sym same) (stands_noted old new.verified w is)
 
+pub session_over : (old new : Stored) (id : SessionId) (s : Session) → new ≡ record old { verified = new.verified } → HasSession old id s → HasSession new id s
+session_over old new id s same has = subst (λ t. HasSession t id s) (sym same) (session_noted old new.verified id s has)
+
 pub unverified : (old new : Stored) (site : SiteView) (id : SessionId) (st : Stmt) → new ≡ record old { verified = new.verified } → PerformsIn old new site site id (Executes st) (Err refused.Memory)
 unverified old new site id st same = λ s has w at is unshared.
     wanting new site (λ w w' reply. Unless (refusal w.tier s st) (DoesStatement s st) w w' reply) w at (stands_over old new w same is)

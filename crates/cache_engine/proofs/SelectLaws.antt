@@ -49,7 +49,7 @@ use Rattle.cache_engine.specs.Stored.{HasSession, IsSound, IsStoredAs, IsVerifie
 
 -- which tables are cached
 
-any_map : {A B : Type 0} (p : B → Bool) (f : A → B) (xs : List A) → list_any p (map f xs) ≡ list_any (λ x. p (f x)) xs
+pub any_map : {A B : Type 0} (p : B → Bool) (f : A → B) (xs : List A) → list_any p (map f xs) ≡ list_any (λ x. p (f x)) xs
 any_map p f [] = refl
 any_map p f (x ∷ xs) = ap (λ b. p (f x) || b) (any_map p f xs)
 
@@ -137,7 +137,7 @@ over_false : {A : Type 0} (p : A → Bool) (xs : List A) (place : Option ℕ) (x
 over_false p xs None x none is = cc
 over_false p xs (Some i) x none is = got_false p xs i x none is
 
-nothing_wanted : (a : Tier) (history : List Entry) (want : Option Want) → HasNoDynamic a → loaded_want history a want ≡ None
+pub nothing_wanted : (a : Tier) (history : List Entry) (want : Option Want) → HasNoDynamic a → loaded_want history a want ≡ None
 nothing_wanted a history None none = refl
 nothing_wanted a history (Some want) none = by (group_over a.groups want.table) refl
   where
@@ -149,7 +149,7 @@ nothing_wanted a history (Some want) none = by (group_over a.groups want.table) 
 
 -- which keys were used isn't stored
 
-used_kept : (o : Option (List Value)) (g : Group) → without_list (used_root o g) ≡ without_list g
+pub used_kept : (o : Option (List Value)) (g : Group) → without_list (used_root o g) ≡ without_list g
 used_kept None g = refl
 used_kept (Some root) g = refl
 

@@ -1,6 +1,6 @@
 -- What a request line does, by its bytes. (This project's rule.)
 
-use Rattle.std.specs.Prelude.{◌≡◌, ◌≤◌, ℕ, nat_lt, List, [], ◌∷◌, Bool, Option, Some, None, length}
+use Rattle.std.specs.Prelude.{◌≡◌, ◌⊎◌, ◌≤◌, ℕ, nat_lt, List, [], ◌∷◌, Bool, false, Option, Some, None, length}
 use Rattle.std.specs.Bool.{MatchBool}
 use Rattle.tier_base.specs.declared.code.Code.TheVariants as code
 use Rattle.tier_base.specs.declared.limit.Limit.TheVariants as limit
@@ -8,7 +8,7 @@ use Rattle.tier_base.specs.Limits.{greatest}
 use Rattle.sql_subset.specs.Lines as line
 use Rattle.cache_tier.specs.declared.reply.Reply.{Reply}
 use Rattle.cache_tier.specs.Steps.{Rose, Saying, Silent, Says, Step, TooDeep, TooLong, WrongAt, faults_in}
-use Rattle.cache_tier.specs.Worlds.{World}
+use Rattle.cache_tier.specs.Worlds.{World, faulty}
 use Rattle.cache_engine.specs.Performing.{KeepsSlots}
 use Rattle.cache_engine.specs.Sites.{SiteView}
 
@@ -30,9 +30,18 @@ IsHeard bytes said = (saying : line.Saying) × line.Means bytes saying × (said 
 abbrev pub IsSaid : List ℕ → Saying → Type 0
 IsSaid bytes said = MatchBool (is_long bytes) (said ≡ TooLong) (IsHeard bytes said)
 
--- one line, whose moment is counted from this base
+-- Memory was wanting to read the line, which is neither silent nor too long: nothing is done.
+pub record IsUnread (bytes : List ℕ) (w w' : World) (reply : Option Reply) : Type 0 where
+  pub short : is_long bytes ≡ false
+  pub speaks : line.is_silent bytes ≡ false
+  pub same : w' ≡ w
+  pub wants : reply ≡ Some (faulty code.Memory)
+
+-- One line, whose moment is counted from this base. What an unread one says isn't known; its step is that of each line
+-- that isn't silent.
 abbrev pub LineStep : ℕ → World → List ℕ → World → Option Reply → Type 0
-LineStep base w bytes w' reply = (said : Saying) × IsSaid bytes said × Step base w said w' reply
+LineStep base w bytes w' reply =
+    (said : Saying) × (IsSaid bytes said ⊎ IsUnread bytes w w' reply) × Step base w said w' reply
 
 -- a line's bytes, and the base of its moment
 pub record Given : Type 0 where

@@ -40,7 +40,6 @@ impl Tier {
             (seen_at (P.Disk.held site.new) (P.bank_faults site.new) (P.Disk.moment site.new) (P.Disk.shared site.new))
             (reply_of result) }
     {
-        let _ = (&alloc, &site, &id, &call);
         Err(Refused::Memory)
     }
 }

@@ -65,7 +65,7 @@ impl Tier {
 }
 
 // 119 of a limit.
-fn past(limit: Limit) -> Refused
+pub(crate) fn past(limit: Limit) -> Refused
     ensures { result ≡ refused.Rule (past limit) }
 {
     Refused::Rule(Rule {

@@ -8,17 +8,12 @@ use std::alloc::{AllocError, Global};
 use tier_base::{Moment, Seq};
 
 /// What became of the work that was due.
+#[derive(Drop)]
 pub struct Due {
     /// What is told of it, in its order.
     pub notes: Seq<Note>,
     /// The reply with which it ended the line.
     pub stop: Option<Reply>,
-}
-
-impl Drop for Due {
-    fn drop(self) {
-        let Self { notes: _, stop: _ } = self;
-    }
 }
 
 impl Tier {
@@ -54,7 +49,6 @@ impl Tier {
             (seen_at (P.Disk.held site.old) (P.bank_faults site.old) (P.Disk.moment site.old) (P.Disk.shared site.old))
             (seen_at (P.Disk.held site.new) (P.bank_faults site.new) (P.Disk.moment site.new) (P.Disk.shared site.new))) }
     {
-        let _ = (&alloc, &site, &base, &line);
         Err(AllocError)
     }
 }

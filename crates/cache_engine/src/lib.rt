@@ -1,6 +1,7 @@
 //! The tier as it is stored: parts that are kept, and one method for each statement.
 #![tactic(auto)]
 
+mod aiming;
 pub mod altering;
 pub mod beginning;
 pub mod calling;
@@ -15,9 +16,18 @@ pub mod due;
 mod filling;
 mod fresh;
 mod grouping;
+pub mod early;
+mod filling;
+mod fresh;
+mod grouping;
+mod holding;
+mod growing;
+mod gathering;
 pub mod loading;
 pub mod loading_whole;
+mod loading_written;
 mod naming;
+pub mod preparing;
 pub mod query;
 mod refreshing;
 pub mod request;
@@ -25,7 +35,9 @@ pub mod resting;
 pub mod schema;
 pub mod serving;
 pub mod session;
+pub mod statement;
 pub mod tier;
+pub mod undone;
 pub mod unloading;
 mod verifying;
 pub mod writing;

@@ -1,9 +1,16 @@
 //! LOAD and REFRESH of cache groups.
 
+ghost use Rattle.std.specs.Prelude.{◌≡◌, true};
 ghost use Rattle.sql_subset.specs.declared.stmt.Stmt.TheVariants as statement;
+ghost use Rattle.cache_tier.specs.Groups.{is_read_only, is_writethrough};
+ghost use Rattle.cache_tier.specs.Rounds.{RoundIfUnsettled};
+ghost use Rattle.cache_tier.specs.Targets.{Target};
+ghost use Rattle.cache_tier.specs.Worlds.{Then, Tries};
 
+use crate::aiming::Aim;
 use crate::tier::Tier;
 use cache_tier::reply::Reply;
+use group_catalog::ResolvedWhich;
 use outside::Site;
 use row_types::Refused;
 use sql_subset::stmt::Load;
@@ -14,6 +21,7 @@ impl Tier {
     ghost use Rattle.cache_engine.specs.Performing.{Executes, IsCaused, PerformsIn, reply_of};
     ghost use Rattle.cache_engine.specs.Sites.{seen_at};
     ghost use Rattle.cache_engine.specs.Stored.{IsSound};
+    ghost use Rattle.cache_engine.specs.Taking.{IsGroupAt, IsOfTarget, LoadsTarget, PerformsWhere, ReadsMatching};
 
     /// LOAD CACHE GROUP. A READONLY group shows its view, and its set is refreshed with it; PAUSED becomes ON. A
     /// writethrough group gains the instances that match; what is unsettled is applied at the bank first. The reply tells
@@ -40,8 +48,8 @@ impl Tier {
             (seen_at (P.Disk.held site.new) (P.bank_faults site.new) (P.Disk.moment site.new) (P.Disk.shared site.new))
             (reply_of result) }
     {
-        let _ = (&alloc, &site, &id, &load);
-        Err(Refused::Memory)
+        let aim = self.aim(alloc, id, load, false)?;
+        self.load_aimed(alloc, site, &aim, false)
     }
 
     /// REFRESH CACHE GROUP. A READONLY group that is PAUSED is loaded anew and becomes ON. A writethrough group gains the
@@ -68,7 +76,62 @@ impl Tier {
             (seen_at (P.Disk.held site.new) (P.bank_faults site.new) (P.Disk.moment site.new) (P.Disk.shared site.new))
             (reply_of result) }
     {
-        let _ = (&alloc, &site, &id, &load);
-        Err(Refused::Memory)
+        let aim = self.aim(alloc, id, load, true)?;
+        self.load_aimed(alloc, site, &aim, true)
+    }
+
+    // What LOAD does, or REFRESH, once its group is found and nothing refuses it.
+    fn load_aimed<P: Site>(
+        &mut self,
+        alloc: Global,
+        site: &mut P,
+        aim: &Aim,
+        refreshes: bool,
+    ) -> Result<Reply, Refused>
+        requires sound { IsSound self.old }
+        ensures loads { (x : Target) → IsOfTarget x aim.now.place aim.now.which
+            → is_read_only x.group ≡ aim.now.read_only
+            → PerformsWhere (IsGroupAt aim.now.place x.group) self.old self.new
+            (seen_at (P.Disk.held site.old) (P.bank_faults site.old) (P.Disk.moment site.old) (P.Disk.shared site.old))
+            (seen_at (P.Disk.held site.new) (P.bank_faults site.new) (P.Disk.moment site.new) (P.Disk.shared site.new))
+            (λ w w'. Tries (LoadsTarget refreshes x) w w' (reply_of result)) }
+        ensures sound { IsSound self.new }
+        ensures cause { IsCaused
+            (seen_at (P.Disk.held site.old) (P.bank_faults site.old) (P.Disk.moment site.old) (P.Disk.shared site.old))
+            (seen_at (P.Disk.held site.new) (P.bank_faults site.new) (P.Disk.moment site.new) (P.Disk.shared site.new))
+            (reply_of result) }
+    {
+        if aim.read_only {
+            self.load_whole(alloc, site, aim.place)
+        } else {
+            self.load_behind(alloc, site, aim.place, &aim.which, refreshes)
+        }
+    }
+
+    // The same of a writethrough group: what is unsettled is applied first.
+    fn load_behind<P: Site>(
+        &mut self,
+        alloc: Global,
+        site: &mut P,
+        place: usize,
+        which: &ResolvedWhich,
+        refreshes: bool,
+    ) -> Result<Reply, Refused>
+        requires sound { IsSound self.old }
+        ensures reads { (x : Target) → IsOfTarget x place which.now → is_writethrough x.group ≡ true
+            → PerformsWhere (IsGroupAt place x.group) self.old self.new
+            (seen_at (P.Disk.held site.old) (P.bank_faults site.old) (P.Disk.moment site.old) (P.Disk.shared site.old))
+            (seen_at (P.Disk.held site.new) (P.bank_faults site.new) (P.Disk.moment site.new) (P.Disk.shared site.new))
+            (λ w w'. Then RoundIfUnsettled (ReadsMatching refreshes x) w w' (reply_of result)) }
+        ensures sound { IsSound self.new }
+        ensures cause { IsCaused
+            (seen_at (P.Disk.held site.old) (P.bank_faults site.old) (P.Disk.moment site.old) (P.Disk.shared site.old))
+            (seen_at (P.Disk.held site.new) (P.bank_faults site.new) (P.Disk.moment site.new) (P.Disk.shared site.new))
+            (reply_of result) }
+    {
+        match self.settle_pending(alloc, site) {
+            Err(reply) => Ok(reply),
+            Ok(()) => self.load_written(alloc, site, place, which, refreshes),
+        }
     }
 }

@@ -1,15 +1,30 @@
 //! One request line.
 
+ghost use Rattle.std.specs.Prelude.{◌≡◌, Some, false};
+ghost use Rattle.cache_tier.specs.Rules.{wrong_at};
+ghost use Rattle.row_types.specs.declared.rule.Refused.TheVariants as refused;
+ghost use Rattle.cache_tier.specs.Steps.{Heeds, Says, with_notes};
+ghost use Rattle.cache_tier.specs.Undone.{is_undone};
+ghost use Rattle.cache_engine.specs.Serving.{misread};
+
+use crate::commit::past;
+use crate::due::Due;
 use crate::tier::Tier;
-use cache_tier::reply::Reply;
+use crate::undone::is_undone;
+use cache_tier::heeding::heed_law;
+use cache_tier::reply::{Note, Reply};
 use outside::Site;
+use row_types::{Detail, Refused, Rule};
+use sql_subset::line::parse_line;
+use sql_subset::request::{Line, ParseError};
 use std::alloc::Global;
-use tier_base::{Code, Moment};
-use tier_statements::faulty;
+use tier_base::{Code, Limit, Moment, Seq};
+use tier_statements::{faulty, refuse};
 
 impl Tier {
     ghost use Rattle.cache_engine.specs.Performing.{Performs};
     ghost use Rattle.cache_engine.specs.Requests.{IsLineCaused, LineStep};
+    ghost use Rattle.cache_engine.specs.Serving.{WorksAndAnswers};
     ghost use Rattle.cache_engine.specs.Sites.{seen_at};
     ghost use Rattle.cache_engine.specs.Stored.{IsSound};
 
@@ -39,7 +54,94 @@ impl Tier {
             (seen_at (P.Disk.held site.new) (P.bank_faults site.new) (P.Disk.moment site.new) (P.Disk.shared site.new))
             result }
     {
-        let _ = (&site, &base, &line);
-        Some(faulty(alloc, Code::Memory))
+        heed_law();
+        if Limit::Line.number() < line.len() as u64 {
+            return Some(refuse(alloc, past(Limit::Line)));
+        }
+        match parse_line(alloc, line) {
+            Ok(None) => None,
+            Ok(Some(line)) => Some(self.heed(alloc, site, base, line)),
+            Err(error) => Some(refuse(alloc, misread(error))),
+        }
     }
+
+    // Answers a line that is read: 101 at byte 0 where it isn't done yet, then what the second place of the order refuses.
+    fn heed<P: Site>(&mut self, alloc: Global, site: &mut P, base: Moment, line: Line) -> Reply
+        requires { IsSound self.old }
+        ensures performs { Performs self.old self.new
+            (seen_at (P.Disk.held site.old) (P.bank_faults site.old) (P.Disk.moment site.old) (P.Disk.shared site.old))
+            (seen_at (P.Disk.held site.new) (P.bank_faults site.new) (P.Disk.moment site.new) (P.Disk.shared site.new))
+            (λ w w'. Heeds base.0 (Says line) w w' result) }
+        ensures sound { IsSound self.new }
+        ensures cause { IsLineCaused
+            (seen_at (P.Disk.held site.old) (P.bank_faults site.old) (P.Disk.moment site.old) (P.Disk.shared site.old))
+            (seen_at (P.Disk.held site.new) (P.bank_faults site.new) (P.Disk.moment site.new) (P.Disk.shared site.new))
+            (Some result) }
+    {
+        if is_undone(&line) {
+            return refuse(alloc, wrong_at(0));
+        }
+        match self.judge_early(alloc, base, &line) {
+            Err(refused) => refuse(alloc, refused),
+            Ok(()) => self.work_and_answer(alloc, site, base, line),
+        }
+    }
+
+    // The work that is due, and then the line, unless the work ended it. What the work tells stands before the reply.
+    fn work_and_answer<P: Site>(
+        &mut self,
+        alloc: Global,
+        site: &mut P,
+        base: Moment,
+        line: Line,
+    ) -> Reply
+        requires sound { IsSound self.old }
+        requires done { is_undone line ≡ false }
+        ensures performs { Performs self.old self.new
+            (seen_at (P.Disk.held site.old) (P.bank_faults site.old) (P.Disk.moment site.old) (P.Disk.shared site.old))
+            (seen_at (P.Disk.held site.new) (P.bank_faults site.new) (P.Disk.moment site.new) (P.Disk.shared site.new))
+            (λ w w'. WorksAndAnswers base.0 line w w' result) }
+        ensures sound { IsSound self.new }
+        ensures cause { IsLineCaused
+            (seen_at (P.Disk.held site.old) (P.bank_faults site.old) (P.Disk.moment site.old) (P.Disk.shared site.old))
+            (seen_at (P.Disk.held site.new) (P.bank_faults site.new) (P.Disk.moment site.new) (P.Disk.shared site.new))
+            (Some result) }
+    {
+        let Ok(Due { notes, stop }) = self.begin_line(alloc, site, base, &line) else {
+            return faulty(alloc, Code::Memory);
+        };
+        match stop {
+            Some(reply) => with_notes(notes, reply),
+            None => with_notes(notes, self.answer_line(alloc, site, line)),
+        }
+    }
+}
+
+// Why a line isn't read.
+fn misread(error: ParseError) -> Refused
+    ensures { result ≡ misread error }
+{
+    match error {
+        ParseError::At(place) => wrong_at(place),
+        ParseError::Depth => past(Limit::Depth),
+        ParseError::Memory => Refused::Memory,
+    }
+}
+
+// 101 at a byte.
+fn wrong_at(place: usize) -> Refused
+    ensures { result ≡ refused.Rule (wrong_at place) }
+{
+    Refused::Rule(Rule {
+        code: Code::Syntax,
+        detail: Detail::Byte(place as u64),
+    })
+}
+
+// The notes before the reply.
+fn with_notes(notes: Seq<Note>, mut reply: Reply) -> Reply
+    ensures { result ≡ with_notes notes reply }
+{
+    reply.notes = notes;
+    reply
 }

@@ -63,7 +63,6 @@ impl Tier {
         ensures sound { IsSound self.new }
         ensures calm { IsCalm (reply_of result) }
     {
-        let _ = (&alloc, &id);
         Err(Refused::Memory)
     }
 

@@ -109,7 +109,7 @@ impl Tier {
 }
 
 // The refusal with a label. Its own error is want of memory.
-fn refuse_label(alloc: Global, code: Code, label: &Label) -> Result<Refused, AllocError>
+pub(crate) fn refuse_label(alloc: Global, code: Code, label: &Label) -> Result<Refused, AllocError>
     ensures { IfOk result (λ error. error ≡ refused.Rule (labelled code label.now)) }
 {
     let label = label.copied(alloc)?;

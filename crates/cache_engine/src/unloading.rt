@@ -31,7 +31,6 @@ impl Tier {
         ensures sound { IsSound self.new }
         ensures calm { IsCalm (reply_of result) }
     {
-        let _ = (&alloc, &id, &unload);
         Err(Refused::Memory)
     }
 }

@@ -1,17 +1,28 @@
 //! INSERT, UPDATE and DELETE of a session.
 
+ghost use Rattle.std.specs.Prelude.{◌≡◌};
+ghost use Rattle.std.specs.List.{list_all};
 ghost use Rattle.sql_subset.specs.declared.stmt.Stmt.TheVariants as statement;
+ghost use Rattle.transactions.specs.Transactions.{rows_in};
+ghost use Rattle.cache_engine.specs.Changing.{is_change};
 
+use crate::preparing::Prepared;
 use crate::tier::Tier;
+use cache_tier::laws::tier_law;
 use cache_tier::reply::Reply;
+use open_sessions::laws::label_law;
 use outside::Site;
 use row_types::Refused;
 use sql_query::Write;
 use std::alloc::Global;
-use tier_base::SessionId;
+use table_state::Op;
+use tier_base::{SessionId, TableId};
+use tier_laws::use_shown_law;
+use tier_statements::done;
 
 impl Tier {
-    ghost use Rattle.cache_engine.specs.Performing.{Executes, IsCaused, PerformsIn, reply_of};
+    ghost use Rattle.cache_engine.specs.Changing.{Changed, IsUnbroken};
+    ghost use Rattle.cache_engine.specs.Performing.{Executes, IsCalm, IsCaused, PerformsIn, reply_of};
     ghost use Rattle.cache_engine.specs.Sites.{seen_at};
     ghost use Rattle.cache_engine.specs.Stored.{IsSound};
 
@@ -41,7 +52,61 @@ impl Tier {
             (seen_at (P.Disk.held site.new) (P.bank_faults site.new) (P.Disk.moment site.new) (P.Disk.shared site.new))
             (reply_of result) }
     {
-        let _ = (&alloc, &site, &id, &write);
-        Err(Refused::Memory)
+        tier_law();
+        label_law();
+        use_shown_law();
+        match self.verify(alloc) {
+            Err(_) => Err(Refused::Memory),
+            Ok(()) => match self.prepare(alloc, id, write) {
+                Err(refused) => Err(refused),
+                Ok(prepared) => {
+                    if are_changes(prepared.ops.as_slice()) {
+                        self.change(alloc, id, prepared)
+                    } else {
+                        let _ = site;
+                        Err(Refused::Memory)
+                    }
+                }
+            },
+        }
+    }
+
+    // UPDATE and DELETE: the operations go behind the session's own.
+    fn change(&mut self, alloc: Global, id: SessionId, prepared: Prepared) -> Result<Reply, Refused>
+        requires sound { IsSound self.old }
+        requires unbroken { IsUnbroken self.old id prepared.ops }
+        ensures changed { Changed self.old self.new id prepared result }
+        ensures sound { IsSound self.new }
+        ensures calm { IsCalm (reply_of result) }
+    {
+        let rows = rows_in(prepared.table, prepared.ops.as_slice());
+        match self.hold(alloc, id, prepared.ops) {
+            Err(_) => Err(Refused::Memory),
+            Ok(()) => Ok(done(alloc, rows as u64)),
+        }
+    }
+}
+
+// How many of the operations are on a table.
+fn rows_in(table: TableId, ops: &[Op]) -> usize
+    ensures { result ≡ rows_in table ops.now }
+{
+    ops.iter().filter(|op| op.table().0 == table.0).count()
+}
+
+// Whether no operation inserts a row.
+fn are_changes(ops: &[Op]) -> bool
+    ensures { result ≡ list_all is_change ops.now }
+{
+    ops.iter().all(|op| is_change(op))
+}
+
+fn is_change(op: &Op) -> bool
+    ensures { result ≡ is_change op.now }
+{
+    match op {
+        Op::Insert(_, _) => false,
+        Op::Update(_, _, _) => true,
+        Op::Delete(_, _) => true,
     }
 }

@@ -51,6 +51,7 @@ use Rattle.cache_tier.specs.DoubtSteps.{AsksRecorded, SettlesDoubt, TellsRecorde
 use Rattle.cache_tier.specs.DropSteps.{DropsAt, DropsGroup, DropsRest, drop_answer}
 use Rattle.cache_tier.specs.DueWork.{DueAging, DueDoubt, DueRound, DueSets, DueSetsOf, DueWork, Item, ItemFollows, ThenItem, due_sets, is_round_due}
 use Rattle.cache_tier.specs.DynamicLoads.{Brings, BringsAt, BringsInto, BringsReadOnly, BringsWritethrough, LoadsWanted, joined_tier, state_entries}
+use Rattle.cache_tier.specs.Heeding.{HeedLeads}
 use Rattle.cache_tier.specs.GoesOn.{IsLonger, LeadsTo, RunKeepsJournal, RunLeads, StepKeepsJournal, StepLeads}
 use Rattle.cache_tier.specs.Groups.{Group, is_explicit, is_read_only, is_writethrough}
 use Rattle.cache_tier.specs.InsertSteps.{Finds, Inserts, insert_answer, insert_fault}
@@ -485,6 +486,9 @@ heeds_leads base (Says l) w w' reply q =
 heeds_leads base (WrongAt place) w w' reply q = tries_leads _ (refuses_leads _) w w' reply q
 heeds_leads base TooDeep w w' reply q = tries_leads _ (refuses_leads _) w w' reply q
 heeds_leads base TooLong w w' reply q = refuses_leads _ w w' reply q
+
+pub heed_leads : HeedLeads
+heed_leads base w w' said reply q = heeds_leads base said w w' reply q
 
 pub step_leads : StepLeads
 step_leads base w w' said None q = same w w' q.1

@@ -18,6 +18,7 @@ pub mod Facts
 pub mod FirstRun
 pub mod GoesOn
 pub mod Groups
+pub mod Heeding
 pub mod InsertSteps
 pub mod JournalSteps
 pub mod Journals

@@ -1,3 +1,3 @@
 mod GrownLaws
-mod LookupLaws
+pub mod LookupLaws
 mod SessionLaws

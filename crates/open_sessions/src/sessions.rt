@@ -1,6 +1,6 @@
 //! The list of open sessions.
 
-ghost use Rattle.std.specs.Prelude.{◌≡◌, ◌≤◌, ◌<◌, ◌++◌, ◌∷◌, All, List, [], Some, None, true, false, find, IfOk, IfErr, MatchOption, OnErr, OnOk, length, map, nat_eq, position};
+ghost use Rattle.std.specs.Prelude.{◌≡◌, ◌≤◌, ◌<◌, ◌++◌, ◌∷◌, All, List, [], Some, None, true, false, find, IfOk, IfErr, MatchOption, OnErr, OnOk, length, map, nat_eq, nat_le, position};
 ghost use Rattle.std.specs.List.{list_any};
 ghost use Rattle.std.specs.Option.{option_copied, option_map};
 ghost use Rattle.table_defs.specs.declared.definition.TableDef.{TableDef as Def};
@@ -10,6 +10,7 @@ ghost use Rattle.session_state.specs.Kept.{IsKept, are_defined, seen_of};
 ghost use Rattle.session_state.specs.Locks.{holder_of, keeper};
 ghost use Rattle.session_state.specs.Sessions.{at_rest, level_of, with_flag, with_ops};
 ghost use Rattle.tier_base.specs.declared.limit.Limit.TheVariants.{Operations};
+ghost use Rattle.tier_base.specs.declared.limit.Limit.TheVariants as limit;
 ghost use Rattle.tier_base.specs.Limits.{greatest};
 ghost use Rattle.open_sessions.specs.Lookups.{has_label, of_label, of_number, open_ops, room_of};
 
@@ -112,6 +113,13 @@ impl Sessions {
                 Ok(id)
             }
         }
+    }
+
+    /// Whether as many sessions are open as may be. It takes no memory.
+    pub fn is_full(&self) -> bool
+        ensures { result ≡ nat_le (greatest limit.Sessions) (length (seen_all self.now)) }
+    {
+        LIMIT <= self.open.len()
     }
 
     fn push(&mut self, session: Session) -> Result<(), AllocError>

@@ -1,8 +1,7 @@
 -- The pieces of the input, from the first to the last.
-use Rattle.std.proofs.Common.{◌≡◌, ◌⊎◌, subst, ℕ, min, ◌+◌, ◌-◌, ◌≤◌, ◌<◌, List, [], ◌∷◌, ◌++◌, length, take, drop, Option, Some, None, Result, Ok, Err, refl, sym, ◌∙◌, ap, append-nil, append_assoc, inl, inr, arith, take-append-drop}
+use Rattle.std.proofs.Common.{◌≡◌, ◌⊎◌, subst, ℕ, min, ◌+◌, ◌-◌, ◌≤◌, ◌<◌, List, [], ◌++◌, length, take, drop, Option, Some, None, refl, sym, ◌∙◌, ap, append-nil, append_assoc, inl, inr, arith, take-append-drop}
 use Rattle.std.specs.Io.KnownBytes.{Consumes, IsAtEnd, Keeps}
 use Rattle.std.proofs.lemmas.List.{length-append, length-take, length-drop}
-use Rattle.outside.specs.Holding.{Held}
 use Rattle.cache_tier.specs.TierStates.{Settings as TierSettings}
 use Rattle.cache_engine.specs.Beginning.{BeginsAt}
 use Rattle.command_line.specs.declared.settings.ClockSource.{ClockSource}
@@ -12,8 +11,8 @@ use Rattle.session_cli.specs.declared.session.Session.{Session}
 use Rattle.session_cli.specs.declared.serving.Status.{Status}
 use Rattle.session_cli.specs.declared.serving.Status.TheVariants.{Finished, SourceFailed, SinkFailed, SchemaFailed, NoMemory, LineUnchecked, InputTooLong}
 use Rattle.session_cli.specs.Cutting.{ended_lines, all_lines}
-use Rattle.session_cli.specs.Ends.{Ended, Gives, OpenedAndEnded, Outcome, Runs, Serves, Taken, Untouched}
-use Rattle.session_cli.specs.Opening.{HasNoTickets, Opened, Opens, begins}
+use Rattle.session_cli.specs.Ends.{Ended, Gives, Outcome, Runs, Serves, Taken, Untouched}
+use Rattle.session_cli.specs.Opening.{Opens, begins}
 use Rattle.session_cli.specs.Outside.{Outside}
 use Rattle.session_cli.specs.Serving.{Origin, Serving, Whole, CutShort, IsLeftAlone}
 use Rattle.session_cli.specs.Timing.{Coming, bases_by, bases_of}

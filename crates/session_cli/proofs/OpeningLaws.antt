@@ -1,11 +1,10 @@
 -- The opening of a run.
-use Rattle.std.proofs.Common.{◌≡◌, ◌||◌, ℕ, zero, suc, Bool, true, false, List, [], ◌∷◌, ◌++◌, Option, Some, None, Ok, Err, refl, sym, ◌∙◌, ap, arith, subst, append-nil, append_assoc, lit≤}
+use Rattle.std.proofs.Common.{◌≡◌, ◌||◌, ℕ, Bool, true, false, List, [], ◌∷◌, ◌++◌, Option, Some, None, Ok, refl, sym, ◌∙◌, ap, arith, subst, append-nil, append_assoc, lit≤}
 use Rattle.std.specs.Option.{IsSome}
 use Rattle.tier_base.specs.declared.number.Moment.{Moment}
 use Rattle.tier_base.specs.declared.number.TableId.{TableId}
 use Rattle.table_state.specs.declared.history.Entry.{Entry}
 use Rattle.table_state.specs.declared.history.Entry.TheVariants.{Definition, Foreign, Own}
-use Rattle.table_state.specs.declared.operation.Op.{Op}
 use Rattle.table_state.specs.Histories.{has_ticket, is_of, state_of}
 use Rattle.table_state.specs.Tables.{TableState}
 use Rattle.table_state.proofs.HistoryLaws.{has_ticket-append}
@@ -15,9 +14,9 @@ use Rattle.order_laws.specs.Commits.{Once}
 use Rattle.order_laws.specs.Steps.{MayBegin}
 use Rattle.cache_tier.specs.TierStates.{Settings as TierSettings}
 use Rattle.cache_engine.specs.declared.tier.Tier.{Tier}
-use Rattle.cache_engine.specs.Beginning.{Begins, BeginsAt, OthersCame}
-use Rattle.cache_engine.specs.Performing.{KeepsSlots, StandsFor}
-use Rattle.cache_engine.specs.Sites.{IsAt, SiteView}
+use Rattle.cache_engine.specs.Beginning.{Begins, BeginsAt}
+use Rattle.cache_engine.specs.Performing.{KeepsSlots}
+use Rattle.cache_engine.specs.Sites.{SiteView}
 use Rattle.session_cli.specs.declared.session.Session.{Session}
 use Rattle.session_cli.specs.Opening.{HasNoTickets, IsNew, Opened, Opens, begins, world_at}
 use Rattle.session_cli.specs.Outside.{Outside}

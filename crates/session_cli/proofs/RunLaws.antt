@@ -1,5 +1,5 @@
 -- A run goes on by a line.
-use Rattle.std.proofs.Common.{◌≡◌, ℕ, ◌+◌, List, [], ◌∷◌, ◌++◌, Bool, true, false, Option, Some, None, refl, sym, ◌∙◌, ap, arith, subst}
+use Rattle.std.proofs.Common.{◌≡◌, ℕ, ◌+◌, List, [], ◌∷◌, ◌++◌, Bool, true, false, Option, refl, ◌∙◌, ap, arith, subst}
 use Rattle.std.specs.Bool.{MatchBool}
 use Rattle.cache_tier.specs.MoreFacts.{FaultsAreCaused, RunIsCaused}
 use Rattle.cache_tier.specs.Steps.{Asked, Run}

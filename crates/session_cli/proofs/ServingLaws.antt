@@ -18,7 +18,6 @@ use Rattle.session_cli.specs.Cutting.{cut, front_of, text_of, ended_lines, all_l
 use Rattle.session_cli.specs.Outside.{Outside}
 use Rattle.session_cli.specs.Output.{Splits, Breaks, Passes}
 use Rattle.session_cli.specs.Serving.{Comes, IsLeftAlone, Origin, Responds, Serving, Answered, Whole, CutShort, Feeds, Finishes, Closing, Closes}
-use Rattle.session_cli.specs.Timing.{AreLeft}
 use Rattle.session_cli.proofs.CuttingLaws.{ended_push, rest_ended, ended_same, rest_push, front_push, front_short, text_front, take_one, take_within, all_ended, all_more}
 use Rattle.session_cli.proofs.OutputLaws.{splits_then, breaks_then}
 use Rattle.session_cli.proofs.RunLaws.{CameOn, comes_on}

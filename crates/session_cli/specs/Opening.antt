@@ -1,6 +1,6 @@
 -- The opening of a run.
 
-use Rattle.std.specs.Prelude.{◌≡◌, ℕ, List, ◌++◌, Option, Some, false}
+use Rattle.std.specs.Prelude.{◌≡◌, ℕ, List, ◌++◌, Some, false}
 use Rattle.table_state.specs.declared.history.Entry.{Entry}
 use Rattle.table_state.specs.Histories.{has_ticket, state_of}
 use Rattle.table_state.specs.Tables.{TableState}

@@ -1,8 +1,7 @@
 -- A run in the middle and at its end.
 
 use Rattle.std.specs.Prelude.{◌≡◌, ℕ, List, ◌++◌, Option, Some, Result, Ok, Err, length, map, take}
-use Rattle.table_state.specs.declared.history.Entry.{Entry}
-use Rattle.outside.specs.Holding.{Held, Slots}
+use Rattle.outside.specs.Holding.{Slots}
 use Rattle.order_laws.specs.Commits.{KeepsCommitOrder}
 use Rattle.cache_tier.specs.declared.reply.Reply.{Reply}
 use Rattle.cache_tier.specs.Replying.{reply_bytes, replies_bytes}

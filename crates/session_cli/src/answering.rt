@@ -1,6 +1,5 @@
 //! One request line and its reply.
 
-ghost use Rattle.std.specs.Prelude.{◌≡◌, ◌≤◌};
 ghost use Rattle.outside.specs.Faults.{HasCause};
 ghost use Rattle.cache_tier.specs.Worlds.{IsUnshared, World};
 ghost use Rattle.cache_engine.specs.Performing.{KeepsSlots, StandsFor};

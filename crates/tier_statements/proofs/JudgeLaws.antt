@@ -1,5 +1,5 @@
 -- Laws of operations that are judged one after the other.
-use Rattle.std.proofs.Common.{◌≡◌, ℕ, ◌+◌, ◌-◌, ◌<◌, ◌≤◌, ◌^◌, Option, Some, None, is_some, true, false, List, [], ◌∷◌, ◌++◌, length, take, drop, get_or, slice_get, refl, sym, ap, subst, ◌∙◌, arith}
+use Rattle.std.proofs.Common.{◌≡◌, ℕ, ◌+◌, ◌-◌, ◌<◌, ◌≤◌, ◌^◌, Option, Some, None, is_some, true, List, [], ◌∷◌, ◌++◌, length, take, drop, get_or, slice_get, refl, sym, ap, subst, ◌∙◌, arith}
 use Rattle.std.specs.Option.{option_and_then, option_or}
 use Rattle.std.proofs.lemmas.List.{drop_all, drop_more, take_more}
 use Rattle.std.proofs.lemmas.Option.{slice_get_within}
@@ -27,8 +27,6 @@ use Rattle.own_rows.proofs.RowsLaws.{fits, rows_none, sees}
 use Rattle.own_rows.specs.declared.steps.Step.{Step}
 use Rattle.own_rows.proofs.StepLaws.{as_many, room_less, steps_ready}
 use Rattle.table_scan.proofs.EmptyTables.{no_len}
-use Rattle.transactions.specs.Differing.{is_difference}
-use Rattle.row_types.specs.declared.value.Value.{Value}
 use Rattle.std.specs.List.{All}
 use Rattle.std.proofs.lemmas.List.Elements.{All-cons}
 use Rattle.tier_statements.specs.Judging.{AreSmall}
@@ -192,10 +190,6 @@ small_where s n whole le few t = by (slice_get s.tables t.0) refl
     by : (o : Option Table) → slice_get s.tables t.0 ≡ o → len (table_at s t) < 2 ^ 62
     by None is = let none = no_len (slice_get s.tables t.0) (sym is) in omega arith
     by (Some table) is = let within = slice_get_within s.tables t.0 table is in few t (omega arith)
-
--- a fault that isn't a difference is none, where a difference is all that was found
-pub no_fault : (f : Option ApplyError) (t : TableId) (key : List Value) (row : Option (List Value)) → IsFault f (error.Differs t key row) → is_difference f ≡ false → f ≡ None
-no_fault f t key row fault none = let e = ap is_difference fault in cc
 
 -- one step on own rows
 module _ (schema : List TableDef) (op : Op) (owns : List OwnRows) (steps : List (TableId × Step)) (ops : List Op) (ops_is : ops ≡ op ∷ []) (are : AreStepsOf schema ops steps) (wide : length owns ≡ length schema) where

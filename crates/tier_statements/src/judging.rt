@@ -1,6 +1,6 @@
 //! Whether a session's operations can be applied over what it sees.
 
-ghost use Rattle.std.specs.Prelude.{◌≡◌, ◌+◌, ◌++◌, ◌<◌, ℕ, List, [], ◌∷◌, IsTrue, None, OnOk, false, length};
+ghost use Rattle.std.specs.Prelude.{◌≡◌, ◌+◌, ◌++◌, ◌<◌, ℕ, List, [], ◌∷◌, IsTrue, None, OnOk, length};
 ghost use Rattle.table_defs.specs.Declarations.{Tells};
 ghost use Rattle.table_state.specs.Independence.{IsWhole};
 ghost use Rattle.table_state.specs.Refusals.{Judges, broken_by_all};
@@ -10,7 +10,6 @@ ghost use Rattle.table_scan.specs.Keyed.{IsKeyed};
 ghost use Rattle.own_rows.specs.Laying.{HaveRoom};
 ghost use Rattle.own_rows.specs.OwnTables.{AreRowsOf};
 ghost use Rattle.own_rows.specs.Overlays.{FitsOn, overlaid};
-ghost use Rattle.transactions.specs.Differing.{is_difference};
 ghost use Rattle.cache_tier.specs.Rules.{rule_of_apply};
 ghost use Rattle.tier_statements.specs.Judging.{AreSmall};
 
@@ -131,19 +130,18 @@ pub fn are_small<S: Scan>(scan: &S) -> bool
 
 /// The rule that keeps a session's operations from being applied over what it sees: 107, 108 or 109 of the first one
 /// that breaks one behind those before it; or memory was wanting. That a row isn't the one that an operation names is no
-/// rule of a statement: where each foreign key refers to an earlier table no operation of a write finds such a row, says
-/// `transactions::laws::difference_law`.
+/// rule of a statement, and is answered as want of memory: where each foreign key refers to an earlier table no operation
+/// of a write finds such a row, says `transactions::laws::difference_law`.
 pub fn apply_fault<S: Scan>(alloc: Global, scan: &S, ops: &[Op]) -> Result<(), Refused>
     requires whole { IsWhole (S.state scan.now) }
     requires keyed { IsKeyed (S.state scan.now) }
     ensures told { Tells result (rule_of_apply (broken_by_all ops.now (S.state scan.now))) }
-    ensures applies { OnOk result (is_difference (broken_by_all ops.now (S.state scan.now)) ≡ false
-        → broken_by_all ops.now (S.state scan.now) ≡ None) }
+    ensures applies { OnOk result (broken_by_all ops.now (S.state scan.now) ≡ None) }
 {
     match judge_ops(alloc, scan, ops) {
         Ok(()) => Ok(()),
         Err(ApplyError::Rule(rule)) => Err(Refused::Rule(rule)),
-        Err(ApplyError::Differs(_, _, _)) => Ok(()),
+        Err(ApplyError::Differs(_, _, _)) => Err(Refused::Memory),
         Err(ApplyError::Memory) => Err(Refused::Memory),
     }
 }

@@ -1,6 +1,6 @@
 //! What a session's write makes in the cache, before the bank is asked.
 
-ghost use Rattle.std.specs.Prelude.{◌≡◌, ℕ, List, All, IfOk, None, OnOk, false, length, map};
+ghost use Rattle.std.specs.Prelude.{◌≡◌, ℕ, List, All, IfOk, None, OnOk, length, map};
 ghost use Rattle.std.specs.List.{AllPairs};
 ghost use Rattle.table_defs.specs.Declarations.{Tells};
 ghost use Rattle.table_state.specs.Independence.{IsWhole};
@@ -9,7 +9,6 @@ ghost use Rattle.table_scan.specs.Keyed.{IsKeyed};
 ghost use Rattle.evaluator.specs.Rules.{Gives};
 ghost use Rattle.evaluator.specs.Writes.{effects_of};
 ghost use Rattle.session_state.specs.Kept.{IsKept, seen_of};
-ghost use Rattle.transactions.specs.Differing.{RefersBack, is_difference};
 ghost use Rattle.cache_tier.specs.InsertSteps.{has_key_in, taken};
 ghost use Rattle.cache_tier.specs.OwnWrites.{room_of};
 ghost use Rattle.cache_tier.specs.Rules.{broken_if};
@@ -27,7 +26,6 @@ use std::alloc::Global;
 use table_scan::Scan;
 use table_state::{Op, Ops};
 use tier_base::{Limit, SessionId, TableId};
-use transactions::laws::difference_law;
 
 /// The operations of a session's write over what the session sees, all tested that can be before the bank is asked: an
 /// INSERT is one operation, whose key isn't shown; those of an UPDATE and a DELETE can be applied one after the other.
@@ -50,10 +48,8 @@ pub fn prepare_write<S: Scan>(
     ensures prepared { (t : Tier) → HasSessions (S.state scan.now).schema (map seen_of sessions.now) t
         → IsNumberOf session.now.id session.now.label (map seen_of sessions.now)
         → Gives (prepared t (session_seen (seen_of session.now)) change.now (S.state scan.now)) result }
-    ensures applies { RefersBack (S.state scan.now).schema
-        → IfOk result (λ ops. inserted_row ops ≡ None → broken_by_all ops (S.state scan.now) ≡ None) }
+    ensures applies { IfOk result (λ ops. inserted_row ops ≡ None → broken_by_all ops (S.state scan.now) ≡ None) }
 {
-    difference_law();
     match session_effects(alloc, scan, session.ops.len(), change) {
         Err(refused) => Err(refused),
         Ok(ops) => match check_ops(alloc, scan, sessions, session.id, ops.as_slice()) {
@@ -96,7 +92,6 @@ fn check_ops<S: Scan>(
         → IsNumberOf id label (map seen_of sessions.now)
         → Tells result (write_refused_by label t (S.state scan.now) ops.now) }
     ensures applies { OnOk result (inserted_row ops.now ≡ None
-        → is_difference (broken_by_all ops.now (S.state scan.now)) ≡ false
         → broken_by_all ops.now (S.state scan.now) ≡ None) }
 {
     match lock_fault(alloc, sessions, scan.schema(), id, ops) {
@@ -112,7 +107,6 @@ fn check_shown<S: Scan>(alloc: Global, scan: &S, ops: &[Op]) -> Result<(), Refus
     ensures told { (t : Tier) → t.schema ≡ (S.state scan.now).schema
         → Tells result (shown_fault t (S.state scan.now) ops.now) }
     ensures applies { OnOk result (inserted_row ops.now ≡ None
-        → is_difference (broken_by_all ops.now (S.state scan.now)) ≡ false
         → broken_by_all ops.now (S.state scan.now) ≡ None) }
 {
     match ops.split_first() {

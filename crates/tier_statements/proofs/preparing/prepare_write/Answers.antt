@@ -1,9 +1,7 @@
-use Rattle.std.proofs.Common.{Err, None, false, subst, ◌≡◌, rules}
+use Rattle.std.proofs.Common.{Err, None, subst, ◌≡◌, rules}
 use Rattle.session_state.specs.Kept.{seen_of}
 use Rattle.table_state.specs.Refusals.{broken_by_all}
 use Rattle.table_defs.specs.Declarations.{Tells}
-use Rattle.cache_tier.specs.OwnWrites.{room_of}
-use Rattle.transactions.specs.Differing.{is_difference}
 use Rattle.tier_statements.specs.Preparing.{inserted_row, write_refused_by}
 use Rattle.tier_statements.specs.Seen.{session_seen}
 use Rattle.tier_statements.proofs.PrepareLaws.{no_effects, prepared_is, refused_by}
@@ -29,8 +27,6 @@ returns-in-Ok-check_ops-clause-prepared g c = λ t has are.
     (c.in-Ok-check_ops.ensures.told t c.args.session.now.label has are))
 
 pub returns-in-Ok-check_ops-clause-applies : goal.returns-in-Ok-check_ops-clause-applies
-returns-in-Ok-check_ops-clause-applies g c = λ back none.
-    subst (λ l. inserted_row l ≡ None → is_difference (broken_by_all l (g.S.Scan.state c.args.scan.now)) ≡ false → broken_by_all l (g.S.Scan.state c.args.scan.now) ≡ None)
-    c.as_slice.ensures c.in-Ok-check_ops.ensures.applies none
-    (c.difference_law.ensures.one (room_of (session_seen (seen_of c.args.session.now))) c.args.change.now (g.S.Scan.state c.args.scan.now) c.in-Ok.ops c.requires.keyed back
-    (c.in-Ok.ensures (session_seen (seen_of c.args.session.now)) (let e = c.len.ensures in search rules)))
+returns-in-Ok-check_ops-clause-applies g c =
+    subst (λ l. inserted_row l ≡ None → broken_by_all l (g.S.Scan.state c.args.scan.now) ≡ None) c.as_slice.ensures
+    c.in-Ok-check_ops.ensures.applies

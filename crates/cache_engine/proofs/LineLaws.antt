@@ -1,0 +1,269 @@
+-- How the parts of a line make its step.
+use Rattle.std.proofs.Common.{◌≡◌, ◌∙◌, ◌||◌, ℕ, Bool, true, false, cond, Option, Some, None, Result, Ok, Err, List, [], ◌∷◌, length, refl, sym, ap, subst, inl, inr, find}
+use Rattle.std.specs.Bool.{MatchBool}
+use Rattle.std.specs.List.{list_any}
+use Rattle.std.specs.Option.{option_or}
+use Rattle.tier_base.specs.declared.code.Code.TheVariants as code
+use Rattle.tier_base.specs.declared.limit.Limit.TheVariants as limit
+use Rattle.tier_base.specs.declared.number.SessionId.{SessionId}
+use Rattle.row_types.specs.declared.rule.Refused.{Refused}
+use Rattle.row_types.specs.declared.rule.Refused.TheVariants as refused
+use Rattle.row_types.specs.declared.rule.Rule.{Rule}
+use Rattle.table_defs.specs.Declarations.{IsRefusedBy}
+use Rattle.sql_subset.specs.declared.request.ConsoleRequest.{ConsoleRequest}
+use Rattle.sql_subset.specs.declared.request.Line.{Line}
+use Rattle.sql_subset.specs.declared.request.Line.TheVariants as says
+use Rattle.sql_subset.specs.declared.request.OpenOptions.{OpenOptions}
+use Rattle.sql_subset.specs.declared.request.Request.{Request}
+use Rattle.sql_subset.specs.declared.request.Request.TheVariants as asks_for
+use Rattle.sql_subset.specs.declared.stmt.Stmt.{Stmt}
+use Rattle.cache_tier.specs.declared.reply.Last.TheVariants.{Done, No}
+use Rattle.cache_tier.specs.declared.reply.Note.{Note}
+use Rattle.cache_tier.specs.declared.reply.Reply.{Reply}
+use Rattle.cache_tier.specs.ConsoleSteps.{AsksSchema, DoesConsole}
+use Rattle.cache_tier.specs.DueWork.{DueWork}
+use Rattle.cache_tier.specs.Rules.{at_limit, broken_if, labelled, wrong_at}
+use Rattle.cache_tier.specs.SessionSteps.{close_answer, open_answer, open_fault}
+use Rattle.cache_tier.specs.Steps.{Answered, Does, DoesRequest, ForSession, Heeds, Parts, Says, early_fault, session_fault, with_moment, with_notes}
+use Rattle.cache_tier.specs.TierStates.{Session, Tier, is_labelled, session_of}
+use Rattle.cache_tier.specs.Undone.{is_undone}
+use Rattle.cache_tier.specs.Worlds.{IsUnshared, Part, Quiet, Refuses, Then, Tries, Unless, World, faulty, only}
+use Rattle.tier_statements.specs.Replies.{reply_to}
+use Rattle.cache_engine.specs.declared.tier.Tier.{Tier as Stored}
+use Rattle.cache_engine.specs.Answering.{IsSessionOf}
+use Rattle.cache_engine.specs.Performing.{ClosesSession, Executes, IsPerformed, OpensSession, Performs, PerformsIn, StandsFor, reply_of}
+use Rattle.cache_engine.specs.Serving.{AsksAndDoes, DoesAdmitted, IsAdmitted, WorksAndAnswers}
+use Rattle.cache_engine.specs.Sites.{IsAt, SiteView}
+use Rattle.cache_engine.specs.Stored.{IsStoredAs}
+use Rattle.cache_engine.proofs.DueLaws.{KeepsWho, asked_keeps, due_keeps, still_unshared, who_on}
+use Rattle.cache_engine.proofs.WantLaws.{told_as}
+
+-- another part that the same worlds meet
+pub performed : (old new : Stored) (before behind : SiteView) (one other : World → World → Type 0) → ((w w' : World) → StandsFor old w → one w w' → other w w') → Performs old new before behind one → Performs old new before behind other
+performed old new before behind one other so p = λ w at stands unshared.
+    let d = p w at stands unshared in
+    record { world = d.world; at = d.at; stands = d.stands; is = so w d.world stands d.is }
+
+-- one after the other
+pub then_performed : (old mid new : Stored) (before between behind : SiteView) (one other both : World → World → Type 0)
+    → ((w w' : World) → StandsFor old w → one w w' → KeepsWho w w')
+    → ((w x w' : World) → StandsFor old w → one w x → other x w' → both w w')
+    → Performs old mid before between one → Performs mid new between behind other → Performs old new before behind both
+then_performed old mid new before between behind one other both keeps joins p q = λ w at stands unshared.
+    let d = p w at stands unshared in
+    let e = q d.world d.at d.stands (still_unshared w d.world (keeps w d.world stands d.is) unshared) in
+    record { world = e.world; at = e.at; stands = e.stands; is = joins w d.world e.world stands d.is e.is }
+
+-- SESSIONS
+
+-- no session has the label where none of the list does
+none_found : (label : List ℕ) (ss : List Session) → list_any (is_labelled label) ss ≡ false → find (is_labelled label) ss ≡ None
+none_found label [] e = refl
+none_found label (s ∷ ss) e = by (is_labelled label s) refl (none_found label ss)
+  where
+    by : (b : Bool) → is_labelled label s ≡ b → (list_any (is_labelled label) ss ≡ false → find (is_labelled label) ss ≡ None) → find (is_labelled label) (s ∷ ss) ≡ None
+    by true is rest = let both : true ≡ false = ap (λ b. b || list_any (is_labelled label) ss) (sym is) ∙ e in absurd (Prim.cc both)
+    by false is rest = ap (λ b. cond b (Some s) (find (is_labelled label) ss)) is ∙ rest (ap (λ b. b || list_any (is_labelled label) ss) (sym is) ∙ e)
+
+open_free : (t : Tier) (label : List ℕ) → open_fault t label ≡ None → session_of t label ≡ None
+open_free t label e = by (list_any (is_labelled label) t.sessions) refl
+  where
+    by : (b : Bool) → list_any (is_labelled label) t.sessions ≡ b → session_of t label ≡ None
+    by true is =
+        absurd
+        (Prim.cc (ap (λ b. option_or (broken_if b (labelled code.NameInUse label)) (at_limit limit.Sessions (length t.sessions))) (sym is) ∙ e))
+    by false is = none_found label t.sessions is
+
+open_does : (label : List ℕ) (options : OpenOptions) (w w' : World) (reply : Reply) → Tries (OpensSession label options) w w' reply → DoesAdmitted (says.Session label (asks_for.Open options)) w w' reply
+open_does label options w w' reply (inl q) = λ free.
+    inl
+    (subst (λ o. ForSession label o (asks_for.Open options) w w' reply) (sym (open_free w.tier label free))
+    (subst (λ f. Unless f (Quiet (open_answer w.tier label options)) w w' reply) free q))
+open_does label options w w' reply (inr q) = λ free. inr q
+
+pub open_performed : (old new : Stored) (site : SiteView) (label : List ℕ) (options : OpenOptions) (result : Result Reply Refused)
+    → ((there : SiteView) → Performs old new there there (λ w w'. Tries (OpensSession label options) w w' (reply_of result)))
+    → Performs old new site site (λ w w'. DoesAdmitted (says.Session label (asks_for.Open options)) w w' (reply_of result))
+open_performed old new site label options result p = λ w at stands unshared.
+    let d = p site w at stands unshared in
+    record { world = d.world; at = d.at; stands = d.stands; is = open_does label options w d.world (reply_of result) d.is }
+
+close_does : (label : List ℕ) (s : Session) (w w' : World) (reply : Reply) → session_of w.tier label ≡ Some s → s.label ≡ label → Tries (ClosesSession s) w w' reply → Tries (Does (says.Session label asks_for.Close)) w w' reply
+close_does label s w w' reply is named (inl q) =
+    inl
+    (subst (λ o. ForSession label o asks_for.Close w w' reply) (sym is)
+    (subst (λ l. Quiet (close_answer w.tier l) w w' reply) named q))
+close_does label s w w' reply is named (inr q) = inr q
+
+statement_does : (label : List ℕ) (st : Stmt) (s : Session) (w w' : World) (reply : Reply) → session_of w.tier label ≡ Some s → Executes st s w w' reply → Tries (Does (says.Session label (asks_for.Statement st))) w w' reply
+statement_does label st s w w' reply is (inl q) = inl (subst (λ o. ForSession label o (asks_for.Statement st) w w' reply) (sym is) q)
+statement_does label st s w w' reply is (inr q) = inr q
+
+abbrev pub Finds : Stored → List ℕ → SessionId → Type 0
+Finds t label id = (a : Tier) → IsStoredAs t a → IsSessionOf t a label id
+
+pub close_performed : (old new : Stored) (before behind : SiteView) (label : List ℕ) (id : SessionId) (result : Result Reply Refused) → Finds old label id
+    → PerformsIn old new before behind id (λ s. Tries (ClosesSession s)) result
+    → Performs old new before behind (λ w w'. DoesAdmitted (says.Session label asks_for.Close) w w' (reply_of result))
+close_performed old new before behind label id result finds p = λ w at stands unshared.
+    let o = finds w.tier stands.stored in
+    let d = p o.session o.has w at stands unshared in
+    record { world = d.world; at = d.at; stands = d.stands; is = λ free. close_does label o.session w d.world (reply_of result) o.is o.named d.is }
+
+pub statement_performed : (old new : Stored) (before behind : SiteView) (label : List ℕ) (id : SessionId) (st : Stmt) (result : Result Reply Refused) → Finds old label id
+    → PerformsIn old new before behind id (Executes st) result
+    → Performs old new before behind (λ w w'. DoesAdmitted (says.Session label (asks_for.Statement st)) w w' (reply_of result))
+statement_performed old new before behind label id st result finds p = λ w at stands unshared.
+    let o = finds w.tier stands.stored in
+    let d = p o.session o.has w at stands unshared in
+    record { world = d.world; at = d.at; stands = d.stands; is = λ free. statement_does label st o.session w d.world (reply_of result) o.is d.is }
+
+pub console_performed : (old new : Stored) (before behind : SiteView) (request : ConsoleRequest) (reply : Reply)
+    → Performs old new before behind (λ w w'. Tries (DoesConsole request) w w' reply) → Performs old new before behind (λ w w'. DoesAdmitted (says.Console request) w w' reply)
+console_performed old new before behind request reply p =
+    performed old new before behind (λ w w'. Tries (DoesConsole request) w w' reply) (λ w w'. DoesAdmitted (says.Console request) w w' reply)
+    (λ w w' stands done free. done) p
+
+-- the sum of the additions
+pub clock_told : (t : Stored) (site : SiteView) (ms : ℕ) (reply : Reply) → reply ≡ only (Done t.clock.added) → Performs t t site site (λ w w'. DoesAdmitted (says.Clock ms) w w' reply)
+clock_told t site ms reply e = λ w at stands unshared. record {
+  world = w;
+  at = at;
+  stands = stands;
+  is = λ free. inl (refl, e ∙ ap (λ n. only (Done n)) (sym stands.stored.time.additions));
+}
+
+-- what refuses a session's request is told by the sessions
+fault_same : (t t' : Tier) (label : List ℕ) (request : Request) → t'.sessions ≡ t.sessions → session_fault t' label request ≡ session_fault t label request
+fault_same t t' label (asks_for.Open options) e = ap (λ ss. open_fault (record t { sessions = ss }) label) e
+fault_same t t' label asks_for.Close e = ap (λ ss. session_fault (record t { sessions = ss }) label asks_for.Close) e
+fault_same t t' label (asks_for.Statement st) e = ap (λ ss. session_fault (record t { sessions = ss }) label (asks_for.Statement st)) e
+
+still_admitted : (l : Line) (t t' : Tier) → t'.sessions ≡ t.sessions → IsAdmitted l t → IsAdmitted l t'
+still_admitted (says.Session label request) t t' e free = fault_same t t' label request e ∙ free
+still_admitted (says.Console request) t t' e free = tt
+still_admitted (says.Clock ms) t t' e free = tt
+
+early_admits : (base : ℕ) (l : Line) (t : Tier) → early_fault base l t ≡ None → IsAdmitted l t
+early_admits base (says.Session label request) t e = e
+early_admits base (says.Console request) t e = tt
+early_admits base (says.Clock ms) t e = tt
+
+-- THE QUESTION FOR THE SCHEMA, AND THE STATEMENT
+
+pub asked_end : (old new : Stored) (before behind : SiteView) (l : Line) (reply : Reply)
+    → Performs old new before behind (λ w w'. AsksSchema l w w' (Some reply)) → Performs old new before behind (λ w w'. AsksAndDoes l w w' reply)
+asked_end old new before behind l reply p =
+    performed old new before behind (λ w w'. AsksSchema l w w' (Some reply)) (λ w w'. AsksAndDoes l w w' reply)
+    (λ w w' stands asks free. inl (record { mid = w'; stop = Some reply; first = asks; next = (refl, refl) })) p
+
+pub asked_on : (old mid new : Stored) (before between behind : SiteView) (l : Line) (reply : Reply)
+    → Performs old mid before between (λ w w'. AsksSchema l w w' None) → Performs mid new between behind (λ w w'. DoesAdmitted l w w' reply)
+    → Performs old new before behind (λ w w'. AsksAndDoes l w w' reply)
+asked_on old mid new before between behind l reply p q =
+    then_performed old mid new before between behind (λ w w'. AsksSchema l w w' None) (λ w w'. DoesAdmitted l w w' reply) (λ w w'. AsksAndDoes l w w' reply)
+    (λ w w' stands asks. asked_keeps l w w' None asks)
+    (λ w x w' stands asks does free.
+    inl
+    (record {
+      mid = x;
+      stop = None;
+      first = asks;
+      next = does (still_admitted l w.tier x.tier (asked_keeps l w x None asks).sessions free);
+    }))
+    p q
+
+pub asked_refused : (old mid new : Stored) (before between behind : SiteView) (l : Line) (r : Refused) (reply : Reply) → reply ≡ reply_to r
+    → Performs old mid before between (λ w w'. AsksSchema l w w' None) → Performs mid new between behind (λ w w'. DoesAdmitted l w w' (reply_of (Err r)))
+    → Performs old new before behind (λ w w'. AsksAndDoes l w w' reply)
+asked_refused old mid new before between behind l r reply e p q =
+    asked_on old mid new before between behind l reply p
+    (subst (λ told. Performs mid new between behind (λ w w'. DoesAdmitted l w w' told)) (told_as r ∙ sym e) q)
+
+-- THE WORK THAT IS DUE
+
+worked_keeps : (t : Stored) (base : ℕ) (l : Line) (notes : List Note) (stop : Option Reply) (w w' : World) → StandsFor t w → DueWork (with_moment base l w) w' notes stop → KeepsWho w w'
+worked_keeps t base l notes stop w w' stands works =
+    who_on w (with_moment base l w) w' (record { sessions = refl; groups = refl; shared = refl })
+    (due_keeps (with_moment base l w) w' notes stop stands.stored.doubt works)
+
+pub worked_end : (old new : Stored) (before behind : SiteView) (base : ℕ) (l : Line) (notes : List Note) (stop : Option Reply) (last reply : Reply) → stop ≡ Some last → reply ≡ with_notes notes last
+    → Performs old new before behind (λ w w'. DueWork (with_moment base l w) w' notes stop) → Performs old new before behind (λ w w'. WorksAndAnswers base l w w' reply)
+worked_end old new before behind base l notes stop last reply is e p =
+    performed old new before behind (λ w w'. DueWork (with_moment base l w) w' notes stop) (λ w w'. WorksAndAnswers base l w w' reply)
+    (λ w w' stands works free.
+    inl
+    (record {
+      due = w';
+      notes = notes;
+      stop = Some last;
+      last = last;
+      works = subst (λ end. DueWork (with_moment base l w) w' notes end) is works;
+      does = (refl, refl);
+      answer = e;
+    }))
+    p
+
+pub worked_on : (old mid new : Stored) (before between behind : SiteView) (base : ℕ) (l : Line) (notes : List Note) (stop : Option Reply) (last reply : Reply) → stop ≡ None → reply ≡ with_notes notes last
+    → Performs old mid before between (λ w w'. DueWork (with_moment base l w) w' notes stop) → Performs mid new between behind (λ w w'. AsksAndDoes l w w' last)
+    → Performs old new before behind (λ w w'. WorksAndAnswers base l w w' reply)
+worked_on old mid new before between behind base l notes stop last reply is e p q =
+    then_performed old mid new before between behind (λ w w'. DueWork (with_moment base l w) w' notes stop) (λ w w'. AsksAndDoes l w w' last) (λ w w'. WorksAndAnswers base l w w' reply)
+    (λ w w' stands works. worked_keeps old base l notes stop w w' stands works)
+    (λ w x w' stands works answers free.
+    inl
+    (record {
+      due = x;
+      notes = notes;
+      stop = None;
+      last = last;
+      works = subst (λ end. DueWork (with_moment base l w) x notes end) is works;
+      does =
+          answers
+          (still_admitted l w.tier x.tier (worked_keeps old base l notes stop w x stands works).sessions
+          (early_admits base l w.tier free));
+      answer = e;
+    }))
+    p q
+
+-- LINES THAT ARE READ
+
+pub undone : (t : Stored) (site : SiteView) (base : ℕ) (l : Line) (reply : Reply) → is_undone l ≡ true → reply ≡ only (No (wrong_at 0)) → Performs t t site site (λ w w'. Heeds base (Says l) w w' reply)
+undone t site base l reply is e = λ w at stands unshared. record {
+  world = w;
+  at = at;
+  stands = stands;
+  is = subst (λ b. MatchBool b (Tries (Refuses (wrong_at 0)) w w reply) (Answered base l w w reply)) (sym is) (inl (refl, e));
+}
+
+heeds_done : (base : ℕ) (l : Line) (w w' : World) (reply : Reply) → is_undone l ≡ false → Answered base l w w' reply → Heeds base (Says l) w w' reply
+heeds_done base l w w' reply is q =
+    subst (λ b. MatchBool b (Tries (Refuses (wrong_at 0)) w w' reply) (Answered base l w w' reply)) (sym is) q
+
+refused_early : (base : ℕ) (l : Line) (w : World) (r : Refused) (reply : Reply) → IsRefusedBy (early_fault base l w.tier) r → reply ≡ reply_to r → Answered base l w w reply
+refused_early base l w (refused.Rule rule) reply told e = inl (subst (λ f. Unless f (Parts base l) w w reply) (sym told) (refl, e))
+refused_early base l w refused.Memory reply told e = inr (refl, e)
+
+pub early : (t : Stored) (site : SiteView) (base : ℕ) (l : Line) (r : Refused) (reply : Reply) → is_undone l ≡ false
+    → ((a : Tier) → IsStoredAs t a → IsRefusedBy (early_fault base l a) r) → reply ≡ reply_to r
+    → Performs t t site site (λ w w'. Heeds base (Says l) w w' reply)
+early t site base l r reply is told e = λ w at stands unshared. record {
+  world = w;
+  at = at;
+  stands = stands;
+  is = heeds_done base l w w reply is (refused_early base l w r reply (told w.tier stands.stored) e);
+}
+
+answered_free : (base : ℕ) (l : Line) (w w' : World) (reply : Reply) → early_fault base l w.tier ≡ None → Tries (Parts base l) w w' reply → Answered base l w w' reply
+answered_free base l w w' reply free (inl q) = inl (subst (λ f. Unless f (Parts base l) w w' reply) (sym free) q)
+answered_free base l w w' reply free (inr q) = inr q
+
+pub heeded : (old new : Stored) (before behind : SiteView) (base : ℕ) (l : Line) (reply : Reply) → is_undone l ≡ false
+    → ((a : Tier) → IsStoredAs old a → early_fault base l a ≡ None)
+    → Performs old new before behind (λ w w'. WorksAndAnswers base l w w' reply) → Performs old new before behind (λ w w'. Heeds base (Says l) w w' reply)
+heeded old new before behind base l reply is free p =
+    performed old new before behind (λ w w'. WorksAndAnswers base l w w' reply) (λ w w'. Heeds base (Says l) w w' reply)
+    (λ w w' stands works.
+    let none = free w.tier stands.stored in
+    heeds_done base l w w' reply is (answered_free base l w w' reply none (works none)))
+    p

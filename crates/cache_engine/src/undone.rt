@@ -1,0 +1,122 @@
+//! What is read but isn't done yet.
+
+ghost use Rattle.std.specs.Prelude.{◌≡◌};
+ghost use Rattle.std.specs.Option.{is_some};
+ghost use Rattle.cache_tier.specs.Undone.{has_aging, is_grouped, is_synchronous_kind, is_undone, is_undone_group, is_undone_open, is_undone_request, is_undone_statement, is_user_managed, passes_on, sets_flag};
+
+use sql_query::Query;
+use sql_subset::request::{Line, OpenOptions, Request};
+use sql_subset::stmt::{Call, CreateGroup, GroupKind, GroupTable, Stmt};
+
+// USERMANAGED.
+fn is_user_managed(kind: GroupKind) -> bool
+    ensures { result ≡ is_user_managed kind }
+{
+    match kind {
+        GroupKind::ReadOnly => false,
+        GroupKind::AsynchronousWritethrough => false,
+        GroupKind::SynchronousWritethrough => false,
+        GroupKind::UserManaged => true,
+    }
+}
+
+// SYNCHRONOUS WRITETHROUGH.
+fn is_synchronous(kind: GroupKind) -> bool
+    ensures { result ≡ is_synchronous_kind kind }
+{
+    match kind {
+        GroupKind::ReadOnly => false,
+        GroupKind::AsynchronousWritethrough => false,
+        GroupKind::SynchronousWritethrough => true,
+        GroupKind::UserManaged => false,
+    }
+}
+
+// The table has an AGING clause.
+fn ages(table: &GroupTable) -> bool
+    ensures { result ≡ is_some table.now.aging }
+{
+    table.aging.is_some()
+}
+
+// One of the tables has.
+fn has_aging(group: &CreateGroup) -> bool
+    ensures { result ≡ has_aging group.now }
+{
+    group.tables.as_slice().iter().any(|table| ages(table))
+}
+
+fn is_undone_group(group: &CreateGroup) -> bool
+    ensures { result ≡ is_undone_group group.now }
+{
+    is_user_managed(group.kind) || is_synchronous(group.kind) || group.dynamic || has_aging(group)
+}
+
+// GROUP BY.
+fn is_grouped(query: &Query) -> bool
+    ensures { result ≡ is_grouped query.now }
+{
+    0 < query.groups.as_slice().len()
+}
+
+// ttOptSetFlag.
+fn sets_flag(call: &Call) -> bool
+    ensures { result ≡ sets_flag call.now }
+{
+    call.procedure.as_bytes() == b"TTOPTSETFLAG".as_slice()
+}
+
+fn is_undone_statement(statement: &Stmt) -> bool
+    ensures { result ≡ is_undone_statement statement.now }
+{
+    match statement {
+        Stmt::Select(query) => is_grouped(query),
+        Stmt::Write(_) => false,
+        Stmt::CreateGroup(group) => is_undone_group(group),
+        Stmt::CreateIndex(_) => true,
+        Stmt::Load(_) => false,
+        Stmt::Refresh(_) => false,
+        Stmt::Unload(_) => false,
+        Stmt::Flush(_) => false,
+        Stmt::Alter(_) => false,
+        Stmt::DropGroup(_) => false,
+        Stmt::DropIndex(_) => true,
+        Stmt::Call(call) => sets_flag(call),
+        Stmt::Commit => false,
+        Stmt::Rollback => false,
+    }
+}
+
+// A passthrough level above 0, or durable commits.
+fn is_undone_open(options: OpenOptions) -> bool
+    ensures { result ≡ is_undone_open options }
+{
+    passes_on(options) || options.durable
+}
+
+fn passes_on(options: OpenOptions) -> bool
+    ensures { result ≡ passes_on options }
+{
+    0 < options.passthrough
+}
+
+fn is_undone_request(request: &Request) -> bool
+    ensures { result ≡ is_undone_request request.now }
+{
+    match request {
+        Request::Open(options) => is_undone_open(*options),
+        Request::Close => false,
+        Request::Statement(statement) => is_undone_statement(statement),
+    }
+}
+
+/// Whether the line is read but isn't done yet.
+pub(crate) fn is_undone(line: &Line) -> bool
+    ensures { result ≡ is_undone line.now }
+{
+    match line {
+        Line::Session(_, request) => is_undone_request(request),
+        Line::Console(_) => false,
+        Line::Clock(_) => false,
+    }
+}
