@@ -52,5 +52,6 @@ pub mod TakenLaws
 pub mod TriedLaws
 pub mod VerifyLaws
 pub mod WantLaws
+pub mod WholeLaws
 pub mod WriteLaws
 pub mod WritingLaws

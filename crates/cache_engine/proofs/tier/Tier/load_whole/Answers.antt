@@ -1,6 +1,6 @@
 use Rattle.std.proofs.Common.{◌≡◌, ◌∙◌, ap, refl, subst, sym}
 use Rattle.group_catalog.specs.Kept.{group_seen}
-use Rattle.cache_engine.proofs.LoadedLaws.{loaded_alone, loaded_joined, off_is}
+use Rattle.cache_engine.proofs.WholeLaws.{loaded_alone, loaded_joined, off_is}
 use Rattle.cache_engine.proofs.TriedLaws.{stands_made, stands_noted}
 use Rattle.cache_engine.proofs.tier.Tier.load_whole.Goals as goal
 

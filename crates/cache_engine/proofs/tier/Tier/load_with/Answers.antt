@@ -6,7 +6,7 @@ use Rattle.cache_tier.specs.Worlds.{only}
 use Rattle.group_catalog.specs.Catalogs.{groups_in}
 use Rattle.cache_engine.specs.Refreshing.{choice_of, positioned}
 use Rattle.cache_engine.proofs.FreshLaws.{changed_long}
-use Rattle.cache_engine.proofs.LoadedLaws.{loaded_once, whole_read}
+use Rattle.cache_engine.proofs.WholeLaws.{loaded_once, whole_read}
 use Rattle.cache_engine.proofs.SoundParts.{changed_defs, sound_regrouped}
 use Rattle.cache_engine.proofs.tier.Tier.load_with.Goals as goal
 
