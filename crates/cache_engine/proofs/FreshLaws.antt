@@ -186,7 +186,7 @@ mapped_long : (groups : List Group) → length (map without_list groups) ≡ len
 mapped_long [] = refl
 mapped_long (x ∷ groups) = ap suc (mapped_long groups)
 
-all_there : (p : Group → Bool) (groups : List Group) (k : ℕ) (g : Group) → list_all p groups ≡ true → slice_get groups k ≡ Some g → p g ≡ true
+pub all_there : (p : Group → Bool) (groups : List Group) (k : ℕ) (g : Group) → list_all p groups ≡ true → slice_get groups k ≡ Some g → p g ≡ true
 all_there p [] k g all at = Prim.cc
 all_there p (x ∷ groups) zero g all at = let same : x ≡ g = Prim.cc in ap p (sym same) ∙ (both_true (p x) (list_all p groups) all).0
 all_there p (x ∷ groups) (suc k) g all at = all_there p groups k g (both_true (p x) (list_all p groups) all).1 at

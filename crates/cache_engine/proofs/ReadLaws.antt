@@ -237,7 +237,7 @@ longer : {X : Type 0} (xs ys : List X) → length xs ≤ length (xs ++ ys)
 longer [] ys = omega arith
 longer (x ∷ xs) ys = let le = longer xs ys in omega (arith, le)
 
-unmapped : (groups : List Group) (k : ℕ) (g : Group) → slice_get (map without_list groups) k ≡ Some g → (h : Group) × (slice_get groups k ≡ Some h) × (without_list h ≡ g)
+pub unmapped : (groups : List Group) (k : ℕ) (g : Group) → slice_get (map without_list groups) k ≡ Some g → (h : Group) × (slice_get groups k ≡ Some h) × (without_list h ≡ g)
 unmapped [] k g at = cc
 unmapped (x ∷ groups) zero g at = let same : without_list x ≡ g = cc in (x, refl, same)
 unmapped (x ∷ groups) (suc k) g at = unmapped groups k g at

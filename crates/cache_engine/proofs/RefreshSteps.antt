@@ -136,10 +136,10 @@ changed_opt c f from (x ∷ groups) (suc k) =
     let here : suc from + k ≡ from + suc k = omega arith in
     changed_opt c f (suc from) groups k ∙ ap (λ n. option_map (λ g. cond (c n g) (f g) g) (slice_get groups k)) here
 
-changed_now : (c : Choice) (f : Group → Group) (groups : List Group) (k : ℕ) → slice_get (changed_from c f 0 groups) k ≡ option_map (λ g. cond (c k g) (f g) g) (slice_get groups k)
+pub changed_now : (c : Choice) (f : Group → Group) (groups : List Group) (k : ℕ) → slice_get (changed_from c f 0 groups) k ≡ option_map (λ g. cond (c k g) (f g) g) (slice_get groups k)
 changed_now c f groups k = let here : 0 + k ≡ k = omega arith in changed_opt c f 0 groups k ∙ ap (λ n. option_map (λ g. cond (c n g) (f g) g) (slice_get groups k)) here
 
-same_by_place : (xs ys : List Group) → ((i : ℕ) → slice_get xs i ≡ slice_get ys i) → xs ≡ ys
+pub same_by_place : (xs ys : List Group) → ((i : ℕ) → slice_get xs i ≡ slice_get ys i) → xs ≡ ys
 same_by_place [] [] same = refl
 same_by_place [] (y ∷ ys) same = let wrong : None ≡ Some y = same 0 in cc
 same_by_place (x ∷ xs) [] same = let wrong : Some x ≡ None = same 0 in cc

@@ -14,7 +14,10 @@ use Rattle.cache_tier.specs.Routes.{hidden_where}
 use Rattle.cache_tier.specs.Sets.{Choice, changed_from}
 use Rattle.cache_engine.specs.Fresh.{AreFormed}
 use Rattle.cache_engine.specs.Refreshing.{exchanged}
-use Rattle.cache_engine.specs.Stored.{AreKept, AreWhole, HaveOwnNames, is_plain, named_where_cached}
+use Rattle.group_catalog.specs.Catalogs.{groups_in}
+use Rattle.group_catalog.specs.declared.catalog.Catalog.{Catalog}
+use Rattle.cache_engine.specs.declared.tier.Tier.{Tier as Stored}
+use Rattle.cache_engine.specs.Stored.{AreKept, AreWhole, HaveOwnNames, IsSound, is_plain, named_where_cached}
 use Rattle.cache_engine.proofs.StoreChanges.{all_over_for, kept_defined}
 use Rattle.cache_engine.proofs.StoreRows.{place_same}
 
@@ -125,3 +128,17 @@ named_by gs hs same named i j g h at there names =
     let (a, a_at, a_def) = def_there gs hs i g same at in
     let (b, b_at, b_def) = def_there gs hs j h same there in
     named i j a b a_at b_at (ap (λ (d : GroupDef). d.name) a_def ∙ names ∙ ap (λ (d : GroupDef). d.name) (sym b_def))
+
+-- groups that keep their definitions come in the place of others
+pub sound_regrouped : (t : Stored) (catalog : Catalog) → IsSound t → definitions_of (groups_in catalog) ≡ definitions_of (groups_in t.catalog) → IsSound (record t { catalog = catalog })
+sound_regrouped t catalog s defs = record {
+  sessions = s.sessions;
+  stores = s.stores;
+  kept = kept_defined t.schema (groups_in t.catalog) (groups_in catalog) t.stores.items defs s.kept;
+  whole = s.whole;
+  plain = all_plain (groups_in t.catalog) (groups_in catalog) defs s.plain;
+  named = named_by (groups_in t.catalog) (groups_in catalog) defs s.named;
+  visible = s.visible ∙ sym (visible_by (groups_in t.catalog) (groups_in catalog) t.schema defs);
+  numbered = s.numbered;
+  verified = λ e. record { rows = (s.verified e).rows; own = (s.verified e).own };
+}

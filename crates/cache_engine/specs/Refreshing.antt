@@ -13,7 +13,11 @@ use Rattle.group_store.specs.Stores.{Kept, SameButSpare}
 use Rattle.cache_tier.specs.declared.reply.Reply.{Reply}
 use Rattle.cache_tier.specs.Commits.{tables_of}
 use Rattle.cache_tier.specs.Groups.{Group}
-use Rattle.cache_tier.specs.Sets.{Choice, alone, of_set}
+use Rattle.cache_tier.specs.Sets.{Choice, alone, loaded_state, of_set}
+use Rattle.sql_subset.specs.declared.stmt.RefreshState.{RefreshState}
+use Rattle.sql_subset.specs.declared.stmt.RefreshState.TheVariants.{On, Off, Paused}
+use Rattle.std.specs.FinMap.{len}
+use Rattle.instances.specs.Views.{kept_at}
 use Rattle.cache_tier.specs.Worlds.{bank_fault}
 use Rattle.cache_engine.specs.declared.clock.SetMoment.{SetMoment}
 use Rattle.cache_engine.specs.declared.refreshing.Chosen.{Chosen}
@@ -91,3 +95,18 @@ moments_with interval now sets = map (λ s. if is_noted interval s then record s
 abbrev pub end_of : Result (Unit {0}) BankError → Option Reply
 end_of (Ok done) = None
 end_of (Err e) = Some (bank_fault e)
+
+-- the group at a place has this STATE when it is loaded
+abbrev pub IsStateAt : List Group → ℕ → RefreshState → Type 0
+IsStateAt groups place state = (g : Group) → slice_get groups place ≡ Some g → state ≡ loaded_state g.state
+
+-- how many root rows a store keeps
+abbrev pub roots_kept : Option Kept → ℕ
+roots_kept None = 0
+roots_kept (Some s) = len (kept_at s.tables 0)
+
+-- the group is in no set
+abbrev pub is_off : RefreshState → Bool
+is_off On = false
+is_off Paused = false
+is_off Off = true

@@ -15,6 +15,8 @@ pub mod dropping;
 pub mod due;
 mod due_sets;
 mod due_work;
+mod filling;
+mod fresh;
 mod grouping;
 pub mod early;
 mod filling;

@@ -8,7 +8,7 @@ ghost use Rattle.cache_tier.specs.Groups.{is_explicit, is_on, is_read_only};
 ghost use Rattle.cache_tier.specs.Sets.{changed_from, is_in_set, shows_something};
 ghost use Rattle.group_catalog.specs.Catalogs.{groups_in};
 ghost use Rattle.group_catalog.specs.Kept.{group_seen};
-ghost use Rattle.cache_engine.specs.Refreshing.{AreMade, IsMade, choice_of, exchanged, has_moment, is_chosen_in, is_filled, moment_in, moments_with, positioned, put_at, tables_read};
+ghost use Rattle.cache_engine.specs.Refreshing.{AreMade, IsMade, choice_of, exchanged, has_moment, is_chosen_in, is_filled, is_off, moment_in, moments_with, positioned, put_at, tables_read};
 
 use crate::clock::SetMoment;
 use crate::filling::viewed_store;
@@ -64,6 +64,16 @@ pub(crate) fn is_on(state: RefreshState) -> bool
 {
     match state {
         RefreshState::On => true,
+        _ => false,
+    }
+}
+
+// Whether a STATE is OFF.
+pub(crate) fn is_off(state: RefreshState) -> bool
+    ensures { result ≡ is_off state }
+{
+    match state {
+        RefreshState::Off => true,
         _ => false,
     }
 }
