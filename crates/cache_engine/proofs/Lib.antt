@@ -29,7 +29,6 @@ pub mod FreshLaws
 pub mod GatherLaws
 pub mod GroupGoes
 pub mod GroupRows
-pub mod GroupingLaws
 pub mod GrowingLaws
 pub mod HeldLaws
 pub mod LineLaws
@@ -37,10 +36,6 @@ pub mod LoadLaws
 pub mod LoadingLaws
 pub mod MatchLaws
 pub mod LoadedLaws
-pub mod MatchLaws
-pub mod NamedLaws
-pub mod NamingLaws
-pub mod OthersLaws
 pub mod PutLaws
 pub mod ReadLaws
 pub mod RefreshSteps
@@ -66,8 +61,6 @@ pub mod TakenParts
 pub mod VerifyLaws
 pub mod WantLaws
 pub mod TriedLaws
-pub mod VerifyLaws
-pub mod WantLaws
 pub mod WholeLaws
 pub mod WriteLaws
 pub mod WritingLaws

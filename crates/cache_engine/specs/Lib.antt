@@ -15,9 +15,7 @@ pub mod Filling
 pub mod Fresh
 pub mod Gathering
 pub mod Grouping
-pub mod Growing
 pub mod Loaded
-pub mod Naming
 pub mod Performing
 pub mod Putting
 pub mod Refreshing

@@ -19,8 +19,6 @@ mod filling;
 mod fresh;
 mod grouping;
 pub mod early;
-mod filling;
-mod fresh;
 mod holding;
 mod gathering;
 mod growing;
