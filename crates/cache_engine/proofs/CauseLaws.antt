@@ -1,5 +1,5 @@
 -- That the faults that a line tells have their causes, over its parts.
-use Rattle.std.proofs.Common.{◌≡◌, ◌∙◌, ◌≤◌, ◌+◌, ◌-◌, ◌^◌, ℕ, min, Bool, true, false, cond, Option, Some, None, Err, List, [], refl, sym, ap, subst, arith, le_refl, count_by}
+use Rattle.std.proofs.Common.{◌≡◌, ◌∙◌, ◌≤◌, ◌+◌, ◌-◌, ℕ, Bool, true, false, cond, Option, Some, None, Err, refl, sym, ap, subst, arith, le_refl, count_by}
 use Rattle.std.specs.Option.{IfSome}
 use Rattle.tier_base.specs.declared.code.Code.TheVariants as code
 use Rattle.row_types.specs.declared.rule.Refused.{Refused}
@@ -9,7 +9,7 @@ use Rattle.outside.specs.Holding.{Held}
 use Rattle.cache_tier.specs.Heeding.{HeedLeads}
 use Rattle.cache_tier.specs.declared.reply.Last.TheVariants.{Done}
 use Rattle.cache_tier.specs.declared.reply.Reply.{Reply}
-use Rattle.cache_tier.specs.Steps.{Counts, Heeds, Rose, Saying, Step, faults_in, note_tells, tells, with_notes}
+use Rattle.cache_tier.specs.Steps.{Heeds, Rose, Saying, Step, faults_in, note_tells, tells, with_notes}
 use Rattle.cache_tier.specs.Worlds.{World, only}
 use Rattle.tier_statements.specs.Replies.{reply_to}
 use Rattle.cache_engine.specs.declared.due.Due.{Due}

@@ -14,7 +14,7 @@ use Rattle.cache_tier.specs.declared.reply.Reply.{Reply}
 use Rattle.cache_tier.specs.Aging.{after_aging, aged, aged_rule, is_aging_due}
 use Rattle.cache_tier.specs.ConsoleSteps.{Asked, AsksSchema, asks_schema, told}
 use Rattle.cache_tier.specs.DoubtSteps.{SettlesDoubt}
-use Rattle.cache_tier.specs.DueWork.{DueAging, DueDoubt, DueRound, DueSets, DueSetsOf, DueWork, Item, ItemFollows, Noted, ThenItem, due_sets, is_round_due}
+use Rattle.cache_tier.specs.DueWork.{DueAging, DueRound, DueSets, DueSetsOf, DueWork, Item, ItemFollows, Noted, ThenItem, due_sets, is_round_due}
 use Rattle.cache_tier.specs.Groups.{Group, covers, definitions_of, is_table_of, is_writethrough}
 use Rattle.cache_tier.specs.JournalSteps.{Flushes, FlushesKept}
 use Rattle.cache_tier.specs.Reading.{StageFollowsAt, backing_at}

@@ -1,5 +1,5 @@
 -- How the parts of a line make its step.
-use Rattle.std.proofs.Common.{◌≡◌, ◌∙◌, ◌||◌, ℕ, Bool, true, false, cond, Option, Some, None, Result, Ok, Err, List, [], ◌∷◌, length, refl, sym, ap, subst, inl, inr, find}
+use Rattle.std.proofs.Common.{◌≡◌, ◌∙◌, ◌||◌, ℕ, Bool, true, false, cond, Option, Some, None, Result, Err, List, [], ◌∷◌, length, refl, sym, ap, subst, inl, inr, find}
 use Rattle.std.specs.Bool.{MatchBool}
 use Rattle.std.specs.List.{list_any}
 use Rattle.std.specs.Option.{option_or}
@@ -24,16 +24,16 @@ use Rattle.cache_tier.specs.ConsoleSteps.{AsksSchema, DoesConsole}
 use Rattle.cache_tier.specs.DueWork.{DueWork}
 use Rattle.cache_tier.specs.Rules.{at_limit, broken_if, labelled, wrong_at}
 use Rattle.cache_tier.specs.SessionSteps.{close_answer, open_answer, open_fault}
-use Rattle.cache_tier.specs.Steps.{Answered, Does, DoesRequest, ForSession, Heeds, Parts, Says, early_fault, session_fault, with_moment, with_notes}
+use Rattle.cache_tier.specs.Steps.{Answered, Does, ForSession, Heeds, Parts, Says, early_fault, session_fault, with_moment, with_notes}
 use Rattle.cache_tier.specs.TierStates.{Session, Tier, is_labelled, session_of}
 use Rattle.cache_tier.specs.Undone.{is_undone}
-use Rattle.cache_tier.specs.Worlds.{IsUnshared, Part, Quiet, Refuses, Then, Tries, Unless, World, faulty, only}
+use Rattle.cache_tier.specs.Worlds.{Quiet, Refuses, Tries, Unless, World, only}
 use Rattle.tier_statements.specs.Replies.{reply_to}
 use Rattle.cache_engine.specs.declared.tier.Tier.{Tier as Stored}
 use Rattle.cache_engine.specs.Answering.{IsSessionOf}
-use Rattle.cache_engine.specs.Performing.{ClosesSession, Executes, IsPerformed, OpensSession, Performs, PerformsIn, StandsFor, reply_of}
+use Rattle.cache_engine.specs.Performing.{ClosesSession, Executes, OpensSession, Performs, PerformsIn, StandsFor, reply_of}
 use Rattle.cache_engine.specs.Serving.{AsksAndDoes, DoesAdmitted, IsAdmitted, WorksAndAnswers}
-use Rattle.cache_engine.specs.Sites.{IsAt, SiteView}
+use Rattle.cache_engine.specs.Sites.{SiteView}
 use Rattle.cache_engine.specs.Stored.{IsStoredAs}
 use Rattle.cache_engine.proofs.DueLaws.{KeepsWho, asked_keeps, due_keeps, still_unshared, who_on}
 use Rattle.cache_engine.proofs.WantLaws.{told_as}

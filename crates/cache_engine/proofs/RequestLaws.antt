@@ -1,5 +1,5 @@
 -- What a line does, by its bytes.
-use Rattle.std.proofs.Common.{◌≡◌, ◌⊎◌, ℕ, Bool, true, false, Option, Some, None, Ok, Err, List, refl, sym, ap, subst, inl, inr}
+use Rattle.std.proofs.Common.{◌≡◌, ℕ, true, false, Option, Some, None, Err, List, refl, sym, ap, subst, inl, inr}
 use Rattle.std.specs.Bool.{MatchBool}
 use Rattle.tier_base.specs.declared.limit.Limit.TheVariants as limit
 use Rattle.row_types.specs.declared.rule.Refused.TheVariants as refused
@@ -11,11 +11,10 @@ use Rattle.cache_tier.specs.Heeding.{HeedLeads}
 use Rattle.cache_tier.specs.declared.reply.Reply.{Reply}
 use Rattle.cache_tier.specs.Rules.{past}
 use Rattle.cache_tier.specs.Steps.{Heeds, Saying, Says, Silent, TooDeep, TooLong, WrongAt}
-use Rattle.cache_tier.specs.Worlds.{World}
 use Rattle.tier_statements.specs.Replies.{reply_to}
 use Rattle.cache_engine.specs.declared.tier.Tier.{Tier as Stored}
-use Rattle.cache_engine.specs.Performing.{Performs, StandsFor}
-use Rattle.cache_engine.specs.Requests.{IsHeard, IsLineCaused, IsSaid, IsUnread, LineStep, heard, is_long}
+use Rattle.cache_engine.specs.Performing.{Performs}
+use Rattle.cache_engine.specs.Requests.{IsHeard, IsLineCaused, IsSaid, LineStep, heard, is_long}
 use Rattle.cache_engine.specs.Serving.{misread}
 use Rattle.cache_engine.specs.Sites.{SiteView}
 use Rattle.cache_engine.proofs.CauseLaws.{counted, refusal_caused}

@@ -1,5 +1,5 @@
 -- Where memory is wanting, and all stays.
-use Rattle.std.proofs.Common.{◌≡◌, Option, Some, None, Ok, Err, List, [], false, true, refl, inr, le_refl}
+use Rattle.std.proofs.Common.{◌≡◌, Option, Some, None, Err, refl, inr, le_refl}
 use Rattle.tier_base.specs.declared.code.Code.TheVariants as code
 use Rattle.tier_base.specs.declared.number.SessionId.{SessionId}
 use Rattle.row_types.specs.declared.rule.Refused.{Refused}
