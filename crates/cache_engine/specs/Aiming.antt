@@ -1,5 +1,5 @@
--- What LOAD and REFRESH name, and what refuses them. (TimesTen SQL Reference, "LOAD CACHE GROUP", "REFRESH CACHE GROUP";
--- the order of refusals is this project's rule.)
+-- What LOAD and REFRESH name, and what refuses them. (TimesTen SQL Reference, "LOAD CACHE GROUP", "REFRESH CACHE
+-- GROUP"; the order of refusals is this project's rule.)
 
 use Rattle.std.specs.Prelude.{◌≡◌, ℕ, List, Bool, true, false, ◌&&◌, not, Option, Some, None, slice_get, Result, Ok, Err}
 use Rattle.std.specs.Option.{option_or}

@@ -25,8 +25,8 @@ comes which store key row = matches_at which key row && not (contains_key (kept_
 -- of the first n rows of a table those that pass a test with their keys
 pub record Chooses (test : List Value → List Value → Bool) (table : Table) (n : ℕ) (out : Table) : Type 0 where
   pub sound : (key row : List Value) → get out key ≡ Some row → (get table key ≡ Some row) × (test key row ≡ true)
-  pub whole : (i : ℕ) → i < n → (key row : List Value) → slice_get (entries table) i ≡ Some (key, row) → test key row ≡ true
-      → contains_key out key ≡ true
+  pub whole : (i : ℕ) → i < n → (key row : List Value) → slice_get (entries table) i ≡ Some (key, row)
+      → test key row ≡ true → contains_key out key ≡ true
 
 -- how many rows of a table match, or how many come
 abbrev pub counted : Bool → ResolvedWhich → Table → Table → ℕ

@@ -183,7 +183,8 @@ fn referring_rows(
     def: Option<&TableDef>,
 ) -> Result<Rows, AllocError>
     ensures { IfOk result (λ out. out
-        ≡ rows_where (λ row. selects filter.now row && refers_to_one parents.now (option_copied def.entry) row) rows.now) }
+        ≡ rows_where (λ row. selects filter.now row
+        && refers_to_one parents.now (option_copied def.entry) row) rows.now) }
 {
     let mut out = Rows::new(alloc);
     for place in 0..rows.len() {
