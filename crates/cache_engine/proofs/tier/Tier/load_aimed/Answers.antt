@@ -1,4 +1,4 @@
-use Rattle.std.proofs.Common.{◌∙◌, ap, not, refl}
+use Rattle.std.proofs.Common.{◌∙◌, ap, not}
 use Rattle.cache_engine.specs.Performing.{reply_of}
 use Rattle.cache_engine.proofs.LoadingLaws.{aimed_behind, aimed_whole}
 use Rattle.cache_engine.proofs.tier.Tier.load_aimed.Goals as goal
