@@ -27,7 +27,7 @@ use Rattle.cache_tier.specs.Shown.{no_rows}
 use Rattle.table_state.specs.Tables.{TableState}
 use Rattle.cache_engine.specs.declared.tier.Tier.{Tier as Stored}
 use Rattle.cache_engine.specs.Committing.{HaveRoomFor, at_home, at_number, bare, bare_all, commit_fault, home_in, ops_at}
-use Rattle.cache_engine.specs.Stored.{HasSession, IsSound, IsStoredAs, without_list}
+use Rattle.cache_engine.specs.Stored.{HasSession, IsSound, IsStoredAs, KeepsTime, without_list}
 use Rattle.cache_engine.proofs.SelectLaws.{NumberLaw, own_found}
 use Rattle.cache_engine.proofs.SessionLaws.{ChangeLaw, session_changed}
 use Rattle.group_catalog.specs.Catalogs.{groups_in}
@@ -145,8 +145,8 @@ sealed_same law t a id s sound is has =
     ap (λ n. sealed_of (record { 0 = n }) (open_ops id (seen_all t.sessions))) (sym is.next)
     ∙ ap (sealed_of (record { 0 = a.next })) (own_found law t id s sound has)
 
-pub stored_behind_commit : NumberLaw → ChangeLaw → (t new : Stored) (a : Tier) (id : SessionId) (s : Session) → IsSound t → IsStoredAs t a → HasSession t id s → new.schema ≡ t.schema → new.stale ≡ t.stale → new.catalog ≡ t.catalog → seen_all new.sessions ≡ on_session id rested (seen_all t.sessions) → new.unsettled.items ≡ t.unsettled.items ++ sealed_of (record { 0 = t.next }) (open_ops id (seen_all t.sessions)) ∷ [] → new.next ≡ t.next + 1 → IsStoredAs new (committed_unsettled (sealed_own a s) s.label a)
-stored_behind_commit numbers changes t new a id s sound is has schema stale catalog sessions unsettled next =
+pub stored_behind_commit : NumberLaw → ChangeLaw → (t new : Stored) (a : Tier) (id : SessionId) (s : Session) → IsSound t → IsStoredAs t a → HasSession t id s → new.schema ≡ t.schema → new.stale ≡ t.stale → new.catalog ≡ t.catalog → seen_all new.sessions ≡ on_session id rested (seen_all t.sessions) → new.unsettled.items ≡ t.unsettled.items ++ sealed_of (record { 0 = t.next }) (open_ops id (seen_all t.sessions)) ∷ [] → new.next ≡ t.next + 1 → new.clock ≡ t.clock → IsStoredAs new (committed_unsettled (sealed_own a s) s.label a)
+stored_behind_commit numbers changes t new a id s sound is has schema stale catalog sessions unsettled next clock =
     let rest : IsStoredAs (record t { sessions = new.sessions }) (record a { sessions = map (λ y. cond (is_labelled s.label y) (at_rest y) y) a.sessions }) =
     session_changed changes t new.sessions a s id rested at_rest (λ x. refl) sound is has sessions in
     record {
@@ -158,6 +158,7 @@ stored_behind_commit numbers changes t new a id s sound is has schema stale cata
           ∙ ap (λ x. t.unsettled.items ++ x ∷ []) (sym (sealed_same numbers t a id s sound is has)) ∙ sym unsettled;
       next = ap (λ n. n + 1) is.next ∙ sym next;
       doubt = is.doubt;
+      time = subst (λ c. KeepsTime c a.now a.added a.round a.sets a.settings) (sym clock) is.time;
     }
 
 -- 119

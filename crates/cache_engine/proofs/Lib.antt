@@ -6,6 +6,7 @@ pub mod CalmLaws
 pub mod CauseLaws
 pub mod ChangedLaws
 pub mod CommitLaws
+pub mod CommitPerformed
 pub mod DefiningLaws
 pub mod CreatingLaws
 pub mod DrainLaws
@@ -36,6 +37,7 @@ pub mod LoadLaws
 pub mod LoadingLaws
 pub mod MatchLaws
 pub mod LoadedLaws
+pub mod OpStores
 pub mod PutLaws
 pub mod ReadLaws
 pub mod RefreshSteps

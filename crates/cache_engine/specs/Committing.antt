@@ -69,9 +69,3 @@ StoresOps old new id (Ok reply) =
     bare_all new.stores.items
     ≡ ops_at old.directory (open_ops id (seen_all old.sessions)) (bare_all old.stores.items)
 StoresOps old new id (Err refused) = bare_all new.stores.items ≡ bare_all old.stores.items
-
--- what of a sound tier is of its rows
-pub record HasSoundRows (t : Stored) : Type 0 where
-  pub stores : AreHoused t.schema t.stores.items t.directory
-  pub rows : AreShown [] (rows_of t)
-  pub own : All (λ s. AreShown s.ops (rows_of t)) (seen_all t.sessions)

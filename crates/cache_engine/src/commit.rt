@@ -20,12 +20,13 @@ use tier_statements::done;
 
 impl Tier {
     ghost use Rattle.cache_engine.specs.Answering.{AnswersIn};
-    ghost use Rattle.cache_engine.specs.Committing.{HasSoundRows, StoresOps};
+    ghost use Rattle.cache_engine.specs.Committing.{StoresOps};
+    ghost use Rattle.cache_engine.specs.Performing.{IsCalm, reply_of};
     ghost use Rattle.cache_engine.specs.Stored.{IsSound, IsStoredAs};
 
     /// COMMIT of an open session that has written tables of ASYNCHRONOUS WRITETHROUGH groups: the writes get the next
-    /// ticket and wait for the backing database, the stores do them, and the transaction ends. A session without writes
-    /// ends as by `rollback`.
+    /// ticket and wait for the backing database, the stores do them, and the transaction ends. Whether
+    /// other sessions' writes still apply isn't noted then.
     ///
     /// The refusal is 119 where 4,096 transactions wait, then 119 where no ticket is left; or memory was wanting. All
     /// then stays. (TimesTen Cache User's Guide: asynchronous writethrough cache groups.)
@@ -33,7 +34,8 @@ impl Tier {
         requires { IsSound self.old }
         ensures answers { AnswersIn self.old self.new id commit_fault commit_answer result }
         ensures stores { StoresOps self.old self.new id result }
-        ensures sound { HasSoundRows self.new → IsSound self.new }
+        ensures sound { IsSound self.new }
+        ensures calm { IsCalm (reply_of result) }
     {
         label_law();
         self.judge_commit()?;
@@ -41,6 +43,7 @@ impl Tier {
         let ops = copied_ops(alloc, self.sessions.ops(id))?;
         reserve_all(alloc, &mut self.stores, ops.len())?;
         let_wait(&mut self.unsettled, sealed)?;
+        self.verified = false;
         store_ops(&mut self.stores, &self.directory, ops);
         self.sessions.rest(id);
         let ticket = self.next;

@@ -13,13 +13,14 @@ use crate::query::reply_to_query;
 use crate::tier::Tier;
 use cache_tier::reply::Reply;
 use group_catalog::{KeptGroup, resolve_which};
+use open_sessions::laws::label_law;
 use row_types::{Detail, Refused, Rule};
 use sql_query::Query;
 use sql_subset::request::OpenOptions;
 use sql_subset::stmt::{OfGroup, Which};
 use std::alloc::Global;
 use tier_base::{Code, Label, Name, SessionId};
-use tier_laws::{session_law, use_shown_law};
+use tier_laws::{commit_shown_law, session_law, use_shown_law};
 
 impl Tier {
     ghost use Rattle.cache_engine.specs.Performing.{ClosesSession, Executes, IsCalm, OpensSession, Performs, PerformsIn, reply_of};
@@ -63,7 +64,13 @@ impl Tier {
         ensures sound { IsSound self.new }
         ensures calm { IsCalm (reply_of result) }
     {
-        Err(Refused::Memory)
+        session_law();
+        commit_shown_law();
+        label_law();
+        if self.sessions.ops(id).len() == 0 {
+            return Ok(self.rollback(alloc, id));
+        }
+        self.commit(alloc, id)
     }
 
     /// ROLLBACK, as `rollback`.

@@ -3,6 +3,7 @@ use Rattle.cache_tier.specs.declared.reply.Last.TheVariants.{Done}
 use Rattle.cache_tier.specs.Worlds.{only}
 use Rattle.cache_engine.specs.Answering.{Replies}
 use Rattle.cache_engine.specs.Committing.{commit_answer, commit_fault}
+use Rattle.cache_engine.proofs.QuietLaws.{calm_done}
 use Rattle.cache_engine.proofs.CommitLaws.{refused_stays, stored_behind_commit}
 use Rattle.cache_engine.proofs.tier.Tier.commit.Goals as goal
 
@@ -18,15 +19,9 @@ returns-clause-answers c = λ a s is has. (
   c.in_ok-judge_commit.ensures.told a s is,
   stored_behind_commit c.label_law.ensures.number c.label_law.ensures.change c.args.self.now _ a c.args.id s c.requires
       is has refl refl refl (c.rest.ensures.seen c.args.self.now.schema c.requires.sessions)
-      (c.in_ok-let_wait.ensures.ok ∙ ap (λ x. c.args.self.now.unsettled.items ++ x ∷ []) c.in_ok-sealed.ensures) refl,
+      (c.in_ok-let_wait.ensures.ok ∙ ap (λ x. c.args.self.now.unsettled.items ++ x ∷ []) c.in_ok-sealed.ensures) refl refl,
   c.done.ensures ∙ ap (λ n. only (Done n)) (sym is.next),
 )
 
-pub returns-clause-sound : goal.returns-clause-sound
-returns-clause-sound c = λ rows. record {
-  sessions = c.rest.ensures.sound c.args.self.now.schema c.requires.sessions;
-  stores = rows.stores;
-  visible = c.requires.visible;
-  rows = rows.rows;
-  own = rows.own;
-}
+pub returns-clause-calm : goal.returns-clause-calm
+returns-clause-calm c = calm_done c.args.self.now.next c.done.result c.done.ensures
