@@ -109,9 +109,9 @@ aimed_with law t a s id refreshes load place seen def own read_only result sound
     let place_is : place_called a.groups load.group ≡ Some place = sym (place_seen load.group a.groups) ∙ ap (λ gs. place_called gs load.group) is.groups ∙ sym found in
     let owned : own ≡ s.own = mine ∙ own_found law t id s sound has in
     let root : Some def ≡ root_def a u.group =
-    defined ∙ ap (λ (x : Group). slice_get t.schema x.def.tree.root.table.0) (sym u.is) ∙ ap (λ defs. slice_get defs u.group.def.tree.root.table.0) (sym is.schema) in
+        defined ∙ ap (λ (x : Group). slice_get t.schema x.def.tree.root.table.0) (sym u.is) ∙ ap (λ defs. slice_get defs u.group.def.tree.root.table.0) (sym is.schema) in
     let state : aim_state refreshes load own seen ≡ aim_state refreshes load s.own u.group =
-    ap (aim_state refreshes load own) (sym u.is) ∙ same_state refreshes load own u.group ∙ ap (λ ops. aim_state refreshes load ops u.group) owned in
+        ap (aim_state refreshes load own) (sym u.is) ∙ same_state refreshes load own u.group ∙ ap (λ ops. aim_state refreshes load ops u.group) owned in
     aims_so a s refreshes load place u.group place_is u.there read_only (kind ∙ ap is_read_only (sym u.is)) result
     (subst (λ r. AimsBy r load.which (aim_state refreshes load s.own u.group) place read_only result) root
     (subst (λ st. AimsBy (Some def) load.which st place read_only result) state by))

@@ -128,16 +128,16 @@ module _ (w : World) (x : Stands w) (apart : IsUnshared w) (settled : w.tier.uns
       let none : pending later w.tier.log ≡ [] = stands.flow.rest ∙ ap (pending later) settled in
       let drained : over.virtual ≡ b = same_some (sym over.virtual_is ∙ ap (λ xs. option_and_then (applied_sealed xs) (state_of later)) none ∙ ap (option_and_then (applied_sealed [])) leaves) in
       let agree : AgreeOn (live_of w.tier) b first =
-      others_agree (live_of w.tier) w.shared (w.history ++ a.before) a.behind first b first
-      (λ ops on. off_live w.shared w.tier.groups (live_of w.tier) ops (live_table w.tier.groups) apart on)
-      first_leaves came (ap state_of (sym is) ∙ leaves) (record { schema = refl; size = refl; rows = λ t on. refl }) in
+          others_agree (live_of w.tier) w.shared (w.history ++ a.before) a.behind first b first
+          (λ ops on. off_live w.shared w.tier.groups (live_of w.tier) ops (live_table w.tier.groups) apart on)
+          first_leaves came (ap state_of (sym is) ∙ leaves) (record { schema = refl; size = refl; rows = λ t on. refl }) in
       let live : (u : TableId) → covers u g ≡ true → is_one_of (live_of w.tier) u ≡ true =
-      (λ u c. live_table w.tier.groups u ∙ through_live w.tier.groups u g (found_at w.tier.groups place g u x.catalog.apart at c) writes) in
+          (λ u c. live_table w.tier.groups u ∙ through_live w.tier.groups u g (found_at w.tier.groups place g u x.catalog.apart at c) writes) in
       let long : snapshot.position.0 ≡ length a.middle = a.own.1 in
       let within : snapshot.position.0 ≤ length a.middle = omega (arith, long) in
       let past : length a.middle ≤ snapshot.position.0 = omega (arith, long) in
       let front_is : take snapshot.position.0 later ≡ w.history ++ a.before =
-      ap (take snapshot.position.0) a.is ∙ take-append-le snapshot.position.0 a.middle a.behind within ∙ take_all snapshot.position.0 a.middle past ∙ middle in
+          ap (take snapshot.position.0) a.is ∙ take-append-le snapshot.position.0 a.middle a.behind within ∙ take_all snapshot.position.0 a.middle past ∙ middle in
       let copy : IsCopyOf asked first snapshot.tables = a.own.2 first (ap state_of middle ∙ first_leaves) in
       record {
         stands = stands;

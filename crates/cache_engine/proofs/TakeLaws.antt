@@ -55,7 +55,7 @@ place_for t place which refreshes s g sound at store kept =
     let tree : Tree = at.here.group.def.tree in
     let form = form_at t.schema (groups_in t.catalog) t.stores.items place at.here.group store sound.kept at.here.there kept in
     let rows : length g.rows ≡ 1 + length tree.children =
-    ap length at.is.rows ∙ length-map (gathered_in s tree at.here.store which) values ∙ length_kept s tree.children (coming_in s tree at.here.store which ∷ []) in
+        ap length at.is.rows ∙ length-map (gathered_in s tree at.here.store which) values ∙ length_kept s tree.children (coming_in s tree at.here.store which ∷ []) in
     let layers : length store.layers ≡ length tree.children = ap length form.layers ∙ length-map tree.children (layer_for t.schema) in
     omega (arith, rows, layers)
 

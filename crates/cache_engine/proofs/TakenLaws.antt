@@ -195,8 +195,8 @@ flag_seen more g writes = ap (λ b. without_list (cond (b || is_explicit g) (rec
 
 -- The snapshot came.
 module _ (old : Stored) (before after : SiteView) (place : ℕ) (which : ResolvedWhich) (refreshes : Bool) (x : Target) (of : IsOfTarget x place which) (writes : is_writethrough x.group ≡ true) (sound : IsSound old) (asked : List TableId) (asks : AsksTree old place asked) (snapshot : Snapshot)
-    (told : site.Told before.held after.held (site.BankCall before.shared (TakesSnapshot asked (Ok snapshot)))) (faults : before.bank_faults ≤ after.bank_faults) (moment : before.moment ≤ after.moment) (shares : after.shared ≡ before.shared)
-    (w : World) (at : IsAt before w) (stands : StandsFor old w) (apart : IsUnshared w) (here : IsSettledAt place x.group w) where
+  (told : site.Told before.held after.held (site.BankCall before.shared (TakesSnapshot asked (Ok snapshot)))) (faults : before.bank_faults ≤ after.bank_faults) (moment : before.moment ≤ after.moment) (shares : after.shared ≡ before.shared)
+  (w : World) (at : IsAt before w) (stands : StandsFor old w) (apart : IsUnshared w) (here : IsSettledAt place x.group w) where
   now : TellsBehind at.there after.held (site.BankCall before.shared (TakesSnapshot asked (Ok snapshot)))
   now = told_behind at.there before.held after.held (site.BankCall before.shared (TakesSnapshot asked (Ok snapshot))) at.told told
 
@@ -496,7 +496,7 @@ module _ (old : Stored) (before after : SiteView) (place : ℕ) (which : Resolve
 pub taken_sound : (old new : Stored) (place : ℕ) (which : ResolvedWhich) (refreshes : Bool) (s : TableState) (reply : Reply) → IsSound old → TakesIn old new place which refreshes s reply → IsSound new
 taken_sound old new place which refreshes s reply sound k =
     let forms : Pairs SameForm old.stores.items (slice_set old.stores.items place k.filled) =
-    form_set old.stores.items place k.store k.filled k.kept (filled_form (map fm.values (gathered_in s k.group.def.tree k.store which)) k.store k.filled k.rows) in
+        form_set old.stores.items place k.store k.filled k.kept (filled_form (map fm.values (gathered_in s k.group.def.tree k.store which)) k.store k.filled k.rows) in
     let items : slice_set old.stores.items place k.filled ≡ new.stores.items = sym k.stores in
     let same : Pairs SameForm old.stores.items new.stores.items = subst (Pairs SameForm old.stores.items) items forms in
     record {

@@ -1,4 +1,3 @@
-// NOTE from the lead (15:36): COMMIT (commit.rt, CommitLaws, commit_session) is being done by helper h13; leave it to it, finish the writes of the console and stop.
 //! COMMIT of a transaction whose groups are ASYNCHRONOUS WRITETHROUGH, where there is no journal.
 
 ghost use Rattle.std.specs.Prelude.{◌≡◌, ◌≤◌, ◌++◌, ◌∷◌, [], OnErr, OnOk, length};
