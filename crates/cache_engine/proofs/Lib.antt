@@ -7,6 +7,8 @@ pub mod CauseLaws
 pub mod ChangedLaws
 pub mod CommitLaws
 pub mod DefiningLaws
+pub mod ConsoleLaws
+pub mod ConsoleSteps
 pub mod CreatingLaws
 pub mod DrainLaws
 pub mod DropLocks
