@@ -6,6 +6,7 @@ pub mod CalmLaws
 pub mod CauseLaws
 pub mod ChangedLaws
 pub mod CommitLaws
+pub mod CutLaws
 pub mod DefiningLaws
 pub mod DrainLaws
 pub mod DropLocks
@@ -52,6 +53,7 @@ pub mod StoreRows
 pub mod TablingLaws
 pub mod TakeLaws
 pub mod TakenLaws
+pub mod UnloadAims
 pub mod VerifyLaws
 pub mod WantLaws
 pub mod WriteLaws
