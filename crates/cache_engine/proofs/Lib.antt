@@ -6,6 +6,7 @@ pub mod CalmLaws
 pub mod CauseLaws
 pub mod ChangedLaws
 pub mod CommitLaws
+pub mod CutLaws
 pub mod DefiningLaws
 pub mod ConsoleLaws
 pub mod ConsoleSteps
@@ -60,6 +61,7 @@ pub mod TablingLaws
 pub mod TakeLaws
 pub mod TakenLaws
 pub mod TakenParts
+pub mod UnloadAims
 pub mod VerifyLaws
 pub mod WantLaws
 pub mod TriedLaws
