@@ -48,7 +48,7 @@ no_parent : (b : Bool) (f : ForeignKeyDeclaration) (rest : Option Rule) → opti
 no_parent true f rest none = cc
 no_parent false f rest none = refl
 
-none_behind : (one other : Option Rule) → option_or one other ≡ None → other ≡ None
+pub none_behind : (one other : Option Rule) → option_or one other ≡ None → other ≡ None
 none_behind None other none = none
 none_behind (Some rule) other none = cc
 

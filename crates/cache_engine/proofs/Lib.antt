@@ -7,7 +7,10 @@ pub mod CauseLaws
 pub mod ChangedLaws
 pub mod CommitLaws
 pub mod CommitPerformed
+pub mod CutLaws
 pub mod DefiningLaws
+pub mod ConsoleLaws
+pub mod ConsoleSteps
 pub mod CreatingLaws
 pub mod DrainLaws
 pub mod DropLocks
@@ -60,6 +63,7 @@ pub mod TablingLaws
 pub mod TakeLaws
 pub mod TakenLaws
 pub mod TakenParts
+pub mod UnloadAims
 pub mod VerifyLaws
 pub mod WantLaws
 pub mod TriedLaws

@@ -26,5 +26,6 @@ pub mod Serving
 pub mod Sites
 pub mod Stored
 pub mod Tabling
+pub mod Unloading
 pub mod Taking
 pub mod Writing

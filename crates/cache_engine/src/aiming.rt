@@ -75,7 +75,7 @@ impl Tier {
 }
 
 // The names, then the state, then the types.
-fn aim_by(
+pub(crate) fn aim_by(
     alloc: Global,
     def: &TableDef,
     which: &Which,
@@ -148,7 +148,7 @@ fn judge_refresh(alloc: Global, group: &KeptGroup, load: &Load, own: &[Op]) -> R
 }
 
 // 122 of a session's writes.
-fn judge_writes(own: &[Op]) -> Result<(), Refused>
+pub(crate) fn judge_writes(own: &[Op]) -> Result<(), Refused>
     ensures { Tells result (open_writes own.now) }
 {
     match own.split_first() {
@@ -177,19 +177,19 @@ fn is_past(low: u64, high: u64, n: Option<u64>) -> bool
 }
 
 // An explicit READONLY group, of which something is asked.
-fn is_whole_only(group: &KeptGroup, which: &Which) -> bool
+pub(crate) fn is_whole_only(group: &KeptGroup, which: &Which) -> bool
     ensures { result ≡ is_whole_only (group_seen group.now) which.now }
 {
     is_read_only(group) && !group.def.dynamic && !asks_all(which)
 }
 
-fn asks_all(which: &Which) -> bool
+pub(crate) fn asks_all(which: &Which) -> bool
     ensures { result ≡ asks_all which.now }
 {
     which.filter.is_none() && which.id.is_none()
 }
 
-fn is_read_only(group: &KeptGroup) -> bool
+pub(crate) fn is_read_only(group: &KeptGroup) -> bool
     ensures { result ≡ is_read_only (group_seen group.now) }
 {
     match group.def.kind {
@@ -209,7 +209,7 @@ fn is_paused(state: RefreshState) -> bool
 }
 
 // A rule about a name, or want of memory for the name.
-fn about(alloc: Global, code: Code, name: &Name) -> Refused
+pub(crate) fn about(alloc: Global, code: Code, name: &Name) -> Refused
     ensures { IsRefusal (named code name.now) result }
 {
     match name.copied(alloc) {

@@ -1,14 +1,13 @@
 //! The console's writes.
 
-ghost use Rattle.std.specs.Prelude.{◌≡◌, ◌≤◌, IfOk, find, option_copied};
-ghost use Rattle.outside.specs.Faults.{Rose};
+ghost use Rattle.std.specs.Prelude.{◌≡◌, IfOk, find, option_copied};
 ghost use Rattle.sql_subset.specs.declared.request.ConsoleRequest.TheVariants as console;
 ghost use Rattle.resolution.specs.Writes.{table_of};
 ghost use Rattle.cache_tier.specs.ConsoleSteps.{DoesConsole};
 ghost use Rattle.cache_tier.specs.PassedSteps.{passed_reply};
 ghost use Rattle.cache_tier.specs.Rules.{named};
 ghost use Rattle.cache_tier.specs.TierStates.{Tier as AbstractTier};
-ghost use Rattle.cache_tier.specs.Worlds.{Tries, faulty};
+ghost use Rattle.cache_tier.specs.Worlds.{Tries};
 ghost use Rattle.tier_base.specs.declared.code.Code.TheVariants as code;
 
 use crate::tier::Tier;
@@ -24,6 +23,7 @@ use tier_base::{Code, Name, Seq};
 use tier_statements::{bank_fault, done, refuse, refuses};
 
 impl Tier {
+    ghost use Rattle.cache_engine.specs.Performing.{IsCaused};
     ghost use Rattle.cache_engine.specs.Sites.{Serves, seen_at};
     ghost use Rattle.cache_engine.specs.Stored.{IsStoredAs};
     ghost use Rattle.cache_engine.specs.Writing.{JudgesWrites, writes_through};
@@ -43,10 +43,10 @@ impl Tier {
             (seen_at (P.Disk.held site.old) (P.bank_faults site.old) (P.Disk.moment site.old) (P.Disk.shared site.old))
             (seen_at (P.Disk.held site.new) (P.bank_faults site.new) (P.Disk.moment site.new) (P.Disk.shared site.new))
             (λ w w'. Tries (DoesConsole (console.Writes writes.now)) w w' result) }
-        ensures faults { P.bank_faults site.old ≤ P.bank_faults site.new }
-        ensures moment { P.Disk.moment site.old ≤ P.Disk.moment site.new }
-        ensures shares { P.Disk.shared site.new ≡ P.Disk.shared site.old }
-        ensures cause { result ≡ faulty code.BackingFault → Rose (P.bank_faults site.old) (P.bank_faults site.new) }
+        ensures cause { IsCaused
+            (seen_at (P.Disk.held site.old) (P.bank_faults site.old) (P.Disk.moment site.old) (P.Disk.shared site.old))
+            (seen_at (P.Disk.held site.new) (P.bank_faults site.new) (P.Disk.moment site.new) (P.Disk.shared site.new))
+            result }
     {
         match self.judge_writes(alloc, writes) {
             Err(refused) => refuse(alloc, refused),

@@ -10,7 +10,7 @@ use sql_subset::request::ConsoleRequest;
 use std::alloc::{AllocError, Global};
 use table_defs::{BackingSchema, TableDef, copied_schema};
 use tier_base::Code;
-use tier_laws::{others_shown_law, table_shown_law};
+use tier_laws::{others_shown_law, round_shown_law, table_shown_law};
 use tier_statements::{done, faulty};
 
 impl Tier {
@@ -43,7 +43,11 @@ impl Tier {
             ConsoleRequest::CreateTable(declaration) => {
                 self.create_table(alloc, site, declaration)
             }
-            ConsoleRequest::Writes(_) => Err(Refused::Memory),
+            ConsoleRequest::Writes(writes) => {
+                others_shown_law();
+                round_shown_law();
+                Ok(self.write_console(alloc, site, writes.as_slice()))
+            }
         }
     }
 

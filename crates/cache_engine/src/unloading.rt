@@ -1,18 +1,35 @@
 //! UNLOAD of cache groups.
 
+ghost use Rattle.std.specs.Prelude.{◌≡◌, ◌==◌, IfOk, OnOk, length};
+ghost use Rattle.std.specs.List.{list_all};
+ghost use Rattle.instances.specs.Views.{kept_at};
+ghost use Rattle.group_catalog.specs.Kept.{group_seen};
+ghost use Rattle.group_store.specs.Stores.{SameButSpare};
 ghost use Rattle.sql_subset.specs.declared.stmt.Stmt.TheVariants as statement;
+ghost use Rattle.table_defs.specs.Declarations.{Tells};
+ghost use Rattle.cache_tier.specs.Conditions.{overflows};
+ghost use Rattle.cache_engine.specs.Unloading.{CutsBy, cut_all, leaving, unload_state};
 
+use crate::aiming::{Aim, about, aim_by, asks_all, is_read_only, is_whole_only, judge_writes};
 use crate::tier::Tier;
 use cache_tier::reply::Reply;
-use row_types::Refused;
-use sql_subset::stmt::OfGroup;
-use std::alloc::Global;
-use tier_base::SessionId;
+use group_catalog::{KeptGroup, ResolvedWhich};
+use group_store::Store;
+use indexed_rows::key_at;
+use open_sessions::laws::label_law;
+use row_types::{Detail, Key, Refused, Rule};
+use session_state::Session;
+use sql_subset::stmt::{OfGroup, Which};
+use std::alloc::{AllocError, Global};
+use table_state::Op;
+use tier_base::{Code, SessionId};
+use tier_statements::done;
 
 impl Tier {
     ghost use Rattle.cache_engine.specs.Performing.{Executes, IsCalm, PerformsIn, reply_of};
     ghost use Rattle.cache_engine.specs.Sites.{SiteView};
     ghost use Rattle.cache_engine.specs.Stored.{IsSound};
+    ghost use Rattle.cache_engine.specs.Unloading.{AimsUnloadIn};
 
     /// UNLOAD CACHE GROUP: the instances that match leave the cache, and nothing changes at the backing database. The reply
     /// tells how many left.
@@ -31,6 +48,133 @@ impl Tier {
         ensures sound { IsSound self.new }
         ensures calm { IsCalm (reply_of result) }
     {
-        Err(Refused::Memory)
+        match self.aim_unload(alloc, id, unload) {
+            Err(refused) => Err(refused),
+            Ok(aim) => {
+                let _ = &aim;
+                Err(Refused::Memory)
+            }
+        }
+    }
+
+    // What UNLOAD names, where nothing refuses it: 112; 103; 115; 122; 104; 105. Or memory was wanting.
+    fn aim_unload(&self, alloc: Global, id: SessionId, unload: &OfGroup) -> Result<Aim, Refused>
+        requires { IsSound self.now }
+        ensures { AimsUnloadIn self.now id unload.now result }
+    {
+        label_law();
+        match self.catalog.find(&unload.group) {
+            None => Err(about(alloc, Code::UnknownGroup, &unload.group)),
+            Some(place) => match self.catalog.get(place) {
+                None => Err(Refused::Memory),
+                Some(group) => match self.schema.get(group.def.tree.root.table.0 as usize) {
+                    None => Err(Refused::Memory),
+                    Some(def) => {
+                        let own = self.sessions.ops(id);
+                        let state = judge_unload(alloc, group, &unload.which, own);
+                        aim_by(
+                            alloc,
+                            def,
+                            &unload.which,
+                            state,
+                            place,
+                            is_read_only(group),
+                        )
+                    }
+                },
+            },
+        }
+    }
+}
+
+// 115 of a condition on an explicit READONLY group, then 122.
+fn judge_unload(alloc: Global, group: &KeptGroup, which: &Which, own: &[Op]) -> Result<(), Refused>
+    ensures { Tells result (unload_state which.now own.now (group_seen group.now)) }
+{
+    if is_whole_only(group, which) {
+        return Err(about(alloc, Code::WrongState, &group.def.name));
+    }
+    judge_writes(own)
+}
+
+// Whether no session has written.
+fn have_rested(sessions: &[Session]) -> bool
+    ensures { result ≡ list_all (λ s. length s.ops.items == 0) sessions.now }
+{
+    sessions.iter().all(|session| session.ops.is_empty())
+}
+
+// The instances leave whose root rows match, with their keys at these columns; how many. The refusal is 120 of the
+// condition on a root row, or memory was wanting. All then stays.
+fn cut_matching(
+    alloc: Global,
+    store: &mut Store,
+    columns: &[usize],
+    which: &ResolvedWhich,
+) -> Result<usize, Refused>
+    ensures { CutsBy which.now columns.now store.old store.new result }
+{
+    if overflows(store, which) {
+        return Err(Refused::Rule(Rule {
+            code: Code::Overflow,
+            detail: Detail::Nothing,
+        }));
+    }
+    match leaving(alloc, store, columns, which) {
+        Err(AllocError) => Err(Refused::Memory),
+        Ok(keys) => {
+            cut_all(store, keys.as_slice());
+            Ok(keys.len())
+        }
+    }
+}
+
+// Whether the condition is 120 on some root row.
+fn overflows(store: &Store, which: &ResolvedWhich) -> bool
+    ensures { result ≡ overflows which.now.filter (kept_at store.now.tables 0) }
+{
+    for place in 0..store.len(0) {
+        match store.row(0, place) {
+            None => {}
+            Some(row) => {
+                if which.selects(row).is_none() {
+                    return true;
+                }
+            }
+        }
+    }
+    false
+}
+
+// The keys of the root rows that match.
+fn leaving(
+    alloc: Global,
+    store: &Store,
+    columns: &[usize],
+    which: &ResolvedWhich,
+) -> Result<Vec<Key>, AllocError>
+    ensures { IfOk result (λ keys. keys.items ≡ leaving which.now columns.now (kept_at store.now.tables 0)) }
+{
+    let mut keys = Vec::new(alloc);
+    for place in 0..store.len(0) {
+        match store.row(0, place) {
+            None => {}
+            Some(row) => {
+                let key = key_at(alloc, columns, row)?;
+                if which.matches(row, &key) {
+                    keys.push(key)?;
+                }
+            }
+        }
+    }
+    Ok(keys)
+}
+
+// The instances of these root keys leave. It takes no memory.
+fn cut_all(store: &mut Store, keys: &[Key])
+    ensures { SameButSpare (cut_all keys.now store.old) store.new }
+{
+    for key in keys {
+        store.drop_instance(key);
     }
 }

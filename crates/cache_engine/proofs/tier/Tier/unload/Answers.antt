@@ -1,9 +1,5 @@
-use Rattle.sql_subset.specs.declared.stmt.Stmt.TheVariants as statement
-use Rattle.cache_engine.proofs.WantLaws.{executes_wanting, wanting_calm}
+use Rattle.cache_engine.proofs.UnloadAims.{not_aimed}
 use Rattle.cache_engine.proofs.tier.Tier.unload.Goals as goal
 
-pub returns-clause-performs : goal.returns-clause-performs
-returns-clause-performs c = λ site. executes_wanting c.args.self.now site c.args.id (statement.Unload c.args.unload.now)
-
-pub returns-clause-calm : goal.returns-clause-calm
-returns-clause-calm c = wanting_calm
+pub returns-in-Err-clause-performs : goal.returns-in-Err-clause-performs
+returns-in-Err-clause-performs c = λ site. not_aimed c.args.self.now site c.args.id c.args.unload.now c.in-Err.refused c.in-Err.ensures

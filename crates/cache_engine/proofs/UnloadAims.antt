@@ -1,0 +1,83 @@
+-- What UNLOAD names, over what is stored.
+use Rattle.std.proofs.Common.{◌≡◌, ℕ, Bool, Option, Some, None, Result, Ok, Err, List, [], ◌∷◌, slice_get, refl, sym, ap, subst, ◌∙◌}
+use Rattle.std.specs.Option.{option_or}
+use Rattle.tier_base.specs.declared.code.Code.TheVariants as code
+use Rattle.tier_base.specs.declared.number.SessionId.{SessionId}
+use Rattle.row_types.specs.declared.rule.Refused.{Refused}
+use Rattle.row_types.specs.declared.rule.Refused.TheVariants as refused
+use Rattle.row_types.specs.declared.rule.Rule.{Rule}
+use Rattle.table_defs.specs.declared.definition.TableDef.{TableDef}
+use Rattle.table_state.specs.declared.operation.Op.{Op}
+use Rattle.sql_subset.specs.declared.stmt.OfGroup.{OfGroup}
+use Rattle.sql_subset.specs.declared.stmt.Stmt.TheVariants as statement
+use Rattle.resolution.specs.Results.{IsRefusal}
+use Rattle.open_sessions.specs.Lookups.{open_ops}
+use Rattle.open_sessions.specs.Opening.{seen_all}
+use Rattle.group_catalog.specs.Catalogs.{groups_in}
+use Rattle.cache_tier.specs.Conditions.{root_def, which_names, which_types}
+use Rattle.cache_tier.specs.Groups.{Group, is_read_only, place_called}
+use Rattle.cache_tier.specs.Order.{Broken, first_broken, of_group, refusal, unload_broken}
+use Rattle.cache_tier.specs.Rules.{named}
+use Rattle.cache_tier.specs.TierStates.{Session, Tier}
+use Rattle.cache_engine.specs.declared.aiming.Aim.{Aim}
+use Rattle.cache_engine.specs.declared.tier.Tier.{Tier as Stored}
+use Rattle.cache_engine.specs.Aiming.{AimsBy, which_fault}
+use Rattle.cache_engine.specs.Performing.{Executes, PerformsIn}
+use Rattle.cache_engine.specs.Sites.{SiteView}
+use Rattle.cache_engine.specs.Stored.{HasSession, IsSound, IsStoredAs, without_list}
+use Rattle.cache_engine.specs.Unloading.{AimsUnload, AimsUnloadIn, unload_state}
+use Rattle.cache_engine.proofs.AimLaws.{IsUnlisted, unlisted}
+use Rattle.cache_engine.proofs.CalmLaws.{NumberLaw, own_here, refused_by, wanting_still}
+use Rattle.cache_engine.proofs.DropLocks.{place_stored}
+
+of_none : (a : Tier) (name : List ℕ) (broken : Group → Broken) → place_called a.groups name ≡ None → first_broken (of_group a name broken) ≡ Some (named code.UnknownGroup name)
+of_none a name broken none = rw none refl
+
+of_some : (a : Tier) (name : List ℕ) (broken : Group → Broken) (place : ℕ) (g : Group) → place_called a.groups name ≡ Some place → slice_get a.groups place ≡ Some g → first_broken (of_group a name broken) ≡ first_broken (broken g)
+of_some a name broken place g found there = rw found (rw there refl)
+
+or_last : (o : Option Rule) → option_or o None ≡ o
+or_last None = refl
+or_last (Some r) = refl
+
+pub unknown_unload : (t : Stored) (a : Tier) (s : Session) (u : OfGroup) (e : Refused) → IsStoredAs t a → place_called (groups_in t.catalog) u.group ≡ None → IsRefusal (named code.UnknownGroup u.group) e → AimsUnload a s u (Err e)
+unknown_unload t a s u (refused.Rule rule) is none told = of_none a u.group (unload_broken a s u.which) (place_stored t a u.group is ∙ none) ∙ ap Some (sym told)
+unknown_unload t a s u refused.Memory is none told = tt
+
+refusal_is : (a : Tier) (s : Session) (u : OfGroup) (place : ℕ) (g : Group) → place_called a.groups u.group ≡ Some place → slice_get a.groups place ≡ Some g
+    → refusal a s (statement.Unload u) ≡ which_fault (root_def a g) u.which (unload_state u.which s.own g)
+refusal_is a s u place g found there =
+    of_some a u.group (unload_broken a s u.which) place g found there
+    ∙ ap (λ o. option_or (which_names (root_def a g) u.which) (option_or (unload_state u.which s.own g) o)) (or_last (which_types (root_def a g) u.which))
+
+aims_so : (a : Tier) (s : Session) (u : OfGroup) (place : ℕ) (g : Group) (read_only : Bool) (result : Result Aim Refused) → place_called a.groups u.group ≡ Some place → slice_get a.groups place ≡ Some g → read_only ≡ is_read_only g
+    → AimsBy (root_def a g) u.which (unload_state u.which s.own g) place read_only result → AimsUnload a s u result
+aims_so a s u place g read_only (Ok aim) found there kind e = record {
+  group = g;
+  free = refusal_is a s u place g found there ∙ e.0;
+  place = found ∙ ap Some (sym e.2);
+  there = ap (slice_get a.groups) e.2 ∙ there;
+  kind = sym kind ∙ sym e.3;
+  is = e.1;
+}
+aims_so a s u place g read_only (Err (refused.Rule rule)) found there kind e = refusal_is a s u place g found there ∙ e
+aims_so a s u place g read_only (Err refused.Memory) found there kind e = tt
+
+pub unload_aimed : NumberLaw → (t : Stored) (a : Tier) (s : Session) (id : SessionId) (u : OfGroup) (place : ℕ) (seen : Group) (def : TableDef) (own : List Op) (read_only : Bool) (result : Result Aim Refused)
+    → IsSound t → IsStoredAs t a → HasSession t id s → place_called (groups_in t.catalog) u.group ≡ Some place → slice_get (groups_in t.catalog) place ≡ Some seen
+    → slice_get t.schema seen.def.tree.root.table.0 ≡ Some def → own ≡ open_ops id (seen_all t.sessions) → read_only ≡ is_read_only seen
+    → AimsBy (Some def) u.which (unload_state u.which own seen) place read_only result → AimsUnload a s u result
+unload_aimed law t a s id u place seen def own read_only result sound is has found at defined mine kind by =
+    let g : IsUnlisted a.groups place seen = unlisted a.groups place seen (ap (λ gs. slice_get gs place) is.groups ∙ at) in
+    let owned : own ≡ s.own = mine ∙ own_here law t id s sound has in
+    let root : Some def ≡ root_def a g.group =
+        sym defined ∙ ap (λ (x : Group). slice_get t.schema x.def.tree.root.table.0) (sym g.is) ∙ ap (λ defs. slice_get defs g.group.def.tree.root.table.0) (sym is.schema) in
+    let state : unload_state u.which own seen ≡ unload_state u.which s.own g.group =
+        ap (unload_state u.which own) (sym g.is) ∙ ap (λ ops. unload_state u.which ops g.group) owned in
+    aims_so a s u place g.group read_only result (place_stored t a u.group is ∙ found) g.there (kind ∙ ap is_read_only (sym g.is))
+    (subst (λ r. AimsBy r u.which (unload_state u.which s.own g.group) place read_only result) root
+    (subst (λ st. AimsBy (Some def) u.which st place read_only result) state by))
+
+pub not_aimed : (t : Stored) (site : SiteView) (id : SessionId) (u : OfGroup) (e : Refused) → AimsUnloadIn t id u (Err e) → PerformsIn t t site site id (Executes (statement.Unload u)) (Err e)
+not_aimed t site id u (refused.Rule rule) aims = refused_by t site id (statement.Unload u) rule (λ s w has is. aims w.tier s is has)
+not_aimed t site id u refused.Memory aims = wanting_still t t site id (statement.Unload u) (λ w stands. stands)
