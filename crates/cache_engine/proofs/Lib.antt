@@ -10,14 +10,8 @@ pub mod DefiningLaws
 pub mod DrainLaws
 pub mod DueItemLaws
 pub mod DueLaws
+pub mod DueSteps
 pub mod DueStored
-pub mod NamedLaws
-pub mod NamingLaws
-pub mod QueryLaws
-pub mod QuietLaws
-pub mod OthersLaws
-pub mod GroupComes
-pub mod GroupingLaws
 pub mod EarlyLaws
 pub mod LineLaws
 pub mod RequestLaws
