@@ -17,14 +17,8 @@ pub mod DropLocks
 pub mod DroppingLaws
 pub mod DueItemLaws
 pub mod DueLaws
+pub mod DueSteps
 pub mod DueStored
-pub mod NamedLaws
-pub mod NamingLaws
-pub mod QueryLaws
-pub mod QuietLaws
-pub mod OthersLaws
-pub mod GroupComes
-pub mod GroupingLaws
 pub mod EarlyLaws
 pub mod FillLaws
 pub mod FillSteps
