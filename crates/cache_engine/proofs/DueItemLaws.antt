@@ -1,6 +1,5 @@
 -- Items of due work, one behind the other, and what they tell.
 use Rattle.std.proofs.Common.{◌≡◌, ◌≤◌, ℕ, ◌+◌, ◌-◌, ◌^◌, min, Bool, true, false, cond, ◌&&◌, ◌||◌, nat_eq, Option, Some, None, List, [], ◌∷◌, ◌++◌, length, map, drop, slice_get, count_by, refl, sym, ap, subst, ◌∙◌, append_assoc, arith}
-use Rattle.std.specs.Prelude.{Result, Ok, Err}
 use Rattle.std.proofs.lemmas.List.{append-nil}
 use Rattle.std.proofs.lemmas.List.Sums.{sum_by-append}
 use Rattle.tier_base.specs.declared.number.TableId.{TableId}
@@ -9,9 +8,9 @@ use Rattle.tier_base.specs.declared.code.Code.TheVariants as code
 use Rattle.tier_base.specs.Codes.{number_of}
 use Rattle.outside.specs.Holding.{Held}
 use Rattle.cache_tier.specs.DueWork.{DueSetsOf, Item, Noted, ThenItem, is_noted, noted, noted_code, notes_of, stopped, stopped_by}
-use Rattle.cache_tier.specs.Groups.{Group, covers, definitions_of, is_defined_on, is_table_of, is_writethrough}
+use Rattle.cache_tier.specs.Groups.{Group, definitions_of, is_defined_on, is_table_of, is_writethrough}
 use Rattle.cache_tier.specs.Sets.{RefreshesIfShown}
-use Rattle.cache_tier.specs.Steps.{Rose, faults_in, note_tells, tells}
+use Rattle.cache_tier.specs.Steps.{faults_in, note_tells, tells}
 use Rattle.cache_tier.specs.Worlds.{IsUnshared, Stage, World}
 use Rattle.cache_tier.specs.declared.reply.Last.{Last}
 use Rattle.cache_tier.specs.declared.reply.Last.TheVariants.{Done, Fault, No}

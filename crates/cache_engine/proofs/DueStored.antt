@@ -1,8 +1,8 @@
 -- What is due, by the stored clock, and what a new moment and a refresh that was tried leave of what is stored.
-use Rattle.std.proofs.Common.{◌≡◌, ◌≤◌, ℕ, ◌+◌, max, Bool, true, false, cond, not, ◌&&◌, ◌||◌, nat_eq, is_none, find, filter, Option, Some, None, List, [], ◌∷◌, ◌++◌, map, unwrap_or, refl, sym, ap, subst, ◌∙◌, arith}
+use Rattle.std.proofs.Common.{◌≡◌, ℕ, ◌+◌, max, Bool, true, false, cond, not, ◌&&◌, ◌||◌, nat_eq, is_none, find, filter, Option, Some, None, List, [], ◌∷◌, ◌++◌, map, unwrap_or, refl, sym, ap, subst, ◌∙◌, arith}
 use Rattle.std.specs.Prelude.{Err}
 use Rattle.std.specs.Bool.{MatchBool}
-use Rattle.std.specs.List.{list_all, list_any}
+use Rattle.std.specs.List.{list_all}
 use Rattle.std.specs.Option.{option_map}
 use Rattle.std.proofs.lemmas.Bool.{eqb-true}
 use Rattle.std.proofs.lemmas.List.{append-nil}
@@ -11,7 +11,7 @@ use Rattle.outside.specs.declared.fault.BankError.TheVariants as bank
 use Rattle.order_laws.proofs.TruthLaws.{both_true}
 use Rattle.sql_subset.specs.declared.request.Line.{Line}
 use Rattle.table_state.specs.declared.history.Entry.{Entry}
-use Rattle.cache_tier.specs.Aging.{after_aging, aged, is_aged_by, is_aging_due, is_over}
+use Rattle.cache_tier.specs.Aging.{aged, is_aged_by, is_aging_due, is_over}
 use Rattle.cache_tier.specs.DoubtSteps.{SettlesDoubt}
 use Rattle.cache_tier.specs.DueWork.{DueAging, DueDoubt, DueRound, DueSets, DueSetsOf, DueWork, Item, Noted, ThenItem, due_sets, intervals, is_round_due, noted, stopped, with_number}
 use Rattle.cache_tier.specs.Groups.{Group, definitions_of, is_explicit, is_on, is_read_only, is_synchronous}
@@ -19,7 +19,7 @@ use Rattle.cache_tier.specs.Rounds.{Round}
 use Rattle.cache_tier.specs.Sets.{RefreshesIfShown, RefreshesSet, has_something, holds_some, is_in_set, shows_something}
 use Rattle.cache_tier.specs.Steps.{added_by, at_moment, with_moment}
 use Rattle.cache_tier.specs.TierStates.{SetState, Tier, cut, is_of_interval, refresh_tried}
-use Rattle.cache_tier.specs.Worlds.{IsUnshared, OnlyWhere, Passes, World, faulty}
+use Rattle.cache_tier.specs.Worlds.{OnlyWhere, Passes, World, faulty}
 use Rattle.cache_tier.specs.declared.reply.Note.{Note}
 use Rattle.cache_tier.specs.declared.reply.Reply.{Reply}
 use Rattle.group_catalog.specs.Catalogs.{groups_in}
@@ -28,11 +28,10 @@ use Rattle.tier_laws.specs.Standing.{Stands}
 use Rattle.cache_engine.specs.declared.clock.SetMoment.{SetMoment}
 use Rattle.cache_engine.specs.declared.clock.TierClock.{TierClock}
 use Rattle.cache_engine.specs.declared.tier.Tier.{Tier as Stored}
-use Rattle.cache_engine.specs.Due.{IsDueCaused}
-use Rattle.cache_engine.specs.DueItems.{DoesItem, KeepsSets, due_at, due_of, is_due_at, note_of, round_is_due}
+use Rattle.cache_engine.specs.DueItems.{DoesItem, KeepsSets, due_at, is_due_at, note_of, round_is_due}
 use Rattle.cache_engine.specs.Performing.{IsStopCaused, Performs, StandsFor}
 use Rattle.cache_engine.specs.Refreshing.{has_moment, is_noted, moment_in, moments_with}
-use Rattle.cache_engine.specs.Sites.{IsAt, SiteView}
+use Rattle.cache_engine.specs.Sites.{SiteView}
 use Rattle.cache_engine.specs.Stored.{IsSound, IsStoredAs, KeepsTime, is_plain, refreshed_in, set_seen, without_list}
 use Rattle.cache_engine.proofs.DueItemLaws.{as_item, idle_item, noted_item, since_none, stopped_item, then_items}
 use Rattle.cache_engine.proofs.QuietLaws.{at_still}
@@ -155,8 +154,9 @@ sound_clocked t clock sound = record {
   verified = λ is. let v = sound.verified is in record { rows = v.rows; own = v.own };
 }
 
-stored_clocked : (t : Stored) (clock : TierClock) (a b : Tier) → IsStoredAs t a → b ≡ record a { now = b.now; added = b.added; sets = b.sets } → KeepsTime clock b.now b.added a.round b.sets a.settings → IsStoredAs (record t { clock = clock }) (record a { now = b.now; added = b.added; sets = b.sets })
-stored_clocked t clock a b is same time = record {
+stored_clocked : (t : Stored) (clock : TierClock) (a : Tier) (now added : ℕ) (sets : List SetState) → IsStoredAs t a → KeepsTime clock now added a.round sets a.settings
+    → IsStoredAs (record t { clock = clock }) (record a { now = now; added = added; sets = sets })
+stored_clocked t clock a now added sets is time = record {
   schema = is.schema;
   stale = is.stale;
   groups = is.groups;
@@ -180,7 +180,7 @@ stands_clocked w now added sets x = record {
 -- the tier stands at the new moment
 timed : (t : Stored) (clock : TierClock) (base : ℕ) (line : Line) (w : World) → StandsFor t w → KeepsTime clock (at_moment base line w.tier).now (added_by line w.tier) w.tier.round w.tier.sets w.tier.settings → StandsFor (record t { clock = clock }) (with_moment base line w)
 timed t clock base line w is time = record {
-  stored = stored_clocked t clock w.tier (at_moment base line w.tier) is.stored refl time;
+  stored = stored_clocked t clock w.tier (at_moment base line w.tier).now (added_by line w.tier) w.tier.sets is.stored time;
   shows = is.shows;
   stands = stands_clocked w (at_moment base line w.tier).now (added_by line w.tier) w.tier.sets is.stands;
   unkept = is.unkept;
@@ -217,9 +217,6 @@ line_done t mid new clock base now added line b a earlier notes told stop adds m
     (subst (λ l. DoesItem DueWork (record t { clock = clock }) new b a [] l stop) (sym told_is)
     (subst (λ e. DoesItem DueWork (record t { clock = clock }) new b a e notes stop) none
     (subst (λ m. DoesItem DueWork m new b a earlier notes stop) mid_is does)))
-
-pub line_caused : (old new : Stored) (b a : SiteView) (notes : List Note) (stop : Option Reply) → DoesItem DueWork old new b a [] notes stop → IsDueCaused b a (due_of notes stop)
-line_caused old new b a notes stop does = subst (λ l. IsDueCaused b a (due_of l stop)) (since_none notes) does.cause
 
 -- the moments of refreshes
 
@@ -342,7 +339,7 @@ refresh_wanting t clock b interval sound has shown same moments w at stands apar
       world = w';
       at = at_still b w (refresh_tried interval a) at;
       stands = record {
-        stored = stored_clocked t clock a (refresh_tried interval a) stands.stored refl time;
+        stored = stored_clocked t clock a a.now a.added (refresh_tried interval a).sets stands.stored time;
         shows = stands.shows;
         stands = stands_clocked w a.now a.added (refresh_tried interval a).sets stands.stands;
         unkept = stands.unkept;

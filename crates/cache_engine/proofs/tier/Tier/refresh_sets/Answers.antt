@@ -1,4 +1,4 @@
-use Rattle.std.proofs.Common.{◌<◌, arith, length}
+use Rattle.std.proofs.Common.{arith, get_or}
 use Rattle.cache_engine.proofs.DueItemLaws.{set_done, set_ended, sets_begun, sets_done}
 use Rattle.cache_engine.proofs.DueSteps.{at_number, entries_begun, entries_behind, entry_here}
 use Rattle.cache_engine.proofs.tier.Tier.refresh_sets.Goals as goal
@@ -16,7 +16,7 @@ loop-interval-init g c =
 pub refresh_due-requires-clause-entry : goal.refresh_due-requires-clause-entry
 refresh_due-requires-clause-entry g c =
     let test = c.loop-interval-test.true in
-    entry_here c.loop-interval.self.clock.sets.items c.args.intervals.now c.loop-interval.interval-index _
+    entry_here c.loop-interval.self.clock.sets.items c.args.intervals.now c.loop-interval.interval-index (get_or c.args.intervals.now c.loop-interval.interval-index 0)
     (at_number c.args.intervals.now c.loop-interval.interval-index (omega (arith, test))) c.loop-interval.invariant.entries
 
 pub loop-interval-preserved : goal.loop-interval-preserved
@@ -27,12 +27,12 @@ loop-interval-preserved g c =
     let capacity = c.in-None.ensures.capacity in
     let at = at_number c.args.intervals.now c.loop-interval.interval-index (omega (arith, test)) in
     record {
-      does = set_done c.args.intervals.now c.loop-interval.interval-index _ c.args.self.now c.loop-interval.self c.refresh_due.new.self
+      does = set_done c.args.intervals.now c.loop-interval.interval-index (get_or c.args.intervals.now c.loop-interval.interval-index 0) c.args.self.now c.loop-interval.self c.refresh_due.new.self
           _ _ _ c.args.notes.now.items c.loop-interval.notes.items c.refresh_due.new.notes.items at c.loop-interval.invariant.does
           c.in-None.ensures.does;
       sound = c.in-None.ensures.sound;
       entries = entries_behind c.loop-interval.self.clock.sets.items c.refresh_due.new.self.clock.sets.items c.args.intervals.now
-          c.loop-interval.interval-index _ at c.in-None.ensures.does.entries c.loop-interval.invariant.entries;
+          c.loop-interval.interval-index (get_or c.args.intervals.now c.loop-interval.interval-index 0) at c.in-None.ensures.does.entries c.loop-interval.invariant.entries;
       room = omega (arith, room, few, capacity);
     }
 
@@ -40,7 +40,7 @@ pub returns-in-Some-clause-does : goal.returns-in-Some-clause-does
 returns-in-Some-clause-does g c =
     let test = c.loop-interval-test.true in
     let at = at_number c.args.intervals.now c.loop-interval.interval-index (omega (arith, test)) in
-    set_ended c.args.intervals.now c.loop-interval.interval-index _ c.args.self.now c.loop-interval.self c.refresh_due.new.self
+    set_ended c.args.intervals.now c.loop-interval.interval-index (get_or c.args.intervals.now c.loop-interval.interval-index 0) c.args.self.now c.loop-interval.self c.refresh_due.new.self
     _ _ _ c.args.notes.now.items c.loop-interval.notes.items c.refresh_due.new.notes.items c.in-Some.stop at
     c.loop-interval.invariant.does c.in-Some.ensures.does
 
