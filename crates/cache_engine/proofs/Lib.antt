@@ -24,6 +24,9 @@ pub mod HeldLaws
 pub mod LoadLaws
 pub mod LoadedLaws
 pub mod MatchLaws
+pub mod InsertDone
+pub mod InsertLaws
+pub mod InsertedLaws
 pub mod NamedLaws
 pub mod GrowingLaws
 pub mod NamingLaws

@@ -13,6 +13,8 @@ pub mod Filling
 pub mod Fresh
 pub mod Gathering
 pub mod Grouping
+pub mod Inserting
+pub mod Naming
 pub mod Performing
 pub mod Putting
 pub mod Refreshing

@@ -20,6 +20,7 @@ mod grouping;
 mod holding;
 mod growing;
 mod gathering;
+pub mod inserting;
 pub mod loading;
 pub mod loading_whole;
 mod loading_written;
