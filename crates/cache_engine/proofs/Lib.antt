@@ -27,6 +27,15 @@ pub mod FreshLaws
 pub mod GatherLaws
 pub mod GroupGoes
 pub mod GroupRows
+pub mod GroupingLaws
+pub mod HeldLaws
+pub mod LoadLaws
+pub mod LoadedLaws
+pub mod MatchLaws
+pub mod InsertDone
+pub mod InsertLaws
+pub mod InsertedLaws
+pub mod NamedLaws
 pub mod GrowingLaws
 pub mod HeldLaws
 pub mod LineLaws

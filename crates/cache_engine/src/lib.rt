@@ -22,6 +22,7 @@ pub mod early;
 mod holding;
 mod gathering;
 mod growing;
+pub mod inserting;
 pub mod loading;
 pub mod loading_whole;
 mod loading_written;
