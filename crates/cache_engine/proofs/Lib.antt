@@ -37,12 +37,8 @@ pub mod InsertLaws
 pub mod InsertedLaws
 pub mod NamedLaws
 pub mod GrowingLaws
-pub mod HeldLaws
 pub mod LineLaws
-pub mod LoadLaws
 pub mod LoadingLaws
-pub mod MatchLaws
-pub mod LoadedLaws
 pub mod OpStores
 pub mod PutLaws
 pub mod ReadLaws

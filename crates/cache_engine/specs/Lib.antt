@@ -17,7 +17,6 @@ pub mod Gathering
 pub mod Grouping
 pub mod Loaded
 pub mod Inserting
-pub mod Naming
 pub mod Performing
 pub mod Putting
 pub mod Refreshing
