@@ -7,6 +7,7 @@ use Rattle.std.specs.Option.{option_map}
 use Rattle.std.proofs.lemmas.Bool.{eqb-true}
 use Rattle.std.proofs.lemmas.List.{append-nil}
 use Rattle.tier_base.specs.declared.code.Code.TheVariants as code
+use Rattle.outside.specs.declared.fault.BankError.{BankError}
 use Rattle.outside.specs.declared.fault.BankError.TheVariants as bank
 use Rattle.order_laws.proofs.TruthLaws.{both_true}
 use Rattle.sql_subset.specs.declared.request.Line.{Line}
@@ -19,7 +20,7 @@ use Rattle.cache_tier.specs.Rounds.{Round}
 use Rattle.cache_tier.specs.Sets.{RefreshesIfShown, RefreshesSet, has_something, holds_some, is_in_set, shows_something}
 use Rattle.cache_tier.specs.Steps.{added_by, at_moment, with_moment}
 use Rattle.cache_tier.specs.TierStates.{SetState, Tier, cut, is_of_interval, refresh_tried}
-use Rattle.cache_tier.specs.Worlds.{OnlyWhere, Passes, World, faulty}
+use Rattle.cache_tier.specs.Worlds.{OnlyWhere, Passes, World, bank_fault, faulty}
 use Rattle.cache_tier.specs.declared.reply.Note.{Note}
 use Rattle.cache_tier.specs.declared.reply.Reply.{Reply}
 use Rattle.group_catalog.specs.Catalogs.{groups_in}
@@ -375,3 +376,23 @@ pub refresh_told : (t : Stored) (clock : TierClock) (b : SiteView) (interval : �
 refresh_told t clock b interval reply sound has shown same moments told =
     subst (λ r. Performs t (record t { clock = clock }) b b (λ w w'. RefreshesIfShown interval w w' (Some r))) (sym told)
     (refresh_wanting t clock b interval sound has shown same moments)
+
+-- a set that shows something is refreshed
+pub refresh_does : (t new : Stored) (b b' : SiteView) (interval : ℕ) (stop : Option Reply) → IsSound t → shows_something interval (groups_in t.catalog) ≡ true
+    → Performs t new b b' (λ w w'. RefreshesSet interval w w' stop) → Performs t new b b' (λ w w'. RefreshesIfShown interval w w' stop)
+refresh_does t new b b' interval stop sound shown does w at stands apart =
+    let x = does w at stands apart in
+    record {
+      world = x.world;
+      at = x.at;
+      stands = x.stands;
+      is = subst (λ y. MatchBool y (RefreshesSet interval w x.world stop) (Passes w x.world stop)) (sym (shows_stored t w interval sound stands.stored ∙ shown)) x.is;
+    }
+
+-- the same with the reply that tells the fault of its call
+pub refresh_failed : (t new : Stored) (b b' : SiteView) (interval : ℕ) (e : BankError) (reply : Reply) → IsSound t → shows_something interval (groups_in t.catalog) ≡ true
+    → Performs t new b b' (λ w w'. RefreshesSet interval w w' (Some (bank_fault e))) → reply ≡ bank_fault e
+    → Performs t new b b' (λ w w'. RefreshesIfShown interval w w' (Some reply))
+refresh_failed t new b b' interval e reply sound shown does told =
+    subst (λ r. Performs t new b b' (λ w w'. RefreshesIfShown interval w w' (Some r))) (sym told)
+    (refresh_does t new b b' interval (Some (bank_fault e)) sound shown does)

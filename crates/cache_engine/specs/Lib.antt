@@ -9,14 +9,14 @@ pub mod Draining
 pub mod Dropping
 pub mod Due
 pub mod DueItems
-pub mod Growing
-pub mod Naming
 pub mod Filling
 pub mod Fresh
 pub mod Gathering
 pub mod Grouping
-pub mod Loaded
+pub mod Growing
 pub mod Inserting
+pub mod Loaded
+pub mod Naming
 pub mod Performing
 pub mod Putting
 pub mod Refreshing
@@ -27,6 +27,6 @@ pub mod Serving
 pub mod Sites
 pub mod Stored
 pub mod Tabling
-pub mod Unloading
 pub mod Taking
+pub mod Unloading
 pub mod Writing

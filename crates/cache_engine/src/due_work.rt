@@ -10,13 +10,13 @@ ghost use Rattle.cache_engine.specs.DueItems.{DoesItem, due_at, note_of, round_i
 ghost use Rattle.cache_engine.specs.Performing.{stop_of};
 ghost use Rattle.cache_engine.specs.Refreshing.{has_moment};
 
-use crate::refreshing::{note_moment, shows_something};
+use crate::refreshing::shows_something;
 use crate::tier::Tier;
 use cache_tier::reply::{Last, Note, Reply};
 use outside::Site;
 use std::alloc::Global;
 use tier_base::Code;
-use tier_statements::faulty;
+use tier_statements::bank_fault;
 
 impl Tier {
     ghost use Rattle.cache_engine.specs.DueItems.{KeepsSets};
@@ -149,12 +149,13 @@ impl Tier {
             (seen_at (P.Disk.held site.new) (P.bank_faults site.new) (P.Disk.moment site.new) (P.Disk.shared site.new))
             (stop_of result) }
     {
-        let _ = &site;
         if !shows_something(&self.catalog, interval) {
             return Ok(());
         }
-        note_moment(&mut self.clock.sets, interval, self.clock.now);
-        Err(faulty(alloc, Code::Memory))
+        match self.refresh_members(alloc, site, interval) {
+            Ok(()) => Ok(()),
+            Err(error) => Err(bank_fault(alloc, error)),
+        }
     }
 }
 

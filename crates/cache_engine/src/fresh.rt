@@ -1,10 +1,14 @@
 //! What is read of the backing database for a refresh of READONLY groups, and how it comes to be shown.
 
-ghost use Rattle.std.specs.Prelude.{◌≡◌, IfOk};
+ghost use Rattle.std.specs.Prelude.{◌≡◌, ℕ, IfOk, true};
 ghost use Rattle.group_catalog.specs.Catalogs.{groups_in};
-ghost use Rattle.cache_engine.specs.Refreshing.{choice_of, is_filled};
+ghost use Rattle.cache_tier.specs.Groups.{definitions_of};
+ghost use Rattle.cache_tier.specs.Sets.{RefreshesSet};
+ghost use Rattle.cache_engine.specs.Refreshing.{choice_of, end_of, has_moment, is_filled};
 
-use crate::refreshing::{Chosen, exchange, give_position, made_stores, tables_read};
+use crate::refreshing::{
+    Chosen, exchange, give_position, made_stores, note_moment, tables_read,
+};
 use crate::tier::Tier;
 use group_store::Store;
 use outside::{BankError, Site};
@@ -39,6 +43,7 @@ impl Fresh {
 
 impl Tier {
     ghost use Rattle.cache_engine.specs.Fresh.{AreFormed, IsCalled, IsExchanged, ReadsFresh};
+    ghost use Rattle.cache_engine.specs.Performing.{Performs};
     ghost use Rattle.cache_engine.specs.Sites.{seen_at};
     ghost use Rattle.cache_engine.specs.Stored.{IsSound};
 
@@ -96,5 +101,40 @@ impl Tier {
         exchange(&mut self.stores, made);
         give_position(&mut self.catalog, chosen, position);
         self.verified = false;
+    }
+
+    // The set of an interval is refreshed from one snapshot, which is noted first. It has an entry among the moments.
+    //
+    // It is `Failed` where the call failed, and `Memory` where memory was wanting.
+    pub(crate) fn refresh_members<P: Site>(
+        &mut self,
+        alloc: Global,
+        site: &mut P,
+        interval: u64,
+    ) -> Result<(), BankError>
+        requires sound { IsSound self.old }
+        requires entry { has_moment self.old.clock.sets.items interval ≡ true }
+        ensures performs { Performs self.old self.new
+            (seen_at (P.Disk.held site.old) (P.bank_faults site.old) (P.Disk.moment site.old) (P.Disk.shared site.old))
+            (seen_at (P.Disk.held site.new) (P.bank_faults site.new) (P.Disk.moment site.new) (P.Disk.shared site.new))
+            (λ w w'. RefreshesSet interval w w' (end_of result)) }
+        ensures groups { definitions_of (groups_in self.new.catalog) ≡ definitions_of (groups_in self.old.catalog) }
+        ensures entries { (i : ℕ) → has_moment self.old.clock.sets.items i ≡ true
+            → has_moment self.new.clock.sets.items i ≡ true }
+        ensures sound { IsSound self.new }
+        ensures called { IsCalled
+            (seen_at (P.Disk.held site.old) (P.bank_faults site.old) (P.Disk.moment site.old) (P.Disk.shared site.old))
+            (seen_at (P.Disk.held site.new) (P.bank_faults site.new) (P.Disk.moment site.new) (P.Disk.shared site.new))
+            result }
+    {
+        note_moment(&mut self.clock.sets, interval, self.clock.now);
+        let chosen = Chosen::Joined(interval, None);
+        match self.read_fresh(alloc, site, chosen, None) {
+            Err(error) => Err(error),
+            Ok(fresh) => {
+                self.show_fresh(chosen, fresh);
+                Ok(())
+            }
+        }
     }
 }

@@ -1,7 +1,6 @@
-use Rattle.std.proofs.Common.{◌∙◌, ap, refl, sym}
+use Rattle.std.proofs.Common.{sym}
 use Rattle.group_catalog.specs.Catalogs.{groups_in}
-use Rattle.cache_engine.specs.Refreshing.{has_moment}
-use Rattle.cache_engine.proofs.DueStored.{entries_noted, plain_explicit, refresh_passes, refresh_told}
+use Rattle.cache_engine.proofs.DueStored.{plain_explicit, refresh_does, refresh_failed, refresh_passes}
 use Rattle.cache_engine.proofs.tier.Tier.refresh_set.Goals as goal
 
 pub shows_something-requires : goal.shows_something-requires
@@ -11,13 +10,10 @@ pub returns-then-not-shows_something-clause-performs : goal.returns-then-not-sho
 returns-then-not-shows_something-clause-performs g c =
     refresh_passes c.args.self.now _ c.args.interval c.requires.sound (sym c.if-not-shows_something.ensures)
 
-pub returns-clause-performs : goal.returns-clause-performs
-returns-clause-performs g c =
-    refresh_told c.args.self.now (record (c.args.self.now.clock) { sets = c.note_moment.new.sets }) _ c.args.interval
-    c.faulty.result c.requires.sound c.requires.entry (sym c.if-not-shows_something.ensures) refl c.note_moment.ensures
-    c.faulty.ensures
+pub returns-in-Ok-clause-performs : goal.returns-in-Ok-clause-performs
+returns-in-Ok-clause-performs g c =
+    refresh_does c.args.self.now _ _ _ c.args.interval _ c.requires.sound (sym c.if-not-shows_something.ensures) c.in-Ok.ensures.performs
 
-pub returns-clause-entries : goal.returns-clause-entries
-returns-clause-entries g c = λ i there.
-    ap (λ s. has_moment s i) c.note_moment.ensures
-    ∙ entries_noted c.args.interval c.args.self.now.clock.now i c.args.self.now.clock.sets.items ∙ there
+pub returns-in-Err-clause-performs : goal.returns-in-Err-clause-performs
+returns-in-Err-clause-performs g c =
+    refresh_failed c.args.self.now _ _ _ c.args.interval c.in-Err.error c.bank_fault.result c.requires.sound (sym c.if-not-shows_something.ensures) c.in-Err.ensures.performs c.bank_fault.ensures
