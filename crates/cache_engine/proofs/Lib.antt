@@ -2,6 +2,7 @@ pub mod AimLaws
 pub mod AskingLaws
 pub mod BankLaws
 pub mod BeginningLaws
+pub mod CallingLaws
 pub mod CalmLaws
 pub mod CauseLaws
 pub mod ChangedLaws
