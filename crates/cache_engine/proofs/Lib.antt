@@ -3,6 +3,7 @@ pub mod AskingLaws
 pub mod BankLaws
 pub mod BeginningLaws
 pub mod CalledLaws
+pub mod CallingLaws
 pub mod CalmLaws
 pub mod CauseLaws
 pub mod ChangedLaws

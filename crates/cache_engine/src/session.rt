@@ -101,6 +101,7 @@ impl Tier {
             (Ok result) }
         ensures rows { rows_of self.new ≡ rows_of self.old }
         ensures sound { IsSound self.new }
+        ensures calm { IsCalm result }
     {
         self.sessions.set_flag(id, level);
         label_law();
