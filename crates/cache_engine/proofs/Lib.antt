@@ -54,6 +54,8 @@ pub mod TablingLaws
 pub mod TakeLaws
 pub mod TakenLaws
 pub mod UnloadAims
+pub mod UnloadDone
+pub mod UnloadLaws
 pub mod VerifyLaws
 pub mod WantLaws
 pub mod WriteLaws
