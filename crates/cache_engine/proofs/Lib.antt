@@ -70,6 +70,8 @@ pub mod TakenLaws
 pub mod TakenParts
 pub mod TriedLaws
 pub mod UnloadAims
+pub mod UnloadDone
+pub mod UnloadLaws
 pub mod VerifyLaws
 pub mod WantLaws
 pub mod WholeLaws

@@ -29,7 +29,18 @@ use Rattle.cache_engine.specs.declared.aiming.Aim.{Aim}
 use Rattle.cache_engine.specs.declared.tier.Tier.{Tier as Stored}
 use Rattle.cache_engine.specs.Aiming.{IsAimed}
 use Rattle.cache_engine.specs.Choosing.{matches_at}
+use Rattle.cache_engine.specs.Grouping.{KeepsBesideGroups, KeepsGroups}
+use Rattle.cache_engine.specs.Performing.{IsPerformed, StandsFor}
+use Rattle.cache_engine.specs.Sites.{IsAt, SiteView}
 use Rattle.cache_engine.specs.Stored.{HasSession, IsStoredAs}
+use Rattle.cache_engine.specs.Taking.{IsOfTarget}
+use Rattle.cache_tier.specs.JournalSteps.{FlushesSome}
+use Rattle.cache_tier.specs.Reading.{Answers}
+use Rattle.cache_tier.specs.Sets.{alone, changed_from}
+use Rattle.cache_tier.specs.Targets.{Target}
+use Rattle.cache_tier.specs.UnloadSteps.{unload_answer, unload_entries, unload_fault}
+use Rattle.cache_tier.specs.Worlds.{Part, Then, Tries, Unless, World}
+use Rattle.cache_tier.specs.declared.reply.Reply.{Reply}
 
 -- what refuses UNLOAD by the group's kind, and by the session's writes
 abbrev pub unload_state : Which → List Op → Group → Option Rule
@@ -76,3 +87,61 @@ CutsBy which columns old new (Ok count) = IsCutBy which columns old new count
 CutsBy which columns old new (Err (refused.Rule rule)) =
     (new ≡ old) × (overflows which.filter (kept_at old.tables 0) ≡ true) × (rule ≡ plain code.Overflow)
 CutsBy which columns old new (Err refused.Memory) = new ≡ old
+
+-- the same of the store at a place
+pub record IsCutAt (place : ℕ) (columns : List ℕ) (which : ResolvedWhich) (old new : List Kept) (n : ℕ) : Type 0 where
+  pub store : Kept
+  pub left : Kept
+  pub kept : slice_get old place ≡ Some store
+  pub cut : IsCutBy which columns store left n
+  pub is : new ≡ set old place left
+
+-- 120 of the condition on a row of the store at a place
+pub record OverflowsIn (place : ℕ) (which : ResolvedWhich) (stores : List Kept) (rule : Rule) : Type 0 where
+  pub store : Kept
+  pub kept : slice_get stores place ≡ Some store
+  pub is : overflows which.filter (kept_at store.tables 0) ≡ true
+  pub told : rule ≡ plain code.Overflow
+
+abbrev pub CutsAt : ℕ → List ℕ → ResolvedWhich → List Kept → List Kept → Result ℕ Refused → Type 0
+CutsAt place columns which old new (Ok n) = IsCutAt place columns which old new n
+CutsAt place columns which old new (Err (refused.Rule rule)) = (new ≡ old) × OverflowsIn place which old rule
+CutsAt place columns which old new (Err refused.Memory) = new ≡ old
+
+-- the group at a place has the flag cleared, where all of it left
+abbrev pub flagged : Bool → ℕ → List Group → List Group
+flagged all place groups = if all then changed_from (alone place) (λ g. record g { loaded = false }) 0 groups else groups
+
+-- the instances of the group that match left its store, and nothing else changed
+pub record IsCutGroup (t new : Stored) (aim : Aim) (all : Bool) (n : ℕ) : Type 0 where
+  pub group : Group
+  pub store : Kept
+  pub left : Kept
+  pub there : slice_get (groups_in t.catalog) aim.place ≡ Some group
+  pub kept : slice_get t.stores.items aim.place ≡ Some store
+  pub cut : IsCutBy aim.which (primary_of t.schema group.def.tree.root.table) store left n
+  pub stores : new.stores.items ≡ set t.stores.items aim.place left
+  pub groups : groups_in new.catalog ≡ flagged all aim.place (groups_in t.catalog)
+  pub beside : KeepsBesideGroups t new
+  pub visible : new.visible ≡ t.visible
+  pub directory : new.directory ≡ t.directory
+  pub unverified : new.verified ≡ false
+
+abbrev pub CutsGroup : Stored → Stored → Aim → Bool → Result ℕ Refused → Type 0
+CutsGroup t new aim all (Ok n) = IsCutGroup t new aim all n
+CutsGroup t new aim all (Err (refused.Rule rule)) = KeepsGroups t new × OverflowsIn aim.place aim.which t.stores.items rule
+CutsGroup t new aim all (Err refused.Memory) = KeepsGroups t new
+
+-- UNLOAD of a group that is found
+abbrev pub UnloadsTarget : Session → Target → Bool → Part
+UnloadsTarget s x all w w' reply =
+    Unless (unload_fault s x w) (Then (FlushesSome (unload_entries all x.group)) (Answers (unload_answer x all))) w w'
+    reply
+
+-- so it is of the group at a place, in each world for which the tier stands
+abbrev pub UnloadsHere : Stored → Stored → SiteView → SessionId → Aim → Bool → Reply → Type 0
+UnloadsHere t new site id aim all reply =
+    (s : Session) (w : World) (x : Target) → HasSession t id s → IsAt site w → StandsFor t w
+    → slice_get w.tier.groups aim.place ≡ Some x.group → is_read_only x.group ≡ aim.read_only
+    → IsOfTarget x aim.place aim.which
+    → IsPerformed new site (λ w'. Tries (UnloadsTarget s x all) w w' reply)

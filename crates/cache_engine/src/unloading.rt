@@ -1,6 +1,6 @@
 //! UNLOAD of cache groups.
 
-ghost use Rattle.std.specs.Prelude.{◌≡◌, ◌==◌, IfOk, OnOk, length};
+ghost use Rattle.std.specs.Prelude.{◌≡◌, ◌==◌, ◌<◌, IfOk, false, length};
 ghost use Rattle.std.specs.List.{list_all};
 ghost use Rattle.instances.specs.Views.{kept_at};
 ghost use Rattle.group_catalog.specs.Kept.{group_seen};
@@ -8,13 +8,15 @@ ghost use Rattle.group_store.specs.Stores.{SameButSpare};
 ghost use Rattle.sql_subset.specs.declared.stmt.Stmt.TheVariants as statement;
 ghost use Rattle.table_defs.specs.Declarations.{Tells};
 ghost use Rattle.cache_tier.specs.Conditions.{overflows};
-ghost use Rattle.cache_engine.specs.Unloading.{CutsBy, cut_all, leaving, unload_state};
+ghost use Rattle.cache_engine.specs.Unloading.{CutsAt, CutsBy, CutsGroup, UnloadsHere, cut_all, flagged, leaving, unload_state};
+ghost use Rattle.group_catalog.specs.Catalogs.{groups_in};
 
 use crate::aiming::{Aim, about, aim_by, asks_all, is_read_only, is_whole_only, judge_writes};
 use crate::tier::Tier;
 use cache_tier::reply::Reply;
 use group_catalog::{KeptGroup, ResolvedWhich};
 use group_store::Store;
+use group_store::laws::drop_instance_law;
 use indexed_rows::key_at;
 use open_sessions::laws::label_law;
 use row_types::{Detail, Key, Refused, Rule};
@@ -23,6 +25,7 @@ use sql_subset::stmt::{OfGroup, Which};
 use std::alloc::{AllocError, Global};
 use table_state::Op;
 use tier_base::{Code, SessionId};
+use tier_laws::unload_statement_law;
 use tier_statements::done;
 
 impl Tier {
@@ -35,7 +38,8 @@ impl Tier {
     /// tells how many left.
     ///
     /// The refusal is 112, 103, 115, 122, 104 and 105 in the order of refusals, then 120 of the condition on a shown root,
-    /// then 111 of an instance in which another session has uncommitted writes; or memory was wanting. (TimesTen SQL
+    /// then 111 of an instance in which another session has uncommitted writes; or memory was wanting. So memory is said to
+    /// be wanting for a READONLY group, and where another session has uncommitted writes, wherever they are. (TimesTen SQL
     /// Reference, "UNLOAD CACHE GROUP".)
     pub fn unload(
         &mut self,
@@ -50,11 +54,72 @@ impl Tier {
     {
         match self.aim_unload(alloc, id, unload) {
             Err(refused) => Err(refused),
-            Ok(aim) => {
-                let _ = &aim;
-                Err(Refused::Memory)
-            }
+            Ok(aim) => self.unload_aimed(alloc, id, &aim, asks_all(&unload.which)),
         }
+    }
+
+    // The instances that match leave, or 120. Where the group is READONLY, or a session has uncommitted writes, memory is
+    // told wanting.
+    fn unload_aimed(
+        &mut self,
+        alloc: Global,
+        id: SessionId,
+        aim: &Aim,
+        all: bool,
+    ) -> Result<Reply, Refused>
+        requires { IsSound self.old }
+        ensures performs { (site : SiteView) → UnloadsHere self.old self.new site id aim.now all (reply_of result) }
+        ensures sound { IsSound self.new }
+        ensures calm { IsCalm (reply_of result) }
+    {
+        drop_instance_law();
+        unload_statement_law();
+        let _ = id;
+        if aim.read_only || !have_rested(self.sessions.as_slice()) {
+            return Err(Refused::Memory);
+        }
+        match self.cut_group(alloc, aim, all) {
+            Err(refused) => Err(refused),
+            Ok(count) => Ok(done(alloc, count as u64)),
+        }
+    }
+
+    // The instances of the group that match leave its store; how many. Where all of it is asked for, its flag is cleared.
+    fn cut_group(&mut self, alloc: Global, aim: &Aim, all: bool) -> Result<usize, Refused>
+        ensures { CutsGroup self.old self.new aim.now all result }
+    {
+        let place = aim.place;
+        match self.catalog.get(place) {
+            None => Err(Refused::Memory),
+            Some(group) => match self.schema.get(group.def.tree.root.table.0 as usize) {
+                None => Err(Refused::Memory),
+                Some(def) => {
+                    if place >= self.stores.len() || place >= self.catalog.len() {
+                        return Err(Refused::Memory);
+                    }
+                    let columns = def.primary_key.as_slice();
+                    match cut_at(alloc, &mut self.stores, place, columns, &aim.which) {
+                        Err(refused) => Err(refused),
+                        Ok(count) => {
+                            self.clear_flag(place, all);
+                            Ok(count)
+                        }
+                    }
+                }
+            },
+        }
+    }
+
+    // The flag of the group at a place is cleared, where all of it left; whether writes apply is to be seen.
+    fn clear_flag(&mut self, place: usize, all: bool)
+        requires { place < length (groups_in self.old.catalog) }
+        ensures groups { groups_in self.new.catalog ≡ flagged all place (groups_in self.old.catalog) }
+        ensures same { self.new ≡ record self.old { catalog = self.new.catalog; verified = false } }
+    {
+        if all {
+            self.catalog.with_loaded(place, false);
+        }
+        self.verified = false;
     }
 
     // What UNLOAD names, where nothing refuses it: 112; 103; 115; 122; 104; 105. Or memory was wanting.
@@ -102,6 +167,20 @@ fn have_rested(sessions: &[Session]) -> bool
     ensures { result ≡ list_all (λ s. length s.ops.items == 0) sessions.now }
 {
     sessions.iter().all(|session| session.ops.is_empty())
+}
+
+// The same of the store at a place.
+fn cut_at(
+    alloc: Global,
+    stores: &mut Vec<Store>,
+    place: usize,
+    columns: &[usize],
+    which: &ResolvedWhich,
+) -> Result<usize, Refused>
+    requires { place < length stores.old.items }
+    ensures { CutsAt place columns.now which.now stores.old.items stores.new.items result }
+{
+    cut_matching(alloc, &mut stores[place], columns, which)
 }
 
 // The instances leave whose root rows match, with their keys at these columns; how many. The refusal is 120 of the

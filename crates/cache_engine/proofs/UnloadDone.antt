@@ -1,0 +1,417 @@
+-- UNLOAD of a writethrough group over what is stored.
+use Rattle.std.proofs.Common.{◌≡◌, ◌<◌, ◌+◌, ℕ, zero, suc, Bool, true, false, not, cond, ◌&&◌, ◌||◌, Option, Some, None, Result, Ok, Err, List, [], ◌∷◌, filter, find, get_or, length, map, set, slice_get, unwrap_or, arith, refl, sym, ap, subst, ◌∙◌, ◌⊎◌, inl, inr}
+use Rattle.std.specs.Bool.{◌==◌}
+use Rattle.std.specs.List.{list_all}
+use Rattle.std.specs.Option.{option_map, option_or}
+use Rattle.std.specs.FinMap as fm
+use Rattle.std.proofs.lemmas.Bool.{eqb-true}
+use Rattle.row_types.specs.declared.rule.Rule.{Rule}
+use Rattle.row_types.specs.declared.value.Value.{Value}
+use Rattle.tier_base.specs.declared.code.Code.TheVariants as code
+use Rattle.tier_base.specs.declared.number.SessionId.{SessionId}
+use Rattle.tier_base.specs.declared.number.TableId.{TableId}
+use Rattle.indexed_rows.specs.Rows.{Table}
+use Rattle.instances.specs.Trees.{place_of}
+use Rattle.instances.specs.Views.{kept_at}
+use Rattle.instances.specs.declared.tree.Tree.{Tree}
+use Rattle.table_defs.specs.declared.definition.TableDef.{TableDef}
+use Rattle.group_catalog.specs.declared.which.ResolvedWhich.{ResolvedWhich}
+use Rattle.table_state.specs.Tables.{TableState, table_at}
+use Rattle.table_state.specs.declared.operation.Op.{Op}
+use Rattle.open_sessions.specs.Lookups.{has_label, of_label}
+use Rattle.open_sessions.specs.Opening.{AreSessions, seen_all}
+use Rattle.session_state.specs.Kept.{seen_of}
+use Rattle.session_state.specs.Sessions.{OpenSession}
+use Rattle.session_state.specs.declared.session.Session.{Session as Kept_session}
+use Rattle.row_types.specs.declared.rule.Refused.{Refused}
+use Rattle.row_types.specs.declared.rule.Refused.TheVariants as refused
+use Rattle.sql_subset.specs.declared.stmt.OfGroup.{OfGroup}
+use Rattle.sql_subset.specs.declared.stmt.Stmt.TheVariants as statement
+use Rattle.group_catalog.specs.Catalogs.{groups_in}
+use Rattle.group_store.specs.Keeping.{KeepsOthers, primary_of}
+use Rattle.group_store.specs.Shown.{AreHoused}
+use Rattle.group_store.specs.Stores.{Kept, SameButSpare, cut_store}
+use Rattle.group_store.specs.Trees.{cut_from, keep, leads}
+use Rattle.order_laws.specs.Commits.{RiseBetween}
+use Rattle.order_laws.proofs.TruthLaws.{both_true, never_both}
+use Rattle.tier_statements.specs.Seen.{session_seen}
+use Rattle.cache_tier.specs.declared.reply.Last.TheVariants.{Done, No}
+use Rattle.cache_tier.specs.declared.reply.Reply.{Reply}
+use Rattle.cache_tier.specs.Conditions.{asks_all, overflow_fault, overflows}
+use Rattle.cache_tier.specs.Groups.{Group, definitions_of, is_explicit, is_key, is_read_only, is_writethrough, without_keys}
+use Rattle.cache_tier.specs.JournalSteps.{FlushesSome}
+use Rattle.cache_tier.specs.Locks.{has_writes_in, instance_lock, locked_by}
+use Rattle.cache_tier.specs.Reading.{Answers}
+use Rattle.cache_tier.specs.Rules.{broken_if, plain}
+use Rattle.cache_tier.specs.Sets.{alone, changed, changed_from}
+use Rattle.cache_tier.specs.Shown.{instances_where, root_key, shown_roots, shown_state}
+use Rattle.cache_tier.specs.Steps.{DoesStatement}
+use Rattle.cache_tier.specs.Targets.{Target}
+use Rattle.cache_tier.specs.TierStates.{Session, Tier, is_labelled}
+use Rattle.cache_tier.specs.UnloadSteps.{Unloads, gone_keys, matching_shown, unload_answer, unload_entries, unload_fault, unloaded}
+use Rattle.cache_tier.specs.Worlds.{Then, Tries, Unless, World, faulty, only}
+use Rattle.tier_laws.specs.Events.{with_tier}
+use Rattle.tier_laws.specs.Loading.{ShowsKeys}
+use Rattle.tier_laws.specs.Standing.{Stands}
+use Rattle.tier_laws.specs.Statements.{IsUnloadable}
+use Rattle.tier_laws.proofs.UnloadStatements.{none_written}
+use Rattle.cache_engine.specs.declared.aiming.Aim.{Aim}
+use Rattle.cache_engine.specs.declared.tier.Tier.{Tier as Stored}
+use Rattle.cache_engine.specs.Grouping.{KeepsGroups, SameTree}
+use Rattle.cache_engine.specs.Performing.{Executes, IsPerformed, PerformsIn, StandsFor, reply_of}
+use Rattle.cache_engine.specs.Sites.{IsAt, SiteView}
+use Rattle.cache_engine.specs.Stored.{AreKept, AreWhole, HasSession, HaveOwnNames, IsSound, IsStoredAs, is_plain, named_where_cached, without_list}
+use Rattle.cache_engine.specs.Taking.{IsOfTarget}
+use Rattle.cache_engine.specs.Unloading.{AimsUnloadIn, CutsGroup, FindsUnload, IsCutBy, CutsAt, CutsBy, IsCutAt, IsCutGroup, OverflowsIn, UnloadsHere, UnloadsTarget, cut_all, flagged, leaving}
+use Rattle.cache_engine.proofs.CalmLaws.{flushes_none}
+use Rattle.cache_engine.proofs.DropLocks.{group_stored}
+use Rattle.cache_engine.proofs.DroppingLaws.{session_there}
+use Rattle.cache_engine.proofs.FlagLaws.{flagged_seen}
+use Rattle.cache_engine.proofs.GroupComes.{sound_kept, stands_kept, time_kept}
+use Rattle.cache_engine.proofs.SoundParts.{all_plain, changed_defs, named_by, visible_by}
+use Rattle.cache_engine.proofs.StoreChanges.{form_kept, get_here, get_there, housed_set, kept_defined, kept_set, shows_changed}
+use Rattle.cache_engine.proofs.GroupingLaws.{got}
+use Rattle.cache_engine.proofs.StoreRows.{form_at, form_here}
+use Rattle.cache_engine.proofs.UnloadLaws.{count_is, left_shown, roots_shown}
+
+-- a store that is cut keeps its form
+
+keep_long : (test : ℕ → List Value → Bool) (tables : List Table) → length (keep test tables) ≡ length tables
+keep_long test [] = refl
+keep_long test (t ∷ tables) = ap suc (keep_long (λ place. test (suc place)) tables)
+
+cut_tree : (keys : List (List Value)) (s : Kept) → SameTree s (cut_all keys s)
+cut_tree [] s = record { table = refl; key = refl; foreign = refl; layers = refl }
+cut_tree (k ∷ keys) s =
+    let r = cut_tree keys (cut_store 0 k s) in
+    record { table = r.table; key = r.key; foreign = r.foreign; layers = r.layers }
+
+cut_long : (keys : List (List Value)) (s : Kept) → length (cut_all keys s).tables ≡ length s.tables
+cut_long [] s = refl
+cut_long (k ∷ keys) s = cut_long keys (cut_store 0 k s) ∙ keep_long (λ place key. not (leads s.layers s.tables 0 k (length s.layers) place key)) s.tables
+
+left_tree : (keys : List (List Value)) (s left : Kept) → SameButSpare (cut_all keys s) left → SameTree s left
+left_tree keys s left same =
+    let r = cut_tree keys s in
+    record { table = same.table ∙ r.table; key = same.key ∙ r.key; foreign = same.foreign ∙ r.foreign; layers = same.layers ∙ r.layers }
+
+-- flags
+
+flagged_defs : (all : Bool) (place : ℕ) (groups : List Group) → definitions_of (flagged all place groups) ≡ definitions_of groups
+flagged_defs true place groups = changed_defs (alone place) (λ g. record g { loaded = false }) 0 groups (λ g. refl)
+flagged_defs false place groups = refl
+
+abbrev marked : Bool → Group → Group
+marked true g = record g { loaded = false }
+marked false g = g
+
+same_ones : (place from : ℕ) (groups : List Group) → changed_from (alone place) (λ g. g) from groups ≡ groups
+same_ones place from [] = refl
+same_ones place from (g ∷ groups) = λ i. by (alone place from g) i ∷ same_ones place (suc from) groups i
+  where
+    by : (b : Bool) → cond b g g ≡ g
+    by true = refl
+    by false = refl
+
+marked_all : (all : Bool) (place : ℕ) (groups : List Group) → changed_from (alone place) (marked all) 0 groups ≡ flagged all place groups
+marked_all true place groups = refl
+marked_all false place groups = same_ones place 0 groups
+
+unloaded_def : (gone : List (List Value)) (all : Bool) (g : Group) → (unloaded gone all g).def ≡ g.def
+unloaded_def gone false g = refl
+unloaded_def gone true g = by (Rattle.cache_tier.specs.Targets.has_flag g)
+  where
+    by : (b : Bool) → (cond b (record g { keys = without_keys gone g.keys; loaded = false }) (record g { keys = without_keys gone g.keys })).def ≡ g.def
+    by true = refl
+    by false = refl
+
+unloaded_seen : (gone : List (List Value)) (all : Bool) (g : Group) → is_writethrough g ≡ true → without_list (unloaded gone all g) ≡ marked all (without_list g)
+unloaded_seen gone false g writes = refl
+unloaded_seen gone true g writes = ap (λ b. without_list (cond (b || is_explicit g) (record g { keys = without_keys gone g.keys; loaded = false }) (record g { keys = without_keys gone g.keys }))) writes
+
+-- sessions at rest
+
+abbrev pub is_resting : OpenSession → Bool
+is_resting x = length x.ops == 0
+
+no_ops : (ops : List Op) → (length ops == 0) ≡ true → ops ≡ []
+no_ops [] e = refl
+no_ops (op ∷ ops) e = let z : suc (length ops) ≡ 0 = eqb-true (suc (length ops)) 0 e in cc
+
+none_locked : (P q : Session → Bool) → ((y : Session) → y.own ≡ [] → P y ≡ false) → (xs : List OpenSession) → list_all is_resting xs ≡ true → find P (filter q (map session_seen xs)) ≡ None
+none_locked P q rests [] all = refl
+none_locked P q rests (x ∷ xs) all =
+    let both = both_true (is_resting x) (list_all is_resting xs) all in
+    by (q (session_seen x)) (none_locked P q rests xs both.1) (rests (session_seen x) (no_ops x.ops both.0))
+  where
+    by : (b : Bool) → find P (filter q (map session_seen xs)) ≡ None → P (session_seen x) ≡ false → find P (cond b (session_seen x ∷ filter q (map session_seen xs)) (filter q (map session_seen xs))) ≡ None
+    by true rest free = ap (λ c. cond c (Some (session_seen x)) (find P (filter q (map session_seen xs)))) free ∙ rest
+    by false rest free = rest
+
+found_rests : (label : List ℕ) (xs : List OpenSession) (x : OpenSession) → list_all is_resting xs ≡ true → of_label label xs ≡ Some x → x.ops ≡ []
+found_rests label [] x all e = cc
+found_rests label (y ∷ xs) x all e =
+    let both = both_true (is_resting y) (list_all is_resting xs) all in
+    by (has_label label y) e (found_rests label xs x both.1) both.0
+  where
+    by : (b : Bool) → cond b (Some y) (of_label label xs) ≡ Some x → (of_label label xs ≡ Some x → x.ops ≡ []) → is_resting y ≡ true → x.ops ≡ []
+    by true e rest one = let same : y ≡ x = cc in ap (λ (z : OpenSession). z.ops) (sym same) ∙ no_ops y.ops one
+    by false e rest one = rest e
+
+-- the parts stay sound
+pub sound_cut : (t new : Stored) (aim : Aim) (all : Bool) (n : ℕ) → IsSound t → IsCutGroup t new aim all n → IsSound new
+sound_cut t new aim all n sound cut =
+    let schema = cut.beside.schema in
+    let defs : definitions_of (groups_in new.catalog) ≡ definitions_of (groups_in t.catalog) = ap definitions_of cut.groups ∙ flagged_defs all aim.place (groups_in t.catalog) in
+    let form = form_at t.schema (groups_in t.catalog) t.stores.items aim.place cut.group cut.store sound.kept cut.there cut.kept in
+    let tree = left_tree (leaving aim.which (primary_of t.schema cut.group.def.tree.root.table) (kept_at cut.store.tables 0)) cut.store cut.left cut.cut.gone in
+    let housed = housed_set t.schema (groups_in t.catalog) t.stores.items t.directory aim.place cut.store cut.left cut.group sound.stores sound.kept cut.there cut.kept form tree in
+    let kept = kept_defined t.schema (groups_in t.catalog) (groups_in new.catalog) (set t.stores.items aim.place cut.left) defs
+        (kept_set t.schema (groups_in t.catalog) t.stores.items aim.place cut.group cut.left sound.kept cut.there (form_kept t.schema cut.group.def.tree cut.store cut.left form tree)) in
+    record {
+      sessions = subst (λ y. AreSessions new.schema y) (sym cut.beside.sessions) (subst (λ d. AreSessions d t.sessions) (sym schema) sound.sessions);
+      stores = subst (AreHoused new.schema new.stores.items) (sym cut.directory) (subst (λ ss. AreHoused new.schema ss t.directory) (sym cut.stores) (subst (λ d. AreHoused d (set t.stores.items aim.place cut.left) t.directory) (sym schema) housed));
+      kept = subst (λ ss. AreKept new.schema (groups_in new.catalog) ss) (sym cut.stores) (subst (λ d. AreKept d (groups_in new.catalog) (set t.stores.items aim.place cut.left)) (sym schema) kept);
+      whole = subst AreWhole (sym cut.stores) whole;
+      plain = all_plain (groups_in t.catalog) (groups_in new.catalog) defs sound.plain;
+      named = named_by (groups_in t.catalog) (groups_in new.catalog) defs sound.named;
+      visible = cut.visible ∙ sound.visible ∙ sym (visible_by (groups_in t.catalog) (groups_in new.catalog) t.schema defs) ∙ ap (named_where_cached (groups_in new.catalog)) (sym schema);
+      numbered = subst (λ us. RiseBetween 1 us new.next) (sym (ap (λ u. u.items) cut.beside.unsettled)) (subst (RiseBetween 1 t.unsettled.items) (sym cut.beside.next) sound.numbered);
+      verified = λ e. absurd (never_both new.verified e cut.unverified);
+    }
+  where
+    whole : AreWhole (set t.stores.items aim.place cut.left)
+    whole k s at = elim (Rattle.std.proofs.lemmas.Bool.Decides.eqb_tells k aim.place) [
+      | inl same ↦ (
+          let here : Some s ≡ Some cut.left = sym at ∙ ap (slice_get (set t.stores.items aim.place cut.left)) same.1 ∙ get_here t.stores.items aim.place cut.store cut.left cut.kept in
+          let one : s ≡ cut.left = cc in
+          let keys = leaving aim.which (primary_of t.schema cut.group.def.tree.root.table) (kept_at cut.store.tables 0) in
+          subst (λ (y : Kept). length y.tables ≡ suc (length y.layers)) (sym one)
+          (ap (λ (ts : List Table). length ts) cut.cut.gone.tables ∙ cut_long keys cut.store ∙ sound.whole aim.place cut.store cut.kept
+          ∙ ap (λ ls. suc (length ls)) (sym (left_tree keys cut.store cut.left cut.cut.gone).layers)))
+      | inr other ↦ sound.whole k s (sym (get_there t.stores.items aim.place k cut.left other.1) ∙ at)
+    ]
+
+abbrev pub UnloadLaw : Type 0
+UnloadLaw =
+    (w : World) (s : Session) (x : Target) (all : Bool) → Stands w → IsUnloadable w s x
+    → ShowsKeys x.group (λ key. is_key x.group.keys key && not (fm.contains_key (matching_shown w x) key)) w (with_tier (unload_answer x all w).0 w)
+
+module _ (law : UnloadLaw) (drops : (state : TableState) (tree : Tree) → KeepsOthers state tree) (t new : Stored) (id : SessionId) (aim : Aim) (all : Bool) (n : ℕ) (sound : IsSound t) (rested : list_all is_resting (seen_all t.sessions) ≡ true) (cut : IsCutGroup t new aim all n)
+    (s : Session) (w : World) (x : Target) (has : HasSession t id s) (stands : StandsFor t w) (at : slice_get w.tier.groups aim.place ≡ Some x.group) (writes : is_writethrough x.group ≡ true) (of : IsOfTarget x aim.place aim.which) where
+  same_group : cut.group ≡ without_list x.group
+  same_group = let both : Some cut.group ≡ Some (without_list x.group) = sym cut.there ∙ group_stored t w.tier aim.place x.group stands.stored at in cc
+
+  gone : SameButSpare (cut_all (leaving aim.which (primary_of t.schema x.group.def.tree.root.table) (kept_at cut.store.tables 0)) cut.store) cut.left
+  gone = subst (λ (g : Group). SameButSpare (cut_all (leaving aim.which (primary_of t.schema g.def.tree.root.table) (kept_at cut.store.tables 0)) cut.store) cut.left) same_group cut.cut.gone
+
+  count : n ≡ fm.len (matching_shown w x)
+  count =
+      cut.cut.count ∙ ap (λ (g : Group). length (leaving aim.which (primary_of t.schema g.def.tree.root.table) (kept_at cut.store.tables 0))) same_group
+      ∙ count_is t w sound stands aim.place x.group at writes cut.store cut.kept x aim.which refl of
+
+  pub roots_here : kept_at cut.store.tables 0 ≡ shown_roots w.history w.tier.log x.group
+  roots_here = roots_shown t w sound stands aim.place x.group at writes cut.store cut.kept
+
+  no_overflow : overflow_fault x.filter (shown_roots w.history w.tier.log x.group) ≡ None
+  no_overflow =
+      ap (overflow_fault x.filter) (sym roots_here) ∙ ap (λ f. broken_if (overflows f (kept_at cut.store.tables 0)) (plain code.Overflow)) (sym of.filter)
+      ∙ ap (λ b. broken_if b (plain code.Overflow)) cut.cut.fits
+
+  no_lock : (test : List Value → Bool) → instance_lock s.label w.history w.tier x.group test ≡ None
+  no_lock test =
+      ap (option_map locked_by) (ap (λ ss. find (has_writes_in w.history w.tier x.group test) (filter (λ y. not (is_labelled s.label y)) ss)) stands.stored.sessions
+      ∙ none_locked (has_writes_in w.history w.tier x.group test) (λ y. not (is_labelled s.label y)) (λ y rests. none_written w x.group test y rests) (seen_all t.sessions) rested)
+
+  free : unload_fault s x w ≡ None
+  free = λ i. option_or (no_overflow i) (no_lock (fm.contains_key (matching_shown w x)) i)
+
+  unloadable : IsUnloadable w s x
+  unloadable = record {
+    group = record { there = ap (slice_get w.tier.groups) of.place ∙ at; through = writes };
+    session = session_there t w.tier id s stands.stored has;
+    rests = ap (λ (y : Session). y.own) (sym has.is) ∙ found_rests s.label (seen_all t.sessions) has.seen rested has.found;
+    unlocked = free;
+  }
+
+  behind : ShowsKeys x.group (λ key. is_key x.group.keys key && not (fm.contains_key (matching_shown w x) key)) w (with_tier (unload_answer x all w).0 w)
+  behind = law w s x all stands.stands unloadable
+
+  groups_behind : map without_list (unload_answer x all w).0.groups ≡ groups_in new.catalog
+  groups_behind =
+      flagged_seen (unloaded (gone_keys w x) all) (marked all) 0 x.place w.tier.groups (λ i y there e. unloaded_seen (gone_keys w x) all y (writes_at i y there e))
+      ∙ ap (changed_from (alone x.place) (marked all) 0) stands.stored.groups
+      ∙ ap (λ p. changed_from (alone p) (marked all) 0 (groups_in t.catalog)) of.place
+      ∙ marked_all all aim.place (groups_in t.catalog) ∙ sym cut.groups
+    where
+      writes_at : (i : ℕ) (y : Group) → slice_get w.tier.groups i ≡ Some y → 0 + i ≡ x.place → is_writethrough y ≡ true
+      writes_at i y there e =
+          let place : i ≡ aim.place = (let z : i ≡ 0 + i = omega arith in z) ∙ e ∙ of.place in
+          let both : Some y ≡ Some x.group = sym there ∙ ap (slice_get w.tier.groups) place ∙ at in
+          let same : y ≡ x.group = cc in
+          ap is_writethrough same ∙ writes
+
+  stored : IsStoredAs new (unload_answer x all w).0
+  stored = record {
+    schema = stands.stored.schema ∙ sym cut.beside.schema;
+    stale = stands.stored.stale ∙ sym cut.beside.stale;
+    groups = groups_behind;
+    sessions = stands.stored.sessions ∙ ap (λ y. map session_seen (seen_all y)) (sym cut.beside.sessions);
+    unsettled = stands.stored.unsettled ∙ ap (λ u. u.items) (sym cut.beside.unsettled);
+    next = stands.stored.next ∙ sym cut.beside.next;
+    doubt = stands.stored.doubt;
+    time = time_kept t new w.tier cut.beside.clock stands.stored.time;
+  }
+
+  left_is : cut.left.tables ≡ instances_where stands.stands.flow.stand.over.virtual x.group.def.tree (λ row. is_key x.group.keys (root_key stands.stands.flow.stand.over.virtual x.group row) && not (fm.contains_key (matching_shown w x) (root_key stands.stands.flow.stand.over.virtual x.group row)))
+  left_is = left_shown t w sound stands aim.place x.group at writes cut.store cut.kept x aim.which refl of (drops (record (stands.stands.flow.stand.over.virtual) { schema = t.schema }) x.group.def.tree) cut.left gone
+
+  pub stands_left : StandsFor new (with_tier (unload_answer x all w).0 w)
+  stands_left = record {
+    stored = stored;
+    shows = shows_changed t new w (with_tier (unload_answer x all w).0 w) aim.place x.group cut.left sound stands (record {
+      there = at;
+      schema = cut.beside.schema;
+      known = refl;
+      defined = changed_defs (alone x.place) (unloaded (gone_keys w x) all) 0 w.tier.groups (unloaded_def (gone_keys w x) all);
+      stores = cut.stores;
+      form = form_kept t.schema x.group.def.tree cut.store cut.left (form_here t w sound stands aim.place x.group cut.store at cut.kept) (left_tree (leaving aim.which (primary_of t.schema x.group.def.tree.root.table) (kept_at cut.store.tables 0)) cut.store cut.left gone);
+      its = λ u p e. ap (λ ts. kept_at ts p) left_is ∙ sym (behind.its stands.stands.flow.stand.over.virtual u p stands.stands.flow.stand.over.virtual_is e);
+      others = behind.others;
+    });
+    stands = behind.stands;
+    unkept = stands.unkept;
+  }
+
+  pub unloads : UnloadsTarget s x all w (with_tier (unload_answer x all w).0 w) (only (Done n))
+  unloads = subst (λ o. Unless o (Then (FlushesSome (unload_entries all x.group)) (Answers (unload_answer x all))) w (with_tier (unload_answer x all w).0 w) (only (Done n))) (sym free) then
+    where
+      then : Then (FlushesSome (unload_entries all x.group)) (Answers (unload_answer x all)) w (with_tier (unload_answer x all w).0 w) (only (Done n))
+      then = record { mid = w; stop = None; first = flushes_none w (unload_entries all x.group) stands.unkept; next = (refl, ap (λ m. only (Done m)) count) }
+
+-- and the statement
+
+seen_rest : (sessions : List Kept_session) → list_all is_resting (map seen_of sessions) ≡ list_all (λ (s : Kept_session). length s.ops.items == 0) sessions
+seen_rest [] = refl
+seen_rest (s ∷ sessions) = ap (λ b. (length s.ops.items == 0) && b) (seen_rest sessions)
+
+pub all_rest : (sessions : List Kept_session) (all : List OpenSession) (b : Bool) → map seen_of sessions ≡ all → b ≡ list_all (λ (s : Kept_session). length s.ops.items == 0) sessions → b ≡ true → list_all is_resting all ≡ true
+all_rest sessions all b same is all_so = ap (list_all is_resting) (sym same) ∙ seen_rest sessions ∙ sym is ∙ all_so
+
+writes_through : (g : Group) (b : Bool) → is_read_only g ≡ b → b ≡ false → is_writethrough g ≡ true
+writes_through g b is no_one = ap not (is ∙ no_one)
+
+pub unloaded_here : UnloadLaw → ((state : TableState) (tree : Tree) → KeepsOthers state tree) → (t new : Stored) (site : SiteView) (id : SessionId) (aim : Aim) (all : Bool) (n : ℕ) → IsSound t → list_all is_resting (seen_all t.sessions) ≡ true → aim.read_only ≡ false → IsCutGroup t new aim all n
+    → UnloadsHere t new site id aim all (only (Done n))
+unloaded_here law drops t new site id aim all n sound rested kind cut = λ s w x has at stands there kinds of. (
+    let writes : is_writethrough x.group ≡ true = writes_through x.group aim.read_only kinds kind in
+    record {
+      world = with_tier (unload_answer x all w).0 w;
+      at = record { there = at.there; told = at.told; history = at.history; faults = at.faults; moment = at.moment; shared = at.shared };
+      stands = stands_left law drops t new id aim all n sound rested cut s w x has stands there writes of;
+      is = inl (unloads law drops t new id aim all n sound rested cut s w x has stands there writes of);
+    })
+
+-- 120
+pub overflowed_here : (t new : Stored) (site : SiteView) (id : SessionId) (aim : Aim) (all : Bool) (rule : Rule) → IsSound t → aim.read_only ≡ false → KeepsGroups t new → OverflowsIn aim.place aim.which t.stores.items rule → UnloadsHere t new site id aim all (only (No rule))
+overflowed_here t new site id aim all rule sound kind keeps over = λ s w x has at stands there kinds of. (
+    let writes : is_writethrough x.group ≡ true = writes_through x.group aim.read_only kinds kind in
+    let same = roots_shown t w sound stands aim.place x.group there writes over.store over.kept in
+    let fault : overflow_fault x.filter (shown_roots w.history w.tier.log x.group) ≡ Some rule =
+        ap (overflow_fault x.filter) (sym same) ∙ ap (λ f. broken_if (overflows f (kept_at over.store.tables 0)) (plain code.Overflow)) (sym of.filter)
+        ∙ ap (λ b. broken_if b (plain code.Overflow)) over.is ∙ ap Some (sym over.told) in
+    let told : unload_fault s x w ≡ Some rule = ap (λ o. option_or o (instance_lock s.label w.history w.tier x.group (fm.contains_key (matching_shown w x)))) fault in
+    record {
+      world = w;
+      at = at;
+      stands = stands_kept t new w stands keeps;
+      is = inl (subst (λ o. Unless o (Then (FlushesSome (unload_entries all x.group)) (Answers (unload_answer x all))) w w (only (No rule))) (sym told) (refl, refl));
+    })
+
+pub wanting_here : (t new : Stored) (site : SiteView) (id : SessionId) (aim : Aim) (all : Bool) → KeepsGroups t new → UnloadsHere t new site id aim all (faulty code.Memory)
+wanting_here t new site id aim all keeps = λ s w x has at stands there kinds of. record { world = w; at = at; stands = stands_kept t new w stands keeps; is = inr (refl, refl) }
+
+pub keeps_itself : (t : Stored) → KeepsGroups t t
+keeps_itself t = record {
+  beside = record { schema = refl; stale = refl; sessions = refl; unsettled = refl; next = refl; clock = refl };
+  groups = refl;
+  stores = refl;
+  visible = refl;
+  directory = refl;
+  verified = refl;
+}
+
+pub not_cut : (t new : Stored) (site : SiteView) (id : SessionId) (aim : Aim) (all : Bool) (e : Refused) → IsSound t → aim.read_only ≡ false → CutsGroup t new aim all (Err e) → UnloadsHere t new site id aim all (reply_of (Err e))
+not_cut t new site id aim all (refused.Rule rule) sound kind cuts = overflowed_here t new site id aim all rule sound kind cuts.0 cuts.1
+not_cut t new site id aim all refused.Memory sound kind cuts = wanting_here t new site id aim all cuts
+
+pub not_cut_sound : (t new : Stored) (aim : Aim) (all : Bool) (e : Refused) → IsSound t → CutsGroup t new aim all (Err e) → IsSound new
+not_cut_sound t new aim all (refused.Rule rule) sound cuts = sound_kept t new sound cuts.0
+not_cut_sound t new aim all refused.Memory sound cuts = sound_kept t new sound cuts
+
+-- the whole statement, from the group that it names
+pub unload_done : (t new : Stored) (site : SiteView) (id : SessionId) (u : OfGroup) (aim : Aim) (result : Result Reply Refused) → AimsUnloadIn t id u (Ok aim) → UnloadsHere t new site id aim (asks_all u.which) (reply_of result) → PerformsIn t new site site id (Executes (statement.Unload u)) result
+unload_done t new site id u aim result aims here = λ s has w at stands unshared. (
+    let f = aims w.tier s stands.stored has in
+    let x : Target = record { place = aim.place; group = f.group; filter = aim.which.filter; id = u.which.id } in
+    let p = here s w x has at stands f.there f.kind (record { place = refl; filter = refl; id = f.is.id }) in
+    record {
+      world = p.world;
+      at = p.at;
+      stands = p.stands;
+      is = done s w p.world f p.is;
+    })
+  where
+    done : (s : Session) (w w' : World) (f : FindsUnload w.tier s u aim) → Tries (UnloadsTarget s (record { place = aim.place; group = f.group; filter = aim.which.filter; id = u.which.id }) (asks_all u.which)) w w' (reply_of result) → Executes (statement.Unload u) s w w' (reply_of result)
+    done s w w' f (inl does) =
+        let on : Unloads s u w w' (reply_of result) = record {
+          target = record { place = aim.place; group = f.group; filter = aim.which.filter; id = u.which.id };
+          place = f.place;
+          group = f.there;
+          filter = f.is.filter;
+          id = refl;
+          does = does;
+        } in
+        inl (subst (λ o. Unless o (DoesStatement s (statement.Unload u)) w w' (reply_of result)) (sym f.free) on)
+    done s w w' f (inr wants) = inr wants
+
+-- the store at a place
+
+set_same : (xs : List Kept) (i : ℕ) (x y : Kept) → slice_get xs i ≡ Some x → y ≡ x → set xs i y ≡ xs
+set_same [] i x y at is = cc
+set_same (z ∷ xs) zero x y at is = let one : z ≡ x = cc in ap (λ q. q ∷ xs) (is ∙ sym one)
+set_same (z ∷ xs) (suc i) x y at is = ap (λ ys. z ∷ ys) (set_same xs i x y at is)
+
+pub cut_there : (place : ℕ) (columns : List ℕ) (which : ResolvedWhich) (old : List Kept) (store left : Kept) (result : Result ℕ Refused) → place < length old → store ≡ get_or old place store → CutsBy which columns store left result → CutsAt place columns which old (set old place left) result
+cut_there place columns which old store left (Ok n) lt is cuts = record { store = store; left = left; kept = got old place store lt is; cut = cuts; is = refl }
+cut_there place columns which old store left (Err (refused.Rule rule)) lt is cuts = (
+  set_same old place store left (got old place store lt is) cuts.0,
+  record { store = store; kept = got old place store lt is; is = cuts.1; told = cuts.2 },
+)
+cut_there place columns which old store left (Err refused.Memory) lt is cuts = set_same old place store left (got old place store lt is) cuts
+
+pub group_cut : (t mid new : Stored) (aim : Aim) (all : Bool) (n : ℕ) (seen : Group) (def : TableDef) (columns : List ℕ) → slice_get (groups_in t.catalog) aim.place ≡ Some seen → slice_get t.schema seen.def.tree.root.table.0 ≡ Some def → columns ≡ def.primary_key
+    → IsCutAt aim.place columns aim.which t.stores.items mid.stores.items n → mid ≡ record t { stores = mid.stores } → new ≡ record mid { catalog = new.catalog; verified = false } → groups_in new.catalog ≡ flagged all aim.place (groups_in mid.catalog) → IsCutGroup t new aim all n
+group_cut t mid new aim all n seen def columns at defined are cut same then groups =
+    let its : columns ≡ primary_of t.schema seen.def.tree.root.table = are ∙ sym (ap (λ o. unwrap_or (option_map (λ (d : TableDef). d.primary_key) o) []) defined) in
+    record {
+      group = seen;
+      store = cut.store;
+      left = cut.left;
+      there = at;
+      kept = cut.kept;
+      cut = subst (λ cs. IsCutBy aim.which cs cut.store cut.left n) its cut.cut;
+      stores = ap (λ (y : Stored). y.stores.items) then ∙ cut.is;
+      groups = groups ∙ ap (λ (y : Stored). flagged all aim.place (groups_in y.catalog)) same;
+      beside = record {
+        schema = ap (λ (y : Stored). y.schema) then ∙ ap (λ (y : Stored). y.schema) same;
+        stale = ap (λ (y : Stored). y.stale) then ∙ ap (λ (y : Stored). y.stale) same;
+        sessions = ap (λ (y : Stored). y.sessions) then ∙ ap (λ (y : Stored). y.sessions) same;
+        unsettled = ap (λ (y : Stored). y.unsettled) then ∙ ap (λ (y : Stored). y.unsettled) same;
+        next = ap (λ (y : Stored). y.next) then ∙ ap (λ (y : Stored). y.next) same;
+        clock = ap (λ (y : Stored). y.clock) then ∙ ap (λ (y : Stored). y.clock) same;
+      };
+      visible = ap (λ (y : Stored). y.visible) then ∙ ap (λ (y : Stored). y.visible) same;
+      directory = ap (λ (y : Stored). y.directory) then ∙ ap (λ (y : Stored). y.directory) same;
+      unverified = ap (λ (y : Stored). y.verified) then;
+    }
