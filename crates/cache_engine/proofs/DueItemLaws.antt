@@ -85,8 +85,11 @@ caused_both b m a n k stop one two =
       moment = let x = one.moment in let y = two.moment in omega (arith, x, y);
       shares = two.shares ∙ one.shares;
       slots = slots_both b.held m.held a.held one.slots two.slots;
-      bank = (omega (arith, first, second), subst (λ c. min (b.bank_faults + c) (2 ^ 64 - 1) ≤ a.bank_faults) (sym t)
-          (rose_both b.bank_faults (count_by (note_tells code.BackingFault) n) m.bank_faults (count_by (note_tells code.BackingFault) k) a.bank_faults (2 ^ 64 - 1) first one.bank.1 second two.bank.1));
+      bank = (
+        omega (arith, first, second),
+        subst (λ c. min (b.bank_faults + c) (2 ^ 64 - 1) ≤ a.bank_faults) (sym t)
+            (rose_both b.bank_faults (count_by (note_tells code.BackingFault) n) m.bank_faults (count_by (note_tells code.BackingFault) k) a.bank_faults (2 ^ 64 - 1) first one.bank.1 second two.bank.1),
+      );
       disk = count_both (note_tells code.JournalFault) n k ∙ (λ i. one.disk i + two.disk i);
       stop = two.stop;
     }

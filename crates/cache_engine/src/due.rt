@@ -74,7 +74,8 @@ impl Tier {
     fn set_clock(&mut self, now: u64, added: u64, sets: Vec<SetMoment>)
         requires { IsSound self.old }
         ensures set { self.new ≡ record self.old {
-            clock = record self.old.clock { now = now; added = added; sets = sets } } }
+          clock = record self.old.clock { now = now; added = added; sets = sets };
+        } }
         ensures sound { IsSound self.new }
     {
         self.clock.now = now;
