@@ -67,7 +67,7 @@ new_keys (Delete t old ∷ ops) s all = (tt, new_keys ops (over (Delete t old) s
 
 -- the tables of writethrough groups
 
-through_seen : (t : Stored) (a : Tier) (ops : List Op) → IsStoredAs t a → are_written_through (groups_in t.catalog) ops ≡ are_written_through a.groups ops
+pub through_seen : (t : Stored) (a : Tier) (ops : List Op) → IsStoredAs t a → are_written_through (groups_in t.catalog) ops ≡ are_written_through a.groups ops
 through_seen t a [] is = refl
 through_seen t a (op ∷ ops) is =
     ap (λ b. b && are_written_through (groups_in t.catalog) ops)

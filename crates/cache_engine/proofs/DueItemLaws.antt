@@ -1,15 +1,16 @@
 -- Items of due work, one behind the other, and what they tell.
-use Rattle.std.proofs.Common.{◌≡◌, ◌≤◌, ℕ, zero, suc, ◌+◌, ◌^◌, min, Bool, true, false, cond, ◌&&◌, ◌||◌, nat_eq, Option, Some, None, List, [], ◌∷◌, ◌++◌, length, map, drop, count_by, refl, sym, ap, subst, ◌∙◌, append_assoc, arith}
-use Rattle.std.specs.Prelude.{Result, Ok, Err}
+use Rattle.std.proofs.Common.{◌≡◌, ◌≤◌, ℕ, ◌+◌, ◌-◌, ◌^◌, min, Bool, true, false, cond, ◌&&◌, ◌||◌, nat_eq, Option, Some, None, List, [], ◌∷◌, ◌++◌, length, map, drop, slice_get, count_by, refl, sym, ap, subst, ◌∙◌, append_assoc, arith}
 use Rattle.std.proofs.lemmas.List.{append-nil}
+use Rattle.std.proofs.lemmas.List.Sums.{sum_by-append}
 use Rattle.tier_base.specs.declared.number.TableId.{TableId}
 use Rattle.tier_base.specs.declared.code.Code.{Code}
 use Rattle.tier_base.specs.declared.code.Code.TheVariants as code
 use Rattle.tier_base.specs.Codes.{number_of}
 use Rattle.outside.specs.Holding.{Held}
-use Rattle.cache_tier.specs.DueWork.{Idle, Item, Noted, ThenItem, is_noted, noted, noted_code, notes_of, stopped, stopped_by}
-use Rattle.cache_tier.specs.Groups.{Group, covers, definitions_of, is_defined_on, is_table_of, is_writethrough}
-use Rattle.cache_tier.specs.Steps.{Rose, faults_in, note_tells, tells}
+use Rattle.cache_tier.specs.DueWork.{DueSetsOf, Item, Noted, ThenItem, is_noted, noted, noted_code, notes_of, stopped, stopped_by}
+use Rattle.cache_tier.specs.Groups.{Group, definitions_of, is_defined_on, is_table_of, is_writethrough}
+use Rattle.cache_tier.specs.Sets.{RefreshesIfShown}
+use Rattle.cache_tier.specs.Steps.{faults_in, note_tells, tells}
 use Rattle.cache_tier.specs.Worlds.{IsUnshared, Stage, World}
 use Rattle.cache_tier.specs.declared.reply.Last.{Last}
 use Rattle.cache_tier.specs.declared.reply.Last.TheVariants.{Done, Fault, No}
@@ -22,7 +23,8 @@ use Rattle.cache_engine.specs.DueItems.{DoesItem, due_of, note_of, notes_since}
 use Rattle.cache_engine.specs.Performing.{IsCaused, IsStopCaused, KeepsSlots, Performs, StandsFor}
 use Rattle.cache_engine.specs.Refreshing.{has_moment}
 use Rattle.cache_engine.specs.Sites.{IsAt, SiteView}
-use Rattle.cache_engine.specs.Stored.{IsStoredAs, without_list}
+use Rattle.cache_engine.specs.Stored.{without_list}
+use Rattle.cache_engine.proofs.FillSteps.{drop_one, drop_past}
 
 -- notes behind notes
 
@@ -52,12 +54,7 @@ order_both earlier between notes is next =
 -- counts
 
 count_both : (p : Note → Bool) (a b : List Note) → count_by p (a ++ b) ≡ count_by p a + count_by p b
-count_both p [] b = refl
-count_both p (x ∷ a) b = by (p x) (count_both p a b)
-  where
-    by : (t : Bool) → count_by p (a ++ b) ≡ count_by p a + count_by p b → cond t 1 0 + count_by p (a ++ b) ≡ (cond t 1 0 + count_by p a) + count_by p b
-    by true rest = omega (arith, rest)
-    by false rest = omega (arith, rest)
+count_both p a b = sum_by-append (λ x. cond (p x) 1 0) a b
 
 rose_both : (b n m k a cap : ℕ) → b ≤ m → min (b + n) cap ≤ m → m ≤ a → min (m + k) cap ≤ a → min (b + (n + k)) cap ≤ a
 rose_both b n m k a cap one risen two more = omega (arith, one, risen, two, more)
@@ -181,7 +178,7 @@ idle_caused b = record {
   moment = omega arith;
   shares = refl;
   slots = slots_same b.held;
-  bank = (let le : b.bank_faults ≤ b.bank_faults = omega arith in le, rose_none b.bank_faults b.bank_faults (2 ^ 64 - 1) (omega arith));
+  bank = let le : b.bank_faults ≤ b.bank_faults = omega arith in (le, rose_none b.bank_faults b.bank_faults (2 ^ 64 - 1) le);
   disk = refl;
   stop = tt;
 }
@@ -220,7 +217,7 @@ or_false false y e = refl
 -- a reply that ends the line tells neither
 tells_none : (reply : Reply) (last : Last) (c : Code) → reply.last ≡ last → reply.notes ≡ [] → tells c last ≡ false → faults_in c reply ≡ 0
 tells_none reply last c is bare none =
-    (λ i. count_by (note_tells c) (bare i) + cond (tells c (is i)) 1 0) ∙ ap (λ b. cond b 1 0) none
+    (λ i. count_by (note_tells c) (bare i) + cond (tells c (is i)) 1 0) ∙ ap (λ b. 0 + cond b 1 0) none
 
 stop_caused : (b a : SiteView) (reply : Reply) (last : Last) → reply.last ≡ last → IsCaused b a reply → tells code.BackingFault last ≡ false → IsDueCaused b a (due_of [] (Some reply))
 stop_caused b a reply last is c none = record {
@@ -240,13 +237,13 @@ note_caused b a interval c reply caused bank disk = record {
   shares = caused.shares;
   slots = caused.slots;
   bank = (caused.later, by (nat_eq (number_of c) (number_of code.BackingFault)) (tells_by interval c code.BackingFault) bank);
-  disk = ap (λ t. cond t 1 0 + 0) (tells_by interval c code.JournalFault ∙ sym disk ∙ caused.disk);
+  disk = ap (λ t. 0 + cond t 1 0) (tells_by interval c code.JournalFault ∙ sym disk ∙ caused.disk);
   stop = tt;
 }
   where
     by : (t : Bool) → note_tells code.BackingFault (note_of interval c) ≡ t → tells code.BackingFault reply.last ≡ t → min (b.bank_faults + count_by (note_tells code.BackingFault) (note_of interval c ∷ [])) (2 ^ 64 - 1) ≤ a.bank_faults
-    by true e told = subst (λ x. min (b.bank_faults + (cond x 1 0 + 0)) (2 ^ 64 - 1) ≤ a.bank_faults) (sym e) (caused.bank told)
-    by false e told = subst (λ x. min (b.bank_faults + (cond x 1 0 + 0)) (2 ^ 64 - 1) ≤ a.bank_faults) (sym e) (rose_none b.bank_faults a.bank_faults (2 ^ 64 - 1) caused.later)
+    by true e told = subst (λ x. min (b.bank_faults + (0 + cond x 1 0)) (2 ^ 64 - 1) ≤ a.bank_faults) (sym e) (caused.bank told)
+    by false e told = subst (λ x. min (b.bank_faults + (0 + cond x 1 0)) (2 ^ 64 - 1) ≤ a.bank_faults) (sym e) (rose_none b.bank_faults a.bank_faults (2 ^ 64 - 1) caused.later)
 
 noted_caused : (b a : SiteView) (interval : Option ℕ) (end : Option Reply) → IsStopCaused b a end → IsDueCaused b a (due_of (noted (note_of interval) end) (stopped end))
 noted_caused b a interval None c = record {
@@ -284,3 +281,44 @@ noted_item interval stage old new b a earlier notes end stop performs caused gro
       groups = groups;
       entries = entries;
     }
+
+-- sets, one after the other
+
+pub sets_none : (all : List ℕ) (t : Stored) (b : SiteView) (notes : List Note) → all ≡ [] → DoesItem (DueSetsOf all) t t b b notes notes None
+sets_none all t b notes is =
+    subst (λ l. DoesItem (DueSetsOf l) t t b b notes notes None) (sym is) (idle_item (DueSetsOf []) t b notes (λ w stands. (refl, refl, refl)))
+
+pub sets_stopped : (all more : List ℕ) (x : ℕ) (old new : Stored) (b a : SiteView) (earlier notes : List Note) (end : Reply) → all ≡ x ∷ more → DoesItem (Noted (note_of (Some x)) (RefreshesIfShown x)) old new b a earlier notes (Some end) → DoesItem (DueSetsOf all) old new b a earlier notes (Some end)
+sets_stopped all more x old new b a earlier notes end is does =
+    subst (λ l. DoesItem (DueSetsOf l) old new b a earlier notes (Some end)) (sym is)
+    (as_item (ThenItem (Noted (note_of (Some x)) (RefreshesIfShown x)) (DueSetsOf more)) (DueSetsOf (x ∷ more)) old new b a earlier notes (Some end) (λ w w' stands done. done)
+    (stopped_item (Noted (note_of (Some x)) (RefreshesIfShown x)) (DueSetsOf more) old new b a earlier notes end does))
+
+pub sets_more : (all more : List ℕ) (x : ℕ) (old mid new : Stored) (b m a : SiteView) (earlier between notes : List Note) (stop : Option Reply) → all ≡ x ∷ more → DoesItem (Noted (note_of (Some x)) (RefreshesIfShown x)) old mid b m earlier between None
+    → DoesItem (DueSetsOf more) mid new m a between notes stop → DoesItem (DueSetsOf all) old new b a earlier notes stop
+sets_more all more x old mid new b m a earlier between notes stop is first second =
+    subst (λ l. DoesItem (DueSetsOf l) old new b a earlier notes stop) (sym is)
+    (as_item (ThenItem (Noted (note_of (Some x)) (RefreshesIfShown x)) (DueSetsOf more)) (DueSetsOf (x ∷ more)) old new b a earlier notes stop (λ w w' stands done. done)
+    (then_items (Noted (note_of (Some x)) (RefreshesIfShown x)) (DueSetsOf more) old mid new b m a earlier between notes stop first second))
+
+-- those before a place are done
+abbrev pub SetsSoFar : List ℕ → ℕ → Stored → Stored → SiteView → SiteView → List Note → List Note → Type 0
+SetsSoFar all i old now b m earlier notes =
+    (new : Stored) (a : SiteView) (later : List Note) (stop : Option Reply) → DoesItem (DueSetsOf (drop i all)) now new m a notes later stop
+    → DoesItem (DueSetsOf all) old new b a earlier later stop
+
+pub sets_begun : (all : List ℕ) (old : Stored) (b : SiteView) (earlier : List Note) → SetsSoFar all 0 old old b b earlier earlier
+sets_begun all old b earlier new a later stop does = subst (λ l. DoesItem (DueSetsOf l) old new b a earlier later stop) (drop_none all) does
+
+pub set_done : (all : List ℕ) (i x : ℕ) (old mid now : Stored) (b m n : SiteView) (earlier between notes : List Note) → slice_get all i ≡ Some x → SetsSoFar all i old mid b m earlier between
+    → DoesItem (Noted (note_of (Some x)) (RefreshesIfShown x)) mid now m n between notes None → SetsSoFar all (i + 1) old now b n earlier notes
+set_done all i x old mid now b m n earlier between notes at so_far first new a later stop does =
+    so_far new a later stop (sets_more (drop i all) (drop (i + 1) all) x mid now new m n a between notes later stop (drop_one all i x at) first does)
+
+pub set_ended : (all : List ℕ) (i x : ℕ) (old mid new : Stored) (b m a : SiteView) (earlier between later : List Note) (end : Reply) → slice_get all i ≡ Some x → SetsSoFar all i old mid b m earlier between
+    → DoesItem (Noted (note_of (Some x)) (RefreshesIfShown x)) mid new m a between later (Some end) → DoesItem (DueSetsOf all) old new b a earlier later (Some end)
+set_ended all i x old mid new b m a earlier between later end at so_far does =
+    so_far new a later (Some end) (sets_stopped (drop i all) (drop (i + 1) all) x mid new m a between later end (drop_one all i x at) does)
+
+pub sets_done : (all : List ℕ) (i : ℕ) (old now : Stored) (b m : SiteView) (earlier notes : List Note) → length all ≤ i → SetsSoFar all i old now b m earlier notes → DoesItem (DueSetsOf all) old now b m earlier notes None
+sets_done all i old now b m earlier notes le so_far = so_far now m notes None (sets_none (drop i all) now m notes (drop_past all i le))

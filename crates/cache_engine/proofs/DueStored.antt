@@ -1,8 +1,8 @@
 -- What is due, by the stored clock, and what a new moment and a refresh that was tried leave of what is stored.
-use Rattle.std.proofs.Common.{◌≡◌, ◌≤◌, ℕ, ◌+◌, max, Bool, true, false, cond, not, ◌&&◌, ◌||◌, nat_eq, is_none, find, filter, Option, Some, None, List, [], ◌∷◌, ◌++◌, map, unwrap_or, refl, sym, ap, subst, ◌∙◌, arith}
+use Rattle.std.proofs.Common.{◌≡◌, ℕ, ◌+◌, max, Bool, true, false, cond, not, ◌&&◌, ◌||◌, nat_eq, is_none, find, filter, Option, Some, None, List, [], ◌∷◌, ◌++◌, map, unwrap_or, refl, sym, ap, subst, ◌∙◌, arith}
 use Rattle.std.specs.Prelude.{Err}
 use Rattle.std.specs.Bool.{MatchBool}
-use Rattle.std.specs.List.{list_all, list_any}
+use Rattle.std.specs.List.{list_all}
 use Rattle.std.specs.Option.{option_map}
 use Rattle.std.proofs.lemmas.Bool.{eqb-true}
 use Rattle.std.proofs.lemmas.List.{append-nil}
@@ -11,14 +11,15 @@ use Rattle.outside.specs.declared.fault.BankError.TheVariants as bank
 use Rattle.order_laws.proofs.TruthLaws.{both_true}
 use Rattle.sql_subset.specs.declared.request.Line.{Line}
 use Rattle.table_state.specs.declared.history.Entry.{Entry}
-use Rattle.cache_tier.specs.Aging.{after_aging, aged, is_aged_by, is_aging_due, is_over}
-use Rattle.cache_tier.specs.DueWork.{DueAging, DueDoubt, DueRound, DueSets, DueSetsOf, DueWork, Item, SettlesDoubt, ThenItem, due_sets, intervals, is_round_due, with_number}
-use Rattle.cache_tier.specs.Groups.{Group, is_explicit, is_on, is_read_only, is_synchronous}
+use Rattle.cache_tier.specs.Aging.{aged, is_aged_by, is_aging_due, is_over}
+use Rattle.cache_tier.specs.DoubtSteps.{SettlesDoubt}
+use Rattle.cache_tier.specs.DueWork.{DueAging, DueDoubt, DueRound, DueSets, DueSetsOf, DueWork, Item, Noted, ThenItem, due_sets, intervals, is_round_due, noted, stopped, with_number}
+use Rattle.cache_tier.specs.Groups.{Group, definitions_of, is_explicit, is_on, is_read_only, is_synchronous}
 use Rattle.cache_tier.specs.Rounds.{Round}
 use Rattle.cache_tier.specs.Sets.{RefreshesIfShown, RefreshesSet, has_something, holds_some, is_in_set, shows_something}
 use Rattle.cache_tier.specs.Steps.{added_by, at_moment, with_moment}
 use Rattle.cache_tier.specs.TierStates.{SetState, Tier, cut, is_of_interval, refresh_tried}
-use Rattle.cache_tier.specs.Worlds.{IsUnshared, OnlyWhere, Passes, World, faulty}
+use Rattle.cache_tier.specs.Worlds.{OnlyWhere, Passes, World, faulty}
 use Rattle.cache_tier.specs.declared.reply.Note.{Note}
 use Rattle.cache_tier.specs.declared.reply.Reply.{Reply}
 use Rattle.group_catalog.specs.Catalogs.{groups_in}
@@ -27,13 +28,12 @@ use Rattle.tier_laws.specs.Standing.{Stands}
 use Rattle.cache_engine.specs.declared.clock.SetMoment.{SetMoment}
 use Rattle.cache_engine.specs.declared.clock.TierClock.{TierClock}
 use Rattle.cache_engine.specs.declared.tier.Tier.{Tier as Stored}
-use Rattle.cache_engine.specs.Due.{IsDueCaused}
-use Rattle.cache_engine.specs.DueItems.{DoesItem, KeepsSets, due_at, due_of, is_due_at, round_is_due}
-use Rattle.cache_engine.specs.Performing.{Performs, StandsFor}
+use Rattle.cache_engine.specs.DueItems.{DoesItem, KeepsSets, due_at, is_due_at, note_of, round_is_due}
+use Rattle.cache_engine.specs.Performing.{IsStopCaused, Performs, StandsFor}
 use Rattle.cache_engine.specs.Refreshing.{has_moment, is_noted, moment_in, moments_with}
-use Rattle.cache_engine.specs.Sites.{IsAt, SiteView}
+use Rattle.cache_engine.specs.Sites.{SiteView}
 use Rattle.cache_engine.specs.Stored.{IsSound, IsStoredAs, KeepsTime, is_plain, refreshed_in, set_seen, without_list}
-use Rattle.cache_engine.proofs.DueItemLaws.{as_item, idle_item, since_none, stopped_item, then_items}
+use Rattle.cache_engine.proofs.DueItemLaws.{as_item, idle_item, noted_item, since_none, stopped_item, then_items}
 use Rattle.cache_engine.proofs.QuietLaws.{at_still}
 
 -- which sets are due
@@ -60,7 +60,7 @@ no_aging : (history : List Entry) (t : Tier) (gs : List Group) → list_all is_p
 no_aging history t [] all = refl
 no_aging history t (g ∷ gs) all =
     let both = both_true (is_plain (without_list g)) (list_all is_plain (map without_list gs)) all in
-    let none = is_no g.def.aging (both_true (is_none g.def.aging) (not (is_synchronous g)) (both_true (is_explicit g) (is_none g.def.aging && not (is_synchronous g)) both.0).1).0 in
+    let none = is_no g.def.aging (both_true (is_explicit g) (is_none g.def.aging) (both_true (is_explicit g && is_none g.def.aging) (not (is_synchronous g)) both.0).0).1 in
     let first : cond (is_aging_due t g) (aged history t g) g ≡ g = ap (λ o. cond (is_aged_by t.settings t.now g o) (aged history t g) g) none in
     let rest = no_aging history t gs both.1 in
     λ i. first i ∷ rest i
@@ -107,22 +107,37 @@ due_done intervals old mid new b m a earlier between notes stop keeps sound due 
 -- a round that isn't due
 
 pub round_passes : (t : Stored) (b : SiteView) (notes : List Note) → round_is_due t.clock.now t.clock.round t.clock.propagate_ms ≡ false → DoesItem DueRound t t b b notes notes None
-round_passes t b notes no = idle_item DueRound t b notes (λ w is. record {
+round_passes t b notes not_so = idle_item DueRound t b notes (λ w is. record {
   end = None;
-  does = subst (λ x. MatchBool x (Round w w None) (Passes w w None)) (sym (round_stored t w.tier is.stored ∙ no)) (refl, refl);
+  does = subst (λ x. MatchBool x (Round w w None) (Passes w w None)) (sym (round_stored t w.tier is.stored ∙ not_so)) (refl, refl);
   told = refl;
   ends = refl;
 })
 
 pub round_wanted : (t new : Stored) (b a : SiteView) (end : Option Reply) → round_is_due t.clock.now t.clock.round t.clock.propagate_ms ≡ true → Performs t new b a (λ w w'. Round w w' end) → Performs t new b a (λ w w'. OnlyWhere (is_round_due w.tier) Round w w' end)
-round_wanted t new b a end yes performs w at stands apart =
+round_wanted t new b a end so performs w at stands apart =
     let p = performs w at stands apart in
     record {
       world = p.world;
       at = p.at;
       stands = p.stands;
-      is = subst (λ x. MatchBool x (Round w p.world end) (Passes w p.world end)) (sym (round_stored t w.tier stands.stored ∙ yes)) p.is;
+      is = subst (λ x. MatchBool x (Round w p.world end) (Passes w p.world end)) (sym (round_stored t w.tier stands.stored ∙ so)) p.is;
     }
+
+-- nothing but the unsettled transactions and the moment of the last round is changed
+pub sets_kept : (old new : Stored) → new ≡ record old { unsettled = new.unsettled; clock = new.clock } → new.clock ≡ record (old.clock) { round = old.clock.now } → KeepsSets old new
+sets_kept old new same clock = record { catalog = ap (λ (t : Stored). t.catalog) same; now = ap (λ (c : TierClock). c.now) clock; sets = ap (λ (c : TierClock). c.sets) clock }
+
+pub round_item : (old new : Stored) (b a : SiteView) (earlier notes : List Note) (end stop : Option Reply) → round_is_due old.clock.now old.clock.round old.clock.propagate_ms ≡ true → Performs old new b a (λ w w'. Round w w' end) → IsStopCaused b a end
+    → new ≡ record old { unsettled = new.unsettled; clock = new.clock } → new.clock ≡ record (old.clock) { round = old.clock.now } → notes ≡ earlier ++ noted (note_of None) end → stop ≡ stopped end → DoesItem DueRound old new b a earlier notes stop
+round_item old new b a earlier notes end stop so performs caused same clock told ends =
+    as_item (Noted (note_of None) (λ w w' s. OnlyWhere (is_round_due w.tier) Round w w' s)) DueRound old new b a earlier notes stop
+    (λ w w' stands done. record { end = done.end; does = done.does; told = done.told; ends = done.ends })
+    (noted_item None (λ w w' s. OnlyWhere (is_round_due w.tier) Round w w' s) old new b a earlier notes end stop
+    (round_wanted old new b a end so performs) caused
+    (ap (λ (t : Stored). definitions_of (groups_in t.catalog)) same)
+    (λ i there. subst (λ (c : TierClock). has_moment c.sets.items i ≡ true) (sym clock) there)
+    told ends)
 
 -- another clock
 
@@ -139,8 +154,9 @@ sound_clocked t clock sound = record {
   verified = λ is. let v = sound.verified is in record { rows = v.rows; own = v.own };
 }
 
-stored_clocked : (t : Stored) (clock : TierClock) (a b : Tier) → IsStoredAs t a → b ≡ record a { now = b.now; added = b.added; sets = b.sets } → KeepsTime clock b.now b.added a.round b.sets a.settings → IsStoredAs (record t { clock = clock }) (record a { now = b.now; added = b.added; sets = b.sets })
-stored_clocked t clock a b is same time = record {
+stored_clocked : (t : Stored) (clock : TierClock) (a : Tier) (now added : ℕ) (sets : List SetState) → IsStoredAs t a → KeepsTime clock now added a.round sets a.settings
+    → IsStoredAs (record t { clock = clock }) (record a { now = now; added = added; sets = sets })
+stored_clocked t clock a now added sets is time = record {
   schema = is.schema;
   stale = is.stale;
   groups = is.groups;
@@ -164,7 +180,7 @@ stands_clocked w now added sets x = record {
 -- the tier stands at the new moment
 timed : (t : Stored) (clock : TierClock) (base : ℕ) (line : Line) (w : World) → StandsFor t w → KeepsTime clock (at_moment base line w.tier).now (added_by line w.tier) w.tier.round w.tier.sets w.tier.settings → StandsFor (record t { clock = clock }) (with_moment base line w)
 timed t clock base line w is time = record {
-  stored = stored_clocked t clock w.tier (at_moment base line w.tier) is.stored refl time;
+  stored = stored_clocked t clock w.tier (at_moment base line w.tier).now (added_by line w.tier) w.tier.sets is.stored time;
   shows = is.shows;
   stands = stands_clocked w (at_moment base line w.tier).now (added_by line w.tier) w.tier.sets is.stands;
   unkept = is.unkept;
@@ -192,8 +208,15 @@ line_begun t new clock base now added line b a notes stop adds moment now_is add
       is = subst (λ l. DueWork (with_moment base line w) p.world l stop) (since_none notes) p.is;
     }
 
-pub line_caused : (old new : Stored) (b a : SiteView) (notes : List Note) (stop : Option Reply) → DoesItem DueWork old new b a [] notes stop → IsDueCaused b a (due_of notes stop)
-line_caused old new b a notes stop does = subst (λ l. IsDueCaused b a (due_of l stop)) (since_none notes) does.cause
+pub line_done : (t mid new : Stored) (clock : TierClock) (base now added : ℕ) (line : Line) (b a : SiteView) (earlier notes told : List Note) (stop : Option Reply) → ((x : Tier) → x.added ≡ t.clock.added → added_by line x ≡ added) → now ≡ cut (max t.clock.now (base + added))
+    → clock ≡ record (t.clock) { now = now; added = added; sets = clock.sets } → ((i : ℕ) → moment_in clock.sets.items i ≡ moment_in t.clock.sets.items i)
+    → mid ≡ record t { clock = clock } → earlier ≡ [] → told ≡ notes → DoesItem DueWork mid new b a earlier notes stop → Performs t new b a (λ w w'. DueWork (with_moment base line w) w' told stop)
+line_done t mid new clock base now added line b a earlier notes told stop adds moment same sets_is mid_is none told_is does =
+    line_begun t new clock base now added line b a told stop adds moment
+    (ap (λ (c : TierClock). c.now) same) (ap (λ (c : TierClock). c.added) same) (ap (λ (c : TierClock). c.round) same) (ap (λ (c : TierClock). c.propagate_ms) same) sets_is
+    (subst (λ l. DoesItem DueWork (record t { clock = clock }) new b a [] l stop) (sym told_is)
+    (subst (λ e. DoesItem DueWork (record t { clock = clock }) new b a e notes stop) none
+    (subst (λ m. DoesItem DueWork m new b a earlier notes stop) mid_is does)))
 
 -- the moments of refreshes
 
@@ -217,9 +240,6 @@ noted_elsewhere : (interval now i : ℕ) (sets : List SetMoment) → nat_eq inte
 noted_elsewhere interval now i [] other = refl
 noted_elsewhere interval now i (s ∷ sets) other = by (nat_eq s.interval interval) refl (noted_elsewhere interval now i sets other)
   where
-    abbrev head : SetMoment → ℕ → ℕ
-    head x rest = cond (nat_eq x.interval i) x.refreshed rest
-
     first : (x : SetMoment) (l : List SetMoment) → moment_in (x ∷ l) i ≡ cond (nat_eq x.interval i) x.refreshed (moment_in l i)
     first x l = of (nat_eq x.interval i)
       where
@@ -231,10 +251,10 @@ noted_elsewhere interval now i (s ∷ sets) other = by (nat_eq s.interval interv
         → moment_in (cond b (record s { refreshed = now }) s ∷ moments_with interval now sets) i ≡ moment_in (s ∷ sets) i
     by true e rest =
         let same : s.interval ≡ interval = eqb-true s.interval interval e in
-        let no : nat_eq s.interval i ≡ false = ap (λ n. nat_eq n i) same ∙ other in
+        let not_so : nat_eq s.interval i ≡ false = ap (λ n. nat_eq n i) same ∙ other in
         first (record s { refreshed = now }) (moments_with interval now sets)
-        ∙ ap (λ b. cond b now (moment_in (moments_with interval now sets) i)) no ∙ rest
-        ∙ sym (ap (λ b. cond b s.refreshed (moment_in sets i)) no) ∙ sym (first s sets)
+        ∙ ap (λ b. cond b now (moment_in (moments_with interval now sets) i)) not_so ∙ rest
+        ∙ sym (ap (λ b. cond b s.refreshed (moment_in sets i)) not_so) ∙ sym (first s sets)
     by false e rest = first s (moments_with interval now sets) ∙ ap (λ n. cond (nat_eq s.interval i) s.refreshed n) rest ∙ sym (first s sets)
 
 noted_there : (interval now : ℕ) (sets : List SetMoment) → has_moment sets interval ≡ true → moment_in (moments_with interval now sets) interval ≡ now
@@ -268,11 +288,19 @@ tried_in interval now i sets kept has same = by (nat_eq interval i) refl
 
 -- a refresh for which memory was wanting
 
+pub plain_explicit : (gs : List Group) → list_all is_plain gs ≡ true → list_all is_explicit gs ≡ true
+plain_explicit [] all = refl
+plain_explicit (g ∷ gs) all =
+    let both = both_true (is_plain g) (list_all is_plain gs) all in
+    let first = (both_true (is_explicit g) (is_none g.def.aging) (both_true (is_explicit g && is_none g.def.aging) (not (is_synchronous g)) both.0).0).0 in
+    let rest = plain_explicit gs both.1 in
+    λ i. first i && rest i
+
 shows_bare : (interval : ℕ) (gs : List Group) → list_all is_plain (map without_list gs) ≡ true → shows_something interval gs ≡ shows_something interval (map without_list gs)
 shows_bare interval [] all = refl
 shows_bare interval (g ∷ gs) all =
     let both = both_true (is_plain (without_list g)) (list_all is_plain (map without_list gs)) all in
-    let explicit = (both_true (is_explicit g) (is_none g.def.aging && not (is_synchronous g)) both.0).0 in
+    let explicit = (both_true (is_explicit g) (is_none g.def.aging) (both_true (is_explicit g && is_none g.def.aging) (not (is_synchronous g)) both.0).0).0 in
     let first : has_something g ≡ has_something (without_list g) = ap (λ b. cond b g.loaded (holds_some g.keys)) explicit ∙ sym (ap (λ b. cond b g.loaded (holds_some [])) explicit) in
     let rest = shows_bare interval gs both.1 in
     λ i. (is_in_set interval g && first i) || rest i
@@ -282,11 +310,11 @@ shows_stored t w interval sound is =
     shows_bare interval w.tier.groups (ap (list_all is_plain) is.groups ∙ sound.plain) ∙ ap (shows_something interval) is.groups
 
 pub refresh_passes : (t : Stored) (b : SiteView) (interval : ℕ) → IsSound t → shows_something interval (groups_in t.catalog) ≡ false → Performs t t b b (λ w w'. RefreshesIfShown interval w w' None)
-refresh_passes t b interval sound no w at stands apart = record {
+refresh_passes t b interval sound not_so w at stands apart = record {
   world = w;
   at = at;
   stands = stands;
-  is = subst (λ x. MatchBool x (RefreshesSet interval w w None) (Passes w w None)) (sym (shows_stored t w interval sound stands.stored ∙ no)) (refl, refl);
+  is = subst (λ x. MatchBool x (RefreshesSet interval w w None) (Passes w w None)) (sym (shows_stored t w interval sound stands.stored ∙ not_so)) (refl, refl);
 }
 
 pub refresh_wanting : (t : Stored) (clock : TierClock) (b : SiteView) (interval : ℕ) → IsSound t → has_moment t.clock.sets.items interval ≡ true → shows_something interval (groups_in t.catalog) ≡ true
@@ -311,7 +339,7 @@ refresh_wanting t clock b interval sound has shown same moments w at stands apar
       world = w';
       at = at_still b w (refresh_tried interval a) at;
       stands = record {
-        stored = stored_clocked t clock a (refresh_tried interval a) stands.stored refl time;
+        stored = stored_clocked t clock a a.now a.added (refresh_tried interval a).sets stands.stored time;
         shows = stands.shows;
         stands = stands_clocked w a.now a.added (refresh_tried interval a).sets stands.stands;
         unkept = stands.unkept;
@@ -340,3 +368,10 @@ refresh_wanting t clock b interval sound has shown same moments w at stands apar
             goes_on = (refl, refl);
           });
     }
+
+pub refresh_told : (t : Stored) (clock : TierClock) (b : SiteView) (interval : ℕ) (reply : Reply) → IsSound t → has_moment t.clock.sets.items interval ≡ true → shows_something interval (groups_in t.catalog) ≡ true
+    → clock ≡ record (t.clock) { sets = clock.sets } → clock.sets.items ≡ moments_with interval t.clock.now t.clock.sets.items → reply ≡ faulty code.Memory
+    → Performs t (record t { clock = clock }) b b (λ w w'. RefreshesIfShown interval w w' (Some reply))
+refresh_told t clock b interval reply sound has shown same moments told =
+    subst (λ r. Performs t (record t { clock = clock }) b b (λ w w'. RefreshesIfShown interval w w' (Some r))) (sym told)
+    (refresh_wanting t clock b interval sound has shown same moments)

@@ -16,6 +16,7 @@ pub mod Fresh
 pub mod Gathering
 pub mod Grouping
 pub mod Loaded
+pub mod Inserting
 pub mod Performing
 pub mod Putting
 pub mod Refreshing

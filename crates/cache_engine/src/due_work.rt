@@ -92,13 +92,13 @@ impl Tier {
             notes.old.items notes.new.items result }
         ensures sound { IsSound self.new }
     {
-        match intervals.split_first() {
-            None => None,
-            Some((interval, more)) => match self.refresh_due(alloc, site, *interval, notes) {
-                Some(stop) => Some(stop),
-                None => self.refresh_sets(alloc, site, more, notes),
-            },
+        for interval in intervals {
+            match self.refresh_due(alloc, site, *interval, notes) {
+                Some(stop) => return Some(stop),
+                None => {}
+            }
         }
+        None
     }
 
     // The set of an interval is refreshed; a failure becomes a note.

@@ -22,6 +22,7 @@ mod gathering;
 mod grouping;
 mod growing;
 mod holding;
+pub mod inserting;
 pub mod loading;
 pub mod loading_whole;
 mod loading_written;

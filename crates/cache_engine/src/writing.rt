@@ -63,16 +63,20 @@ impl Tier {
                     if are_changes(prepared.ops.as_slice()) {
                         self.change(alloc, id, prepared)
                     } else {
-                        let _ = site;
-                        Err(Refused::Memory)
+                        self.insert(alloc, site, id, prepared)
                     }
                 }
             },
         }
     }
 
-    // UPDATE and DELETE: the operations go behind the session's own.
-    fn change(&mut self, alloc: Global, id: SessionId, prepared: Prepared) -> Result<Reply, Refused>
+    /// Operations go behind the session's own.
+    pub(crate) fn change(
+        &mut self,
+        alloc: Global,
+        id: SessionId,
+        prepared: Prepared,
+    ) -> Result<Reply, Refused>
         requires sound { IsSound self.old }
         requires unbroken { IsUnbroken self.old id prepared.ops }
         ensures changed { Changed self.old self.new id prepared result }

@@ -23,3 +23,10 @@ returns-then-are_changes-clause-performs g c = λ s has w at is unshared.
     (c.in-Ok.ensures.sound.verified c.in-Ok.ensures.ok) at there known changes
     (c.in-Ok-prepare.ensures.unbroken (no_insert c.in-Ok-prepare.prepared.ops changes))
     (c.in-Ok-prepare.ensures.prepared w s there.stored there.shows known) c.change.ensures.changed
+
+pub returns-else-are_changes-clause-performs : goal.returns-else-are_changes-clause-performs
+returns-else-are_changes-clause-performs g c = λ s has w at is unshared.
+    let there = stands_over c.args.self.now c.verify.new.self w c.in-Ok.ensures.same is in
+    let known = session_over c.args.self.now c.verify.new.self c.args.id s c.in-Ok.ensures.same has in
+    c.insert.ensures.performs w s c.args.write.now known at there unshared
+    (c.in-Ok-prepare.ensures.prepared w s there.stored there.shows known)

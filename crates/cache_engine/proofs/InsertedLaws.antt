@@ -1,0 +1,144 @@
+-- What an INSERT leaves of the worlds.
+use Rattle.std.proofs.Common.{◌≡◌, ◌≤◌, ℕ, Bool, true, false, not, cond, ◌&&◌, Option, Some, None, is_some, Result, Ok, Err, List, [], ◌∷◌, ◌++◌, inl, inr, length, slice_get, refl, sym, ap, subst, ◌∙◌}
+use Rattle.std.specs.Bool.{MatchBool}
+use Rattle.std.specs.List.{list_any}
+use Rattle.std.proofs.lemmas.List.{append-nil}
+use Rattle.tier_base.specs.declared.number.SessionId.{SessionId}
+use Rattle.tier_base.specs.declared.number.TableId.{TableId}
+use Rattle.row_types.specs.declared.rule.Refused.{Refused}
+use Rattle.row_types.specs.declared.rule.Refused.TheVariants as refused
+use Rattle.row_types.specs.declared.rule.Rule.{Rule}
+use Rattle.row_types.specs.declared.value.Value.{Value}
+use Rattle.table_defs.specs.declared.definition.TableDef.{TableDef}
+use Rattle.indexed_rows.specs.Rows.{key_of}
+use Rattle.table_state.specs.declared.history.Entry.{Entry}
+use Rattle.table_state.specs.declared.operation.Op.{Op}
+use Rattle.table_state.specs.declared.operation.Op.TheVariants.{Insert}
+use Rattle.table_state.specs.Histories.{state_of}
+use Rattle.table_state.specs.Operations.{applied_all}
+use Rattle.table_state.specs.Refusals.{broken_by_all}
+use Rattle.table_state.specs.Tables.{TableState, table_at}
+use Rattle.order_laws.specs.Effects.{row_at}
+use Rattle.outside.specs.Bank.{Grows, TellsRow}
+use Rattle.outside.specs.Calls as site
+use Rattle.outside.specs.declared.fault.BankError.{BankError}
+use Rattle.outside.specs.declared.fault.BankError.TheVariants as bank
+use Rattle.outside.specs.Holding.{Held}
+use Rattle.outside.specs.Others.{AreOthers, Around, is_shared}
+use Rattle.evaluator.specs.Cascades.{key_in}
+use Rattle.open_sessions.specs.Lookups.{open_ops}
+use Rattle.open_sessions.specs.Opening.{seen_all}
+use Rattle.sql_query.specs.declared.write.Write.{Write}
+use Rattle.sql_subset.specs.declared.stmt.Stmt.TheVariants as statement
+use Rattle.transactions.specs.Transactions.{rows_in}
+use Rattle.group_catalog.specs.Catalogs.{groups_in}
+use Rattle.cache_tier.specs.declared.reply.Last.TheVariants.{Done, No}
+use Rattle.cache_tier.specs.declared.reply.Reply.{Reply}
+use Rattle.cache_tier.specs.Facts.{OverIsApplied}
+use Rattle.cache_tier.specs.Groups.{covers, is_table_of, is_writethrough}
+use Rattle.cache_tier.specs.InsertSteps.{Finds, Inserts, has_key_in, insert_answer, insert_fault, taken}
+use Rattle.cache_tier.specs.OwnWrites.{apply_fault, written}
+use Rattle.cache_tier.specs.Recency.{after_writes}
+use Rattle.cache_tier.specs.Rules.{rule_of_apply}
+use Rattle.cache_tier.specs.Shown.{all_over, over, seen_by, shown_state, written_on}
+use Rattle.cache_tier.specs.TierStates.{Session, Tier, session_of, with_session, with_writes}
+use Rattle.cache_tier.specs.WriteSteps.{WritesOps}
+use Rattle.cache_tier.specs.Worlds.{Answer, BankCall, IsUnshared, Refuses, World, bank_fault, faulty, only, unless}
+use Rattle.tier_base.specs.declared.code.Code.TheVariants as code
+use Rattle.tier_laws.specs.Events.{HaveNewKeys, MayWriteMore, StaysShown, at_history, with_tier}
+use Rattle.tier_laws.specs.Pending.{last_written, pending_ops}
+use Rattle.tier_laws.specs.Standing.{Stands}
+use Rattle.tier_laws.proofs.PendingRows.{all_written}
+use Rattle.cache_engine.specs.declared.inserting.Weighed.{Weighed}
+use Rattle.cache_engine.specs.declared.preparing.Prepared.{Prepared}
+use Rattle.cache_engine.specs.declared.tier.Tier.{Tier as Stored}
+use Rattle.cache_engine.specs.Changing.{Changed, Holds, HoldsNothing, IsPrepared, IsUnbroken}
+use Rattle.cache_engine.specs.Inserting.{IsWeighed, KnowsKey, TakenFree, TakenIn, TellsRule, writes_key}
+use Rattle.cache_engine.specs.Performing.{Executes, IsPerformed, StandsFor, reply_of}
+use Rattle.cache_engine.specs.Sites.{IsAt, SiteView}
+use Rattle.cache_engine.specs.Stored.{HasSession, IsSound, IsStoredAs, IsVerified, rows_of, without_list}
+use Rattle.cache_engine.proofs.BankLaws.{TellsBehind, behind, call_behind, told_behind}
+use Rattle.cache_engine.proofs.ChangedLaws.{WrittenLaw, may_write, rows_same, stored_written, unheld}
+use Rattle.cache_engine.proofs.InsertLaws.{key_there, last_behind, none_written, of_pending, others_keep_row, seen_schema, some_written}
+use Rattle.cache_engine.proofs.OthersLaws.{only_reads}
+use Rattle.cache_engine.proofs.QuietLaws.{its_session}
+use Rattle.cache_engine.proofs.SelectLaws.{NumberLaw, any_map, own_found}
+use Rattle.cache_engine.proofs.SessionLaws.{ChangeLaw}
+use Rattle.cache_engine.proofs.StandingLaws.{performed_behind}
+use Rattle.cache_engine.proofs.WriteLaws.{sees}
+
+abbrev pub PendingLaw : Type 0
+PendingLaw =
+    (w : World) (s : Session) (backing : TableState) (t : TableId) (key : List Value) → Stands w
+    → session_of w.tier s.label ≡ Some s → state_of w.history ≡ Some backing
+    → row_at (written_on s w.history w.tier) t key ≡ last_written w.tier.schema t key (pending_ops w ++ s.own) (row_at backing t key)
+
+abbrev pub EntriesLaw : Type 0
+EntriesLaw =
+    (w : World) (entries : List Entry) → Stands w → IsUnshared w → AreOthers w.shared w.history entries
+    → StaysShown w (at_history (w.history ++ entries) w)
+
+-- so the key has a row exactly where the bank tells one, and the session hasn't written it
+decided_row : PendingLaw → (w : World) (s : Session) (t : TableId) (key : List Value) (own : Bool) (backing : TableState) → Stands w → session_of w.tier s.label ≡ Some s → state_of w.history ≡ Some backing
+    → MatchBool own (writes_key w.tier.schema s.own t key ≡ true) ((writes_key w.tier.schema s.own t key ≡ false) × (list_any (λ x. writes_key w.tier.schema x.ops t key) w.tier.unsettled ≡ false))
+    → (shown : Option (List Value)) → (own ≡ true → last_written w.tier.schema t key s.own shown ≡ None)
+    → is_some (row_at (written_on s w.history w.tier) t key) ≡ (not own && is_some (row_at backing t key))
+decided_row law w s t key true backing x there leaves known shown hidden =
+    ap is_some
+    (law w s backing t key x there leaves ∙ last_behind w.tier.schema t key (pending_ops w) s.own (row_at backing t key)
+    ∙ some_written w.tier.schema t key s.own _ shown known ∙ hidden refl)
+decided_row law w s t key false backing x there leaves known shown hidden =
+    ap is_some
+    (law w s backing t key x there leaves ∙ last_behind w.tier.schema t key (pending_ops w) s.own (row_at backing t key)
+    ∙ none_written w.tier.schema t key s.own (last_written w.tier.schema t key (pending_ops w) (row_at backing t key)) known.0
+    ∙ of_pending w.history w.tier.schema t key w.tier.unsettled known.1 (row_at backing t key))
+
+-- ---- one INSERT
+
+module _ (pending : PendingLaw) (entries : EntriesLaw) (w : World) (s : Session) (t : TableId) (row : List Value) (own : Bool) (stands : Stands w) (apart : IsUnshared w) (there : session_of w.tier s.label ≡ Some s) (through : is_table_of is_writethrough w.tier.groups t ≡ true)
+    (known : MatchBool own (writes_key w.tier.schema s.own t (key_in (slice_get w.tier.schema t.0) row) ≡ true) ((writes_key w.tier.schema s.own t (key_in (slice_get w.tier.schema t.0) row) ≡ false) × (list_any (λ x. writes_key w.tier.schema x.ops t (key_in (slice_get w.tier.schema t.0) row)) w.tier.unsettled ≡ false)))
+    (shown : Option (List Value)) (hidden : own ≡ true → last_written w.tier.schema t (key_in (slice_get w.tier.schema t.0) row) s.own shown ≡ None) where
+  abbrev its_key : List Value
+  its_key = key_in (slice_get w.tier.schema t.0) row
+
+  unshared : is_shared w.shared t ≡ false
+  unshared = by (is_shared w.shared t) refl
+    where
+      by : (b : Bool) → is_shared w.shared t ≡ b → is_shared w.shared t ≡ false
+      by false is = is
+      by true is = let no : true ≡ false = sym through ∙ apart t is in cc
+
+  -- at a history with entries of others more
+  at_more : (more : List Entry) → AreOthers w.shared w.history more → (backing : TableState) → state_of (w.history ++ more) ≡ Some backing → has_key_in (written_on s (w.history ++ more) w.tier) t row ≡ (not own && is_some (row_at backing t its_key))
+  at_more more others backing leaves =
+      let stays = (entries w more stands apart others).stands in
+      key_there (at_history (w.history ++ more) w) s t row stays through
+      ∙ decided_row pending (at_history (w.history ++ more) w) s t its_key own backing stays there leaves known shown hidden
+
+  module _ (found : Option (List Value)) (later : List Entry) (a : Around w.shared (TellsRow t its_key (Ok found)) w.history later) where
+    middle : a.middle ≡ w.history ++ a.before
+    middle = a.own.0 ∙ append-nil (w.history ++ a.before)
+
+    abbrev backing : TableState
+    backing = (entries w a.before stands apart a.came_before).stands.flow.stand.over.backing
+
+    leaves : state_of (w.history ++ a.before) ≡ Some backing
+    leaves = (entries w a.before stands apart a.came_before).stands.flow.stand.over.leaves
+
+    told : found ≡ row_at backing t its_key
+    told = a.own.1 backing (ap state_of middle ∙ leaves)
+
+    -- where the bank was asked
+    pub asked : has_key_in (written_on s (w.history ++ a.before) w.tier) t row ≡ (not own && is_some found)
+    asked = at_more a.before a.came_before backing leaves ∙ ap (λ o. not own && is_some o) (sym told)
+
+    -- and behind the call
+    pub behind_call : Stands (at_history later w) → has_key_in (written_on s later w.tier) t row ≡ (not own && is_some found)
+    behind_call x =
+        let y = x.flow.stand.over in
+        let later_is : later ≡ (w.history ++ a.before) ++ a.behind = a.is ∙ ap (λ l. l ++ a.behind) middle in
+        let same : row_at y.backing t its_key ≡ row_at backing t its_key =
+        others_keep_row w.shared t its_key unshared a.behind (w.history ++ a.before) (subst (λ l. AreOthers w.shared l a.behind) middle a.came_behind) backing y.backing leaves (ap state_of (sym later_is) ∙ y.leaves) in
+        key_there (at_history later w) s t row x through
+        ∙ decided_row pending (at_history later w) s t its_key own y.backing x there y.leaves known shown hidden
+        ∙ ap (λ o. not own && is_some o) (same ∙ sym told)

@@ -1,0 +1,24 @@
+use Rattle.cache_engine.proofs.InsertDone.{broken_there, changed_there, free_there, taken_there, unbroken_there}
+use Rattle.cache_engine.proofs.tier.Tier.take_in.Goals as goal
+
+pub change-requires-clause-unbroken : goal.change-requires-clause-unbroken
+change-requires-clause-unbroken c =
+    unbroken_there c.args.self.now c.args.id c.args.prepared c.args.weighed c.requires.weighed c.in-None.is
+
+pub returns-then-is_taken-clause-taken : goal.returns-then-is_taken-clause-taken
+returns-then-is_taken-clause-taken c =
+    taken_there c.args.self.now c.args.id c.args.prepared c.args.weighed c.args.found c.is_taken.result c.is_taken.ensures
+    c.if-is_taken.true
+
+pub returns-in-Some-clause-taken : goal.returns-in-Some-clause-taken
+returns-in-Some-clause-taken c =
+    free_there c.args.self.now c.args.self.now c.args.id c.args.prepared c.args.weighed c.args.found _ c.is_taken.result
+    c.is_taken.ensures c.if-is_taken.false
+    (broken_there c.args.self.now c.args.id c.args.prepared c.args.weighed.fault c.in-Some.rule c.in-Some.is)
+
+pub returns-in-None-clause-taken : goal.returns-in-None-clause-taken
+returns-in-None-clause-taken c =
+    free_there c.args.self.now c.change.new.self c.args.id c.args.prepared c.args.weighed c.args.found c.change.result
+    c.is_taken.result c.is_taken.ensures c.if-is_taken.false
+    (changed_there c.args.self.now c.change.new.self c.args.id c.args.prepared c.args.weighed.fault c.change.result c.in-None.is
+    c.change.ensures.changed)

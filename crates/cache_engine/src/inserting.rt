@@ -1,0 +1,267 @@
+//! INSERT of a row whose key isn't shown.
+
+ghost use Rattle.std.specs.Prelude.{◌≡◌, ◌&&◌, IfOk, false, is_some, not, true};
+ghost use Rattle.std.specs.List.{list_any};
+ghost use Rattle.table_state.specs.Footprints.{is_among, same_row_key};
+ghost use Rattle.cache_engine.specs.Inserting.{writes_key};
+
+use crate::preparing::Prepared;
+use crate::tier::Tier;
+use cache_tier::laws::tier_law;
+use cache_tier::reply::Reply;
+use group_store::Shown;
+use indexed_rows::is_same_values;
+use open_sessions::laws::label_law;
+use outside::Site;
+use row_types::{Key, Refused, Row, Rule};
+use std::alloc::{AllocError, Global};
+use std::collections::VecDeque;
+use table_defs::BackingSchema;
+use table_scan::laws::keyed_law;
+use table_state::{ApplyError, Footprint, Op, RowKey, Sealed, key_of_row};
+use tier_base::{SessionId, TableId};
+use tier_laws::{others_shown_law, pending_row_law, use_shown_law};
+use tier_statements::{bank_fault, judge_ops, taken};
+
+/// What is known of an INSERT before the bank is asked for its key.
+#[derive(Drop)]
+pub struct Weighed {
+    /// The table.
+    pub table: TableId,
+    /// The key.
+    pub key: Key,
+    /// The rule that is broken where the key has a row.
+    pub taken: Rule,
+    /// Whether the session's own operations write the key; what they leave there is shown.
+    pub own: bool,
+    /// The rule that the row breaks over what the session sees.
+    pub fault: Option<Rule>,
+}
+
+impl Tier {
+    ghost use Rattle.cache_engine.specs.Inserting.{InsertsAt, IsJudged, IsWeighed, IsWeighedRow, KnowsKey, TakenIn};
+    ghost use Rattle.cache_engine.specs.Performing.{IsCalm, IsCaused, reply_of};
+    ghost use Rattle.cache_engine.specs.Sites.{seen_at};
+    ghost use Rattle.cache_engine.specs.Stored.{IsSound};
+
+    /// INSERT of a row whose key isn't shown: the bank is asked for the key. The row goes behind the session's own operations.
+    ///
+    /// The refusal is 107 of the key, then 108; the reply is 201 where the bank's call failed; or memory was wanting. All
+    /// then stays.
+    pub(crate) fn insert<P: Site>(
+        &mut self,
+        alloc: Global,
+        site: &mut P,
+        id: SessionId,
+        prepared: Prepared,
+    ) -> Result<Reply, Refused>
+        requires sound { IsSound self.old }
+        requires verified { self.old.verified ≡ true }
+        ensures performs { InsertsAt self.old self.new
+            (seen_at (P.Disk.held site.old) (P.bank_faults site.old) (P.Disk.moment site.old) (P.Disk.shared site.old))
+            (seen_at (P.Disk.held site.new) (P.bank_faults site.new) (P.Disk.moment site.new) (P.Disk.shared site.new))
+            id prepared result }
+        ensures sound { IsSound self.new }
+        ensures cause { IsCaused
+            (seen_at (P.Disk.held site.old) (P.bank_faults site.old) (P.Disk.moment site.old) (P.Disk.shared site.old))
+            (seen_at (P.Disk.held site.new) (P.bank_faults site.new) (P.Disk.moment site.new) (P.Disk.shared site.new))
+            (reply_of result) }
+    {
+        tier_law();
+        label_law();
+        others_shown_law();
+        pending_row_law();
+        use_shown_law();
+        match self.weigh(alloc, id, &prepared) {
+            Err(_) => Err(Refused::Memory),
+            Ok(weighed) => match site.find(weighed.table, &weighed.key) {
+                Err(error) => Ok(bank_fault(alloc, error)),
+                Ok(found) => self.take_in(alloc, id, prepared, weighed, found),
+            },
+        }
+    }
+
+    // The row goes behind the session's own operations, where the bank's answer lets it.
+    fn take_in(
+        &mut self,
+        alloc: Global,
+        id: SessionId,
+        prepared: Prepared,
+        weighed: Weighed,
+        found: Option<Row>,
+    ) -> Result<Reply, Refused>
+        requires sound { IsSound self.old }
+        requires weighed { IsWeighed self.old id prepared weighed }
+        ensures taken { TakenIn self.old self.new id prepared weighed found result }
+        ensures sound { IsSound self.new }
+        ensures calm { IsCalm (reply_of result) }
+    {
+        let Weighed {
+            table: _,
+            key: _,
+            taken,
+            own,
+            fault,
+        } = weighed;
+        if is_taken(own, &found) {
+            return Err(Refused::Rule(taken));
+        }
+        match fault {
+            Some(rule) => Err(Refused::Rule(rule)),
+            None => self.change(alloc, id, prepared),
+        }
+    }
+
+    // What is known of an INSERT of one row. It fails for want of memory; where the table is of no writethrough group; and where a transaction that waits has
+    // written the key, as then the bank's row doesn't tell whether it is new.
+    fn weigh(
+        &self,
+        alloc: Global,
+        id: SessionId,
+        prepared: &Prepared,
+    ) -> Result<Weighed, AllocError>
+        requires sound { IsSound self.now }
+        requires verified { self.now.verified ≡ true }
+        ensures { IfOk result (IsWeighed self.now id prepared.now) }
+    {
+        let ops = prepared.ops.as_slice();
+        match ops.split_first() {
+            Some((Op::Insert(table, row), others)) => {
+                if table.0 == prepared.table.0
+                    && others.is_empty()
+                    && self.catalog.is_written_through(*table)
+                {
+                    self.weigh_row(alloc, id, *table, row, ops)
+                } else {
+                    Err(AllocError)
+                }
+            }
+            _ => Err(AllocError),
+        }
+    }
+
+    // The same of the row.
+    fn weigh_row(
+        &self,
+        alloc: Global,
+        id: SessionId,
+        table: TableId,
+        row: &Row,
+        ops: &[Op],
+    ) -> Result<Weighed, AllocError>
+        requires sound { IsSound self.now }
+        requires verified { self.now.verified ≡ true }
+        ensures { IfOk result (IsWeighedRow self.now id table row.now ops.now) }
+    {
+        match self.schema.get(table.0 as usize) {
+            None => Err(AllocError),
+            Some(def) => {
+                let key = key_of_row(alloc, def, row)?;
+                let taken = taken(alloc, def, row)?;
+                let own = self.know_key(alloc, id, table, &key)?;
+                let fault = self.judge(alloc, id, ops)?;
+                Ok(Weighed {
+                    table,
+                    key,
+                    taken,
+                    own,
+                    fault,
+                })
+            }
+        }
+    }
+
+    // Whether the session's own operations write a key. It fails where a transaction that waits does, and they don't.
+    fn know_key(
+        &self,
+        alloc: Global,
+        id: SessionId,
+        table: TableId,
+        key: &Key,
+    ) -> Result<bool, AllocError>
+        ensures { IfOk result (KnowsKey self.now id table key.now) }
+    {
+        if writes_key(alloc, &self.schema, self.sessions.ops(id), table, key)? {
+            return Ok(true);
+        }
+        if some_writes_key(alloc, &self.schema, &self.unsettled, table, key)? {
+            return Err(AllocError);
+        }
+        Ok(false)
+    }
+
+    // The rule that operations break over what the session sees.
+    fn judge(&self, alloc: Global, id: SessionId, ops: &[Op]) -> Result<Option<Rule>, AllocError>
+        requires sound { IsSound self.now }
+        requires verified { self.now.verified ≡ true }
+        ensures { IfOk result (IsJudged self.now id ops.now) }
+    {
+        keyed_law();
+        let shown = Shown::new(&self.schema, self.stores.as_slice(), &self.directory);
+        let seen = self.sessions.overlay(id, &shown);
+        match judge_ops(alloc, &seen, ops) {
+            Ok(()) => Ok(None),
+            Err(ApplyError::Rule(rule)) => Ok(Some(rule)),
+            Err(_) => Err(AllocError),
+        }
+    }
+}
+
+// Whether the bank's row stands at the key: it does where the session hasn't written the key itself.
+fn is_taken(own: bool, found: &Option<Row>) -> bool
+    ensures { result ≡ (not own && is_some found.now) }
+{
+    !own && found.is_some()
+}
+
+// Whether operations write a key.
+fn writes_key(
+    alloc: Global,
+    schema: &BackingSchema,
+    ops: &[Op],
+    table: TableId,
+    key: &Key,
+) -> Result<bool, AllocError>
+    ensures { IfOk result (λ writes. writes ≡ writes_key schema.now ops.now table key.now) }
+{
+    let footprint = Footprint::of(alloc, schema, ops)?;
+    let (written, _) = footprint.into_parts();
+    Ok(is_among(written.as_slice(), table, key))
+}
+
+// Whether one of several transactions does; where it is false, none does.
+fn some_writes_key(
+    alloc: Global,
+    schema: &BackingSchema,
+    unsettled: &VecDeque<Sealed>,
+    table: TableId,
+    key: &Key,
+) -> Result<bool, AllocError>
+    ensures { IfOk result (λ writes. writes ≡ false
+        → list_any (λ x. writes_key schema.now x.ops table key.now) unsettled.now.items ≡ false) }
+{
+    for place in 0..unsettled.len() {
+        match unsettled.get(place) {
+            None => return Err(AllocError),
+            Some(sealed) => {
+                if writes_key(alloc, schema, sealed.ops.as_slice(), table, key)? {
+                    return Ok(true);
+                }
+            }
+        }
+    }
+    Ok(false)
+}
+
+// Whether the key is one of these.
+fn is_among(keys: &[RowKey], table: TableId, key: &Key) -> bool
+    ensures { result ≡ is_among keys.now (record { table = table; key = key.now }) }
+{
+    keys.iter().any(|other| is_same(table, key, other))
+}
+
+fn is_same(table: TableId, key: &Key, other: &RowKey) -> bool
+    ensures { result ≡ same_row_key (record { table = table; key = key.now }) other.now }
+{
+    table.0 == other.table.0 && is_same_values(key.values(), other.key.values())
+}
