@@ -1,5 +1,5 @@
 -- COMMIT by the stored tier: the tier stands for the abstract one behind it.
-use Rattle.std.proofs.Common.{◌≡◌, ◌≤◌, ◌^◌, ◌+◌, ℕ, zero, suc, Bool, true, false, cond, not, ◌&&◌, ◌||◌, nat_le, Option, Some, None, is_none, Result, Ok, Err, List, [], ◌∷◌, ◌++◌, length, map, find, slice_get, unwrap_or, inl, inr, refl, sym, ap, subst, ◌∙◌, arith}
+use Rattle.std.proofs.Common.{◌≡◌, ◌≤◌, ◌^◌, ◌+◌, ℕ, zero, suc, Bool, true, false, cond, not, ◌&&◌, ◌||◌, nat_le, Option, Some, None, is_none, Result, Ok, Err, List, [], ◌∷◌, ◌++◌, length, map, find, unwrap_or, inl, inr, refl, sym, ap, subst, ◌∙◌, arith}
 use Rattle.std.specs.Bool.{MatchBool}
 use Rattle.std.specs.FinMap.{empty}
 use Rattle.std.specs.List.{list_all, list_any}
@@ -29,14 +29,14 @@ use Rattle.order_laws.proofs.CommittingLaws.{rise_last}
 use Rattle.order_laws.proofs.TruthLaws.{both_true, untrue}
 use Rattle.cache_tier.specs.CommitSteps.{CommitsLater, CommitsNow, CommitsOwn, committed_unsettled, is_synchronous_own, sealed_own}
 use Rattle.cache_tier.specs.Groups.{Group, covers, is_explicit, is_synchronous, is_table_of}
-use Rattle.cache_tier.specs.JournalSteps.{Flushes, FlushesKept, Notes, NotesKept, Records, journal_fault, name_sizes}
+use Rattle.cache_tier.specs.JournalSteps.{FlushesKept, NotesKept, Records, journal_fault, name_sizes}
 use Rattle.cache_tier.specs.Journals.{Commits, JournalEntry, is_full}
 use Rattle.cache_tier.specs.PassedSteps.{ticket_fault}
 use Rattle.cache_tier.specs.Reading.{Answers as Quietly}
 use Rattle.cache_tier.specs.Rules.{at_limit, broken_if, past}
 use Rattle.cache_tier.specs.Shown.{shown_state}
 use Rattle.cache_tier.specs.TierStates.{Session, Tier, is_labelled, session_of}
-use Rattle.cache_tier.specs.Worlds.{Answer, Part, Passes, Then, Tries, Unless, World, only}
+use Rattle.cache_tier.specs.Worlds.{Part, Passes, Then, Unless, World, only}
 use Rattle.cache_tier.specs.declared.reply.Last.TheVariants.{Done, No}
 use Rattle.cache_tier.specs.declared.reply.Reply.{Reply}
 use Rattle.tier_laws.specs.Events.{TakesOwn, with_tier}
@@ -48,7 +48,7 @@ use Rattle.cache_engine.specs.Performing.{Executes, IsPerformed, StandsFor, repl
 use Rattle.cache_engine.specs.Sites.{IsAt, SiteView}
 use Rattle.cache_engine.specs.Stored.{AreKept, AreWhole, HasSession, IsSound, IsStoredAs, IsVerified, is_plain, named_where_cached, rows_of, without_list}
 use Rattle.cache_engine.proofs.OpStores.{kept_ops, ops_shown, whole_ops}
-use Rattle.cache_engine.proofs.QuietLaws.{at_still, its_session, stands_still, wanting}
+use Rattle.cache_engine.proofs.QuietLaws.{at_still, its_session, stands_still}
 use Rattle.cache_engine.proofs.SelectLaws.{NumberLaw, own_found}
 use Rattle.cache_engine.proofs.SoundParts.{housed_exchanged}
 use Rattle.cache_engine.proofs.StoreRows.{are_kept}

@@ -1,7 +1,7 @@
 -- What operations that apply leave of the stores.
-use Rattle.std.proofs.Common.{◌≡◌, ℕ, zero, suc, ◌+◌, ◌≤◌, ◌<◌, Bool, true, false, cond, not, ◌&&◌, ◌||◌, nat_eq, Option, Some, None, is_some, List, [], ◌∷◌, length, map, slice_get, slice_set, unwrap_or, find, position, refl, sym, ap, subst, ◌∙◌, arith}
+use Rattle.std.proofs.Common.{◌≡◌, ℕ, zero, suc, ◌+◌, ◌<◌, Bool, true, false, cond, not, ◌&&◌, ◌||◌, nat_eq, Option, Some, None, is_some, List, [], ◌∷◌, length, slice_get, slice_set, unwrap_or, find, position, refl, sym, ap, subst, ◌∙◌, arith}
 use Rattle.std.specs.FinMap as fm
-use Rattle.std.specs.List.{list_all, list_any}
+use Rattle.std.specs.List.{list_any}
 use Rattle.std.specs.Option.{option_and_then, option_map, option_or}
 use Rattle.std.proofs.lemmas.Bool.{eqb-true, eq-eqb}
 use Rattle.std.proofs.lemmas.List.{length-map}
@@ -27,7 +27,7 @@ use Rattle.group_store.specs.declared.directory.Home.{Home}
 use Rattle.order_laws.proofs.TruthLaws.{both_true, never_both}
 use Rattle.cache_tier.specs.Groups.{Group, covers, is_table_of, is_writethrough}
 use Rattle.tier_laws.specs.Standing.{are_written_through}
-use Rattle.tier_laws.proofs.GroupTables.{any_found, some_place}
+use Rattle.tier_laws.proofs.GroupTables.{any_found}
 use Rattle.tier_laws.proofs.ShownTables.{same_state}
 use Rattle.tier_laws.proofs.ShownTrees as trees
 use Rattle.cache_engine.specs.Committing.{at_home, at_number, home_in, ops_at}
@@ -35,7 +35,7 @@ use Rattle.cache_engine.specs.Grouping.{SameTree}
 use Rattle.cache_engine.specs.Stored.{AreKept, AreWhole}
 use Rattle.cache_engine.proofs.StoreChanges.{form_kept}
 use Rattle.cache_engine.proofs.StoreForms.{key_for, primary}
-use Rattle.cache_engine.proofs.StoreRows.{TableKept, no_table_stored, place_same, table_kept, table_stored}
+use Rattle.cache_engine.proofs.StoreRows.{no_table_stored, place_same, table_kept, table_stored}
 use Rattle.cache_engine.proofs.SoundParts.{housed_exchanged}
 
 abbrev Row : Type 0

@@ -107,12 +107,7 @@ impl Tier {
     }
 
     // A round, where the group at the place is a writethrough one. The reply is the one with which it ended early.
-    fn settle_for<P: Site>(
-        &mut self,
-        alloc: Global,
-        site: &mut P,
-        place: usize,
-    ) -> Result<(), Reply>
+    fn settle_for<P: Site>(&mut self, alloc: Global, site: &mut P, place: usize) -> Result<(), Reply>
         requires { IsSound self.old }
         ensures performs { Performs self.old self.new
             (seen_at (P.Disk.held site.old) (P.bank_faults site.old) (P.Disk.moment site.old) (P.Disk.shared site.old))
@@ -221,11 +216,17 @@ fn is_only_read(kind: GroupKind) -> bool
 }
 
 // The session opened earliest that has written on a table of the group, but that of the number.
-fn find_writer<'a>(group: &KeptGroup, sessions: &'a [Session], id: SessionId) -> Option<&'a Session>
+fn find_writer<'a>(
+    group: &KeptGroup,
+    sessions: &'a [Session],
+    id: SessionId,
+) -> Option<&'a Session>
     ensures { option_copied result ≡ find (λ s. not (has_id id (seen_of s)) && writes_on (group_seen group.now) s.ops.items)
         sessions.now }
 {
-    sessions.iter().find(|session| session.id.0 != id.0 && writes_on(group, session.ops.as_slice()))
+    sessions
+        .iter()
+        .find(|session| session.id.0 != id.0 && writes_on(group, session.ops.as_slice()))
 }
 
 // Whether one of the operations is on a table of the group.
