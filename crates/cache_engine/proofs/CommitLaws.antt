@@ -1,5 +1,5 @@
 -- What a commit leaves of the stores, and of what is stored.
-use Rattle.std.proofs.Common.{◌≡◌, ◌+◌, ◌<◌, ◌≤◌, ℕ, zero, suc, Bool, true, false, not, cond, nat_le, Option, Some, None, Ok, Err, List, [], ◌∷◌, ◌++◌, length, map, set, get_or, slice_get, arith, refl, sym, ap, ◌∙◌, subst}
+use Rattle.std.proofs.Common.{◌≡◌, ◌+◌, ◌<◌, ◌≤◌, ℕ, zero, suc, Bool, true, false, not, cond, nat_le, Option, Some, None, Err, List, [], ◌∷◌, ◌++◌, length, map, set, get_or, slice_get, arith, refl, sym, ap, ◌∙◌, subst}
 use Rattle.std.specs.Option.{option_and_then, option_or}
 use Rattle.std.proofs.lemmas.Bool.{le-leb, lt-leb}
 use Rattle.row_types.specs.declared.rule.Rule.{Rule}

@@ -1,5 +1,5 @@
 -- COMMIT by the stored tier: the tier stands for the abstract one behind it.
-use Rattle.std.proofs.Common.{◌≡◌, ◌≤◌, ◌^◌, ◌+◌, ℕ, zero, suc, Bool, true, false, cond, not, ◌&&◌, ◌||◌, nat_le, Option, Some, None, is_none, Result, Ok, Err, List, [], ◌∷◌, ◌++◌, length, map, find, slice_get, unwrap_or, inl, inr, refl, sym, ap, subst, ◌∙◌, arith}
+use Rattle.std.proofs.Common.{◌≡◌, ◌≤◌, ◌^◌, ◌+◌, ℕ, zero, suc, Bool, true, false, cond, not, ◌&&◌, ◌||◌, nat_le, Option, Some, None, is_none, Result, Ok, Err, List, [], ◌∷◌, ◌++◌, length, map, find, unwrap_or, inl, inr, refl, sym, ap, subst, ◌∙◌, arith}
 use Rattle.std.specs.Bool.{MatchBool}
 use Rattle.std.specs.FinMap.{empty}
 use Rattle.std.specs.List.{list_all, list_any}
@@ -12,6 +12,7 @@ use Rattle.row_types.specs.declared.rule.Refused.{Refused}
 use Rattle.row_types.specs.declared.rule.Refused.TheVariants as refused
 use Rattle.row_types.specs.declared.rule.Rule.{Rule}
 use Rattle.table_defs.specs.declared.definition.TableDef.{TableDef}
+use Rattle.table_state.specs.declared.history.Sealed.{Sealed}
 use Rattle.table_state.specs.declared.operation.Op.{Op}
 use Rattle.table_state.specs.Operations.{applied_all, table_of}
 use Rattle.table_state.specs.Tables.{TableState}
@@ -24,17 +25,18 @@ use Rattle.group_store.specs.Keeping.{IsFor}
 use Rattle.group_store.specs.Shown.{AreHoused, kept_rows, rows_there, shown_by, tables_by}
 use Rattle.group_store.specs.Stores.{Kept}
 use Rattle.order_laws.specs.Commits.{RiseBetween}
+use Rattle.order_laws.proofs.CommittingLaws.{rise_last}
 use Rattle.order_laws.proofs.TruthLaws.{both_true, untrue}
 use Rattle.cache_tier.specs.CommitSteps.{CommitsLater, CommitsNow, CommitsOwn, committed_unsettled, is_synchronous_own, sealed_own}
 use Rattle.cache_tier.specs.Groups.{Group, covers, is_explicit, is_synchronous, is_table_of}
-use Rattle.cache_tier.specs.JournalSteps.{Flushes, FlushesKept, Notes, NotesKept, Records, journal_fault, name_sizes}
+use Rattle.cache_tier.specs.JournalSteps.{FlushesKept, NotesKept, Records, journal_fault, name_sizes}
 use Rattle.cache_tier.specs.Journals.{Commits, JournalEntry, is_full}
 use Rattle.cache_tier.specs.PassedSteps.{ticket_fault}
 use Rattle.cache_tier.specs.Reading.{Answers as Quietly}
 use Rattle.cache_tier.specs.Rules.{at_limit, broken_if, past}
 use Rattle.cache_tier.specs.Shown.{shown_state}
 use Rattle.cache_tier.specs.TierStates.{Session, Tier, is_labelled, session_of}
-use Rattle.cache_tier.specs.Worlds.{Answer, Part, Passes, Then, Tries, Unless, World, only}
+use Rattle.cache_tier.specs.Worlds.{Part, Passes, Then, Unless, World, only}
 use Rattle.cache_tier.specs.declared.reply.Last.TheVariants.{Done, No}
 use Rattle.cache_tier.specs.declared.reply.Reply.{Reply}
 use Rattle.tier_laws.specs.Events.{TakesOwn, with_tier}
@@ -46,7 +48,7 @@ use Rattle.cache_engine.specs.Performing.{Executes, IsPerformed, StandsFor, repl
 use Rattle.cache_engine.specs.Sites.{IsAt, SiteView}
 use Rattle.cache_engine.specs.Stored.{AreKept, AreWhole, HasSession, IsSound, IsStoredAs, IsVerified, is_plain, named_where_cached, rows_of, without_list}
 use Rattle.cache_engine.proofs.OpStores.{kept_ops, ops_shown, whole_ops}
-use Rattle.cache_engine.proofs.QuietLaws.{at_still, its_session, stands_still, wanting}
+use Rattle.cache_engine.proofs.QuietLaws.{at_still, its_session, stands_still}
 use Rattle.cache_engine.proofs.SelectLaws.{NumberLaw, own_found}
 use Rattle.cache_engine.proofs.SoundParts.{housed_exchanged}
 use Rattle.cache_engine.proofs.StoreRows.{are_kept}
@@ -144,6 +146,13 @@ sound_written t new ops sound same bares sessions numbered noted =
     (bare_kept t.schema (groups_in t.catalog) new.stores.items (subst (AreKept t.schema (groups_in t.catalog)) (sym bares) (kept_ops t.schema t.directory ops (groups_in t.catalog) (bare_all t.stores.items) (kept_bare t.schema (groups_in t.catalog) t.stores.items sound.kept))))
     (bare_whole new.stores.items (subst AreWhole (sym bares) (whole_ops t.directory ops (bare_all t.stores.items) (whole_bare t.stores.items sound.whole))))
     numbered (λ is. absurd (Rattle.order_laws.proofs.TruthLaws.never_both new.verified is noted))
+
+-- the new ticket is the next one
+pub rise_sealed : (old new : List Sealed) (x : Sealed) (next : ℕ) (ops : List Op) → RiseBetween 1 old next → new ≡ old ++ x ∷ [] → x ≡ record { ticket = record { 0 = next }; ops = ops } → RiseBetween 1 new (next + 1)
+rise_sealed old new x next ops rise is sealed =
+    let ticket : x.ticket.0 ≡ next = ap (λ (s : Sealed). s.ticket.0) sealed in
+    let le : next ≤ x.ticket.0 = omega (arith, ticket) in
+    subst (λ xs. RiseBetween 1 xs (next + 1)) (sym is) (subst (λ n. RiseBetween 1 (old ++ x ∷ []) (n + 1)) ticket (rise_last 1 old next x rise le))
 
 -- the writes of a session are on tables of writethrough groups
 
@@ -298,8 +307,8 @@ module _ (law : CommitLaw) (numbers : NumberLaw) (t new : Stored) (w : World) (i
   by_result site (Ok reply) some at answers bares = record {
     world = with_tier (commit_answer s w.tier).0 w;
     at = at_still site w (commit_answer s w.tier).0 at;
-    stands = stands_then answers.0 answers.1.0 bares;
-    is = inl (own_commits s s.own w (with_tier (commit_answer s w.tier).0 w) reply (some_own some) apart (commits_later s w reply is.unkept answers.0 answers.1.1));
+    stands = stands_then answers.0 answers.1 bares;
+    is = inl (own_commits s s.own w (with_tier (commit_answer s w.tier).0 w) reply (some_own some) apart (commits_later s w reply is.unkept answers.0 answers.2));
   }
   by_result site (Err (refused.Rule rule)) some at answers bares = record {
     world = w;
@@ -327,5 +336,9 @@ commits_none numbers t new id result site sound none rolls = λ s has w at is un
     record { world = r.world; at = r.at; stands = r.stands; is = by s (sym (own_found numbers t id s sound has) ∙ none) w r.world r.is }
   where
     by : (s : Session) → s.own ≡ [] → (w w' : World) → Executes statement.Rollback s w w' (reply_of result) → Executes statement.Commit s w w' (reply_of result)
-    by s empty w w' (inl does) = inl (ends_own s s.own w w' (reply_of result) empty does)
-    by s empty w w' (inr wants) = inr wants
+    by s bare_own w w' (inl does) = inl (ends_own s s.own w w' (reply_of result) bare_own does)
+    by s bare_own w w' (inr wants) = inr wants
+
+pub none_long : (ops : List Op) → length ops ≡ 0 → ops ≡ []
+none_long [] e = refl
+none_long (op ∷ ops) e = cc

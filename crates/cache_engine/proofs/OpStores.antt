@@ -1,7 +1,7 @@
 -- What operations that apply leave of the stores.
-use Rattle.std.proofs.Common.{◌≡◌, ℕ, zero, suc, ◌+◌, ◌≤◌, ◌<◌, Bool, true, false, cond, not, ◌&&◌, ◌||◌, nat_eq, Option, Some, None, is_some, List, [], ◌∷◌, length, map, slice_get, slice_set, unwrap_or, find, refl, sym, ap, subst, ◌∙◌, arith}
+use Rattle.std.proofs.Common.{◌≡◌, ℕ, zero, suc, ◌+◌, ◌<◌, Bool, true, false, cond, not, ◌&&◌, ◌||◌, nat_eq, Option, Some, None, is_some, List, [], ◌∷◌, length, slice_get, slice_set, unwrap_or, find, position, refl, sym, ap, subst, ◌∙◌, arith}
 use Rattle.std.specs.FinMap as fm
-use Rattle.std.specs.List.{list_all, list_any}
+use Rattle.std.specs.List.{list_any}
 use Rattle.std.specs.Option.{option_and_then, option_map, option_or}
 use Rattle.std.proofs.lemmas.Bool.{eqb-true, eq-eqb}
 use Rattle.std.proofs.lemmas.List.{length-map}
@@ -16,7 +16,7 @@ use Rattle.table_state.specs.Operations.{applied, applied_all, on_table, only_if
 use Rattle.table_state.specs.Tables.{TableState, fits_columns, has_child, has_parent, is_found, is_there, table_at}
 use Rattle.instances.specs.declared.tree.Child.{Child}
 use Rattle.instances.specs.declared.tree.Tree.{Tree}
-use Rattle.instances.specs.Trees.{place_of, table_of as table_in}
+use Rattle.instances.specs.Trees.{place_of, same_table, table_of as table_in}
 use Rattle.instances.specs.Views.{kept_at}
 use Rattle.cache_store.specs.Operating.{change_at}
 use Rattle.group_store.specs.Keeping.{IsFor, layer_for}
@@ -24,19 +24,18 @@ use Rattle.group_store.specs.Shown.{AreHoused, home_from, home_of, homes_from, k
 use Rattle.group_store.specs.Stores.{Kept, at_place, op_done, place_in, put_store, replace_store, take_store}
 use Rattle.group_store.specs.Trees.{key_at}
 use Rattle.group_store.specs.declared.directory.Home.{Home}
-use Rattle.group_store.proofs.TreeLaws.{kept_else, kept_here, long_change}
 use Rattle.order_laws.proofs.TruthLaws.{both_true, never_both}
 use Rattle.cache_tier.specs.Groups.{Group, covers, is_table_of, is_writethrough}
 use Rattle.tier_laws.specs.Standing.{are_written_through}
-use Rattle.tier_laws.proofs.GroupTables.{any_found, some_place}
+use Rattle.tier_laws.proofs.GroupTables.{any_found}
 use Rattle.tier_laws.proofs.ShownTables.{same_state}
 use Rattle.tier_laws.proofs.ShownTrees as trees
 use Rattle.cache_engine.specs.Committing.{at_home, at_number, home_in, ops_at}
 use Rattle.cache_engine.specs.Grouping.{SameTree}
 use Rattle.cache_engine.specs.Stored.{AreKept, AreWhole}
-use Rattle.cache_engine.proofs.StoreChanges.{form_kept, same_placed}
+use Rattle.cache_engine.proofs.StoreChanges.{form_kept}
 use Rattle.cache_engine.proofs.StoreForms.{key_for, primary}
-use Rattle.cache_engine.proofs.StoreRows.{TableKept, no_table_stored, place_same, table_kept, table_stored}
+use Rattle.cache_engine.proofs.StoreRows.{no_table_stored, place_same, table_kept, table_stored}
 use Rattle.cache_engine.proofs.SoundParts.{housed_exchanged}
 
 abbrev Row : Type 0
@@ -47,6 +46,25 @@ abbrev pub op_on : List ℕ → Op → Table → Table
 op_on columns (Insert t row) m = put_in m (key_of columns row) row
 op_on columns (Update t old row) m = put_over m (key_of columns row) row
 op_on columns (Delete t row) m = fm.remove m (key_of columns row)
+
+-- one table of a list changes
+
+kept_here : (ts : List Table) (place : ℕ) (f : Table → Table) → place < length ts → kept_at (change_at place f ts) place ≡ f (kept_at ts place)
+kept_here [] place f w = absurd (omega (arith, w))
+kept_here (t ∷ ts) zero f w = refl
+kept_here (t ∷ ts) (suc place) f w = kept_here ts place f (omega (arith, w))
+
+kept_else : (ts : List Table) (place : ℕ) (f : Table → Table) (q : ℕ) → (q ≡ place → ⊥) → kept_at (change_at place f ts) q ≡ kept_at ts q
+kept_else [] place f q n = refl
+kept_else (t ∷ ts) zero f zero n = absurd (n refl)
+kept_else (t ∷ ts) zero f (suc q) n = refl
+kept_else (t ∷ ts) (suc place) f zero n = refl
+kept_else (t ∷ ts) (suc place) f (suc q) n = kept_else ts place f q (λ e. n (ap suc e))
+
+long_change : (ts : List Table) (place : ℕ) (f : Table → Table) → length (change_at place f ts) ≡ length ts
+long_change [] place f = refl
+long_change (t ∷ ts) zero f = refl
+long_change (t ∷ ts) (suc place) f = ap suc (long_change ts place f)
 
 -- of one store
 
@@ -78,6 +96,12 @@ op_long op s = by (place_in s (table_of op)) refl
     by : (o : Option ℕ) → place_in s (table_of op) ≡ o → length (op_done op s).tables ≡ length s.tables
     by None e = ap (λ (x : Kept). length x.tables) (op_absent op s e)
     by (Some p) e = ap length (op_there op s p e) ∙ long_change s.tables p (op_on (key_at s.key s.layers p) op)
+
+-- a store of the same tree is found as the old one
+same_placed : (s x : Kept) (t : TableId) → SameTree x s → place_in s t ≡ place_in x t
+same_placed s x t same =
+    ap (λ r. cond (same_table r t) (Some 0) (option_map suc (position (λ l. same_table l.table t) s.layers))) same.table
+    ∙ ap (λ ls. cond (same_table x.table t) (Some 0) (option_map suc (position (λ l. same_table l.table t) ls))) same.layers
 
 -- the form of stores stays
 
@@ -205,15 +229,15 @@ module _ (schema : List TableDef) (op : Op) (def : TableDef) (there : slice_get 
     tables_then = op_there op s p at ∙ ap (λ cs. change_at p (op_on cs op) s.tables) columns
 
     place_then : (u : TableId) → place_in (op_done op s) u ≡ place_in s u
-    place_then u = same_placed s (op_done op s) u (op_tree op s)
+    place_then u = same_placed (op_done op s) s u (op_tree op s)
 
     here : rows_there (op_done op s) its ≡ Some (becomes (kept_at s.tables p))
     here =
         ap (option_map (kept_at (op_done op s).tables)) (place_then its ∙ at)
         ∙ ap (λ ts. Some (kept_at ts p)) tables_then ∙ ap Some (kept_here s.tables p becomes within)
 
-    else : (u : TableId) → (u.0 ≡ its.0 → ⊥) → rows_there (op_done op s) u ≡ rows_there s u
-    else u other = ap (option_map (kept_at (op_done op s).tables)) (place_then u) ∙ by (place_in s u) refl
+    beside : (u : TableId) → (u.0 ≡ its.0 → ⊥) → rows_there (op_done op s) u ≡ rows_there s u
+    beside u other = ap (option_map (kept_at (op_done op s).tables)) (place_then u) ∙ by (place_in s u) refl
       where
         apart : (q : ℕ) → place_in s u ≡ Some q → q ≡ p → ⊥
         apart q e same =
@@ -243,11 +267,11 @@ module _ (schema : List TableDef) (op : Op) (def : TableDef) (there : slice_get 
   rows_else : (groups : List Group) (stores : List Kept) (u : TableId) → AreKept schema groups stores → AreWhole stores → (u.0 ≡ its.0 → ⊥) → kept_rows (done_first op stores) u ≡ kept_rows stores u
   rows_else groups [] u are whole other = refl
   rows_else [] (s ∷ stores) u are whole other = absurd are
-  rows_else (g ∷ groups) (s ∷ stores) u are whole other = by (place_in s its) refl
+  rows_else (g ∷ groups) (s ∷ stores) u are whole other = by (place_in s its) refl (rows_else groups stores u are.1 (λ k x at. whole (suc k) x at) other)
     where
-      by : (o : Option ℕ) → place_in s its ≡ o → kept_rows (done_with o op s stores (done_first op stores)) u ≡ kept_rows (s ∷ stores) u
-      by None at = ap (option_or (rows_there s u)) (rows_else groups stores u are.1 (λ k x at. whole (suc k) x at) other)
-      by (Some p) at = ap (λ o. option_or o (kept_rows stores u)) (else g.def.tree s are.0 (whole 0 s refl) p at u other)
+      by : (o : Option ℕ) → place_in s its ≡ o → kept_rows (done_first op stores) u ≡ kept_rows stores u → kept_rows (done_with o op s stores (done_first op stores)) u ≡ kept_rows (s ∷ stores) u
+      by None at rest = ap (option_or (rows_there s u)) rest
+      by (Some p) at rest = ap (λ o. option_or o (kept_rows stores u)) (beside g.def.tree s are.0 (whole 0 s refl) p at u other)
 
 -- what an operation that applies makes of its table
 
@@ -405,7 +429,7 @@ some_group : (groups : List Group) (t : TableId) → is_table_of is_writethrough
 some_group [] t e = cc
 some_group (g ∷ groups) t e = by (is_writethrough g) (covers t g) e (some_group groups t)
   where
-    by : (a b : Bool) → (a && b || is_table_of is_writethrough groups t) ≡ true → (is_table_of is_writethrough groups t ≡ true → list_any (covers t) groups ≡ true) → (b || list_any (covers t) groups) ≡ true
+    by : (a b : Bool) → ((a && b) || is_table_of is_writethrough groups t) ≡ true → (is_table_of is_writethrough groups t ≡ true → list_any (covers t) groups ≡ true) → (b || list_any (covers t) groups) ≡ true
     by a true h rest = refl
     by true false h rest = rest h
     by false false h rest = rest h
@@ -423,7 +447,9 @@ some_kept schema groups stores t are e = by (find (covers t) groups) refl (any_f
 pub ops_shown : (schema : List TableDef) (groups : List Group) (directory : List (Option Home)) (ops : List Op) (stores : List Kept) (n : TableState) → AreHoused schema stores directory → AreKept schema groups stores → AreWhole stores → are_written_through groups ops ≡ true
     → applied_all ops (shown_by schema stores) ≡ Some n → shown_by schema (ops_at directory ops stores) ≡ n
 ops_shown schema groups directory [] stores n housed are whole through e = cc
-ops_shown schema groups directory (op ∷ ops) stores n housed are whole through e = by (applied op (shown_by schema stores)) refl e
+ops_shown schema groups directory (op ∷ ops) stores n housed are whole through e =
+    by (applied op (shown_by schema stores)) refl e
+    (λ here. ops_shown schema groups directory ops next n (housed_exchanged schema groups stores next directory housed are are_then) are_then (whole_home op (home_in directory op) stores whole) parts.1 here)
   where
     parts : (is_table_of is_writethrough groups (table_of op) ≡ true) × (are_written_through groups ops ≡ true)
     parts = both_true (is_table_of is_writethrough groups (table_of op)) (are_written_through groups ops) through
@@ -434,10 +460,10 @@ ops_shown schema groups directory (op ∷ ops) stores n housed are whole through
     are_then : AreKept schema groups next
     are_then = kept_home schema op (home_in directory op) groups stores are
 
-    by : (o : Option TableState) → applied op (shown_by schema stores) ≡ o → option_and_then (applied_all ops) o ≡ Some n → shown_by schema (ops_at directory ops next) ≡ n
-    by None one h = cc
-    by (Some mid) one h =
+    by : (o : Option TableState) → applied op (shown_by schema stores) ≡ o → option_and_then (applied_all ops) o ≡ Some n → (applied_all ops (shown_by schema next) ≡ Some n → shown_by schema (ops_at directory ops next) ≡ n)
+        → shown_by schema (ops_at directory ops next) ≡ n
+    by None one h rest = cc
+    by (Some mid) one h rest =
         let k = some_kept schema groups stores (table_of op) are parts.0 in
         let here = op_shown schema groups stores directory op mid k.0 housed are whole k.1 one in
-        ops_shown schema groups directory ops next n (housed_exchanged schema groups stores next directory housed are are_then) are_then (whole_home op (home_in directory op) stores whole) parts.1
-        (ap (applied_all ops) here ∙ h)
+        rest (ap (applied_all ops) here ∙ h)

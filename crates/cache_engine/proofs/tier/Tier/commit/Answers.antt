@@ -2,7 +2,10 @@ use Rattle.std.proofs.Common.{◌≡◌, ◌∙◌, ◌++◌, ◌∷◌, [], Err
 use Rattle.cache_tier.specs.declared.reply.Last.TheVariants.{Done}
 use Rattle.cache_tier.specs.Worlds.{only}
 use Rattle.cache_engine.specs.Answering.{Replies}
-use Rattle.cache_engine.specs.Committing.{commit_answer, commit_fault}
+use Rattle.open_sessions.specs.Lookups.{open_ops}
+use Rattle.open_sessions.specs.Opening.{seen_all}
+use Rattle.cache_engine.specs.Committing.{commit_answer, commit_fault, ops_at}
+use Rattle.cache_engine.proofs.CommitPerformed.{rise_sealed, sound_roomed, sound_written}
 use Rattle.cache_engine.proofs.QuietLaws.{calm_done}
 use Rattle.cache_engine.proofs.CommitLaws.{refused_stays, stored_behind_commit}
 use Rattle.cache_engine.proofs.tier.Tier.commit.Goals as goal
@@ -25,3 +28,25 @@ returns-clause-answers c = λ a s is has. (
 
 pub returns-clause-calm : goal.returns-clause-calm
 returns-clause-calm c = calm_done c.args.self.now.next c.done.result c.done.ensures
+
+pub returns-in_err-reserve_all-clause-sound : goal.returns-in_err-reserve_all-clause-sound
+returns-in_err-reserve_all-clause-sound c =
+    sound_roomed c.args.self.now _ c.requires (record { schema = refl; catalog = refl; directory = refl; visible = refl })
+    c.in_err-reserve_all.ensures.same refl refl refl refl
+
+pub returns-in_err-let_wait-clause-sound : goal.returns-in_err-let_wait-clause-sound
+returns-in_err-let_wait-clause-sound c =
+    sound_roomed c.args.self.now _ c.requires (record { schema = refl; catalog = refl; directory = refl; visible = refl })
+    c.in_ok-reserve_all.ensures.same refl c.in_err-let_wait.ensures.err refl refl
+
+pub returns-clause-sound : goal.returns-clause-sound
+returns-clause-sound c =
+    let own = open_ops c.args.id (seen_all c.args.self.now.sessions) in
+    let copies = c.in_ok-ops.ensures ∙ c.ops.ensures in
+    let room = c.in_ok-reserve_all.ensures.same in
+    sound_written c.args.self.now _ own c.requires (record { schema = refl; catalog = refl; directory = refl; visible = refl })
+    (c.store_ops.ensures ∙ (λ i. ops_at c.args.self.now.directory (copies i) (room i)))
+    (c.rest.ensures.sound c.args.self.now.schema c.requires.sessions)
+    (rise_sealed c.args.self.now.unsettled.items _ _ c.args.self.now.next own c.requires.numbered c.in_ok-let_wait.ensures.ok
+    c.in_ok-sealed.ensures)
+    refl
