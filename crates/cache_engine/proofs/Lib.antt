@@ -13,6 +13,7 @@ pub mod CreatingLaws
 pub mod DrainLaws
 pub mod DueLaws
 pub mod EarlyLaws
+pub mod IdleLaws
 pub mod LineLaws
 pub mod RequestLaws
 pub mod FillLaws

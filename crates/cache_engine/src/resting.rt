@@ -13,6 +13,7 @@ use crate::query::reply_to_query;
 use crate::tier::Tier;
 use cache_tier::reply::Reply;
 use group_catalog::{KeptGroup, resolve_which};
+use open_sessions::laws::label_law;
 use row_types::{Detail, Refused, Rule};
 use sql_query::Query;
 use sql_subset::request::OpenOptions;
@@ -55,7 +56,7 @@ impl Tier {
         Ok(self.close(alloc, id))
     }
 
-    /// COMMIT: without writes as `rollback`, else as `commit`.
+    /// COMMIT: without writes as `rollback`. That of writes isn't done yet: memory is said to be wanting.
     pub fn commit_session(&mut self, alloc: Global, id: SessionId) -> Result<Reply, Refused>
         requires { IsSound self.old }
         ensures performs { (site : SiteView) → PerformsIn self.old self.new site site id
@@ -63,6 +64,10 @@ impl Tier {
         ensures sound { IsSound self.new }
         ensures calm { IsCalm (reply_of result) }
     {
+        label_law();
+        if self.sessions.ops(id).is_empty() {
+            return self.roll_back(alloc, id);
+        }
         Err(Refused::Memory)
     }
 
