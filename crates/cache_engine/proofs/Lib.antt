@@ -22,6 +22,9 @@ pub mod DueLaws
 pub mod DueSteps
 pub mod DueStored
 pub mod EarlyLaws
+pub mod IdleLaws
+pub mod LineLaws
+pub mod RequestLaws
 pub mod FillLaws
 pub mod FillSteps
 pub mod FlagLaws

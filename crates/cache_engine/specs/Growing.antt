@@ -30,7 +30,13 @@ pub record MayLearn (t : Stored) (schema names : List TableDef) (homes : List (O
 -- the tier knows this schema, and shows the tables that are new without rows
 pub record Learns (old new : Stored) (schema : List TableDef) : Type 0 where
   pub front : BeginsWith old.schema schema
-  pub kept : new ≡ record old { schema = schema; stale = false; visible = new.visible; directory = new.directory; verified = false }
+  pub kept : new ≡ record old {
+    schema = schema;
+    stale = false;
+    visible = new.visible;
+    directory = new.directory;
+    verified = false;
+  }
   pub rows : rows_of new ≡ with_tables front.more (rows_of old)
 
 -- the table of a name isn't cached

@@ -1,5 +1,5 @@
--- The tables that sessions find by name, and where each is kept, over a schema. (This project's rule: at level 0 a table
--- that isn't cached has no name.)
+-- The tables that sessions find by name, and where each is kept, over a schema. (This project's rule: at level 0 a
+-- table that isn't cached has no name.)
 
 use Rattle.std.specs.Prelude.{◌≡◌, ℕ, ◌≤◌, ◌<◌, List, Option, None, Bool, true, not, length, slice_get, if◌then◌else◌}
 use Rattle.std.specs.Option.{option_and_then}

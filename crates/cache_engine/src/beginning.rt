@@ -25,7 +25,8 @@ impl Tier {
     /// others may come in that call. `start` is its first moment, and `propagate_ms` says after how many milliseconds a
     /// round is due; 0 where none ever is.
     ///
-    /// `Failed` only where the count of bank faults rose in this call; nothing else is known then, as for want of memory.
+    /// `Failed` only where the count of bank faults rose in this call; nothing else is known then, as for want of
+    /// memory.
     pub fn begin<P: Site>(
         alloc: Global,
         site: &mut P,

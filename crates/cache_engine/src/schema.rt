@@ -27,8 +27,8 @@ impl Tier {
     ghost use Rattle.cache_engine.specs.Sites.{seen_at};
     ghost use Rattle.cache_engine.specs.Stored.{IsSound};
 
-    /// Asks the bank for the schema, where a definition has failed since it was told, and the line names a table that isn't
-    /// cached. The reply that it fails with is 201 of the call, or want of memory; the tier then knows what it knew.
+    /// Asks the bank for the schema, where a definition has failed since it was told, and the line names a table that
+    /// isn't cached. The reply that it fails with is 201 of the call, or want of memory; the tier then knows what it knew.
     pub fn ask_schema<P: Site>(
         &mut self,
         alloc: Global,
