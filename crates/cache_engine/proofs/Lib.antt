@@ -22,9 +22,6 @@ pub mod DueLaws
 pub mod DueSteps
 pub mod DueStored
 pub mod EarlyLaws
-pub mod IdleLaws
-pub mod LineLaws
-pub mod RequestLaws
 pub mod FillLaws
 pub mod FillSteps
 pub mod FlagLaws
@@ -36,6 +33,7 @@ pub mod GroupRows
 pub mod GroupingLaws
 pub mod GrowingLaws
 pub mod HeldLaws
+pub mod IdleLaws
 pub mod InsertDone
 pub mod InsertLaws
 pub mod InsertedLaws

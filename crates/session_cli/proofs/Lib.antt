@@ -1,6 +1,7 @@
 pub mod CheckLaws
 pub mod CuttingLaws
 pub mod DigitLaws
+pub mod DrainedLaws
 pub mod EndsLaws
 pub mod FlatMaps
 pub mod OpeningLaws

@@ -19,6 +19,7 @@ use Rattle.session_cli.specs.Outside.{Outside}
 use Rattle.session_cli.specs.Output.{Splits, Breaks, Passes}
 use Rattle.session_cli.specs.Serving.{Comes, IsLeftAlone, Origin, Responds, Serving, Answered, Whole, CutShort, Feeds, Finishes, Closing, Closes}
 use Rattle.session_cli.proofs.CuttingLaws.{ended_push, rest_ended, ended_same, rest_push, front_push, front_short, text_front, take_one, take_within, all_ended, all_more}
+use Rattle.session_cli.proofs.DrainedLaws.{drained_of}
 use Rattle.session_cli.proofs.OutputLaws.{splits_then, breaks_then}
 use Rattle.session_cli.proofs.RunLaws.{CameOn, comes_on}
 
@@ -47,6 +48,7 @@ answered_by o lines replies site tier w comes at slots stands = record {
   at = at;
   slots = slots;
   legal = legal_of w stands.stands;
+  drained = drained_of w stands.stands;
   read = stands.stands.read;
 }
 

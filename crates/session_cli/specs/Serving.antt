@@ -1,10 +1,11 @@
 -- A run in the middle and at its end.
 
-use Rattle.std.specs.Prelude.{◌≡◌, ℕ, List, ◌++◌, Option, Some, Result, Ok, Err, length, map, take}
+use Rattle.std.specs.Prelude.{◌≡◌, ℕ, List, [], ◌++◌, Option, Some, Result, Ok, Err, length, map, take}
 use Rattle.outside.specs.Holding.{Slots}
 use Rattle.order_laws.specs.Commits.{KeepsCommitOrder}
 use Rattle.cache_tier.specs.declared.reply.Reply.{Reply}
 use Rattle.cache_tier.specs.Replying.{reply_bytes, replies_bytes}
+use Rattle.cache_tier.specs.Rounds.{IsDrained}
 use Rattle.cache_tier.specs.Worlds.{IsUnshared, World}
 use Rattle.tier_laws.specs.Standing.{AreReadAt}
 use Rattle.cache_engine.specs.declared.tier.Tier.{Tier}
@@ -71,8 +72,9 @@ pub record Serving (o : Origin) (given : List ℕ) (now : Outside) (session : Se
   pub passed : Splits (Some o.written) now.written (replies_bytes replies) session.output
 
 -- These are the replies of a run over the lines, and at its end the site is as the run's last world says. There each
--- committed transaction stands once at most, and conflicting ones in commit order; and the READONLY groups of one set
--- that have something to show have one position.
+-- committed transaction stands once at most, and conflicting ones in commit order; where nothing is unsettled, as
+-- behind a ttDrain that succeeded, each stands once, and the tables of each writethrough group are what all of its
+-- transactions make in commit order; and the READONLY groups of one set that have something to show have one position.
 pub record Answered (o : Origin) (lines : List (List ℕ)) (replies : List (Option Reply)) (site : SiteView)
     : Type 0 where
   pub last : World
@@ -80,6 +82,7 @@ pub record Answered (o : Origin) (lines : List (List ℕ)) (replies : List (Opti
   pub at : IsAt site last
   pub slots : at.there.slots ≡ o.slots
   pub legal : KeepsCommitOrder last.history last.tier.log
+  pub drained : last.tier.unsettled ≡ [] → IsDrained last
   pub read : AreReadAt (length last.history) last.tier.groups
 
 -- The lines are answered, and all replies written.
