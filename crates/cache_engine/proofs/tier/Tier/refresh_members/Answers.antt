@@ -2,7 +2,7 @@ use Rattle.std.proofs.Common.{◌∙◌, None, ap, refl}
 use Rattle.group_catalog.specs.Catalogs.{groups_in}
 use Rattle.cache_engine.proofs.CalledLaws.{set_failed, set_groups, set_refreshed}
 use Rattle.cache_tier.specs.Groups.{definitions_of}
-use Rattle.cache_engine.specs.Refreshing.{choice_of, has_moment, positioned}
+use Rattle.cache_engine.specs.Refreshing.{has_moment, positioned}
 use Rattle.cache_engine.proofs.DueStored.{entries_noted}
 use Rattle.cache_engine.proofs.SoundParts.{changed_defs}
 use Rattle.cache_engine.proofs.TriedLaws.{stands_noted}
@@ -33,7 +33,7 @@ returns-in-Ok-clause-performs g c =
 pub returns-in-Ok-clause-groups : goal.returns-in-Ok-clause-groups
 returns-in-Ok-clause-groups g c =
     ap definitions_of c.show_fresh.ensures.shown.groups
-    ∙ changed_defs (choice_of c.show_fresh.args.chosen) (positioned c.in-Ok.fresh.position.0) 0 (groups_in c.args.self.now.catalog) (λ x. refl)
+    ∙ changed_defs _ (positioned c.in-Ok.fresh.position.0) 0 (groups_in c.args.self.now.catalog) (λ x. refl)
 
 pub returns-in-Err-clause-entries : goal.returns-in-Err-clause-entries
 returns-in-Err-clause-entries g c = λ i there.
