@@ -71,9 +71,9 @@ unload_aimed law t a s id u place seen def own read_only result sound is has fou
     let g : IsUnlisted a.groups place seen = unlisted a.groups place seen (ap (λ gs. slice_get gs place) is.groups ∙ at) in
     let owned : own ≡ s.own = mine ∙ own_here law t id s sound has in
     let root : Some def ≡ root_def a g.group =
-        sym defined ∙ ap (λ (x : Group). slice_get t.schema x.def.tree.root.table.0) (sym g.is) ∙ ap (λ defs. slice_get defs g.group.def.tree.root.table.0) (sym is.schema) in
+    sym defined ∙ ap (λ (x : Group). slice_get t.schema x.def.tree.root.table.0) (sym g.is) ∙ ap (λ defs. slice_get defs g.group.def.tree.root.table.0) (sym is.schema) in
     let state : unload_state u.which own seen ≡ unload_state u.which s.own g.group =
-        ap (unload_state u.which own) (sym g.is) ∙ ap (λ ops. unload_state u.which ops g.group) owned in
+    ap (unload_state u.which own) (sym g.is) ∙ ap (λ ops. unload_state u.which ops g.group) owned in
     aims_so a s u place g.group read_only result (place_stored t a u.group is ∙ found) g.there (kind ∙ ap is_read_only (sym g.is))
     (subst (λ r. AimsBy r u.which (unload_state u.which s.own g.group) place read_only result) root
     (subst (λ st. AimsBy (Some def) u.which st place read_only result) state by))

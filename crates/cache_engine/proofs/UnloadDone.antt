@@ -167,7 +167,7 @@ sound_cut t new aim all n sound cut =
     let tree = left_tree (leaving aim.which (primary_of t.schema cut.group.def.tree.root.table) (kept_at cut.store.tables 0)) cut.store cut.left cut.cut.gone in
     let housed = housed_set t.schema (groups_in t.catalog) t.stores.items t.directory aim.place cut.store cut.left cut.group sound.stores sound.kept cut.there cut.kept form tree in
     let kept = kept_defined t.schema (groups_in t.catalog) (groups_in new.catalog) (set t.stores.items aim.place cut.left) defs
-        (kept_set t.schema (groups_in t.catalog) t.stores.items aim.place cut.group cut.left sound.kept cut.there (form_kept t.schema cut.group.def.tree cut.store cut.left form tree)) in
+    (kept_set t.schema (groups_in t.catalog) t.stores.items aim.place cut.group cut.left sound.kept cut.there (form_kept t.schema cut.group.def.tree cut.store cut.left form tree)) in
     record {
       sessions = subst (λ y. AreSessions new.schema y) (sym cut.beside.sessions) (subst (λ d. AreSessions d t.sessions) (sym schema) sound.sessions);
       stores = subst (AreHoused new.schema new.stores.items) (sym cut.directory) (subst (λ ss. AreHoused new.schema ss t.directory) (sym cut.stores) (subst (λ d. AreHoused d (set t.stores.items aim.place cut.left) t.directory) (sym schema) housed));
@@ -318,8 +318,8 @@ overflowed_here t new site id aim all rule sound kind keeps over = λ s w x has 
     let writes : is_writethrough x.group ≡ true = writes_through x.group aim.read_only kinds kind in
     let same = roots_shown t w sound stands aim.place x.group there writes over.store over.kept in
     let fault : overflow_fault x.filter (shown_roots w.history w.tier.log x.group) ≡ Some rule =
-        ap (overflow_fault x.filter) (sym same) ∙ ap (λ f. broken_if (overflows f (kept_at over.store.tables 0)) (plain code.Overflow)) (sym of.filter)
-        ∙ ap (λ b. broken_if b (plain code.Overflow)) over.is ∙ ap Some (sym over.told) in
+    ap (overflow_fault x.filter) (sym same) ∙ ap (λ f. broken_if (overflows f (kept_at over.store.tables 0)) (plain code.Overflow)) (sym of.filter)
+    ∙ ap (λ b. broken_if b (plain code.Overflow)) over.is ∙ ap Some (sym over.told) in
     let told : unload_fault s x w ≡ Some rule = ap (λ o. option_or o (instance_lock s.label w.history w.tier x.group (fm.contains_key (matching_shown w x)))) fault in
     record {
       world = w;

@@ -230,7 +230,7 @@ module _ (t : Stored) (w : World) (sound : IsSound t) (stands : StandsFor t w) (
         ap (λ (y : Group). rows_where (matches x.filter x.id (no_rows w.tier) y) (shown_roots w.history w.tier.log y)) its
         ∙ ap (rows_where (matches x.filter x.id (no_rows w.tier) g)) (sym roots_shown)
         ∙ retain_alike S (λ key. passes (matches x.filter x.id (no_rows w.tier) g) (fm.get S key)) (λ key. passes (matches_at which key) (fm.get S key)) (λ k r e.
-            ap (passes (matches x.filter x.id (no_rows w.tier) g)) e ∙ same_match k r e ∙ sym (ap (passes (matches_at which k)) e))
+        ap (passes (matches x.filter x.id (no_rows w.tier) g)) e ∙ same_match k r e ∙ sym (ap (passes (matches_at which k)) e))
 
     pub keys_are : (k : Row) → is_key (leaving which columns S) k ≡ fm.contains_key (matching_shown w x) k
     keys_are k =
@@ -247,10 +247,10 @@ module _ (t : Stored) (w : World) (sound : IsSound t) (stands : StandsFor t w) (
         → left.tables ≡ instances_where v tree (λ row. is_key g.keys (root_key v g row) && not (fm.contains_key (matching_shown w x) (root_key v g row)))
     left_shown law left same =
         let keeps = cut_kept (record v { schema = t.schema }) tree law (leaving which columns S) (is_key g.keys) store
-            (record { form = form_here t w sound stands place g store at kept; tables = store_shown ∙ sym (known_same (is_key g.keys)) }) in
+        (record { form = form_here t w sound stands place g store at kept; tables = store_shown ∙ sym (known_same (is_key g.keys)) }) in
         same.tables ∙ keeps.tables ∙ known_same (after (is_key g.keys) (leaving which columns S))
         ∙ shown_alike v g R roots (after (is_key g.keys) (leaving which columns S)) (λ k. is_key g.keys k && not (fm.contains_key (matching_shown w x) k)) (λ k r e.
-            after_is (is_key g.keys) (leaving which columns S) k ∙ ap (λ b. is_key g.keys k && not b) (keys_are k))
+        after_is (is_key g.keys) (leaving which columns S) k ∙ ap (λ b. is_key g.keys k && not b) (keys_are k))
         ∙ sym (instances_of_keys v g R roots (λ k. is_key g.keys k && not (fm.contains_key (matching_shown w x) k)))
       where
         look : (i : ℕ) (c : Child) → slice_get tree.children i ≡ Some c → slice_get t.schema c.table.0 ≡ slice_get v.schema c.table.0

@@ -6,9 +6,7 @@ ghost use Rattle.cache_tier.specs.Groups.{definitions_of};
 ghost use Rattle.cache_tier.specs.Sets.{RefreshesSet};
 ghost use Rattle.cache_engine.specs.Refreshing.{choice_of, end_of, has_moment, is_filled};
 
-use crate::refreshing::{
-    Chosen, exchange, give_position, made_stores, note_moment, tables_read,
-};
+use crate::refreshing::{Chosen, exchange, give_position, made_stores, note_moment, tables_read};
 use crate::tier::Tier;
 use group_store::Store;
 use outside::{BankError, Site};

@@ -137,14 +137,7 @@ impl Tier {
                     Some(def) => {
                         let own = self.sessions.ops(id);
                         let state = judge_unload(alloc, group, &unload.which, own);
-                        aim_by(
-                            alloc,
-                            def,
-                            &unload.which,
-                            state,
-                            place,
-                            is_read_only(group),
-                        )
+                        aim_by(alloc, def, &unload.which, state, place, is_read_only(group))
                     }
                 },
             },
