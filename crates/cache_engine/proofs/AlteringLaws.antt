@@ -15,7 +15,7 @@ use Rattle.sql_subset.specs.declared.stmt.Alter.{Alter}
 use Rattle.sql_subset.specs.declared.stmt.RefreshState.{RefreshState}
 use Rattle.sql_subset.specs.declared.stmt.RefreshState.TheVariants.{On, Off, Paused}
 use Rattle.sql_subset.specs.declared.stmt.Stmt.TheVariants as statement
-use Rattle.table_defs.specs.Declarations.{Tells}
+use Rattle.table_defs.specs.Declarations.{IsRefusedBy}
 use Rattle.table_state.specs.declared.operation.Op.{Op}
 use Rattle.table_state.specs.Tables.{TableState}
 use Rattle.tier_base.specs.declared.number.TableId.{TableId}
@@ -89,7 +89,7 @@ module _ (law : NumberLaw) (t : Stored) (a : Tier) (s : Session) (id : SessionId
       ∙ ap (λ ops. alter_state ops group_here.group) (sym (mine ∙ own_here law t id s sound has))
       ∙ ap (alter_state own) group_here.is
 
-  pub refused_alter : (e : Refused) → Tells (Err {A = Unit {0}} e) (alter_state own seen) → AimsAlter a s alter (Err e)
+  pub refused_alter : (e : Refused) → IsRefusedBy (alter_state own seen) e → AimsAlter a s alter (Err e)
   refused_alter (refused.Rule rule) told = refusal_is ∙ told
   refused_alter refused.Memory told = tt
 
@@ -296,6 +296,14 @@ module _ (t new : Stored) (behind : SiteView) (w : World) (place n : ℕ) (g : G
     };
   }
 
+-- so it is where these groups are the ones that it is refreshed with
+pub refreshed_with : (t new : Stored) (behind : SiteView) (w : World) (place n : ℕ) (g : Group) (st : RefreshState) (chosen : Choice) (made : List (Option Kept)) (reply : Reply) → slice_get w.tier.groups place ≡ Some g → is_read_only g ≡ true → chosen ≡ altered_with st g.def.interval place
+    → (r : IsRead t behind (Ok n) w) → AreFresh t r.world (is_filled chosen None) n made → IsRefreshed t new chosen place (with_state st) n made → reply ≡ only (Done 0) → IsPerformed new behind (λ w'. SetsStateRefreshed place g st chosen as_it_was w w' reply)
+refreshed_with t new behind w place n g st chosen made reply at reads chosen_is r fresh is told =
+    subst (λ (d : Choice). IsPerformed new behind (λ w'. SetsStateRefreshed place g st d as_it_was w w' reply)) (sym chosen_is)
+    (set_refreshed t new behind w place n g st made at reads r (subst (λ (d : Choice). AreFresh t r.world (is_filled d None) n made) chosen_is fresh)
+    (subst (λ (d : Choice). IsRefreshed t new d place (with_state st) n made) chosen_is is) reply told)
+
 -- the call failed
 pub not_refreshed : (t : Stored) (behind : SiteView) (w : World) (place : ℕ) (g : Group) (st : RefreshState) (chosen : Choice) (e : BankError) (reply : Reply) → IsRead t behind (Err e) w → reply ≡ bank_fault e
     → IsPerformed t behind (λ w'. SetsStateRefreshed place g st chosen as_it_was w w' reply)
@@ -307,6 +315,10 @@ not_refreshed t behind w place g st chosen e reply r told = record {
 }
 
 -- to each STATE
+
+-- the STATE that is given
+pub of_state : (old new : Stored) (before behind : SiteView) (place : ℕ) (reply : Reply) (given st : RefreshState) → given ≡ st → AltersHere old new before behind st place reply → AltersHere old new before behind given place reply
+of_state old new before behind place reply given st is alters = subst (λ x. AltersHere old new before behind x place reply) (sym is) alters
 
 -- the group that is stored at the place
 record IsSeen (t : Stored) (w : World) (seen g : Group) : Type 0 where

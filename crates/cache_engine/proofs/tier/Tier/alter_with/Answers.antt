@@ -1,14 +1,10 @@
-use Rattle.std.proofs.Common.{◌≡◌, ◌<◌, ◌∙◌, None, ap, arith, length, refl, subst, sym}
-use Rattle.cache_tier.specs.AlterSteps.{SetsStateRefreshed, with_state}
+use Rattle.std.proofs.Common.{◌≡◌, ◌<◌, ◌∙◌, ap, arith, length, refl}
 use Rattle.cache_tier.specs.Groups.{definitions_of}
-use Rattle.cache_tier.specs.Reading.{as_it_was}
 use Rattle.cache_tier.specs.Sets.{alone, changed_from}
 use Rattle.group_catalog.specs.Catalogs.{groups_in}
-use Rattle.cache_engine.specs.Fresh.{AreFresh}
-use Rattle.cache_engine.specs.Performing.{IsPerformed}
-use Rattle.cache_engine.specs.Refreshing.{choice_of, is_filled, positioned}
-use Rattle.cache_engine.proofs.AlteringLaws.{not_refreshed, set_refreshed}
-use Rattle.cache_engine.proofs.FreshLaws.{IsRefreshed, changed_long}
+use Rattle.cache_engine.specs.Refreshing.{choice_of, positioned}
+use Rattle.cache_engine.proofs.AlteringLaws.{not_refreshed, refreshed_with}
+use Rattle.cache_engine.proofs.FreshLaws.{changed_long}
 use Rattle.cache_engine.proofs.SoundParts.{changed_defs, sound_regrouped}
 use Rattle.cache_engine.proofs.tier.Tier.alter_with.Goals as goal
 
@@ -32,10 +28,7 @@ returns-in-Ok-clause-alters g c = λ w x at stands apart there reads chosen_is.
     let read = c.in-Ok.ensures.reads w at stands apart in
     let shown = c.show_fresh.ensures.shown in
     let sound = returns-in-Ok-clause-sound g c in
-    subst (λ d. IsPerformed _ _ (λ w'. SetsStateRefreshed c.args.place x c.args.state d as_it_was w w' _)) (sym chosen_is)
-    (set_refreshed c.args.self.now _ _ w c.args.place c.in-Ok.fresh.position.0 x c.args.state c.in-Ok.fresh.made.items there reads read.0
-    (subst (λ d. AreFresh c.args.self.now read.0.world (is_filled d None) c.in-Ok.fresh.position.0 c.in-Ok.fresh.made.items) chosen_is read.1)
-    (subst (λ d. IsRefreshed c.args.self.now _ d c.args.place (with_state c.args.state) c.in-Ok.fresh.position.0 c.in-Ok.fresh.made.items) chosen_is
+    refreshed_with c.args.self.now _ _ w c.args.place c.in-Ok.fresh.position.0 x c.args.state (choice_of c.args.chosen) c.in-Ok.fresh.made.items c.done.result there reads chosen_is read.0 read.1
     (record {
       beside = record { schema = shown.schema; stale = shown.stale; sessions = shown.sessions; unsettled = shown.unsettled; next = shown.next; clock = shown.clock };
       groups = c.with_state.ensures ∙ ap (changed_from (alone c.args.place) _ 0) shown.groups;
@@ -44,5 +37,5 @@ returns-in-Ok-clause-alters g c = λ w x at stands apart there reads chosen_is.
       kept = sound.kept;
       plain = c.requires.sound.plain;
       long = c.in-Ok.ensures.formed.long;
-    }))
-    c.done.result c.done.ensures)
+    })
+    c.done.ensures
