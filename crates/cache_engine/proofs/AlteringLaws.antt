@@ -1,8 +1,7 @@
 -- ALTER CACHE GROUP: what it names, and the STATE of a group that changes, alone or behind a refresh.
-use Rattle.std.proofs.Common.{◌≡◌, ◌<◌, ℕ, Bool, true, false, cond, not, ◌&&◌, ◌||◌, nat_eq, is_none, Option, Some, None, List, length, map, slice_get, refl, sym, ap, subst, ◌∙◌, inl, inr}
+use Rattle.std.proofs.Common.{◌≡◌, ℕ, Bool, true, false, cond, not, ◌&&◌, ◌||◌, nat_eq, is_none, Option, Some, None, List, length, map, slice_get, refl, sym, ap, subst, ◌∙◌, inl, inr}
 use Rattle.std.specs.Prelude.{Result, Ok, Err}
 use Rattle.std.specs.Bool.{MatchBool}
-use Rattle.std.specs.List.{list_all}
 use Rattle.std.specs.Option.{option_or}
 use Rattle.std.proofs.lemmas.Bool.{eqb-true, eq-eqb}
 use Rattle.row_types.specs.declared.rule.Refused.{Refused}
@@ -18,7 +17,6 @@ use Rattle.sql_subset.specs.declared.stmt.Stmt.TheVariants as statement
 use Rattle.table_defs.specs.Declarations.{IsRefusedBy}
 use Rattle.table_state.specs.declared.operation.Op.{Op}
 use Rattle.table_state.specs.Tables.{TableState}
-use Rattle.tier_base.specs.declared.number.TableId.{TableId}
 use Rattle.instances.specs.Trees.{place_of}
 use Rattle.instances.specs.Views.{kept_at}
 use Rattle.outside.specs.declared.fault.BankError.{BankError}
@@ -26,7 +24,7 @@ use Rattle.open_sessions.specs.Lookups.{open_ops}
 use Rattle.open_sessions.specs.Opening.{seen_all}
 use Rattle.group_catalog.specs.Catalogs.{groups_in}
 use Rattle.group_store.specs.Stores.{Kept}
-use Rattle.order_laws.proofs.TruthLaws.{both_true, or_true}
+use Rattle.order_laws.proofs.TruthLaws.{both_true}
 use Rattle.cache_tier.specs.declared.group.GroupDef.{GroupDef}
 use Rattle.cache_tier.specs.declared.reply.Last.TheVariants.{Done}
 use Rattle.cache_tier.specs.declared.reply.Reply.{Reply}
@@ -39,7 +37,7 @@ use Rattle.cache_tier.specs.Sets.{Choice, OnePosition, alone, at_position, chang
 use Rattle.cache_tier.specs.Shown.{shown, state_behind}
 use Rattle.cache_tier.specs.Steps.{DoesStatement}
 use Rattle.cache_tier.specs.TierStates.{Session, Tier, refresh_tried}
-use Rattle.cache_tier.specs.Worlds.{BankCall, IsUnshared, Tries, Unless, World, bank_fault, only}
+use Rattle.cache_tier.specs.Worlds.{BankCall, Tries, Unless, World, bank_fault, only}
 use Rattle.cache_tier.proofs.PositionLaws.{Hidden, alone_one, alone_twice, hidden_empty, hidden_state, join_base, join_one, join_step}
 use Rattle.cache_engine.specs.declared.tier.Tier.{Tier as Stored}
 use Rattle.cache_engine.specs.Altering.{AimsAlter, AimsAlterIn, AltersAlone, AltersHere, AltersWith, FindsAltered, alter_state, altered_with}

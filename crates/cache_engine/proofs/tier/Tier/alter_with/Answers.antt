@@ -1,4 +1,4 @@
-use Rattle.std.proofs.Common.{◌≡◌, ◌<◌, ◌∙◌, ap, arith, length, refl}
+use Rattle.std.proofs.Common.{◌∙◌, ap, arith, length, refl}
 use Rattle.cache_tier.specs.Groups.{definitions_of}
 use Rattle.cache_tier.specs.Sets.{alone, changed_from}
 use Rattle.group_catalog.specs.Catalogs.{groups_in}
