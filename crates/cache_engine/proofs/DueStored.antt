@@ -306,7 +306,7 @@ shows_bare interval (g ∷ gs) all =
     let rest = shows_bare interval gs both.1 in
     λ i. (is_in_set interval g && first i) || rest i
 
-shows_stored : (t : Stored) (w : World) (interval : ℕ) → IsSound t → IsStoredAs t w.tier → shows_something interval w.tier.groups ≡ shows_something interval (groups_in t.catalog)
+pub shows_stored : (t : Stored) (w : World) (interval : ℕ) → IsSound t → IsStoredAs t w.tier → shows_something interval w.tier.groups ≡ shows_something interval (groups_in t.catalog)
 shows_stored t w interval sound is =
     shows_bare interval w.tier.groups (ap (list_all is_plain) is.groups ∙ sound.plain) ∙ ap (shows_something interval) is.groups
 

@@ -126,7 +126,7 @@ nothing_shown h log g is unloaded p = ap (λ ts. kept_at ts p) (behind_it h log 
     by (Some s) = all_empty s g.def.tree.children (rows_where (shows_root s g) (root_rows s g.def.tree.root) ∷ []) (first s) p
 
 -- the STATE plays no part
-stateless : (o : Option TableState) (g : Group) (st : Rattle.sql_subset.specs.declared.stmt.RefreshState.RefreshState) → shown_where o (record g { state = st }) ≡ shown_where o g
+pub stateless : (o : Option TableState) (g : Group) (st : Rattle.sql_subset.specs.declared.stmt.RefreshState.RefreshState) → shown_where o (record g { state = st }) ≡ shown_where o g
 stateless None g st = refl
 stateless (Some s) g st = refl
 

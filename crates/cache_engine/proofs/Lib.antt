@@ -1,4 +1,5 @@
 pub mod AimLaws
+pub mod AlteringLaws
 pub mod AskingLaws
 pub mod BankLaws
 pub mod BeginningLaws

@@ -1,4 +1,5 @@
 pub mod Aiming
+pub mod Altering
 pub mod Answering
 pub mod Beginning
 pub mod Changing

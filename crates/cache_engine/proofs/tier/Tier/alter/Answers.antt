@@ -1,9 +1,9 @@
-use Rattle.sql_subset.specs.declared.stmt.Stmt.TheVariants as statement
-use Rattle.cache_engine.proofs.WantLaws.{executes_wanting, wanting_caused}
+use Rattle.cache_engine.proofs.AlteringLaws.{altered, not_altered}
 use Rattle.cache_engine.proofs.tier.Tier.alter.Goals as goal
 
-pub returns-clause-performs : goal.returns-clause-performs
-returns-clause-performs g c = executes_wanting c.args.self.now _ c.args.id (statement.Alter c.args.alter.now)
+pub returns-in-Err-clause-performs : goal.returns-in-Err-clause-performs
+returns-in-Err-clause-performs g c = not_altered c.args.self.now _ c.args.id c.args.alter.now c.in-Err.refused c.in-Err.ensures.aims
 
-pub returns-clause-cause : goal.returns-clause-cause
-returns-clause-cause g c = wanting_caused _
+pub returns-in-Ok-clause-performs : goal.returns-in-Ok-clause-performs
+returns-in-Ok-clause-performs g c =
+    altered c.args.self.now c.alter_at.new.self _ _ c.args.id c.args.alter.now c.in-Ok.place c.alter_at.result c.in-Ok.ensures.aims c.alter_at.ensures.alters
