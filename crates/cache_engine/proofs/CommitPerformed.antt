@@ -61,7 +61,7 @@ for_bare schema tree s form = record { table = form.table; key = form.key; forei
 bare_for : (schema : List TableDef) (tree : Tree) (s : Kept) → IsFor schema tree (bare s) → IsFor schema tree s
 bare_for schema tree s form = record { table = form.table; key = form.key; foreign = form.foreign; layers = form.layers }
 
-kept_bare : (schema : List TableDef) (groups : List Group) (stores : List Kept) → AreKept schema groups stores → AreKept schema groups (bare_all stores)
+pub kept_bare : (schema : List TableDef) (groups : List Group) (stores : List Kept) → AreKept schema groups stores → AreKept schema groups (bare_all stores)
 kept_bare schema [] [] are = tt
 kept_bare schema [] (s ∷ stores) are = absurd are
 kept_bare schema (g ∷ groups) [] are = absurd are
@@ -76,7 +76,7 @@ bare_kept schema (g ∷ groups) (s ∷ stores) are = (bare_for schema g.def.tree
 abbrev HasRows : Kept → Type 0
 HasRows s = length s.tables ≡ suc (length s.layers)
 
-whole_bare : (stores : List Kept) → AreWhole stores → AreWhole (bare_all stores)
+pub whole_bare : (stores : List Kept) → AreWhole stores → AreWhole (bare_all stores)
 whole_bare [] whole k s at = cc
 whole_bare (x ∷ stores) whole zero s at = let one : bare x ≡ s = cc in subst HasRows one (whole 0 x refl)
 whole_bare (x ∷ stores) whole (suc k) s at = whole_bare stores (λ j y there. whole (suc j) y there) k s at
@@ -90,7 +90,7 @@ rows_bare : (stores : List Kept) (t : TableId) → kept_rows (bare_all stores) t
 rows_bare [] t = refl
 rows_bare (s ∷ stores) t = ap (option_or (rows_there s t)) (rows_bare stores t)
 
-shown_bare : (schema : List TableDef) (stores : List Kept) → shown_by schema (bare_all stores) ≡ shown_by schema stores
+pub shown_bare : (schema : List TableDef) (stores : List Kept) → shown_by schema (bare_all stores) ≡ shown_by schema stores
 shown_bare schema stores = λ i. record { schema = schema; tables = tables_by (λ t. unwrap_or (rows_bare stores t i) empty) 0 schema }
 
 -- the same but for room shows the same

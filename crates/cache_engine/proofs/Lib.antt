@@ -1,4 +1,5 @@
 pub mod AimLaws
+pub mod AppliedLaws
 pub mod AskingLaws
 pub mod BankLaws
 pub mod BeginningLaws
