@@ -51,6 +51,7 @@ use Rattle.cache_engine.proofs.OpStores.{kept_ops, ops_shown, whole_ops}
 use Rattle.cache_engine.proofs.QuietLaws.{at_still, its_session, stands_still}
 use Rattle.cache_engine.proofs.SelectLaws.{NumberLaw, own_found}
 use Rattle.cache_engine.proofs.SoundParts.{housed_exchanged}
+use Rattle.cache_engine.proofs.StandingLaws.{last_more}
 use Rattle.cache_engine.proofs.StoreRows.{are_kept}
 
 -- stores, but for their room
@@ -289,6 +290,7 @@ module _ (law : CommitLaw) (numbers : NumberLaw) (t new : Stored) (w : World) (i
         shows = rows_then (shown_state w.history (commit_answer s w.tier).0) (sym stored.schema ∙ is.stored.schema) bares own.leads;
         stands = own.stands;
         unkept = is.unkept;
+        waits = last_more w.tier.log w.tier.unsettled (sealed_own w.tier s) is.waits;
       }
 
   stays : IsStoredAs new w.tier → bare_all new.stores.items ≡ bare_all t.stores.items → StandsFor new w

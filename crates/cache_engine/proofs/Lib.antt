@@ -45,6 +45,7 @@ pub mod MatchLaws
 pub mod NamedLaws
 pub mod NamingLaws
 pub mod OpStores
+pub mod OrderedRows
 pub mod OthersLaws
 pub mod PutLaws
 pub mod QueryLaws
