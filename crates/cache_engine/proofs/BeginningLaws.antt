@@ -101,6 +101,7 @@ opened_there law t schema start propagate_ms history seen told new settings s du
   shows = shows_fresh t schema start.0 propagate_ms settings s history (told s is) new;
   stands = law (opened_world settings start.0 s history seen) settings start.0 s is may;
   unkept = refl;
+  waits = record { settled = []; is = refl };
 }
 
 pub begun : OpenedLaw → (t : Stored) (schema : List TableDef) (start : Moment) (propagate_ms : ℕ) (before after : SiteView) → site.Told before.held after.held (site.BankCall before.shared (TellsSchema (Ok schema))) → IsFresh t schema start.0 propagate_ms → Begins start propagate_ms before after (Ok t)

@@ -151,7 +151,7 @@ changed_done over_law number_law change_law law t new site w s id write p (Ok re
     record {
       world = with_tier after w;
       at = at_still site w after at;
-      stands = stands_behind t new w after is
+      stands = stands_behind t new w after is is.waits
           (stored_written change_law t new w.tier s id p.ops (seen_by s w.history w.tier) sound is.stored has holds)
           (rows_same t new holds.rest) stays;
       is = prepared.leads (with_tier after w) reply (changes_done s p.table p.ops w (with_tier after w) reply (no_insert p.ops changes) quiet);

@@ -51,6 +51,7 @@ use Rattle.cache_engine.proofs.OpStores.{kept_ops, ops_shown, whole_ops}
 use Rattle.cache_engine.proofs.QuietLaws.{at_still, its_session, stands_still}
 use Rattle.cache_engine.proofs.SelectLaws.{NumberLaw, own_found}
 use Rattle.cache_engine.proofs.SoundParts.{housed_exchanged}
+use Rattle.cache_engine.proofs.StandingLaws.{last_more}
 use Rattle.cache_engine.proofs.StoreRows.{are_kept}
 
 -- stores, but for their room
@@ -61,7 +62,7 @@ for_bare schema tree s form = record { table = form.table; key = form.key; forei
 bare_for : (schema : List TableDef) (tree : Tree) (s : Kept) → IsFor schema tree (bare s) → IsFor schema tree s
 bare_for schema tree s form = record { table = form.table; key = form.key; foreign = form.foreign; layers = form.layers }
 
-kept_bare : (schema : List TableDef) (groups : List Group) (stores : List Kept) → AreKept schema groups stores → AreKept schema groups (bare_all stores)
+pub kept_bare : (schema : List TableDef) (groups : List Group) (stores : List Kept) → AreKept schema groups stores → AreKept schema groups (bare_all stores)
 kept_bare schema [] [] are = tt
 kept_bare schema [] (s ∷ stores) are = absurd are
 kept_bare schema (g ∷ groups) [] are = absurd are
@@ -76,7 +77,7 @@ bare_kept schema (g ∷ groups) (s ∷ stores) are = (bare_for schema g.def.tree
 abbrev HasRows : Kept → Type 0
 HasRows s = length s.tables ≡ suc (length s.layers)
 
-whole_bare : (stores : List Kept) → AreWhole stores → AreWhole (bare_all stores)
+pub whole_bare : (stores : List Kept) → AreWhole stores → AreWhole (bare_all stores)
 whole_bare [] whole k s at = cc
 whole_bare (x ∷ stores) whole zero s at = let one : bare x ≡ s = cc in subst HasRows one (whole 0 x refl)
 whole_bare (x ∷ stores) whole (suc k) s at = whole_bare stores (λ j y there. whole (suc j) y there) k s at
@@ -90,7 +91,7 @@ rows_bare : (stores : List Kept) (t : TableId) → kept_rows (bare_all stores) t
 rows_bare [] t = refl
 rows_bare (s ∷ stores) t = ap (option_or (rows_there s t)) (rows_bare stores t)
 
-shown_bare : (schema : List TableDef) (stores : List Kept) → shown_by schema (bare_all stores) ≡ shown_by schema stores
+pub shown_bare : (schema : List TableDef) (stores : List Kept) → shown_by schema (bare_all stores) ≡ shown_by schema stores
 shown_bare schema stores = λ i. record { schema = schema; tables = tables_by (λ t. unwrap_or (rows_bare stores t i) empty) 0 schema }
 
 -- the same but for room shows the same
@@ -289,6 +290,7 @@ module _ (law : CommitLaw) (numbers : NumberLaw) (t new : Stored) (w : World) (i
         shows = rows_then (shown_state w.history (commit_answer s w.tier).0) (sym stored.schema ∙ is.stored.schema) bares own.leads;
         stands = own.stands;
         unkept = is.unkept;
+        waits = last_more w.tier.log w.tier.unsettled (sealed_own w.tier s) is.waits;
       }
 
   stays : IsStoredAs new w.tier → bare_all new.stores.items ≡ bare_all t.stores.items → StandsFor new w

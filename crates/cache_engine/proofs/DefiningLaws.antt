@@ -207,6 +207,7 @@ module _ (new_tables : HasNewTables) (writes_all : WritesAll) (apart : StandsApa
       shows = shows_more t new w (with_tier (with_new_group d tree w.tier) w) coming store stands sound has.beside.schema refl refl has.stores stays.same no_table bare;
       stands = stays.stands;
       unkept = stands.unkept;
+      waits = stands.waits;
     }
 
     abbrev entries : List JournalEntry

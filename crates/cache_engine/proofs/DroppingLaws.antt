@@ -105,6 +105,7 @@ module _ (law : DropLaw) (numbers : NumberLaw) (t new : Stored) (id : SessionId)
       shows = shows_less t new w (with_tier (without_group g.def.name w.tier) w) place g sound stands at without.has.beside.schema refl left without.has.stores shows;
       stands = shows.stands;
       unkept = stands.unkept;
+      waits = stands.waits;
     }
 
     pub drops : DropsRest s g w (with_tier (without_group g.def.name w.tier) w) (only (Done 0))

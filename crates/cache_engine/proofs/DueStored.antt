@@ -185,6 +185,7 @@ timed t clock base line w is time = record {
   shows = is.shows;
   stands = stands_clocked w (at_moment base line w.tier).now (added_by line w.tier) w.tier.sets is.stands;
   unkept = is.unkept;
+  waits = is.waits;
 }
 
 -- the moment comes, and then what is due is done
@@ -344,6 +345,7 @@ refresh_wanting t clock b interval sound has shown same moments w at stands apar
         shows = stands.shows;
         stands = stands_clocked w a.now a.added (refresh_tried interval a).sets stands.stands;
         unkept = stands.unkept;
+        waits = stands.waits;
       };
       is = subst (λ x. MatchBool x (RefreshesSet interval w w' (Some (faulty code.Memory))) (Passes w w' (Some (faulty code.Memory)))) (sym (shows_stored t w interval sound stands.stored ∙ shown))
           (record {

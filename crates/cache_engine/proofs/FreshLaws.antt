@@ -448,6 +448,7 @@ module _ (t t' : Stored) (mid : World) (flag : Bool) (place : ℕ) (chosen : Cho
         (subst (λ l. AreKept t'.schema l t'.stores.items) (sym groups_then) is.kept) shows_then;
     stands = stands_after mid x.stands final become position;
     unkept = x.unkept;
+    waits = x.waits;
   }
 
   -- so it is of the world that the refresh leads to

@@ -164,6 +164,7 @@ stands_kept t new w stands keeps = record {
   shows = rows_kept t new keeps ∙ stands.shows;
   stands = stands.stands;
   unkept = stands.unkept;
+  waits = stands.waits;
 }
 
 -- a group with a store without rows comes

@@ -1,5 +1,5 @@
 -- An INSERT that asked the bank, in the worlds.
-use Rattle.std.proofs.Common.{◌≡◌, ◌≤◌, ℕ, Bool, true, false, not, cond, ◌&&◌, Option, Some, None, is_some, Result, Ok, Err, List, [], ◌∷◌, ◌++◌, inl, inr, slice_get, refl, sym, ap, subst, ◌∙◌, arith}
+use Rattle.std.proofs.Common.{◌≡◌, ◌≤◌, ℕ, Bool, true, false, not, cond, ◌&&◌, Option, Some, None, is_some, Result, Ok, Err, List, [], ◌∷◌, ◌++◌, inl, inr, append_assoc, find, map, slice_get, refl, sym, ap, subst, ◌∙◌, arith}
 use Rattle.std.specs.Bool.{MatchBool}
 use Rattle.std.specs.List.{list_any}
 use Rattle.tier_base.specs.declared.code.Code.TheVariants as code
@@ -35,7 +35,7 @@ use Rattle.group_catalog.specs.Catalogs.{groups_in}
 use Rattle.cache_tier.specs.declared.reply.Last.TheVariants.{Done, No}
 use Rattle.cache_tier.specs.declared.reply.Reply.{Reply}
 use Rattle.cache_tier.specs.Facts.{OverIsApplied}
-use Rattle.cache_tier.specs.Groups.{covers, is_table_of, is_writethrough}
+use Rattle.cache_tier.specs.Groups.{Group, covers, is_table_of, is_writethrough}
 use Rattle.cache_tier.specs.InsertSteps.{Finds, Inserts, has_key_in, taken}
 use Rattle.cache_tier.specs.Locks.{lock_fault}
 use Rattle.cache_tier.specs.OwnWrites.{apply_fault, written}
@@ -49,19 +49,22 @@ use Rattle.tier_statements.specs.Preparing.{shown_fault}
 use Rattle.tier_laws.specs.Events.{MayWriteMore, StaysShown, at_history, with_tier}
 use Rattle.tier_laws.specs.Pending.{last_written}
 use Rattle.tier_laws.specs.Standing.{Stands}
+use Rattle.tier_laws.proofs.GroupTables.{over_is_found}
 use Rattle.tier_laws.proofs.PendingRows.{all_written}
 use Rattle.cache_engine.specs.declared.inserting.Weighed.{Weighed}
 use Rattle.cache_engine.specs.declared.preparing.Prepared.{Prepared}
 use Rattle.cache_engine.specs.declared.tier.Tier.{Tier as Stored}
 use Rattle.cache_engine.specs.Changing.{Changed, Holds, IsPrepared, IsUnbroken}
-use Rattle.cache_engine.specs.Inserting.{IsWeighed, KnowsKey, TakenFree, TakenIn, TellsRule, writes_key}
-use Rattle.cache_engine.specs.Performing.{Executes, IsCalm, IsCaused, IsPerformed, StandsFor, reply_of}
+use Rattle.cache_engine.specs.declared.inserting.Known.{Known}
+use Rattle.cache_engine.specs.declared.inserting.Known.TheVariants as kind
+use Rattle.cache_engine.specs.Inserting.{IsLeft, IsWeighed, KnowsKey, TakenFree, TakenIn, TellsRule, has_row, leaves_row, some_writes_key, writes_key}
+use Rattle.cache_engine.specs.Performing.{AreLast, Executes, IsCalm, IsCaused, IsPerformed, StandsFor, reply_of}
 use Rattle.cache_engine.specs.Sites.{IsAt, SiteView}
 use Rattle.cache_engine.specs.Stored.{HasSession, IsSound, IsStoredAs, IsVerified, rows_of, without_list}
 use Rattle.cache_engine.proofs.BankLaws.{behind, call_behind, told_behind}
 use Rattle.cache_engine.proofs.ChangedLaws.{WrittenLaw, may_write, rows_same, stored_written, through_seen, unheld}
 use Rattle.cache_engine.proofs.InsertLaws.{seen_schema}
-use Rattle.cache_engine.proofs.InsertedLaws.{EntriesLaw, PendingLaw, asked, behind_call}
+use Rattle.cache_engine.proofs.InsertedLaws.{EntriesLaw, IsLeftIn, KnowsIn, PendingLaw, asked, behind_call}
 use Rattle.cache_engine.proofs.OthersLaws.{only_reads}
 use Rattle.cache_engine.proofs.QuietLaws.{calm_by, its_session}
 use Rattle.cache_engine.proofs.SelectLaws.{NumberLaw, any_map, own_found}
@@ -117,7 +120,7 @@ stays_behind : AroundLaw → (new : Stored) (before after : SiteView) (w : World
     → does (behind w w.tier c.held after) → IsPerformed new after does
 stays_behind law new before after w t key result does at is apart c done =
     let stays = law w c.held.history is.stands apart (only_reads w.shared (TellsRow t key result) w.history c.held.history (row_reads t key result) (c.call w.tier).history) in
-    performed_behind new before after w w.tier c.held does at c.told c.shares is.unkept is.stored (is.shows ∙ sym stays.same) stays.stands done
+    performed_behind new before after w w.tier c.held does at c.told c.shares is.unkept is.waits is.stored (is.shows ∙ sym stays.same) stays.stands done
 
 -- the part of the line
 inserts_by : (s : Session) (write : Write) (w w' : World) (p : Prepared) (t : TableId) (row : List Value) (reply : Reply) → IsPrepared s write w p → p.ops ≡ Insert t row ∷ [] → has_key_in (seen_by s w.history w.tier) t row ≡ false → Finds s t row w w' reply → Executes (statement.Write write) s w w' reply
@@ -151,20 +154,20 @@ answer_refused law new before after w s write p t row found has rule at is apart
     }))
 
 -- the row is the session's
-pub answer_taken : AroundLaw → WrittenLaw → (new : Stored) (before after : SiteView) (w : World) (s : Session) (write : Write) (p : Prepared) (t : TableId) (row : List Value) (found : Option (List Value)) → IsAt before w → IsUnshared w → Stands w → w.journal.kept ≡ false → rows_of new ≡ shown_state w.history w.tier → IsPrepared s write w p → p.ops ≡ Insert t row ∷ [] → has_key_in (seen_by s w.history w.tier) t row ≡ false
+pub answer_taken : AroundLaw → WrittenLaw → (new : Stored) (before after : SiteView) (w : World) (s : Session) (write : Write) (p : Prepared) (t : TableId) (row : List Value) (found : Option (List Value)) → IsAt before w → IsUnshared w → Stands w → w.journal.kept ≡ false → AreLast w.tier.log w.tier.unsettled → rows_of new ≡ shown_state w.history w.tier → IsPrepared s write w p → p.ops ≡ Insert t row ∷ [] → has_key_in (seen_by s w.history w.tier) t row ≡ false
     → (c : Called before after w t (key_in (slice_get w.tier.schema t.0) row) (Ok found)) → has_key_in (written_on s (w.history ++ (c.call (written s t (Insert t row ∷ []) w).0).history.before) w.tier) t row ≡ false
     → apply_fault s w (Insert t row ∷ []) ≡ None
     → IsStoredAs new (written s t (Insert t row ∷ []) w).0
     → (Stands (at_history c.held.history w) → MayWriteMore (at_history c.held.history w) s (Insert t row ∷ []))
     → IsPerformed new after (λ w'. Executes (statement.Write write) s w w' (only (Done (rows_in t (Insert t row ∷ [])))))
-answer_taken around law new before after w s write p t row found at apart stands unkept shows prepared ops hidden c asked fault stored may =
+answer_taken around law new before after w s write p t row found at apart stands unkept waits shows prepared ops hidden c asked fault stored may =
     let ins = Insert t row ∷ [] in
     let done = written s t ins w in
     let stays = around w c.held.history stands apart (only_reads w.shared (TellsRow t (key_in (slice_get w.tier.schema t.0) row) (Ok found)) w.history c.held.history (row_reads t (key_in (slice_get w.tier.schema t.0) row) (Ok found)) (c.call w.tier).history) in
     let later = at_history c.held.history w in
     let after_law = law later s t ins stays.stands (may stays.stands) in
     let tiers : (written s t ins later).0 ≡ done.0 = ap (λ st. with_session s.label (with_writes ins) (after_writes over ins (all_over s.own st) w.tier)) stays.same in
-    performed_behind new before after w done.0 c.held (λ w'. Executes (statement.Write write) s w w' (only (Done (rows_in t (Insert t row ∷ []))))) at c.told c.shares unkept stored
+    performed_behind new before after w done.0 c.held (λ w'. Executes (statement.Write write) s w w' (only (Done (rows_in t (Insert t row ∷ []))))) at c.told c.shares unkept waits stored
     (shows ∙ sym stays.same ∙ sym after_law.same ∙ ap (shown_state c.held.history) tiers)
     (subst (λ a. Stands (with_tier a later)) tiers after_law.stands)
     (inserts_by s write w (behind w done.0 c.held after) p t row (only (Done (rows_in t (Insert t row ∷ [])))) prepared ops hidden
@@ -177,13 +180,42 @@ answer_taken around law new before after w s write p t row found at apart stands
 
 -- ---- what was known before
 
-known_in : (t : Stored) (id : SessionId) (s : Session) (a : Tier) (of : TableId) (key : List Value) (own : Bool) → a.schema ≡ t.schema → open_ops id (seen_all t.sessions) ≡ s.own → a.unsettled ≡ t.unsettled.items → KnowsKey t id of key own
-    → MatchBool own (writes_key a.schema s.own of key ≡ true) ((writes_key a.schema s.own of key ≡ false) × (list_any (λ x. writes_key a.schema x.ops of key) a.unsettled ≡ false))
-known_in t id s a of key true schema mine waits known =
-    ap (λ d. writes_key d s.own of key) schema ∙ ap (λ o. writes_key t.schema o of key) (sym mine) ∙ known
-known_in t id s a of key false schema mine waits known = (
-  ap (λ d. writes_key d s.own of key) schema ∙ ap (λ o. writes_key t.schema o of key) (sym mine) ∙ known.0,
-  ap (λ d. list_any (λ x. writes_key d x.ops of key) a.unsettled) schema ∙ ap (list_any (λ x. writes_key t.schema x.ops of key)) waits ∙ known.1,
+found_listed : (groups : List Group) (t : TableId) (group : Group) → find (covers t) (map without_list groups) ≡ Some group → (g : Group) × (find (covers t) groups ≡ Some g) × (g.first ≡ group.first)
+found_listed [] t group e = cc
+found_listed (x ∷ groups) t group e = by (covers t x) e (found_listed groups t group)
+  where
+    by : (b : Bool) → cond b (Some (without_list x)) (find (covers t) (map without_list groups)) ≡ Some group → (find (covers t) (map without_list groups) ≡ Some group → (g : Group) × (find (covers t) groups ≡ Some g) × (g.first ≡ group.first))
+        → (g : Group) × (cond b (Some x) (find (covers t) groups) ≡ Some g) × (g.first ≡ group.first)
+    by true is rest = let one : without_list x ≡ group = cc in (x, refl, ap (λ (g : Group). g.first) one)
+    by false is rest = rest is
+
+left_in_tier : (t : Stored) (a : Tier) (of : TableId) (key : List Value) (leaves : Bool) → IsStoredAs t a → AreLast a.log a.unsettled → IsLeft t of key leaves → IsLeftIn a of key leaves
+left_in_tier t a of key leaves is last left =
+    let writer = left.writer in
+    let group = found_listed a.groups of left.since.group (ap (find (covers of)) is.groups ∙ sym (over_is_found (groups_in t.catalog) of) ∙ left.since.over) in
+    record {
+      front = last.settled ++ writer.before;
+      one = left.one;
+      behind = writer.behind;
+      log = last.is ∙ ap (λ xs. last.settled ++ xs) (is.unsettled ∙ writer.is) ∙ sym (append_assoc last.settled writer.before (left.one ∷ writer.behind));
+      writes = ap (λ d. writes_key d left.one.ops of key) is.schema ∙ writer.writes;
+      none = ap (λ d. some_writes_key d writer.behind of key) is.schema ∙ writer.none;
+      group = group.0;
+      found = group.1;
+      since = subst (λ n. n ≤ left.one.ticket.0) (sym group.2) left.since.since;
+      is = left.told ∙ sym (ap (λ d. leaves_row d left.one.ops of key) is.schema);
+    }
+
+known_in : (t : Stored) (id : SessionId) (s : Session) (a : Tier) (of : TableId) (key : List Value) (k : Known) → IsStoredAs t a → AreLast a.log a.unsettled → open_ops id (seen_all t.sessions) ≡ s.own → KnowsKey t id of key k → KnowsIn a s.own of key k
+known_in t id s a of key kind.Own is last mine knows =
+    ap (λ d. writes_key d s.own of key) is.schema ∙ ap (λ o. writes_key t.schema o of key) (sym mine) ∙ knows
+known_in t id s a of key (kind.Left leaves) is last mine knows = (
+  ap (λ d. writes_key d s.own of key) is.schema ∙ ap (λ o. writes_key t.schema o of key) (sym mine) ∙ knows.0,
+  left_in_tier t a of key leaves is last knows.1,
+)
+known_in t id s a of key kind.Free is last mine knows = (
+  ap (λ d. writes_key d s.own of key) is.schema ∙ ap (λ o. writes_key t.schema o of key) (sym mine) ∙ knows.0,
+  ap (λ d. some_writes_key d a.unsettled of key) is.schema ∙ ap (λ xs. some_writes_key t.schema xs of key) is.unsettled ∙ knows.1,
 )
 
 none_of : {A : Type 0} (o : Option A) → is_some o ≡ false → o ≡ None
@@ -224,13 +256,13 @@ module _ (over_law : OverIsApplied) (numbers : NumberLaw) (changes : ChangeLaw) 
   mine : open_ops id (seen_all t.sessions) ≡ s.own
   mine = own_found numbers t id s sound has
 
-  known : MatchBool x.own (writes_key w.tier.schema s.own weighed.table its_key ≡ true) ((writes_key w.tier.schema s.own weighed.table its_key ≡ false) × (list_any (λ y. writes_key w.tier.schema y.ops weighed.table its_key) w.tier.unsettled ≡ false))
-  known = known_in t id s w.tier weighed.table its_key x.own is.stored.schema mine is.stored.unsettled (subst (λ k. KnowsKey t id weighed.table k x.own) key_same weighed.weighed.known)
+  knows : KnowsIn w.tier s.own weighed.table its_key x.known
+  knows = known_in t id s w.tier weighed.table its_key x.known is.stored is.waits mine (subst (λ k. KnowsKey t id weighed.table k x.known) key_same weighed.weighed.known)
 
   abbrev shown : Option (List Value)
   shown = row_at (shown_state w.history w.tier) weighed.table its_key
 
-  gone : x.own ≡ true → last_written w.tier.schema weighed.table its_key s.own shown ≡ None
+  gone : x.known ≡ kind.Own → last_written w.tier.schema weighed.table its_key s.own shown ≡ None
   gone own =
       let sight = sees over_law numbers t id s w sound noted is.shows has in
       let applied : applied_all s.own (shown_state w.history w.tier) ≡ Some (seen_by s w.history w.tier) =
@@ -254,14 +286,14 @@ module _ (over_law : OverIsApplied) (numbers : NumberLaw) (changes : ChangeLaw) 
     c : Called before after w weighed.table its_key (Ok found)
     c = subst (λ k. Called before after w weighed.table k (Ok found)) key_same call
 
-    told : (a : Tier) → has_key_in (written_on s (w.history ++ (c.call a).history.before) w.tier) weighed.table weighed.row ≡ (not x.own && is_some found)
-    told a = asked pending entries w s weighed.table weighed.row x.own is.stands apart there through known shown gone found c.held.history (c.call a).history
+    told : (a : Tier) → has_key_in (written_on s (w.history ++ (c.call a).history.before) w.tier) weighed.table weighed.row ≡ has_row x.known found
+    told a = asked pending entries w s weighed.table weighed.row x.known is.stands apart there through knows shown gone found c.held.history (c.call a).history
 
-    refusal_by : (rule : Rule) (b : Bool) → (not x.own && is_some found) ≡ b → cond b (Some (taken w.tier weighed.table weighed.row)) (apply_fault s w ins) ≡ Some rule → IsPerformed t after (λ w'. Executes (statement.Write write) s w w' (only (No rule)))
+    refusal_by : (rule : Rule) (b : Bool) → has_row x.known found ≡ b → cond b (Some (taken w.tier weighed.table weighed.row)) (apply_fault s w ins) ≡ Some rule → IsPerformed t after (λ w'. Executes (statement.Write write) s w w' (only (No rule)))
     refusal_by rule b e fault =
         answer_refused around t before after w s write p weighed.table weighed.row found b rule at is apart prepared weighed.is hidden c (told w.tier ∙ e) fault
 
-    held_by : (reply : Reply) → (not x.own && is_some found) ≡ false → broken_by_all ins (seen_by s w.history w.tier) ≡ None → Changed t new id p (Ok reply) → IsPerformed new after (λ w'. Executes (statement.Write write) s w w' reply)
+    held_by : (reply : Reply) → has_row x.known found ≡ false → broken_by_all ins (seen_by s w.history w.tier) ≡ None → Changed t new id p (Ok reply) → IsPerformed new after (λ w'. Executes (statement.Write write) s w w' reply)
     held_by reply e unbroken changed =
         let holds = subst (λ ops. Holds t new id ops) weighed.is changed.0 in
         let says : reply ≡ only (Done (rows_in weighed.table ins)) = changed.1 ∙ ap (λ n. only (Done n)) (ap (rows_in p.table) weighed.is ∙ ap (λ u. rows_in u ins) weighed.named) in
@@ -272,14 +304,14 @@ module _ (over_law : OverIsApplied) (numbers : NumberLaw) (changes : ChangeLaw) 
           through = sym (through_seen t w.tier ins is.stored) ∙ holds.through;
           unbroken = subst (λ z. broken_by_all ins (all_over s.own z) ≡ None) (sym stays.same) unbroken;
           unlocked = subst (λ ops. lock_fault s.label w.tier ops ≡ None) weighed.is prepared.free;
-          fresh = (behind_call pending entries w s weighed.table weighed.row x.own is.stands apart there through known shown gone found c.held.history (c.call w.tier).history stands ∙ e, tt);
+          fresh = (behind_call pending entries w s weighed.table weighed.row x.known is.stands apart there through knows shown gone found c.held.history (c.call w.tier).history stands ∙ e, tt);
         } in
         subst (λ r. IsPerformed new after (λ w'. Executes (statement.Write write) s w w' r)) (sym says)
-        (answer_taken around law new before after w s write p weighed.table weighed.row found at apart is.stands is.unkept (rows_same t new holds.rest ∙ is.shows) prepared weighed.is hidden c
+        (answer_taken around law new before after w s write p weighed.table weighed.row found at apart is.stands is.unkept is.waits (rows_same t new holds.rest ∙ is.shows) prepared weighed.is hidden c
         (told (written s weighed.table ins w).0 ∙ e) (ap rule_of_apply unbroken)
         (stored_written changes t new w.tier s id ins (seen_by s w.history w.tier) sound is.stored has holds) may)
 
-    free : (result : Result Reply Refused) (fault : Option Rule) → (not x.own && is_some found) ≡ false → TellsRule fault (broken_by_all ins (seen_by s w.history w.tier)) → TakenFree t new id p fault result → IsPerformed new after (λ w'. Executes (statement.Write write) s w w' (reply_of result))
+    free : (result : Result Reply Refused) (fault : Option Rule) → has_row x.known found ≡ false → TellsRule fault (broken_by_all ins (seen_by s w.history w.tier)) → TakenFree t new id p fault result → IsPerformed new after (λ w'. Executes (statement.Write write) s w w' (reply_of result))
     free result (Some rule) e tells taken_in =
         subst (λ r. IsPerformed new after (λ w'. Executes (statement.Write write) s w w' (reply_of r))) (sym taken_in.0)
         (subst (λ y. IsPerformed y after (λ w'. Executes (statement.Write write) s w w' (only (No rule)))) (sym taken_in.1)
@@ -291,9 +323,9 @@ module _ (over_law : OverIsApplied) (numbers : NumberLaw) (changes : ChangeLaw) 
         (wanted before after w weighed.table its_key (Ok found) c)
 
     pub taken_in : (result : Result Reply Refused) → TakenIn t new id p x found result → IsPerformed new after (λ w'. Executes (statement.Write write) s w w' (reply_of result))
-    taken_in result done = by (not x.own && is_some found) refl done
+    taken_in result done = by (has_row x.known found) refl done
       where
-        by : (b : Bool) → (not x.own && is_some found) ≡ b → MatchBool b ((result ≡ Err (refused.Rule x.taken)) × (new ≡ t)) (TakenFree t new id p x.fault result) → IsPerformed new after (λ w'. Executes (statement.Write write) s w w' (reply_of result))
+        by : (b : Bool) → has_row x.known found ≡ b → MatchBool b ((result ≡ Err (refused.Rule x.taken)) × (new ≡ t)) (TakenFree t new id p x.fault result) → IsPerformed new after (λ w'. Executes (statement.Write write) s w w' (reply_of result))
         by true e all =
             subst (λ r. IsPerformed new after (λ w'. Executes (statement.Write write) s w w' (reply_of r))) (sym all.0)
             (subst (λ y. IsPerformed y after (λ w'. Executes (statement.Write write) s w w' (only (No x.taken)))) (sym all.1)
@@ -302,14 +334,14 @@ module _ (over_law : OverIsApplied) (numbers : NumberLaw) (changes : ChangeLaw) 
 
 -- ---- over parts of the code
 
-taken_by : (t : Stored) (id : SessionId) (p : Prepared) (x : Weighed) (found : Option (List Value)) (result : Result Reply Refused) (b : Bool) → result ≡ Err (refused.Rule x.taken) → b ≡ (not x.own && is_some found) → b ≡ true → TakenIn t t id p x found result
+taken_by : (t : Stored) (id : SessionId) (p : Prepared) (x : Weighed) (found : Option (List Value)) (result : Result Reply Refused) (b : Bool) → result ≡ Err (refused.Rule x.taken) → b ≡ has_row x.known found → b ≡ true → TakenIn t t id p x found result
 taken_by t id p x found result b told is so =
     subst (λ v. MatchBool v ((result ≡ Err (refused.Rule x.taken)) × (t ≡ t)) (TakenFree t t id p x.fault result)) (sym so ∙ is) (told, refl)
 
-pub taken_there : (t : Stored) (id : SessionId) (p : Prepared) (x : Weighed) (found : Option (List Value)) (b : Bool) → b ≡ (not x.own && is_some found) → b ≡ true → TakenIn t t id p x found (Err (refused.Rule x.taken))
+pub taken_there : (t : Stored) (id : SessionId) (p : Prepared) (x : Weighed) (found : Option (List Value)) (b : Bool) → b ≡ has_row x.known found → b ≡ true → TakenIn t t id p x found (Err (refused.Rule x.taken))
 taken_there t id p x found b is so = taken_by t id p x found (Err (refused.Rule x.taken)) b refl is so
 
-pub free_there : (t new : Stored) (id : SessionId) (p : Prepared) (x : Weighed) (found : Option (List Value)) (result : Result Reply Refused) (b : Bool) → b ≡ (not x.own && is_some found) → b ≡ false → TakenFree t new id p x.fault result → TakenIn t new id p x found result
+pub free_there : (t new : Stored) (id : SessionId) (p : Prepared) (x : Weighed) (found : Option (List Value)) (result : Result Reply Refused) (b : Bool) → b ≡ has_row x.known found → b ≡ false → TakenFree t new id p x.fault result → TakenIn t new id p x found result
 free_there t new id p x found result b is isnt done =
     subst (λ v. MatchBool v ((result ≡ Err (refused.Rule x.taken)) × (new ≡ t)) (TakenFree t new id p x.fault result)) (sym isnt ∙ is) done
 

@@ -1,5 +1,6 @@
 pub mod AimLaws
 pub mod AlteringLaws
+pub mod AppliedLaws
 pub mod AskingLaws
 pub mod BankLaws
 pub mod BeginningLaws
@@ -45,6 +46,7 @@ pub mod MatchLaws
 pub mod NamedLaws
 pub mod NamingLaws
 pub mod OpStores
+pub mod OrderedRows
 pub mod OthersLaws
 pub mod PutLaws
 pub mod QueryLaws

@@ -120,11 +120,11 @@ whole_number f same long zero (x ∷ stores) whole (suc k) s at = whole (suc k) 
 whole_number f same long (suc n) (x ∷ stores) whole zero s at = whole zero s at
 whole_number f same long (suc n) (x ∷ stores) whole (suc k) s at = whole_number f same long n stores (λ j y there. whole (suc j) y there) k s at
 
-kept_home : (schema : List TableDef) (op : Op) (o : Option Home) (groups : List Group) (stores : List Kept) → AreKept schema groups stores → AreKept schema groups (at_home o (op_done op) stores)
+pub kept_home : (schema : List TableDef) (op : Op) (o : Option Home) (groups : List Group) (stores : List Kept) → AreKept schema groups stores → AreKept schema groups (at_home o (op_done op) stores)
 kept_home schema op None groups stores are = are
 kept_home schema op (Some home) groups stores are = kept_number schema (op_done op) (op_tree op) home.store groups stores are
 
-whole_home : (op : Op) (o : Option Home) (stores : List Kept) → AreWhole stores → AreWhole (at_home o (op_done op) stores)
+pub whole_home : (op : Op) (o : Option Home) (stores : List Kept) → AreWhole stores → AreWhole (at_home o (op_done op) stores)
 whole_home op None stores whole = whole
 whole_home op (Some home) stores whole = whole_number (op_done op) (op_tree op) (op_long op) home.store stores whole
 
@@ -372,7 +372,7 @@ as_long rows number [] = refl
 as_long rows number (def ∷ defs) = ap suc (as_long rows (suc number) defs)
 
 -- one operation, where a store has its table
-op_shown : (schema : List TableDef) (groups : List Group) (stores : List Kept) (directory : List (Option Home)) (op : Op) (n : TableState) (m : Table) → AreHoused schema stores directory → AreKept schema groups stores → AreWhole stores → kept_rows stores (table_of op) ≡ Some m
+pub op_shown : (schema : List TableDef) (groups : List Group) (stores : List Kept) (directory : List (Option Home)) (op : Op) (n : TableState) (m : Table) → AreHoused schema stores directory → AreKept schema groups stores → AreWhole stores → kept_rows stores (table_of op) ≡ Some m
     → applied op (shown_by schema stores) ≡ Some n → shown_by schema (at_home (home_in directory op) (op_done op) stores) ≡ n
 op_shown schema groups stores directory op n m housed are whole kept e =
     ap (shown_by schema) moved ∙ same_state (shown_by schema (done_first op stores)) become refl long at ∙ sym made.made

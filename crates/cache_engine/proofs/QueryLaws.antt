@@ -100,7 +100,7 @@ query_done law t site s q w (Ok (Answered reply)) at is here =
     record {
       world = with_tier after w;
       at = at_still site w after at;
-      stands = stands_behind t t w after is here.stored refl (law w seen (map (row_key seen) (selected_rows here.plan seen)) is.stands);
+      stands = stands_behind t t w after is is.waits here.stored refl (law w seen (map (row_key seen) (selected_rows here.plan seen)) is.stands);
       is = inl (selects_unless s q w (with_tier after w) reply here.selects);
     }
 query_done law t site s q w (Ok (PassedOn resolved)) at is here =

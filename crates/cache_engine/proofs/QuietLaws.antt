@@ -21,7 +21,7 @@ use Rattle.tier_laws.specs.Events.{StaysShown, with_tier}
 use Rattle.tier_statements.specs.Seen.{session_seen}
 use Rattle.cache_engine.specs.declared.tier.Tier.{Tier as Stored}
 use Rattle.cache_engine.specs.Answering.{Replies}
-use Rattle.cache_engine.specs.Performing.{Executes, IsCalm, IsPerformed, KeepsSlots, PerformsIn, StandsFor, reply_of}
+use Rattle.cache_engine.specs.Performing.{AreLast, Executes, IsCalm, IsPerformed, KeepsSlots, PerformsIn, StandsFor, reply_of}
 use Rattle.cache_engine.specs.Sites.{IsAt, SiteView}
 use Rattle.cache_engine.specs.Stored.{HasSession, IsStoredAs, KeepsTime, rows_of}
 use Rattle.cache_engine.proofs.SeenLaws.{find_seen}
@@ -62,16 +62,17 @@ at_still site w a at = record {
   shared = at.shared;
 }
 
-pub stands_behind : (old new : Stored) (w : World) (a : Tier) → StandsFor old w → IsStoredAs new a → rows_of new ≡ rows_of old → StaysShown w (with_tier a w) → StandsFor new (with_tier a w)
-stands_behind old new w a is stored rows stays = record {
+pub stands_behind : (old new : Stored) (w : World) (a : Tier) → StandsFor old w → AreLast a.log a.unsettled → IsStoredAs new a → rows_of new ≡ rows_of old → StaysShown w (with_tier a w) → StandsFor new (with_tier a w)
+stands_behind old new w a is waits stored rows stays = record {
   stored = stored;
   shows = rows ∙ is.shows ∙ sym stays.same;
   stands = stays.stands;
   unkept = is.unkept;
+  waits = waits;
 }
 
 pub stands_still : (old new : Stored) (w : World) → StandsFor old w → IsStoredAs new w.tier → rows_of new ≡ rows_of old → StandsFor new w
-stands_still old new w is stored rows = record { stored = stored; shows = rows ∙ is.shows; stands = is.stands; unkept = is.unkept }
+stands_still old new w is stored rows = record { stored = stored; shows = rows ∙ is.shows; stands = is.stands; unkept = is.unkept; waits = is.waits }
 
 -- the same with another note of what is verified
 pub stored_noted : (t : Stored) (b : Bool) (a : Tier) → IsStoredAs t a → IsStoredAs (record t { verified = b }) a
@@ -111,18 +112,18 @@ refusing new site fault part w rule broken at is = record {
 }
 
 -- what an answer that breaks no rule does, or the rule that is broken
-pub answered_quietly : (old new : Stored) (site : SiteView) (w : World) (fault : Option Rule) (answer : Answer) (result : Result Reply Refused) → IsAt site w → StandsFor old w → rows_of new ≡ rows_of old
+pub answered_quietly : (old new : Stored) (site : SiteView) (w : World) (fault : Option Rule) (answer : Answer) (result : Result Reply Refused) → IsAt site w → StandsFor old w → AreLast answer.0.log answer.0.unsettled → rows_of new ≡ rows_of old
     → (fault ≡ None → StaysShown w (with_tier answer.0 w)) → Replies new w.tier fault answer result
     → IsPerformed new site (λ w'. Tries (Unless fault (Quiet answer)) w w' (reply_of result))
-answered_quietly old new site w fault answer (Ok reply) at is rows stays replies = record {
+answered_quietly old new site w fault answer (Ok reply) at is waits rows stays replies = record {
   world = with_tier answer.0 w;
   at = at_still site w answer.0 at;
-  stands = stands_behind old new w answer.0 is replies.1 rows (stays replies.0);
+  stands = stands_behind old new w answer.0 is waits replies.1 rows (stays replies.0);
   is = inl (subst (λ f. Unless f (Quiet answer) w (with_tier answer.0 w) reply) (sym replies.0) (refl, replies.2));
 }
-answered_quietly old new site w fault answer (Err (refused.Rule rule)) at is rows stays replies =
+answered_quietly old new site w fault answer (Err (refused.Rule rule)) at is waits rows stays replies =
     refusing new site fault (Quiet answer) w rule replies.0 at (stands_still old new w is replies.1 rows)
-answered_quietly old new site w fault answer (Err refused.Memory) at is rows stays replies =
+answered_quietly old new site w fault answer (Err refused.Memory) at is waits rows stays replies =
     wanting new site (Unless fault (Quiet answer)) w at (stands_still old new w is replies rows)
 
 pub refused_quietly : (new : Stored) (site : SiteView) (fault : Option Rule) (part : Part) (w : World) (e : Refused) → IsRefusedBy fault e → IsAt site w → StandsFor new w → IsPerformed new site (λ w'. Tries (Unless fault part) w w' (reply_of (Err e)))

@@ -125,6 +125,7 @@ module _ (t : Stored) (before after : SiteView) (step : List Entry → List Entr
       shows = stands.shows ∙ sym still.same;
       stands = stands_then w now.there after still.stands;
       unkept = stands.unkept;
+      waits = stands.waits;
     };
     call = record {
       history = around_weaker w.shared step (TellsPosition told) w.history now.there.history tells called.history;

@@ -21,7 +21,7 @@ use Rattle.outside.specs.Faults.{Rose}
 use Rattle.outside.specs.Holding.{Held}
 use Rattle.propagators.specs.declared.rounds.RoundFault.{RoundFault}
 use Rattle.propagators.specs.declared.rounds.RoundFault.TheVariants as stop
-use Rattle.propagators.specs.Rounds.{AreUnshared, HoldsRound, IsRestOf, Leads, Round as BankRound, TellsRound, doubts_at}
+use Rattle.propagators.specs.Rounds.{AreUnshared, HoldsRound, IsRestOf, Leads, Round as BankRound, TellsRound, doubts_at, left_in}
 use Rattle.cache_tier.specs.JournalSteps.{FlushesKept}
 use Rattle.cache_tier.specs.Rotations.{Rotates}
 use Rattle.cache_tier.specs.Rounds.{AllLeft, Applies, Differing, Drained, Drains, Failing, Round, RoundEnd, RoundIfUnsettled, Wanting, is_unsettled, round_stop}
@@ -43,7 +43,7 @@ use Rattle.cache_engine.specs.Sites.{IsAt, SiteView}
 use Rattle.cache_engine.specs.Stored.{IsSound, IsStoredAs, rows_of}
 use Rattle.cache_engine.proofs.BankLaws.{behind, told_behind}
 use Rattle.cache_engine.proofs.RoundLaws.{LeftLaw, is_left, round_seen, unsure_at}
-use Rattle.cache_engine.proofs.StandingLaws.{performed_behind, performed_here, slots_kept}
+use Rattle.cache_engine.proofs.StandingLaws.{last_rest, performed_behind, performed_here, slots_kept}
 
 -- the laws of a round
 
@@ -190,6 +190,7 @@ applied laws t new before after few end tried round all sound w at stands apart 
       end = refl;
     } in
     performed_behind new before after w a now.there (λ w'. Round w w' (round_stop w.tier end)) at now.told round.shares stands.unkept
+    (last_rest w.tier.log w.tier.unsettled (left_in bank.events) left (laws.left w.shared few w.tier.unsettled left w.history now.there.history bank) stands.waits)
     (stored_settled t new w.tier stands.stored tried)
     (rows_settled t new tried ∙ stands.shows ∙ sym stays.same)
     stays.stands

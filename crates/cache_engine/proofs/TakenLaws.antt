@@ -128,7 +128,7 @@ reads_failed t before after place x refreshes asked e reply is told faults momen
     let call = call_behind w w.tier before after now.there (TakesSnapshot asked (Err e)) at now.is faults moment in
     let stays : StaysShown w (at_history now.there.history w) = around_goes_on w now.there.history stands.stands apart call.history in
     subst (λ r. IsPerformed t after (λ w'. ReadsMatching refreshes x w w' r)) (sym is)
-    (performed_behind t before after w w.tier now.there (λ w'. ReadsMatching refreshes x w w' (bank_fault e)) at now.told shares stands.unkept stands.stored (stands.shows ∙ sym stays.same) stays.stands
+    (performed_behind t before after w w.tier now.there (λ w'. ReadsMatching refreshes x w w' (bank_fault e)) at now.told shares stands.unkept stands.waits stands.stored (stands.shows ∙ sym stays.same) stays.stands
     (reads_failing refreshes x w (behind w w.tier now.there after) e (record { history = call.history; journal = call.journal; faults = call.faults; disk = call.disk; moment = call.moment; shared = call.shared }) refl))
 
 -- the group as the catalog has it
@@ -285,7 +285,7 @@ module _ (old : Stored) (before after : SiteView) (place : ℕ) (which : Resolve
   -- nothing was taken in
   left_so : (new : Stored) (reply : Reply) → IsSameButRoom old new → ReadsMatching refreshes x w mid reply → IsPerformed new after (λ w'. ReadsMatching refreshes x w w' reply)
   left_so new reply same is =
-      performed_behind new before after w w.tier now.there (λ w'. ReadsMatching refreshes x w w' reply) at now.told shares stands.unkept
+      performed_behind new before after w w.tier now.there (λ w'. ReadsMatching refreshes x w w' reply) at now.told shares stands.unkept stands.waits
       (stored_room old new same w.tier stands.stored) (rows_room old new same ∙ stands.shows ∙ sym read.shown) read.stands is
 
   -- it was
@@ -443,7 +443,7 @@ module _ (old : Stored) (before after : SiteView) (place : ℕ) (which : Resolve
     fits = ap (λ (d : GroupDef). overflows_in c d.tree which) (sym def_is) ∙ k.fits
 
     took : IsPerformed new after (λ w'. ReadsMatching refreshes x w w' reply)
-    took = performed_behind new before after w T now.there (λ w'. ReadsMatching refreshes x w w' reply) at now.told shares stands.unkept stored shown_rows shows_keys.stands
+    took = performed_behind new before after w T now.there (λ w'. ReadsMatching refreshes x w w' reply) at now.told shares stands.unkept stands.waits stored shown_rows shows_keys.stands
         (went_on refreshes done_at reply fits adds refreshes_so)
 
   -- whatever came of it

@@ -163,6 +163,7 @@ stands_entered t c w same moments x = record {
   shows = x.shows;
   stands = x.stands;
   unkept = x.unkept;
+  waits = x.waits;
 }
 
 -- a refresh that is tried
@@ -182,6 +183,7 @@ stands_noted t c w interval same sets has x = record {
   shows = x.shows;
   stands = stands_tried w (refresh_tried interval w.tier).sets x.stands;
   unkept = x.unkept;
+  waits = x.waits;
 }
 
 -- an entry was made, and then the refresh that was tried noted

@@ -281,6 +281,7 @@ module _ (law : UnloadLaw) (drops : (state : TableState) (tree : Tree) → Keeps
     });
     stands = behind.stands;
     unkept = stands.unkept;
+    waits = stands.waits;
   }
 
   pub unloads : UnloadsTarget s x all w (with_tier (unload_answer x all w).0 w) (only (Done n))

@@ -1,7 +1,8 @@
 -- COMMIT over the stored tier. (TimesTen Cache User's Guide: asynchronous writethrough cache groups; tickets are this
 -- project's.)
 
-use Rattle.std.specs.Prelude.{◌≡◌, ℕ, zero, suc, ◌≤◌, List, [], ◌∷◌, Option, Some, None, All, Result, Ok, Err, length, map, slice_get}
+use Rattle.std.specs.Prelude.{◌≡◌, ℕ, zero, suc, ◌≤◌, List, [], ◌∷◌, Option, Some, None, All, Bool, Result, Ok, Err, is_some, length, map, slice_get}
+use Rattle.std.specs.List.{list_all}
 use Rattle.std.specs.Option.{option_and_then, option_or}
 use Rattle.tier_base.specs.declared.limit.Limit.TheVariants as limit
 use Rattle.tier_base.specs.declared.number.SessionId.{SessionId}
@@ -58,6 +59,10 @@ at_home (Some home) change stores = at_number home.store change stores
 abbrev pub ops_at : List (Option Home) → List Op → List Kept → List Kept
 ops_at directory [] stores = stores
 ops_at directory (op ∷ ops) stores = ops_at directory ops (at_home (home_in directory op) (op_done op) stores)
+
+-- a store has the table of each operation
+abbrev pub are_housed : List (Option Home) → List Op → Bool
+are_housed directory ops = list_all (λ op. is_some (home_in directory op)) ops
 
 -- each store has room for so many rows
 abbrev pub HaveRoomFor : ℕ → List Kept → Type 0

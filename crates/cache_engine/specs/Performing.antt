@@ -1,11 +1,12 @@
 -- That the stored tier stands for the one of a world, and that what is done to it is what the abstract tier does. (This
 -- project's model.)
 
-use Rattle.std.specs.Prelude.{◌≡◌, ℕ, ◌≤◌, List, [], Option, Some, None, true, false, Bool, Result, Ok, Err}
+use Rattle.std.specs.Prelude.{◌≡◌, ℕ, ◌≤◌, List, [], ◌++◌, Option, Some, None, true, false, Bool, Result, Ok, Err}
 use Rattle.tier_base.specs.declared.code.Code.TheVariants as code
 use Rattle.tier_base.specs.declared.number.SessionId.{SessionId}
 use Rattle.row_types.specs.declared.rule.Refused.{Refused}
 use Rattle.row_types.specs.declared.rule.Refused.TheVariants as refused
+use Rattle.table_state.specs.declared.history.Sealed.{Sealed}
 use Rattle.outside.specs.Faults.{Rose}
 use Rattle.outside.specs.Holding.{Held}
 use Rattle.sql_subset.specs.declared.stmt.Stmt.{Stmt}
@@ -22,13 +23,19 @@ use Rattle.cache_engine.specs.declared.tier.Tier.{Tier as Stored}
 use Rattle.cache_engine.specs.Sites.{IsAt, SiteView}
 use Rattle.cache_engine.specs.Stored.{HasSession, IsStoredAs, ShowsRows}
 
+-- these transactions are the last of all that committed
+pub record AreLast (log unsettled : List Sealed) : Type 0 where
+  pub settled : List Sealed
+  pub is : log ≡ settled ++ unsettled
+
 -- The stored tier stands for the one of a world: what is stored is its own, the stored rows are what is shown, and the
--- abstract tier stands in its world. There is no journal.
+-- abstract tier stands in its world. There is no journal, and what is unsettled committed last.
 pub record StandsFor (t : Stored) (w : World) : Type 0 where
   pub stored : IsStoredAs t w.tier
   pub shows : ShowsRows t w
   pub stands : Stands w
   pub unkept : w.journal.kept ≡ false
+  pub waits : AreLast w.tier.log w.tier.unsettled
 
 -- a world at the site behind, for which the new tier stands, and which comes so
 pub record IsPerformed (new : Stored) (site : SiteView) (does : World → Type 0) : Type 0 where

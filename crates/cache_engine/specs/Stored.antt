@@ -1,11 +1,13 @@
 -- The tier as it is stored, and the abstract tiers that it stands for. (This project's model.)
 
-use Rattle.std.specs.Prelude.{◌≡◌, ℕ, suc, List, [], ◌∷◌, All, None, Some, Bool, true, ◌&&◌, map, not, find, unwrap_or, is_none, length, slice_get}
+use Rattle.std.specs.Prelude.{◌≡◌, ℕ, suc, List, [], ◌∷◌, All, None, Some, Bool, true, ◌&&◌, map, not, find, unwrap_or, is_none, is_some, length, slice_get}
 use Rattle.std.specs.List.{list_all}
 use Rattle.std.specs.Option.{option_map}
 use Rattle.tier_base.specs.declared.number.SessionId.{SessionId}
 use Rattle.table_defs.specs.declared.definition.TableDef.{TableDef}
+use Rattle.table_state.specs.Operations.{applied_all}
 use Rattle.table_state.specs.Tables.{TableState}
+use Rattle.table_scan.specs.Keyed.{IsKeyed}
 use Rattle.own_rows.specs.OwnTables.{AreShown}
 use Rattle.session_state.specs.Sessions.{OpenSession}
 use Rattle.open_sessions.specs.Lookups.{of_label}
@@ -95,6 +97,11 @@ is_plain g = is_explicit g && is_none g.def.aging && not (is_synchronous g)
 pub record IsVerified (t : Stored) : Type 0 where
   pub rows : AreShown [] (rows_of t)
   pub own : All (λ s. AreShown s.ops (rows_of t)) (seen_all t.sessions)
+
+-- the same but for how many rows there are: they stand under their keys, and each session's operations apply on them
+pub record AreApplied (t : Stored) : Type 0 where
+  pub keyed : IsKeyed (rows_of t)
+  pub own : All (λ s. is_some (applied_all s.ops (rows_of t)) ≡ true) (seen_all t.sessions)
 
 -- What the parts ask of one another:
 --   sessions  each keeps what its operations leave and hold, and no two conflict

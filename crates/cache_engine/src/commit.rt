@@ -25,8 +25,8 @@ impl Tier {
     ghost use Rattle.cache_engine.specs.Stored.{IsSound, IsStoredAs};
 
     /// COMMIT of an open session that has written tables of ASYNCHRONOUS WRITETHROUGH groups: the writes get the next
-    /// ticket and wait for the backing database, the stores do them, and the transaction ends. Whether
-    /// other sessions' writes still apply isn't noted then.
+    /// ticket and wait for the backing database, the stores do them, and the transaction ends. Other sessions' writes
+    /// still apply then, as no two conflict; no row is looked at for that.
     ///
     /// The refusal is 119 where 4,096 transactions wait, then 119 where no ticket is left; or memory was wanting. All
     /// then stays. (TimesTen Cache User's Guide: asynchronous writethrough cache groups.)
@@ -43,11 +43,13 @@ impl Tier {
         let ops = copied_ops(alloc, self.sessions.ops(id))?;
         reserve_all(alloc, &mut self.stores, ops.len())?;
         let_wait(&mut self.unsettled, sealed)?;
+        let known = self.is_verified_for(ops.as_slice());
         self.verified = false;
         store_ops(&mut self.stores, &self.directory, ops);
         self.sessions.rest(id);
         let ticket = self.next;
         self.next = ticket + 1;
+        self.note_verified(known);
         Ok(done(alloc, ticket))
     }
 

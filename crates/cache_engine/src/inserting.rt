@@ -1,9 +1,9 @@
 //! INSERT of a row whose key isn't shown.
 
-ghost use Rattle.std.specs.Prelude.{◌≡◌, ◌&&◌, IfOk, false, is_some, not, true};
-ghost use Rattle.std.specs.List.{list_any};
+ghost use Rattle.std.specs.Prelude.{◌≡◌, IfOk, IsTrue, MatchOption, false, is_some, true};
 ghost use Rattle.table_state.specs.Footprints.{is_among, same_row_key};
-ghost use Rattle.cache_engine.specs.Inserting.{writes_key};
+ghost use Rattle.order_laws.specs.Effects.{row_left_by};
+ghost use Rattle.cache_engine.specs.Inserting.{HasWriter, has_row, leaves_row, some_writes_key, writes_key};
 
 use crate::preparing::Prepared;
 use crate::tier::Tier;
@@ -19,9 +19,20 @@ use std::collections::VecDeque;
 use table_defs::BackingSchema;
 use table_scan::laws::keyed_law;
 use table_state::{ApplyError, Footprint, Op, RowKey, Sealed, key_of_row};
-use tier_base::{SessionId, TableId};
+use tier_base::{SessionId, TableId, Ticket};
 use tier_laws::{others_shown_law, pending_row_law, use_shown_law};
 use tier_statements::{bank_fault, judge_ops, taken};
+
+/// What is known of a key before the bank is asked for it.
+#[derive(Drop)]
+pub enum Known {
+    /// The session's own operations write the key; what they leave there is shown.
+    Own,
+    /// Unsettled transactions write the key, and the last of them leaves a row there, or none.
+    Left(bool),
+    /// Neither writes it: the bank's row tells.
+    Free,
+}
 
 /// What is known of an INSERT before the bank is asked for its key.
 #[derive(Drop)]
@@ -32,14 +43,15 @@ pub struct Weighed {
     pub key: Key,
     /// The rule that is broken where the key has a row.
     pub taken: Rule,
-    /// Whether the session's own operations write the key; what they leave there is shown.
-    pub own: bool,
+    /// What is known of the key.
+    pub known: Known,
     /// The rule that the row breaks over what the session sees.
     pub fault: Option<Rule>,
 }
 
 impl Tier {
-    ghost use Rattle.cache_engine.specs.Inserting.{InsertsAt, IsJudged, IsWeighed, IsWeighedRow, KnowsKey, TakenIn};
+    ghost use Rattle.cache_engine.specs.Inserting.{InsertsAt, IsJudged, IsSince, IsWeighed, IsWeighedRow, KnowsKey, TakenIn};
+    ghost use Rattle.group_catalog.specs.Catalogs.{groups_in};
     ghost use Rattle.cache_engine.specs.Performing.{IsCalm, IsCaused, reply_of};
     ghost use Rattle.cache_engine.specs.Sites.{seen_at};
     ghost use Rattle.cache_engine.specs.Stored.{IsSound};
@@ -100,10 +112,10 @@ impl Tier {
             table: _,
             key: _,
             taken,
-            own,
+            known,
             fault,
         } = weighed;
-        if is_taken(own, &found) {
+        if has_row(known, &found) {
             return Err(Refused::Rule(taken));
         }
         match fault {
@@ -112,8 +124,7 @@ impl Tier {
         }
     }
 
-    // What is known of an INSERT of one row. It fails for want of memory; where the table is of no writethrough group; and where a transaction that waits has
-    // written the key, as then the bank's row doesn't tell whether it is new.
+    // What is known of an INSERT of one row. It fails for want of memory, and where the table is of no writethrough group.
     fn weigh(
         &self,
         alloc: Global,
@@ -158,36 +169,57 @@ impl Tier {
             Some(def) => {
                 let key = key_of_row(alloc, def, row)?;
                 let taken = taken(alloc, def, row)?;
-                let own = self.know_key(alloc, id, table, &key)?;
+                let known = self.know_key(alloc, id, table, &key)?;
                 let fault = self.judge(alloc, id, ops)?;
                 Ok(Weighed {
                     table,
                     key,
                     taken,
-                    own,
+                    known,
                     fault,
                 })
             }
         }
     }
 
-    // Whether the session's own operations write a key. It fails where a transaction that waits does, and they don't.
+    // What is known of a key: its own operations come first, then the last unsettled transaction that writes it. It
+    // fails for want of memory, and where that transaction is older than the table's group. No run comes to that, as a
+    // group that is dropped leaves nothing unsettled.
     fn know_key(
         &self,
         alloc: Global,
         id: SessionId,
         table: TableId,
         key: &Key,
-    ) -> Result<bool, AllocError>
+    ) -> Result<Known, AllocError>
         ensures { IfOk result (KnowsKey self.now id table key.now) }
     {
         if writes_key(alloc, &self.schema, self.sessions.ops(id), table, key)? {
-            return Ok(true);
+            return Ok(Known::Own);
         }
-        if some_writes_key(alloc, &self.schema, &self.unsettled, table, key)? {
-            return Err(AllocError);
+        match last_writer(alloc, &self.schema, &self.unsettled, table, key)? {
+            None => Ok(Known::Free),
+            Some(sealed) => {
+                if !self.is_since(table, sealed.ticket) {
+                    return Err(AllocError);
+                }
+                let leaves = leaves_row(alloc, &self.schema, sealed.ops.as_slice(), table, key)?;
+                Ok(Known::Left(leaves))
+            }
         }
-        Ok(false)
+    }
+
+    // Whether the group that has a table has been there since before a ticket.
+    fn is_since(&self, table: TableId, ticket: Ticket) -> bool
+        ensures { IsTrue result → IsSince (groups_in self.now.catalog) table ticket.0 }
+    {
+        match self.catalog.over(table) {
+            None => false,
+            Some(place) => match self.catalog.get(place) {
+                None => false,
+                Some(group) => group.first.0 <= ticket.0,
+            },
+        }
     }
 
     // The rule that operations break over what the session sees.
@@ -207,11 +239,15 @@ impl Tier {
     }
 }
 
-// Whether the bank's row stands at the key: it does where the session hasn't written the key itself.
-fn is_taken(own: bool, found: &Option<Row>) -> bool
-    ensures { result ≡ (not own && is_some found.now) }
+// Whether a row stands at the key, by the bank's.
+fn has_row(known: Known, found: &Option<Row>) -> bool
+    ensures { result ≡ has_row known found.now }
 {
-    !own && found.is_some()
+    match known {
+        Known::Own => false,
+        Known::Left(leaves) => leaves,
+        Known::Free => found.is_some(),
+    }
 }
 
 // Whether operations write a key.
@@ -229,28 +265,61 @@ fn writes_key(
     Ok(is_among(written.as_slice(), table, key))
 }
 
-// Whether one of several transactions does; where it is false, none does.
-fn some_writes_key(
+// The last of several transactions that writes a key.
+fn last_writer<'a>(
     alloc: Global,
     schema: &BackingSchema,
-    unsettled: &VecDeque<Sealed>,
+    unsettled: &'a VecDeque<Sealed>,
     table: TableId,
     key: &Key,
-) -> Result<bool, AllocError>
-    ensures { IfOk result (λ writes. writes ≡ false
-        → list_any (λ x. writes_key schema.now x.ops table key.now) unsettled.now.items ≡ false) }
+) -> Result<Option<&'a Sealed>, AllocError>
+    ensures { IfOk result (λ found. MatchOption found
+        (some_writes_key schema.now unsettled.now.items table key.now ≡ false)
+        (λ one. HasWriter schema.now unsettled.now.items table key.now one.now)) }
 {
-    for place in 0..unsettled.len() {
+    let mut place = unsettled.len();
+    'back: while place > 0 {
+        place -= 1;
         match unsettled.get(place) {
             None => return Err(AllocError),
             Some(sealed) => {
                 if writes_key(alloc, schema, sealed.ops.as_slice(), table, key)? {
-                    return Ok(true);
+                    return Ok(Some(sealed));
                 }
             }
         }
     }
-    Ok(false)
+    Ok(None)
+}
+
+// Whether operations leave a row at a key, where they write it.
+fn leaves_row(
+    alloc: Global,
+    schema: &BackingSchema,
+    ops: &[Op],
+    table: TableId,
+    key: &Key,
+) -> Result<bool, AllocError>
+    ensures { IfOk result (λ leaves. leaves ≡ leaves_row schema.now ops.now table key.now) }
+{
+    let mut leaves = false;
+    for place in 0..ops.len() {
+        if writes_key(alloc, schema, &ops[place..place + 1], table, key)? {
+            leaves = is_put(&ops[place]);
+        }
+    }
+    Ok(leaves)
+}
+
+// Whether an operation leaves its row.
+fn is_put(op: &Op) -> bool
+    ensures { result ≡ is_some (row_left_by op.now) }
+{
+    match op {
+        Op::Insert(_, _) => true,
+        Op::Update(_, _, _) => true,
+        Op::Delete(_, _) => false,
+    }
 }
 
 // Whether the key is one of these.

@@ -51,7 +51,9 @@ impl Tier {
         }
     }
 
-    // CREATE TABLE. Where the schema isn't known, memory is said to be wanting: `ask_schema` comes before.
+    // CREATE TABLE. Where the schema isn't known, and nothing refuses the definition over what is known, memory is said to
+    // be wanting. No line comes to that: `ask_schema` comes before, where a name isn't cached; and where all are, 113
+    // refuses the name.
     fn create_table<P: Site>(
         &mut self,
         alloc: Global,
@@ -69,10 +71,10 @@ impl Tier {
             (seen_at (P.Disk.held site.new) (P.bank_faults site.new) (P.Disk.moment site.new) (P.Disk.shared site.new))
             (reply_of result) }
     {
+        let def = self.check_table(alloc, declaration)?;
         if self.stale {
             return Err(Refused::Memory);
         }
-        let def = self.check_table(alloc, declaration)?;
         let schema = with_table(alloc, self.schema.as_slice(), &def)?;
         let (visible, directory) = self.name_grown(alloc, &schema)?;
         others_shown_law();

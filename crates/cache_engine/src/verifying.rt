@@ -11,18 +11,20 @@ ghost use Rattle.instances.specs.Views.{kept_at};
 ghost use Rattle.session_state.specs.Kept.{seen_of};
 ghost use Rattle.group_store.specs.Stores.{key_columns};
 ghost use Rattle.tier_statements.specs.Judging.{AreSmall};
+ghost use Rattle.cache_engine.specs.Committing.{are_housed, home_in};
 
 use crate::tier::Tier;
-use group_store::{Home, Shown, Store};
+use group_store::{Directory, Home, Shown, Store};
 use row_types::{Column, Value, fits};
 use session_state::Session;
 use std::alloc::{AllocError, Global};
 use table_scan::Scan;
+use table_state::Op;
 use tier_base::TableId;
 use tier_statements::{are_small, judge_ops};
 
 impl Tier {
-    ghost use Rattle.cache_engine.specs.Stored.{IsSound, IsVerified, rows_of};
+    ghost use Rattle.cache_engine.specs.Stored.{AreApplied, IsSound, IsVerified, rows_of};
 
     /// Makes sure that sessions can read and write over the stored rows. Where that isn't known, each row is looked at,
     /// and each session's operations are judged anew.
@@ -42,6 +44,38 @@ impl Tier {
         }
         self.verified = true;
         Ok(())
+    }
+
+    /// Whether it is known that sessions can read and write over the stored rows, and a store has the table of each of
+    /// these operations.
+    pub(crate) fn is_verified_for(&self, ops: &[Op]) -> bool
+        ensures verified { IsTrue result → self.now.verified ≡ true }
+        ensures housed { IsTrue result → are_housed self.now.directory ops.now ≡ true }
+    {
+        self.verified && are_housed(&self.directory, ops)
+    }
+
+    /// Notes that sessions can read and write over the stored rows, where it is known that these stand under their keys
+    /// and that operations apply. How many rows there are is looked at. It takes no memory.
+    pub(crate) fn note_verified(&mut self, known: bool)
+        requires sound { IsSound self.old }
+        requires known { IsTrue known → AreApplied self.old }
+        ensures same { self.new ≡ record self.old { verified = self.new.verified } }
+        ensures sound { IsSound self.new }
+    {
+        if known {
+            self.verified = self.is_small();
+        }
+    }
+
+    // Whether the tables are small, where all else is known.
+    fn is_small(&self) -> bool
+        requires sound { IsSound self.now }
+        requires known { AreApplied self.now }
+        ensures { IsTrue result → IsVerified self.now }
+    {
+        let shown = Shown::new(&self.schema, self.stores.as_slice(), &self.directory);
+        are_small(&shown)
     }
 
     // Whether sessions can read and write over the stored rows.
@@ -97,6 +131,19 @@ impl Tier {
             Some(def) => have_fit(store, place, def.columns.as_slice()),
         }
     }
+}
+
+// Whether a store has the table of each of these operations.
+fn are_housed(directory: &Directory, ops: &[Op]) -> bool
+    ensures { result ≡ are_housed directory.now ops.now }
+{
+    ops.iter().all(|op| is_housed(directory, op))
+}
+
+fn is_housed(directory: &Directory, op: &Op) -> bool
+    ensures { result ≡ is_some (home_in directory.now op.now) }
+{
+    directory.home(op.table()).is_some()
 }
 
 // Whether the rows at a place of a store fit these columns. They stand under the store's keys.

@@ -5,7 +5,7 @@ use Rattle.cache_engine.proofs.tier.Tier.close_session.Goals as goal
 
 pub returns-clause-performs : goal.returns-clause-performs
 returns-clause-performs c = λ site s has w at is unshared.
-    answered_quietly c.args.self.now c.close.new.self site w None (close_answer w.tier s.label) (Ok c.close.result) at is
+    answered_quietly c.args.self.now c.close.new.self site w None (close_answer w.tier s.label) (Ok c.close.result) at is is.waits
     c.close.ensures.rows
     (λ none. c.session_law.ensures.closes w s is.stands (its_session c.args.self.now w.tier c.args.id s is.stored has))
     (c.close.ensures.answers w.tier s is.stored has)

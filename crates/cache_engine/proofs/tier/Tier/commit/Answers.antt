@@ -4,7 +4,9 @@ use Rattle.cache_tier.specs.Worlds.{only}
 use Rattle.cache_engine.specs.Answering.{Replies}
 use Rattle.open_sessions.specs.Lookups.{open_ops}
 use Rattle.open_sessions.specs.Opening.{seen_all}
-use Rattle.cache_engine.specs.Committing.{commit_answer, commit_fault, ops_at}
+use Rattle.cache_engine.specs.declared.tier.Tier.{Tier as Stored}
+use Rattle.cache_engine.specs.Committing.{are_housed, bare_all, commit_answer, commit_fault, ops_at}
+use Rattle.cache_engine.proofs.AppliedLaws.{applied_behind}
 use Rattle.cache_engine.proofs.CommitPerformed.{rise_sealed, sound_roomed, sound_written}
 use Rattle.cache_engine.proofs.QuietLaws.{calm_done}
 use Rattle.cache_engine.proofs.CommitLaws.{refused_stays, stored_behind_commit}
@@ -18,13 +20,25 @@ returns-in_err-judge_commit-clause-answers c = λ a s is has.
     (c.in_err-judge_commit.ensures.told a s is))
 
 pub returns-clause-answers : goal.returns-clause-answers
-returns-clause-answers c = λ a s is has. (
-  c.in_ok-judge_commit.ensures.told a s is,
-  stored_behind_commit c.label_law.ensures.number c.label_law.ensures.change c.args.self.now _ a c.args.id s c.requires
-      is has refl refl refl (c.rest.ensures.seen c.args.self.now.schema c.requires.sessions)
-      (c.in_ok-let_wait.ensures.ok ∙ ap (λ x. c.args.self.now.unsettled.items ++ x ∷ []) c.in_ok-sealed.ensures) refl refl,
-  c.done.ensures ∙ ap (λ n. only (Done n)) (sym is.next),
-)
+returns-clause-answers c =
+    let same = c.note_verified.ensures.same in λ a s is has. (
+      c.in_ok-judge_commit.ensures.told a s is,
+      stored_behind_commit c.label_law.ensures.number c.label_law.ensures.change c.args.self.now c.note_verified.new.self a
+          c.args.id s c.requires is has (ap (λ (t : Stored). t.schema) same) (ap (λ (t : Stored). t.stale) same)
+          (ap (λ (t : Stored). t.catalog) same)
+          (ap (λ (t : Stored). seen_all t.sessions) same ∙ c.rest.ensures.seen c.args.self.now.schema c.requires.sessions)
+          (ap (λ (t : Stored). t.unsettled.items) same ∙ c.in_ok-let_wait.ensures.ok
+          ∙ ap (λ x. c.args.self.now.unsettled.items ++ x ∷ []) c.in_ok-sealed.ensures)
+          (ap (λ (t : Stored). t.next) same) (ap (λ (t : Stored). t.clock) same),
+      c.done.ensures ∙ ap (λ n. only (Done n)) (sym is.next),
+    )
+
+pub returns-clause-stores : goal.returns-clause-stores
+returns-clause-stores c =
+    let copies = c.in_ok-ops.ensures ∙ c.ops.ensures in
+    let room = c.in_ok-reserve_all.ensures.same in
+    ap (λ (t : Stored). bare_all t.stores.items) c.note_verified.ensures.same
+    ∙ c.store_ops.ensures ∙ (λ i. ops_at c.args.self.now.directory (copies i) (room i))
 
 pub returns-clause-calm : goal.returns-clause-calm
 returns-clause-calm c = calm_done c.args.self.now.next c.done.result c.done.ensures
@@ -39,8 +53,8 @@ returns-in_err-let_wait-clause-sound c =
     sound_roomed c.args.self.now _ c.requires (record { schema = refl; catalog = refl; directory = refl; visible = refl })
     c.in_ok-reserve_all.ensures.same refl c.in_err-let_wait.ensures.err refl refl
 
-pub returns-clause-sound : goal.returns-clause-sound
-returns-clause-sound c =
+pub note_verified-requires-clause-sound : goal.note_verified-requires-clause-sound
+note_verified-requires-clause-sound c =
     let own = open_ops c.args.id (seen_all c.args.self.now.sessions) in
     let copies = c.in_ok-ops.ensures ∙ c.ops.ensures in
     let room = c.in_ok-reserve_all.ensures.same in
@@ -50,3 +64,13 @@ returns-clause-sound c =
     (rise_sealed c.args.self.now.unsettled.items _ _ c.args.self.now.next own c.requires.numbered c.in_ok-let_wait.ensures.ok
     c.in_ok-sealed.ensures)
     refl
+
+pub note_verified-requires-clause-known : goal.note_verified-requires-clause-known
+note_verified-requires-clause-known c = λ yes.
+    let copies = c.in_ok-ops.ensures ∙ c.ops.ensures in
+    let room = c.in_ok-reserve_all.ensures.same in
+    let slice = c.as_slice.ensures ∙ copies in
+    applied_behind c.args.self.now _ c.args.id c.requires (c.is_verified_for-known.ensures.verified yes)
+    (sym (ap (are_housed c.args.self.now.directory) slice) ∙ c.is_verified_for-known.ensures.housed yes) refl
+    (c.store_ops.ensures ∙ (λ i. ops_at c.args.self.now.directory (copies i) (room i)))
+    (c.rest.ensures.seen c.args.self.now.schema c.requires.sessions)

@@ -10,7 +10,7 @@ pub returns-then-ops-eq0-clause-performs : goal.returns-then-ops-eq0-clause-perf
 returns-then-ops-eq0-clause-performs c = λ site.
     commits_none c.label_law.ensures.number c.args.self.now _ c.args.id (Ok c.rollback.result) site c.requires
     (sym c.ops.ensures ∙ none_long c.ops.result.now c.if-ops-eq0.true)
-    (λ s has w at is unshared. answered_quietly c.args.self.now c.rollback.new.self site w None (ends s w.tier, only (Done 0)) (Ok c.rollback.result) at is
+    (λ s has w at is unshared. answered_quietly c.args.self.now c.rollback.new.self site w None (ends s w.tier, only (Done 0)) (Ok c.rollback.result) at is is.waits
     c.rollback.ensures.rows
     (λ none. c.session_law.ensures.ends w s is.stands (its_session c.args.self.now w.tier c.args.id s is.stored has))
     (c.rollback.ensures.answers w.tier s is.stored has))

@@ -5,20 +5,20 @@ pub change-requires-clause-unbroken : goal.change-requires-clause-unbroken
 change-requires-clause-unbroken c =
     unbroken_there c.args.self.now c.args.id c.args.prepared c.args.weighed c.requires.weighed c.in-None.is
 
-pub returns-then-is_taken-clause-taken : goal.returns-then-is_taken-clause-taken
-returns-then-is_taken-clause-taken c =
-    taken_there c.args.self.now c.args.id c.args.prepared c.args.weighed c.args.found c.is_taken.result c.is_taken.ensures
-    c.if-is_taken.true
+pub returns-then-has_row-clause-taken : goal.returns-then-has_row-clause-taken
+returns-then-has_row-clause-taken c =
+    taken_there c.args.self.now c.args.id c.args.prepared c.args.weighed c.args.found c.has_row.result c.has_row.ensures
+    c.if-has_row.true
 
 pub returns-in-Some-clause-taken : goal.returns-in-Some-clause-taken
 returns-in-Some-clause-taken c =
-    free_there c.args.self.now c.args.self.now c.args.id c.args.prepared c.args.weighed c.args.found _ c.is_taken.result
-    c.is_taken.ensures c.if-is_taken.false
+    free_there c.args.self.now c.args.self.now c.args.id c.args.prepared c.args.weighed c.args.found _ c.has_row.result
+    c.has_row.ensures c.if-has_row.false
     (broken_there c.args.self.now c.args.id c.args.prepared c.args.weighed.fault c.in-Some.rule c.in-Some.is)
 
 pub returns-in-None-clause-taken : goal.returns-in-None-clause-taken
 returns-in-None-clause-taken c =
     free_there c.args.self.now c.change.new.self c.args.id c.args.prepared c.args.weighed c.args.found c.change.result
-    c.is_taken.result c.is_taken.ensures c.if-is_taken.false
+    c.has_row.result c.has_row.ensures c.if-has_row.false
     (changed_there c.args.self.now c.change.new.self c.args.id c.args.prepared c.args.weighed.fault c.change.result c.in-None.is
     c.change.ensures.changed)
