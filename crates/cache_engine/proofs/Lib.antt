@@ -72,7 +72,9 @@ pub mod TakenParts
 pub mod TriedLaws
 pub mod UnloadAims
 pub mod UnloadDone
+pub mod UnloadHeld
 pub mod UnloadLaws
+pub mod UnloadWithin
 pub mod VerifyLaws
 pub mod WantLaws
 pub mod WholeLaws

@@ -16,8 +16,8 @@ use Rattle.open_sessions.specs.Opening.{seen_all}
 use Rattle.group_catalog.specs.Catalogs.{groups_in}
 use Rattle.cache_tier.specs.Conditions.{root_def, which_names, which_types}
 use Rattle.cache_tier.specs.Groups.{Group, is_read_only, place_called}
-use Rattle.cache_tier.specs.Order.{Broken, first_broken, of_group, refusal, unload_broken}
-use Rattle.cache_tier.specs.Rules.{named}
+use Rattle.cache_tier.specs.Order.{Broken, first_broken, is_whole_only, of_group, refusal, unload_broken, wrong_state}
+use Rattle.cache_tier.specs.Rules.{named, open_writes}
 use Rattle.cache_tier.specs.TierStates.{Session, Tier}
 use Rattle.cache_engine.specs.declared.aiming.Aim.{Aim}
 use Rattle.cache_engine.specs.declared.tier.Tier.{Tier as Stored}
@@ -25,7 +25,7 @@ use Rattle.cache_engine.specs.Aiming.{AimsBy, which_fault}
 use Rattle.cache_engine.specs.Performing.{Executes, PerformsIn}
 use Rattle.cache_engine.specs.Sites.{SiteView}
 use Rattle.cache_engine.specs.Stored.{HasSession, IsSound, IsStoredAs, without_list}
-use Rattle.cache_engine.specs.Unloading.{AimsUnload, AimsUnloadIn, unload_state}
+use Rattle.cache_engine.specs.Unloading.{AimsUnload, AimsUnloadIn, FindsUnload, unload_state}
 use Rattle.cache_engine.proofs.AimLaws.{IsUnlisted, unlisted}
 use Rattle.cache_engine.proofs.CalmLaws.{NumberLaw, own_here, refused_by, wanting_still}
 use Rattle.cache_engine.proofs.DropLocks.{place_stored}
@@ -49,6 +49,25 @@ refusal_is : (a : Tier) (s : Session) (u : OfGroup) (place : ℕ) (g : Group) �
 refusal_is a s u place g found there =
     of_some a u.group (unload_broken a s u.which) place g found there
     ∙ ap (λ o. option_or (which_names (root_def a g) u.which) (option_or (unload_state u.which s.own g) o)) (or_last (which_types (root_def a g) u.which))
+
+or_first : (a b : Option Rule) → option_or a b ≡ None → a ≡ None
+or_first None b e = refl
+or_first (Some r) b e = cc
+
+or_second : (a b : Option Rule) → option_or a b ≡ None → b ≡ None
+or_second None b e = e
+or_second (Some r) b e = cc
+
+none_open : (own : List Op) → open_writes own ≡ None → own ≡ []
+none_open [] e = refl
+none_open (op ∷ own) e = cc
+
+-- the session has no open writes, where nothing refuses
+pub rests_of : (a : Tier) (s : Session) (u : OfGroup) {aim : Aim} → FindsUnload a s u aim → s.own ≡ []
+rests_of a s u {aim = aim} f =
+    let all : which_fault (root_def a f.group) u.which (unload_state u.which s.own f.group) ≡ None = sym (refusal_is a s u aim.place f.group f.place f.there) ∙ f.free in
+    none_open s.own (or_second (wrong_state (is_whole_only f.group u.which) f.group) (open_writes s.own)
+    (or_first (unload_state u.which s.own f.group) (which_types (root_def a f.group) u.which) (or_second (which_names (root_def a f.group) u.which) (option_or (unload_state u.which s.own f.group) (which_types (root_def a f.group) u.which)) all)))
 
 aims_so : (a : Tier) (s : Session) (u : OfGroup) (place : ℕ) (g : Group) (read_only : Bool) (result : Result Aim Refused) → place_called a.groups u.group ≡ Some place → slice_get a.groups place ≡ Some g → read_only ≡ is_read_only g
     → AimsBy (root_def a g) u.which (unload_state u.which s.own g) place read_only result → AimsUnload a s u result
