@@ -49,6 +49,7 @@ pub mod PutLaws
 pub mod QueryLaws
 pub mod QuietLaws
 pub mod ReadLaws
+pub mod ReadOnlyUnloads
 pub mod RefreshSteps
 pub mod RequestLaws
 pub mod RoundLaws
@@ -74,6 +75,7 @@ pub mod UnloadAims
 pub mod UnloadDone
 pub mod UnloadHeld
 pub mod UnloadLaws
+pub mod UnloadWhole
 pub mod UnloadWithin
 pub mod VerifyLaws
 pub mod WantLaws

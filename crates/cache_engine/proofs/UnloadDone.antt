@@ -62,7 +62,7 @@ use Rattle.cache_engine.specs.Performing.{Executes, IsPerformed, PerformsIn, Sta
 use Rattle.cache_engine.specs.Sites.{IsAt, SiteView}
 use Rattle.cache_engine.specs.Stored.{AreKept, AreWhole, HasSession, HaveOwnNames, IsSound, IsStoredAs, is_plain, named_where_cached, without_list}
 use Rattle.cache_engine.specs.Taking.{IsOfTarget}
-use Rattle.cache_engine.specs.Unloading.{AimsUnloadIn, FindsUnload, IsCutBy, IsCutAt, IsCutGroup, LeavesGroup, UnloadsHere, UnloadsTarget, cut_all, flagged, leaving}
+use Rattle.cache_engine.specs.Unloading.{AimsUnloadIn, FindsUnload, IsClearedAt, IsClearedBy, IsClearedGroup, IsCutBy, IsCutAt, IsCutGroup, LeavesGroup, UnloadsHere, UnloadsTarget, cut_all, flagged, leaving}
 use Rattle.cache_engine.specs.UnloadLocks.{UnloadTold}
 use Rattle.cache_engine.proofs.CalmLaws.{flushes_none}
 use Rattle.cache_engine.proofs.DropLocks.{group_stored}
@@ -74,7 +74,7 @@ use Rattle.cache_engine.proofs.StoreChanges.{form_kept, get_here, get_there, hou
 use Rattle.cache_engine.proofs.GroupingLaws.{got}
 use Rattle.cache_engine.proofs.StoreRows.{form_at, form_here}
 use Rattle.cache_engine.proofs.QuietLaws.{session_over, stands_over}
-use Rattle.cache_engine.proofs.UnloadAims.{rests_of}
+use Rattle.cache_engine.proofs.UnloadAims.{rests_of, whole_of}
 use Rattle.cache_engine.proofs.UnloadLaws.{count_is, left_shown}
 
 -- a store that is cut keeps its form
@@ -257,7 +257,7 @@ writes_through g b is no_one = ap not (is ∙ no_one)
 
 pub unloaded_here : UnloadLaw → ((state : TableState) (tree : Tree) → KeepsOthers state tree) → (t mid new : Stored) (site : SiteView) (id : SessionId) (aim : Aim) (all : Bool) (n : ℕ) → UnloadTold t id aim (Ok tt) → mid ≡ record t { verified = mid.verified } → IsSound mid → aim.read_only ≡ false → IsCutGroup mid new aim all n
     → UnloadsHere t new site id aim all (only (Done n))
-unloaded_here law drops t mid new site id aim all n told same sound kind cut = λ s w x has rests at stands there kinds of. (
+unloaded_here law drops t mid new site id aim all n told same sound kind cut = λ s w x has rests asks at stands there kinds of. (
     let writes : is_writethrough x.group ≡ true = writes_through x.group aim.read_only kinds kind in
     let free : unload_fault s x w ≡ None = told s w x has stands there writes of in
     let had = session_over t mid id s same has in
@@ -271,7 +271,7 @@ unloaded_here law drops t mid new site id aim all n told same sound kind cut = �
 
 -- a rule refuses it, or memory is wanting
 pub refused_here : (t mid : Stored) (site : SiteView) (id : SessionId) (aim : Aim) (all : Bool) (e : Refused) → aim.read_only ≡ false → mid ≡ record t { verified = mid.verified } → UnloadTold t id aim (Err e) → UnloadsHere t mid site id aim all (reply_of (Err e))
-refused_here t mid site id aim all (refused.Rule rule) kind same told = λ s w x has rests at stands there kinds of. (
+refused_here t mid site id aim all (refused.Rule rule) kind same told = λ s w x has rests asks at stands there kinds of. (
     let fault : unload_fault s x w ≡ Some rule = told s w x has stands there (writes_through x.group aim.read_only kinds kind) of in
     record {
       world = w;
@@ -279,11 +279,11 @@ refused_here t mid site id aim all (refused.Rule rule) kind same told = λ s w x
       stands = stands_over t mid w same stands;
       is = inl (subst (λ o. Unless o (Then (FlushesSome (unload_entries all x.group)) (Answers (unload_answer x all))) w w (only (No rule))) (sym fault) (refl, refl));
     })
-refused_here t mid site id aim all refused.Memory kind same told = λ s w x has rests at stands there kinds of.
+refused_here t mid site id aim all refused.Memory kind same told = λ s w x has rests asks at stands there kinds of.
     record { world = w; at = at; stands = stands_over t mid w same stands; is = inr (refl, refl) }
 
 pub wanting_here : (t mid new : Stored) (site : SiteView) (id : SessionId) (aim : Aim) (all : Bool) → mid ≡ record t { verified = mid.verified } → KeepsGroups mid new → UnloadsHere t new site id aim all (faulty code.Memory)
-wanting_here t mid new site id aim all same keeps = λ s w x has rests at stands there kinds of.
+wanting_here t mid new site id aim all same keeps = λ s w x has rests asks at stands there kinds of.
     record { world = w; at = at; stands = stands_kept mid new w (stands_over t mid w same stands) keeps; is = inr (refl, refl) }
 
 -- the whole statement, from the group that it names
@@ -291,7 +291,7 @@ pub unload_done : (t new : Stored) (site : SiteView) (id : SessionId) (u : OfGro
 unload_done t new site id u aim result aims here = λ s has w at stands unshared. (
     let f = aims w.tier s stands.stored has in
     let x : Target = record { place = aim.place; group = f.group; filter = aim.which.filter; id = u.which.id } in
-    let p = here s w x has (rests_of w.tier s u f) at stands f.there f.kind (record { place = refl; filter = refl; id = f.is.id }) in
+    let p = here s w x has (rests_of w.tier s u f) (whole_of w.tier s u f) at stands f.there f.kind (record { place = refl; filter = refl; id = f.is.id }) in
     record {
       world = p.world;
       at = p.at;
@@ -324,6 +324,33 @@ cut_there place columns which old store left n lt is cuts = record { store = sto
 
 pub not_cut_there : (place : ℕ) (old : List Kept) (store left : Kept) → place < length old → store ≡ get_or old place store → left ≡ store → set old place left ≡ old
 not_cut_there place old store left lt is same = set_same old place store left (got old place store lt is) same
+
+pub clear_there : (place : ℕ) (old : List Kept) (store left : Kept) (n : ℕ) → place < length old → store ≡ get_or old place store → IsClearedBy store left n → IsClearedAt place old (set old place left) n
+clear_there place old store left n lt is cleared = record { store = store; left = left; kept = got old place store lt is; cleared = cleared; is = refl }
+
+pub group_cleared : (t mid new : Stored) (place n : ℕ) (seen : Group) → slice_get (groups_in t.catalog) place ≡ Some seen → IsClearedAt place t.stores.items mid.stores.items n → mid ≡ record t { stores = mid.stores } → new ≡ record mid { catalog = new.catalog; verified = false }
+    → groups_in new.catalog ≡ flagged true place (groups_in mid.catalog) → IsClearedGroup t new place n
+group_cleared t mid new place n seen at cleared same then groups = record {
+  group = seen;
+  store = cleared.store;
+  left = cleared.left;
+  there = at;
+  kept = cleared.kept;
+  did = cleared.cleared;
+  stores = ap (λ (y : Stored). y.stores.items) then ∙ cleared.is;
+  groups = groups ∙ ap (λ (y : Stored). flagged true place (groups_in y.catalog)) same;
+  beside = record {
+    schema = ap (λ (y : Stored). y.schema) then ∙ ap (λ (y : Stored). y.schema) same;
+    stale = ap (λ (y : Stored). y.stale) then ∙ ap (λ (y : Stored). y.stale) same;
+    sessions = ap (λ (y : Stored). y.sessions) then ∙ ap (λ (y : Stored). y.sessions) same;
+    unsettled = ap (λ (y : Stored). y.unsettled) then ∙ ap (λ (y : Stored). y.unsettled) same;
+    next = ap (λ (y : Stored). y.next) then ∙ ap (λ (y : Stored). y.next) same;
+    clock = ap (λ (y : Stored). y.clock) then ∙ ap (λ (y : Stored). y.clock) same;
+  };
+  visible = ap (λ (y : Stored). y.visible) then ∙ ap (λ (y : Stored). y.visible) same;
+  directory = ap (λ (y : Stored). y.directory) then ∙ ap (λ (y : Stored). y.directory) same;
+  unverified = ap (λ (y : Stored). y.verified) then;
+}
 
 pub group_cut : (t mid new : Stored) (aim : Aim) (all : Bool) (n : ℕ) (seen : Group) (def : TableDef) (columns : List ℕ) → slice_get (groups_in t.catalog) aim.place ≡ Some seen → slice_get t.schema seen.def.tree.root.table.0 ≡ Some def → columns ≡ def.primary_key
     → IsCutAt aim.place columns aim.which t.stores.items mid.stores.items n → mid ≡ record t { stores = mid.stores } → new ≡ record mid { catalog = new.catalog; verified = false } → groups_in new.catalog ≡ flagged all aim.place (groups_in mid.catalog) → IsCutGroup t new aim all n

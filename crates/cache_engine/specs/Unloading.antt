@@ -1,7 +1,7 @@
 -- UNLOAD over what is stored. (TimesTen SQL Reference, "UNLOAD CACHE GROUP".)
 
 use Rattle.std.specs.Prelude.{◌≡◌, ℕ, List, [], ◌∷◌, Bool, true, false, Option, None, Some, Result, Ok, Err, filter, length, map, set, slice_get, if◌then◌else◌}
-use Rattle.std.specs.FinMap.{values}
+use Rattle.std.specs.FinMap.{len, values}
 use Rattle.row_types.specs.declared.rule.Refused.{Refused}
 use Rattle.row_types.specs.declared.rule.Refused.TheVariants as refused
 use Rattle.row_types.specs.declared.value.Value.{Value}
@@ -17,11 +17,11 @@ use Rattle.table_state.specs.declared.operation.Op.{Op}
 use Rattle.group_catalog.specs.Catalogs.{groups_in}
 use Rattle.group_catalog.specs.declared.which.ResolvedWhich.{ResolvedWhich}
 use Rattle.group_store.specs.Keeping.{primary_of}
-use Rattle.group_store.specs.Stores.{Kept, SameButSpare, cut_store}
+use Rattle.group_store.specs.Stores.{Kept, SameButSpare, cleared_store, cut_store}
 use Rattle.std.specs.Option.{option_or}
 use Rattle.row_types.specs.declared.rule.Rule.{Rule}
 use Rattle.cache_tier.specs.Conditions.{overflows, root_def}
-use Rattle.cache_tier.specs.Groups.{Group, is_read_only, place_called}
+use Rattle.cache_tier.specs.Groups.{Group, is_explicit, is_read_only, place_called}
 use Rattle.cache_tier.specs.Order.{is_whole_only, refusal, wrong_state}
 use Rattle.cache_tier.specs.Rules.{open_writes, plain}
 use Rattle.cache_tier.specs.TierStates.{Session, Tier}
@@ -88,6 +88,18 @@ pub record IsCutAt (place : ℕ) (columns : List ℕ) (which : ResolvedWhich) (o
   pub cut : IsCutBy which columns store left n
   pub is : new ≡ set old place left
 
+-- all instances left, so many
+pub record IsClearedBy (old new : Kept) (n : ℕ) : Type 0 where
+  pub count : n ≡ len (kept_at old.tables 0)
+  pub gone : SameButSpare (cleared_store old) new
+
+pub record IsClearedAt (place : ℕ) (old new : List Kept) (n : ℕ) : Type 0 where
+  pub store : Kept
+  pub left : Kept
+  pub kept : slice_get old place ≡ Some store
+  pub cleared : IsClearedBy store left n
+  pub is : new ≡ set old place left
+
 -- 120 of the condition on a row of the store at a place
 pub record OverflowsIn (place : ℕ) (which : ResolvedWhich) (stores : List Kept) (rule : Rule) : Type 0 where
   pub store : Kept
@@ -120,6 +132,15 @@ IsCutGroup t new aim all n =
     LeavesGroup t new aim.place all
     (λ g store left. IsCutBy aim.which (primary_of t.schema g.def.tree.root.table) store left n)
 
+-- all of them
+abbrev pub IsClearedGroup : Stored → Stored → ℕ → ℕ → Type 0
+IsClearedGroup t new place n = LeavesGroup t new place true (λ g store left. IsClearedBy store left n)
+
+-- an explicit READONLY group is asked for whole
+abbrev pub AsksWhole : Target → Bool → Type 0
+AsksWhole x all =
+    is_read_only x.group ≡ true → is_explicit x.group ≡ true → (all ≡ true) × (x.filter ≡ None) × (x.id ≡ None)
+
 -- UNLOAD of a group that is found
 abbrev pub UnloadsTarget : Session → Target → Bool → Part
 UnloadsTarget s x all w w' reply =
@@ -129,7 +150,7 @@ UnloadsTarget s x all w w' reply =
 -- so it is of the group at a place, in each world for which the tier stands, where the session has no open writes
 abbrev pub UnloadsHere : Stored → Stored → SiteView → SessionId → Aim → Bool → Reply → Type 0
 UnloadsHere t new site id aim all reply =
-    (s : Session) (w : World) (x : Target) → HasSession t id s → s.own ≡ [] → IsAt site w → StandsFor t w
-    → slice_get w.tier.groups aim.place ≡ Some x.group → is_read_only x.group ≡ aim.read_only
+    (s : Session) (w : World) (x : Target) → HasSession t id s → s.own ≡ [] → AsksWhole x all → IsAt site w
+    → StandsFor t w → slice_get w.tier.groups aim.place ≡ Some x.group → is_read_only x.group ≡ aim.read_only
     → IsOfTarget x aim.place aim.which
     → IsPerformed new site (λ w'. Tries (UnloadsTarget s x all) w w' reply)

@@ -1,19 +1,20 @@
 //! UNLOAD of cache groups.
 
-ghost use Rattle.std.specs.Prelude.{◌≡◌, ◌==◌, ◌<◌, IfOk, OnErr, false, length, true};
+ghost use Rattle.std.specs.Prelude.{◌≡◌, ◌==◌, ◌<◌, Bool, IfOk, OnErr, false, length, true};
 ghost use Rattle.std.specs.List.{list_all};
 ghost use Rattle.std.specs.Option.{option_copied, option_map};
 ghost use Rattle.instances.specs.Views.{kept_at};
 ghost use Rattle.group_catalog.specs.Kept.{group_seen};
 ghost use Rattle.group_store.specs.Stores.{SameButSpare};
 ghost use Rattle.sql_subset.specs.declared.stmt.Stmt.TheVariants as statement;
+ghost use Rattle.tier_base.specs.declared.number.SessionId.{SessionId as OneId};
 ghost use Rattle.table_defs.specs.Declarations.{Tells};
 ghost use Rattle.session_state.specs.Kept.{seen_of};
 ghost use Rattle.tier_statements.specs.Seen.{session_seen};
 ghost use Rattle.cache_tier.specs.Locks.{locked_by};
 ghost use Rattle.cache_tier.specs.Conditions.{overflows};
 ghost use Rattle.cache_engine.specs.Grouping.{KeepsGroups};
-ghost use Rattle.cache_engine.specs.Unloading.{IsCutAt, IsCutBy, IsCutGroup, UnloadsHere, cut_all, flagged, leaving, unload_state};
+ghost use Rattle.cache_engine.specs.Unloading.{IsClearedAt, IsClearedBy, IsClearedGroup, IsCutAt, IsCutBy, IsCutGroup, UnloadsHere, cut_all, flagged, leaving, unload_state};
 ghost use Rattle.cache_engine.specs.UnloadLocks.{LocksTold, RootsTold, UnloadTold};
 ghost use Rattle.group_catalog.specs.Catalogs.{groups_in};
 
@@ -48,8 +49,8 @@ impl Tier {
     /// tells how many left.
     ///
     /// The refusal is 112, 103, 115, 122, 104 and 105 in the order of refusals, then 120 of the condition on a shown root,
-    /// then 111 of an instance in which another session has uncommitted writes; or memory was wanting, as it is said to be
-    /// for a READONLY group. (TimesTen SQL Reference, "UNLOAD CACHE GROUP".)
+    /// then 111 of an instance in which another session has uncommitted writes; or memory was wanting. (TimesTen SQL
+    /// Reference, "UNLOAD CACHE GROUP".)
     pub fn unload(
         &mut self,
         alloc: Global,
@@ -67,7 +68,7 @@ impl Tier {
         }
     }
 
-    // The instances that match leave; or 120, then 111. Where the group is READONLY, memory is told wanting.
+    // The instances that match leave; or 120, then 111.
     fn unload_aimed(
         &mut self,
         alloc: Global,
@@ -83,7 +84,7 @@ impl Tier {
         drop_instance_law();
         unload_statement_law();
         if aim.read_only {
-            return Err(Refused::Memory);
+            return self.unload_whole(alloc, aim);
         }
         match self.judge_instances(alloc, id, aim) {
             Err(refused) => Err(refused),
@@ -91,6 +92,21 @@ impl Tier {
                 Err(AllocError) => Err(Refused::Memory),
                 Ok(count) => Ok(done(alloc, count as u64)),
             },
+        }
+    }
+
+    // All instances of a READONLY group leave: nothing is asked of its rows, and no session writes in it.
+    fn unload_whole(&mut self, alloc: Global, aim: &Aim) -> Result<Reply, Refused>
+        requires sound { IsSound self.old }
+        requires kind { aim.now.read_only ≡ true }
+        ensures performs { (site : SiteView) (id : OneId) (all : Bool)
+            → UnloadsHere self.old self.new site id aim.now all (reply_of result) }
+        ensures sound { IsSound self.new }
+        ensures calm { IsCalm (reply_of result) }
+    {
+        match self.clear_group(alloc, aim.place) {
+            Err(AllocError) => Err(Refused::Memory),
+            Ok(count) => Ok(done(alloc, count as u64)),
         }
     }
 
@@ -195,6 +211,25 @@ impl Tier {
         }
     }
 
+    // All instances of the group at a place leave its store; how many. Its flag is cleared.
+    fn clear_group(&mut self, alloc: Global, place: usize) -> Result<usize, AllocError>
+        ensures ok { IfOk result (IsClearedGroup self.old self.new place) }
+        ensures err { OnErr result (KeepsGroups self.old self.new) }
+    {
+        match self.catalog.get(place) {
+            None => Err(AllocError),
+            Some(group) => {
+                let _ = group;
+                if place >= self.stores.len() || place >= self.catalog.len() {
+                    return Err(AllocError);
+                }
+                let count = clear_at(alloc, &mut self.stores, place);
+                self.clear_flag(place, true);
+                Ok(count)
+            }
+        }
+    }
+
     // The flag of the group at a place is cleared, where all of it left; whether writes apply is to be seen.
     fn clear_flag(&mut self, place: usize, all: bool)
         requires { place < length (groups_in self.old.catalog) }
@@ -286,6 +321,22 @@ fn cut_matching(
     let keys = leaving(alloc, store, columns, which)?;
     cut_all(store, keys.as_slice());
     Ok(keys.len())
+}
+
+// All instances of the store at a place leave; how many.
+fn clear_at(alloc: Global, stores: &mut Vec<Store>, place: usize) -> usize
+    requires { place < length stores.old.items }
+    ensures { IsClearedAt place stores.old.items stores.new.items result }
+{
+    clear_store(alloc, &mut stores[place])
+}
+
+fn clear_store(alloc: Global, store: &mut Store) -> usize
+    ensures { IsClearedBy store.old store.new result }
+{
+    let count = store.len(0);
+    store.clear(alloc);
+    count
 }
 
 // Whether the condition is 120 on some root row.

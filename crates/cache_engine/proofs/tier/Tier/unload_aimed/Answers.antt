@@ -14,3 +14,6 @@ returns-in-Ok-cut_group-clause-performs c = λ site.
 pub returns-in-Ok-cut_group-clause-sound : goal.returns-in-Ok-cut_group-clause-sound
 returns-in-Ok-cut_group-clause-sound c =
     sound_cut c.judge_instances.new.self c.cut_group.new.self c.args.aim.now c.args.all c.in-Ok-cut_group.count c.in-Ok.ensures.sound c.in-Ok-cut_group.ensures.ok
+
+pub returns-then-aim-clause-performs : goal.returns-then-aim-clause-performs
+returns-then-aim-clause-performs c = λ site. c.unload_whole.ensures.performs site c.args.id c.args.all
