@@ -39,7 +39,7 @@ find_map p f (x ∷ xs) = by (p (f x)) (find_map p f xs)
     by true rest = refl
     by false rest = rest
 
-find_left : {A : Type 0} (q p : A → Bool) (xs : List A) → find p (filter q xs) ≡ find (λ x. q x && p x) xs
+pub find_left : {A : Type 0} (q p : A → Bool) (xs : List A) → find p (filter q xs) ≡ find (λ x. q x && p x) xs
 find_left q p [] = refl
 find_left q p (x ∷ xs) = by (q x) (find_left q p xs)
   where
@@ -116,7 +116,7 @@ ClosedLaw =
     (schema : List TableDef) (s : Sessions) (label : List ℕ) (x : OpenSession) → AreSessions schema s
     → of_label label (seen_all s) ≡ Some x → closed x.id (seen_all s) ≡ filter (λ y. not (has_label label y)) (seen_all s)
 
-others_seen : ClosedLaw → (t : Stored) (a : Tier) (s : Session) (id : SessionId) → IsSound t → IsStoredAs t a → HasSession t id s → others s.label a ≡ map session_seen (closed id (seen_all t.sessions))
+pub others_seen : ClosedLaw → (t : Stored) (a : Tier) (s : Session) (id : SessionId) → IsSound t → IsStoredAs t a → HasSession t id s → others s.label a ≡ map session_seen (closed id (seen_all t.sessions))
 others_seen law t a s id sound is has =
     ap (filter (λ y. not (is_labelled s.label y))) is.sessions
     ∙ sym (left_seen s.label (seen_all t.sessions))

@@ -52,6 +52,7 @@ pub mod PutLaws
 pub mod QueryLaws
 pub mod QuietLaws
 pub mod ReadLaws
+pub mod ReadOnlyUnloads
 pub mod RefreshSteps
 pub mod RequestLaws
 pub mod RoundLaws
@@ -75,7 +76,10 @@ pub mod TakenParts
 pub mod TriedLaws
 pub mod UnloadAims
 pub mod UnloadDone
+pub mod UnloadHeld
 pub mod UnloadLaws
+pub mod UnloadWhole
+pub mod UnloadWithin
 pub mod VerifyLaws
 pub mod WantLaws
 pub mod WholeLaws

@@ -35,7 +35,7 @@ Test = Row → Bool
 
 -- rows that pass, by their keys
 
-get_retained : (R : Table) (f : Test) (k : Row) → fm.get (fm.retain_keys R f) k ≡ cond (f k) (fm.get R k) None
+pub get_retained : (R : Table) (f : Test) (k : Row) → fm.get (fm.retain_keys R f) k ≡ cond (f k) (fm.get R k) None
 get_retained R f k = fm.get-retain_keys R f k (λ x tie. ap f (sym (key_exact k x tie)))
 
 same_none : (a b : Bool) → cond a (let o : Option Row = None in o) None ≡ cond b None None

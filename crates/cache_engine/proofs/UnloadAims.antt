@@ -1,5 +1,5 @@
 -- What UNLOAD names, over what is stored.
-use Rattle.std.proofs.Common.{◌≡◌, ℕ, Bool, Option, Some, None, Result, Ok, Err, List, [], ◌∷◌, slice_get, refl, sym, ap, subst, ◌∙◌}
+use Rattle.std.proofs.Common.{◌≡◌, ◌&&◌, ℕ, Bool, true, false, not, is_none, Option, Some, None, Result, Ok, Err, List, [], ◌∷◌, slice_get, refl, sym, ap, subst, ◌∙◌}
 use Rattle.std.specs.Option.{option_or}
 use Rattle.tier_base.specs.declared.code.Code.TheVariants as code
 use Rattle.tier_base.specs.declared.number.SessionId.{SessionId}
@@ -10,14 +10,19 @@ use Rattle.table_defs.specs.declared.definition.TableDef.{TableDef}
 use Rattle.table_state.specs.declared.operation.Op.{Op}
 use Rattle.sql_subset.specs.declared.stmt.OfGroup.{OfGroup}
 use Rattle.sql_subset.specs.declared.stmt.Stmt.TheVariants as statement
+use Rattle.expressions.specs.declared.condition.Cond.{Cond}
+use Rattle.order_laws.proofs.TruthLaws.{both_true}
+use Rattle.resolution.specs.Placing.{filter_seen, placed_filter}
+use Rattle.resolution.specs.Scopes.{SeenColumn}
+use Rattle.sql_query.specs.Trees.{ConditionTree}
 use Rattle.resolution.specs.Results.{IsRefusal}
 use Rattle.open_sessions.specs.Lookups.{open_ops}
 use Rattle.open_sessions.specs.Opening.{seen_all}
 use Rattle.group_catalog.specs.Catalogs.{groups_in}
-use Rattle.cache_tier.specs.Conditions.{root_def, which_names, which_types}
-use Rattle.cache_tier.specs.Groups.{Group, is_read_only, place_called}
-use Rattle.cache_tier.specs.Order.{Broken, first_broken, of_group, refusal, unload_broken}
-use Rattle.cache_tier.specs.Rules.{named}
+use Rattle.cache_tier.specs.Conditions.{asks_all, root_def, root_scope, which_names, which_types}
+use Rattle.cache_tier.specs.Groups.{Group, is_explicit, is_read_only, place_called}
+use Rattle.cache_tier.specs.Order.{Broken, first_broken, is_whole_only, of_group, refusal, unload_broken, wrong_state}
+use Rattle.cache_tier.specs.Rules.{broken_if, named, open_writes}
 use Rattle.cache_tier.specs.TierStates.{Session, Tier}
 use Rattle.cache_engine.specs.declared.aiming.Aim.{Aim}
 use Rattle.cache_engine.specs.declared.tier.Tier.{Tier as Stored}
@@ -25,7 +30,7 @@ use Rattle.cache_engine.specs.Aiming.{AimsBy, which_fault}
 use Rattle.cache_engine.specs.Performing.{Executes, PerformsIn}
 use Rattle.cache_engine.specs.Sites.{SiteView}
 use Rattle.cache_engine.specs.Stored.{HasSession, IsSound, IsStoredAs, without_list}
-use Rattle.cache_engine.specs.Unloading.{AimsUnload, AimsUnloadIn, unload_state}
+use Rattle.cache_engine.specs.Unloading.{AimsUnload, AimsUnloadIn, FindsUnload, unload_state}
 use Rattle.cache_engine.proofs.AimLaws.{IsUnlisted, unlisted}
 use Rattle.cache_engine.proofs.CalmLaws.{NumberLaw, own_here, refused_by, wanting_still}
 use Rattle.cache_engine.proofs.DropLocks.{place_stored}
@@ -49,6 +54,54 @@ refusal_is : (a : Tier) (s : Session) (u : OfGroup) (place : ℕ) (g : Group) �
 refusal_is a s u place g found there =
     of_some a u.group (unload_broken a s u.which) place g found there
     ∙ ap (λ o. option_or (which_names (root_def a g) u.which) (option_or (unload_state u.which s.own g) o)) (or_last (which_types (root_def a g) u.which))
+
+or_first : (a b : Option Rule) → option_or a b ≡ None → a ≡ None
+or_first None b e = refl
+or_first (Some r) b e = cc
+
+or_second : (a b : Option Rule) → option_or a b ≡ None → b ≡ None
+or_second None b e = e
+or_second (Some r) b e = cc
+
+none_open : (own : List Op) → open_writes own ≡ None → own ≡ []
+none_open [] e = refl
+none_open (op ∷ own) e = cc
+
+-- the session has no open writes, where nothing refuses
+pub rests_of : (a : Tier) (s : Session) (u : OfGroup) {aim : Aim} → FindsUnload a s u aim → s.own ≡ []
+rests_of a s u {aim = aim} f =
+    let all : which_fault (root_def a f.group) u.which (unload_state u.which s.own f.group) ≡ None = sym (refusal_is a s u aim.place f.group f.place f.there) ∙ f.free in
+    none_open s.own (or_second (wrong_state (is_whole_only f.group u.which) f.group) (open_writes s.own)
+    (or_first (unload_state u.which s.own f.group) (which_types (root_def a f.group) u.which) (or_second (which_names (root_def a f.group) u.which) (option_or (unload_state u.which s.own f.group) (which_types (root_def a f.group) u.which)) all)))
+
+none_is : {A : Type 0} (o : Option A) → is_none o ≡ true → o ≡ None
+none_is None e = refl
+none_is (Some x) e = cc
+
+unbroken : (b : Bool) (rule : Rule) → broken_if b rule ≡ None → b ≡ false
+unbroken true rule e = cc
+unbroken false rule e = refl
+
+third : (r e n : Bool) → (r && e && not n) ≡ false → r ≡ true → e ≡ true → n ≡ true
+third true true true h reads explicit = refl
+third true true false h reads explicit = sym h
+third true false n h reads explicit = cc
+third false e n h reads explicit = cc
+
+none_seen : (scope : List SeenColumn) (which : Option ConditionTree) (filter : Option Cond) → which ≡ None → placed_filter scope which ≡ Ok (filter_seen filter) → filter ≡ None
+none_seen scope which None none e = refl
+none_seen scope which (Some c) none e =
+    let same : placed_filter scope None ≡ Ok (filter_seen (Some c)) = ap (placed_filter scope) (sym none) ∙ e in cc
+
+-- an explicit READONLY group is asked for whole
+pub whole_of : (a : Tier) (s : Session) (u : OfGroup) {aim : Aim} (f : FindsUnload a s u aim) → is_read_only f.group ≡ true → is_explicit f.group ≡ true → (asks_all u.which ≡ true) × (aim.which.filter ≡ None) × (u.which.id ≡ None)
+whole_of a s u {aim = aim} f reads explicit =
+    let all : which_fault (root_def a f.group) u.which (unload_state u.which s.own f.group) ≡ None = sym (refusal_is a s u aim.place f.group f.place f.there) ∙ f.free in
+    let state : unload_state u.which s.own f.group ≡ None = or_first (unload_state u.which s.own f.group) (which_types (root_def a f.group) u.which) (or_second (which_names (root_def a f.group) u.which) (option_or (unload_state u.which s.own f.group) (which_types (root_def a f.group) u.which)) all) in
+    let kind : is_whole_only f.group u.which ≡ false = unbroken (is_whole_only f.group u.which) (named code.WrongState f.group.def.name) (or_first (wrong_state (is_whole_only f.group u.which) f.group) (open_writes s.own) state) in
+    let asks : asks_all u.which ≡ true = third (is_read_only f.group) (is_explicit f.group) (asks_all u.which) kind reads explicit in
+    let (filter, given) = both_true (is_none u.which.filter) (is_none u.which.id) asks in
+    (asks, none_seen (root_scope (root_def a f.group)) u.which.filter aim.which.filter (none_is u.which.filter filter) f.is.filter, none_is u.which.id given)
 
 aims_so : (a : Tier) (s : Session) (u : OfGroup) (place : ℕ) (g : Group) (read_only : Bool) (result : Result Aim Refused) → place_called a.groups u.group ≡ Some place → slice_get a.groups place ≡ Some g → read_only ≡ is_read_only g
     → AimsBy (root_def a g) u.which (unload_state u.which s.own g) place read_only result → AimsUnload a s u result

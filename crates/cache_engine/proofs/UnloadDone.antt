@@ -62,7 +62,8 @@ use Rattle.cache_engine.specs.Performing.{Executes, IsPerformed, PerformsIn, Sta
 use Rattle.cache_engine.specs.Sites.{IsAt, SiteView}
 use Rattle.cache_engine.specs.Stored.{AreKept, AreWhole, HasSession, HaveOwnNames, IsSound, IsStoredAs, is_plain, named_where_cached, without_list}
 use Rattle.cache_engine.specs.Taking.{IsOfTarget}
-use Rattle.cache_engine.specs.Unloading.{AimsUnloadIn, CutsGroup, FindsUnload, IsCutBy, CutsAt, CutsBy, IsCutAt, IsCutGroup, OverflowsIn, UnloadsHere, UnloadsTarget, cut_all, flagged, leaving}
+use Rattle.cache_engine.specs.Unloading.{AimsUnloadIn, FindsUnload, IsClearedAt, IsClearedBy, IsClearedGroup, IsCutBy, IsCutAt, IsCutGroup, LeavesGroup, UnloadsHere, UnloadsTarget, cut_all, flagged, leaving}
+use Rattle.cache_engine.specs.UnloadLocks.{UnloadTold}
 use Rattle.cache_engine.proofs.CalmLaws.{flushes_none}
 use Rattle.cache_engine.proofs.DropLocks.{group_stored}
 use Rattle.cache_engine.proofs.DroppingLaws.{session_there}
@@ -72,7 +73,9 @@ use Rattle.cache_engine.proofs.SoundParts.{all_plain, changed_defs, named_by, vi
 use Rattle.cache_engine.proofs.StoreChanges.{form_kept, get_here, get_there, housed_set, kept_defined, kept_set, shows_changed}
 use Rattle.cache_engine.proofs.GroupingLaws.{got}
 use Rattle.cache_engine.proofs.StoreRows.{form_at, form_here}
-use Rattle.cache_engine.proofs.UnloadLaws.{count_is, left_shown, roots_shown}
+use Rattle.cache_engine.proofs.QuietLaws.{session_over, stands_over}
+use Rattle.cache_engine.proofs.UnloadAims.{rests_of, whole_of}
+use Rattle.cache_engine.proofs.UnloadLaws.{count_is, left_shown}
 
 -- a store that is cut keeps its form
 
@@ -101,7 +104,7 @@ flagged_defs : (all : Bool) (place : ℕ) (groups : List Group) → definitions_
 flagged_defs true place groups = changed_defs (alone place) (λ g. record g { loaded = false }) 0 groups (λ g. refl)
 flagged_defs false place groups = refl
 
-abbrev marked : Bool → Group → Group
+abbrev pub marked : Bool → Group → Group
 marked true g = record g { loaded = false }
 marked false g = g
 
@@ -117,7 +120,7 @@ marked_all : (all : Bool) (place : ℕ) (groups : List Group) → changed_from (
 marked_all true place groups = refl
 marked_all false place groups = same_ones place 0 groups
 
-unloaded_def : (gone : List (List Value)) (all : Bool) (g : Group) → (unloaded gone all g).def ≡ g.def
+pub unloaded_def : (gone : List (List Value)) (all : Bool) (g : Group) → (unloaded gone all g).def ≡ g.def
 unloaded_def gone false g = refl
 unloaded_def gone true g = by (Rattle.cache_tier.specs.Targets.has_flag g)
   where
@@ -129,108 +132,66 @@ unloaded_seen : (gone : List (List Value)) (all : Bool) (g : Group) → is_write
 unloaded_seen gone false g writes = refl
 unloaded_seen gone true g writes = ap (λ b. without_list (cond (b || is_explicit g) (record g { keys = without_keys gone g.keys; loaded = false }) (record g { keys = without_keys gone g.keys }))) writes
 
--- sessions at rest
-
-abbrev pub is_resting : OpenSession → Bool
-is_resting x = length x.ops == 0
-
-no_ops : (ops : List Op) → (length ops == 0) ≡ true → ops ≡ []
-no_ops [] e = refl
-no_ops (op ∷ ops) e = let z : suc (length ops) ≡ 0 = eqb-true (suc (length ops)) 0 e in cc
-
-none_locked : (P q : Session → Bool) → ((y : Session) → y.own ≡ [] → P y ≡ false) → (xs : List OpenSession) → list_all is_resting xs ≡ true → find P (filter q (map session_seen xs)) ≡ None
-none_locked P q rests [] all = refl
-none_locked P q rests (x ∷ xs) all =
-    let both = both_true (is_resting x) (list_all is_resting xs) all in
-    by (q (session_seen x)) (none_locked P q rests xs both.1) (rests (session_seen x) (no_ops x.ops both.0))
-  where
-    by : (b : Bool) → find P (filter q (map session_seen xs)) ≡ None → P (session_seen x) ≡ false → find P (cond b (session_seen x ∷ filter q (map session_seen xs)) (filter q (map session_seen xs))) ≡ None
-    by true rest free = ap (λ c. cond c (Some (session_seen x)) (find P (filter q (map session_seen xs)))) free ∙ rest
-    by false rest free = rest
-
-found_rests : (label : List ℕ) (xs : List OpenSession) (x : OpenSession) → list_all is_resting xs ≡ true → of_label label xs ≡ Some x → x.ops ≡ []
-found_rests label [] x all e = cc
-found_rests label (y ∷ xs) x all e =
-    let both = both_true (is_resting y) (list_all is_resting xs) all in
-    by (has_label label y) e (found_rests label xs x both.1) both.0
-  where
-    by : (b : Bool) → cond b (Some y) (of_label label xs) ≡ Some x → (of_label label xs ≡ Some x → x.ops ≡ []) → is_resting y ≡ true → x.ops ≡ []
-    by true e rest one = let same : y ≡ x = cc in ap (λ (z : OpenSession). z.ops) (sym same) ∙ no_ops y.ops one
-    by false e rest one = rest e
-
 -- the parts stay sound
-pub sound_cut : (t new : Stored) (aim : Aim) (all : Bool) (n : ℕ) → IsSound t → IsCutGroup t new aim all n → IsSound new
-sound_cut t new aim all n sound cut =
-    let schema = cut.beside.schema in
-    let defs : definitions_of (groups_in new.catalog) ≡ definitions_of (groups_in t.catalog) = ap definitions_of cut.groups ∙ flagged_defs all aim.place (groups_in t.catalog) in
-    let form = form_at t.schema (groups_in t.catalog) t.stores.items aim.place cut.group cut.store sound.kept cut.there cut.kept in
-    let tree = left_tree (leaving aim.which (primary_of t.schema cut.group.def.tree.root.table) (kept_at cut.store.tables 0)) cut.store cut.left cut.cut.gone in
-    let housed = housed_set t.schema (groups_in t.catalog) t.stores.items t.directory aim.place cut.store cut.left cut.group sound.stores sound.kept cut.there cut.kept form tree in
-    let kept = kept_defined t.schema (groups_in t.catalog) (groups_in new.catalog) (set t.stores.items aim.place cut.left) defs
-    (kept_set t.schema (groups_in t.catalog) t.stores.items aim.place cut.group cut.left sound.kept cut.there (form_kept t.schema cut.group.def.tree cut.store cut.left form tree)) in
+pub sound_left : (t new : Stored) (place : ℕ) (all : Bool) (does : Group → Kept → Kept → Type 0) → IsSound t → (c : LeavesGroup t new place all does) → SameTree c.store c.left → length c.left.tables ≡ length c.store.tables → IsSound new
+sound_left t new place all does sound c tree long =
+    let schema = c.beside.schema in
+    let defs : definitions_of (groups_in new.catalog) ≡ definitions_of (groups_in t.catalog) = ap definitions_of c.groups ∙ flagged_defs all place (groups_in t.catalog) in
+    let form = form_at t.schema (groups_in t.catalog) t.stores.items place c.group c.store sound.kept c.there c.kept in
+    let housed = housed_set t.schema (groups_in t.catalog) t.stores.items t.directory place c.store c.left c.group sound.stores sound.kept c.there c.kept form tree in
+    let kept = kept_defined t.schema (groups_in t.catalog) (groups_in new.catalog) (set t.stores.items place c.left) defs
+    (kept_set t.schema (groups_in t.catalog) t.stores.items place c.group c.left sound.kept c.there (form_kept t.schema c.group.def.tree c.store c.left form tree)) in
     record {
-      sessions = subst (λ y. AreSessions new.schema y) (sym cut.beside.sessions) (subst (λ d. AreSessions d t.sessions) (sym schema) sound.sessions);
-      stores = subst (AreHoused new.schema new.stores.items) (sym cut.directory) (subst (λ ss. AreHoused new.schema ss t.directory) (sym cut.stores) (subst (λ d. AreHoused d (set t.stores.items aim.place cut.left) t.directory) (sym schema) housed));
-      kept = subst (λ ss. AreKept new.schema (groups_in new.catalog) ss) (sym cut.stores) (subst (λ d. AreKept d (groups_in new.catalog) (set t.stores.items aim.place cut.left)) (sym schema) kept);
-      whole = subst AreWhole (sym cut.stores) whole;
+      sessions = subst (λ y. AreSessions new.schema y) (sym c.beside.sessions) (subst (λ d. AreSessions d t.sessions) (sym schema) sound.sessions);
+      stores = subst (AreHoused new.schema new.stores.items) (sym c.directory) (subst (λ ss. AreHoused new.schema ss t.directory) (sym c.stores) (subst (λ d. AreHoused d (set t.stores.items place c.left) t.directory) (sym schema) housed));
+      kept = subst (λ ss. AreKept new.schema (groups_in new.catalog) ss) (sym c.stores) (subst (λ d. AreKept d (groups_in new.catalog) (set t.stores.items place c.left)) (sym schema) kept);
+      whole = subst AreWhole (sym c.stores) whole;
       plain = all_plain (groups_in t.catalog) (groups_in new.catalog) defs sound.plain;
       named = named_by (groups_in t.catalog) (groups_in new.catalog) defs sound.named;
-      visible = cut.visible ∙ sound.visible ∙ sym (visible_by (groups_in t.catalog) (groups_in new.catalog) t.schema defs) ∙ ap (named_where_cached (groups_in new.catalog)) (sym schema);
-      numbered = subst (λ us. RiseBetween 1 us new.next) (sym (ap (λ u. u.items) cut.beside.unsettled)) (subst (RiseBetween 1 t.unsettled.items) (sym cut.beside.next) sound.numbered);
-      verified = λ e. absurd (never_both new.verified e cut.unverified);
+      visible = c.visible ∙ sound.visible ∙ sym (visible_by (groups_in t.catalog) (groups_in new.catalog) t.schema defs) ∙ ap (named_where_cached (groups_in new.catalog)) (sym schema);
+      numbered = subst (λ us. RiseBetween 1 us new.next) (sym (ap (λ u. u.items) c.beside.unsettled)) (subst (RiseBetween 1 t.unsettled.items) (sym c.beside.next) sound.numbered);
+      verified = λ e. absurd (never_both new.verified e c.unverified);
     }
   where
-    whole : AreWhole (set t.stores.items aim.place cut.left)
-    whole k s at = elim (Rattle.std.proofs.lemmas.Bool.Decides.eqb_tells k aim.place) [
+    whole : AreWhole (set t.stores.items place c.left)
+    whole k s at = elim (Rattle.std.proofs.lemmas.Bool.Decides.eqb_tells k place) [
       | inl same ↦ (
-          let here : Some s ≡ Some cut.left = sym at ∙ ap (slice_get (set t.stores.items aim.place cut.left)) same.1 ∙ get_here t.stores.items aim.place cut.store cut.left cut.kept in
-          let one : s ≡ cut.left = cc in
-          let keys = leaving aim.which (primary_of t.schema cut.group.def.tree.root.table) (kept_at cut.store.tables 0) in
+          let here : Some s ≡ Some c.left = sym at ∙ ap (slice_get (set t.stores.items place c.left)) same.1 ∙ get_here t.stores.items place c.store c.left c.kept in
+          let one : s ≡ c.left = cc in
           subst (λ (y : Kept). length y.tables ≡ suc (length y.layers)) (sym one)
-          (ap (λ (ts : List Table). length ts) cut.cut.gone.tables ∙ cut_long keys cut.store ∙ sound.whole aim.place cut.store cut.kept
-          ∙ ap (λ ls. suc (length ls)) (sym (left_tree keys cut.store cut.left cut.cut.gone).layers)))
-      | inr other ↦ sound.whole k s (sym (get_there t.stores.items aim.place k cut.left other.1) ∙ at)
+          (long ∙ sound.whole place c.store c.kept ∙ ap (λ ls. suc (length ls)) (sym tree.layers)))
+      | inr other ↦ sound.whole k s (sym (get_there t.stores.items place k c.left other.1) ∙ at)
     ]
+
+pub sound_cut : (t new : Stored) (aim : Aim) (all : Bool) (n : ℕ) → IsSound t → IsCutGroup t new aim all n → IsSound new
+sound_cut t new aim all n sound cut =
+    let keys = leaving aim.which (primary_of t.schema cut.group.def.tree.root.table) (kept_at cut.store.tables 0) in
+    sound_left t new aim.place all _ sound cut (left_tree keys cut.store cut.left cut.did.gone)
+    (ap (λ (ts : List Table). length ts) cut.did.gone.tables ∙ cut_long keys cut.store)
 
 abbrev pub UnloadLaw : Type 0
 UnloadLaw =
     (w : World) (s : Session) (x : Target) (all : Bool) → Stands w → IsUnloadable w s x
     → ShowsKeys x.group (λ key. is_key x.group.keys key && not (fm.contains_key (matching_shown w x) key)) w (with_tier (unload_answer x all w).0 w)
 
-module _ (law : UnloadLaw) (drops : (state : TableState) (tree : Tree) → KeepsOthers state tree) (t new : Stored) (id : SessionId) (aim : Aim) (all : Bool) (n : ℕ) (sound : IsSound t) (rested : list_all is_resting (seen_all t.sessions) ≡ true) (cut : IsCutGroup t new aim all n)
-    (s : Session) (w : World) (x : Target) (has : HasSession t id s) (stands : StandsFor t w) (at : slice_get w.tier.groups aim.place ≡ Some x.group) (writes : is_writethrough x.group ≡ true) (of : IsOfTarget x aim.place aim.which) where
+module _ (law : UnloadLaw) (drops : (state : TableState) (tree : Tree) → KeepsOthers state tree) (t new : Stored) (id : SessionId) (aim : Aim) (all : Bool) (n : ℕ) (sound : IsSound t) (cut : IsCutGroup t new aim all n)
+    (s : Session) (w : World) (x : Target) (has : HasSession t id s) (rests : s.own ≡ []) (free : unload_fault s x w ≡ None) (stands : StandsFor t w) (at : slice_get w.tier.groups aim.place ≡ Some x.group) (writes : is_writethrough x.group ≡ true) (of : IsOfTarget x aim.place aim.which) where
   same_group : cut.group ≡ without_list x.group
   same_group = let both : Some cut.group ≡ Some (without_list x.group) = sym cut.there ∙ group_stored t w.tier aim.place x.group stands.stored at in cc
 
   gone : SameButSpare (cut_all (leaving aim.which (primary_of t.schema x.group.def.tree.root.table) (kept_at cut.store.tables 0)) cut.store) cut.left
-  gone = subst (λ (g : Group). SameButSpare (cut_all (leaving aim.which (primary_of t.schema g.def.tree.root.table) (kept_at cut.store.tables 0)) cut.store) cut.left) same_group cut.cut.gone
+  gone = subst (λ (g : Group). SameButSpare (cut_all (leaving aim.which (primary_of t.schema g.def.tree.root.table) (kept_at cut.store.tables 0)) cut.store) cut.left) same_group cut.did.gone
 
   count : n ≡ fm.len (matching_shown w x)
   count =
-      cut.cut.count ∙ ap (λ (g : Group). length (leaving aim.which (primary_of t.schema g.def.tree.root.table) (kept_at cut.store.tables 0))) same_group
+      cut.did.count ∙ ap (λ (g : Group). length (leaving aim.which (primary_of t.schema g.def.tree.root.table) (kept_at cut.store.tables 0))) same_group
       ∙ count_is t w sound stands aim.place x.group at writes cut.store cut.kept x aim.which refl of
-
-  pub roots_here : kept_at cut.store.tables 0 ≡ shown_roots w.history w.tier.log x.group
-  roots_here = roots_shown t w sound stands aim.place x.group at writes cut.store cut.kept
-
-  no_overflow : overflow_fault x.filter (shown_roots w.history w.tier.log x.group) ≡ None
-  no_overflow =
-      ap (overflow_fault x.filter) (sym roots_here) ∙ ap (λ f. broken_if (overflows f (kept_at cut.store.tables 0)) (plain code.Overflow)) (sym of.filter)
-      ∙ ap (λ b. broken_if b (plain code.Overflow)) cut.cut.fits
-
-  no_lock : (test : List Value → Bool) → instance_lock s.label w.history w.tier x.group test ≡ None
-  no_lock test =
-      ap (option_map locked_by) (ap (λ ss. find (has_writes_in w.history w.tier x.group test) (filter (λ y. not (is_labelled s.label y)) ss)) stands.stored.sessions
-      ∙ none_locked (has_writes_in w.history w.tier x.group test) (λ y. not (is_labelled s.label y)) (λ y rests. none_written w x.group test y rests) (seen_all t.sessions) rested)
-
-  free : unload_fault s x w ≡ None
-  free = λ i. option_or (no_overflow i) (no_lock (fm.contains_key (matching_shown w x)) i)
 
   unloadable : IsUnloadable w s x
   unloadable = record {
     group = record { there = ap (slice_get w.tier.groups) of.place ∙ at; through = writes };
     session = session_there t w.tier id s stands.stored has;
-    rests = ap (λ (y : Session). y.own) (sym has.is) ∙ found_rests s.label (seen_all t.sessions) has.seen rested has.found;
+    rests = rests;
     unlocked = free;
   }
 
@@ -292,70 +253,46 @@ module _ (law : UnloadLaw) (drops : (state : TableState) (tree : Tree) → Keeps
 
 -- and the statement
 
-seen_rest : (sessions : List Kept_session) → list_all is_resting (map seen_of sessions) ≡ list_all (λ (s : Kept_session). length s.ops.items == 0) sessions
-seen_rest [] = refl
-seen_rest (s ∷ sessions) = ap (λ b. (length s.ops.items == 0) && b) (seen_rest sessions)
-
-pub all_rest : (sessions : List Kept_session) (all : List OpenSession) (b : Bool) → map seen_of sessions ≡ all → b ≡ list_all (λ (s : Kept_session). length s.ops.items == 0) sessions → b ≡ true → list_all is_resting all ≡ true
-all_rest sessions all b same is all_so = ap (list_all is_resting) (sym same) ∙ seen_rest sessions ∙ sym is ∙ all_so
-
 writes_through : (g : Group) (b : Bool) → is_read_only g ≡ b → b ≡ false → is_writethrough g ≡ true
 writes_through g b is no_one = ap not (is ∙ no_one)
 
-pub unloaded_here : UnloadLaw → ((state : TableState) (tree : Tree) → KeepsOthers state tree) → (t new : Stored) (site : SiteView) (id : SessionId) (aim : Aim) (all : Bool) (n : ℕ) → IsSound t → list_all is_resting (seen_all t.sessions) ≡ true → aim.read_only ≡ false → IsCutGroup t new aim all n
+pub unloaded_here : UnloadLaw → ((state : TableState) (tree : Tree) → KeepsOthers state tree) → (t mid new : Stored) (site : SiteView) (id : SessionId) (aim : Aim) (all : Bool) (n : ℕ) → UnloadTold t id aim (Ok tt) → mid ≡ record t { verified = mid.verified } → IsSound mid → aim.read_only ≡ false → IsCutGroup mid new aim all n
     → UnloadsHere t new site id aim all (only (Done n))
-unloaded_here law drops t new site id aim all n sound rested kind cut = λ s w x has at stands there kinds of. (
+unloaded_here law drops t mid new site id aim all n told same sound kind cut = λ s w x has rests asks at stands there kinds of. (
     let writes : is_writethrough x.group ≡ true = writes_through x.group aim.read_only kinds kind in
+    let free : unload_fault s x w ≡ None = told s w x has stands there writes of in
+    let had = session_over t mid id s same has in
+    let stood = stands_over t mid w same stands in
     record {
       world = with_tier (unload_answer x all w).0 w;
       at = record { there = at.there; told = at.told; history = at.history; faults = at.faults; moment = at.moment; shared = at.shared };
-      stands = stands_left law drops t new id aim all n sound rested cut s w x has stands there writes of;
-      is = inl (unloads law drops t new id aim all n sound rested cut s w x has stands there writes of);
+      stands = stands_left law drops mid new id aim all n sound cut s w x had rests free stood there writes of;
+      is = inl (unloads law drops mid new id aim all n sound cut s w x had rests free stood there writes of);
     })
 
--- 120
-pub overflowed_here : (t new : Stored) (site : SiteView) (id : SessionId) (aim : Aim) (all : Bool) (rule : Rule) → IsSound t → aim.read_only ≡ false → KeepsGroups t new → OverflowsIn aim.place aim.which t.stores.items rule → UnloadsHere t new site id aim all (only (No rule))
-overflowed_here t new site id aim all rule sound kind keeps over = λ s w x has at stands there kinds of. (
-    let writes : is_writethrough x.group ≡ true = writes_through x.group aim.read_only kinds kind in
-    let same = roots_shown t w sound stands aim.place x.group there writes over.store over.kept in
-    let fault : overflow_fault x.filter (shown_roots w.history w.tier.log x.group) ≡ Some rule =
-    ap (overflow_fault x.filter) (sym same) ∙ ap (λ f. broken_if (overflows f (kept_at over.store.tables 0)) (plain code.Overflow)) (sym of.filter)
-    ∙ ap (λ b. broken_if b (plain code.Overflow)) over.is ∙ ap Some (sym over.told) in
-    let told : unload_fault s x w ≡ Some rule = ap (λ o. option_or o (instance_lock s.label w.history w.tier x.group (fm.contains_key (matching_shown w x)))) fault in
+-- a rule refuses it, or memory is wanting
+pub refused_here : (t mid : Stored) (site : SiteView) (id : SessionId) (aim : Aim) (all : Bool) (e : Refused) → aim.read_only ≡ false → mid ≡ record t { verified = mid.verified } → UnloadTold t id aim (Err e) → UnloadsHere t mid site id aim all (reply_of (Err e))
+refused_here t mid site id aim all (refused.Rule rule) kind same told = λ s w x has rests asks at stands there kinds of. (
+    let fault : unload_fault s x w ≡ Some rule = told s w x has stands there (writes_through x.group aim.read_only kinds kind) of in
     record {
       world = w;
       at = at;
-      stands = stands_kept t new w stands keeps;
-      is = inl (subst (λ o. Unless o (Then (FlushesSome (unload_entries all x.group)) (Answers (unload_answer x all))) w w (only (No rule))) (sym told) (refl, refl));
+      stands = stands_over t mid w same stands;
+      is = inl (subst (λ o. Unless o (Then (FlushesSome (unload_entries all x.group)) (Answers (unload_answer x all))) w w (only (No rule))) (sym fault) (refl, refl));
     })
+refused_here t mid site id aim all refused.Memory kind same told = λ s w x has rests asks at stands there kinds of.
+    record { world = w; at = at; stands = stands_over t mid w same stands; is = inr (refl, refl) }
 
-pub wanting_here : (t new : Stored) (site : SiteView) (id : SessionId) (aim : Aim) (all : Bool) → KeepsGroups t new → UnloadsHere t new site id aim all (faulty code.Memory)
-wanting_here t new site id aim all keeps = λ s w x has at stands there kinds of. record { world = w; at = at; stands = stands_kept t new w stands keeps; is = inr (refl, refl) }
-
-pub keeps_itself : (t : Stored) → KeepsGroups t t
-keeps_itself t = record {
-  beside = record { schema = refl; stale = refl; sessions = refl; unsettled = refl; next = refl; clock = refl };
-  groups = refl;
-  stores = refl;
-  visible = refl;
-  directory = refl;
-  verified = refl;
-}
-
-pub not_cut : (t new : Stored) (site : SiteView) (id : SessionId) (aim : Aim) (all : Bool) (e : Refused) → IsSound t → aim.read_only ≡ false → CutsGroup t new aim all (Err e) → UnloadsHere t new site id aim all (reply_of (Err e))
-not_cut t new site id aim all (refused.Rule rule) sound kind cuts = overflowed_here t new site id aim all rule sound kind cuts.0 cuts.1
-not_cut t new site id aim all refused.Memory sound kind cuts = wanting_here t new site id aim all cuts
-
-pub not_cut_sound : (t new : Stored) (aim : Aim) (all : Bool) (e : Refused) → IsSound t → CutsGroup t new aim all (Err e) → IsSound new
-not_cut_sound t new aim all (refused.Rule rule) sound cuts = sound_kept t new sound cuts.0
-not_cut_sound t new aim all refused.Memory sound cuts = sound_kept t new sound cuts
+pub wanting_here : (t mid new : Stored) (site : SiteView) (id : SessionId) (aim : Aim) (all : Bool) → mid ≡ record t { verified = mid.verified } → KeepsGroups mid new → UnloadsHere t new site id aim all (faulty code.Memory)
+wanting_here t mid new site id aim all same keeps = λ s w x has rests asks at stands there kinds of.
+    record { world = w; at = at; stands = stands_kept mid new w (stands_over t mid w same stands) keeps; is = inr (refl, refl) }
 
 -- the whole statement, from the group that it names
 pub unload_done : (t new : Stored) (site : SiteView) (id : SessionId) (u : OfGroup) (aim : Aim) (result : Result Reply Refused) → AimsUnloadIn t id u (Ok aim) → UnloadsHere t new site id aim (asks_all u.which) (reply_of result) → PerformsIn t new site site id (Executes (statement.Unload u)) result
 unload_done t new site id u aim result aims here = λ s has w at stands unshared. (
     let f = aims w.tier s stands.stored has in
     let x : Target = record { place = aim.place; group = f.group; filter = aim.which.filter; id = u.which.id } in
-    let p = here s w x has at stands f.there f.kind (record { place = refl; filter = refl; id = f.is.id }) in
+    let p = here s w x has (rests_of w.tier s u f) (whole_of w.tier s u f) at stands f.there f.kind (record { place = refl; filter = refl; id = f.is.id }) in
     record {
       world = p.world;
       at = p.at;
@@ -383,13 +320,38 @@ set_same [] i x y at is = cc
 set_same (z ∷ xs) zero x y at is = let one : z ≡ x = cc in ap (λ q. q ∷ xs) (is ∙ sym one)
 set_same (z ∷ xs) (suc i) x y at is = ap (λ ys. z ∷ ys) (set_same xs i x y at is)
 
-pub cut_there : (place : ℕ) (columns : List ℕ) (which : ResolvedWhich) (old : List Kept) (store left : Kept) (result : Result ℕ Refused) → place < length old → store ≡ get_or old place store → CutsBy which columns store left result → CutsAt place columns which old (set old place left) result
-cut_there place columns which old store left (Ok n) lt is cuts = record { store = store; left = left; kept = got old place store lt is; cut = cuts; is = refl }
-cut_there place columns which old store left (Err (refused.Rule rule)) lt is cuts = (
-  set_same old place store left (got old place store lt is) cuts.0,
-  record { store = store; kept = got old place store lt is; is = cuts.1; told = cuts.2 },
-)
-cut_there place columns which old store left (Err refused.Memory) lt is cuts = set_same old place store left (got old place store lt is) cuts
+pub cut_there : (place : ℕ) (columns : List ℕ) (which : ResolvedWhich) (old : List Kept) (store left : Kept) (n : ℕ) → place < length old → store ≡ get_or old place store → IsCutBy which columns store left n → IsCutAt place columns which old (set old place left) n
+cut_there place columns which old store left n lt is cuts = record { store = store; left = left; kept = got old place store lt is; cut = cuts; is = refl }
+
+pub not_cut_there : (place : ℕ) (old : List Kept) (store left : Kept) → place < length old → store ≡ get_or old place store → left ≡ store → set old place left ≡ old
+not_cut_there place old store left lt is same = set_same old place store left (got old place store lt is) same
+
+pub clear_there : (place : ℕ) (old : List Kept) (store left : Kept) (n : ℕ) → place < length old → store ≡ get_or old place store → IsClearedBy store left n → IsClearedAt place old (set old place left) n
+clear_there place old store left n lt is cleared = record { store = store; left = left; kept = got old place store lt is; cleared = cleared; is = refl }
+
+pub group_cleared : (t mid new : Stored) (place n : ℕ) (seen : Group) → slice_get (groups_in t.catalog) place ≡ Some seen → IsClearedAt place t.stores.items mid.stores.items n → mid ≡ record t { stores = mid.stores } → new ≡ record mid { catalog = new.catalog; verified = false }
+    → groups_in new.catalog ≡ flagged true place (groups_in mid.catalog) → IsClearedGroup t new place n
+group_cleared t mid new place n seen at cleared same then groups = record {
+  group = seen;
+  store = cleared.store;
+  left = cleared.left;
+  there = at;
+  kept = cleared.kept;
+  did = cleared.cleared;
+  stores = ap (λ (y : Stored). y.stores.items) then ∙ cleared.is;
+  groups = groups ∙ ap (λ (y : Stored). flagged true place (groups_in y.catalog)) same;
+  beside = record {
+    schema = ap (λ (y : Stored). y.schema) then ∙ ap (λ (y : Stored). y.schema) same;
+    stale = ap (λ (y : Stored). y.stale) then ∙ ap (λ (y : Stored). y.stale) same;
+    sessions = ap (λ (y : Stored). y.sessions) then ∙ ap (λ (y : Stored). y.sessions) same;
+    unsettled = ap (λ (y : Stored). y.unsettled) then ∙ ap (λ (y : Stored). y.unsettled) same;
+    next = ap (λ (y : Stored). y.next) then ∙ ap (λ (y : Stored). y.next) same;
+    clock = ap (λ (y : Stored). y.clock) then ∙ ap (λ (y : Stored). y.clock) same;
+  };
+  visible = ap (λ (y : Stored). y.visible) then ∙ ap (λ (y : Stored). y.visible) same;
+  directory = ap (λ (y : Stored). y.directory) then ∙ ap (λ (y : Stored). y.directory) same;
+  unverified = ap (λ (y : Stored). y.verified) then;
+}
 
 pub group_cut : (t mid new : Stored) (aim : Aim) (all : Bool) (n : ℕ) (seen : Group) (def : TableDef) (columns : List ℕ) → slice_get (groups_in t.catalog) aim.place ≡ Some seen → slice_get t.schema seen.def.tree.root.table.0 ≡ Some def → columns ≡ def.primary_key
     → IsCutAt aim.place columns aim.which t.stores.items mid.stores.items n → mid ≡ record t { stores = mid.stores } → new ≡ record mid { catalog = new.catalog; verified = false } → groups_in new.catalog ≡ flagged all aim.place (groups_in mid.catalog) → IsCutGroup t new aim all n
@@ -401,7 +363,7 @@ group_cut t mid new aim all n seen def columns at defined are cut same then grou
       left = cut.left;
       there = at;
       kept = cut.kept;
-      cut = subst (λ cs. IsCutBy aim.which cs cut.store cut.left n) its cut.cut;
+      did = subst (λ cs. IsCutBy aim.which cs cut.store cut.left n) its cut.cut;
       stores = ap (λ (y : Stored). y.stores.items) then ∙ cut.is;
       groups = groups ∙ ap (λ (y : Stored). flagged all aim.place (groups_in y.catalog)) same;
       beside = record {

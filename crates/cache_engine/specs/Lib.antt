@@ -29,5 +29,6 @@ pub mod Sites
 pub mod Stored
 pub mod Tabling
 pub mod Taking
+pub mod UnloadLocks
 pub mod Unloading
 pub mod Writing

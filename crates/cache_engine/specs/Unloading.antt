@@ -1,7 +1,7 @@
 -- UNLOAD over what is stored. (TimesTen SQL Reference, "UNLOAD CACHE GROUP".)
 
 use Rattle.std.specs.Prelude.{◌≡◌, ℕ, List, [], ◌∷◌, Bool, true, false, Option, None, Some, Result, Ok, Err, filter, length, map, set, slice_get, if◌then◌else◌}
-use Rattle.std.specs.FinMap.{values}
+use Rattle.std.specs.FinMap.{len, values}
 use Rattle.row_types.specs.declared.rule.Refused.{Refused}
 use Rattle.row_types.specs.declared.rule.Refused.TheVariants as refused
 use Rattle.row_types.specs.declared.value.Value.{Value}
@@ -17,11 +17,11 @@ use Rattle.table_state.specs.declared.operation.Op.{Op}
 use Rattle.group_catalog.specs.Catalogs.{groups_in}
 use Rattle.group_catalog.specs.declared.which.ResolvedWhich.{ResolvedWhich}
 use Rattle.group_store.specs.Keeping.{primary_of}
-use Rattle.group_store.specs.Stores.{Kept, SameButSpare, cut_store}
+use Rattle.group_store.specs.Stores.{Kept, SameButSpare, cleared_store, cut_store}
 use Rattle.std.specs.Option.{option_or}
 use Rattle.row_types.specs.declared.rule.Rule.{Rule}
 use Rattle.cache_tier.specs.Conditions.{overflows, root_def}
-use Rattle.cache_tier.specs.Groups.{Group, is_read_only, place_called}
+use Rattle.cache_tier.specs.Groups.{Group, is_explicit, is_read_only, place_called}
 use Rattle.cache_tier.specs.Order.{is_whole_only, refusal, wrong_state}
 use Rattle.cache_tier.specs.Rules.{open_writes, plain}
 use Rattle.cache_tier.specs.TierStates.{Session, Tier}
@@ -77,16 +77,8 @@ cut_all (key ∷ keys) s = cut_all keys (cut_store 0 key s)
 
 -- the instances that match left, so many
 pub record IsCutBy (which : ResolvedWhich) (columns : List ℕ) (old new : Kept) (n : ℕ) : Type 0 where
-  pub fits : overflows which.filter (kept_at old.tables 0) ≡ false
   pub count : n ≡ length (leaving which columns (kept_at old.tables 0))
   pub gone : SameButSpare (cut_all (leaving which columns (kept_at old.tables 0)) old) new
-
--- 120 of the condition on a root row; all then stays, as where memory is wanting
-abbrev pub CutsBy : ResolvedWhich → List ℕ → Kept → Kept → Result ℕ Refused → Type 0
-CutsBy which columns old new (Ok count) = IsCutBy which columns old new count
-CutsBy which columns old new (Err (refused.Rule rule)) =
-    (new ≡ old) × (overflows which.filter (kept_at old.tables 0) ≡ true) × (rule ≡ plain code.Overflow)
-CutsBy which columns old new (Err refused.Memory) = new ≡ old
 
 -- the same of the store at a place
 pub record IsCutAt (place : ℕ) (columns : List ℕ) (which : ResolvedWhich) (old new : List Kept) (n : ℕ) : Type 0 where
@@ -96,6 +88,18 @@ pub record IsCutAt (place : ℕ) (columns : List ℕ) (which : ResolvedWhich) (o
   pub cut : IsCutBy which columns store left n
   pub is : new ≡ set old place left
 
+-- all instances left, so many
+pub record IsClearedBy (old new : Kept) (n : ℕ) : Type 0 where
+  pub count : n ≡ len (kept_at old.tables 0)
+  pub gone : SameButSpare (cleared_store old) new
+
+pub record IsClearedAt (place : ℕ) (old new : List Kept) (n : ℕ) : Type 0 where
+  pub store : Kept
+  pub left : Kept
+  pub kept : slice_get old place ≡ Some store
+  pub cleared : IsClearedBy store left n
+  pub is : new ≡ set old place left
+
 -- 120 of the condition on a row of the store at a place
 pub record OverflowsIn (place : ℕ) (which : ResolvedWhich) (stores : List Kept) (rule : Rule) : Type 0 where
   pub store : Kept
@@ -103,34 +107,39 @@ pub record OverflowsIn (place : ℕ) (which : ResolvedWhich) (stores : List Kept
   pub is : overflows which.filter (kept_at store.tables 0) ≡ true
   pub told : rule ≡ plain code.Overflow
 
-abbrev pub CutsAt : ℕ → List ℕ → ResolvedWhich → List Kept → List Kept → Result ℕ Refused → Type 0
-CutsAt place columns which old new (Ok n) = IsCutAt place columns which old new n
-CutsAt place columns which old new (Err (refused.Rule rule)) = (new ≡ old) × OverflowsIn place which old rule
-CutsAt place columns which old new (Err refused.Memory) = new ≡ old
-
 -- the group at a place has the flag cleared, where all of it left
 abbrev pub flagged : Bool → ℕ → List Group → List Group
 flagged all place groups = if all then changed_from (alone place) (λ g. record g { loaded = false }) 0 groups else groups
 
--- the instances of the group that match left its store, and nothing else changed
-pub record IsCutGroup (t new : Stored) (aim : Aim) (all : Bool) (n : ℕ) : Type 0 where
+-- instances left the store of the group at a place so, and nothing else changed but its flag
+pub record LeavesGroup (t new : Stored) (place : ℕ) (all : Bool) (does : Group → Kept → Kept → Type 0) : Type 0 where
   pub group : Group
   pub store : Kept
   pub left : Kept
-  pub there : slice_get (groups_in t.catalog) aim.place ≡ Some group
-  pub kept : slice_get t.stores.items aim.place ≡ Some store
-  pub cut : IsCutBy aim.which (primary_of t.schema group.def.tree.root.table) store left n
-  pub stores : new.stores.items ≡ set t.stores.items aim.place left
-  pub groups : groups_in new.catalog ≡ flagged all aim.place (groups_in t.catalog)
+  pub there : slice_get (groups_in t.catalog) place ≡ Some group
+  pub kept : slice_get t.stores.items place ≡ Some store
+  pub did : does group store left
+  pub stores : new.stores.items ≡ set t.stores.items place left
+  pub groups : groups_in new.catalog ≡ flagged all place (groups_in t.catalog)
   pub beside : KeepsBesideGroups t new
   pub visible : new.visible ≡ t.visible
   pub directory : new.directory ≡ t.directory
   pub unverified : new.verified ≡ false
 
-abbrev pub CutsGroup : Stored → Stored → Aim → Bool → Result ℕ Refused → Type 0
-CutsGroup t new aim all (Ok n) = IsCutGroup t new aim all n
-CutsGroup t new aim all (Err (refused.Rule rule)) = KeepsGroups t new × OverflowsIn aim.place aim.which t.stores.items rule
-CutsGroup t new aim all (Err refused.Memory) = KeepsGroups t new
+-- the instances that match, so many
+abbrev pub IsCutGroup : Stored → Stored → Aim → Bool → ℕ → Type 0
+IsCutGroup t new aim all n =
+    LeavesGroup t new aim.place all
+    (λ g store left. IsCutBy aim.which (primary_of t.schema g.def.tree.root.table) store left n)
+
+-- all of them
+abbrev pub IsClearedGroup : Stored → Stored → ℕ → ℕ → Type 0
+IsClearedGroup t new place n = LeavesGroup t new place true (λ g store left. IsClearedBy store left n)
+
+-- an explicit READONLY group is asked for whole
+abbrev pub AsksWhole : Target → Bool → Type 0
+AsksWhole x all =
+    is_read_only x.group ≡ true → is_explicit x.group ≡ true → (all ≡ true) × (x.filter ≡ None) × (x.id ≡ None)
 
 -- UNLOAD of a group that is found
 abbrev pub UnloadsTarget : Session → Target → Bool → Part
@@ -138,10 +147,10 @@ UnloadsTarget s x all w w' reply =
     Unless (unload_fault s x w) (Then (FlushesSome (unload_entries all x.group)) (Answers (unload_answer x all))) w w'
     reply
 
--- so it is of the group at a place, in each world for which the tier stands
+-- so it is of the group at a place, in each world for which the tier stands, where the session has no open writes
 abbrev pub UnloadsHere : Stored → Stored → SiteView → SessionId → Aim → Bool → Reply → Type 0
 UnloadsHere t new site id aim all reply =
-    (s : Session) (w : World) (x : Target) → HasSession t id s → IsAt site w → StandsFor t w
-    → slice_get w.tier.groups aim.place ≡ Some x.group → is_read_only x.group ≡ aim.read_only
+    (s : Session) (w : World) (x : Target) → HasSession t id s → s.own ≡ [] → AsksWhole x all → IsAt site w
+    → StandsFor t w → slice_get w.tier.groups aim.place ≡ Some x.group → is_read_only x.group ≡ aim.read_only
     → IsOfTarget x aim.place aim.which
     → IsPerformed new site (λ w'. Tries (UnloadsTarget s x all) w w' reply)

@@ -241,8 +241,8 @@ fn is_on(group: &KeptGroup, op: &Op) -> bool
     group.def.tree.place_of(op.table()).is_some()
 }
 
-// 111, with the label of a session.
-fn refuse_locked(alloc: Global, session: &Session) -> Refused
+/// 111, with the label of a session.
+pub(crate) fn refuse_locked(alloc: Global, session: &Session) -> Refused
     ensures { IsRefusedBy (Some (locked_by (session_seen (seen_of session.now)))) result }
 {
     match session.label.copied(alloc) {

@@ -230,7 +230,8 @@ fn refers_to_one(
     }
 }
 
-fn foreign_places(foreign_key: &Option<ForeignKey>) -> &[usize]
+/// The columns of a foreign key; none where there is none.
+pub(crate) fn foreign_places(foreign_key: &Option<ForeignKey>) -> &[usize]
     ensures { result.now ≡ foreign_places foreign_key.now }
 {
     match foreign_key {

@@ -38,6 +38,7 @@ pub mod session;
 pub mod statement;
 pub mod tier;
 pub mod undone;
+mod unload_locks;
 pub mod unloading;
 mod verifying;
 pub mod writing;

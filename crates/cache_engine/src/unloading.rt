@@ -1,28 +1,39 @@
 //! UNLOAD of cache groups.
 
-ghost use Rattle.std.specs.Prelude.{◌≡◌, ◌==◌, ◌<◌, IfOk, false, length};
+ghost use Rattle.std.specs.Prelude.{◌≡◌, ◌==◌, ◌<◌, Bool, IfOk, OnErr, false, length, true};
 ghost use Rattle.std.specs.List.{list_all};
+ghost use Rattle.std.specs.Option.{option_copied, option_map};
 ghost use Rattle.instances.specs.Views.{kept_at};
 ghost use Rattle.group_catalog.specs.Kept.{group_seen};
 ghost use Rattle.group_store.specs.Stores.{SameButSpare};
 ghost use Rattle.sql_subset.specs.declared.stmt.Stmt.TheVariants as statement;
+ghost use Rattle.tier_base.specs.declared.number.SessionId.{SessionId as OneId};
 ghost use Rattle.table_defs.specs.Declarations.{Tells};
+ghost use Rattle.session_state.specs.Kept.{seen_of};
+ghost use Rattle.tier_statements.specs.Seen.{session_seen};
+ghost use Rattle.cache_tier.specs.Locks.{locked_by};
 ghost use Rattle.cache_tier.specs.Conditions.{overflows};
-ghost use Rattle.cache_engine.specs.Unloading.{CutsAt, CutsBy, CutsGroup, UnloadsHere, cut_all, flagged, leaving, unload_state};
+ghost use Rattle.cache_engine.specs.Grouping.{KeepsGroups};
+ghost use Rattle.cache_engine.specs.Unloading.{IsClearedAt, IsClearedBy, IsClearedGroup, IsCutAt, IsCutBy, IsCutGroup, UnloadsHere, cut_all, flagged, leaving, unload_state};
+ghost use Rattle.cache_engine.specs.UnloadLocks.{LocksTold, RootsTold, UnloadTold};
 ghost use Rattle.group_catalog.specs.Catalogs.{groups_in};
 
 use crate::aiming::{Aim, about, aim_by, asks_all, is_read_only, is_whole_only, judge_writes};
+use crate::dropping::refuse_locked;
 use crate::tier::Tier;
+use crate::unload_locks::writer_within;
+use cache_tier::laws::tier_law;
 use cache_tier::reply::Reply;
 use group_catalog::{KeptGroup, ResolvedWhich};
-use group_store::Store;
 use group_store::laws::drop_instance_law;
+use group_store::{Shown, Store};
 use indexed_rows::key_at;
 use open_sessions::laws::label_law;
 use row_types::{Detail, Key, Refused, Rule};
 use session_state::Session;
 use sql_subset::stmt::{OfGroup, Which};
 use std::alloc::{AllocError, Global};
+use table_scan::laws::keyed_law;
 use table_state::Op;
 use tier_base::{Code, SessionId};
 use tier_laws::unload_statement_law;
@@ -38,8 +49,7 @@ impl Tier {
     /// tells how many left.
     ///
     /// The refusal is 112, 103, 115, 122, 104 and 105 in the order of refusals, then 120 of the condition on a shown root,
-    /// then 111 of an instance in which another session has uncommitted writes; or memory was wanting. So memory is said to
-    /// be wanting for a READONLY group, and where another session has uncommitted writes, wherever they are. (TimesTen SQL
+    /// then 111 of an instance in which another session has uncommitted writes; or memory was wanting. (TimesTen SQL
     /// Reference, "UNLOAD CACHE GROUP".)
     pub fn unload(
         &mut self,
@@ -58,8 +68,7 @@ impl Tier {
         }
     }
 
-    // The instances that match leave, or 120. Where the group is READONLY, or a session has uncommitted writes, memory is
-    // told wanting.
+    // The instances that match leave; or 120, then 111.
     fn unload_aimed(
         &mut self,
         alloc: Global,
@@ -74,32 +83,124 @@ impl Tier {
     {
         drop_instance_law();
         unload_statement_law();
-        let _ = id;
-        if aim.read_only || !have_rested(self.sessions.as_slice()) {
-            return Err(Refused::Memory);
+        if aim.read_only {
+            return self.unload_whole(alloc, aim);
         }
-        match self.cut_group(alloc, aim, all) {
+        match self.judge_instances(alloc, id, aim) {
             Err(refused) => Err(refused),
+            Ok(()) => match self.cut_group(alloc, aim, all) {
+                Err(AllocError) => Err(Refused::Memory),
+                Ok(count) => Ok(done(alloc, count as u64)),
+            },
+        }
+    }
+
+    // All instances of a READONLY group leave: nothing is asked of its rows, and no session writes in it.
+    fn unload_whole(&mut self, alloc: Global, aim: &Aim) -> Result<Reply, Refused>
+        requires sound { IsSound self.old }
+        requires kind { aim.now.read_only ≡ true }
+        ensures performs { (site : SiteView) (id : OneId) (all : Bool)
+            → UnloadsHere self.old self.new site id aim.now all (reply_of result) }
+        ensures sound { IsSound self.new }
+        ensures calm { IsCalm (reply_of result) }
+    {
+        match self.clear_group(alloc, aim.place) {
+            Err(AllocError) => Err(Refused::Memory),
             Ok(count) => Ok(done(alloc, count as u64)),
         }
     }
 
+    // 120 of the condition on a root row; then 111, where another session has uncommitted writes in an instance that
+    // matches. Where no session has any, no row is looked at for it.
+    fn judge_instances(&mut self, alloc: Global, id: SessionId, aim: &Aim) -> Result<(), Refused>
+        requires { IsSound self.old }
+        ensures told { UnloadTold self.old id aim.now result }
+        ensures same { self.new ≡ record self.old { verified = self.new.verified } }
+        ensures sound { IsSound self.new }
+    {
+        tier_law();
+        keyed_law();
+        label_law();
+        match self.judge_roots(aim) {
+            Err(refused) => Err(refused),
+            Ok(()) => {
+                if have_rested(self.sessions.as_slice()) {
+                    return Ok(());
+                }
+                match self.verify(alloc) {
+                    Err(AllocError) => Err(Refused::Memory),
+                    Ok(()) => self.judge_locks(alloc, id, aim),
+                }
+            }
+        }
+    }
+
+    // 120 of the condition on a root row.
+    fn judge_roots(&self, aim: &Aim) -> Result<(), Refused>
+        requires { IsSound self.now }
+        ensures { RootsTold self.now aim.now result }
+    {
+        match self.stores.get(aim.place) {
+            None => Err(Refused::Memory),
+            Some(store) => {
+                if overflows(store, &aim.which) {
+                    return Err(Refused::Rule(Rule {
+                        code: Code::Overflow,
+                        detail: Detail::Nothing,
+                    }));
+                }
+                Ok(())
+            }
+        }
+    }
+
+    // 111: another session has uncommitted writes in an instance that matches.
+    fn judge_locks(&self, alloc: Global, id: SessionId, aim: &Aim) -> Result<(), Refused>
+        requires sound { IsSound self.now }
+        requires verified { self.now.verified ≡ true }
+        ensures { LocksTold self.now id aim.now result }
+    {
+        match self.catalog.get(aim.place) {
+            None => Err(Refused::Memory),
+            Some(group) => match self.stores.get(aim.place) {
+                None => Err(Refused::Memory),
+                Some(store) => {
+                    let shown = Shown::new(&self.schema, self.stores.as_slice(), &self.directory);
+                    let sessions = self.sessions.as_slice();
+                    match writer_within(
+                        alloc,
+                        &shown,
+                        &group.def.tree,
+                        store,
+                        &aim.which,
+                        sessions,
+                        id,
+                    ) {
+                        Err(AllocError) => Err(Refused::Memory),
+                        Ok(found) => refuse_writer(alloc, found),
+                    }
+                }
+            },
+        }
+    }
+
     // The instances of the group that match leave its store; how many. Where all of it is asked for, its flag is cleared.
-    fn cut_group(&mut self, alloc: Global, aim: &Aim, all: bool) -> Result<usize, Refused>
-        ensures { CutsGroup self.old self.new aim.now all result }
+    fn cut_group(&mut self, alloc: Global, aim: &Aim, all: bool) -> Result<usize, AllocError>
+        ensures ok { IfOk result (IsCutGroup self.old self.new aim.now all) }
+        ensures err { OnErr result (KeepsGroups self.old self.new) }
     {
         let place = aim.place;
         match self.catalog.get(place) {
-            None => Err(Refused::Memory),
+            None => Err(AllocError),
             Some(group) => match self.schema.get(group.def.tree.root.table.0 as usize) {
-                None => Err(Refused::Memory),
+                None => Err(AllocError),
                 Some(def) => {
                     if place >= self.stores.len() || place >= self.catalog.len() {
-                        return Err(Refused::Memory);
+                        return Err(AllocError);
                     }
                     let columns = def.primary_key.as_slice();
                     match cut_at(alloc, &mut self.stores, place, columns, &aim.which) {
-                        Err(refused) => Err(refused),
+                        Err(AllocError) => Err(AllocError),
                         Ok(count) => {
                             self.clear_flag(place, all);
                             Ok(count)
@@ -107,6 +208,25 @@ impl Tier {
                     }
                 }
             },
+        }
+    }
+
+    // All instances of the group at a place leave its store; how many. Its flag is cleared.
+    fn clear_group(&mut self, alloc: Global, place: usize) -> Result<usize, AllocError>
+        ensures ok { IfOk result (IsClearedGroup self.old self.new place) }
+        ensures err { OnErr result (KeepsGroups self.old self.new) }
+    {
+        match self.catalog.get(place) {
+            None => Err(AllocError),
+            Some(group) => {
+                let _ = group;
+                if place >= self.stores.len() || place >= self.catalog.len() {
+                    return Err(AllocError);
+                }
+                let count = clear_at(alloc, &mut self.stores, place);
+                self.clear_flag(place, true);
+                Ok(count)
+            }
         }
     }
 
@@ -155,6 +275,16 @@ fn judge_unload(alloc: Global, group: &KeptGroup, which: &Which, own: &[Op]) -> 
     judge_writes(own)
 }
 
+// 111 of a session that has written, where there is one.
+fn refuse_writer(alloc: Global, found: Option<&Session>) -> Result<(), Refused>
+    ensures { Tells result (option_map locked_by (option_map session_seen (option_map seen_of (option_copied found.entry)))) }
+{
+    match found {
+        None => Ok(()),
+        Some(session) => Err(refuse_locked(alloc, session)),
+    }
+}
+
 // Whether no session has written.
 fn have_rested(sessions: &[Session]) -> bool
     ensures { result ≡ list_all (λ s. length s.ops.items == 0) sessions.now }
@@ -169,36 +299,44 @@ fn cut_at(
     place: usize,
     columns: &[usize],
     which: &ResolvedWhich,
-) -> Result<usize, Refused>
+) -> Result<usize, AllocError>
     requires { place < length stores.old.items }
-    ensures { CutsAt place columns.now which.now stores.old.items stores.new.items result }
+    ensures ok { IfOk result (IsCutAt place columns.now which.now stores.old.items stores.new.items) }
+    ensures err { OnErr result (stores.new.items ≡ stores.old.items) }
 {
     cut_matching(alloc, &mut stores[place], columns, which)
 }
 
-// The instances leave whose root rows match, with their keys at these columns; how many. The refusal is 120 of the
-// condition on a root row, or memory was wanting. All then stays.
+// The instances leave whose root rows match, with their keys at these columns; how many. It fails for want of memory
+// alone, and all then stays.
 fn cut_matching(
     alloc: Global,
     store: &mut Store,
     columns: &[usize],
     which: &ResolvedWhich,
-) -> Result<usize, Refused>
-    ensures { CutsBy which.now columns.now store.old store.new result }
+) -> Result<usize, AllocError>
+    ensures ok { IfOk result (IsCutBy which.now columns.now store.old store.new) }
+    ensures err { OnErr result (store.new ≡ store.old) }
 {
-    if overflows(store, which) {
-        return Err(Refused::Rule(Rule {
-            code: Code::Overflow,
-            detail: Detail::Nothing,
-        }));
-    }
-    match leaving(alloc, store, columns, which) {
-        Err(AllocError) => Err(Refused::Memory),
-        Ok(keys) => {
-            cut_all(store, keys.as_slice());
-            Ok(keys.len())
-        }
-    }
+    let keys = leaving(alloc, store, columns, which)?;
+    cut_all(store, keys.as_slice());
+    Ok(keys.len())
+}
+
+// All instances of the store at a place leave; how many.
+fn clear_at(alloc: Global, stores: &mut Vec<Store>, place: usize) -> usize
+    requires { place < length stores.old.items }
+    ensures { IsClearedAt place stores.old.items stores.new.items result }
+{
+    clear_store(alloc, &mut stores[place])
+}
+
+fn clear_store(alloc: Global, store: &mut Store) -> usize
+    ensures { IsClearedBy store.old store.new result }
+{
+    let count = store.len(0);
+    store.clear(alloc);
+    count
 }
 
 // Whether the condition is 120 on some root row.

@@ -3,8 +3,8 @@ use Rattle.group_catalog.specs.Kept.{group_seen}
 use Rattle.cache_engine.proofs.UnloadDone.{group_cut}
 use Rattle.cache_engine.proofs.tier.Tier.cut_group.Goals as goal
 
-pub returns-in-Ok : goal.returns-in-Ok
-returns-in-Ok c =
+pub returns-in-Ok-clause-ok : goal.returns-in-Ok-clause-ok
+returns-in-Ok-clause-ok c =
     group_cut c.args.self.now (record c.args.self.now { stores = c.cut_at.new.stores }) c.clear_flag.new.self c.args.aim.now c.args.all c.in-Ok.count
     (group_seen c.in-Some.group.now) c.in-Some-get.def.now c.as_slice-columns.result.now (sym c.in-Some.ensures) (sym c.in-Some-get.ensures) c.as_slice-columns.ensures
-    c.in-Ok.ensures refl c.clear_flag.ensures.same c.clear_flag.ensures.groups
+    c.in-Ok.ensures.ok refl c.clear_flag.ensures.same c.clear_flag.ensures.groups

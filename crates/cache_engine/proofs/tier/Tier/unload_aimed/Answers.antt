@@ -1,20 +1,19 @@
-use Rattle.std.proofs.Common.{Ok, sym, subst}
-use Rattle.open_sessions.specs.Opening.{seen_all}
+use Rattle.std.proofs.Common.{Ok, subst, sym}
 use Rattle.cache_engine.specs.Performing.{reply_of}
 use Rattle.cache_engine.specs.Unloading.{UnloadsHere}
-use Rattle.cache_engine.proofs.UnloadDone.{all_rest, not_cut, sound_cut, unloaded_here}
+use Rattle.cache_engine.proofs.GroupComes.{sound_kept}
+use Rattle.cache_engine.proofs.UnloadDone.{refused_here, sound_cut, unloaded_here, wanting_here}
 use Rattle.cache_engine.proofs.tier.Tier.unload_aimed.Goals as goal
 
-pub returns-in-Err-clause-performs : goal.returns-in-Err-clause-performs
-returns-in-Err-clause-performs c = λ site.
-    not_cut c.args.self.now c.cut_group.new.self site c.args.id c.args.aim.now c.args.all c.in-Err.refused c.requires c.if-aim.false c.in-Err.ensures
-
-pub returns-in-Ok-clause-performs : goal.returns-in-Ok-clause-performs
-returns-in-Ok-clause-performs c = λ site.
+pub returns-in-Ok-cut_group-clause-performs : goal.returns-in-Ok-cut_group-clause-performs
+returns-in-Ok-cut_group-clause-performs c = λ site.
     subst (λ r. UnloadsHere c.args.self.now c.cut_group.new.self site c.args.id c.args.aim.now c.args.all (reply_of (Ok r))) (sym c.done.ensures)
-    (unloaded_here c.unload_statement_law.ensures c.drop_instance_law.ensures c.args.self.now c.cut_group.new.self site c.args.id c.args.aim.now c.args.all c.in-Ok.count c.requires
-    (all_rest c.as_slice.result.now (seen_all c.args.self.now.sessions) c.have_rested.result c.as_slice.ensures.seen c.have_rested.ensures c.if-not-have_rested.false)
-    c.if-aim.false c.in-Ok.ensures)
+    (unloaded_here c.unload_statement_law.ensures c.drop_instance_law.ensures c.args.self.now c.judge_instances.new.self c.cut_group.new.self site c.args.id c.args.aim.now c.args.all c.in-Ok-cut_group.count
+    c.in-Ok.ensures.told c.in-Ok.ensures.same c.in-Ok.ensures.sound c.if-aim.false c.in-Ok-cut_group.ensures.ok)
 
-pub returns-in-Ok-clause-sound : goal.returns-in-Ok-clause-sound
-returns-in-Ok-clause-sound c = sound_cut c.args.self.now c.cut_group.new.self c.args.aim.now c.args.all c.in-Ok.count c.requires c.in-Ok.ensures
+pub returns-in-Ok-cut_group-clause-sound : goal.returns-in-Ok-cut_group-clause-sound
+returns-in-Ok-cut_group-clause-sound c =
+    sound_cut c.judge_instances.new.self c.cut_group.new.self c.args.aim.now c.args.all c.in-Ok-cut_group.count c.in-Ok.ensures.sound c.in-Ok-cut_group.ensures.ok
+
+pub returns-then-aim-clause-performs : goal.returns-then-aim-clause-performs
+returns-then-aim-clause-performs c = λ site. c.unload_whole.ensures.performs site c.args.id c.args.all
