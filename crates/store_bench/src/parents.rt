@@ -18,7 +18,9 @@ pub fn measure_indexed(rt: &HostRuntime, rows: usize) -> Result<usize, BenchErro
     let parents = rows / 10;
     let start = Instant::now(rt)?;
     let found = (0..parents)
-        .filter(|place| indexed.child(&[1], &key_of(mixed(*place, parents)), 0).is_some())
+        .filter(|place| indexed
+            .child(&[1], &key_of(mixed(*place, parents)), 0)
+            .is_some())
         .count();
     tell_calls(rt, "children by index, child", parents, start)?;
     Ok(found)
