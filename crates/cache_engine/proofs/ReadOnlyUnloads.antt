@@ -1,16 +1,13 @@
 -- What UNLOAD makes of a READONLY group that is loaded whole: it shows nothing then, and no session has locks in it.
 use Rattle.std.proofs.Common.{◌≡◌, ℕ, zero, suc, ◌+◌, Bool, true, false, cond, not, ◌&&◌, ◌||◌, inl, nat_eq, Option, Some, None, is_some, is_none, List, [], ◌∷◌, ◌++◌, find, length, map, slice_get, unwrap_or, refl, sym, ap, subst, ◌∙◌, arith, eqb-true}
-use Rattle.std.specs.Option.{option_map, option_or}
+use Rattle.std.specs.Option.{option_map}
 use Rattle.std.specs.List.{flat_map, list_all, list_any}
 use Rattle.std.proofs.lemmas.List.Folds.{list_any-append}
-use Rattle.std.specs.FinMap as fm
 use Rattle.std.specs.FinMap.{empty}
 use Rattle.row_types.specs.declared.value.Value.{Value}
-use Rattle.row_types.proofs.OrderLaws.{key_exact, key_total}
 use Rattle.tier_base.specs.declared.number.TableId.{TableId}
 use Rattle.table_defs.specs.declared.definition.ForeignKey.{ForeignKey}
 use Rattle.table_defs.specs.declared.definition.TableDef.{TableDef}
-use Rattle.indexed_rows.specs.Rows.{Table}
 use Rattle.table_state.specs.Copies.{is_one_of}
 use Rattle.table_state.specs.declared.footprint.RowKey.{RowKey}
 use Rattle.table_state.specs.declared.operation.Op.{Op}
@@ -23,10 +20,9 @@ use Rattle.order_laws.specs.Commits.{is_op_on}
 use Rattle.order_laws.specs.Sides.{AgreeOn, IsClosed, are_on}
 use Rattle.order_laws.proofs.SideLaws.{no_keys, no_parents, referred_table, written_table}
 use Rattle.order_laws.proofs.TruthLaws.{both_true, never_both, not_both, same_some}
-use Rattle.cache_tier.specs.declared.group.GroupDef.{GroupDef}
 use Rattle.sql_subset.specs.declared.stmt.GroupKind.TheVariants.{AsynchronousWritethrough}
 use Rattle.cache_tier.specs.Groups.{Group, covers, group_over, is_explicit, is_key, is_read_only, is_writethrough, without_keys}
-use Rattle.cache_tier.specs.Locks.{has_writes_in, instance_lock, instance_rows, keys_in_children, keys_in_table, locked_by, tree_tables}
+use Rattle.cache_tier.specs.Locks.{has_writes_in, instance_lock, instance_rows, locked_by, tree_tables}
 use Rattle.cache_tier.specs.Sets.{alone, changed_from}
 use Rattle.cache_tier.specs.Shown.{all_over, exceeds, instances_where, root_key, shown, shown_in, shown_state, shown_table, shown_where, shows_root, state_behind, table_of_group}
 use Rattle.cache_tier.specs.Standing.{AreDistinct}
@@ -40,7 +36,7 @@ use Rattle.tier_laws.specs.Events.{with_tier}
 use Rattle.tier_laws.specs.Standing.{HasKeys, IsCatalogued, IsReadWithin, Stands, own_writes}
 use Rattle.tier_laws.proofs.ChosenGroups.{changed_kept, each_at, each_chosen, found_changed, table_unchosen}
 use Rattle.tier_laws.proofs.DefineLaws.{shows_nothing}
-use Rattle.tier_laws.proofs.GroupTables.{IsFound, LiveTable, each_own, live_at, live_table, over_is_found, read_only_not}
+use Rattle.tier_laws.proofs.GroupTables.{IsFound, each_own, live_at, live_table, over_is_found, read_only_not}
 use Rattle.tier_laws.proofs.HistoryKeeps.{all_through_on, applies_stay}
 use Rattle.tier_laws.proofs.LoadLaws.{unload_keeps, unload_keys, unload_stays}
 use Rattle.tier_laws.proofs.Regrouping.{regrouped}

@@ -29,7 +29,7 @@ use Rattle.cache_engine.specs.declared.tier.Tier.{Tier as Stored}
 use Rattle.cache_engine.specs.Aiming.{AimsBy, which_fault}
 use Rattle.cache_engine.specs.Performing.{Executes, PerformsIn}
 use Rattle.cache_engine.specs.Sites.{SiteView}
-use Rattle.cache_engine.specs.Stored.{HasSession, IsSound, IsStoredAs, without_list}
+use Rattle.cache_engine.specs.Stored.{HasSession, IsSound, IsStoredAs}
 use Rattle.cache_engine.specs.Unloading.{AimsUnload, AimsUnloadIn, FindsUnload, unload_state}
 use Rattle.cache_engine.proofs.AimLaws.{IsUnlisted, unlisted}
 use Rattle.cache_engine.proofs.CalmLaws.{NumberLaw, own_here, refused_by, wanting_still}

@@ -1,28 +1,18 @@
 -- UNLOAD of a writethrough group over what is stored.
-use Rattle.std.proofs.Common.{◌≡◌, ◌<◌, ◌+◌, ℕ, zero, suc, Bool, true, false, not, cond, ◌&&◌, ◌||◌, Option, Some, None, Result, Ok, Err, List, [], ◌∷◌, filter, find, get_or, length, map, set, slice_get, unwrap_or, arith, refl, sym, ap, subst, ◌∙◌, ◌⊎◌, inl, inr}
-use Rattle.std.specs.Bool.{◌==◌}
-use Rattle.std.specs.List.{list_all}
-use Rattle.std.specs.Option.{option_map, option_or}
+use Rattle.std.proofs.Common.{◌≡◌, ◌<◌, ◌+◌, ℕ, zero, suc, Bool, true, false, not, cond, ◌&&◌, ◌||◌, Some, None, Result, Ok, Err, List, [], ◌∷◌, get_or, length, map, set, slice_get, unwrap_or, arith, refl, sym, ap, subst, ◌∙◌, inl, inr}
+use Rattle.std.specs.Option.{option_map}
 use Rattle.std.specs.FinMap as fm
 use Rattle.std.proofs.lemmas.Bool.{eqb-true}
-use Rattle.row_types.specs.declared.rule.Rule.{Rule}
 use Rattle.row_types.specs.declared.value.Value.{Value}
 use Rattle.tier_base.specs.declared.code.Code.TheVariants as code
 use Rattle.tier_base.specs.declared.number.SessionId.{SessionId}
-use Rattle.tier_base.specs.declared.number.TableId.{TableId}
 use Rattle.indexed_rows.specs.Rows.{Table}
-use Rattle.instances.specs.Trees.{place_of}
 use Rattle.instances.specs.Views.{kept_at}
 use Rattle.instances.specs.declared.tree.Tree.{Tree}
 use Rattle.table_defs.specs.declared.definition.TableDef.{TableDef}
 use Rattle.group_catalog.specs.declared.which.ResolvedWhich.{ResolvedWhich}
-use Rattle.table_state.specs.Tables.{TableState, table_at}
-use Rattle.table_state.specs.declared.operation.Op.{Op}
-use Rattle.open_sessions.specs.Lookups.{has_label, of_label}
+use Rattle.table_state.specs.Tables.{TableState}
 use Rattle.open_sessions.specs.Opening.{AreSessions, seen_all}
-use Rattle.session_state.specs.Kept.{seen_of}
-use Rattle.session_state.specs.Sessions.{OpenSession}
-use Rattle.session_state.specs.declared.session.Session.{Session as Kept_session}
 use Rattle.row_types.specs.declared.rule.Refused.{Refused}
 use Rattle.row_types.specs.declared.rule.Refused.TheVariants as refused
 use Rattle.sql_subset.specs.declared.stmt.OfGroup.{OfGroup}
@@ -31,36 +21,33 @@ use Rattle.group_catalog.specs.Catalogs.{groups_in}
 use Rattle.group_store.specs.Keeping.{KeepsOthers, primary_of}
 use Rattle.group_store.specs.Shown.{AreHoused}
 use Rattle.group_store.specs.Stores.{Kept, SameButSpare, cut_store}
-use Rattle.group_store.specs.Trees.{cut_from, keep, leads}
+use Rattle.group_store.specs.Trees.{keep, leads}
 use Rattle.order_laws.specs.Commits.{RiseBetween}
-use Rattle.order_laws.proofs.TruthLaws.{both_true, never_both}
+use Rattle.order_laws.proofs.TruthLaws.{never_both}
 use Rattle.tier_statements.specs.Seen.{session_seen}
 use Rattle.cache_tier.specs.declared.reply.Last.TheVariants.{Done, No}
 use Rattle.cache_tier.specs.declared.reply.Reply.{Reply}
-use Rattle.cache_tier.specs.Conditions.{asks_all, overflow_fault, overflows}
+use Rattle.cache_tier.specs.Conditions.{asks_all}
 use Rattle.cache_tier.specs.Groups.{Group, definitions_of, is_explicit, is_key, is_read_only, is_writethrough, without_keys}
 use Rattle.cache_tier.specs.JournalSteps.{FlushesSome}
-use Rattle.cache_tier.specs.Locks.{has_writes_in, instance_lock, locked_by}
 use Rattle.cache_tier.specs.Reading.{Answers}
-use Rattle.cache_tier.specs.Rules.{broken_if, plain}
-use Rattle.cache_tier.specs.Sets.{alone, changed, changed_from}
-use Rattle.cache_tier.specs.Shown.{instances_where, root_key, shown_roots, shown_state}
+use Rattle.cache_tier.specs.Sets.{alone, changed_from}
+use Rattle.cache_tier.specs.Shown.{instances_where, root_key}
 use Rattle.cache_tier.specs.Steps.{DoesStatement}
 use Rattle.cache_tier.specs.Targets.{Target}
-use Rattle.cache_tier.specs.TierStates.{Session, Tier, is_labelled}
+use Rattle.cache_tier.specs.TierStates.{Session}
 use Rattle.cache_tier.specs.UnloadSteps.{Unloads, gone_keys, matching_shown, unload_answer, unload_entries, unload_fault, unloaded}
 use Rattle.cache_tier.specs.Worlds.{Then, Tries, Unless, World, faulty, only}
 use Rattle.tier_laws.specs.Events.{with_tier}
 use Rattle.tier_laws.specs.Loading.{ShowsKeys}
 use Rattle.tier_laws.specs.Standing.{Stands}
 use Rattle.tier_laws.specs.Statements.{IsUnloadable}
-use Rattle.tier_laws.proofs.UnloadStatements.{none_written}
 use Rattle.cache_engine.specs.declared.aiming.Aim.{Aim}
 use Rattle.cache_engine.specs.declared.tier.Tier.{Tier as Stored}
 use Rattle.cache_engine.specs.Grouping.{KeepsGroups, SameTree}
-use Rattle.cache_engine.specs.Performing.{Executes, IsPerformed, PerformsIn, StandsFor, reply_of}
-use Rattle.cache_engine.specs.Sites.{IsAt, SiteView}
-use Rattle.cache_engine.specs.Stored.{AreKept, AreWhole, HasSession, HaveOwnNames, IsSound, IsStoredAs, is_plain, named_where_cached, without_list}
+use Rattle.cache_engine.specs.Performing.{Executes, PerformsIn, StandsFor, reply_of}
+use Rattle.cache_engine.specs.Sites.{SiteView}
+use Rattle.cache_engine.specs.Stored.{AreKept, AreWhole, HasSession, IsSound, IsStoredAs, named_where_cached, without_list}
 use Rattle.cache_engine.specs.Taking.{IsOfTarget}
 use Rattle.cache_engine.specs.Unloading.{AimsUnloadIn, FindsUnload, IsClearedAt, IsClearedBy, IsClearedGroup, IsCutBy, IsCutAt, IsCutGroup, LeavesGroup, UnloadsHere, UnloadsTarget, cut_all, flagged, leaving}
 use Rattle.cache_engine.specs.UnloadLocks.{UnloadTold}
@@ -68,7 +55,7 @@ use Rattle.cache_engine.proofs.CalmLaws.{flushes_none}
 use Rattle.cache_engine.proofs.DropLocks.{group_stored}
 use Rattle.cache_engine.proofs.DroppingLaws.{session_there}
 use Rattle.cache_engine.proofs.FlagLaws.{flagged_seen}
-use Rattle.cache_engine.proofs.GroupComes.{sound_kept, stands_kept, time_kept}
+use Rattle.cache_engine.proofs.GroupComes.{stands_kept, time_kept}
 use Rattle.cache_engine.proofs.SoundParts.{all_plain, changed_defs, named_by, visible_by}
 use Rattle.cache_engine.proofs.StoreChanges.{form_kept, get_here, get_there, housed_set, kept_defined, kept_set, shows_changed}
 use Rattle.cache_engine.proofs.GroupingLaws.{got}

@@ -8,12 +8,10 @@ use Rattle.std.specs.List.{list_all, list_any}
 use Rattle.std.specs.Option.{option_map, option_or}
 use Rattle.row_types.specs.declared.rule.Refused.{Refused}
 use Rattle.row_types.specs.declared.rule.Refused.TheVariants as refused
-use Rattle.row_types.specs.declared.rule.Rule.{Rule}
 use Rattle.row_types.specs.declared.value.Value.{Value}
 use Rattle.tier_base.specs.declared.code.Code.TheVariants as code
 use Rattle.tier_base.specs.declared.number.SessionId.{SessionId}
-use Rattle.table_defs.specs.declared.definition.TableDef.{TableDef}
-use Rattle.table_defs.specs.Declarations.{IsRefusedBy, Tells}
+use Rattle.table_defs.specs.Declarations.{Tells}
 use Rattle.table_state.specs.declared.footprint.RowKey.{RowKey}
 use Rattle.table_state.specs.declared.operation.Op.{Op}
 use Rattle.table_state.specs.declared.operation.Op.TheVariants.{Delete, Insert, Update}
@@ -22,7 +20,6 @@ use Rattle.table_state.specs.Operations.{applied_all}
 use Rattle.table_state.specs.Tables.{TableState}
 use Rattle.table_scan.specs.Keyed.{IsKeyed}
 use Rattle.indexed_rows.specs.Rows.{Table}
-use Rattle.instances.specs.declared.tree.Tree.{Tree}
 use Rattle.instances.specs.Trees.{is_sound}
 use Rattle.instances.specs.Views.{kept_at, passes}
 use Rattle.own_rows.specs.OwnTables.{AreShown}
@@ -42,7 +39,7 @@ use Rattle.cache_tier.specs.Locks.{has_writes_in, instance_lock, instance_rows, 
 use Rattle.cache_tier.specs.Rules.{broken_if, plain}
 use Rattle.cache_tier.specs.Shown.{all_over, over, shown_roots, shown_state}
 use Rattle.cache_tier.specs.Targets.{Target}
-use Rattle.cache_tier.specs.TierStates.{Session, Tier, is_labelled, others}
+use Rattle.cache_tier.specs.TierStates.{Session, is_labelled}
 use Rattle.cache_tier.specs.UnloadSteps.{matching_shown, unload_fault}
 use Rattle.cache_tier.specs.Worlds.{World}
 use Rattle.tier_laws.specs.Standing.{IsCatalogued, Stands}
@@ -50,11 +47,10 @@ use Rattle.tier_laws.proofs.ChosenGroups.{each_at}
 use Rattle.tier_laws.proofs.UnloadStatements.{none_written}
 use Rattle.cache_engine.specs.declared.aiming.Aim.{Aim}
 use Rattle.cache_engine.specs.declared.tier.Tier.{Tier as Stored}
-use Rattle.cache_engine.specs.Choosing.{chosen, matches_at}
+use Rattle.cache_engine.specs.Choosing.{matches_at}
 use Rattle.cache_engine.specs.Performing.{StandsFor}
 use Rattle.cache_engine.specs.Stored.{HasSession, IsSound, IsStoredAs, IsVerified, rows_of, without_list}
 use Rattle.cache_engine.specs.Taking.{IsOfTarget}
-use Rattle.cache_engine.specs.Unloading.{OverflowsIn}
 use Rattle.cache_engine.specs.UnloadLocks.{FitsIn, LocksTold, RootsTold, UnloadTold, leaves, writer_within, writes_within}
 use Rattle.cache_engine.proofs.DropLocks.{ClosedLaw, find_left, find_map, group_stored, others_seen}
 use Rattle.cache_engine.proofs.MatchLaws.{get_retained}

@@ -1,5 +1,5 @@
 -- Instances that leave a writethrough group: what is stored and shown then.
-use Rattle.std.proofs.Common.{◌≡◌, ◌≤◌, ◌<◌, ◌+◌, ℕ, zero, suc, Bool, true, false, not, cond, ◌&&◌, ◌||◌, nat_eq, Option, Some, None, is_some, List, [], ◌∷◌, ◌++◌, filter, length, map, set, slice_get, unwrap_or, arith, refl, sym, ap, subst, ◌∙◌}
+use Rattle.std.proofs.Common.{◌≡◌, ◌<◌, ℕ, zero, suc, Bool, true, false, not, cond, ◌&&◌, ◌||◌, Option, Some, None, is_some, List, [], ◌∷◌, ◌++◌, filter, length, map, slice_get, unwrap_or, arith, refl, sym, ap, ◌∙◌}
 use Rattle.std.proofs.lemmas.List.{length-map}
 use Rattle.std.specs.List.{list_all, list_any}
 use Rattle.std.specs.Option.{option_map}
@@ -19,7 +19,6 @@ use Rattle.instances.specs.Views as views
 use Rattle.instances.proofs.Gathering.{entry_found}
 use Rattle.cache_store.specs.Shown.{shown_of}
 use Rattle.cache_store.proofs.ShownLaws.{shown_length}
-use Rattle.group_catalog.specs.Identified.{is_given}
 use Rattle.group_catalog.specs.declared.which.ResolvedWhich.{ResolvedWhich}
 use Rattle.group_store.specs.Keeping.{IsFor, KeepsOthers, KeepsShown, layer_for, primary_of}
 use Rattle.group_store.specs.Stores.{Kept, SameButSpare, cut_store}
@@ -31,13 +30,13 @@ use Rattle.cache_tier.specs.Shown.{instances_where, no_rows, root_key, shown, sh
 use Rattle.cache_tier.specs.Targets.{Target}
 use Rattle.cache_tier.specs.UnloadSteps.{matching_shown}
 use Rattle.cache_tier.specs.Worlds.{World}
-use Rattle.tier_laws.specs.Standing.{HasCatalog, IsCatalogued}
+use Rattle.tier_laws.specs.Standing.{IsCatalogued}
 use Rattle.tier_laws.proofs.ChosenGroups.{each_at}
-use Rattle.tier_laws.proofs.GroupTables.{IsFound, LiveTable, each_own, read_only_not}
+use Rattle.tier_laws.proofs.GroupTables.{read_only_not}
 use Rattle.tier_laws.proofs.KeyListLaws.{key_in_map}
 use Rattle.tier_laws.proofs.SessionLaws.{Known, known}
 use Rattle.tier_laws.proofs.ShownTables.{cond_some, defined_in, root_plain, some_def}
-use Rattle.tier_laws.proofs.ShownTrees.{place_there, root_place}
+use Rattle.tier_laws.proofs.ShownTrees.{place_there}
 use Rattle.cache_engine.specs.declared.tier.Tier.{Tier as Stored}
 use Rattle.cache_engine.specs.Choosing.{chosen, matches_at}
 use Rattle.cache_engine.specs.Performing.{StandsFor}

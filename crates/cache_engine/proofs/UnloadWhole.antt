@@ -1,6 +1,5 @@
 -- UNLOAD of a READONLY group over what is stored.
 use Rattle.std.proofs.Common.{◌≡◌, ◌<◌, ◌+◌, ℕ, zero, suc, Bool, true, false, not, cond, ◌&&◌, ◌||◌, Option, Some, None, Ok, is_none, List, [], ◌∷◌, length, map, set, slice_get, refl, sym, ap, subst, ◌∙◌, inl, inr}
-use Rattle.std.specs.List.{list_all, list_any}
 use Rattle.std.specs.Option.{option_or}
 use Rattle.std.proofs.lemmas.List.{length-map}
 use Rattle.std.specs.FinMap as fm
@@ -9,11 +8,8 @@ use Rattle.row_types.proofs.OrderLaws.{key_exact, key_total}
 use Rattle.row_types.specs.declared.value.Value.{Value}
 use Rattle.tier_base.specs.declared.code.Code.TheVariants as code
 use Rattle.tier_base.specs.declared.number.SessionId.{SessionId}
-use Rattle.tier_base.specs.declared.number.TableId.{TableId}
 use Rattle.indexed_rows.specs.Rows.{Table}
-use Rattle.expressions.specs.declared.condition.Cond.{Cond}
 use Rattle.evaluator.specs.Writes.{selects}
-use Rattle.instances.specs.Trees.{place_of}
 use Rattle.instances.specs.Views.{is_true, kept_at, passes, rows_where}
 use Rattle.instances.proofs.Gathering.{get_where}
 use Rattle.open_sessions.specs.Opening.{seen_all}
@@ -22,19 +18,16 @@ use Rattle.group_catalog.specs.Catalogs.{groups_in}
 use Rattle.group_store.specs.Stores.{Kept, SameButSpare, cleared_store}
 use Rattle.group_store.specs.Trees.{all_empty}
 use Rattle.order_laws.proofs.TruthLaws.{both_true}
-use Rattle.sql_query.specs.declared.literal.Literal.{Literal}
 use Rattle.tier_statements.specs.Seen.{session_seen}
 use Rattle.cache_tier.specs.declared.reply.Last.TheVariants.{Done}
-use Rattle.cache_tier.specs.declared.reply.Reply.{Reply}
-use Rattle.cache_tier.specs.Conditions.{is_id, matches, overflow_fault, overflows}
+use Rattle.cache_tier.specs.Conditions.{is_id, matches, overflow_fault}
 use Rattle.cache_tier.specs.Groups.{Group, is_explicit, is_read_only}
 use Rattle.cache_tier.specs.JournalSteps.{FlushesSome}
-use Rattle.cache_tier.specs.Locks.{instance_lock}
 use Rattle.cache_tier.specs.Reading.{Answers}
 use Rattle.cache_tier.specs.Sets.{alone, changed_from}
-use Rattle.cache_tier.specs.Shown.{no_rows, root_key, shown_roots, shown_state}
+use Rattle.cache_tier.specs.Shown.{no_rows, root_key, shown_roots}
 use Rattle.cache_tier.specs.Targets.{Target}
-use Rattle.cache_tier.specs.TierStates.{Session, Tier}
+use Rattle.cache_tier.specs.TierStates.{Session}
 use Rattle.cache_tier.specs.UnloadSteps.{gone_keys, matching_shown, unload_answer, unload_entries, unload_fault, unloaded}
 use Rattle.cache_tier.specs.Worlds.{Then, Unless, World, faulty, only}
 use Rattle.tier_laws.specs.Dropping.{ShowsWithout}
@@ -44,10 +37,9 @@ use Rattle.cache_engine.specs.declared.aiming.Aim.{Aim}
 use Rattle.cache_engine.specs.declared.tier.Tier.{Tier as Stored}
 use Rattle.cache_engine.specs.Grouping.{KeepsGroups, SameTree}
 use Rattle.cache_engine.specs.Performing.{StandsFor}
-use Rattle.cache_engine.specs.Sites.{IsAt, SiteView}
+use Rattle.cache_engine.specs.Sites.{SiteView}
 use Rattle.cache_engine.specs.Stored.{HasSession, IsSound, IsStoredAs, is_plain, without_list}
-use Rattle.cache_engine.specs.Taking.{IsOfTarget}
-use Rattle.cache_engine.specs.Unloading.{AsksWhole, IsClearedBy, IsClearedGroup, UnloadsHere, UnloadsTarget, flagged}
+use Rattle.cache_engine.specs.Unloading.{IsClearedGroup, UnloadsHere, UnloadsTarget}
 use Rattle.cache_engine.proofs.CalmLaws.{flushes_none}
 use Rattle.cache_engine.proofs.DropLocks.{group_stored}
 use Rattle.cache_engine.proofs.FlagLaws.{flagged_seen}

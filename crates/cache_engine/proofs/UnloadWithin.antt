@@ -1,5 +1,5 @@
 -- The rows of instances are those that a root row is reached from.
-use Rattle.std.proofs.Common.{◌≡◌, ℕ, zero, suc, ◌+◌, ◌<◌, ◌≤◌, Bool, true, false, cond, ◌&&◌, ◌||◌, nat_eq, Option, Some, None, is_some, List, [], ◌∷◌, ◌++◌, length, map, slice_get, unwrap_or, refl, sym, ap, subst, ◌∙◌, arith, eq-eqb, eqb-true}
+use Rattle.std.proofs.Common.{◌≡◌, ℕ, zero, suc, ◌+◌, ◌≤◌, Bool, true, false, cond, ◌&&◌, ◌||◌, nat_eq, Option, Some, None, is_some, List, [], ◌∷◌, length, map, slice_get, unwrap_or, refl, sym, ap, subst, ◌∙◌, arith, eq-eqb, eqb-true}
 use Rattle.std.specs.Option.{option_and_then, option_map}
 use Rattle.std.specs.List.{list_any}
 use Rattle.std.proofs.lemmas.List.Folds.{list_any-append}
@@ -19,7 +19,7 @@ use Rattle.table_scan.specs.Keyed.{IsKeyed}
 use Rattle.evaluator.specs.Cascades.{key_in}
 use Rattle.instances.specs.declared.tree.Child.{Child}
 use Rattle.instances.specs.declared.tree.Tree.{Tree}
-use Rattle.instances.specs.Roots.{parent_key, root_of, root_within}
+use Rattle.instances.specs.Roots.{parent_key, root_within}
 use Rattle.instances.specs.Trees.{is_sound, place_of, table_of}
 use Rattle.instances.specs.Views.{kept_at, passes, root_rows, rows_where}
 use Rattle.instances.proofs.Gathering.{entry_found, get_where}

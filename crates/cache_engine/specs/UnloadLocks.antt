@@ -1,7 +1,7 @@
 -- The locks that UNLOAD meets, over what is stored. (This project's rule: the rows of an instance are those that a root
 -- row is reached from.)
 
-use Rattle.std.specs.Prelude.{◌≡◌, List, Option, Bool, true, false, ◌&&◌, ◌||◌, None, Some, Result, Ok, Err, not, find, slice_get}
+use Rattle.std.specs.Prelude.{◌≡◌, List, Option, Bool, true, false, ◌&&◌, ◌||◌, Some, Result, Ok, Err, not, find, slice_get}
 use Rattle.std.specs.FinMap.{get}
 use Rattle.std.specs.List.{list_any}
 use Rattle.std.specs.Option.{option_map}

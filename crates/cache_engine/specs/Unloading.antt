@@ -7,7 +7,6 @@ use Rattle.row_types.specs.declared.rule.Refused.TheVariants as refused
 use Rattle.row_types.specs.declared.value.Value.{Value}
 use Rattle.tier_base.specs.declared.code.Code.TheVariants as code
 use Rattle.tier_base.specs.declared.number.SessionId.{SessionId}
-use Rattle.table_defs.specs.declared.definition.TableDef.{TableDef}
 use Rattle.indexed_rows.specs.Rows.{Table, key_of}
 use Rattle.instances.specs.Views.{kept_at}
 use Rattle.sql_subset.specs.declared.stmt.OfGroup.{OfGroup}
@@ -29,7 +28,7 @@ use Rattle.cache_engine.specs.declared.aiming.Aim.{Aim}
 use Rattle.cache_engine.specs.declared.tier.Tier.{Tier as Stored}
 use Rattle.cache_engine.specs.Aiming.{IsAimed}
 use Rattle.cache_engine.specs.Choosing.{matches_at}
-use Rattle.cache_engine.specs.Grouping.{KeepsBesideGroups, KeepsGroups}
+use Rattle.cache_engine.specs.Grouping.{KeepsBesideGroups}
 use Rattle.cache_engine.specs.Performing.{IsPerformed, StandsFor}
 use Rattle.cache_engine.specs.Sites.{IsAt, SiteView}
 use Rattle.cache_engine.specs.Stored.{HasSession, IsStoredAs}

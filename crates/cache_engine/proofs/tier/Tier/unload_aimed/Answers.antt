@@ -1,8 +1,7 @@
 use Rattle.std.proofs.Common.{Ok, subst, sym}
 use Rattle.cache_engine.specs.Performing.{reply_of}
 use Rattle.cache_engine.specs.Unloading.{UnloadsHere}
-use Rattle.cache_engine.proofs.GroupComes.{sound_kept}
-use Rattle.cache_engine.proofs.UnloadDone.{refused_here, sound_cut, unloaded_here, wanting_here}
+use Rattle.cache_engine.proofs.UnloadDone.{sound_cut, unloaded_here}
 use Rattle.cache_engine.proofs.tier.Tier.unload_aimed.Goals as goal
 
 pub returns-in-Ok-cut_group-clause-performs : goal.returns-in-Ok-cut_group-clause-performs

@@ -1,2 +1,0 @@
-use Rattle.cache_engine.proofs.UnloadDone.{clear_there}
-use Rattle.cache_engine.proofs.unloading.clear_at.Goals as goal
