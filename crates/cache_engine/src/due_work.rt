@@ -126,8 +126,6 @@ impl Tier {
 
     // The set of an interval is refreshed, where it has something to show. It is noted that this was tried: the set has an
     // entry for that.
-    //
-    // The bank isn't read yet: memory is wanting, where the set has something to show.
     pub(crate) fn refresh_set<P: Site>(
         &mut self,
         alloc: Global,
