@@ -1,6 +1,6 @@
 -- What a commit leaves of that each session's operations apply over the stored rows: no two sessions' conflict.
-use Rattle.std.proofs.Common.{◌≡◌, ℕ, zero, suc, ◌<◌, ◌⊎◌, inl, inr, Bool, true, false, cond, ◌&&◌, Option, Some, None, is_some, List, [], ◌∷◌, All, find, length, map, get_or, slice_get, unwrap_or, refl, sym, ap, subst, ◌∙◌, arith}
-use Rattle.std.specs.List.{AllPairs, list_all}
+use Rattle.std.proofs.Common.{◌≡◌, ℕ, ◌<◌, ◌⊎◌, inl, inr, Bool, true, false, cond, Option, Some, None, is_some, List, [], ◌∷◌, All, length, map, get_or, slice_get, unwrap_or, refl, sym, ap, subst, ◌∙◌, arith}
+use Rattle.std.specs.List.{AllPairs}
 use Rattle.std.specs.Option.{option_and_then, option_map}
 use Rattle.std.proofs.lemmas.Bool.{cases_lt}
 use Rattle.std.proofs.lemmas.List.{length-map}
@@ -26,7 +26,7 @@ use Rattle.order_laws.proofs.PairLaws.{apart_of}
 use Rattle.order_laws.proofs.TruthLaws.{both_true, never_both}
 use Rattle.group_catalog.specs.Catalogs.{groups_in}
 use Rattle.group_store.specs.Shown.{AreHoused, kept_rows, shown_by}
-use Rattle.group_store.specs.Stores.{Kept}
+use Rattle.group_store.specs.Stores.{Kept, op_done}
 use Rattle.group_store.specs.declared.directory.Home.{Home}
 use Rattle.group_store.proofs.HomeLaws.{its_home}
 use Rattle.cache_tier.specs.Groups.{Group}
@@ -62,7 +62,7 @@ ops_housed schema groups directory (op ∷ ops) stores n housed are whole homes 
     parts = both_true (is_some (home_in directory op)) (are_housed directory ops) homes
 
     next : List Kept
-    next = at_home (home_in directory op) (Rattle.group_store.specs.Stores.op_done op) stores
+    next = at_home (home_in directory op) (op_done op) stores
 
     are_then : AreKept schema groups next
     are_then = kept_home schema op (home_in directory op) groups stores are

@@ -1,6 +1,6 @@
 -- The row of the virtual state at a key that unsettled transactions wrote: what the last of them leaves there, whether it
 -- has come to the history or not.
-use Rattle.std.proofs.Common.{◌≡◌, ◌≤◌, ℕ, Bool, true, false, cond, nat_eq, nat_le, ◌&&◌, ◌||◌, Option, Some, None, is_some, List, [], ◌∷◌, ◌++◌, map, filter, find, slice_get, refl, sym, ap, subst, ◌∙◌, append_assoc, eqb-true}
+use Rattle.std.proofs.Common.{◌≡◌, ◌≤◌, Bool, true, false, cond, nat_eq, ◌&&◌, ◌||◌, Option, Some, is_some, List, [], ◌∷◌, ◌++◌, map, filter, find, slice_get, refl, sym, ap, ◌∙◌, append_assoc, eqb-true}
 use Rattle.std.specs.FinMap.{get}
 use Rattle.std.specs.List.{flat_map, list_any}
 use Rattle.std.specs.Option.{option_and_then}

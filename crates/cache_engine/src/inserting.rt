@@ -56,10 +56,13 @@ impl Tier {
     ghost use Rattle.cache_engine.specs.Sites.{seen_at};
     ghost use Rattle.cache_engine.specs.Stored.{IsSound};
 
-    /// INSERT of a row whose key isn't shown: the bank is asked for the key. The row goes behind the session's own operations.
+    /// INSERT of a row whose key isn't shown: the bank is asked for the key. The row goes behind the session's own
+    /// operations. Where unsettled transactions wrote the key, the last of them tells whether it has a row, and the bank's
+    /// row doesn't count.
     ///
     /// The refusal is 107 of the key, then 108; the reply is 201 where the bank's call failed; or memory was wanting. All
-    /// then stays.
+    /// then stays. Memory is said to be wanting, too, where the last of those transactions is older than the table's
+    /// group; no run comes to that, as a group that is dropped leaves nothing unsettled.
     pub(crate) fn insert<P: Site>(
         &mut self,
         alloc: Global,

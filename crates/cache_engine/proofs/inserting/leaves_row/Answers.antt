@@ -1,4 +1,4 @@
-use Rattle.std.proofs.Common.{sym, ◌∙◌}
+use Rattle.std.proofs.Common.{◌∙◌}
 use Rattle.cache_engine.proofs.InsertLaws.{left_kept, left_put}
 use Rattle.cache_engine.proofs.inserting.leaves_row.Goals.{else-branch, then-branch}
 use Rattle.cache_engine.proofs.inserting.leaves_row.Goals as goal
