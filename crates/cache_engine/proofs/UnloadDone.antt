@@ -1,8 +1,7 @@
 -- UNLOAD of a writethrough group over what is stored.
-use Rattle.std.proofs.Common.{◌≡◌, ◌<◌, ◌+◌, ℕ, zero, suc, Bool, true, false, not, cond, ◌&&◌, ◌||◌, Some, None, Result, Ok, Err, List, [], ◌∷◌, get_or, length, map, set, slice_get, unwrap_or, arith, refl, sym, ap, subst, ◌∙◌, inl, inr}
+use Rattle.std.proofs.Common.{◌≡◌, ◌+◌, ℕ, suc, Bool, true, false, not, cond, ◌&&◌, ◌||◌, Some, None, Result, Ok, List, [], ◌∷◌, length, map, set, slice_get, unwrap_or, arith, refl, sym, ap, subst, ◌∙◌, inl, inr}
 use Rattle.std.specs.Option.{option_map}
 use Rattle.std.specs.FinMap as fm
-use Rattle.std.proofs.lemmas.Bool.{eqb-true}
 use Rattle.row_types.specs.declared.value.Value.{Value}
 use Rattle.tier_base.specs.declared.code.Code.TheVariants as code
 use Rattle.tier_base.specs.declared.number.SessionId.{SessionId}
@@ -10,7 +9,6 @@ use Rattle.indexed_rows.specs.Rows.{Table}
 use Rattle.instances.specs.Views.{kept_at}
 use Rattle.instances.specs.declared.tree.Tree.{Tree}
 use Rattle.table_defs.specs.declared.definition.TableDef.{TableDef}
-use Rattle.group_catalog.specs.declared.which.ResolvedWhich.{ResolvedWhich}
 use Rattle.table_state.specs.Tables.{TableState}
 use Rattle.open_sessions.specs.Opening.{AreSessions, seen_all}
 use Rattle.row_types.specs.declared.rule.Refused.{Refused}
@@ -25,7 +23,7 @@ use Rattle.group_store.specs.Trees.{keep, leads}
 use Rattle.order_laws.specs.Commits.{RiseBetween}
 use Rattle.order_laws.proofs.TruthLaws.{never_both}
 use Rattle.tier_statements.specs.Seen.{session_seen}
-use Rattle.cache_tier.specs.declared.reply.Last.TheVariants.{Done, No}
+use Rattle.cache_tier.specs.declared.reply.Last.TheVariants.{Done}
 use Rattle.cache_tier.specs.declared.reply.Reply.{Reply}
 use Rattle.cache_tier.specs.Conditions.{asks_all}
 use Rattle.cache_tier.specs.Groups.{Group, definitions_of, is_explicit, is_key, is_read_only, is_writethrough, without_keys}
@@ -37,28 +35,27 @@ use Rattle.cache_tier.specs.Steps.{DoesStatement}
 use Rattle.cache_tier.specs.Targets.{Target}
 use Rattle.cache_tier.specs.TierStates.{Session}
 use Rattle.cache_tier.specs.UnloadSteps.{Unloads, gone_keys, matching_shown, unload_answer, unload_entries, unload_fault, unloaded}
-use Rattle.cache_tier.specs.Worlds.{Then, Tries, Unless, World, faulty, only}
+use Rattle.cache_tier.specs.Worlds.{Then, Tries, Unless, World, only}
 use Rattle.tier_laws.specs.Events.{with_tier}
 use Rattle.tier_laws.specs.Loading.{ShowsKeys}
 use Rattle.tier_laws.specs.Standing.{Stands}
 use Rattle.tier_laws.specs.Statements.{IsUnloadable}
 use Rattle.cache_engine.specs.declared.aiming.Aim.{Aim}
 use Rattle.cache_engine.specs.declared.tier.Tier.{Tier as Stored}
-use Rattle.cache_engine.specs.Grouping.{KeepsGroups, SameTree}
+use Rattle.cache_engine.specs.Grouping.{SameTree}
 use Rattle.cache_engine.specs.Performing.{Executes, PerformsIn, StandsFor, reply_of}
 use Rattle.cache_engine.specs.Sites.{SiteView}
 use Rattle.cache_engine.specs.Stored.{AreKept, AreWhole, HasSession, IsSound, IsStoredAs, named_where_cached, without_list}
 use Rattle.cache_engine.specs.Taking.{IsOfTarget}
-use Rattle.cache_engine.specs.Unloading.{AimsUnloadIn, FindsUnload, IsClearedAt, IsClearedBy, IsClearedGroup, IsCutBy, IsCutAt, IsCutGroup, LeavesGroup, UnloadsHere, UnloadsTarget, cut_all, flagged, leaving}
+use Rattle.cache_engine.specs.Unloading.{AimsUnloadIn, FindsUnload, IsClearedAt, IsClearedGroup, IsCutBy, IsCutAt, IsCutGroup, LeavesGroup, UnloadsHere, UnloadsTarget, cut_all, flagged, leaving}
 use Rattle.cache_engine.specs.UnloadLocks.{UnloadTold}
 use Rattle.cache_engine.proofs.CalmLaws.{flushes_none}
 use Rattle.cache_engine.proofs.DropLocks.{group_stored}
 use Rattle.cache_engine.proofs.DroppingLaws.{session_there}
 use Rattle.cache_engine.proofs.FlagLaws.{flagged_seen}
-use Rattle.cache_engine.proofs.GroupComes.{stands_kept, time_kept}
+use Rattle.cache_engine.proofs.GroupComes.{time_kept}
 use Rattle.cache_engine.proofs.SoundParts.{all_plain, changed_defs, named_by, visible_by}
 use Rattle.cache_engine.proofs.StoreChanges.{form_kept, get_here, get_there, housed_set, kept_defined, kept_set, shows_changed}
-use Rattle.cache_engine.proofs.GroupingLaws.{got}
 use Rattle.cache_engine.proofs.StoreRows.{form_at, form_here}
 use Rattle.cache_engine.proofs.QuietLaws.{session_over, stands_over}
 use Rattle.cache_engine.proofs.UnloadAims.{rests_of, whole_of}
@@ -257,23 +254,6 @@ unloaded_here law drops t mid new site id aim all n told same sound kind cut = �
       is = inl (unloads law drops mid new id aim all n sound cut s w x had rests free stood there writes of);
     })
 
--- a rule refuses it, or memory is wanting
-pub refused_here : (t mid : Stored) (site : SiteView) (id : SessionId) (aim : Aim) (all : Bool) (e : Refused) → aim.read_only ≡ false → mid ≡ record t { verified = mid.verified } → UnloadTold t id aim (Err e) → UnloadsHere t mid site id aim all (reply_of (Err e))
-refused_here t mid site id aim all (refused.Rule rule) kind same told = λ s w x has rests asks at stands there kinds of. (
-    let fault : unload_fault s x w ≡ Some rule = told s w x has stands there (writes_through x.group aim.read_only kinds kind) of in
-    record {
-      world = w;
-      at = at;
-      stands = stands_over t mid w same stands;
-      is = inl (subst (λ o. Unless o (Then (FlushesSome (unload_entries all x.group)) (Answers (unload_answer x all))) w w (only (No rule))) (sym fault) (refl, refl));
-    })
-refused_here t mid site id aim all refused.Memory kind same told = λ s w x has rests asks at stands there kinds of.
-    record { world = w; at = at; stands = stands_over t mid w same stands; is = inr (refl, refl) }
-
-pub wanting_here : (t mid new : Stored) (site : SiteView) (id : SessionId) (aim : Aim) (all : Bool) → mid ≡ record t { verified = mid.verified } → KeepsGroups mid new → UnloadsHere t new site id aim all (faulty code.Memory)
-wanting_here t mid new site id aim all same keeps = λ s w x has rests asks at stands there kinds of.
-    record { world = w; at = at; stands = stands_kept mid new w (stands_over t mid w same stands) keeps; is = inr (refl, refl) }
-
 -- the whole statement, from the group that it names
 pub unload_done : (t new : Stored) (site : SiteView) (id : SessionId) (u : OfGroup) (aim : Aim) (result : Result Reply Refused) → AimsUnloadIn t id u (Ok aim) → UnloadsHere t new site id aim (asks_all u.which) (reply_of result) → PerformsIn t new site site id (Executes (statement.Unload u)) result
 unload_done t new site id u aim result aims here = λ s has w at stands unshared. (
@@ -300,21 +280,7 @@ unload_done t new site id u aim result aims here = λ s has w at stands unshared
         inl (subst (λ o. Unless o (DoesStatement s (statement.Unload u)) w w' (reply_of result)) (sym f.free) on)
     done s w w' f (inr wants) = inr wants
 
--- the store at a place
-
-set_same : (xs : List Kept) (i : ℕ) (x y : Kept) → slice_get xs i ≡ Some x → y ≡ x → set xs i y ≡ xs
-set_same [] i x y at is = cc
-set_same (z ∷ xs) zero x y at is = let one : z ≡ x = cc in ap (λ q. q ∷ xs) (is ∙ sym one)
-set_same (z ∷ xs) (suc i) x y at is = ap (λ ys. z ∷ ys) (set_same xs i x y at is)
-
-pub cut_there : (place : ℕ) (columns : List ℕ) (which : ResolvedWhich) (old : List Kept) (store left : Kept) (n : ℕ) → place < length old → store ≡ get_or old place store → IsCutBy which columns store left n → IsCutAt place columns which old (set old place left) n
-cut_there place columns which old store left n lt is cuts = record { store = store; left = left; kept = got old place store lt is; cut = cuts; is = refl }
-
-pub not_cut_there : (place : ℕ) (old : List Kept) (store left : Kept) → place < length old → store ≡ get_or old place store → left ≡ store → set old place left ≡ old
-not_cut_there place old store left lt is same = set_same old place store left (got old place store lt is) same
-
-pub clear_there : (place : ℕ) (old : List Kept) (store left : Kept) (n : ℕ) → place < length old → store ≡ get_or old place store → IsClearedBy store left n → IsClearedAt place old (set old place left) n
-clear_there place old store left n lt is cleared = record { store = store; left = left; kept = got old place store lt is; cleared = cleared; is = refl }
+-- the store and the flag of the group
 
 pub group_cleared : (t mid new : Stored) (place n : ℕ) (seen : Group) → slice_get (groups_in t.catalog) place ≡ Some seen → IsClearedAt place t.stores.items mid.stores.items n → mid ≡ record t { stores = mid.stores } → new ≡ record mid { catalog = new.catalog; verified = false }
     → groups_in new.catalog ≡ flagged true place (groups_in mid.catalog) → IsClearedGroup t new place n

@@ -277,7 +277,8 @@ fn judge_unload(alloc: Global, group: &KeptGroup, which: &Which, own: &[Op]) -> 
 
 // 111 of a session that has written, where there is one.
 fn refuse_writer(alloc: Global, found: Option<&Session>) -> Result<(), Refused>
-    ensures { Tells result (option_map locked_by (option_map session_seen (option_map seen_of (option_copied found.entry)))) }
+    ensures { Tells result
+        (option_map locked_by (option_map session_seen (option_map seen_of (option_copied found.entry)))) }
 {
     match found {
         None => Ok(()),
