@@ -7,8 +7,6 @@ pub mod laws;
 mod recent;
 mod shown;
 mod store;
-#[cfg(test)]
-mod tests;
 mod tree_rows;
 
 pub use directory::{Directory, Home};

@@ -8,8 +8,6 @@ mod fields;
 mod reading;
 pub mod size;
 pub mod standing;
-#[cfg(test)]
-mod tests;
 pub mod value;
 pub mod vectors;
 pub mod writing;

@@ -6,7 +6,5 @@ mod lead;
 mod order;
 mod orders;
 mod rows;
-#[cfg(test)]
-mod tests;
 
 pub use rows::SlotRows;
