@@ -216,6 +216,7 @@ module _ (t t' : Stored) (w : World) (place : ℕ) (st : RefreshState) (x : Stan
           (subst (EachShows w.history w.tier.log final) (sym is.stores) shows_then);
       stands = stands_after w x.stands final become positions;
       unkept = x.unkept;
+      waits = x.waits;
     }
 
     pub set_alone : (site : SiteView) (reply : Reply) → IsAt site w → reply ≡ only (Done 0) → IsPerformed t' site (λ w'. SetsStateAlone place g st w w' reply)

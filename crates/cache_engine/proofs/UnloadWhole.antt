@@ -162,6 +162,7 @@ module _ (t new : Stored) (id : SessionId) (aim : Aim) (n : ℕ) (sound : IsSoun
     });
     stands = behind.stands;
     unkept = stands.unkept;
+    waits = stands.waits;
   }
 
   pub unloads : UnloadsTarget s x true w (with_tier (unload_answer x true w).0 w) (only (Done n))
