@@ -62,7 +62,7 @@ impl Tier {
     ///
     /// The refusal is 107 of the key, then 108; the reply is 201 where the bank's call failed; or memory was wanting. All
     /// then stays. Memory is said to be wanting, too, where the last of those transactions is older than the table's
-    /// group; no run comes to that, as a group that is dropped leaves nothing unsettled.
+    /// group; no run should come to that, as a group that is dropped leaves nothing unsettled, but no clause says so.
     pub(crate) fn insert<P: Site>(
         &mut self,
         alloc: Global,
@@ -186,8 +186,8 @@ impl Tier {
     }
 
     // What is known of a key: its own operations come first, then the last unsettled transaction that writes it. It
-    // fails for want of memory, and where that transaction is older than the table's group. No run comes to that, as a
-    // group that is dropped leaves nothing unsettled.
+    // fails for want of memory, and where that transaction is older than the table's group. No run should come to that, as
+    // a group that is dropped leaves nothing unsettled; no clause says so.
     fn know_key(
         &self,
         alloc: Global,

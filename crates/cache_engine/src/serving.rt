@@ -52,8 +52,8 @@ impl Tier {
     }
 
     // CREATE TABLE. Where the schema isn't known, and nothing refuses the definition over what is known, memory is said to
-    // be wanting. No line comes to that: `ask_schema` comes before, where a name isn't cached; and where all are, 113
-    // refuses the name.
+    // be wanting. No line should come to that: `ask_schema` comes before, where a name isn't cached; and where all are, 113
+    // refuses the name. No clause says so.
     fn create_table<P: Site>(
         &mut self,
         alloc: Global,
