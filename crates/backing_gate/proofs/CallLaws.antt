@@ -1,18 +1,18 @@
 -- Laws of a bank call from its begin to its end.
-use Rattle.std.proofs.Common.{◌≡◌, ◌⊎◌, inl, inr, ℕ, ◌+◌, Option, Some, None, Result, Err, MatchOption, List, [], ◌∷◌, ◌++◌, length, refl, sym, ap, subst, ◌∙◌, arith, length-append}
+use Rattle.std.proofs.Common.{◌≡◌, ◌⊎◌, inl, inr, ℕ, ◌+◌, ◌≤◌, Option, Some, None, Result, Err, MatchOption, List, [], ◌∷◌, ◌++◌, length, refl, sym, ap, subst, ◌∙◌, arith, length-append}
 use Rattle.std.specs.Option.{IfSome}
 use Rattle.tier_base.specs.declared.number.TableId.{TableId}
 use Rattle.table_state.specs.declared.history.Entry.{Entry}
 use Rattle.evaluator.specs.declared.change.Change.{Change}
 use Rattle.outside.specs.Calls.{BankCall, GoesOn}
-use Rattle.outside.specs.Faults.{BankHasCause}
+use Rattle.outside.specs.Faults.{BankHasCause, Rose}
 use Rattle.outside.specs.declared.fault.BankError.{BankError}
 use Rattle.outside.specs.declared.fault.BankError.TheVariants.{Failed, Memory}
 use Rattle.backing_gate.specs.Calling.{Begins, Ends, Unmarks, heeded, marked, wanting}
 use Rattle.backing_gate.specs.Heeding.{BankState, Goes, HasEffect, Heeds, IsMoment, MayVisit, bank_of}
 use Rattle.memory_disk.specs.declared.memory_disk.MemoryDisk.{MemoryDisk}
 use Rattle.memory_disk.specs.Possible.{held_of as disk_held}
-use Rattle.backing_gate.specs.Memory.{MemoryState, held_of, moment_of, now_of, possible_of, shared_of}
+use Rattle.backing_gate.specs.Memory.{MemoryState, held_of, now_of, possible_of, site_state}
 use Rattle.backing_gate.specs.declared.mark.Mark.{Mark}
 use Rattle.backing_gate.specs.Plans.{after_call}
 use Rattle.backing_gate.specs.Visits.{Visiting, after_bank_call, next_visit, visit_at}
@@ -91,7 +91,7 @@ module _ (kind : CallKind) (begun : Begun) (a b c d : MemoryState) (begins : Beg
   pub visits : d.visits ≡ after_bank_call a.visits
   visits = ap (λ (s : MemoryState). s.visits) ends.state ∙ visits_then
 
-  pub shares : shared_of d ≡ shared_of a
+  shares : d.visits.shared ≡ a.visits.shared
   shares = ap (λ (v : Visiting). v.shared) visits
 
   pub counted : d.planned ≡ after_call kind a.planned
@@ -112,9 +112,13 @@ module _ (kind : CallKind) (begun : Begun) (a b c d : MemoryState) (begins : Beg
       (subst (λ (v : Visiting). MayVisit v.shared (visit_at Behind begun.number v.visits) c.history d.history) visits_then
       (visit_of c.visits.shared (visit_at Behind begun.number c.visits.visits) c.history d.history begun.mark ends.came))
 
-  pub cause : {T : Type 0} (result : Result T BankError) → BankHasCause b.bank_faults c.bank_faults result → BankHasCause a.bank_faults d.bank_faults result
-  cause result h =
-      subst (λ (n : ℕ). BankHasCause n d.bank_faults result) faults_before (subst (λ (n : ℕ). BankHasCause b.bank_faults n result) (sym faults_behind) h)
+  pub cause : {T : Type 0} (result : Result T BankError) → BankHasCause (site_state b) (site_state c) result → BankHasCause (site_state a) (site_state d) result
+  cause result h = record {
+    later = subst (λ (n : ℕ). n ≤ d.bank_faults) faults_before (subst (λ (n : ℕ). b.bank_faults ≤ n) (sym faults_behind) h.later);
+    failed = λ e. subst (λ (n : ℕ). Rose n d.bank_faults) faults_before (subst (λ (n : ℕ). Rose b.bank_faults n) (sym faults_behind) (h.failed e));
+    disk = ap (λ (s : MemoryState). s.disk_faults) ends.state ∙ h.disk ∙ ap (λ (s : MemoryState). s.disk_faults) begins.state;
+    shared = shares;
+  }
 
   pub goes : (step : BankState → BankState → Type 0) → step (bank_of b) (bank_of c) → Goes a d step
   goes step own = record {
@@ -128,7 +132,7 @@ module _ (kind : CallKind) (begun : Begun) (a b c d : MemoryState) (begins : Beg
   }
 
   module _ (step : List Entry → List Entry → Type 0) (own : step b.history c.history) (extends : Extends b.history c.history) (unmarked : begun.mark ≡ None → c.history ≡ b.history) where
-    pub told : BankCall (shared_of a) step (held_of a) (held_of d)
+    pub told : BankCall a.visits.shared step (held_of a) (held_of d)
     told = record {
       slots = ap (λ (x : MemoryDisk). (disk_held x).slots) disk;
       history = around a.visits.shared (next_visit Before a.visits) (next_visit Behind a.visits) step a.history b.history c.history d.history before own behind;
@@ -153,5 +157,5 @@ module _ (kind : CallKind) (begun : Begun) (a b c d : MemoryState) (begins : Beg
               | inr stays ↦ inr (record { past = stays.past ∙ then ∙ ap (λ (m : Mark). a.past ++ m ∷ []) far; longer = λ e. stays.longer (e ∙ sym long) })
             ]
 
-    pub crash : GoesOn moment_of possible_of a d (BankCall (shared_of a) step)
-    crash = goes_on a d (shared_of a) step disk grown moment told.history
+    pub crash : GoesOn site_state possible_of a d (BankCall a.visits.shared step)
+    crash = goes_on a d a.visits.shared step disk grown moment told.history

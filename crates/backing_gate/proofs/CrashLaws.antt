@@ -7,10 +7,10 @@ use Rattle.outside.specs.Holding.{Held, Slots}
 use Rattle.memory_disk.specs.declared.memory_disk.MemoryDisk.{MemoryDisk}
 use Rattle.memory_disk.specs.declared.pick.Pick.{Pick}
 use Rattle.memory_disk.specs.DiskLaws.{take_all}
-use Rattle.memory_disk.specs.Possible.{held_of as disk_held, moment_of as disk_moment, possible_of as disk_possible, told_of as disk_told}
+use Rattle.memory_disk.specs.Possible.{held_of as disk_held, moment_of as disk_moment, possible_of as disk_possible, site_state as disk_state}
 use Rattle.memory_disk.proofs.PickLaws.{left_possible as disk_left_possible}
 use Rattle.backing_gate.specs.Marks.{least, lesser}
-use Rattle.backing_gate.specs.Memory.{MemoryState, alone, held_of, left_at, moment_of, now_of, possible_of, site_of, then_of, told_of}
+use Rattle.backing_gate.specs.Memory.{MemoryState, alone, held_of, left_at, now_of, possible_of, site_of, site_state, then_of}
 use Rattle.backing_gate.specs.declared.mark.Mark.{Mark}
 use Rattle.backing_gate.proofs.MomentLaws.{least_calls, least_entries}
 
@@ -22,7 +22,7 @@ abbrev held_from : Slots → List Entry → Held
 held_from slots history = record { slots = slots; history = history }
 
 -- a site of a disk that is certain is certain
-pub fresh_certain : (disk : MemoryDisk) (history : List Entry) → Certain disk_told disk_moment disk_possible disk (disk_held disk) → Certain told_of moment_of possible_of (site_of disk history) (held_of (site_of disk history))
+pub fresh_certain : (disk : MemoryDisk) (history : List Entry) → Certain disk_state disk_possible disk (disk_held disk) → Certain site_state possible_of (site_of disk history) (held_of (site_of disk history))
 fresh_certain disk history certain = record {
   told = refl;
   only = λ p can.

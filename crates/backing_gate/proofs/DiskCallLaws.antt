@@ -3,19 +3,20 @@ use Rattle.std.proofs.Common.{◌≡◌, ◌⊎◌, inl, inr, ℕ, ◌≤◌, �
 use Rattle.std.proofs.lemmas.List.{append-nil}
 use Rattle.std.specs.Result.{IsErr}
 use Rattle.std.specs.Prelude.{OnErr, is_err}
-use Rattle.outside.specs.Faults.{HasCause, Rose}
+use Rattle.outside.specs.Faults.{DiskHasCause, Rose}
 use Rattle.table_state.specs.declared.history.Entry.{Entry}
 use Rattle.outside.specs.Calls.{Durable, GoesOn, HasLength, MayCut, MayWrite, ReadsFrom, Same, Stays, Told, WasCut, Wrote}
 use Rattle.outside.specs.Holding.{Held, Slots, slot_of}
 use Rattle.outside.specs.declared.disk.Slot.{Slot}
 use Rattle.outside.specs.declared.fault.DiskFault.{DiskFault}
 use Rattle.memory_disk.specs.declared.memory_disk.MemoryDisk.{MemoryDisk}
-use Rattle.memory_disk.specs.Possible.{IsIdle, IsUnplanned, held_of as disk_held, moment_of as disk_moment, possible_of as disk_possible, told_of as disk_told}
+use Rattle.memory_disk.specs.Possible.{IsIdle, IsUnplanned, held_of as disk_held, moment_of as disk_moment, possible_of as disk_possible, site_state as disk_state, told_of as disk_told}
 use Rattle.memory_disk.proofs.ImageLaws.{idle_goes, idle_told}
 use Rattle.backing_gate.specs.Calling.{Closes}
 use Rattle.backing_gate.specs.Heeding.{HeedsOnDisk, IsUndone, KeepsBank}
-use Rattle.backing_gate.specs.Memory.{MemoryState, alone, held_of, moment_of, now_of, possible_of, told_of}
+use Rattle.backing_gate.specs.Memory.{MemoryState, alone, held_of, moment_of, now_of, possible_of, site_state, told_of}
 use Rattle.backing_gate.specs.Plans.{after_call}
+use Rattle.backing_gate.specs.Visits.{Visiting}
 use Rattle.backing_gate.specs.SiteLaws.{at_present}
 use Rattle.backing_gate.specs.declared.mark.Mark.{Mark}
 use Rattle.backing_gate.specs.declared.plan.CallKind.{CallKind}
@@ -35,7 +36,7 @@ module _ (a d : MemoryState) (undone : IsUndone a d) (history : d.history ≡ a.
   pub undone_held : held_of d ≡ held_of a
   undone_held = same_held (disk_held d.disk).slots d.history (held_of a) (ap (λ (p : Held). p.slots) (idle_told a.disk d.disk undone.disk)) history
 
-  pub undone_goes : (step : Held → Held → Type 0) → GoesOn moment_of possible_of a d step
+  pub undone_goes : (step : Held → Held → Type 0) → GoesOn site_state possible_of a d step
   undone_goes step =
       let g = idle_goes a.disk d.disk Stays undone.disk in
       still_goes a d step undone.past history (ap length undone.disk.calls) (λ m q le h. g.past m q le h) (λ m q le h. g.kept m q le h)
@@ -74,9 +75,9 @@ module _ (a o v d : MemoryState) (mark : Mark) (is : mark ≡ now_of a) (opened 
         | inr on ↦ absurd (on.further (same ∙ ap disk_moment disk_then ∙ sym far))
       ]
 
-  pub goes : (dstep : MemoryDisk → Held → Held → Type 0) (step : Held → Held → Type 0) → GoesOn disk_moment disk_possible o.disk v.disk (dstep o.disk) → ((q p : Held) → p.history ≡ q.history → dstep a.disk (alone q) (alone p) → step q p) → GoesOn moment_of possible_of a d step
+  pub goes : (dstep : MemoryDisk → Held → Held → Type 0) (step : Held → Held → Type 0) → GoesOn disk_state disk_possible o.disk v.disk (dstep o.disk) → ((q p : Held) → p.history ≡ q.history → dstep a.disk (alone q) (alone p) → step q p) → GoesOn site_state possible_of a d step
   goes dstep step on lift =
-      let g : GoesOn disk_moment disk_possible a.disk d.disk (dstep a.disk) = moved (λ (x y : MemoryDisk). GoesOn disk_moment disk_possible x y (dstep x)) on in
+      let g : GoesOn disk_state disk_possible a.disk d.disk (dstep a.disk) = moved (λ (x y : MemoryDisk). GoesOn disk_state disk_possible x y (dstep x)) on in
       let came : (lt : disk_moment a.disk < disk_moment d.disk) (p : Held) → p.history ≡ d.history → disk_possible d.disk (disk_moment d.disk) (alone p) → (q : Held) × (q.history ≡ a.history) × disk_possible a.disk (disk_moment a.disk) (alone q) × step q p =
       λ lt p here slots.
       let from = g.since (disk_moment d.disk) (alone p) lt (omega arith) slots in
@@ -151,13 +152,13 @@ pub record IsSame (x y : MemoryState) : Type 0 where
   pub past : y.past ≡ x.past
   pub history : y.history ≡ x.history
 
-same_goes : (x y : MemoryState) → IsSame x y → GoesOn moment_of possible_of x y Stays
+same_goes : (x y : MemoryState) → IsSame x y → GoesOn site_state possible_of x y Stays
 same_goes x y same =
     still_goes x y Stays same.past same.history (ap disk_moment same.disk)
     (λ m q le h. subst (λ (d : MemoryDisk). disk_possible d m q) same.disk h)
     (λ m q le h. subst (λ (d : MemoryDisk). disk_possible d m q) (sym same.disk) h)
 
-carried : (a b c d : MemoryState) (step : Held → Held → Type 0) → IsSame a b → GoesOn moment_of possible_of b c step → IsSame c d → GoesOn moment_of possible_of a d step
+carried : (a b c d : MemoryState) (step : Held → Held → Type 0) → IsSame a b → GoesOn site_state possible_of b c step → IsSame c d → GoesOn site_state possible_of a d step
 carried a b c d step begun g ended =
     let f = same_goes a b begun in
     let e = same_goes c d ended in
@@ -193,8 +194,8 @@ module _ (kind : CallKind) (a b c d : MemoryState) (begins : b ≡ record a { pl
   pub told_all : (step : Held → Held → Type 0) → step (held_of b) (held_of c) → step (held_of a) (held_of d)
   told_all step h = subst (λ (x : Held). step x (held_of d)) held_begun (subst (λ (x : Held). step (held_of b) x) (sym held_ended) h)
 
-  pub crash_all : (may : Held → Held → Held → Type 0) → GoesOn moment_of possible_of b c (may (held_of b)) → GoesOn moment_of possible_of a d (may (held_of a))
-  crash_all may g = carried a b c d (may (held_of a)) begun (subst (λ (x : Held). GoesOn moment_of possible_of b c (may x)) held_begun g) ended
+  pub crash_all : (may : Held → Held → Held → Type 0) → GoesOn site_state possible_of b c (may (held_of b)) → GoesOn site_state possible_of a d (may (held_of a))
+  crash_all may g = carried a b c d (may (held_of a)) begun (subst (λ (x : Held). GoesOn site_state possible_of b c (may x)) held_begun g) ended
 
   history_then : c.history ≡ b.history
   history_then = ap (λ (s : MemoryState). s.history) kept
@@ -205,7 +206,7 @@ module _ (kind : CallKind) (a b c d : MemoryState) (begins : b ≡ record a { pl
     past = ended.past ∙ u.past ∙ begun.past;
   }
 
-  pub goes_undone : (step : Held → Held → Type 0) → IsUndone b c → GoesOn moment_of possible_of a d step
+  pub goes_undone : (step : Held → Held → Type 0) → IsUndone b c → GoesOn site_state possible_of a d step
   goes_undone step u = carried a b c d step begun (undone_goes b c u history_then step) ended
 
   pub durable_all : (slot : Slot) (result : Result (Unit {0}) DiskFault) → Durable (told_of b) slot result (possible_of c (moment_of c)) → Durable (told_of a) slot result (possible_of d (moment_of d))
@@ -234,8 +235,13 @@ module _ (kind : CallKind) (a b c d : MemoryState) (begins : b ≡ record a { pl
   faults_then : c.disk_faults ≡ a.disk_faults
   faults_then = ap (λ (s : MemoryState). s.disk_faults) kept ∙ ap (λ (s : MemoryState). s.disk_faults) begins
 
-  pub cause : {T : Type 0} (result : Result T DiskFault) → c.disk_faults ≤ d.disk_faults → (is_err result ≡ true → Rose c.disk_faults d.disk_faults) → HasCause a.disk_faults d.disk_faults result
-  cause {T} result later rose = subst (λ (n : ℕ). HasCause n d.disk_faults result) faults_then (record { later = later; failed = by result rose })
+  pub cause : {T : Type 0} (result : Result T DiskFault) → c.disk_faults ≤ d.disk_faults → (is_err result ≡ true → Rose c.disk_faults d.disk_faults) → DiskHasCause (site_state a) (site_state d) result
+  cause {T} result later rose = record {
+    later = subst (λ (n : ℕ). n ≤ d.disk_faults) faults_then later;
+    failed = subst (λ (n : ℕ). OnErr result (Rose n d.disk_faults)) faults_then (by result rose);
+    bank = beside.bank_faults;
+    shared = ap (λ (v : Visiting). v.shared) beside.visits;
+  }
     where
       by : (r : Result T DiskFault) → (is_err r ≡ true → Rose c.disk_faults d.disk_faults) → OnErr r (Rose c.disk_faults d.disk_faults)
       by (Ok x) h = tt

@@ -14,7 +14,7 @@ use Rattle.memory_disk.specs.declared.memory_disk.MemoryDisk.{MemoryDisk}
 use Rattle.memory_disk.specs.Possible.{moment_of as disk_moment, possible_of as disk_possible}
 use Rattle.backing_gate.specs.Heeding.{IsMoment, MayVisit, Visits}
 use Rattle.backing_gate.specs.Marks.{least, lesser, mark_at}
-use Rattle.backing_gate.specs.Memory.{MemoryState, alone, moment_of, now_of, possible_of, then_of}
+use Rattle.backing_gate.specs.Memory.{MemoryState, alone, now_of, possible_of, site_state, then_of}
 use Rattle.backing_gate.specs.SiteLaws.{all_now, at_present}
 use Rattle.backing_gate.specs.declared.mark.Mark.{Mark}
 use Rattle.backing_gate.proofs.BankLaws.{came as entry_came}
@@ -102,7 +102,7 @@ module _ (a d : MemoryState) (step : Held → Held → Type 0) (marked : d.past 
         from.3,
       )
 
-  pub marked_goes : GoesOn moment_of possible_of a d step
+  pub marked_goes : GoesOn site_state possible_of a d step
   marked_goes = record {
     later = omega (arith, more);
     past = λ k p le h. was a d k (as_far k le) extends p disk_past h;
@@ -125,7 +125,7 @@ module _ (a d : MemoryState) (step : Held → Held → Type 0) (past : d.past �
   none_more : Extends a.history d.history
   none_more = ([], history ∙ sym (append-nil a.history))
 
-  pub still_goes : GoesOn moment_of possible_of a d step
+  pub still_goes : GoesOn site_state possible_of a d step
   still_goes =
       let long : length d.past ≡ length a.past = ap length past in
       record {
@@ -155,7 +155,7 @@ module _ (a d : MemoryState) (shared : List TableId) (step : List Entry → List
   )
 
   -- what a crash may leave behind it came by a step
-  pub goes_on : GoesOn moment_of possible_of a d (BankCall shared step)
+  pub goes_on : GoesOn site_state possible_of a d (BankCall shared step)
   goes_on = elim moment [
     | inl none ↦ still_goes a d (BankCall shared step) none.past none.same same_moment same_past same_kept
     | inr marks ↦ marked_goes a d (BankCall shared step) marks.past extends (omega (arith, same_moment)) same_past same_kept bank_came

@@ -37,8 +37,15 @@ pub record Begins (kind : CallKind) (begun : Begun) (old new : MemoryState) : Ty
   pub outcome : begun.outcome ≡ heeded begun.mark (planned_next kind old.planned)
   pub number : begun.number ≡ old.visits.calls
   pub mark : IfSome begun.mark (λ mark. mark ≡ now_of old)
-  pub came : MatchOption begun.mark (new.history ≡ old.history) (λ mark. MayVisit old.visits.shared (next_visit Before old.visits) old.history new.history)
-  pub state : new ≡ record old { history = new.history; past = marked begun.mark old.past; planned = after_call kind old.planned; visits = after_bank_call old.visits }
+  pub came : MatchOption begun.mark (new.history ≡ old.history)
+      (λ mark. MayVisit old.visits.shared (next_visit Before old.visits) old.history new.history)
+  pub state : new
+      ≡ record old {
+        history = new.history;
+        past = marked begun.mark old.past;
+        planned = after_call kind old.planned;
+        visits = after_bank_call old.visits;
+      }
 
 -- the history is as long as it was, and the mark is gone
 pub record Stays (mark : Mark) (front : List Mark) (new : MemoryState) : Type 0 where
@@ -57,7 +64,8 @@ Unmarks mark old new =
 
 -- It ends: what others planned behind it comes, and the moment stays marked where something came.
 pub record Ends (begun : Begun) (old new : MemoryState) : Type 0 where
-  pub came : MatchOption begun.mark (new.history ≡ old.history) (λ mark. MayVisit old.visits.shared (visit_at Behind begun.number old.visits.visits) old.history new.history)
+  pub came : MatchOption begun.mark (new.history ≡ old.history)
+      (λ mark. MayVisit old.visits.shared (visit_at Behind begun.number old.visits.visits) old.history new.history)
   pub past : MatchOption begun.mark (new.past ≡ old.past) (λ mark. Unmarks mark old new)
   pub state : new ≡ record old { history = new.history; past = new.past }
 

@@ -1,6 +1,6 @@
 -- How calls heed their plans. (This project's rule for sites in memory.)
 
-use Rattle.std.specs.Prelude.{◌≡◌, ◌⊎◌, ℕ, ◌+◌, ◌-◌, ◌^◌, min, List, [], ◌∷◌, ◌++◌, Option, Some, None, Result, Ok, Err, length, true}
+use Rattle.std.specs.Prelude.{◌≡◌, ◌⊎◌, ℕ, List, [], ◌∷◌, ◌++◌, Option, Some, None, Result, Ok, Err, length, true}
 use Rattle.std.specs.Option.{IsSome}
 use Rattle.std.specs.Result.{IsErr, IsErrOf}
 use Rattle.tier_base.specs.declared.number.TableId.{TableId}
@@ -19,7 +19,7 @@ use Rattle.outside.specs.declared.fault.BankError.TheVariants.{Failed, Memory}
 use Rattle.outside.specs.declared.fault.DiskFault.{DiskFault}
 use Rattle.outside.specs.declared.disk.Slot.{Slot}
 use Rattle.outside.specs.Bank.{CanFollow}
-use Rattle.outside.specs.Calls.{BankCall, Durable, GoesOn, MayApply, Told, WasCut, Wrote}
+use Rattle.outside.specs.Calls.{Durable, WasCut, Wrote}
 use Rattle.outside.specs.Console.{Writes, WritesForeign}
 use Rattle.outside.specs.declared.site.Done.{Done}
 use Rattle.outside.specs.Others.{are_on_shared}
@@ -31,9 +31,9 @@ use Rattle.backing_gate.specs.declared.plan.When.TheVariants as when
 use Rattle.backing_gate.specs.declared.visit.Side.{Side}
 use Rattle.backing_gate.specs.declared.visit.Side.TheVariants.{Before, Behind}
 use Rattle.backing_gate.specs.declared.visit.Visit.{Visit}
-use Rattle.backing_gate.specs.Memory.{MemoryState, held_of, moment_of, now_of, possible_of, shared_of, told_of}
+use Rattle.backing_gate.specs.Memory.{MemoryState, held_of, moment_of, now_of, possible_of, told_of}
 use Rattle.backing_gate.specs.Plans.{one_more, planned_next, with_plan}
-use Rattle.backing_gate.specs.Visits.{next_visit, with_visit}
+use Rattle.backing_gate.specs.Visits.{next_visit, number_behind, with_visit}
 
 -- the bank's history and its count of faults
 pub record BankState : Type 0 where
@@ -52,7 +52,8 @@ IsAsBefore old new = (new.history ≡ old.history) × (new.faults ≡ old.faults
 abbrev pub Heeds : {T : Type 0} → Option Outcome → BankState → BankState → Result T BankError → Type 0 → Type 0
 Heeds None old new result effect = (new.faults ≡ old.faults) × (IsErrOf result Failed → ⊥)
 Heeds (Some outcome.Refused) old new result effect = (result ≡ Err Memory) × IsAsBefore old new
-Heeds (Some (outcome.Failed when.Before)) old new result effect = (result ≡ Err Failed) × (new.history ≡ old.history) × (new.faults ≡ one_more old.faults)
+Heeds (Some (outcome.Failed when.Before)) old new result effect =
+    (result ≡ Err Failed) × (new.history ≡ old.history) × (new.faults ≡ one_more old.faults)
 Heeds (Some (outcome.Failed when.After)) old new result effect =
     ((result ≡ Err Failed) × effect × (new.faults ≡ one_more old.faults)) ⊎ ((result ≡ Err Memory) × IsAsBefore old new)
 
@@ -65,7 +66,9 @@ HasEffect (Some (outcome.Failed when.After)) = Unit {0}
 
 -- no write meets a row that isn't there as its operation says
 abbrev pub NoneDiffers : List Change → List Entry → Type 0
-NoneDiffers changes history = (s : TableState) (t : TableId) (key : List Value) (row : Option (List Value)) → state_of history ≡ Some s → written_by_all changes s ≡ Err (error.Differs t key row) → ⊥
+NoneDiffers changes history =
+    (s : TableState) (t : TableId) (key : List Value) (row : Option (List Value)) → state_of history ≡ Some s
+    → written_by_all changes s ≡ Err (error.Differs t key row) → ⊥
 
 -- these writes of others come: they break no rule, and change shared tables alone
 pub record Visits (shared : List TableId) (changes : List Change) (old new : List Entry) : Type 0 where
@@ -84,7 +87,8 @@ pub record Goes (old new : MemoryState) (step : BankState → BankState → Type
   pub begun : List Entry
   pub done : List Entry
   pub before : MayVisit old.visits.shared (next_visit Before old.visits) old.history begun
-  pub own : step (record { history = begun; faults = old.bank_faults }) (record { history = done; faults = new.bank_faults })
+  pub own : step (record { history = begun; faults = old.bank_faults })
+      (record { history = done; faults = new.bank_faults })
   pub behind : MayVisit old.visits.shared (next_visit Behind old.visits) done new.history
 
 -- the call changed nothing
@@ -154,13 +158,10 @@ pub record KeepsBank (old new : MemoryState) : Type 0 where
 abbrev pub Step : Type 1
 Step = List Entry → List Entry → Type 0
 
--- a bank call, as it is told
-abbrev pub BankTold : MemoryState → MemoryState → Step → Type 0
-BankTold old new step = Told (told_of old) (told_of new) (BankCall (shared_of old) step)
-
--- a bank call, as a crash may leave it
-abbrev pub BankGoesOn : MemoryState → MemoryState → Step → Type 0
-BankGoesOn old new step = GoesOn moment_of possible_of old new (MayApply (shared_of old) (told_of old) step)
+-- a call's own step, with this effect on the history, heeds what it was told
+abbrev pub HeedsAs : {T : Type 0} → Option Outcome → MemoryState → MemoryState → Result T BankError → Step → Type 0
+HeedsAs outcome old new result effect =
+    Heeds outcome (bank_of old) (bank_of new) result (effect old.history new.history)
 
 -- a bank call of this kind comes out as the next plan for it says
 abbrev pub GoesAsPlanned : {T : Type 0} → CallKind → MemoryState → MemoryState → Result T BankError → Step → Type 0
@@ -190,7 +191,7 @@ IsPlannedFor kind number outcome old new =
 -- one transaction of others more, for the call that so many calls come before
 abbrev pub visit_of : ℕ → Side → List Change → MemoryState → Visit
 visit_of calls side changes old = record {
-  number = min (old.visits.calls + calls) (2 ^ 64 - 1);
+  number = number_behind calls old.visits;
   side = side;
   changes = changes;
 }

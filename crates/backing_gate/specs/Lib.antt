@@ -6,6 +6,6 @@ pub mod Plans
 pub mod SiteCode
 pub mod SiteLaws
 pub mod Tickets
-pub mod Tries
+pub mod Sharing
 pub mod VisitCode
 pub mod Visits

@@ -1,14 +1,14 @@
 -- What a site in memory holds, and what a crash leaves of it. (This project's model of disk and crash.)
 
 use Rattle.std.specs.Prelude.{◌≡◌, ℕ, List, [], Option, Some, length, take}
-use Rattle.tier_base.specs.declared.number.TableId.{TableId}
 use Rattle.table_state.specs.declared.history.Entry.{Entry}
 use Rattle.outside.specs.Calls.{Certain, GoesOn}
 use Rattle.outside.specs.Holding.{Held}
+use Rattle.outside.specs.Sites.{SiteState}
 use Rattle.memory_disk.specs.declared.memory_disk.MemoryDisk.{MemoryDisk}
 use Rattle.memory_disk.specs.declared.pick.Pick.{Pick}
 use Rattle.memory_disk.specs.Picking.{left_at as disk_left}
-use Rattle.memory_disk.specs.Possible.{held_of as disk_held, moment_of as disk_moment, possible_of as disk_possible, told_of as disk_told}
+use Rattle.memory_disk.specs.Possible.{held_of as disk_held, moment_of as disk_moment, possible_of as disk_possible, site_state as disk_state}
 use Rattle.backing_gate.specs.Marks.{mark_at}
 use Rattle.backing_gate.specs.Plans.{Planned, no_plans}
 use Rattle.backing_gate.specs.Visits.{Visiting, no_visits}
@@ -36,9 +36,15 @@ told_of s = Some (held_of s)
 abbrev pub moment_of : MemoryState → ℕ
 moment_of s = length s.past
 
--- the tables that the planned transactions of others name
-abbrev pub shared_of : MemoryState → List TableId
-shared_of s = s.visits.shared
+-- What is known of it. The tables that others change are those that the planned transactions of others name.
+abbrev pub site_state : MemoryState → SiteState
+site_state s = record {
+  held = told_of s;
+  disk_faults = s.disk_faults;
+  bank_faults = s.bank_faults;
+  moment = moment_of s;
+  shared = s.visits.shared;
+}
 
 -- how far it is
 abbrev pub now_of : MemoryState → Mark
@@ -70,14 +76,14 @@ left_at s moment pick = record {
 
 -- a crash now leaves what is told, and nothing else: of a disk, and of a site
 abbrev pub IsCertainDisk : MemoryDisk → Type 0
-IsCertainDisk disk = Certain disk_told disk_moment disk_possible disk (disk_held disk)
+IsCertainDisk disk = Certain disk_state disk_possible disk (disk_held disk)
 
 abbrev pub IsCertain : MemoryState → Type 0
-IsCertain s = Certain told_of moment_of possible_of s (held_of s)
+IsCertain s = Certain site_state possible_of s (held_of s)
 
 -- several calls of the disk, or one
 abbrev pub DiskGoesOn : MemoryDisk → MemoryDisk → (Held → Held → Type 0) → Type 0
-DiskGoesOn old new step = GoesOn disk_moment disk_possible old new step
+DiskGoesOn old new step = GoesOn disk_state disk_possible old new step
 
 -- what a crash now may leave of a disk
 abbrev pub now_possible : MemoryDisk → Held → Type 0

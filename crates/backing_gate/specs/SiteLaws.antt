@@ -24,7 +24,8 @@ pub all_now : (d : MemoryState) → take (then_of d (length d.past)).entries d.h
 all_now d = ap (λ (mark : Mark). take mark.entries d.history) (at_present d.past (now_of d)) ∙ take_all d.history
 
 -- what is kept beside the slots is certain now
-pub certain_law : (d : MemoryState) (o p : Held) → Some (held_of d) ≡ Some o → possible_of d (length d.past) p → p.history ≡ o.history
+pub certain_law : (d : MemoryState) (o p : Held) → Some (held_of d) ≡ Some o → possible_of d (length d.past) p
+    → p.history ≡ o.history
 certain_law d o p e h = h.history ∙ all_now d ∙ ap (λ x. x.history) (same_held (held_of d) o e)
 
 -- what is held is possible now

@@ -10,5 +10,6 @@ use Rattle.backing_gate.specs.Visits.{Visiting}
 
 abbrev pub visiting_code : Coded Visiting
 visiting_code =
-    code_by (List Visit × (List TableId × ℕ)) (coded× (coded_list one.the_row.coded) (coded× (coded_list id.the_row.coded) coded_ℕ))
+    code_by (List Visit × (List TableId × ℕ))
+    (coded× (coded_list one.the_row.coded) (coded× (coded_list id.the_row.coded) coded_ℕ))
     (λ v. (v.visits, (v.shared, v.calls))) (λ p. record { visits = p.0; shared = p.1.0; calls = p.1.1 }) (λ _. refl)

@@ -1,6 +1,6 @@
 -- Transactions of others that are planned for calls. (This project's rule for sites in memory.)
 
-use Rattle.std.specs.Prelude.{ℕ, List, [], ◌∷◌, ◌++◌, Option, Bool, true, false, ◌&&◌, ◌==◌, find, map}
+use Rattle.std.specs.Prelude.{ℕ, ◌+◌, ◌-◌, ◌^◌, List, [], ◌∷◌, ◌++◌, Option, Bool, true, false, ◌&&◌, ◌==◌, find, map, min}
 use Rattle.std.specs.Option.{option_map}
 use Rattle.tier_base.specs.declared.number.TableId.{TableId}
 use Rattle.evaluator.specs.declared.change.Change.{Change}
@@ -9,7 +9,8 @@ use Rattle.backing_gate.specs.declared.visit.Side.TheVariants.{Before, Behind}
 use Rattle.backing_gate.specs.declared.visit.Visit.{Visit}
 use Rattle.backing_gate.specs.Plans.{one_more}
 
--- the transactions in the order in which they were planned, the tables that their writes name, and the bank calls so far
+-- the transactions in the order in which they were planned, the tables that their writes name, and the bank calls so
+-- far
 pub record Visiting : Type 0 where
   pub visits : List Visit
   pub shared : List TableId
@@ -44,4 +45,12 @@ tables_of changes = map (λ c. c.table) changes
 
 -- one more is planned, and the tables that its writes name are shared
 abbrev pub with_visit : Visit → Visiting → Visiting
-with_visit visit v = record { visits = v.visits ++ visit ∷ []; shared = v.shared ++ tables_of visit.changes; calls = v.calls }
+with_visit visit v = record {
+  visits = v.visits ++ visit ∷ [];
+  shared = v.shared ++ tables_of visit.changes;
+  calls = v.calls;
+}
+
+-- the number of the call that so many calls come before
+abbrev pub number_behind : ℕ → Visiting → ℕ
+number_behind calls v = min (v.calls + calls) (2 ^ 64 - 1)

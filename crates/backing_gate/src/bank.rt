@@ -1,6 +1,6 @@
 //! Tables with the history that they come of.
 
-ghost use Rattle.std.specs.Prelude.{◌≡◌, ◌≤◌, [], ◌∷◌, ◌++◌, false, length, take, IfErr, IfOk, IfSome, IsSome, Ok, OnErr, OnOk, Some};
+ghost use Rattle.std.specs.Prelude.{◌≡◌, ◌≤◌, [], ◌∷◌, ◌++◌, false, length, take, IfErr, IfOk, IfSome, IsSome, None, Ok, OnErr, OnOk, Some};
 ghost use Rattle.std.specs.Result.{IsErrOf};
 ghost use Rattle.std.specs.FinMap.{get};
 ghost use Rattle.table_state.specs.declared.history.Entry.{Entry};
@@ -13,7 +13,8 @@ ghost use Rattle.outside.specs.Others.{are_on_shared, is_shared};
 ghost use Rattle.outside.specs.declared.fault.BankError.{BankError};
 ghost use Rattle.transactions.specs.Transactions.{Tells, written_by_all};
 ghost use Rattle.backing_gate.specs.Heeding.{MayVisit, NoneDiffers};
-ghost use Rattle.backing_gate.specs.Tries.{Tries};
+ghost use Rattle.backing_gate.specs.Sharing.{WritesOnShared};
+ghost use Rattle.table_scan.specs.Keyed.{IsKeyed};
 ghost use Rattle.backing_gate.specs.Tickets.{FirstMissing};
 
 use crate::difference::{first_difference, row_at};
@@ -24,17 +25,10 @@ use row_types::{Key, Row};
 use std::alloc::{AllocError, Global};
 use std::marker::Model;
 use table_defs::{BackingSchema, TableDef};
-use table_state::{ApplyError, Entry, History, Op, Ops, Sealed, Tables, copied_ops};
+use table_state::{ApplyError, Entry, History, Op, Sealed, Tables, UndoLog, copied_ops};
 use tier_base::{Position, Seq, TableId, Ticket};
-use transactions::write_all;
-
-// What writes do, and the tables that they leave.
-#[derive(Drop)]
-struct Tried {
-    ops: Ops,
-    rows: usize,
-    tables: Tables,
-}
+use transactions::writing::write_each;
+use transactions::{Written, write_all};
 
 /// The backing tables, with the history that left them. Clauses see the history.
 #[derive(Drop)]
@@ -137,7 +131,8 @@ impl MemoryBank {
         table: TableId,
         key: &Key,
     ) -> Result<Option<Row>, AllocError>
-        ensures { IfOk result (λ row. (s : TableState) → state_of self.now ≡ Some s → row ≡ get (table_at s table) key.now) }
+        ensures { IfOk result
+            (λ row. (s : TableState) → state_of self.now ≡ Some s → row ≡ get (table_at s table) key.now) }
     {
         row_at(alloc, &self.tables, table, key)
     }
@@ -200,7 +195,8 @@ impl MemoryBank {
     // The entry is put in empty first, so that no memory is wanting when the tables have changed.
     fn write(&mut self, alloc: Global, changes: &[Change]) -> Result<usize, ApplyError>
         ensures ok { IfOk result (λ rows. Writes changes.now rows self.old self.new) }
-        ensures refused { IfErr result (λ error. (s : TableState) → state_of self.old ≡ Some s → Tells (written_by_all changes.now s) error) }
+        ensures refused { IfErr result
+            (λ error. (s : TableState) → state_of self.old ≡ Some s → Tells (written_by_all changes.now s) error) }
         ensures unchanged { OnErr result (self.new ≡ self.old) }
     {
         self.ledger.push_foreign(Seq::new(alloc))?;
@@ -218,39 +214,17 @@ impl MemoryBank {
     }
 
     /// Lets a transaction of others with these writes come, where they break no rule, change shared tables alone and
-    /// memory isn't wanting; else nothing changes.
+    /// memory isn't wanting; else nothing changes. It costs what its own rows cost: no table is copied.
     pub(crate) fn visit(&mut self, alloc: Global, shared: &[TableId], changes: &[Change])
         ensures { MayVisit shared.now (Some changes.now) self.old self.new }
     {
-        match self.tried(alloc, shared, changes) {
-            None => {}
-            Some(tried) => match self.ledger.push_foreign(tried.ops) {
-                Ok(()) => self.tables = tried.tables,
-                Err(_) => {}
+        // The entry is put in empty first, so that no memory is wanting when the tables have changed.
+        match self.ledger.push_foreign(Seq::new(alloc)) {
+            Err(_) => {}
+            Ok(()) => match write_on_shared(alloc, &mut self.tables, shared, changes) {
+                None => self.ledger.take_back(),
+                Some(written) => self.ledger.fill(alloc, written.ops),
             },
-        }
-    }
-
-    // What the writes of others do, tried on a copy of the tables.
-    fn tried(&self, alloc: Global, shared: &[TableId], changes: &[Change]) -> Option<Tried>
-        ensures { IfSome result (λ tried. Tries shared.now changes.now tried self.now) }
-    {
-        let Ok(mut tables) = self.tables.copied(alloc) else {
-            return None;
-        };
-        match write_all(alloc, &mut tables, changes) {
-            Err(_) => None,
-            Ok(written) => {
-                if are_on_shared(shared, written.ops.as_slice()) {
-                    Some(Tried {
-                        ops: written.ops,
-                        rows: written.rows,
-                        tables,
-                    })
-                } else {
-                    None
-                }
-            }
         }
     }
 
@@ -258,7 +232,8 @@ impl MemoryBank {
     /// alone.
     pub(crate) fn snapshot(&self, alloc: Global, tables: &[TableId]) -> Result<Snapshot, AllocError>
         ensures position { IfOk result (λ snapshot. snapshot.position.0 ≡ length self.now) }
-        ensures copy { IfOk result (λ snapshot. (s : TableState) → state_of self.now ≡ Some s → IsCopyOf tables.now s snapshot.tables) }
+        ensures copy { IfOk result
+            (λ snapshot. (s : TableState) → state_of self.now ≡ Some s → IsCopyOf tables.now s snapshot.tables) }
     {
         let tables = self.tables.copied_of(alloc, tables)?;
         let position = Position(self.ledger.entries().len() as u64);
@@ -336,7 +311,8 @@ impl MemoryBank {
         ensures ok { OnOk result (self.new ≡ self.old ++ entry_of sealed.now ∷ []) }
         ensures applies { OnOk result (IsSome (state_of (self.old ++ entry_of sealed.now ∷ []))) }
         ensures none { IfErr result (SaysNone (state_of (self.old ++ entry_of sealed.now ∷ []))) }
-        ensures refused { IfErr result (λ error. (s : TableState) → state_of self.old ≡ Some s → IsFault (broken_by_all sealed.now.ops s) error) }
+        ensures refused { IfErr result
+            (λ error. (s : TableState) → state_of self.old ≡ Some s → IsFault (broken_by_all sealed.now.ops s) error) }
         ensures unchanged { OnErr result (self.new ≡ self.old) }
     {
         let ops = copied_ops(alloc, sealed.ops.as_slice())?;
@@ -347,6 +323,33 @@ impl MemoryBank {
                 self.ledger.take_back();
                 return Err(error);
             }
+        }
+    }
+}
+
+// Does the writes of others where they break no rule and change shared tables alone; else the tables are as they were.
+fn write_on_shared(
+    alloc: Global,
+    tables: &mut Tables,
+    shared: &[TableId],
+    changes: &[Change],
+) -> Option<Written>
+    requires { IsKeyed tables.old }
+    ensures none { result ≡ None → tables.new ≡ tables.old }
+    ensures some { IfSome result (λ written. WritesOnShared shared.now changes.now written tables.old tables.new) }
+{
+    let mut log = UndoLog::new(alloc);
+    match write_each(alloc, tables, changes, &mut log) {
+        Err(_) => {
+            tables.take_all_back(alloc, log);
+            None
+        }
+        Ok(written) => {
+            if are_on_shared(shared, written.ops.as_slice()) {
+                return Some(written);
+            }
+            tables.take_all_back(alloc, log);
+            None
         }
     }
 }

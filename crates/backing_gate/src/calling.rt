@@ -65,7 +65,8 @@ impl MemorySite {
 
     // Lets the transaction of others come that is planned for this side of the call of this number.
     fn heed_others(&mut self, side: Side, number: u64)
-        ensures came { MayVisit self.old.visits.shared (visit_at side number self.old.visits.visits) self.old.history self.new.history }
+        ensures came { MayVisit self.old.visits.shared (visit_at side number self.old.visits.visits)
+            self.old.history self.new.history }
         ensures kept { self.new ≡ record self.old { history = self.new.history } }
     {
         match self.visits.find(side, number) {

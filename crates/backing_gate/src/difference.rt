@@ -26,15 +26,16 @@ pub(crate) struct Difference {
     pub row: Option<Row>,
 }
 
-/// The difference at the first operation that doesn't apply. A condition is that one doesn't. Those before it are applied
-/// and taken back again, so the tables are as they were. It fails for want of memory alone.
+/// The difference at the first operation that doesn't apply. A condition is that one doesn't. Those before it are
+/// applied and taken back again, so the tables are as they were. It fails for want of memory alone.
 pub(crate) fn first_difference(
     alloc: Global,
     tables: &mut Tables,
     ops: &[Op],
 ) -> Result<Difference, AllocError>
     requires { applied_all ops.now tables.old ≡ None }
-    ensures found { IfOk result (λ difference. first_difference ops.now tables.old ≡ Some (difference.table, difference.key, difference.row)) }
+    ensures found { IfOk result (λ difference. first_difference ops.now tables.old
+        ≡ Some (difference.table, difference.key, difference.row)) }
     ensures unchanged { tables.new ≡ tables.old }
 {
     let mut log = UndoLog::new(alloc);
@@ -51,7 +52,8 @@ fn difference_in(
     log: &mut UndoLog,
 ) -> Result<Difference, AllocError>
     requires { applied_all ops.now tables.old ≡ None }
-    ensures found { IfOk result (λ difference. first_difference ops.now tables.old ≡ Some (difference.table, difference.key, difference.row)) }
+    ensures found { IfOk result (λ difference. first_difference ops.now tables.old
+        ≡ Some (difference.table, difference.key, difference.row)) }
     ensures back { (s : TableState) → LeadsBack log.old tables.old s → LeadsBack log.new tables.new s }
 {
     for op in ops {
@@ -71,7 +73,8 @@ fn difference_of(
     error: ApplyError,
 ) -> Result<Difference, AllocError>
     requires { IsFault (broken_by op.now tables.now) error }
-    ensures { IfOk result (λ difference. option_map (difference_of op.now tables.now) (broken_by op.now tables.now) ≡ Some (difference.table, difference.key, difference.row)) }
+    ensures { IfOk result (λ difference. option_map (difference_of op.now tables.now) (broken_by op.now tables.now)
+        ≡ Some (difference.table, difference.key, difference.row)) }
 {
     match error {
         ApplyError::Memory => return Err(AllocError),

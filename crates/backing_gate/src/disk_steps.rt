@@ -7,7 +7,7 @@ ghost use Rattle.outside.specs.Faults.{Rose};
 ghost use Rattle.memory_disk.specs.Possible.{IsIdle, IsUnplanned, told_of as disk_told};
 ghost use Rattle.backing_gate.specs.Calling.{Closes};
 ghost use Rattle.backing_gate.specs.Heeding.{HeedsOnDisk, IsSynced, IsUndone, WasCutAll, WroteAll};
-ghost use Rattle.backing_gate.specs.Memory.{DiskGoesOn, moment_of, now_of, now_possible, possible_of, told_of};
+ghost use Rattle.backing_gate.specs.Memory.{DiskGoesOn, moment_of, now_of, now_possible, possible_of, site_state, told_of};
 ghost use Rattle.backing_gate.specs.Plans.{after_call, planned_next};
 
 use crate::mark::Mark;
@@ -121,7 +121,8 @@ impl MemorySite {
         bytes: &[u8],
     ) -> Result<(), DiskFault>
         ensures told { Told (told_of self.old) (told_of self.new) (Wrote slot at bytes.now result) }
-        ensures crash { GoesOn moment_of possible_of self.old self.new (MayWrite (told_of self.old) slot at bytes.now) }
+        ensures crash { GoesOn site_state possible_of self.old self.new
+            (MayWrite (told_of self.old) slot at bytes.now) }
         ensures heeds { HeedsOnDisk outcome self.old self.new result (WroteAll slot at bytes.now self.old self.new) }
         ensures kept { self.new ≡ record self.old { disk = self.new.disk; past = self.new.past } }
     {
@@ -139,7 +140,8 @@ impl MemorySite {
     // The same without a plan, as a moment where it changes something.
     fn write_now(&mut self, slot: Slot, at: u64, bytes: &[u8]) -> Result<(), DiskFault>
         ensures told { Told (told_of self.old) (told_of self.new) (Wrote slot at bytes.now result) }
-        ensures crash { GoesOn moment_of possible_of self.old self.new (MayWrite (told_of self.old) slot at bytes.now) }
+        ensures crash { GoesOn site_state possible_of self.old self.new
+            (MayWrite (told_of self.old) slot at bytes.now) }
         ensures undone { IsUnplanned self.old.disk → IsErr result → IsUndone self.old self.new }
         ensures kept { self.new ≡ record self.old { disk = self.new.disk; past = self.new.past } }
     {
@@ -171,7 +173,7 @@ impl MemorySite {
         len: u64,
     ) -> Result<(), DiskFault>
         ensures told { Told (told_of self.old) (told_of self.new) (WasCut slot len result) }
-        ensures crash { GoesOn moment_of possible_of self.old self.new (MayCut (told_of self.old) slot len) }
+        ensures crash { GoesOn site_state possible_of self.old self.new (MayCut (told_of self.old) slot len) }
         ensures heeds { HeedsOnDisk outcome self.old self.new result (WasCutAll slot len self.old self.new) }
         ensures kept { self.new ≡ record self.old { disk = self.new.disk; past = self.new.past } }
     {
@@ -189,7 +191,7 @@ impl MemorySite {
     // The same without a plan, as a moment where it changes something.
     fn cut_now(&mut self, slot: Slot, len: u64) -> Result<(), DiskFault>
         ensures told { Told (told_of self.old) (told_of self.new) (WasCut slot len result) }
-        ensures crash { GoesOn moment_of possible_of self.old self.new (MayCut (told_of self.old) slot len) }
+        ensures crash { GoesOn site_state possible_of self.old self.new (MayCut (told_of self.old) slot len) }
         ensures undone { IsUnplanned self.old.disk → IsErr result → IsUndone self.old self.new }
         ensures kept { self.new ≡ record self.old { disk = self.new.disk; past = self.new.past } }
     {
@@ -216,7 +218,7 @@ impl MemorySite {
     /// Makes the slot certain, as is planned of the call.
     pub(crate) fn sync_as(&mut self, outcome: Option<Outcome>, slot: Slot) -> Result<(), DiskFault>
         ensures told { Told (told_of self.old) (told_of self.new) Same }
-        ensures crash { GoesOn moment_of possible_of self.old self.new Stays }
+        ensures crash { GoesOn site_state possible_of self.old self.new Stays }
         ensures durable { Durable (told_of self.old) slot result (possible_of self.new (moment_of self.new)) }
         ensures heeds { HeedsOnDisk outcome self.old self.new result (IsSynced slot self.old self.new) }
         ensures kept { self.new ≡ record self.old { disk = self.new.disk; past = self.new.past } }
@@ -235,7 +237,7 @@ impl MemorySite {
     // The same without a plan, as a moment where it changes something.
     fn sync_now(&mut self, slot: Slot) -> Result<(), DiskFault>
         ensures told { Told (told_of self.old) (told_of self.new) Same }
-        ensures crash { GoesOn moment_of possible_of self.old self.new Stays }
+        ensures crash { GoesOn site_state possible_of self.old self.new Stays }
         ensures durable { Durable (told_of self.old) slot result (possible_of self.new (moment_of self.new)) }
         ensures undone { IsUnplanned self.old.disk → IsErr result → IsUndone self.old self.new }
         ensures kept { self.new ≡ record self.old { disk = self.new.disk; past = self.new.past } }

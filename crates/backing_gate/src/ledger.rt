@@ -106,7 +106,8 @@ impl Ledger {
     /// memory.
     pub(crate) fn fill(&mut self, alloc: Global, ops: Ops)
         requires { EndsForeign self.old }
-        ensures { (front : List Entry) (before : List Op) → self.old ≡ front ++ Entry.Foreign before ∷ [] → self.new ≡ front ++ Entry.Foreign ops ∷ [] }
+        ensures { (front : List Entry) (before : List Op) → self.old ≡ front ++ Entry.Foreign before ∷ []
+            → self.new ≡ front ++ Entry.Foreign ops ∷ [] }
     {
         let mut entries = std::mem::replace(&mut self.entries, Seq::new(alloc)).into_vec();
         let last = entries.len() - 1;

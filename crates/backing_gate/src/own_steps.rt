@@ -1,14 +1,13 @@
 //! The own steps of the bank calls, as they are planned.
 
-ghost use Rattle.std.specs.Prelude.{◌≡◌, ◌≤◌, ◌⊎◌, [], ◌∷◌, ◌++◌, Ok};
+ghost use Rattle.std.specs.Prelude.{◌≡◌, ◌≤◌, ◌⊎◌, [], ◌∷◌};
 ghost use Rattle.table_state.specs.declared.history.Entry.{Entry};
-ghost use Rattle.table_state.specs.Histories.{entry_of};
-ghost use Rattle.outside.specs.Bank.{AppliesOnce, CanFollow, Defines, TellsRow, TellsSchema};
+ghost use Rattle.outside.specs.Bank.{AppliesOnce, Defines, Grows, TellsRow, TellsSchema};
 ghost use Rattle.outside.specs.Console.{TakesSnapshot, WritesForeign};
 ghost use Rattle.outside.specs.Faults.{BankHasCause, Rose};
-ghost use Rattle.outside.specs.declared.site.Done.{Done};
 ghost use Rattle.backing_gate.specs.Plans.{one_more};
-ghost use Rattle.backing_gate.specs.Heeding.{Heeds, NoneDiffers, HasEffect, bank_of};
+ghost use Rattle.backing_gate.specs.Heeding.{HasEffect, HeedsAs, IsWritten, MustCome, NoneDiffers};
+ghost use Rattle.backing_gate.specs.Memory.{site_state};
 
 use crate::memory_site::MemorySite;
 use crate::plan::{Outcome, When};
@@ -32,8 +31,8 @@ impl MemorySite {
     /// The definitions of the tables.
     pub(crate) fn schema_as(&mut self, outcome: Option<Outcome>) -> Result<BackingSchema, BankError>
         ensures own { TellsSchema result self.old.history self.new.history }
-        ensures heeds { Heeds outcome (bank_of self.old) (bank_of self.new) result (self.new.history ≡ self.old.history) }
-        ensures cause { BankHasCause self.old.bank_faults self.new.bank_faults result }
+        ensures heeds { HeedsAs outcome self.old self.new result (λ begun done. done ≡ begun) }
+        ensures cause { BankHasCause (site_state self.old) (site_state self.new) result }
         ensures kept { self.new ≡ record self.old { history = self.new.history; bank_faults = self.new.bank_faults } }
     {
         match outcome {
@@ -56,8 +55,8 @@ impl MemorySite {
         def: &TableDef,
     ) -> Result<(), BankError>
         ensures own { Defines def.now result self.old.history self.new.history }
-        ensures heeds { Heeds outcome (bank_of self.old) (bank_of self.new) result (self.new.history ≡ self.old.history ++ Entry.Definition def.now ∷ []) }
-        ensures cause { BankHasCause self.old.bank_faults self.new.bank_faults result }
+        ensures heeds { HeedsAs outcome self.old self.new result (Grows (Entry.Definition def.now ∷ [])) }
+        ensures cause { BankHasCause (site_state self.old) (site_state self.new) result }
         ensures kept { self.new ≡ record self.old { history = self.new.history; bank_faults = self.new.bank_faults } }
     {
         match outcome {
@@ -88,8 +87,8 @@ impl MemorySite {
         after: &[Ticket],
     ) -> Result<Applied, BankError>
         ensures own { AppliesOnce sealed.now after.now result self.old.history self.new.history }
-        ensures heeds { Heeds outcome (bank_of self.old) (bank_of self.new) result (CanFollow sealed.now after.now self.old.history → self.new.history ≡ self.old.history ++ entry_of sealed.now ∷ []) }
-        ensures cause { BankHasCause self.old.bank_faults self.new.bank_faults result }
+        ensures heeds { HeedsAs outcome self.old self.new result (MustCome sealed.now after.now) }
+        ensures cause { BankHasCause (site_state self.old) (site_state self.new) result }
         ensures kept { self.new ≡ record self.old { history = self.new.history; bank_faults = self.new.bank_faults } }
     {
         match outcome {
@@ -123,8 +122,8 @@ impl MemorySite {
         key: &Key,
     ) -> Result<Option<Row>, BankError>
         ensures own { TellsRow table key.now result self.old.history self.new.history }
-        ensures heeds { Heeds outcome (bank_of self.old) (bank_of self.new) result (self.new.history ≡ self.old.history) }
-        ensures cause { BankHasCause self.old.bank_faults self.new.bank_faults result }
+        ensures heeds { HeedsAs outcome self.old self.new result (λ begun done. done ≡ begun) }
+        ensures cause { BankHasCause (site_state self.old) (site_state self.new) result }
         ensures kept { self.new ≡ record self.old { history = self.new.history; bank_faults = self.new.bank_faults } }
     {
         match outcome {
@@ -147,8 +146,8 @@ impl MemorySite {
         tables: &[TableId],
     ) -> Result<Snapshot, BankError>
         ensures own { TakesSnapshot tables.now result self.old.history self.new.history }
-        ensures heeds { Heeds outcome (bank_of self.old) (bank_of self.new) result (self.new.history ≡ self.old.history) }
-        ensures cause { BankHasCause self.old.bank_faults self.new.bank_faults result }
+        ensures heeds { HeedsAs outcome self.old self.new result (λ begun done. done ≡ begun) }
+        ensures cause { BankHasCause (site_state self.old) (site_state self.new) result }
         ensures kept { self.new ≡ record self.old { history = self.new.history; bank_faults = self.new.bank_faults } }
     {
         match outcome {
@@ -164,17 +163,18 @@ impl MemorySite {
         }
     }
 
-    /// Does the writes of a transaction of the console. It fails, though nothing is planned, where an operation meets a row
-    /// that isn't there as it says; no schema whose definitions were checked leads there.
+    /// Does the writes of a transaction of the console. It fails, though nothing is planned, where an operation meets a
+    /// row that isn't there as it says; no schema whose definitions were checked leads there.
     pub(crate) fn foreign_as(
         &mut self,
         outcome: Option<Outcome>,
         changes: &[Change],
     ) -> Result<Done, BankError>
         ensures own { WritesForeign changes.now result self.old.history self.new.history }
-        ensures heeds { NoneDiffers changes.now self.old.history → Heeds outcome (bank_of self.old) (bank_of self.new) result ((told : Done) × WritesForeign changes.now (Ok told) self.old.history self.new.history) }
+        ensures heeds { NoneDiffers changes.now self.old.history
+            → HeedsAs outcome self.old self.new result (IsWritten changes.now) }
         ensures idle { HasEffect outcome ⊎ (self.new.history ≡ self.old.history) }
-        ensures cause { BankHasCause self.old.bank_faults self.new.bank_faults result }
+        ensures cause { BankHasCause (site_state self.old) (site_state self.new) result }
         ensures kept { self.new ≡ record self.old { history = self.new.history; bank_faults = self.new.bank_faults } }
     {
         match outcome {

@@ -1,7 +1,7 @@
 //! The transactions of others that are planned, and the calls at which they come.
 
-ghost use Rattle.std.specs.Prelude.{◌≡◌, min, ◌+◌, ◌-◌, ◌^◌, IfOk, OnErr, OnOk, option_copied};
-ghost use Rattle.backing_gate.specs.Visits.{after_bank_call, is_at, no_visits, same_side, tables_of, visit_at, with_visit};
+ghost use Rattle.std.specs.Prelude.{◌≡◌, IfOk, OnErr, OnOk, option_copied};
+ghost use Rattle.backing_gate.specs.Visits.{after_bank_call, is_at, no_visits, number_behind, same_side, tables_of, visit_at, with_visit};
 
 use crate::visit::{Side, Visit};
 use evaluator::Change;
@@ -58,7 +58,8 @@ impl Visits {
         side: Side,
         changes: Seq<Change>,
     ) -> Result<(), AllocError>
-        ensures ok { OnOk result (self.new ≡ with_visit (record { number = min (self.old.calls + calls) (2 ^ 64 - 1); side = side; changes = changes }) self.old) }
+        ensures ok { OnOk result (self.new ≡ with_visit
+            (record { number = number_behind calls self.old; side = side; changes = changes }) self.old) }
         ensures err { OnErr result (self.new ≡ self.old) }
     {
         let mut tables = tables_of(alloc, changes.as_slice())?;

@@ -26,15 +26,16 @@ use Rattle.cache_tier.specs.Worlds.{BankCall, IsUnshared, Passes, World, bank_fa
 use Rattle.tier_laws.specs.Defining.{ShowsSchema, with_tables}
 use Rattle.tier_laws.specs.Events.{StaysShown, at_history, with_tier}
 use Rattle.tier_laws.specs.Standing.{Stands}
-use Rattle.cache_engine.specs.declared.tier.Tier.{Tier as Stored}
+use Rattle.stored_tier.specs.declared.tier.Tier.{Tier as Stored}
 use Rattle.cache_engine.specs.Growing.{Learns, has_to_ask, misses}
-use Rattle.cache_engine.specs.Performing.{Performs}
-use Rattle.cache_engine.specs.Sites.{IsAt, SiteView}
-use Rattle.cache_engine.specs.Stored.{IsStoredAs, rows_of, without_list}
-use Rattle.cache_engine.proofs.BankLaws.{behind, call_behind, told_behind}
-use Rattle.cache_engine.proofs.NamingLaws.{cached_seen}
-use Rattle.cache_engine.proofs.OthersLaws.{only_reads, schema_told}
-use Rattle.cache_engine.proofs.StandingLaws.{performed_behind, performed_here}
+use Rattle.stored_tier.specs.Performing.{Performs}
+use Rattle.stored_tier.specs.Sites.{IsAt}
+use Rattle.outside.specs.Sites.{SiteState}
+use Rattle.stored_tier.specs.Stored.{IsStoredAs, rows_of, without_list}
+use Rattle.stored_tier.proofs.BankLaws.{behind, call_behind, told_behind}
+use Rattle.stored_tier.proofs.NamingLaws.{cached_seen}
+use Rattle.session_engine.proofs.OthersLaws.{only_reads, schema_told}
+use Rattle.stored_tier.proofs.StandingLaws.{performed_behind, performed_here}
 
 -- whether a name is one of a cached table
 
@@ -89,20 +90,20 @@ SchemaLaw =
     → ShowsSchema more w (with_tier (record w.tier { schema = s.schema; stale = false }) w)
 
 -- a call at a site
-pub record CalledAt (before after : SiteView) (step : List Entry → List Entry → Type 0) : Type 0 where
+pub record CalledAt (before after : SiteState) (step : List Entry → List Entry → Type 0) : Type 0 where
   pub told : site.Told before.held after.held (site.BankCall before.shared step)
   pub faults : before.bank_faults ≤ after.bank_faults
   pub moment : before.moment ≤ after.moment
   pub shares : after.shared ≡ before.shared
 
 -- the bank isn't asked
-pub not_asked : (t : Stored) (seen : SiteView) (line : Line) → has_to_ask t line ≡ false → Performs t t seen seen (λ w w'. AsksSchema line w w' None)
+pub not_asked : (t : Stored) (seen : SiteState) (line : Line) → has_to_ask t line ≡ false → Performs t t seen seen (λ w w'. AsksSchema line w w' None)
 not_asked t seen line none w at stands apart =
     performed_here t seen w (λ w'. AsksSchema line w w' None) at stands
     (subst (λ b. MatchBool b (Asked w w None) (Passes w w None)) (sym (asks_seen t w.tier line stands.stored ∙ none)) (refl, refl))
 
 -- the call failed, or there was no memory for what it told
-pub asked_in_vain : AroundLaw → (t : Stored) (before after : SiteView) (line : Line) (result : Result (List TableDef) BankError) (e : BankError) (reply : Reply) → reply ≡ bank_fault e → has_to_ask t line ≡ true → CalledAt before after (TellsSchema result) → ((a b : List Entry) → TellsSchema result a b → Grows [] a b) → Performs t t before after (λ w w'. AsksSchema line w w' (Some reply))
+pub asked_in_vain : AroundLaw → (t : Stored) (before after : SiteState) (line : Line) (result : Result (List TableDef) BankError) (e : BankError) (reply : Reply) → reply ≡ bank_fault e → has_to_ask t line ≡ true → CalledAt before after (TellsSchema result) → ((a b : List Entry) → TellsSchema result a b → Grows [] a b) → Performs t t before after (λ w w'. AsksSchema line w w' (Some reply))
 asked_in_vain law t before after line result e reply is asks called reads w at stands apart =
     let now = told_behind at.there before.held after.held (site.BankCall before.shared (TellsSchema result)) at.told called.told in
     let call = call_behind w w.tier before after now.there (TellsSchema result) at now.is called.faults called.moment in
@@ -139,7 +140,7 @@ stored_learned t new a schema is learns = subst (λ z. IsStoredAs z (record a { 
   time = is.time;
 })
 
-pub asked_and_told : AroundLaw → SchemaLaw → (t new : Stored) (before after : SiteView) (line : Line) (schema : List TableDef) → has_to_ask t line ≡ true → CalledAt before after (TellsSchema (Ok schema)) → Learns t new schema → Performs t new before after (λ w w'. AsksSchema line w w' None)
+pub asked_and_told : AroundLaw → SchemaLaw → (t new : Stored) (before after : SiteState) (line : Line) (schema : List TableDef) → has_to_ask t line ≡ true → CalledAt before after (TellsSchema (Ok schema)) → Learns t new schema → Performs t new before after (λ w w'. AsksSchema line w w' None)
 asked_and_told others tables t new before after line schema asks called learns w at stands apart =
     let now = told_behind at.there before.held after.held (site.BankCall before.shared (TellsSchema (Ok schema))) at.told called.told in
     let a = told (Ok schema) w.tier in

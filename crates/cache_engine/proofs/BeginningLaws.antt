@@ -24,16 +24,17 @@ use Rattle.cache_tier.specs.TierStates.{Settings, Tier, opened}
 use Rattle.cache_tier.specs.Worlds.{World}
 use Rattle.tier_laws.specs.Events.{with_tier}
 use Rattle.tier_laws.specs.Standing.{Stands}
-use Rattle.cache_engine.specs.declared.tier.Tier.{Tier as Stored}
-use Rattle.cache_engine.specs.declared.clock.TierClock.{TierClock}
+use Rattle.stored_tier.specs.declared.tier.Tier.{Tier as Stored}
+use Rattle.stored_tier.specs.declared.clock.TierClock.{TierClock}
 use Rattle.cache_engine.specs.Beginning.{Begins, BeginsAt, IsBegun, IsFresh, IsNewClock, IsOpened, OthersCame, opened_world}
-use Rattle.cache_engine.specs.Naming.{AreNamed}
-use Rattle.cache_engine.specs.Performing.{KeepsSlots, StandsFor}
-use Rattle.cache_engine.specs.Sites.{SiteView}
-use Rattle.cache_engine.specs.Stored.{AreKept, HaveOwnNames, IsSound, IsStoredAs, KeepsTime, is_plain, refreshed_in, rows_of, set_seen, without_list}
-use Rattle.cache_engine.proofs.BankLaws.{told_behind}
-use Rattle.cache_engine.proofs.OthersLaws.{came_by, schema_told}
-use Rattle.cache_engine.proofs.StandingLaws.{slots_kept}
+use Rattle.stored_tier.specs.Naming.{AreNamed}
+use Rattle.stored_tier.specs.Performing.{KeepsSlots, StandsFor}
+use Rattle.outside.specs.Sites.{SiteState}
+use Rattle.stored_tier.specs.Stored.{AreKept, HaveOwnNames, IsSound, IsStoredAs, KeepsTime, are_later, is_plain, rows_of, without_list}
+use Rattle.group_rows.specs.Moments.{refreshed_in, set_seen}
+use Rattle.stored_tier.proofs.BankLaws.{told_behind}
+use Rattle.session_engine.proofs.OthersLaws.{came_by, schema_told}
+use Rattle.stored_tier.proofs.StandingLaws.{slots_kept}
 
 -- what is stored
 
@@ -86,6 +87,7 @@ sound_fresh t schema start propagate_ms new sessions named = record {
   named = λ i j g h at other same. absurd (none_there (groups_in t.catalog) i g new.groups at);
   visible = named.visible;
   numbered = subst (λ n. RiseBetween 1 t.unsettled.items n) (sym new.next) (subst (λ xs. RiseBetween 1 xs 1) (sym new.unsettled) (let one : 1 ≤ 1 = omega arith in one));
+  later = ap (are_later (groups_in t.catalog)) new.unsettled;
   verified = λ is. let no : false ≡ true = sym new.judged ∙ is in cc;
 }
 
@@ -95,16 +97,16 @@ OpenedLaw =
     (w : World) (settings : Settings) (moment : ℕ) (s : TableState) → state_of w.history ≡ Some s
     → MayBegin w.history 1 → Stands (with_tier (opened settings moment s.schema) w)
 
-opened_there : OpenedLaw → (t : Stored) (schema : List TableDef) (start : Moment) (propagate_ms : ℕ) (history : List Entry) (seen : SiteView) → ((s : TableState) → state_of history ≡ Some s → s.schema ≡ schema) → IsFresh t schema start.0 propagate_ms → IsOpened t start propagate_ms history seen
+opened_there : OpenedLaw → (t : Stored) (schema : List TableDef) (start : Moment) (propagate_ms : ℕ) (history : List Entry) (seen : SiteState) → ((s : TableState) → state_of history ≡ Some s → s.schema ≡ schema) → IsFresh t schema start.0 propagate_ms → IsOpened t start propagate_ms history seen
 opened_there law t schema start propagate_ms history seen told new settings s due is may = record {
   stored = stored_fresh t schema start.0 propagate_ms settings s due (told s is) new;
   shows = shows_fresh t schema start.0 propagate_ms settings s history (told s is) new;
   stands = law (opened_world settings start.0 s history seen) settings start.0 s is may;
   unkept = refl;
-  waits = record { settled = []; is = refl };
+  waits = record { settled = []; behind = []; is = refl; waits = refl };
 }
 
-pub begun : OpenedLaw → (t : Stored) (schema : List TableDef) (start : Moment) (propagate_ms : ℕ) (before after : SiteView) → site.Told before.held after.held (site.BankCall before.shared (TellsSchema (Ok schema))) → IsFresh t schema start.0 propagate_ms → Begins start propagate_ms before after (Ok t)
+pub begun : OpenedLaw → (t : Stored) (schema : List TableDef) (start : Moment) (propagate_ms : ℕ) (before after : SiteState) → site.Told before.held after.held (site.BankCall before.shared (TellsSchema (Ok schema))) → IsFresh t schema start.0 propagate_ms → Begins start propagate_ms before after (Ok t)
 begun law t schema start propagate_ms before after told new there was =
     let now = told_behind there before.held after.held (site.BankCall before.shared (TellsSchema (Ok schema))) was told in
     let came = came_by before.shared (TellsSchema (Ok schema)) there.history now.there.history (λ a b tells. tells.0) now.is.history in
@@ -119,7 +121,7 @@ begun law t schema start propagate_ms before after told new there was =
     }
 
 -- what the call leaves of the site
-pub began_at : (before after : SiteView) (step : List Entry → List Entry → Type 0) → ((a b : List Entry) → step a b → Grows [] a b) → site.Told before.held after.held (site.BankCall before.shared step) → before.bank_faults ≤ after.bank_faults → before.moment ≤ after.moment → after.shared ≡ before.shared → BeginsAt before after
+pub began_at : (before after : SiteState) (step : List Entry → List Entry → Type 0) → ((a b : List Entry) → step a b → Grows [] a b) → site.Told before.held after.held (site.BankCall before.shared step) → before.bank_faults ≤ after.bank_faults → before.moment ≤ after.moment → after.shared ≡ before.shared → BeginsAt before after
 began_at before after step reads told later moment shares = record {
   later = later;
   moment = moment;

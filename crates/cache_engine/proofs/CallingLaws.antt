@@ -26,12 +26,12 @@ use Rattle.cache_tier.specs.Sets.{RefreshesIfShown, is_in_set, set_size}
 use Rattle.cache_tier.specs.Steps.{DoesCalled, DoesStatement, RefreshesCalled}
 use Rattle.cache_tier.specs.TierStates.{Session, Tier}
 use Rattle.cache_tier.specs.Worlds.{Tries, Unless, World, only}
-use Rattle.cache_engine.specs.declared.tier.Tier.{Tier as Stored}
-use Rattle.cache_engine.specs.Performing.{Executes, Performs, PerformsIn}
-use Rattle.cache_engine.specs.Sites.{SiteView}
-use Rattle.cache_engine.specs.Stored.{HasSession, IsStoredAs, without_list}
-use Rattle.cache_engine.proofs.CalmLaws.{refused_by}
-use Rattle.cache_engine.proofs.NamedLaws.{named_seen}
+use Rattle.stored_tier.specs.declared.tier.Tier.{Tier as Stored}
+use Rattle.stored_tier.specs.Performing.{Executes, Performs, PerformsIn}
+use Rattle.outside.specs.Sites.{SiteState}
+use Rattle.stored_tier.specs.Stored.{HasSession, IsStoredAs, without_list}
+use Rattle.group_engine.proofs.CalmLaws.{refused_by}
+use Rattle.session_engine.proofs.NamedLaws.{named_seen}
 use Rattle.cache_engine.proofs.WantLaws.{executes_wanting}
 
 -- what it asks for, beside the groups of the catalog
@@ -64,13 +64,13 @@ refusal_is t a s call is =
     ∙ ap (λ r. rule_in r) (sym (called_seen t a call.procedure call.arguments is))
 
 -- it is refused, or memory was wanting
-pub not_called : (t : Stored) (site : SiteView) (id : SessionId) (call : Call) (e : Refused) → Gives (λ (c : Called). c) (called (groups_in t.catalog) call.procedure call.arguments) (Err e) → PerformsIn t t site site id (Executes (statement.Call call)) (Err e)
+pub not_called : (t : Stored) (site : SiteState) (id : SessionId) (call : Call) (e : Refused) → Gives (λ (c : Called). c) (called (groups_in t.catalog) call.procedure call.arguments) (Err e) → PerformsIn t t site site id (Executes (statement.Call call)) (Err e)
 not_called t site id call (refused.Rule rule) gives =
     refused_by t site id (statement.Call call) rule (λ s w has is. refusal_is t w.tier s call is ∙ ap (λ r. rule_in r) gives)
 not_called t site id call refused.Memory gives = executes_wanting t site id (statement.Call call)
 
 -- what it asks for is done
-pub called_done : (t new : Stored) (before behind : SiteView) (id : SessionId) (call : Call) (c : Called) (reply : Reply) → called (groups_in t.catalog) call.procedure call.arguments ≡ Ok c
+pub called_done : (t new : Stored) (before behind : SiteState) (id : SessionId) (call : Call) (c : Called) (reply : Reply) → called (groups_in t.catalog) call.procedure call.arguments ≡ Ok c
     → ((s : Session) → HasSession t id s → Performs t new before behind (λ w w'. Tries (DoesCalled s (Ok c)) w w' reply)) → PerformsIn t new before behind id (Executes (statement.Call call)) (Ok reply)
 called_done t new before behind id call c reply gives performs = λ s has w at stands unshared.
     let it = performs s has w at stands unshared in
@@ -91,7 +91,7 @@ called_done t new before behind id call c reply gives performs = λ s has w at s
 -- ttCacheAutorefresh
 
 -- the call of the bank ended it
-pub refresh_ended : (t new : Stored) (before behind : SiteView) (interval : ℕ) (reply : Reply) → Performs t new before behind (λ w w'. RefreshesIfShown interval w w' (Some reply)) → Performs t new before behind (λ w w'. Tries (RefreshesCalled interval) w w' reply)
+pub refresh_ended : (t new : Stored) (before behind : SiteState) (interval : ℕ) (reply : Reply) → Performs t new before behind (λ w w'. RefreshesIfShown interval w w' (Some reply)) → Performs t new before behind (λ w w'. Tries (RefreshesCalled interval) w w' reply)
 refresh_ended t new before behind interval reply performs = λ w at stands unshared.
     let it = performs w at stands unshared in
     record {
@@ -109,7 +109,7 @@ count_seen : (interval : ℕ) (gs : List Group) → count_by (is_in_set interval
 count_seen interval gs = count_on interval 0 gs
 
 -- the groups of the set are counted
-pub refresh_done : (t new : Stored) (before behind : SiteView) (interval : ℕ) (reply : Reply) → reply ≡ only (Done (count_by (is_in_set interval) (groups_in new.catalog)))
+pub refresh_done : (t new : Stored) (before behind : SiteState) (interval : ℕ) (reply : Reply) → reply ≡ only (Done (count_by (is_in_set interval) (groups_in new.catalog)))
     → Performs t new before behind (λ w w'. RefreshesIfShown interval w w' None) → Performs t new before behind (λ w w'. Tries (RefreshesCalled interval) w w' reply)
 refresh_done t new before behind interval reply told performs = λ w at stands unshared.
     let it = performs w at stands unshared in

@@ -14,9 +14,10 @@ use Rattle.cache_tier.specs.Worlds.{World, only}
 use Rattle.tier_statements.specs.Replies.{reply_to}
 use Rattle.cache_engine.specs.declared.due.Due.{Due}
 use Rattle.cache_engine.specs.Due.{IsDueCaused}
-use Rattle.cache_engine.specs.Performing.{IsCaused, KeepsSlots, reply_of}
+use Rattle.stored_tier.specs.Performing.{IsCaused, KeepsSlots, reply_of}
 use Rattle.cache_engine.specs.Requests.{IsLineCaused}
-use Rattle.cache_engine.specs.Sites.{IsAt, SiteView}
+use Rattle.stored_tier.specs.Sites.{IsAt}
+use Rattle.outside.specs.Sites.{SiteState}
 use Rattle.cache_engine.proofs.WantLaws.{slots_stay, told_as}
 
 slots_on : (a b c : Option Held) → KeepsSlots a b → KeepsSlots b c → KeepsSlots a c
@@ -26,7 +27,7 @@ slots_on (Some x) (Some y) None p q = absurd q
 slots_on (Some x) (Some y) (Some z) p q = q ∙ p
 
 -- one part of a line, and then another
-pub caused_on : (a b c : SiteView) (one other : Reply) → IsCaused a b one → IsCaused b c other → IsCaused a c other
+pub caused_on : (a b c : SiteState) (one other : Reply) → IsCaused a b one → IsCaused b c other → IsCaused a c other
 caused_on a b c one other p q = record {
   later = omega (arith, p.later, q.later);
   moment = omega (arith, p.moment, q.moment);
@@ -37,10 +38,10 @@ caused_on a b c one other p q = record {
   disk = q.disk;
 }
 
-pub refused_on : (a b c : SiteView) (one : Reply) (r : Refused) (reply : Reply) → reply ≡ reply_to r → IsCaused a b one → IsCaused b c (reply_of (Err r)) → IsCaused a c reply
+pub refused_on : (a b c : SiteState) (one : Reply) (r : Refused) (reply : Reply) → reply ≡ reply_to r → IsCaused a b one → IsCaused b c (reply_of (Err r)) → IsCaused a c reply
 refused_on a b c one r reply e p q = subst (IsCaused a c) (told_as r ∙ sym e) (caused_on a b c one (reply_of (Err r)) p q)
 
-pub done_caused : (site : SiteView) (n : ℕ) (reply : Reply) → reply ≡ only (Done n) → IsCaused site site reply
+pub done_caused : (site : SiteState) (n : ℕ) (reply : Reply) → reply ≡ only (Done n) → IsCaused site site reply
 done_caused site n reply e =
     subst (IsCaused site site) (sym e)
     (record {
@@ -65,7 +66,7 @@ none_lost refused.Memory = refl
 rose_none : (n told : ℕ) → told ≡ 0 → Rose n told n
 rose_none n told e = (le_refl n, omega (arith, e))
 
-pub refusal_caused : (site : SiteView) (r : Refused) (reply : Reply) → reply ≡ reply_to r → IsLineCaused site site (Some reply)
+pub refusal_caused : (site : SiteState) (r : Refused) (reply : Reply) → reply ≡ reply_to r → IsLineCaused site site (Some reply)
 refusal_caused site r reply e = record {
   later = le_refl site.bank_faults;
   moment = le_refl site.moment;
@@ -75,7 +76,7 @@ refusal_caused site r reply e = record {
   disk = λ x is. let same : x ≡ reply_to r = Prim.cc (is, e) in ap (faults_in code.JournalFault) same ∙ none_lost r;
 }
 
-pub silence_caused : (site : SiteView) → IsLineCaused site site None
+pub silence_caused : (site : SiteState) → IsLineCaused site site None
 silence_caused site = record {
   later = le_refl site.bank_faults;
   moment = le_refl site.moment;
@@ -92,7 +93,7 @@ rose_on a b c n true p later once = let o = once refl in (omega (arith, p.0, lat
 rose_on a b c n false p later once = (omega (arith, p.0, later), omega (arith, p.1, later))
 
 -- a reply with no notes of its own, behind the work
-pub worked_caused : (a b c : SiteView) (due : Due) (last reply : Reply) → reply ≡ with_notes due.notes last → IsDueCaused a b due → IsCaused b c last → IsLineCaused a c (Some reply)
+pub worked_caused : (a b c : SiteState) (due : Due) (last reply : Reply) → reply ≡ with_notes due.notes last → IsDueCaused a b due → IsCaused b c last → IsLineCaused a c (Some reply)
 worked_caused a b c due last reply e p q = record {
   later = omega (arith, p.later, q.later);
   moment = omega (arith, p.moment, q.moment);
@@ -119,7 +120,7 @@ told due stop is p = subst (λ (o : Option Reply). IfSome o (λ r. (faults_in co
 rose_same : (a b n more : ℕ) → more ≡ 0 → Rose a n b → Rose a (n + more) b
 rose_same a b n more e p = (p.0, omega (arith, e, p.1))
 
-pub stopped_caused : (a b : SiteView) (due : Due) (stop reply : Reply) → due.stop ≡ Some stop → reply ≡ with_notes due.notes stop → IsDueCaused a b due → IsLineCaused a b (Some reply)
+pub stopped_caused : (a b : SiteState) (due : Due) (stop reply : Reply) → due.stop ≡ Some stop → reply ≡ with_notes due.notes stop → IsDueCaused a b due → IsLineCaused a b (Some reply)
 stopped_caused a b due stop reply ends e p = record {
   later = p.later;
   moment = p.moment;
@@ -138,7 +139,7 @@ stopped_caused a b due stop reply ends e p = record {
 
 -- EACH FAULT IS COUNTED
 
-pub counted : HeedLeads → (base : ℕ) (said : Saying) (w w' : World) (reply : Reply) (before behind : SiteView) → IsAt before w → IsAt behind w' → IsLineCaused before behind (Some reply) → Heeds base said w w' reply → Step base w said w' (Some reply)
+pub counted : HeedLeads → (base : ℕ) (said : Saying) (w w' : World) (reply : Reply) (before behind : SiteState) → IsAt before w → IsAt behind w' → IsLineCaused before behind (Some reply) → Heeds base said w w' reply → Step base w said w' (Some reply)
 counted law base said w w' reply before behind at there caused heeds = (
   record {
     bank =

@@ -45,14 +45,15 @@ use Rattle.cache_tier.specs.declared.reply.Reply.{Reply}
 use Rattle.tier_laws.specs.Events.{StaysShown, at_history}
 use Rattle.tier_laws.specs.Standing.{Stands, live_groups_of}
 use Rattle.tier_statements.specs.Replies.{reply_to}
-use Rattle.cache_engine.specs.declared.tier.Tier.{Tier as Stored}
-use Rattle.cache_engine.specs.Performing.{AreLast, IsCaused, Performs, StandsFor}
-use Rattle.cache_engine.specs.Sites.{IsAt, Serves, SiteView}
-use Rattle.cache_engine.specs.Stored.{rows_of}
+use Rattle.stored_tier.specs.declared.tier.Tier.{Tier as Stored}
+use Rattle.stored_tier.specs.Performing.{AreLast, IsCaused, Performs, StandsFor}
+use Rattle.stored_tier.specs.Sites.{IsAt, Serves}
+use Rattle.outside.specs.Sites.{SiteState}
+use Rattle.stored_tier.specs.Stored.{rows_of}
 use Rattle.cache_engine.proofs.AskingLaws.{CalledAt}
 use Rattle.cache_engine.proofs.ConsoleLaws.{AreApart, live_of, resolved_apart, written_off}
 use Rattle.cache_engine.proofs.CreatingLaws.{EntriesLaw, call_caused, none_behind, others_behind}
-use Rattle.cache_engine.proofs.SettlingLaws.{ShownLaw}
+use Rattle.stored_tier.proofs.SettlingLaws.{ShownLaw}
 use Rattle.cache_engine.proofs.WantLaws.{slots_stay}
 
 -- a transaction of others, on no live table
@@ -146,7 +147,7 @@ console_still others law t w w' writes reply stands unshared (inl did) = by (wri
     by None e did = written_still others law t w w' writes reply stands unshared e did
     by (Some rule) e did = still t w w' stands did.0
 
-pub writes_served : EntriesLaw → ShownLaw → (t : Stored) (before after : SiteView) (request : ConsoleRequest) (writes given : List Write) (reply : Reply) → request ≡ console.Writes writes → given ≡ writes → Serves t t before after (λ w w'. Tries (DoesConsole (console.Writes given)) w w' reply)
+pub writes_served : EntriesLaw → ShownLaw → (t : Stored) (before after : SiteState) (request : ConsoleRequest) (writes given : List Write) (reply : Reply) → request ≡ console.Writes writes → given ≡ writes → Serves t t before after (λ w w'. Tries (DoesConsole (console.Writes given)) w w' reply)
     → Performs t t before after (λ w w'. Tries (DoesConsole request) w w' reply)
 writes_served others law t before after request writes given reply is same serves w at stands unshared =
     let it = serves w at stands.stored in
@@ -159,7 +160,7 @@ writes_served others law t before after request writes given reply is same serve
     }
 
 -- what is told
-pub writes_caused : (before after : SiteView) (changes : List Change) (result : Result Wrote BankError) (reply : Reply) → CalledAt before after (WritesForeign changes result) → reply ≡ passed_reply result → (IsErrOf result Failed → Rose before.bank_faults after.bank_faults) → IsCaused before after reply
+pub writes_caused : (before after : SiteState) (changes : List Change) (result : Result Wrote BankError) (reply : Reply) → CalledAt before after (WritesForeign changes result) → reply ≡ passed_reply result → (IsErrOf result Failed → Rose before.bank_faults after.bank_faults) → IsCaused before after reply
 writes_caused before after changes (Ok (Rows n)) reply called is rose =
     subst (IsCaused before after) (sym is) (call_caused before after (WritesForeign changes (Ok (Rows n))) (passed_reply (Ok (Rows n))) called refl (λ b. cc) refl)
 writes_caused before after changes (Ok (Broken rule)) reply called is rose =
@@ -169,7 +170,7 @@ writes_caused before after changes (Err Memory) reply called is rose =
 writes_caused before after changes (Err Failed) reply called is rose =
     subst (IsCaused before after) (sym is) (call_caused before after (WritesForeign changes (Err Failed)) (faulty code.BackingFault) called refl (λ b. rose refl) refl)
 
-pub refused_caused : (seen : SiteView) (e : Refused) (reply : Reply) → reply ≡ reply_to e → IsCaused seen seen reply
+pub refused_caused : (seen : SiteState) (e : Refused) (reply : Reply) → reply ≡ reply_to e → IsCaused seen seen reply
 refused_caused seen (refused.Rule rule) reply is = subst (IsCaused seen seen) (sym is) (record {
   later = Rattle.std.proofs.Common.le_refl seen.bank_faults;
   moment = Rattle.std.proofs.Common.le_refl seen.moment;

@@ -33,14 +33,15 @@ use Rattle.cache_tier.specs.declared.reply.Reply.{Reply}
 use Rattle.tier_laws.specs.Defining.{ShowsTable, with_tables}
 use Rattle.tier_laws.specs.Events.{StaysShown, at_history, with_tier}
 use Rattle.tier_laws.specs.Standing.{Stands}
-use Rattle.cache_engine.specs.declared.tier.Tier.{Tier as Stored}
+use Rattle.stored_tier.specs.declared.tier.Tier.{Tier as Stored}
 use Rattle.cache_engine.specs.Growing.{Learns}
-use Rattle.cache_engine.specs.Performing.{IsCaused, IsPerformed, Performs, StandsFor, reply_of}
-use Rattle.cache_engine.specs.Sites.{IsAt, SiteView}
-use Rattle.cache_engine.specs.Stored.{IsSound, IsStoredAs, rows_of}
+use Rattle.stored_tier.specs.Performing.{IsCaused, IsPerformed, Performs, StandsFor, reply_of}
+use Rattle.stored_tier.specs.Sites.{IsAt}
+use Rattle.outside.specs.Sites.{SiteState}
+use Rattle.stored_tier.specs.Stored.{IsSound, IsStoredAs, rows_of}
 use Rattle.cache_engine.proofs.AskingLaws.{AroundLaw, CalledAt}
-use Rattle.cache_engine.proofs.BankLaws.{behind, call_behind, told_behind}
-use Rattle.cache_engine.proofs.StandingLaws.{performed_behind, performed_here, slots_kept}
+use Rattle.stored_tier.proofs.BankLaws.{behind, call_behind, told_behind}
+use Rattle.stored_tier.proofs.StandingLaws.{performed_behind, performed_here, slots_kept}
 
 -- a table without fault refers to no table of a writethrough group
 
@@ -113,7 +114,7 @@ same_more : (xs : List TableDef) (def : TableDef) (more : List TableDef) → xs 
 same_more [] def more e = sym e
 same_more (x ∷ xs) def more e = same_more xs def more cc
 
-pub table_made : EntriesLaw → ToldLaw → (t new : Stored) (before after : SiteView) (d : TableDeclaration) (def : TableDef) (done : Unit {0}) (reply : Reply) → reply ≡ define_reply (Ok done) → IsFit t d def → t.stale ≡ false → CalledAt before after (Defines def (Ok done)) → Learns t new (t.schema ++ def ∷ [])
+pub table_made : EntriesLaw → ToldLaw → (t new : Stored) (before after : SiteState) (d : TableDeclaration) (def : TableDef) (done : Unit {0}) (reply : Reply) → reply ≡ define_reply (Ok done) → IsFit t d def → t.stale ≡ false → CalledAt before after (Defines def (Ok done)) → Learns t new (t.schema ++ def ∷ [])
     → Performs t new before after (λ w w'. Tries (CreatesTable d) w w' reply)
 table_made others tables t new before after d def done reply answer fit known called learns w at stands apart =
     let now = told_behind at.there before.held after.held (site.BankCall before.shared (Defines def (Ok done))) at.told called.told in
@@ -162,7 +163,7 @@ stored_stale t a is = record {
   time = is.time;
 }
 
-pub table_unsure : EntriesLaw → UntoldLaw → (t : Stored) (before after : SiteView) (d : TableDeclaration) (def : TableDef) (reply : Reply) → (let r : Result (Unit {0}) BankError = Err Failed in reply ≡ define_reply r) → IsFit t d def → CalledAt before after (Defines def (Err Failed))
+pub table_unsure : EntriesLaw → UntoldLaw → (t : Stored) (before after : SiteState) (d : TableDeclaration) (def : TableDef) (reply : Reply) → (let r : Result (Unit {0}) BankError = Err Failed in reply ≡ define_reply r) → IsFit t d def → CalledAt before after (Defines def (Err Failed))
     → Performs t (record t { stale = true }) before after (λ w w'. Tries (CreatesTable d) w w' reply)
 table_unsure others tables t before after d def reply answer fit called w at stands apart =
     let now = told_behind at.there before.held after.held (site.BankCall before.shared (Defines def (Err Failed))) at.told called.told in
@@ -199,11 +200,12 @@ sound_stale t sound = record {
   named = sound.named;
   visible = sound.visible;
   numbered = sound.numbered;
+  later = sound.later;
   verified = λ is. let v = sound.verified is in record { rows = v.rows; own = v.own };
 }
 
 -- memory was wanting at the bank
-pub table_unmade : AroundLaw → (t : Stored) (before after : SiteView) (d : TableDeclaration) (def : TableDef) → IsFit t d def → CalledAt before after (Defines def (Err Memory))
+pub table_unmade : AroundLaw → (t : Stored) (before after : SiteState) (d : TableDeclaration) (def : TableDef) → IsFit t d def → CalledAt before after (Defines def (Err Memory))
     → Performs t t before after (λ w w'. Tries (CreatesTable d) w w' (reply_of (Err refused.Memory)))
 table_unmade law t before after d def fit called w at stands apart =
     let now = told_behind at.there before.held after.held (site.BankCall before.shared (Defines def (Err Memory))) at.told called.told in
@@ -225,20 +227,20 @@ table_unmade law t before after d def fit called w at stands apart =
     (created w w' d def (reply_of (Err refused.Memory)) (fit.free w.tier stands.stored) (fit.made w.tier stands.stored) does)
 
 -- nothing was called: a rule is broken, or memory was wanting
-pub table_refused : (t : Stored) (seen : SiteView) (d : TableDeclaration) (e : Refused) → ((a : Tier) → IsStoredAs t a → Tells {X = TableDef} (Err e) (table_fault a d)) → Performs t t seen seen (λ w w'. Tries (CreatesTable d) w w' (reply_of (Err e)))
+pub table_refused : (t : Stored) (seen : SiteState) (d : TableDeclaration) (e : Refused) → ((a : Tier) → IsStoredAs t a → Tells {X = TableDef} (Err e) (table_fault a d)) → Performs t t seen seen (λ w w'. Tries (CreatesTable d) w w' (reply_of (Err e)))
 table_refused t seen d (refused.Rule rule) told w at stands apart =
     performed_here t seen w (λ w'. Tries (CreatesTable d) w w' (only (No rule))) at stands
     (inl (subst (λ fault. Unless fault (Creates (resolved d w.tier.schema)) w w (only (No rule))) (sym (told w.tier stands.stored)) (refl, refl)))
 table_refused t seen d refused.Memory told w at stands apart =
     performed_here t seen w (λ w'. Tries (CreatesTable d) w w' (reply_of (Err refused.Memory))) at stands (inr (refl, refl))
 
-pub table_wanting : (t : Stored) (seen : SiteView) (d : TableDeclaration) → Performs t t seen seen (λ w w'. Tries (CreatesTable d) w w' (reply_of (Err refused.Memory)))
+pub table_wanting : (t : Stored) (seen : SiteState) (d : TableDeclaration) → Performs t t seen seen (λ w w'. Tries (CreatesTable d) w w' (reply_of (Err refused.Memory)))
 table_wanting t seen d w at stands apart =
     performed_here t seen w (λ w'. Tries (CreatesTable d) w w' (reply_of (Err refused.Memory))) at stands (inr (refl, refl))
 
 -- what is told of a call
 
-pub call_caused : (before after : SiteView) (step : List Entry → List Entry → Type 0) (reply : Reply) → CalledAt before after step → reply.notes ≡ [] → (tells code.BackingFault reply.last ≡ true → Rose before.bank_faults after.bank_faults) → tells code.JournalFault reply.last ≡ false → IsCaused before after reply
+pub call_caused : (before after : SiteState) (step : List Entry → List Entry → Type 0) (reply : Reply) → CalledAt before after step → reply.notes ≡ [] → (tells code.BackingFault reply.last ≡ true → Rose before.bank_faults after.bank_faults) → tells code.JournalFault reply.last ≡ false → IsCaused before after reply
 call_caused before after step reply called bare bank disk = record {
   later = called.faults;
   moment = called.moment;
@@ -249,8 +251,8 @@ call_caused before after step reply called bare bank disk = record {
   disk = disk;
 }
 
-pub done_caused : (before after : SiteView) (step : List Entry → List Entry → Type 0) (n : ℕ) (reply : Reply) → CalledAt before after step → reply ≡ only (Done n) → IsCaused before after reply
+pub done_caused : (before after : SiteState) (step : List Entry → List Entry → Type 0) (n : ℕ) (reply : Reply) → CalledAt before after step → reply ≡ only (Done n) → IsCaused before after reply
 done_caused before after step n reply called is = subst (IsCaused before after) (sym is) (call_caused before after step (only (Done n)) called refl (λ b. cc) refl)
 
-pub failed_caused : (before after : SiteView) (step : List Entry → List Entry → Type 0) (reply : Reply) → CalledAt before after step → reply ≡ faulty code.BackingFault → Rose before.bank_faults after.bank_faults → IsCaused before after reply
+pub failed_caused : (before after : SiteState) (step : List Entry → List Entry → Type 0) (reply : Reply) → CalledAt before after step → reply ≡ faulty code.BackingFault → Rose before.bank_faults after.bank_faults → IsCaused before after reply
 failed_caused before after step reply called is rose = subst (IsCaused before after) (sym is) (call_caused before after step (faulty code.BackingFault) called refl (λ b. rose) refl)

@@ -17,14 +17,15 @@ use Rattle.cache_tier.specs.declared.reply.Last.TheVariants.{Done, Fault, No}
 use Rattle.cache_tier.specs.declared.reply.Note.{Note}
 use Rattle.cache_tier.specs.declared.reply.Reply.{Reply}
 use Rattle.group_catalog.specs.Catalogs.{groups_in}
-use Rattle.cache_engine.specs.declared.tier.Tier.{Tier as Stored}
+use Rattle.stored_tier.specs.declared.tier.Tier.{Tier as Stored}
 use Rattle.cache_engine.specs.Due.{IsDueCaused}
 use Rattle.cache_engine.specs.DueItems.{DoesItem, due_of, note_of, notes_since}
-use Rattle.cache_engine.specs.Performing.{IsCaused, IsStopCaused, KeepsSlots, Performs, StandsFor}
-use Rattle.cache_engine.specs.Refreshing.{has_moment}
-use Rattle.cache_engine.specs.Sites.{IsAt, SiteView}
-use Rattle.cache_engine.specs.Stored.{without_list}
-use Rattle.cache_engine.proofs.FillSteps.{drop_one, drop_past}
+use Rattle.stored_tier.specs.Performing.{IsCaused, IsStopCaused, KeepsSlots, Performs, StandsFor}
+use Rattle.group_rows.specs.Refreshing.{has_moment}
+use Rattle.stored_tier.specs.Sites.{IsAt}
+use Rattle.outside.specs.Sites.{SiteState}
+use Rattle.stored_tier.specs.Stored.{without_list}
+use Rattle.group_rows.proofs.FillSteps.{drop_one, drop_past}
 
 -- notes behind notes
 
@@ -72,7 +73,7 @@ slots_same : (x : Option Held) → KeepsSlots x x
 slots_same None = tt
 slots_same (Some x) = refl
 
-caused_both : (b m a : SiteView) (n k : List Note) (stop : Option Reply) → IsDueCaused b m (due_of n None) → IsDueCaused m a (due_of k stop) → IsDueCaused b a (due_of (n ++ k) stop)
+caused_both : (b m a : SiteState) (n k : List Note) (stop : Option Reply) → IsDueCaused b m (due_of n None) → IsDueCaused m a (due_of k stop) → IsDueCaused b a (due_of (n ++ k) stop)
 caused_both b m a n k stop one two =
     let first = one.later in
     let second = two.later in
@@ -110,14 +111,14 @@ stored_defs : (t : Stored) (w : World) → StandsFor t w → definitions_of w.ti
 stored_defs t w is = sym (bare_defs w.tier.groups) ∙ ap definitions_of is.stored.groups
 
 -- others leave them alone still
-apart_still : (old new : Stored) (before behind : SiteView) (w w' : World) → definitions_of (groups_in new.catalog) ≡ definitions_of (groups_in old.catalog) → behind.shared ≡ before.shared → StandsFor old w → IsAt before w → StandsFor new w' → IsAt behind w' → IsUnshared w → IsUnshared w'
+apart_still : (old new : Stored) (before behind : SiteState) (w w' : World) → definitions_of (groups_in new.catalog) ≡ definitions_of (groups_in old.catalog) → behind.shared ≡ before.shared → StandsFor old w → IsAt before w → StandsFor new w' → IsAt behind w' → IsUnshared w → IsUnshared w'
 apart_still old new before behind w w' defs shares was at is there apart t shared =
     written_by w.tier.groups w'.tier.groups t (stored_defs new w' is ∙ defs ∙ sym (stored_defs old w was))
     ∙ apart t (subst (λ tables. Rattle.outside.specs.Others.is_shared tables t ≡ true) (there.shared ∙ shares ∙ sym at.shared) shared)
 
 -- one item, and then another
 
-pub then_items : (one other : Item) (old mid new : Stored) (b m a : SiteView) (earlier between notes : List Note) (stop : Option Reply) → DoesItem one old mid b m earlier between None → DoesItem other mid new m a between notes stop
+pub then_items : (one other : Item) (old mid new : Stored) (b m a : SiteState) (earlier between notes : List Note) (stop : Option Reply) → DoesItem one old mid b m earlier between None → DoesItem other mid new m a between notes stop
     → DoesItem (ThenItem one other) old new b a earlier notes stop
 then_items one other old mid new b m a earlier between notes stop first second =
     let order = order_both earlier between notes first.order second.order in
@@ -146,7 +147,7 @@ then_items one other old mid new b m a earlier between notes stop first second =
       entries = λ i there. second.entries i (first.entries i there);
     }
 
-pub stopped_item : (one other : Item) (old new : Stored) (b a : SiteView) (earlier notes : List Note) (end : Reply) → DoesItem one old new b a earlier notes (Some end) → DoesItem (ThenItem one other) old new b a earlier notes (Some end)
+pub stopped_item : (one other : Item) (old new : Stored) (b a : SiteState) (earlier notes : List Note) (end : Reply) → DoesItem one old new b a earlier notes (Some end) → DoesItem (ThenItem one other) old new b a earlier notes (Some end)
 stopped_item one other old new b a earlier notes end first = record {
   performs = λ w at stands apart.
       let p = first.performs w at stands apart in
@@ -172,7 +173,7 @@ stopped_item one other old new b a earlier notes end first = record {
 
 -- nothing is due
 
-idle_caused : (b : SiteView) → IsDueCaused b b (due_of [] None)
+idle_caused : (b : SiteState) → IsDueCaused b b (due_of [] None)
 idle_caused b = record {
   later = omega arith;
   moment = omega arith;
@@ -183,7 +184,7 @@ idle_caused b = record {
   stop = tt;
 }
 
-pub idle_item : (item : Item) (t : Stored) (b : SiteView) (notes : List Note) → ((w : World) → StandsFor t w → item w w [] None) → DoesItem item t t b b notes notes None
+pub idle_item : (item : Item) (t : Stored) (b : SiteState) (notes : List Note) → ((w : World) → StandsFor t w → item w w [] None) → DoesItem item t t b b notes notes None
 idle_item item t b notes idle = record {
   performs = λ w at stands apart. record { world = w; at = at; stands = stands; is = subst (λ l. item w w l None) (sym (since_self notes)) (idle w stands) };
   order = sym (append-nil notes) ∙ ap (λ l. notes ++ l) (sym (since_self notes));
@@ -193,7 +194,7 @@ idle_item item t b notes idle = record {
 }
 
 -- the item is another one in these worlds
-pub as_item : (one other : Item) (old new : Stored) (b a : SiteView) (earlier notes : List Note) (stop : Option Reply) → ((w w' : World) → StandsFor old w → one w w' (notes_since earlier notes) stop → other w w' (notes_since earlier notes) stop) → DoesItem one old new b a earlier notes stop → DoesItem other old new b a earlier notes stop
+pub as_item : (one other : Item) (old new : Stored) (b a : SiteState) (earlier notes : List Note) (stop : Option Reply) → ((w w' : World) → StandsFor old w → one w w' (notes_since earlier notes) stop → other w w' (notes_since earlier notes) stop) → DoesItem one old new b a earlier notes stop → DoesItem other old new b a earlier notes stop
 as_item one other old new b a earlier notes stop turns does = record {
   performs = λ w at stands apart.
       let p = does.performs w at stands apart in
@@ -219,7 +220,7 @@ tells_none : (reply : Reply) (last : Last) (c : Code) → reply.last ≡ last �
 tells_none reply last c is bare none =
     (λ i. count_by (note_tells c) (bare i) + cond (tells c (is i)) 1 0) ∙ ap (λ b. 0 + cond b 1 0) none
 
-stop_caused : (b a : SiteView) (reply : Reply) (last : Last) → reply.last ≡ last → IsCaused b a reply → tells code.BackingFault last ≡ false → IsDueCaused b a (due_of [] (Some reply))
+stop_caused : (b a : SiteState) (reply : Reply) (last : Last) → reply.last ≡ last → IsCaused b a reply → tells code.BackingFault last ≡ false → IsDueCaused b a (due_of [] (Some reply))
 stop_caused b a reply last is c none = record {
   later = c.later;
   moment = c.moment;
@@ -230,7 +231,7 @@ stop_caused b a reply last is c none = record {
   stop = (tells_none reply last code.BackingFault is c.bare none, tells_none reply last code.JournalFault is c.bare (ap (tells code.JournalFault) (sym is) ∙ c.disk));
 }
 
-note_caused : (b a : SiteView) (interval : Option ℕ) (c : Code) (reply : Reply) → IsCaused b a reply → (tells code.BackingFault reply.last ≡ nat_eq (number_of c) (number_of code.BackingFault)) → (tells code.JournalFault reply.last ≡ nat_eq (number_of c) (number_of code.JournalFault)) → IsDueCaused b a (due_of (note_of interval c ∷ []) None)
+note_caused : (b a : SiteState) (interval : Option ℕ) (c : Code) (reply : Reply) → IsCaused b a reply → (tells code.BackingFault reply.last ≡ nat_eq (number_of c) (number_of code.BackingFault)) → (tells code.JournalFault reply.last ≡ nat_eq (number_of c) (number_of code.JournalFault)) → IsDueCaused b a (due_of (note_of interval c ∷ []) None)
 note_caused b a interval c reply caused bank disk = record {
   later = caused.later;
   moment = caused.moment;
@@ -245,7 +246,7 @@ note_caused b a interval c reply caused bank disk = record {
     by true e told = subst (λ x. min (b.bank_faults + (0 + cond x 1 0)) (2 ^ 64 - 1) ≤ a.bank_faults) (sym e) (caused.bank told)
     by false e told = subst (λ x. min (b.bank_faults + (0 + cond x 1 0)) (2 ^ 64 - 1) ≤ a.bank_faults) (sym e) (rose_none b.bank_faults a.bank_faults (2 ^ 64 - 1) caused.later)
 
-noted_caused : (b a : SiteView) (interval : Option ℕ) (end : Option Reply) → IsStopCaused b a end → IsDueCaused b a (due_of (noted (note_of interval) end) (stopped end))
+noted_caused : (b a : SiteState) (interval : Option ℕ) (end : Option Reply) → IsStopCaused b a end → IsDueCaused b a (due_of (noted (note_of interval) end) (stopped end))
 noted_caused b a interval None c = record {
   later = c.later;
   moment = c.moment;
@@ -267,7 +268,7 @@ noted_caused b a interval (Some reply) c = by reply.last refl
         of false e = stop_caused b a reply (Fault rule) is c (or_false (nat_eq (number_of rule.code) (number_of code.BackingFault)) (nat_eq (number_of rule.code) (number_of code.Memory)) e)
 
 -- a stage whose failure becomes a note
-pub noted_item : (interval : Option ℕ) (stage : Stage) (old new : Stored) (b a : SiteView) (earlier notes : List Note) (end : Option Reply) (stop : Option Reply) → Performs old new b a (λ w w'. stage w w' end) → IsStopCaused b a end
+pub noted_item : (interval : Option ℕ) (stage : Stage) (old new : Stored) (b a : SiteState) (earlier notes : List Note) (end : Option Reply) (stop : Option Reply) → Performs old new b a (λ w w'. stage w w' end) → IsStopCaused b a end
     → definitions_of (groups_in new.catalog) ≡ definitions_of (groups_in old.catalog) → ((i : ℕ) → has_moment old.clock.sets.items i ≡ true → has_moment new.clock.sets.items i ≡ true)
     → notes ≡ earlier ++ noted (note_of interval) end → stop ≡ stopped end → DoesItem (Noted (note_of interval) stage) old new b a earlier notes stop
 noted_item interval stage old new b a earlier notes end stop performs caused groups entries told ends =
@@ -284,17 +285,17 @@ noted_item interval stage old new b a earlier notes end stop performs caused gro
 
 -- sets, one after the other
 
-pub sets_none : (all : List ℕ) (t : Stored) (b : SiteView) (notes : List Note) → all ≡ [] → DoesItem (DueSetsOf all) t t b b notes notes None
+pub sets_none : (all : List ℕ) (t : Stored) (b : SiteState) (notes : List Note) → all ≡ [] → DoesItem (DueSetsOf all) t t b b notes notes None
 sets_none all t b notes is =
     subst (λ l. DoesItem (DueSetsOf l) t t b b notes notes None) (sym is) (idle_item (DueSetsOf []) t b notes (λ w stands. (refl, refl, refl)))
 
-pub sets_stopped : (all more : List ℕ) (x : ℕ) (old new : Stored) (b a : SiteView) (earlier notes : List Note) (end : Reply) → all ≡ x ∷ more → DoesItem (Noted (note_of (Some x)) (RefreshesIfShown x)) old new b a earlier notes (Some end) → DoesItem (DueSetsOf all) old new b a earlier notes (Some end)
+pub sets_stopped : (all more : List ℕ) (x : ℕ) (old new : Stored) (b a : SiteState) (earlier notes : List Note) (end : Reply) → all ≡ x ∷ more → DoesItem (Noted (note_of (Some x)) (RefreshesIfShown x)) old new b a earlier notes (Some end) → DoesItem (DueSetsOf all) old new b a earlier notes (Some end)
 sets_stopped all more x old new b a earlier notes end is does =
     subst (λ l. DoesItem (DueSetsOf l) old new b a earlier notes (Some end)) (sym is)
     (as_item (ThenItem (Noted (note_of (Some x)) (RefreshesIfShown x)) (DueSetsOf more)) (DueSetsOf (x ∷ more)) old new b a earlier notes (Some end) (λ w w' stands done. done)
     (stopped_item (Noted (note_of (Some x)) (RefreshesIfShown x)) (DueSetsOf more) old new b a earlier notes end does))
 
-pub sets_more : (all more : List ℕ) (x : ℕ) (old mid new : Stored) (b m a : SiteView) (earlier between notes : List Note) (stop : Option Reply) → all ≡ x ∷ more → DoesItem (Noted (note_of (Some x)) (RefreshesIfShown x)) old mid b m earlier between None
+pub sets_more : (all more : List ℕ) (x : ℕ) (old mid new : Stored) (b m a : SiteState) (earlier between notes : List Note) (stop : Option Reply) → all ≡ x ∷ more → DoesItem (Noted (note_of (Some x)) (RefreshesIfShown x)) old mid b m earlier between None
     → DoesItem (DueSetsOf more) mid new m a between notes stop → DoesItem (DueSetsOf all) old new b a earlier notes stop
 sets_more all more x old mid new b m a earlier between notes stop is first second =
     subst (λ l. DoesItem (DueSetsOf l) old new b a earlier notes stop) (sym is)
@@ -302,23 +303,23 @@ sets_more all more x old mid new b m a earlier between notes stop is first secon
     (then_items (Noted (note_of (Some x)) (RefreshesIfShown x)) (DueSetsOf more) old mid new b m a earlier between notes stop first second))
 
 -- those before a place are done
-abbrev pub SetsSoFar : List ℕ → ℕ → Stored → Stored → SiteView → SiteView → List Note → List Note → Type 0
+abbrev pub SetsSoFar : List ℕ → ℕ → Stored → Stored → SiteState → SiteState → List Note → List Note → Type 0
 SetsSoFar all i old now b m earlier notes =
-    (new : Stored) (a : SiteView) (later : List Note) (stop : Option Reply) → DoesItem (DueSetsOf (drop i all)) now new m a notes later stop
+    (new : Stored) (a : SiteState) (later : List Note) (stop : Option Reply) → DoesItem (DueSetsOf (drop i all)) now new m a notes later stop
     → DoesItem (DueSetsOf all) old new b a earlier later stop
 
-pub sets_begun : (all : List ℕ) (old : Stored) (b : SiteView) (earlier : List Note) → SetsSoFar all 0 old old b b earlier earlier
+pub sets_begun : (all : List ℕ) (old : Stored) (b : SiteState) (earlier : List Note) → SetsSoFar all 0 old old b b earlier earlier
 sets_begun all old b earlier new a later stop does = subst (λ l. DoesItem (DueSetsOf l) old new b a earlier later stop) (drop_none all) does
 
-pub set_done : (all : List ℕ) (i x : ℕ) (old mid now : Stored) (b m n : SiteView) (earlier between notes : List Note) → slice_get all i ≡ Some x → SetsSoFar all i old mid b m earlier between
+pub set_done : (all : List ℕ) (i x : ℕ) (old mid now : Stored) (b m n : SiteState) (earlier between notes : List Note) → slice_get all i ≡ Some x → SetsSoFar all i old mid b m earlier between
     → DoesItem (Noted (note_of (Some x)) (RefreshesIfShown x)) mid now m n between notes None → SetsSoFar all (i + 1) old now b n earlier notes
 set_done all i x old mid now b m n earlier between notes at so_far first new a later stop does =
     so_far new a later stop (sets_more (drop i all) (drop (i + 1) all) x mid now new m n a between notes later stop (drop_one all i x at) first does)
 
-pub set_ended : (all : List ℕ) (i x : ℕ) (old mid new : Stored) (b m a : SiteView) (earlier between later : List Note) (end : Reply) → slice_get all i ≡ Some x → SetsSoFar all i old mid b m earlier between
+pub set_ended : (all : List ℕ) (i x : ℕ) (old mid new : Stored) (b m a : SiteState) (earlier between later : List Note) (end : Reply) → slice_get all i ≡ Some x → SetsSoFar all i old mid b m earlier between
     → DoesItem (Noted (note_of (Some x)) (RefreshesIfShown x)) mid new m a between later (Some end) → DoesItem (DueSetsOf all) old new b a earlier later (Some end)
 set_ended all i x old mid new b m a earlier between later end at so_far does =
     so_far new a later (Some end) (sets_stopped (drop i all) (drop (i + 1) all) x mid new m a between later end (drop_one all i x at) does)
 
-pub sets_done : (all : List ℕ) (i : ℕ) (old now : Stored) (b m : SiteView) (earlier notes : List Note) → length all ≤ i → SetsSoFar all i old now b m earlier notes → DoesItem (DueSetsOf all) old now b m earlier notes None
+pub sets_done : (all : List ℕ) (i : ℕ) (old now : Stored) (b m : SiteState) (earlier notes : List Note) → length all ≤ i → SetsSoFar all i old now b m earlier notes → DoesItem (DueSetsOf all) old now b m earlier notes None
 sets_done all i old now b m earlier notes le so_far = so_far now m notes None (sets_none (drop i all) now m notes (drop_past all i le))

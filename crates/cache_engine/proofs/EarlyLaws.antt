@@ -11,9 +11,9 @@ use Rattle.open_sessions.specs.Opening.{seen_all}
 use Rattle.cache_tier.specs.Rules.{at_limit, broken_if, labelled, past}
 use Rattle.cache_tier.specs.SessionSteps.{open_fault}
 use Rattle.cache_tier.specs.TierStates.{Tier, is_labelled}
-use Rattle.cache_engine.specs.declared.tier.Tier.{Tier as Stored}
-use Rattle.cache_engine.specs.Stored.{IsStoredAs}
-use Rattle.cache_engine.proofs.SeenLaws.{any_seen}
+use Rattle.stored_tier.specs.declared.tier.Tier.{Tier as Stored}
+use Rattle.stored_tier.specs.Stored.{IsStoredAs}
+use Rattle.stored_tier.proofs.SeenLaws.{any_seen}
 use Rattle.tier_statements.specs.Seen.{session_seen}
 
 -- one of the list has the label, or none

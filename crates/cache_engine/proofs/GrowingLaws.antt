@@ -27,10 +27,10 @@ use Rattle.group_store.specs.Trees.{Layer}
 use Rattle.group_store.specs.declared.directory.Home.{Home}
 use Rattle.cache_tier.specs.Groups.{Group}
 use Rattle.tier_laws.specs.Defining.{with_tables}
-use Rattle.cache_engine.specs.declared.tier.Tier.{Tier as Stored}
+use Rattle.stored_tier.specs.declared.tier.Tier.{Tier as Stored}
 use Rattle.cache_engine.specs.Growing.{BeginsWith, Learns, MayLearn}
-use Rattle.cache_engine.specs.Naming.{AreNamed, HasNoHome}
-use Rattle.cache_engine.specs.Stored.{AreKept, IsSound, rows_of}
+use Rattle.stored_tier.specs.Naming.{AreNamed, HasNoHome}
+use Rattle.stored_tier.specs.Stored.{AreKept, IsSound, rows_of}
 
 -- tables that no store has
 
@@ -253,6 +253,7 @@ sound_learned law t schema names homes sound may =
       named = sound.named;
       visible = named.visible;
       numbered = sound.numbered;
+      later = sound.later;
       verified = λ is. cc;
     })
 

@@ -12,11 +12,11 @@ use Rattle.cache_tier.specs.CommitSteps.{CommitsOwn}
 use Rattle.cache_tier.specs.TierStates.{Session}
 use Rattle.cache_tier.specs.Worlds.{World}
 use Rattle.cache_tier.specs.declared.reply.Reply.{Reply}
-use Rattle.cache_engine.specs.declared.tier.Tier.{Tier as Stored}
-use Rattle.cache_engine.specs.Performing.{Executes, PerformsIn, reply_of}
-use Rattle.cache_engine.specs.Sites.{SiteView}
-use Rattle.cache_engine.specs.Stored.{IsSound}
-use Rattle.cache_engine.proofs.SelectLaws.{NumberLaw, own_found}
+use Rattle.stored_tier.specs.declared.tier.Tier.{Tier as Stored}
+use Rattle.stored_tier.specs.Performing.{Executes, PerformsIn, reply_of}
+use Rattle.outside.specs.Sites.{SiteState}
+use Rattle.stored_tier.specs.Stored.{IsSound}
+use Rattle.stored_tier.proofs.OwnSeen.{NumberLaw, own_found}
 
 pub no_ops : (ops given : List Op) (b : Bool) → given ≡ ops → b ≡ nat_eq (length given) 0 → b ≡ true → ops ≡ []
 no_ops [] given b same is empty = refl
@@ -29,7 +29,7 @@ idle : (w w' : World) (s : Session) (reply : Reply) → s.own ≡ [] → Execute
 idle w w' s reply none (inl did) = inl (subst (λ own. CommitsOwn s own w w' reply) (sym none) did)
 idle w w' s reply none (inr wants) = inr wants
 
-pub commits_idle : NumberLaw → (t new : Stored) (site : SiteView) (id : SessionId) (result : Result Reply Refused) → IsSound t → open_ops id (seen_all t.sessions) ≡ [] → PerformsIn t new site site id (Executes statement.Rollback) result → PerformsIn t new site site id (Executes statement.Commit) result
+pub commits_idle : NumberLaw → (t new : Stored) (site : SiteState) (id : SessionId) (result : Result Reply Refused) → IsSound t → open_ops id (seen_all t.sessions) ≡ [] → PerformsIn t new site site id (Executes statement.Rollback) result → PerformsIn t new site site id (Executes statement.Commit) result
 commits_idle law t new site id result sound none performs s has w at stands apart =
     let it = performs s has w at stands apart in
     record {

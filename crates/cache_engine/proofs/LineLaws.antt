@@ -29,23 +29,23 @@ use Rattle.cache_tier.specs.TierStates.{Session, Tier, is_labelled, session_of}
 use Rattle.cache_tier.specs.Undone.{is_undone}
 use Rattle.cache_tier.specs.Worlds.{Quiet, Refuses, Tries, Unless, World, only}
 use Rattle.tier_statements.specs.Replies.{reply_to}
-use Rattle.cache_engine.specs.declared.tier.Tier.{Tier as Stored}
-use Rattle.cache_engine.specs.Answering.{IsSessionOf}
-use Rattle.cache_engine.specs.Performing.{ClosesSession, Executes, OpensSession, Performs, PerformsIn, StandsFor, reply_of}
+use Rattle.stored_tier.specs.declared.tier.Tier.{Tier as Stored}
+use Rattle.stored_tier.specs.Answering.{IsSessionOf}
+use Rattle.stored_tier.specs.Performing.{ClosesSession, Executes, OpensSession, Performs, PerformsIn, StandsFor, reply_of}
 use Rattle.cache_engine.specs.Serving.{AsksAndDoes, DoesAdmitted, IsAdmitted, WorksAndAnswers}
-use Rattle.cache_engine.specs.Sites.{SiteView}
-use Rattle.cache_engine.specs.Stored.{IsStoredAs}
+use Rattle.outside.specs.Sites.{SiteState}
+use Rattle.stored_tier.specs.Stored.{IsStoredAs}
 use Rattle.cache_engine.proofs.DueLaws.{KeepsWho, asked_keeps, due_keeps, still_unshared, who_on}
 use Rattle.cache_engine.proofs.WantLaws.{told_as}
 
 -- another part that the same worlds meet
-pub performed : (old new : Stored) (before behind : SiteView) (one other : World → World → Type 0) → ((w w' : World) → StandsFor old w → one w w' → other w w') → Performs old new before behind one → Performs old new before behind other
+pub performed : (old new : Stored) (before behind : SiteState) (one other : World → World → Type 0) → ((w w' : World) → StandsFor old w → one w w' → other w w') → Performs old new before behind one → Performs old new before behind other
 performed old new before behind one other so p = λ w at stands unshared.
     let d = p w at stands unshared in
     record { world = d.world; at = d.at; stands = d.stands; is = so w d.world stands d.is }
 
 -- one after the other
-pub then_performed : (old mid new : Stored) (before between behind : SiteView) (one other both : World → World → Type 0)
+pub then_performed : (old mid new : Stored) (before between behind : SiteState) (one other both : World → World → Type 0)
     → ((w w' : World) → StandsFor old w → one w w' → KeepsWho w w')
     → ((w x w' : World) → StandsFor old w → one w x → other x w' → both w w')
     → Performs old mid before between one → Performs mid new between behind other → Performs old new before behind both
@@ -81,8 +81,8 @@ open_does label options w w' reply (inl q) = λ free.
     (subst (λ f. Unless f (Quiet (open_answer w.tier label options)) w w' reply) free q))
 open_does label options w w' reply (inr q) = λ free. inr q
 
-pub open_performed : (old new : Stored) (site : SiteView) (label : List ℕ) (options : OpenOptions) (result : Result Reply Refused)
-    → ((there : SiteView) → Performs old new there there (λ w w'. Tries (OpensSession label options) w w' (reply_of result)))
+pub open_performed : (old new : Stored) (site : SiteState) (label : List ℕ) (options : OpenOptions) (result : Result Reply Refused)
+    → ((there : SiteState) → Performs old new there there (λ w w'. Tries (OpensSession label options) w w' (reply_of result)))
     → Performs old new site site (λ w w'. DoesAdmitted (says.Session label (asks_for.Open options)) w w' (reply_of result))
 open_performed old new site label options result p = λ w at stands unshared.
     let d = p site w at stands unshared in
@@ -102,7 +102,7 @@ statement_does label st s w w' reply is (inr q) = inr q
 abbrev pub Finds : Stored → List ℕ → SessionId → Type 0
 Finds t label id = (a : Tier) → IsStoredAs t a → IsSessionOf t a label id
 
-pub close_performed : (old new : Stored) (before behind : SiteView) (label : List ℕ) (id : SessionId) (result : Result Reply Refused) → Finds old label id
+pub close_performed : (old new : Stored) (before behind : SiteState) (label : List ℕ) (id : SessionId) (result : Result Reply Refused) → Finds old label id
     → PerformsIn old new before behind id (λ s. Tries (ClosesSession s)) result
     → Performs old new before behind (λ w w'. DoesAdmitted (says.Session label asks_for.Close) w w' (reply_of result))
 close_performed old new before behind label id result finds p = λ w at stands unshared.
@@ -110,7 +110,7 @@ close_performed old new before behind label id result finds p = λ w at stands u
     let d = p o.session o.has w at stands unshared in
     record { world = d.world; at = d.at; stands = d.stands; is = λ free. close_does label o.session w d.world (reply_of result) o.is o.named d.is }
 
-pub statement_performed : (old new : Stored) (before behind : SiteView) (label : List ℕ) (id : SessionId) (st : Stmt) (result : Result Reply Refused) → Finds old label id
+pub statement_performed : (old new : Stored) (before behind : SiteState) (label : List ℕ) (id : SessionId) (st : Stmt) (result : Result Reply Refused) → Finds old label id
     → PerformsIn old new before behind id (Executes st) result
     → Performs old new before behind (λ w w'. DoesAdmitted (says.Session label (asks_for.Statement st)) w w' (reply_of result))
 statement_performed old new before behind label id st result finds p = λ w at stands unshared.
@@ -118,14 +118,14 @@ statement_performed old new before behind label id st result finds p = λ w at s
     let d = p o.session o.has w at stands unshared in
     record { world = d.world; at = d.at; stands = d.stands; is = λ free. statement_does label st o.session w d.world (reply_of result) o.is d.is }
 
-pub console_performed : (old new : Stored) (before behind : SiteView) (request : ConsoleRequest) (reply : Reply)
+pub console_performed : (old new : Stored) (before behind : SiteState) (request : ConsoleRequest) (reply : Reply)
     → Performs old new before behind (λ w w'. Tries (DoesConsole request) w w' reply) → Performs old new before behind (λ w w'. DoesAdmitted (says.Console request) w w' reply)
 console_performed old new before behind request reply p =
     performed old new before behind (λ w w'. Tries (DoesConsole request) w w' reply) (λ w w'. DoesAdmitted (says.Console request) w w' reply)
     (λ w w' stands done free. done) p
 
 -- the sum of the additions
-pub clock_told : (t : Stored) (site : SiteView) (ms : ℕ) (reply : Reply) → reply ≡ only (Done t.clock.added) → Performs t t site site (λ w w'. DoesAdmitted (says.Clock ms) w w' reply)
+pub clock_told : (t : Stored) (site : SiteState) (ms : ℕ) (reply : Reply) → reply ≡ only (Done t.clock.added) → Performs t t site site (λ w w'. DoesAdmitted (says.Clock ms) w w' reply)
 clock_told t site ms reply e = λ w at stands unshared. record {
   world = w;
   at = at;
@@ -151,13 +151,13 @@ early_admits base (says.Clock ms) t e = tt
 
 -- THE QUESTION FOR THE SCHEMA, AND THE STATEMENT
 
-pub asked_end : (old new : Stored) (before behind : SiteView) (l : Line) (reply : Reply)
+pub asked_end : (old new : Stored) (before behind : SiteState) (l : Line) (reply : Reply)
     → Performs old new before behind (λ w w'. AsksSchema l w w' (Some reply)) → Performs old new before behind (λ w w'. AsksAndDoes l w w' reply)
 asked_end old new before behind l reply p =
     performed old new before behind (λ w w'. AsksSchema l w w' (Some reply)) (λ w w'. AsksAndDoes l w w' reply)
     (λ w w' stands asks free. inl (record { mid = w'; stop = Some reply; first = asks; next = (refl, refl) })) p
 
-pub asked_on : (old mid new : Stored) (before between behind : SiteView) (l : Line) (reply : Reply)
+pub asked_on : (old mid new : Stored) (before between behind : SiteState) (l : Line) (reply : Reply)
     → Performs old mid before between (λ w w'. AsksSchema l w w' None) → Performs mid new between behind (λ w w'. DoesAdmitted l w w' reply)
     → Performs old new before behind (λ w w'. AsksAndDoes l w w' reply)
 asked_on old mid new before between behind l reply p q =
@@ -173,7 +173,7 @@ asked_on old mid new before between behind l reply p q =
     }))
     p q
 
-pub asked_refused : (old mid new : Stored) (before between behind : SiteView) (l : Line) (r : Refused) (reply : Reply) → reply ≡ reply_to r
+pub asked_refused : (old mid new : Stored) (before between behind : SiteState) (l : Line) (r : Refused) (reply : Reply) → reply ≡ reply_to r
     → Performs old mid before between (λ w w'. AsksSchema l w w' None) → Performs mid new between behind (λ w w'. DoesAdmitted l w w' (reply_of (Err r)))
     → Performs old new before behind (λ w w'. AsksAndDoes l w w' reply)
 asked_refused old mid new before between behind l r reply e p q =
@@ -187,7 +187,7 @@ worked_keeps t base l notes stop w w' stands works =
     who_on w (with_moment base l w) w' (record { sessions = refl; groups = refl; shared = refl })
     (due_keeps (with_moment base l w) w' notes stop stands.stored.doubt works)
 
-pub worked_end : (old new : Stored) (before behind : SiteView) (base : ℕ) (l : Line) (notes : List Note) (stop : Option Reply) (last reply : Reply) → stop ≡ Some last → reply ≡ with_notes notes last
+pub worked_end : (old new : Stored) (before behind : SiteState) (base : ℕ) (l : Line) (notes : List Note) (stop : Option Reply) (last reply : Reply) → stop ≡ Some last → reply ≡ with_notes notes last
     → Performs old new before behind (λ w w'. DueWork (with_moment base l w) w' notes stop) → Performs old new before behind (λ w w'. WorksAndAnswers base l w w' reply)
 worked_end old new before behind base l notes stop last reply is e p =
     performed old new before behind (λ w w'. DueWork (with_moment base l w) w' notes stop) (λ w w'. WorksAndAnswers base l w w' reply)
@@ -204,7 +204,7 @@ worked_end old new before behind base l notes stop last reply is e p =
     }))
     p
 
-pub worked_on : (old mid new : Stored) (before between behind : SiteView) (base : ℕ) (l : Line) (notes : List Note) (stop : Option Reply) (last reply : Reply) → stop ≡ None → reply ≡ with_notes notes last
+pub worked_on : (old mid new : Stored) (before between behind : SiteState) (base : ℕ) (l : Line) (notes : List Note) (stop : Option Reply) (last reply : Reply) → stop ≡ None → reply ≡ with_notes notes last
     → Performs old mid before between (λ w w'. DueWork (with_moment base l w) w' notes stop) → Performs mid new between behind (λ w w'. AsksAndDoes l w w' last)
     → Performs old new before behind (λ w w'. WorksAndAnswers base l w w' reply)
 worked_on old mid new before between behind base l notes stop last reply is e p q =
@@ -228,7 +228,7 @@ worked_on old mid new before between behind base l notes stop last reply is e p 
 
 -- LINES THAT ARE READ
 
-pub undone : (t : Stored) (site : SiteView) (base : ℕ) (l : Line) (reply : Reply) → is_undone l ≡ true → reply ≡ only (No (wrong_at 0)) → Performs t t site site (λ w w'. Heeds base (Says l) w w' reply)
+pub undone : (t : Stored) (site : SiteState) (base : ℕ) (l : Line) (reply : Reply) → is_undone l ≡ true → reply ≡ only (No (wrong_at 0)) → Performs t t site site (λ w w'. Heeds base (Says l) w w' reply)
 undone t site base l reply is e = λ w at stands unshared. record {
   world = w;
   at = at;
@@ -244,7 +244,7 @@ refused_early : (base : ℕ) (l : Line) (w : World) (r : Refused) (reply : Reply
 refused_early base l w (refused.Rule rule) reply told e = inl (subst (λ f. Unless f (Parts base l) w w reply) (sym told) (refl, e))
 refused_early base l w refused.Memory reply told e = inr (refl, e)
 
-pub early : (t : Stored) (site : SiteView) (base : ℕ) (l : Line) (r : Refused) (reply : Reply) → is_undone l ≡ false
+pub early : (t : Stored) (site : SiteState) (base : ℕ) (l : Line) (r : Refused) (reply : Reply) → is_undone l ≡ false
     → ((a : Tier) → IsStoredAs t a → IsRefusedBy (early_fault base l a) r) → reply ≡ reply_to r
     → Performs t t site site (λ w w'. Heeds base (Says l) w w' reply)
 early t site base l r reply is told e = λ w at stands unshared. record {
@@ -258,7 +258,7 @@ answered_free : (base : ℕ) (l : Line) (w w' : World) (reply : Reply) → early
 answered_free base l w w' reply free (inl q) = inl (subst (λ f. Unless f (Parts base l) w w' reply) (sym free) q)
 answered_free base l w w' reply free (inr q) = inr q
 
-pub heeded : (old new : Stored) (before behind : SiteView) (base : ℕ) (l : Line) (reply : Reply) → is_undone l ≡ false
+pub heeded : (old new : Stored) (before behind : SiteState) (base : ℕ) (l : Line) (reply : Reply) → is_undone l ≡ false
     → ((a : Tier) → IsStoredAs old a → early_fault base l a ≡ None)
     → Performs old new before behind (λ w w'. WorksAndAnswers base l w w' reply) → Performs old new before behind (λ w w'. Heeds base (Says l) w w' reply)
 heeded old new before behind base l reply is free p =

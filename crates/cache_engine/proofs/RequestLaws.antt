@@ -12,11 +12,11 @@ use Rattle.cache_tier.specs.declared.reply.Reply.{Reply}
 use Rattle.cache_tier.specs.Rules.{past}
 use Rattle.cache_tier.specs.Steps.{Heeds, Saying, Says, Silent, TooDeep, TooLong, WrongAt}
 use Rattle.tier_statements.specs.Replies.{reply_to}
-use Rattle.cache_engine.specs.declared.tier.Tier.{Tier as Stored}
-use Rattle.cache_engine.specs.Performing.{Performs}
+use Rattle.stored_tier.specs.declared.tier.Tier.{Tier as Stored}
+use Rattle.stored_tier.specs.Performing.{Performs}
 use Rattle.cache_engine.specs.Requests.{IsHeard, IsLineCaused, IsSaid, LineStep, heard, is_long}
 use Rattle.cache_engine.specs.Serving.{misread}
-use Rattle.cache_engine.specs.Sites.{SiteView}
+use Rattle.outside.specs.Sites.{SiteState}
 use Rattle.cache_engine.proofs.CauseLaws.{counted, refusal_caused}
 
 -- what is said by a line that isn't too long
@@ -25,10 +25,10 @@ said_so bytes saying short means =
     subst (λ b. MatchBool b (heard saying ≡ TooLong) (IsHeard bytes (heard saying))) (sym short) (saying, means, refl)
 
 -- it is a step of the world itself
-abbrev Stays : Stored → SiteView → ℕ → List ℕ → Option Reply → Type 0
+abbrev Stays : Stored → SiteState → ℕ → List ℕ → Option Reply → Type 0
 Stays t site base bytes reply = Performs t t site site (λ w w'. LineStep base w bytes w' reply)
 
-pub long_line : HeedLeads → (t : Stored) (site : SiteView) (base : ℕ) (bytes : List ℕ) (reply : Reply) → is_long bytes ≡ true → reply ≡ reply_to (refused.Rule (past limit.Line)) → Stays t site base bytes (Some reply)
+pub long_line : HeedLeads → (t : Stored) (site : SiteState) (base : ℕ) (bytes : List ℕ) (reply : Reply) → is_long bytes ≡ true → reply ≡ reply_to (refused.Rule (past limit.Line)) → Stays t site base bytes (Some reply)
 long_line law t site base bytes reply long e = λ w at stands unshared. record {
   world = w;
   at = at;
@@ -40,7 +40,7 @@ long_line law t site base bytes reply long e = λ w at stands unshared. record {
   );
 }
 
-pub silent_line : (t : Stored) (site : SiteView) (base : ℕ) (bytes : List ℕ) → is_long bytes ≡ false → line.Means bytes line.Silent → Stays t site base bytes None
+pub silent_line : (t : Stored) (site : SiteState) (base : ℕ) (bytes : List ℕ) → is_long bytes ≡ false → line.Means bytes line.Silent → Stays t site base bytes None
 silent_line t site base bytes short means = λ w at stands unshared. record {
   world = w;
   at = at;
@@ -48,7 +48,7 @@ silent_line t site base bytes short means = λ w at stands unshared. record {
   is = (Silent, inl (said_so bytes line.Silent short means), (refl, refl));
 }
 
-pub misread_line : HeedLeads → (t : Stored) (site : SiteView) (base : ℕ) (bytes : List ℕ) (why : ParseError) (reply : Reply) → is_long bytes ≡ false → line.Answers bytes (Err why) → reply ≡ reply_to (misread why) → Stays t site base bytes (Some reply)
+pub misread_line : HeedLeads → (t : Stored) (site : SiteState) (base : ℕ) (bytes : List ℕ) (why : ParseError) (reply : Reply) → is_long bytes ≡ false → line.Answers bytes (Err why) → reply ≡ reply_to (misread why) → Stays t site base bytes (Some reply)
 misread_line law t site base bytes (error.At place) reply short answers e = λ w at stands unshared. record {
   world = w;
   at = at;
@@ -80,7 +80,7 @@ misread_line law t site base bytes error.Memory reply short answers e = λ w at 
   );
 }
 
-pub read_line : HeedLeads → (old new : Stored) (before behind : SiteView) (base : ℕ) (bytes : List ℕ) (l : Line) (reply : Reply) → is_long bytes ≡ false → line.Means bytes (line.Says l) → IsLineCaused before behind (Some reply)
+pub read_line : HeedLeads → (old new : Stored) (before behind : SiteState) (base : ℕ) (bytes : List ℕ) (l : Line) (reply : Reply) → is_long bytes ≡ false → line.Means bytes (line.Says l) → IsLineCaused before behind (Some reply)
     → Performs old new before behind (λ w w'. Heeds base (Says l) w w' reply) → Performs old new before behind (λ w w'. LineStep base w bytes w' (Some reply))
 read_line law old new before behind base bytes l reply short means caused p = λ w at stands unshared.
     let d = p w at stands unshared in

@@ -9,8 +9,8 @@ use Rattle.cache_tier.specs.ConsoleSteps.{refers_to_writethrough, table_fault}
 use Rattle.cache_tier.specs.Groups.{is_table_of, is_writethrough}
 use Rattle.cache_tier.specs.Rules.{past}
 use Rattle.cache_tier.specs.TierStates.{Tier}
-use Rattle.cache_engine.specs.declared.tier.Tier.{Tier as Stored}
-use Rattle.cache_engine.specs.Stored.{IsStoredAs}
+use Rattle.stored_tier.specs.declared.tier.Tier.{Tier as Stored}
+use Rattle.stored_tier.specs.Stored.{IsStoredAs}
 use Rattle.cache_engine.specs.Tabling.{has_cached_parent, stored_table_fault}
 use Rattle.cache_engine.proofs.WritingLaws.{written_seen}
 

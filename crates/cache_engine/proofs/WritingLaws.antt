@@ -27,11 +27,12 @@ use Rattle.cache_tier.specs.Worlds.{Tries, Unless}
 use Rattle.cache_tier.specs.declared.reply.Reply.{Reply}
 use Rattle.group_catalog.specs.Catalogs.{groups_in}
 use Rattle.tier_statements.specs.Replies.{reply_to}
-use Rattle.cache_engine.specs.declared.tier.Tier.{Tier as Stored}
-use Rattle.cache_engine.specs.Sites.{Serves, SiteView}
-use Rattle.cache_engine.specs.Stored.{IsStoredAs, without_list}
+use Rattle.stored_tier.specs.declared.tier.Tier.{Tier as Stored}
+use Rattle.stored_tier.specs.Sites.{Serves}
+use Rattle.outside.specs.Sites.{SiteState}
+use Rattle.stored_tier.specs.Stored.{IsStoredAs, without_list}
 use Rattle.cache_engine.specs.Writing.{JudgesWrites, writes_through}
-use Rattle.cache_engine.proofs.BankLaws.{behind, behind_at, call_behind, stays_at, told_behind}
+use Rattle.stored_tier.proofs.BankLaws.{behind, behind_at, call_behind, stays_at, told_behind}
 
 -- tables of writethrough groups
 
@@ -99,14 +100,14 @@ writes_judged t writes changes e first a is =
 
 -- the statement
 
-pub console_refused : (t : Stored) (writes : List Write) (before : SiteView) (e : Refused) (reply : Reply) → ((a : Tier) → IsStoredAs t a → JudgesWrites a writes (Err e)) → reply ≡ reply_to e → Serves t t before before (λ w w'. Tries (DoesConsole (console.Writes writes)) w w' reply)
+pub console_refused : (t : Stored) (writes : List Write) (before : SiteState) (e : Refused) (reply : Reply) → ((a : Tier) → IsStoredAs t a → JudgesWrites a writes (Err e)) → reply ≡ reply_to e → Serves t t before before (λ w w'. Tries (DoesConsole (console.Writes writes)) w w' reply)
 console_refused t writes before (refused.Rule rule) reply judged is = λ w at stored.
     stays_at t before w (λ w'. Tries (DoesConsole (console.Writes writes)) w w' reply) at stored
     (inl (subst (λ fault. Unless fault (WritesAll writes) w w reply) (sym (judged w.tier stored)) (refl, is)))
 console_refused t writes before refused.Memory reply judged is = λ w at stored.
     stays_at t before w (λ w'. Tries (DoesConsole (console.Writes writes)) w w' reply) at stored (inr (refl, is))
 
-pub console_written : (t : Stored) (writes : List Write) (before after : SiteView) (changes given : List Change) (result : Result Wrote BankError) (reply : Reply)
+pub console_written : (t : Stored) (writes : List Write) (before after : SiteState) (changes given : List Change) (result : Result Wrote BankError) (reply : Reply)
     → given ≡ changes → ((a : Tier) → IsStoredAs t a → JudgesWrites a writes (Ok changes))
     → site.Told before.held after.held (site.BankCall before.shared (WritesForeign given result))
     → before.bank_faults ≤ after.bank_faults → before.moment ≤ after.moment → after.shared ≡ before.shared → reply ≡ passed_reply result

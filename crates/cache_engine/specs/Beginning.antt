@@ -16,13 +16,13 @@ use Rattle.cache_tier.specs.TierStates.{Settings, cut, opened}
 use Rattle.cache_tier.specs.Worlds.{World}
 use Rattle.group_catalog.specs.Catalogs.{groups_in}
 use Rattle.open_sessions.specs.Opening.{seen_all}
-use Rattle.cache_engine.specs.declared.clock.TierClock.{TierClock}
-use Rattle.cache_engine.specs.declared.tier.Tier.{Tier as Stored}
-use Rattle.cache_engine.specs.Performing.{KeepsSlots, StandsFor}
-use Rattle.cache_engine.specs.Sites.{SiteView}
+use Rattle.stored_tier.specs.declared.clock.TierClock.{TierClock}
+use Rattle.stored_tier.specs.declared.tier.Tier.{Tier as Stored}
+use Rattle.stored_tier.specs.Performing.{KeepsSlots, StandsFor}
+use Rattle.outside.specs.Sites.{SiteState}
 
 -- the world of a tier that is opened at a site with this history, which leaves this state; there is no journal
-abbrev pub opened_world : Settings → ℕ → TableState → List Entry → SiteView → World
+abbrev pub opened_world : Settings → ℕ → TableState → List Entry → SiteState → World
 opened_world settings start s history site =
     record {
       tier = opened settings start s.schema;
@@ -35,13 +35,13 @@ opened_world settings start s history site =
     }
 
 -- the tier stands for an opened one, whose settings have this span between rounds
-abbrev pub IsOpened : Stored → Moment → ℕ → List Entry → SiteView → Type 0
+abbrev pub IsOpened : Stored → Moment → ℕ → List Entry → SiteState → Type 0
 IsOpened t start propagate_ms history site =
     (settings : Settings) (s : TableState) → settings.propagate_ms ≡ propagate_ms → state_of history ≡ Some s
     → MayBegin history 1 → StandsFor t (opened_world settings start.0 s history site)
 
 -- what the site tells that it holds: transactions of others came, and the tier is opened over that
-pub record IsBegun (t : Stored) (start : Moment) (propagate_ms : ℕ) (before behind : SiteView) (there : Held)
+pub record IsBegun (t : Stored) (start : Moment) (propagate_ms : ℕ) (before behind : SiteState) (there : Held)
     : Type 0 where
   pub held : Held
   pub told : behind.held ≡ Some held
@@ -50,7 +50,7 @@ pub record IsBegun (t : Stored) (start : Moment) (propagate_ms : ℕ) (before be
   pub is : held.history ≡ there.history ++ others
   pub opened : IsOpened t start propagate_ms held.history behind
 
-abbrev pub Begins : Moment → ℕ → SiteView → SiteView → Result Stored BankError → Type 0
+abbrev pub Begins : Moment → ℕ → SiteState → SiteState → Result Stored BankError → Type 0
 Begins start propagate_ms before behind (Ok t) =
     (there : Held) → before.held ≡ Some there → IsBegun t start propagate_ms before behind there
 Begins start propagate_ms before behind (Err e) = Unit {0}
@@ -64,7 +64,7 @@ pub record OthersCame (shared : List TableId) (there : Held) (held : Option Held
   pub is : now.history ≡ there.history ++ others
 
 -- the count of faults and the moment don't fall, what others change stays, and so do the slots
-pub record BeginsAt (before behind : SiteView) : Type 0 where
+pub record BeginsAt (before behind : SiteState) : Type 0 where
   pub later : before.bank_faults ≤ behind.bank_faults
   pub moment : before.moment ≤ behind.moment
   pub shares : behind.shared ≡ before.shared

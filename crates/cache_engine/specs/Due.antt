@@ -5,12 +5,12 @@ use Rattle.std.specs.Option.{IfSome}
 use Rattle.tier_base.specs.declared.code.Code.TheVariants as code
 use Rattle.cache_tier.specs.Steps.{Rose, faults_in, note_tells, tells}
 use Rattle.cache_engine.specs.declared.due.Due.{Due}
-use Rattle.cache_engine.specs.Performing.{KeepsSlots}
-use Rattle.cache_engine.specs.Sites.{SiteView}
+use Rattle.stored_tier.specs.Performing.{KeepsSlots}
+use Rattle.outside.specs.Sites.{SiteState}
 
 -- Counts and moments don't fall, and what others change stays, and the slots. Each fault of the bank that is noted has a
 -- failed call of its own, and none of the journal is told; a reply that ends the line tells neither.
-pub record IsDueCaused (before behind : SiteView) (due : Due) : Type 0 where
+pub record IsDueCaused (before behind : SiteState) (due : Due) : Type 0 where
   pub later : before.bank_faults ≤ behind.bank_faults
   pub moment : before.moment ≤ behind.moment
   pub shares : behind.shared ≡ before.shared

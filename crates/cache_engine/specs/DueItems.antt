@@ -11,13 +11,13 @@ use Rattle.cache_tier.specs.declared.reply.Note.{Note}
 use Rattle.cache_tier.specs.declared.reply.Note.TheVariants.{Propagate, Refresh}
 use Rattle.cache_tier.specs.declared.reply.Reply.{Reply}
 use Rattle.group_catalog.specs.Catalogs.{groups_in}
-use Rattle.cache_engine.specs.declared.clock.SetMoment.{SetMoment}
+use Rattle.group_rows.specs.declared.moments.SetMoment.{SetMoment}
 use Rattle.cache_engine.specs.declared.due.Due.{Due}
-use Rattle.cache_engine.specs.declared.tier.Tier.{Tier as Stored}
+use Rattle.stored_tier.specs.declared.tier.Tier.{Tier as Stored}
 use Rattle.cache_engine.specs.Due.{IsDueCaused}
-use Rattle.cache_engine.specs.Performing.{Performs}
-use Rattle.cache_engine.specs.Refreshing.{has_moment, moment_in}
-use Rattle.cache_engine.specs.Sites.{SiteView}
+use Rattle.stored_tier.specs.Performing.{Performs}
+use Rattle.group_rows.specs.Refreshing.{has_moment, moment_in}
+use Rattle.outside.specs.Sites.{SiteState}
 
 -- a set is due at a moment: its interval after its last refresh
 abbrev pub is_due_at : ℕ → List SetMoment → ℕ → Bool
@@ -51,7 +51,7 @@ due_of notes stop = record { notes = notes; stop = stop }
 
 -- The stored tier does an item of due work in each world, and its notes come behind the earlier ones. Each fault that they
 -- tell has its cause, the groups keep their definitions, and no set loses the entry of its last refresh.
-pub record DoesItem (item : Item) (old new : Stored) (before behind : SiteView) (earlier notes : List Note)
+pub record DoesItem (item : Item) (old new : Stored) (before behind : SiteState) (earlier notes : List Note)
     (stop : Option Reply) : Type 0 where
   pub performs : Performs old new before behind (λ w w'. item w w' (notes_since earlier notes) stop)
   pub order : notes ≡ earlier ++ notes_since earlier notes

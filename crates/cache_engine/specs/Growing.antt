@@ -12,9 +12,9 @@ use Rattle.sql_subset.specs.declared.request.Line.{Line}
 use Rattle.cache_tier.specs.ConsoleSteps.{names_of_line}
 use Rattle.cache_tier.specs.Groups.{is_table_of}
 use Rattle.tier_laws.specs.Defining.{with_tables}
-use Rattle.cache_engine.specs.declared.tier.Tier.{Tier as Stored}
-use Rattle.cache_engine.specs.Naming.{AreNamed, HasNoHome}
-use Rattle.cache_engine.specs.Stored.{rows_of}
+use Rattle.stored_tier.specs.declared.tier.Tier.{Tier as Stored}
+use Rattle.stored_tier.specs.Naming.{AreNamed, HasNoHome}
+use Rattle.stored_tier.specs.Stored.{rows_of}
 
 -- a list of definitions begins with another
 pub record BeginsWith (front whole : List TableDef) : Type 0 where

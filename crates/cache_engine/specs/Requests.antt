@@ -9,8 +9,8 @@ use Rattle.sql_subset.specs.Lines as line
 use Rattle.cache_tier.specs.declared.reply.Reply.{Reply}
 use Rattle.cache_tier.specs.Steps.{Rose, Saying, Silent, Says, Step, TooDeep, TooLong, WrongAt, faults_in}
 use Rattle.cache_tier.specs.Worlds.{World, faulty}
-use Rattle.cache_engine.specs.Performing.{KeepsSlots}
-use Rattle.cache_engine.specs.Sites.{SiteView}
+use Rattle.stored_tier.specs.Performing.{KeepsSlots}
+use Rattle.outside.specs.Sites.{SiteState}
 
 -- the line is longer than a line may be
 abbrev pub is_long : List ℕ → Bool
@@ -58,7 +58,7 @@ LineRun w (g ∷ lines) (reply ∷ replies) w' =
 
 -- Counts and moments don't fall, what others change stays, and so do the slots. Each fault of the bank that a reply tells
 -- has a failed call of its own, and none of the journal is told.
-pub record IsLineCaused (before behind : SiteView) (reply : Option Reply) : Type 0 where
+pub record IsLineCaused (before behind : SiteState) (reply : Option Reply) : Type 0 where
   pub later : before.bank_faults ≤ behind.bank_faults
   pub moment : before.moment ≤ behind.moment
   pub shares : behind.shared ≡ before.shared

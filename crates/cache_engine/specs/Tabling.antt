@@ -10,7 +10,7 @@ use Rattle.table_defs.specs.declared.definition.ForeignKey.{ForeignKey}
 use Rattle.cache_tier.specs.Groups.{is_table_of, is_writethrough}
 use Rattle.cache_tier.specs.Rules.{past}
 use Rattle.group_catalog.specs.Catalogs.{groups_in}
-use Rattle.cache_engine.specs.declared.tier.Tier.{Tier as Stored}
+use Rattle.stored_tier.specs.declared.tier.Tier.{Tier as Stored}
 
 -- the foreign key refers to a table of a writethrough group
 abbrev pub has_cached_parent : Stored → Option ForeignKey → Bool

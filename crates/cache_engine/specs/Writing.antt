@@ -12,7 +12,7 @@ use Rattle.cache_tier.specs.ConsoleSteps.{writes_fault}
 use Rattle.cache_tier.specs.Groups.{is_table_of, is_writethrough}
 use Rattle.cache_tier.specs.TierStates.{Tier}
 use Rattle.group_catalog.specs.Catalogs.{groups_in}
-use Rattle.cache_engine.specs.declared.tier.Tier.{Tier as Stored}
+use Rattle.stored_tier.specs.declared.tier.Tier.{Tier as Stored}
 
 -- the table of a name is one of a writethrough group
 abbrev pub writes_through : Stored → List ℕ → Bool

@@ -1,56 +1,51 @@
 //! How a tier begins.
 
 ghost use Rattle.std.specs.Prelude.{IfOk};
-ghost use Rattle.cache_engine.specs.Beginning.{IsFresh, IsNewClock};
-ghost use Rattle.cache_engine.specs.Stored.{IsSound};
+ghost use Rattle.cache_engine.specs.Beginning.{IsFresh, IsNewClock, Begins, BeginsAt};
+ghost use Rattle.stored_tier.specs.Stored.{IsSound};
+ghost use Rattle.outside.specs.Faults.{BankHasCause};
 
-use crate::clock::TierClock;
-use crate::naming::name_tables;
-use crate::tier::Tier;
 use group_catalog::Catalog;
 use open_sessions::Sessions;
 use outside::{BankError, Site};
 use std::alloc::{AllocError, Global};
 use std::collections::VecDeque;
+use stored_tier::clock::TierClock;
+use stored_tier::naming::name_tables;
+use stored_tier::tier::Tier;
 use table_defs::BackingSchema;
 use tier_base::{Limit, Moment};
 use tier_laws::opened_law;
 
-impl Tier {
-    ghost use Rattle.outside.specs.Faults.{BankHasCause};
-    ghost use Rattle.cache_engine.specs.Beginning.{Begins, BeginsAt};
-    ghost use Rattle.cache_engine.specs.Sites.{seen_at};
-
-    /// A tier over a backing database in which no transaction of a tier stands. It asks for the schema; transactions of
-    /// others may come in that call. `start` is its first moment, and `propagate_ms` says after how many milliseconds a
-    /// round is due; 0 where none ever is.
-    ///
-    /// `Failed` only where the count of bank faults rose in this call; nothing else is known then, as for want of
-    /// memory.
-    pub fn begin<P: Site>(
-        alloc: Global,
-        site: &mut P,
-        start: Moment,
-        propagate_ms: u64,
-    ) -> Result<Tier, BankError>
-        ensures begins { Begins start propagate_ms
-            (seen_at (P.Disk.held site.old) (P.bank_faults site.old) (P.Disk.moment site.old) (P.Disk.shared site.old))
-            (seen_at (P.Disk.held site.new) (P.bank_faults site.new) (P.Disk.moment site.new) (P.Disk.shared site.new))
-            result }
-        ensures sound { IfOk result IsSound }
-        ensures cause { BankHasCause (P.bank_faults site.old) (P.bank_faults site.new) result }
-        ensures later { BeginsAt
-            (seen_at (P.Disk.held site.old) (P.bank_faults site.old) (P.Disk.moment site.old) (P.Disk.shared site.old))
-            (seen_at (P.Disk.held site.new) (P.bank_faults site.new) (P.Disk.moment site.new) (P.Disk.shared site.new)) }
-    {
-        opened_law();
-        match site.schema() {
-            Err(error) => Err(error),
-            Ok(schema) => match new_tier(alloc, schema, start, propagate_ms) {
-                Err(_) => Err(BankError::Memory),
-                Ok(tier) => Ok(tier),
-            },
-        }
+/// A tier over a backing database in which no transaction of a tier stands. It asks for the schema; transactions of
+/// others may come in that call. `start` is its first moment, and `propagate_ms` says after how many milliseconds a
+/// round is due; 0 where none ever is.
+///
+/// `Failed` only where the count of bank faults rose in this call; nothing else is known then, as for want of
+/// memory.
+pub fn begin<P: Site>(
+    alloc: Global,
+    site: &mut P,
+    start: Moment,
+    propagate_ms: u64,
+) -> Result<Tier, BankError>
+    ensures begins { Begins start propagate_ms
+        (P.Disk.state site.old)
+        (P.Disk.state site.new)
+        result }
+    ensures sound { IfOk result IsSound }
+    ensures cause { BankHasCause (P.Disk.state site.old) (P.Disk.state site.new) result }
+    ensures later { BeginsAt
+        (P.Disk.state site.old)
+        (P.Disk.state site.new) }
+{
+    opened_law();
+    match site.schema() {
+        Err(error) => Err(error),
+        Ok(schema) => match new_tier(alloc, schema, start, propagate_ms) {
+            Err(_) => Err(BankError::Memory),
+            Ok(tier) => Ok(tier),
+        },
     }
 }
 

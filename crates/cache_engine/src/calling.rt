@@ -5,92 +5,90 @@ ghost use Rattle.cache_tier.specs.SessionSteps.{flag_answer};
 ghost use Rattle.cache_tier.specs.Steps.{RefreshesCalled};
 ghost use Rattle.cache_tier.specs.TierStates.{Session};
 ghost use Rattle.cache_tier.specs.Worlds.{Quiet, Tries};
+ghost use Rattle.stored_tier.specs.Performing.{Executes, IsCalm, IsCaused, Performs, PerformsIn, reply_of};
+ghost use Rattle.outside.specs.Sites.{SiteState};
+ghost use Rattle.stored_tier.specs.Stored.{HasSession, IsSound};
 
-use crate::refreshing::{make_moment, set_size};
-use crate::tier::Tier;
+use crate::due_work::refresh_set;
 use cache_tier::called::Called;
 use cache_tier::reply::Reply;
 use group_catalog::resolve_call;
+use group_rows::refreshing::{make_moment, set_size};
 use outside::Site;
 use row_types::Refused;
 use sql_subset::stmt::Call;
 use std::alloc::Global;
+use stored_tier::tier::Tier;
 use tier_base::{Code, SessionId};
 use tier_laws::session_law;
 use tier_statements::{done, faulty};
 
-impl Tier {
-    ghost use Rattle.cache_engine.specs.Performing.{Executes, IsCalm, IsCaused, Performs, PerformsIn, reply_of};
-    ghost use Rattle.cache_engine.specs.Sites.{SiteView, seen_at};
-    ghost use Rattle.cache_engine.specs.Stored.{HasSession, IsSound};
-
-    /// CALL: ttDrain applies what is unsettled at the bank, and tells how many transactions that were; ttCacheAutorefresh
-    /// refreshes the set of a READONLY group, where it shows something, and tells how many groups it has; ttOptSetFlag
-    /// gives the transaction a level of passthrough.
-    ///
-    /// The refusal is the first rule that the procedure and its arguments break, as `resolve_call` tells it; a failed call
-    /// of the bank is 201, a row that isn't as a transaction says 210; or memory was wanting. (TimesTen Cache User's
-    /// Guide, "ttCacheAutorefresh"; TimesTen built-in procedures, "ttOptSetFlag"; ttDrain is this project's.)
-    pub fn call<P: Site>(
-        &mut self,
-        alloc: Global,
-        site: &mut P,
-        id: SessionId,
-        call: &Call,
-    ) -> Result<Reply, Refused>
-        requires { IsSound self.old }
-        ensures performs { PerformsIn self.old self.new
-            (seen_at (P.Disk.held site.old) (P.bank_faults site.old) (P.Disk.moment site.old) (P.Disk.shared site.old))
-            (seen_at (P.Disk.held site.new) (P.bank_faults site.new) (P.Disk.moment site.new) (P.Disk.shared site.new))
-            id (Executes (statement.Call call.now)) result }
-        ensures sound { IsSound self.new }
-        ensures cause { IsCaused
-            (seen_at (P.Disk.held site.old) (P.bank_faults site.old) (P.Disk.moment site.old) (P.Disk.shared site.old))
-            (seen_at (P.Disk.held site.new) (P.bank_faults site.new) (P.Disk.moment site.new) (P.Disk.shared site.new))
-            (reply_of result) }
-    {
-        match resolve_call(alloc, &self.catalog, call) {
-            Err(refused) => Err(refused),
-            Ok(called) => match called {
-                Called::Drain => Ok(self.drain(alloc, site)),
-                Called::RefreshSet(interval) => Ok(self.refresh_called(alloc, site, interval)),
-                Called::SetLevel(level) => Ok(self.give_level(alloc, id, level)),
-            },
-        }
+/// CALL: ttDrain applies what is unsettled at the bank, and tells how many transactions that were; ttCacheAutorefresh
+/// refreshes the set of a READONLY group, where it shows something, and tells how many groups it has; ttOptSetFlag
+/// gives the transaction a level of passthrough.
+///
+/// The refusal is the first rule that the procedure and its arguments break, as `resolve_call` tells it; a failed call
+/// of the bank is 201, a row that isn't as a transaction says 210; or memory was wanting. (TimesTen Cache User's
+/// Guide, "ttCacheAutorefresh"; TimesTen built-in procedures, "ttOptSetFlag"; ttDrain is this project's.)
+pub fn call_procedure<P: Site>(
+    tier: &mut Tier,
+    alloc: Global,
+    site: &mut P,
+    id: SessionId,
+    call: &Call,
+) -> Result<Reply, Refused>
+    requires { IsSound tier.old }
+    ensures performs { PerformsIn tier.old tier.new
+        (P.Disk.state site.old)
+        (P.Disk.state site.new)
+        id (Executes (statement.Call call.now)) result }
+    ensures sound { IsSound tier.new }
+    ensures cause { IsCaused
+        (P.Disk.state site.old)
+        (P.Disk.state site.new)
+        (reply_of result) }
+{
+    match resolve_call(alloc, &tier.catalog, call) {
+        Err(refused) => Err(refused),
+        Ok(called) => match called {
+            Called::Drain => Ok(tier.drain(alloc, site)),
+            Called::RefreshSet(interval) => Ok(refresh_called(tier, alloc, site, interval)),
+            Called::SetLevel(level) => Ok(give_level(tier, alloc, id, level)),
+        },
     }
+}
 
-    // ttCacheAutorefresh of the set of an interval. The reply tells how many groups it has; 201 where the bank's call
-    // failed; or memory was wanting.
-    fn refresh_called<P: Site>(&mut self, alloc: Global, site: &mut P, interval: u64) -> Reply
-        requires { IsSound self.old }
-        ensures performs { Performs self.old self.new
-            (seen_at (P.Disk.held site.old) (P.bank_faults site.old) (P.Disk.moment site.old) (P.Disk.shared site.old))
-            (seen_at (P.Disk.held site.new) (P.bank_faults site.new) (P.Disk.moment site.new) (P.Disk.shared site.new))
-            (λ w w'. Tries (RefreshesCalled interval) w w' result) }
-        ensures sound { IsSound self.new }
-        ensures cause { IsCaused
-            (seen_at (P.Disk.held site.old) (P.bank_faults site.old) (P.Disk.moment site.old) (P.Disk.shared site.old))
-            (seen_at (P.Disk.held site.new) (P.bank_faults site.new) (P.Disk.moment site.new) (P.Disk.shared site.new))
-            result }
-    {
-        if make_moment(&mut self.clock.sets, interval).is_err() {
-            return faulty(alloc, Code::Memory);
-        }
-        match self.refresh_set(alloc, site, interval) {
-            Err(reply) => reply,
-            Ok(()) => done(alloc, set_size(&self.catalog, interval)),
-        }
+// ttCacheAutorefresh of the set of an interval. The reply tells how many groups it has; 201 where the bank's call
+// failed; or memory was wanting.
+fn refresh_called<P: Site>(tier: &mut Tier, alloc: Global, site: &mut P, interval: u64) -> Reply
+    requires { IsSound tier.old }
+    ensures performs { Performs tier.old tier.new
+        (P.Disk.state site.old)
+        (P.Disk.state site.new)
+        (λ w w'. Tries (RefreshesCalled interval) w w' result) }
+    ensures sound { IsSound tier.new }
+    ensures cause { IsCaused
+        (P.Disk.state site.old)
+        (P.Disk.state site.new)
+        result }
+{
+    if make_moment(&mut tier.clock.sets, interval).is_err() {
+        return faulty(alloc, Code::Memory);
     }
+    match refresh_set(tier, alloc, site, interval) {
+        Err(reply) => reply,
+        Ok(()) => done(alloc, set_size(&tier.catalog, interval)),
+    }
+}
 
-    // ttOptSetFlag, as `set_level`.
-    fn give_level(&mut self, alloc: Global, id: SessionId, level: u8) -> Reply
-        requires { IsSound self.old }
-        ensures performs { (site : SiteView) (s : Session) → HasSession self.old id s → Performs self.old self.new site site
-            (λ w w'. Tries (Quiet (flag_answer w.tier s.label level)) w w' result) }
-        ensures sound { IsSound self.new }
-        ensures calm { IsCalm result }
-    {
-        session_law();
-        self.set_level(alloc, id, level)
-    }
+// ttOptSetFlag, as `set_level`.
+fn give_level(tier: &mut Tier, alloc: Global, id: SessionId, level: u8) -> Reply
+    requires { IsSound tier.old }
+    ensures performs { (site : SiteState) (s : Session) → HasSession tier.old id s → Performs tier.old tier.new site site
+        (λ w w'. Tries (Quiet (flag_answer w.tier s.label level)) w w' result) }
+    ensures sound { IsSound tier.new }
+    ensures calm { IsCalm result }
+{
+    session_law();
+    tier.set_level(alloc, id, level)
 }

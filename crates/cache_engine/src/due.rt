@@ -1,16 +1,21 @@
 //! What is due before a line.
 
-ghost use Rattle.std.specs.Prelude.{◌≡◌, ◌≤◌, ◌+◌, [], IfOk, IfSome, length, max, vec_capacity, vec_len};
-ghost use Rattle.cache_tier.specs.Steps.{added_by};
+ghost use Rattle.std.specs.Prelude.{◌≡◌, ◌≤◌, ◌+◌, [], IfOk, IfSome, length, max, vec_capacity, vec_len, OnErr};
+ghost use Rattle.cache_tier.specs.Steps.{added_by, with_moment};
 ghost use Rattle.cache_tier.specs.TierStates.{Tier as AbstractTier, cut};
+ghost use Rattle.cache_tier.specs.DueWork.{DueWork};
+ghost use Rattle.cache_engine.specs.Due.{IsDueCaused};
+ghost use Rattle.stored_tier.specs.Performing.{Performs};
+ghost use Rattle.stored_tier.specs.Stored.{IsSound};
 
-use crate::clock::SetMoment;
 use crate::due_sets::{due_intervals, with_entries};
-use crate::tier::Tier;
+use crate::due_work::do_due;
 use cache_tier::reply::{Note, Reply};
+use group_rows::moments::SetMoment;
 use outside::Site;
 use sql_subset::request::Line;
 use std::alloc::{AllocError, Global};
+use stored_tier::tier::Tier;
 use tier_base::{Limit, Moment, Seq};
 
 /// What became of the work that was due.
@@ -22,66 +27,56 @@ pub struct Due {
     pub stop: Option<Reply>,
 }
 
-impl Tier {
-    ghost use Rattle.std.specs.Prelude.{◌≡◌, IfOk, OnErr};
-    ghost use Rattle.cache_tier.specs.DueWork.{DueWork};
-    ghost use Rattle.cache_tier.specs.Steps.{with_moment};
-    ghost use Rattle.cache_engine.specs.Due.{IsDueCaused};
-    ghost use Rattle.cache_engine.specs.Performing.{Performs};
-    ghost use Rattle.cache_engine.specs.Sites.{seen_at};
-    ghost use Rattle.cache_engine.specs.Stored.{IsSound};
+/// The moment of a line comes, which is the greater of the last one and the base with the console's additions, and what
+/// is due then is done: a round of propagation, then the refreshes of sets by rising interval. A fault of the bank, or
+/// want of memory, becomes a note, and the line goes on; another fault ends it.
+///
+/// It fails for want of memory alone, before anything is done. (TimesTen Cache User's Guide, "Automatically refreshing
+/// a cache group"; the order is this project's rule.)
+pub fn begin_line<P: Site>(
+    tier: &mut Tier,
+    alloc: Global,
+    site: &mut P,
+    base: Moment,
+    line: &Line,
+) -> Result<Due, AllocError>
+    requires { IsSound tier.old }
+    ensures performs { IfOk result (λ due. Performs tier.old tier.new
+        (P.Disk.state site.old)
+        (P.Disk.state site.new)
+        (λ w w'. DueWork (with_moment base.0 line.now w) w' due.notes due.stop)) }
+    ensures err { OnErr result ((tier.new ≡ tier.old) × (site.new ≡ site.old)) }
+    ensures sound { IsSound tier.new }
+    ensures cause { IfOk result (IsDueCaused
+        (P.Disk.state site.old)
+        (P.Disk.state site.new)) }
+{
+    let Some(added) = added_by(tier.clock.added, line) else {
+        return Err(AllocError);
+    };
+    let now = moment_of(tier.clock.now, base, added);
+    let intervals = due_intervals(alloc, &tier.catalog, tier.clock.sets.as_slice(), now)?;
+    let sets = with_entries(alloc, tier.clock.sets.as_slice(), intervals.as_slice())?;
+    let mut notes = room_for_notes(alloc, intervals.as_slice())?;
+    set_clock(tier, now, added, sets);
+    let stop = do_due(tier, alloc, site, intervals.as_slice(), &mut notes);
+    Ok(Due {
+        notes: Seq::from_vec(notes),
+        stop,
+    })
+}
 
-    /// The moment of a line comes, which is the greater of the last one and the base with the console's additions, and what
-    /// is due then is done: a round of propagation, then the refreshes of sets by rising interval. A fault of the bank, or
-    /// want of memory, becomes a note, and the line goes on; another fault ends it.
-    ///
-    /// It fails for want of memory alone, before anything is done. (TimesTen Cache User's Guide, "Automatically refreshing
-    /// a cache group"; the order is this project's rule.)
-    pub fn begin_line<P: Site>(
-        &mut self,
-        alloc: Global,
-        site: &mut P,
-        base: Moment,
-        line: &Line,
-    ) -> Result<Due, AllocError>
-        requires { IsSound self.old }
-        ensures performs { IfOk result (λ due. Performs self.old self.new
-            (seen_at (P.Disk.held site.old) (P.bank_faults site.old) (P.Disk.moment site.old) (P.Disk.shared site.old))
-            (seen_at (P.Disk.held site.new) (P.bank_faults site.new) (P.Disk.moment site.new) (P.Disk.shared site.new))
-            (λ w w'. DueWork (with_moment base.0 line.now w) w' due.notes due.stop)) }
-        ensures err { OnErr result ((self.new ≡ self.old) × (site.new ≡ site.old)) }
-        ensures sound { IsSound self.new }
-        ensures cause { IfOk result (IsDueCaused
-            (seen_at (P.Disk.held site.old) (P.bank_faults site.old) (P.Disk.moment site.old) (P.Disk.shared site.old))
-            (seen_at (P.Disk.held site.new) (P.bank_faults site.new) (P.Disk.moment site.new) (P.Disk.shared site.new))) }
-    {
-        let Some(added) = added_by(self.clock.added, line) else {
-            return Err(AllocError);
-        };
-        let now = moment_of(self.clock.now, base, added);
-        let intervals = due_intervals(alloc, &self.catalog, self.clock.sets.as_slice(), now)?;
-        let sets = with_entries(alloc, self.clock.sets.as_slice(), intervals.as_slice())?;
-        let mut notes = room_for_notes(alloc, intervals.as_slice())?;
-        self.set_clock(now, added, sets);
-        let stop = self.do_due(alloc, site, intervals.as_slice(), &mut notes);
-        Ok(Due {
-            notes: Seq::from_vec(notes),
-            stop,
-        })
-    }
-
-    // The moment of a line comes.
-    fn set_clock(&mut self, now: u64, added: u64, sets: Vec<SetMoment>)
-        requires { IsSound self.old }
-        ensures set { self.new ≡ record self.old {
-          clock = record self.old.clock { now = now; added = added; sets = sets };
-        } }
-        ensures sound { IsSound self.new }
-    {
-        self.clock.now = now;
-        self.clock.added = added;
-        self.clock.sets = sets;
-    }
+// The moment of a line comes.
+fn set_clock(tier: &mut Tier, now: u64, added: u64, sets: Vec<SetMoment>)
+    requires { IsSound tier.old }
+    ensures set { tier.new ≡ record tier.old {
+      clock = record tier.old.clock { now = now; added = added; sets = sets };
+    } }
+    ensures sound { IsSound tier.new }
+{
+    tier.clock.now = now;
+    tier.clock.added = added;
+    tier.clock.sets = sets;
 }
 
 // The clock's additions with those of the line; none where they leave 64 bits.

@@ -6,154 +6,149 @@ ghost use Rattle.cache_tier.specs.DueWork.{DueRound, DueSetsOf, DueWork, Noted, 
 ghost use Rattle.cache_tier.specs.Groups.{definitions_of};
 ghost use Rattle.cache_tier.specs.Sets.{RefreshesIfShown};
 ghost use Rattle.group_catalog.specs.Catalogs.{groups_in};
-ghost use Rattle.cache_engine.specs.DueItems.{DoesItem, due_at, note_of, round_is_due};
-ghost use Rattle.cache_engine.specs.Performing.{stop_of};
-ghost use Rattle.cache_engine.specs.Refreshing.{has_moment};
+ghost use Rattle.cache_engine.specs.DueItems.{DoesItem, due_at, note_of, round_is_due, KeepsSets};
+ghost use Rattle.stored_tier.specs.Performing.{stop_of, IsStopCaused, Performs};
+ghost use Rattle.group_rows.specs.Refreshing.{has_moment};
+ghost use Rattle.stored_tier.specs.Stored.{IsSound};
 
-use crate::refreshing::shows_something;
-use crate::tier::Tier;
 use cache_tier::reply::{Last, Note, Reply};
+use group_engine::fresh::refresh_members;
+use group_rows::refreshing::shows_something;
 use outside::Site;
 use std::alloc::Global;
+use stored_tier::tier::Tier;
 use tier_base::Code;
 use tier_statements::bank_fault;
 
-impl Tier {
-    ghost use Rattle.cache_engine.specs.DueItems.{KeepsSets};
-    ghost use Rattle.cache_engine.specs.Performing.{IsStopCaused, Performs};
-    ghost use Rattle.cache_engine.specs.Sites.{seen_at};
-    ghost use Rattle.cache_engine.specs.Stored.{IsSound};
+// What is due is done: the round, and the sets of these intervals. Its notes come behind the others, and it is the reply
+// that ends the line.
+pub(crate) fn do_due<P: Site>(
+    tier: &mut Tier,
+    alloc: Global,
+    site: &mut P,
+    intervals: &[u64],
+    notes: &mut Vec<Note>,
+) -> Option<Reply>
+    requires sound { IsSound tier.old }
+    requires room { vec_len notes.old + (length intervals.now + 1) ≤ vec_capacity notes.old }
+    requires entries { list_all (has_moment tier.old.clock.sets.items) intervals.now ≡ true }
+    requires due { intervals.now
+        ≡ due_at tier.old.clock.now tier.old.clock.sets.items (groups_in tier.old.catalog) }
+    ensures does { DoesItem DueWork tier.old tier.new
+        (P.Disk.state site.old)
+        (P.Disk.state site.new)
+        notes.old.items notes.new.items result }
+    ensures sound { IsSound tier.new }
+{
+    match settle_due(tier, alloc, site, notes) {
+        Some(stop) => Some(stop),
+        None => refresh_sets(tier, alloc, site, intervals, notes),
+    }
+}
 
-    // What is due is done: the round, and the sets of these intervals. Its notes come behind the others, and it is the reply
-    // that ends the line.
-    pub(crate) fn do_due<P: Site>(
-        &mut self,
-        alloc: Global,
-        site: &mut P,
-        intervals: &[u64],
-        notes: &mut Vec<Note>,
-    ) -> Option<Reply>
-        requires sound { IsSound self.old }
-        requires room { vec_len notes.old + (length intervals.now + 1) ≤ vec_capacity notes.old }
-        requires entries { list_all (has_moment self.old.clock.sets.items) intervals.now ≡ true }
-        requires due { intervals.now
-            ≡ due_at self.old.clock.now self.old.clock.sets.items (groups_in self.old.catalog) }
-        ensures does { DoesItem DueWork self.old self.new
-            (seen_at (P.Disk.held site.old) (P.bank_faults site.old) (P.Disk.moment site.old) (P.Disk.shared site.old))
-            (seen_at (P.Disk.held site.new) (P.bank_faults site.new) (P.Disk.moment site.new) (P.Disk.shared site.new))
-            notes.old.items notes.new.items result }
-        ensures sound { IsSound self.new }
-    {
-        match self.settle_due(alloc, site, notes) {
-            Some(stop) => Some(stop),
-            None => self.refresh_sets(alloc, site, intervals, notes),
+// A round, where it is due.
+fn settle_due<P: Site>(
+    tier: &mut Tier,
+    alloc: Global,
+    site: &mut P,
+    notes: &mut Vec<Note>,
+) -> Option<Reply>
+    requires sound { IsSound tier.old }
+    requires room { vec_len notes.old < vec_capacity notes.old }
+    ensures does { DoesItem DueRound tier.old tier.new
+        (P.Disk.state site.old)
+        (P.Disk.state site.new)
+        notes.old.items notes.new.items result }
+    ensures sound { IsSound tier.new }
+    ensures same { KeepsSets tier.old tier.new }
+    ensures capacity { vec_capacity notes.new ≡ vec_capacity notes.old }
+    ensures few { vec_len notes.new ≤ vec_len notes.old + 1 }
+{
+    if !is_round_due(tier.clock.now, tier.clock.round, tier.clock.propagate_ms) {
+        return None;
+    }
+    let end = tier.settle_all(alloc, site);
+    note_end(end, None, notes)
+}
+
+// The sets of these intervals are refreshed, one after the other.
+fn refresh_sets<P: Site>(
+    tier: &mut Tier,
+    alloc: Global,
+    site: &mut P,
+    intervals: &[u64],
+    notes: &mut Vec<Note>,
+) -> Option<Reply>
+    requires sound { IsSound tier.old }
+    requires room { vec_len notes.old + length intervals.now ≤ vec_capacity notes.old }
+    requires entries { list_all (has_moment tier.old.clock.sets.items) intervals.now ≡ true }
+    ensures does { DoesItem (DueSetsOf intervals.now) tier.old tier.new
+        (P.Disk.state site.old)
+        (P.Disk.state site.new)
+        notes.old.items notes.new.items result }
+    ensures sound { IsSound tier.new }
+{
+    for interval in intervals {
+        match refresh_due(tier, alloc, site, *interval, notes) {
+            Some(stop) => return Some(stop),
+            None => {}
         }
     }
+    None
+}
 
-    // A round, where it is due.
-    fn settle_due<P: Site>(
-        &mut self,
-        alloc: Global,
-        site: &mut P,
-        notes: &mut Vec<Note>,
-    ) -> Option<Reply>
-        requires sound { IsSound self.old }
-        requires room { vec_len notes.old < vec_capacity notes.old }
-        ensures does { DoesItem DueRound self.old self.new
-            (seen_at (P.Disk.held site.old) (P.bank_faults site.old) (P.Disk.moment site.old) (P.Disk.shared site.old))
-            (seen_at (P.Disk.held site.new) (P.bank_faults site.new) (P.Disk.moment site.new) (P.Disk.shared site.new))
-            notes.old.items notes.new.items result }
-        ensures sound { IsSound self.new }
-        ensures same { KeepsSets self.old self.new }
-        ensures capacity { vec_capacity notes.new ≡ vec_capacity notes.old }
-        ensures few { vec_len notes.new ≤ vec_len notes.old + 1 }
-    {
-        if !is_round_due(self.clock.now, self.clock.round, self.clock.propagate_ms) {
-            return None;
-        }
-        let end = self.settle_all(alloc, site);
-        note_end(end, None, notes)
+// The set of an interval is refreshed; a failure becomes a note.
+fn refresh_due<P: Site>(
+    tier: &mut Tier,
+    alloc: Global,
+    site: &mut P,
+    interval: u64,
+    notes: &mut Vec<Note>,
+) -> Option<Reply>
+    requires sound { IsSound tier.old }
+    requires room { vec_len notes.old < vec_capacity notes.old }
+    requires entry { has_moment tier.old.clock.sets.items interval ≡ true }
+    ensures does { DoesItem (Noted (note_of (Some interval)) (RefreshesIfShown interval)) tier.old tier.new
+        (P.Disk.state site.old)
+        (P.Disk.state site.new)
+        notes.old.items notes.new.items result }
+    ensures sound { IsSound tier.new }
+    ensures capacity { vec_capacity notes.new ≡ vec_capacity notes.old }
+    ensures few { vec_len notes.new ≤ vec_len notes.old + 1 }
+{
+    let end = refresh_set(tier, alloc, site, interval);
+    note_end(end, Some(interval), notes)
+}
+
+// The set of an interval is refreshed, where it has something to show. It is noted that this was tried: the set has an
+// entry for that.
+pub(crate) fn refresh_set<P: Site>(
+    tier: &mut Tier,
+    alloc: Global,
+    site: &mut P,
+    interval: u64,
+) -> Result<(), Reply>
+    requires sound { IsSound tier.old }
+    requires entry { has_moment tier.old.clock.sets.items interval ≡ true }
+    ensures performs { Performs tier.old tier.new
+        (P.Disk.state site.old)
+        (P.Disk.state site.new)
+        (λ w w'. RefreshesIfShown interval w w' (stop_of result)) }
+    ensures groups { definitions_of (groups_in tier.new.catalog) ≡ definitions_of (groups_in tier.old.catalog) }
+    ensures entries { (i : ℕ) → has_moment tier.old.clock.sets.items i ≡ true
+        → has_moment tier.new.clock.sets.items i ≡ true }
+    ensures sound { IsSound tier.new }
+    ensures cause { IsStopCaused
+        (P.Disk.state site.old)
+        (P.Disk.state site.new)
+        (stop_of result) }
+{
+    if !shows_something(&tier.catalog, interval) {
+        return Ok(());
     }
-
-    // The sets of these intervals are refreshed, one after the other.
-    fn refresh_sets<P: Site>(
-        &mut self,
-        alloc: Global,
-        site: &mut P,
-        intervals: &[u64],
-        notes: &mut Vec<Note>,
-    ) -> Option<Reply>
-        requires sound { IsSound self.old }
-        requires room { vec_len notes.old + length intervals.now ≤ vec_capacity notes.old }
-        requires entries { list_all (has_moment self.old.clock.sets.items) intervals.now ≡ true }
-        ensures does { DoesItem (DueSetsOf intervals.now) self.old self.new
-            (seen_at (P.Disk.held site.old) (P.bank_faults site.old) (P.Disk.moment site.old) (P.Disk.shared site.old))
-            (seen_at (P.Disk.held site.new) (P.bank_faults site.new) (P.Disk.moment site.new) (P.Disk.shared site.new))
-            notes.old.items notes.new.items result }
-        ensures sound { IsSound self.new }
-    {
-        for interval in intervals {
-            match self.refresh_due(alloc, site, *interval, notes) {
-                Some(stop) => return Some(stop),
-                None => {}
-            }
-        }
-        None
-    }
-
-    // The set of an interval is refreshed; a failure becomes a note.
-    fn refresh_due<P: Site>(
-        &mut self,
-        alloc: Global,
-        site: &mut P,
-        interval: u64,
-        notes: &mut Vec<Note>,
-    ) -> Option<Reply>
-        requires sound { IsSound self.old }
-        requires room { vec_len notes.old < vec_capacity notes.old }
-        requires entry { has_moment self.old.clock.sets.items interval ≡ true }
-        ensures does { DoesItem (Noted (note_of (Some interval)) (RefreshesIfShown interval)) self.old self.new
-            (seen_at (P.Disk.held site.old) (P.bank_faults site.old) (P.Disk.moment site.old) (P.Disk.shared site.old))
-            (seen_at (P.Disk.held site.new) (P.bank_faults site.new) (P.Disk.moment site.new) (P.Disk.shared site.new))
-            notes.old.items notes.new.items result }
-        ensures sound { IsSound self.new }
-        ensures capacity { vec_capacity notes.new ≡ vec_capacity notes.old }
-        ensures few { vec_len notes.new ≤ vec_len notes.old + 1 }
-    {
-        let end = self.refresh_set(alloc, site, interval);
-        note_end(end, Some(interval), notes)
-    }
-
-    // The set of an interval is refreshed, where it has something to show. It is noted that this was tried: the set has an
-    // entry for that.
-    pub(crate) fn refresh_set<P: Site>(
-        &mut self,
-        alloc: Global,
-        site: &mut P,
-        interval: u64,
-    ) -> Result<(), Reply>
-        requires sound { IsSound self.old }
-        requires entry { has_moment self.old.clock.sets.items interval ≡ true }
-        ensures performs { Performs self.old self.new
-            (seen_at (P.Disk.held site.old) (P.bank_faults site.old) (P.Disk.moment site.old) (P.Disk.shared site.old))
-            (seen_at (P.Disk.held site.new) (P.bank_faults site.new) (P.Disk.moment site.new) (P.Disk.shared site.new))
-            (λ w w'. RefreshesIfShown interval w w' (stop_of result)) }
-        ensures groups { definitions_of (groups_in self.new.catalog) ≡ definitions_of (groups_in self.old.catalog) }
-        ensures entries { (i : ℕ) → has_moment self.old.clock.sets.items i ≡ true
-            → has_moment self.new.clock.sets.items i ≡ true }
-        ensures sound { IsSound self.new }
-        ensures cause { IsStopCaused
-            (seen_at (P.Disk.held site.old) (P.bank_faults site.old) (P.Disk.moment site.old) (P.Disk.shared site.old))
-            (seen_at (P.Disk.held site.new) (P.bank_faults site.new) (P.Disk.moment site.new) (P.Disk.shared site.new))
-            (stop_of result) }
-    {
-        if !shows_something(&self.catalog, interval) {
-            return Ok(());
-        }
-        match self.refresh_members(alloc, site, interval) {
-            Ok(()) => Ok(()),
-            Err(error) => Err(bank_fault(alloc, error)),
-        }
+    match refresh_members(tier, alloc, site, interval) {
+        Ok(()) => Ok(()),
+        Err(error) => Err(bank_fault(alloc, error)),
     }
 }
 

@@ -1,44 +1,17 @@
-//! The tier as it is stored: parts that are kept, and one method for each statement.
+//! The tier as it is stored, line by line: what is due, the question for the schema, and the statement.
 #![tactic(auto)]
 
-mod aiming;
-pub mod altering;
 pub mod beginning;
 pub mod calling;
-pub mod clock;
-pub mod commit;
 pub mod console;
 pub mod create;
-pub mod defining;
-pub mod drain;
-pub mod dropping;
 pub mod due;
-mod due_sets;
-mod due_work;
+pub mod due_sets;
+pub mod due_work;
 pub mod early;
-mod filling;
-mod fresh;
-mod gathering;
-mod grouping;
-mod growing;
-mod holding;
-pub mod inserting;
-pub mod loading;
-pub mod loading_whole;
-mod loading_written;
-mod naming;
-pub mod preparing;
-pub mod query;
-mod refreshing;
+pub mod growing;
 pub mod request;
-pub mod resting;
 pub mod schema;
 pub mod serving;
-pub mod session;
 pub mod statement;
-pub mod tier;
 pub mod undone;
-mod unload_locks;
-pub mod unloading;
-mod verifying;
-pub mod writing;

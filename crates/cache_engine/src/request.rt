@@ -5,115 +5,112 @@ ghost use Rattle.cache_tier.specs.Rules.{wrong_at};
 ghost use Rattle.row_types.specs.declared.rule.Refused.TheVariants as refused;
 ghost use Rattle.cache_tier.specs.Steps.{Heeds, Says, with_notes};
 ghost use Rattle.cache_tier.specs.Undone.{is_undone};
-ghost use Rattle.cache_engine.specs.Serving.{misread};
+ghost use Rattle.cache_engine.specs.Serving.{misread, WorksAndAnswers};
+ghost use Rattle.stored_tier.specs.Performing.{Performs};
+ghost use Rattle.cache_engine.specs.Requests.{IsLineCaused, LineStep};
+ghost use Rattle.stored_tier.specs.Stored.{IsSound};
 
-use crate::commit::past;
-use crate::due::Due;
-use crate::tier::Tier;
+use crate::due::{Due, begin_line};
+use crate::early::judge_early;
+use crate::statement::answer_line;
 use crate::undone::is_undone;
 use cache_tier::heeding::heed_law;
 use cache_tier::reply::{Note, Reply};
 use outside::Site;
 use row_types::{Detail, Refused, Rule};
+use session_engine::commit::past;
 use sql_subset::line::parse_line;
 use sql_subset::request::{Line, ParseError};
 use std::alloc::Global;
+use stored_tier::tier::Tier;
 use tier_base::{Code, Limit, Moment, Seq};
 use tier_statements::{faulty, refuse};
 
-impl Tier {
-    ghost use Rattle.cache_engine.specs.Performing.{Performs};
-    ghost use Rattle.cache_engine.specs.Requests.{IsLineCaused, LineStep};
-    ghost use Rattle.cache_engine.specs.Serving.{WorksAndAnswers};
-    ghost use Rattle.cache_engine.specs.Sites.{seen_at};
-    ghost use Rattle.cache_engine.specs.Stored.{IsSound};
-
-    /// Answers one request line, without its line end. A line that is empty or a comment has no reply. Moments are counted
-    /// from `base`.
-    ///
-    /// The line is a step of the abstract tier, and the reply is that step's. Where memory is wanting the reply says so,
-    /// and the tier is as before but for the due work.
-    ///
-    /// A reply tells a fault of the bank only where the count of bank faults rose in this call, also where the site tells
-    /// nothing of what it holds.
-    pub fn request<P: Site>(
-        &mut self,
-        alloc: Global,
-        site: &mut P,
-        base: Moment,
-        line: &[u8],
-    ) -> Option<Reply>
-        requires { IsSound self.old }
-        ensures performs { Performs self.old self.new
-            (seen_at (P.Disk.held site.old) (P.bank_faults site.old) (P.Disk.moment site.old) (P.Disk.shared site.old))
-            (seen_at (P.Disk.held site.new) (P.bank_faults site.new) (P.Disk.moment site.new) (P.Disk.shared site.new))
-            (λ w w'. LineStep base.0 w line.now w' result) }
-        ensures sound { IsSound self.new }
-        ensures cause { IsLineCaused
-            (seen_at (P.Disk.held site.old) (P.bank_faults site.old) (P.Disk.moment site.old) (P.Disk.shared site.old))
-            (seen_at (P.Disk.held site.new) (P.bank_faults site.new) (P.Disk.moment site.new) (P.Disk.shared site.new))
-            result }
-    {
-        heed_law();
-        if Limit::Line.number() < line.len() as u64 {
-            return Some(refuse(alloc, past(Limit::Line)));
-        }
-        match parse_line(alloc, line) {
-            Ok(None) => None,
-            Ok(Some(line)) => Some(self.heed(alloc, site, base, line)),
-            Err(error) => Some(refuse(alloc, misread(error))),
-        }
+/// Answers one request line, without its line end. A line that is empty or a comment has no reply. Moments are counted
+/// from `base`.
+///
+/// The line is a step of the abstract tier, and the reply is that step's. Where memory is wanting the reply says so,
+/// and the tier is as before but for the due work.
+///
+/// A reply tells a fault of the bank only where the count of bank faults rose in this call, also where the site tells
+/// nothing of what it holds.
+pub fn request<P: Site>(
+    tier: &mut Tier,
+    alloc: Global,
+    site: &mut P,
+    base: Moment,
+    line: &[u8],
+) -> Option<Reply>
+    requires { IsSound tier.old }
+    ensures performs { Performs tier.old tier.new
+        (P.Disk.state site.old)
+        (P.Disk.state site.new)
+        (λ w w'. LineStep base.0 w line.now w' result) }
+    ensures sound { IsSound tier.new }
+    ensures cause { IsLineCaused
+        (P.Disk.state site.old)
+        (P.Disk.state site.new)
+        result }
+{
+    heed_law();
+    if Limit::Line.number() < line.len() as u64 {
+        return Some(refuse(alloc, past(Limit::Line)));
     }
-
-    // Answers a line that is read: 101 at byte 0 where it isn't done yet, then what the second place of the order refuses.
-    fn heed<P: Site>(&mut self, alloc: Global, site: &mut P, base: Moment, line: Line) -> Reply
-        requires { IsSound self.old }
-        ensures performs { Performs self.old self.new
-            (seen_at (P.Disk.held site.old) (P.bank_faults site.old) (P.Disk.moment site.old) (P.Disk.shared site.old))
-            (seen_at (P.Disk.held site.new) (P.bank_faults site.new) (P.Disk.moment site.new) (P.Disk.shared site.new))
-            (λ w w'. Heeds base.0 (Says line) w w' result) }
-        ensures sound { IsSound self.new }
-        ensures cause { IsLineCaused
-            (seen_at (P.Disk.held site.old) (P.bank_faults site.old) (P.Disk.moment site.old) (P.Disk.shared site.old))
-            (seen_at (P.Disk.held site.new) (P.bank_faults site.new) (P.Disk.moment site.new) (P.Disk.shared site.new))
-            (Some result) }
-    {
-        if is_undone(&line) {
-            return refuse(alloc, wrong_at(0));
-        }
-        match self.judge_early(alloc, base, &line) {
-            Err(refused) => refuse(alloc, refused),
-            Ok(()) => self.work_and_answer(alloc, site, base, line),
-        }
+    match parse_line(alloc, line) {
+        Ok(None) => None,
+        Ok(Some(line)) => Some(heed(tier, alloc, site, base, line)),
+        Err(error) => Some(refuse(alloc, misread(error))),
     }
+}
 
-    // The work that is due, and then the line, unless the work ended it. What the work tells stands before the reply.
-    fn work_and_answer<P: Site>(
-        &mut self,
-        alloc: Global,
-        site: &mut P,
-        base: Moment,
-        line: Line,
-    ) -> Reply
-        requires sound { IsSound self.old }
-        requires done { is_undone line ≡ false }
-        ensures performs { Performs self.old self.new
-            (seen_at (P.Disk.held site.old) (P.bank_faults site.old) (P.Disk.moment site.old) (P.Disk.shared site.old))
-            (seen_at (P.Disk.held site.new) (P.bank_faults site.new) (P.Disk.moment site.new) (P.Disk.shared site.new))
-            (λ w w'. WorksAndAnswers base.0 line w w' result) }
-        ensures sound { IsSound self.new }
-        ensures cause { IsLineCaused
-            (seen_at (P.Disk.held site.old) (P.bank_faults site.old) (P.Disk.moment site.old) (P.Disk.shared site.old))
-            (seen_at (P.Disk.held site.new) (P.bank_faults site.new) (P.Disk.moment site.new) (P.Disk.shared site.new))
-            (Some result) }
-    {
-        let Ok(Due { notes, stop }) = self.begin_line(alloc, site, base, &line) else {
-            return faulty(alloc, Code::Memory);
-        };
-        match stop {
-            Some(reply) => with_notes(notes, reply),
-            None => with_notes(notes, self.answer_line(alloc, site, line)),
-        }
+// Answers a line that is read: 101 at byte 0 where it isn't done yet, then what the second place of the order refuses.
+fn heed<P: Site>(tier: &mut Tier, alloc: Global, site: &mut P, base: Moment, line: Line) -> Reply
+    requires { IsSound tier.old }
+    ensures performs { Performs tier.old tier.new
+        (P.Disk.state site.old)
+        (P.Disk.state site.new)
+        (λ w w'. Heeds base.0 (Says line) w w' result) }
+    ensures sound { IsSound tier.new }
+    ensures cause { IsLineCaused
+        (P.Disk.state site.old)
+        (P.Disk.state site.new)
+        (Some result) }
+{
+    if is_undone(&line) {
+        return refuse(alloc, wrong_at(0));
+    }
+    match judge_early(tier, alloc, base, &line) {
+        Err(refused) => refuse(alloc, refused),
+        Ok(()) => work_and_answer(tier, alloc, site, base, line),
+    }
+}
+
+// The work that is due, and then the line, unless the work ended it. What the work tells stands before the reply.
+fn work_and_answer<P: Site>(
+    tier: &mut Tier,
+    alloc: Global,
+    site: &mut P,
+    base: Moment,
+    line: Line,
+) -> Reply
+    requires sound { IsSound tier.old }
+    requires done { is_undone line ≡ false }
+    ensures performs { Performs tier.old tier.new
+        (P.Disk.state site.old)
+        (P.Disk.state site.new)
+        (λ w w'. WorksAndAnswers base.0 line w w' result) }
+    ensures sound { IsSound tier.new }
+    ensures cause { IsLineCaused
+        (P.Disk.state site.old)
+        (P.Disk.state site.new)
+        (Some result) }
+{
+    let Ok(Due { notes, stop }) = begin_line(tier, alloc, site, base, &line) else {
+        return faulty(alloc, Code::Memory);
+    };
+    match stop {
+        Some(reply) => with_notes(notes, reply),
+        None => with_notes(notes, answer_line(tier, alloc, site, line)),
     }
 }
 

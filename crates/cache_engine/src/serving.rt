@@ -1,95 +1,92 @@
 //! The console's lines.
 
 ghost use Rattle.std.specs.Prelude.{◌≡◌, ◌++◌, ◌∷◌, [], IfOk};
+ghost use Rattle.cache_tier.specs.ConsoleSteps.{CreatesTable, DoesConsole};
+ghost use Rattle.cache_tier.specs.Worlds.{Tries};
+ghost use Rattle.stored_tier.specs.Performing.{IsCaused, Performs, reply_of};
+ghost use Rattle.stored_tier.specs.Stored.{IsSound};
 
-use crate::tier::Tier;
+use crate::console::write_console;
+use crate::create::check_table;
+use crate::growing::{learn, name_grown};
 use cache_tier::reply::Reply;
 use outside::{BankError, Site};
 use row_types::{Refused, TableDeclaration};
 use sql_subset::request::ConsoleRequest;
 use std::alloc::{AllocError, Global};
+use stored_tier::tier::Tier;
 use table_defs::{BackingSchema, TableDef, copied_schema};
 use tier_base::Code;
 use tier_laws::{others_shown_law, round_shown_law, table_shown_law};
 use tier_statements::{done, faulty};
 
-impl Tier {
-    ghost use Rattle.cache_tier.specs.ConsoleSteps.{CreatesTable, DoesConsole};
-    ghost use Rattle.cache_tier.specs.Worlds.{Tries};
-    ghost use Rattle.cache_engine.specs.Performing.{IsCaused, Performs, reply_of};
-    ghost use Rattle.cache_engine.specs.Sites.{seen_at};
-    ghost use Rattle.cache_engine.specs.Stored.{IsSound};
-
-    /// What the console asks: CREATE TABLE, which `check_table` judges, or writes as one transaction of others, as
-    /// `write_console` does them. (TimesTen SQL Reference, "CREATE TABLE", "INSERT", "UPDATE", "DELETE".)
-    pub fn serve_console<P: Site>(
-        &mut self,
-        alloc: Global,
-        site: &mut P,
-        request: &ConsoleRequest,
-    ) -> Result<Reply, Refused>
-        requires { IsSound self.old }
-        ensures performs { Performs self.old self.new
-            (seen_at (P.Disk.held site.old) (P.bank_faults site.old) (P.Disk.moment site.old) (P.Disk.shared site.old))
-            (seen_at (P.Disk.held site.new) (P.bank_faults site.new) (P.Disk.moment site.new) (P.Disk.shared site.new))
-            (λ w w'. Tries (DoesConsole request.now) w w' (reply_of result)) }
-        ensures sound { IsSound self.new }
-        ensures cause { IsCaused
-            (seen_at (P.Disk.held site.old) (P.bank_faults site.old) (P.Disk.moment site.old) (P.Disk.shared site.old))
-            (seen_at (P.Disk.held site.new) (P.bank_faults site.new) (P.Disk.moment site.new) (P.Disk.shared site.new))
-            (reply_of result) }
-    {
-        match request {
-            ConsoleRequest::CreateTable(declaration) => {
-                self.create_table(alloc, site, declaration)
-            }
-            ConsoleRequest::Writes(writes) => {
-                others_shown_law();
-                round_shown_law();
-                Ok(self.write_console(alloc, site, writes.as_slice()))
-            }
+/// What the console asks: CREATE TABLE, which `check_table` judges, or writes as one transaction of others, as
+/// `write_console` does them. (TimesTen SQL Reference, "CREATE TABLE", "INSERT", "UPDATE", "DELETE".)
+pub fn serve_console<P: Site>(
+    tier: &mut Tier,
+    alloc: Global,
+    site: &mut P,
+    request: &ConsoleRequest,
+) -> Result<Reply, Refused>
+    requires { IsSound tier.old }
+    ensures performs { Performs tier.old tier.new
+        (P.Disk.state site.old)
+        (P.Disk.state site.new)
+        (λ w w'. Tries (DoesConsole request.now) w w' (reply_of result)) }
+    ensures sound { IsSound tier.new }
+    ensures cause { IsCaused
+        (P.Disk.state site.old)
+        (P.Disk.state site.new)
+        (reply_of result) }
+{
+    match request {
+        ConsoleRequest::CreateTable(declaration) => { create_table(tier, alloc, site, declaration) }
+        ConsoleRequest::Writes(writes) => {
+            others_shown_law();
+            round_shown_law();
+            Ok(write_console(tier, alloc, site, writes.as_slice()))
         }
     }
+}
 
-    // CREATE TABLE. Where the schema isn't known, and nothing refuses the definition over what is known, memory is said to
-    // be wanting. No line should come to that: `ask_schema` comes before, where a name isn't cached; and where all are, 113
-    // refuses the name. No clause says so.
-    fn create_table<P: Site>(
-        &mut self,
-        alloc: Global,
-        site: &mut P,
-        declaration: &TableDeclaration,
-    ) -> Result<Reply, Refused>
-        requires { IsSound self.old }
-        ensures performs { Performs self.old self.new
-            (seen_at (P.Disk.held site.old) (P.bank_faults site.old) (P.Disk.moment site.old) (P.Disk.shared site.old))
-            (seen_at (P.Disk.held site.new) (P.bank_faults site.new) (P.Disk.moment site.new) (P.Disk.shared site.new))
-            (λ w w'. Tries (CreatesTable declaration.now) w w' (reply_of result)) }
-        ensures sound { IsSound self.new }
-        ensures cause { IsCaused
-            (seen_at (P.Disk.held site.old) (P.bank_faults site.old) (P.Disk.moment site.old) (P.Disk.shared site.old))
-            (seen_at (P.Disk.held site.new) (P.bank_faults site.new) (P.Disk.moment site.new) (P.Disk.shared site.new))
-            (reply_of result) }
-    {
-        let def = self.check_table(alloc, declaration)?;
-        if self.stale {
-            return Err(Refused::Memory);
+// CREATE TABLE. Where the schema isn't known, and nothing refuses the definition over what is known, memory is said to
+// be wanting. No line should come to that: `ask_schema` comes before, where a name isn't cached; and where all are, 113
+// refuses the name. No clause says so.
+fn create_table<P: Site>(
+    tier: &mut Tier,
+    alloc: Global,
+    site: &mut P,
+    declaration: &TableDeclaration,
+) -> Result<Reply, Refused>
+    requires { IsSound tier.old }
+    ensures performs { Performs tier.old tier.new
+        (P.Disk.state site.old)
+        (P.Disk.state site.new)
+        (λ w w'. Tries (CreatesTable declaration.now) w w' (reply_of result)) }
+    ensures sound { IsSound tier.new }
+    ensures cause { IsCaused
+        (P.Disk.state site.old)
+        (P.Disk.state site.new)
+        (reply_of result) }
+{
+    let def = check_table(tier, alloc, declaration)?;
+    if tier.stale {
+        return Err(Refused::Memory);
+    }
+    let schema = with_table(alloc, tier.schema.as_slice(), &def)?;
+    let (visible, directory) = name_grown(tier, alloc, &schema)?;
+    others_shown_law();
+    table_shown_law();
+    match site.define(&def) {
+        Ok(()) => {
+            learn(tier, schema, visible, directory);
+            Ok(done(alloc, 0))
         }
-        let schema = with_table(alloc, self.schema.as_slice(), &def)?;
-        let (visible, directory) = self.name_grown(alloc, &schema)?;
-        others_shown_law();
-        table_shown_law();
-        match site.define(&def) {
-            Ok(()) => {
-                self.learn(schema, visible, directory);
-                Ok(done(alloc, 0))
-            }
-            Err(BankError::Failed) => {
-                self.stale = true;
-                Ok(faulty(alloc, Code::BackingFault))
-            }
-            Err(BankError::Memory) => Err(Refused::Memory),
+        Err(BankError::Failed) => {
+            tier.stale = true;
+            Ok(faulty(alloc, Code::BackingFault))
         }
+        Err(BankError::Memory) => Err(Refused::Memory),
     }
 }
 

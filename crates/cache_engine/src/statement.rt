@@ -5,155 +5,168 @@ ghost use Rattle.row_types.specs.declared.rule.Refused.TheVariants as refused;
 ghost use Rattle.cache_tier.specs.TierStates.{Tier as AbstractTier};
 ghost use Rattle.cache_tier.specs.Undone.{is_undone, is_undone_request, is_undone_statement};
 ghost use Rattle.sql_subset.specs.declared.request.Line.TheVariants as says;
+ghost use Rattle.stored_tier.specs.Answering.{IsSessionOf};
+ghost use Rattle.stored_tier.specs.Performing.{Executes, IsCaused, Performs, PerformsIn, reply_of};
+ghost use Rattle.cache_engine.specs.Serving.{AsksAndDoes, DoesAdmitted};
+ghost use Rattle.stored_tier.specs.Stored.{IsSound, IsStoredAs};
 
-use crate::tier::Tier;
+use crate::calling::call_procedure;
+use crate::schema::ask_schema;
+use crate::serving::serve_console;
 use cache_tier::reply::Reply;
+use group_engine::altering::alter_group;
+use group_engine::defining::create_group;
+use group_engine::dropping::drop_group;
+use group_engine::loading::{load_group, refresh_group};
+use group_engine::unloading::unload_group;
 use outside::Site;
 use row_types::Refused;
+use session_engine::resting::{
+    close_session, commit_session, flush_group, open_session, roll_back, run_query,
+};
+use session_engine::writing::write_rows;
 use sql_subset::request::{Line, Request};
 use sql_subset::stmt::Stmt;
 use std::alloc::Global;
+use stored_tier::tier::Tier;
 use tier_base::{Label, SessionId};
 use tier_statements::{done, refuse};
 
-impl Tier {
-    ghost use Rattle.cache_engine.specs.Answering.{IsSessionOf};
-    ghost use Rattle.cache_engine.specs.Performing.{Executes, IsCaused, Performs, PerformsIn, reply_of};
-    ghost use Rattle.cache_engine.specs.Serving.{AsksAndDoes, DoesAdmitted};
-    ghost use Rattle.cache_engine.specs.Sites.{seen_at};
-    ghost use Rattle.cache_engine.specs.Stored.{IsSound, IsStoredAs};
+/// Answers a line that is admitted: the bank is asked for the schema where the line wants it, and the line does what
+/// it says.
+pub(crate) fn answer_line<P: Site>(
+    tier: &mut Tier,
+    alloc: Global,
+    site: &mut P,
+    line: Line,
+) -> Reply
+    requires sound { IsSound tier.old }
+    requires done { is_undone line ≡ false }
+    ensures performs { Performs tier.old tier.new
+        (P.Disk.state site.old)
+        (P.Disk.state site.new)
+        (λ w w'. AsksAndDoes line w w' result) }
+    ensures sound { IsSound tier.new }
+    ensures cause { IsCaused
+        (P.Disk.state site.old)
+        (P.Disk.state site.new)
+        result }
+{
+    match ask_schema(tier, alloc, site, &line) {
+        Err(reply) => reply,
+        Ok(()) => match do_line(tier, alloc, site, line) {
+            Ok(reply) => reply,
+            Err(refused) => refuse(alloc, refused),
+        },
+    }
+}
 
-    /// Answers a line that is admitted: the bank is asked for the schema where the line wants it, and the line does what
-    /// it says.
-    pub(crate) fn answer_line<P: Site>(&mut self, alloc: Global, site: &mut P, line: Line) -> Reply
-        requires sound { IsSound self.old }
-        requires done { is_undone line ≡ false }
-        ensures performs { Performs self.old self.new
-            (seen_at (P.Disk.held site.old) (P.bank_faults site.old) (P.Disk.moment site.old) (P.Disk.shared site.old))
-            (seen_at (P.Disk.held site.new) (P.bank_faults site.new) (P.Disk.moment site.new) (P.Disk.shared site.new))
-            (λ w w'. AsksAndDoes line w w' result) }
-        ensures sound { IsSound self.new }
-        ensures cause { IsCaused
-            (seen_at (P.Disk.held site.old) (P.bank_faults site.old) (P.Disk.moment site.old) (P.Disk.shared site.old))
-            (seen_at (P.Disk.held site.new) (P.bank_faults site.new) (P.Disk.moment site.new) (P.Disk.shared site.new))
-            result }
-    {
-        match self.ask_schema(alloc, site, &line) {
-            Err(reply) => reply,
-            Ok(()) => match self.do_line(alloc, site, line) {
-                Ok(reply) => reply,
-                Err(refused) => refuse(alloc, refused),
-            },
+// A session's request, the console's, or the sum of the clock's additions.
+fn do_line<P: Site>(
+    tier: &mut Tier,
+    alloc: Global,
+    site: &mut P,
+    line: Line,
+) -> Result<Reply, Refused>
+    requires sound { IsSound tier.old }
+    requires done { is_undone line ≡ false }
+    ensures performs { Performs tier.old tier.new
+        (P.Disk.state site.old)
+        (P.Disk.state site.new)
+        (λ w w'. DoesAdmitted line w w' (reply_of result)) }
+    ensures sound { IsSound tier.new }
+    ensures cause { IsCaused
+        (P.Disk.state site.old)
+        (P.Disk.state site.new)
+        (reply_of result) }
+{
+    match line {
+        Line::Session(label, request) => do_request(tier, alloc, site, &label, request),
+        Line::Console(request) => serve_console(tier, alloc, site, &request),
+        Line::Clock(_) => Ok(done(alloc, tier.clock.added)),
+    }
+}
+
+// OPEN, CLOSE, or a statement of the session of a label.
+fn do_request<P: Site>(
+    tier: &mut Tier,
+    alloc: Global,
+    site: &mut P,
+    label: &Label,
+    request: Request,
+) -> Result<Reply, Refused>
+    requires sound { IsSound tier.old }
+    requires done { is_undone_request request ≡ false }
+    ensures performs { Performs tier.old tier.new
+        (P.Disk.state site.old)
+        (P.Disk.state site.new)
+        (λ w w'. DoesAdmitted (says.Session label.now request) w w' (reply_of result)) }
+    ensures sound { IsSound tier.new }
+    ensures cause { IsCaused
+        (P.Disk.state site.old)
+        (P.Disk.state site.new)
+        (reply_of result) }
+{
+    match request {
+        Request::Open(options) => open_session(tier, alloc, label, options),
+        Request::Close => {
+            let id = admitted(tier, alloc, label)?;
+            close_session(tier, alloc, id)
+        }
+        Request::Statement(statement) => {
+            let id = admitted(tier, alloc, label)?;
+            execute(tier, alloc, site, id, statement)
         }
     }
+}
 
-    // A session's request, the console's, or the sum of the clock's additions.
-    fn do_line<P: Site>(
-        &mut self,
-        alloc: Global,
-        site: &mut P,
-        line: Line,
-    ) -> Result<Reply, Refused>
-        requires sound { IsSound self.old }
-        requires done { is_undone line ≡ false }
-        ensures performs { Performs self.old self.new
-            (seen_at (P.Disk.held site.old) (P.bank_faults site.old) (P.Disk.moment site.old) (P.Disk.shared site.old))
-            (seen_at (P.Disk.held site.new) (P.bank_faults site.new) (P.Disk.moment site.new) (P.Disk.shared site.new))
-            (λ w w'. DoesAdmitted line w w' (reply_of result)) }
-        ensures sound { IsSound self.new }
-        ensures cause { IsCaused
-            (seen_at (P.Disk.held site.old) (P.bank_faults site.old) (P.Disk.moment site.old) (P.Disk.shared site.old))
-            (seen_at (P.Disk.held site.new) (P.bank_faults site.new) (P.Disk.moment site.new) (P.Disk.shared site.new))
-            (reply_of result) }
-    {
-        match line {
-            Line::Session(label, request) => self.do_request(alloc, site, &label, request),
-            Line::Console(request) => self.serve_console(alloc, site, &request),
-            Line::Clock(_) => Ok(done(alloc, self.clock.added)),
-        }
+// The number of the session of a label. That there is one was judged before the due work; here memory is said to be
+// wanting where there is none.
+fn admitted(tier: &Tier, alloc: Global, label: &Label) -> Result<SessionId, Refused>
+    ensures found { IfOk result (λ id. (a : AbstractTier) → IsStoredAs tier.now a
+        → IsSessionOf tier.now a label.now id) }
+    ensures wants { IfErr result (λ error. error ≡ refused.Memory) }
+{
+    match tier.session(alloc, label) {
+        Ok(id) => Ok(id),
+        Err(_) => Err(Refused::Memory),
     }
+}
 
-    // OPEN, CLOSE, or a statement of the session of a label.
-    fn do_request<P: Site>(
-        &mut self,
-        alloc: Global,
-        site: &mut P,
-        label: &Label,
-        request: Request,
-    ) -> Result<Reply, Refused>
-        requires sound { IsSound self.old }
-        requires done { is_undone_request request ≡ false }
-        ensures performs { Performs self.old self.new
-            (seen_at (P.Disk.held site.old) (P.bank_faults site.old) (P.Disk.moment site.old) (P.Disk.shared site.old))
-            (seen_at (P.Disk.held site.new) (P.bank_faults site.new) (P.Disk.moment site.new) (P.Disk.shared site.new))
-            (λ w w'. DoesAdmitted (says.Session label.now request) w w' (reply_of result)) }
-        ensures sound { IsSound self.new }
-        ensures cause { IsCaused
-            (seen_at (P.Disk.held site.old) (P.bank_faults site.old) (P.Disk.moment site.old) (P.Disk.shared site.old))
-            (seen_at (P.Disk.held site.new) (P.bank_faults site.new) (P.Disk.moment site.new) (P.Disk.shared site.new))
-            (reply_of result) }
-    {
-        match request {
-            Request::Open(options) => self.open_session(alloc, label, options),
-            Request::Close => {
-                let id = self.admitted(alloc, label)?;
-                self.close_session(alloc, id)
-            }
-            Request::Statement(statement) => {
-                let id = self.admitted(alloc, label)?;
-                self.execute(alloc, site, id, statement)
-            }
-        }
-    }
-
-    // The number of the session of a label. That there is one was judged before the due work; here memory is said to be
-    // wanting where there is none.
-    fn admitted(&self, alloc: Global, label: &Label) -> Result<SessionId, Refused>
-        ensures found { IfOk result (λ id. (a : AbstractTier) → IsStoredAs self.now a
-            → IsSessionOf self.now a label.now id) }
-        ensures wants { IfErr result (λ error. error ≡ refused.Memory) }
-    {
-        match self.session(alloc, label) {
-            Ok(id) => Ok(id),
-            Err(_) => Err(Refused::Memory),
-        }
-    }
-
-    // What the statement of a session asks for. Indexes aren't done yet.
-    fn execute<P: Site>(
-        &mut self,
-        alloc: Global,
-        site: &mut P,
-        id: SessionId,
-        statement: Stmt,
-    ) -> Result<Reply, Refused>
-        requires sound { IsSound self.old }
-        requires done { is_undone_statement statement ≡ false }
-        ensures performs { PerformsIn self.old self.new
-            (seen_at (P.Disk.held site.old) (P.bank_faults site.old) (P.Disk.moment site.old) (P.Disk.shared site.old))
-            (seen_at (P.Disk.held site.new) (P.bank_faults site.new) (P.Disk.moment site.new) (P.Disk.shared site.new))
-            id (Executes statement) result }
-        ensures sound { IsSound self.new }
-        ensures cause { IsCaused
-            (seen_at (P.Disk.held site.old) (P.bank_faults site.old) (P.Disk.moment site.old) (P.Disk.shared site.old))
-            (seen_at (P.Disk.held site.new) (P.bank_faults site.new) (P.Disk.moment site.new) (P.Disk.shared site.new))
-            (reply_of result) }
-    {
-        match statement {
-            Stmt::Select(query) => self.query(alloc, id, &query),
-            Stmt::Write(write) => self.write(alloc, site, id, &write),
-            Stmt::CreateGroup(group) => self.create_group(alloc, id, group),
-            Stmt::Load(load) => self.load(alloc, site, id, &load),
-            Stmt::Refresh(load) => self.refresh(alloc, site, id, &load),
-            Stmt::Unload(unload) => self.unload(alloc, id, &unload),
-            Stmt::Flush(flush) => self.flush(alloc, id, &flush),
-            Stmt::Alter(alter) => self.alter(alloc, site, id, &alter),
-            Stmt::DropGroup(name) => self.drop_group(alloc, site, id, &name),
-            Stmt::Call(call) => self.call(alloc, site, id, &call),
-            Stmt::Commit => self.commit_session(alloc, id),
-            Stmt::Rollback => self.roll_back(alloc, id),
-            Stmt::CreateIndex(_) => unreachable!(),
-            Stmt::DropIndex(_) => unreachable!(),
-        }
+// What the statement of a session asks for. Indexes aren't done yet.
+fn execute<P: Site>(
+    tier: &mut Tier,
+    alloc: Global,
+    site: &mut P,
+    id: SessionId,
+    statement: Stmt,
+) -> Result<Reply, Refused>
+    requires sound { IsSound tier.old }
+    requires done { is_undone_statement statement ≡ false }
+    ensures performs { PerformsIn tier.old tier.new
+        (P.Disk.state site.old)
+        (P.Disk.state site.new)
+        id (Executes statement) result }
+    ensures sound { IsSound tier.new }
+    ensures cause { IsCaused
+        (P.Disk.state site.old)
+        (P.Disk.state site.new)
+        (reply_of result) }
+{
+    match statement {
+        Stmt::Select(query) => run_query(tier, alloc, id, &query),
+        Stmt::Write(write) => write_rows(tier, alloc, site, id, &write),
+        Stmt::CreateGroup(group) => create_group(tier, alloc, id, group),
+        Stmt::Load(load) => load_group(tier, alloc, site, id, &load),
+        Stmt::Refresh(load) => refresh_group(tier, alloc, site, id, &load),
+        Stmt::Unload(unload) => unload_group(tier, alloc, id, &unload),
+        Stmt::Flush(flush) => flush_group(tier, alloc, id, &flush),
+        Stmt::Alter(alter) => alter_group(tier, alloc, site, id, &alter),
+        Stmt::DropGroup(name) => drop_group(tier, alloc, site, id, &name),
+        Stmt::Call(call) => call_procedure(tier, alloc, site, id, &call),
+        Stmt::Commit => commit_session(tier, alloc, id),
+        Stmt::Rollback => roll_back(tier, alloc, id),
+        Stmt::CreateIndex(_) => unreachable!(),
+        Stmt::DropIndex(_) => unreachable!(),
     }
 }

@@ -1,8 +1,9 @@
 -- A body that is put behind the entries as one batch.
-use Rattle.std.proofs.Common.{◌≡◌, ℕ, ◌+◌, ◌≤◌, ◌^◌, List, [], ◌++◌, length, drop, refl, ap, subst, ◌∙◌, inl, Option}
+use Rattle.std.proofs.Common.{◌≡◌, ℕ, ◌+◌, ◌≤◌, ◌^◌, List, [], ◌++◌, length, drop, refl, ap, subst, ◌∙◌, inl}
 use Rattle.std.specs.List.{flat_map}
 use Rattle.std.proofs.lemmas.List.{drop-append-le}
 use Rattle.outside.specs.Calls.{Certain, Leaves}
+use Rattle.outside.specs.Sites.{SiteState}
 use Rattle.outside.specs.Holding.{Held, Slots}
 use Rattle.outside.proofs.Moments.{at_once}
 use Rattle.journal_entries.specs.declared.entry.Entry.{Entry}
@@ -56,7 +57,7 @@ module _ (j j' : Journal) (slots : Slots) (flushed : List Entry) (r : AtRest j s
       }
 
 -- nothing was done yet
-pub quiet_append : {D : Type 0} (held : D → Option Held) (moment : D → ℕ) (possible : D → ℕ → Held → Type 0) (a : D) (j : Journal) (o : Held) (flushed others : List Entry) → Certain held moment possible a o → AtRest j o.slots flushed [] → Leaves moment possible a a (MidFlush o flushed others)
-quiet_append held moment possible a j o flushed others h r = at_once moment possible a (MidFlush o flushed others) (λ p here.
+pub quiet_append : {D : Type 0} (state : D → SiteState) (possible : D → ℕ → Held → Type 0) (a : D) (j : Journal) (o : Held) (flushed others : List Entry) → Certain state possible a o → AtRest j o.slots flushed [] → Leaves state possible a a (MidFlush o flushed others)
+quiet_append state possible a j o flushed others h r = at_once state possible a (MidFlush o flushed others) (λ p here.
     let same : p ≡ o = h.only p here in
     record { beside = ap (λ (x : Held). x.history) same; gives = inl (rw same (rest_gives j o.slots flushed [] r)) })

@@ -2,6 +2,7 @@
 use Rattle.std.proofs.Common.{◌≡◌, ◌≢◌, ℕ, suc, ◌≤◌, ◌<◌, ◌⊎◌, List, [], ◌∷◌, ◌++◌, length, get_or, drop, refl, sym, ap, subst, ◌∙◌, arith, inl, inr, Option, Some, None}
 use Rattle.std.proofs.lemmas.List.{drop_all}
 use Rattle.outside.specs.declared.disk.Slot.{Slot}
+use Rattle.outside.specs.Sites.{SiteState}
 use Rattle.outside.specs.declared.disk.Slot.TheVariants.{First, Second}
 use Rattle.outside.specs.Holding.{Slots, Held, slot_of, other, with_slot, with_bytes}
 use Rattle.outside.specs.Calls.{Certain, Leaves, Rests, Changes, Torn, patched}
@@ -73,9 +74,9 @@ module _ (o : Held) (gate : ℕ) (junk : List ℕ) (there : o.slots.first ≡ ga
             subst (λ (d : Option (Slot × ℕ)). Reads p.slots entries d) (sym z.1) (subst (λ (l : List Placed). Reads p.slots l None) (sym z.0) here);
       }
 
-  pub made : {D : Type 0} (held : D → Option Held) (moment : D → ℕ) (possible : D → ℕ → Held → Type 0) (d : D) (r : Opened) → 1 ≤ length o.slots.second → HasBatch held moment possible d First [] new_bytes o
-      → r.entries.items ≡ [] → r.damaged ≡ None → r.journal.slot ≡ First → r.journal.version ≡ 2 → r.journal.generation ≡ 1 → r.journal.gate ≡ 10 → r.journal.standing ≡ beginning → length r.journal.staged.items ≤ 4 → Opens held moment possible d o r
-  made held moment possible d r some h entries damaged slot version generation gate-is standing short = record {
+  pub made : {D : Type 0} (state : D → SiteState) (possible : D → ℕ → Held → Type 0) (d : D) (r : Opened) → 1 ≤ length o.slots.second → HasBatch state possible d First [] new_bytes o
+      → r.entries.items ≡ [] → r.damaged ≡ None → r.journal.slot ≡ First → r.journal.version ≡ 2 → r.journal.generation ≡ 1 → r.journal.gate ≡ 10 → r.journal.standing ≡ beginning → length r.journal.staged.items ≤ 4 → Opens state possible d o r
+  made state possible d r some h entries damaged slot version generation gate-is standing short = record {
     now = h.now;
     certain = h.certain;
     beside = h.beside;
@@ -107,17 +108,17 @@ some_split : (xs : List ℕ) → 1 ≤ length xs → (x : ℕ) × (rest : List �
 some_split [] h = absurd (omega arith)
 some_split (x ∷ xs) h = (x, xs, refl)
 
-module _ {D : Type 0} (held : D → Option Held) (moment : D → ℕ) (possible : D → ℕ → Held → Type 0) (a b : D) (o : Held) (h : Certain held moment possible a o) (have : HaveBytes o.slots) (first : head_of o.slots.first ≡ Dead) (second : head_of o.slots.second ≡ Dead) where
-  pub make_crash : ((o : Held) (front junk : List ℕ) (g : ℕ) → Certain held moment possible a o → slot_of First o.slots ≡ front ++ g ∷ junk → 0 ≡ length front → Leaves moment possible a b (MidBatch First front g new_bytes o)) → Leaves moment possible a b (Keeps o)
+module _ {D : Type 0} (state : D → SiteState) (possible : D → ℕ → Held → Type 0) (a b : D) (o : Held) (h : Certain state possible a o) (have : HaveBytes o.slots) (first : head_of o.slots.first ≡ Dead) (second : head_of o.slots.second ≡ Dead) where
+  pub make_crash : ((o : Held) (front junk : List ℕ) (g : ℕ) → Certain state possible a o → slot_of First o.slots ≡ front ++ g ∷ junk → 0 ≡ length front → Leaves state possible a b (MidBatch First front g new_bytes o)) → Leaves state possible a b (Keeps o)
   make_crash crash =
       let s = some_split o.slots.first have.first in
-      weaker moment possible a b (MidBatch First [] s.0 new_bytes o) (Keeps o) (make_keeps o s.0 s.1 s.2 first second) (crash o [] s.1 s.0 h s.2 refl)
+      weaker state possible a b (MidBatch First [] s.0 new_bytes o) (Keeps o) (make_keeps o s.0 s.1 s.2 first second) (crash o [] s.1 s.0 h s.2 refl)
 
-  pub make_done : ((o : Held) (front junk : List ℕ) (g : ℕ) → Certain held moment possible a o → slot_of First o.slots ≡ front ++ g ∷ junk → 0 ≡ length front → HasBatch held moment possible b First front new_bytes o)
-      → (r : Opened) → r.entries.items ≡ [] → r.damaged ≡ None → r.journal.slot ≡ First → r.journal.version ≡ 2 → r.journal.generation ≡ 1 → r.journal.gate ≡ 10 → r.journal.standing ≡ beginning → length r.journal.staged.items ≤ 4 → Opens held moment possible b o r
+  pub make_done : ((o : Held) (front junk : List ℕ) (g : ℕ) → Certain state possible a o → slot_of First o.slots ≡ front ++ g ∷ junk → 0 ≡ length front → HasBatch state possible b First front new_bytes o)
+      → (r : Opened) → r.entries.items ≡ [] → r.damaged ≡ None → r.journal.slot ≡ First → r.journal.version ≡ 2 → r.journal.generation ≡ 1 → r.journal.gate ≡ 10 → r.journal.standing ≡ beginning → length r.journal.staged.items ≤ 4 → Opens state possible b o r
   make_done batch r entries damaged slot version generation gate standing short =
       let s = some_split o.slots.first have.first in
-      made o s.0 s.1 s.2 first second held moment possible b r have.second (batch o [] s.1 s.0 h s.2 refl) entries damaged slot version generation gate standing short
+      made o s.0 s.1 s.2 first second state possible b r have.second (batch o [] s.1 s.0 h s.2 refl) entries damaged slot version generation gate standing short
 
 -- ---- the slot that counts
 
@@ -230,25 +231,25 @@ module _ (slot u : Slot) (u-is : u ≡ other slot) (o : Held) (v g w k : ℕ) (m
       let x = reads_counts slot v g Dead (ap (λ (l : List ℕ). head_of l) shut_mine ∙ mine) shut_dead tt r in
       given_reads slot o.slots entries damaged v g mine (subst (λ (y : Head). Beats slot g y) (sym their) wins) (given_same slot shut_held.slots o.slots v entries damaged (sym shut_mine) x)
 
-  module _ {D : Type 0} (held : D → Option Held) (moment : D → ℕ) (possible : D → ℕ → Held → Type 0) (a b : D) (h : Certain held moment possible a o) where
-    pub newer_crash : PutCrash held moment possible u a b 0 (0 ∷ []) → Leaves moment possible a b (Keeps o)
+  module _ {D : Type 0} (state : D → SiteState) (possible : D → ℕ → Held → Type 0) (a b : D) (h : Certain state possible a o) where
+    pub newer_crash : PutCrash state possible u a b 0 (0 ∷ []) → Leaves state possible a b (Keeps o)
     newer_crash crash =
-        let crash' : PutCrash held moment possible (other slot) a b 0 (0 ∷ []) = subst (λ (s : Slot). PutCrash held moment possible s a b 0 (0 ∷ [])) u-is crash in
-        weaker moment possible a b (λ p. (p ≡ o) ⊎ Changes (other slot) (Torn 0 1) o p) (Keeps o) close_keeps (crash' o h (omega arith))
+        let crash' : PutCrash state possible (other slot) a b 0 (0 ∷ []) = subst (λ (s : Slot). PutCrash state possible s a b 0 (0 ∷ [])) u-is crash in
+        weaker state possible a b (λ p. (p ≡ o) ⊎ Changes (other slot) (Torn 0 1) o p) (Keeps o) close_keeps (crash' o h (omega arith))
 
-    pub newer_certain : PutCertain held moment possible u a b 0 (0 ∷ []) → Certain held moment possible b shut_held
+    pub newer_certain : PutCertain state possible u a b 0 (0 ∷ []) → Certain state possible b shut_held
     newer_certain certain =
-        let certain' : PutCertain held moment possible (other slot) a b 0 (0 ∷ []) = subst (λ (s : Slot). PutCertain held moment possible s a b 0 (0 ∷ [])) u-is certain in
+        let certain' : PutCertain state possible (other slot) a b 0 (0 ∷ []) = subst (λ (s : Slot). PutCertain state possible s a b 0 (0 ∷ [])) u-is certain in
         certain' o h (omega arith)
 
-    pub newer_then : (c : D) → PutCrash held moment possible u a b 0 (0 ∷ []) → PutCertain held moment possible u a b 0 (0 ∷ []) → Rests held moment possible b c → Leaves moment possible a c (Keeps o)
+    pub newer_then : (c : D) → PutCrash state possible u a b 0 (0 ∷ []) → PutCertain state possible u a b 0 (0 ∷ []) → Rests state possible b c → Leaves state possible a c (Keeps o)
     newer_then c crash certain rests =
-        and_then moment possible a b c (Keeps o) (newer_crash crash)
-        (weaker moment possible b c (λ p. p ≡ shut_held) (Keeps o)
+        and_then state possible a b c (Keeps o) (newer_crash crash)
+        (weaker state possible b c (λ p. p ≡ shut_held) (Keeps o)
         (λ p e. subst (λ (x : Held). Keeps o x) (sym e) (keeps_dead shut_held refl shut_mine shut_dead))
         (rests shut_held (newer_certain certain)).1)
 
-    pub newer_opens : (c : D) (r : Opened) → PutCertain held moment possible u a b 0 (0 ∷ []) → Rests held moment possible b c → Finds shut_held.slots r → Opens held moment possible c o r
+    pub newer_opens : (c : D) (r : Opened) → PutCertain state possible u a b 0 (0 ∷ []) → Rests state possible b c → Finds shut_held.slots r → Opens state possible c o r
     newer_opens c r certain rests found = record {
       now = shut_held;
       certain = (rests shut_held (newer_certain certain)).0;
@@ -257,14 +258,14 @@ module _ (slot u : Slot) (u-is : u ≡ other slot) (o : Held) (v g w k : ℕ) (m
       rests = found.rests;
     }
 
-module _ {D : Type 0} (held : D → Option Held) (moment : D → ℕ) (possible : D → ℕ → Held → Type 0) (a b : D) (o : Held) (h : Certain held moment possible a o) where
-  pub rest_keeps : Rests held moment possible a b → Leaves moment possible a b (Keeps o)
-  rest_keeps rests = weaker moment possible a b (λ p. p ≡ o) (Keeps o) (keeps_same o) (rests o h).1
+module _ {D : Type 0} (state : D → SiteState) (possible : D → ℕ → Held → Type 0) (a b : D) (o : Held) (h : Certain state possible a o) where
+  pub rest_keeps : Rests state possible a b → Leaves state possible a b (Keeps o)
+  rest_keeps rests = weaker state possible a b (λ p. p ≡ o) (Keeps o) (keeps_same o) (rests o h).1
 
-  pub rest_opens : (r : Opened) → Rests held moment possible a b → Finds o.slots r → Opens held moment possible b o r
+  pub rest_opens : (r : Opened) → Rests state possible a b → Finds o.slots r → Opens state possible b o r
   rest_opens r rests found = record { now = o; certain = (rests o h).0; beside = refl; reads = found.reads; rests = found.rests }
 
-  pub damage_opens : (r : Opened) (slot : Slot) (place : ℕ) → Reads o.slots [] (Some (slot, place)) → r.entries.items ≡ [] → r.damaged ≡ Some (slot, place) → Opens held moment possible a o r
+  pub damage_opens : (r : Opened) (slot : Slot) (place : ℕ) → Reads o.slots [] (Some (slot, place)) → r.entries.items ≡ [] → r.damaged ≡ Some (slot, place) → Opens state possible a o r
   damage_opens r slot place read entries damaged = record {
     now = o;
     certain = h;
@@ -273,36 +274,36 @@ module _ {D : Type 0} (held : D → Option Held) (moment : D → ℕ) (possible 
     rests = λ e. let no : ◌≡◌ {A = Option (Slot × ℕ)} (Some (slot, place)) None = sym damaged ∙ e in absurd cc;
   }
 
-  pub second_damage : (r : Opened) (place : ℕ) (mine second : Head) → head_of o.slots.first ≡ mine → ((p : ℕ) → mine ≡ Faulty p → ⊥) → head_of o.slots.second ≡ second → second ≡ Faulty place → (r.entries.items ≡ []) × (r.damaged ≡ Some (Second, place)) → Opens held moment possible a o r
+  pub second_damage : (r : Opened) (place : ℕ) (mine second : Head) → head_of o.slots.first ≡ mine → ((p : ℕ) → mine ≡ Faulty p → ⊥) → head_of o.slots.second ≡ second → second ≡ Faulty place → (r.entries.items ≡ []) × (r.damaged ≡ Some (Second, place)) → Opens state possible a o r
   second_damage r place mine second first-is sound second-is is e = damage_opens r Second place (faulty Second place (second-is ∙ is) (λ p f. sound p (sym first-is ∙ f))) e.0 e.1
 
-  pub first_damage : (r : Opened) (place : ℕ) (first : Head) → head_of o.slots.first ≡ first → first ≡ Faulty place → (r.entries.items ≡ []) × (r.damaged ≡ Some (First, place)) → Opens held moment possible a o r
+  pub first_damage : (r : Opened) (place : ℕ) (first : Head) → head_of o.slots.first ≡ first → first ≡ Faulty place → (r.entries.items ≡ []) × (r.damaged ≡ Some (First, place)) → Opens state possible a o r
   first_damage r place first first-is is e = damage_opens r First place (faulty First place (first-is ∙ is) tt) e.0 e.1
 
 -- ---- an opening from its first call on
 
-module _ {D : Type 0} (held : D → Option Held) (moment : D → ℕ) (possible : D → ℕ → Held → Type 0) (a b c e f i : D) (crash : (o : Held) → held a ≡ Some o → Leaves moment possible a b (possible a (moment a))) (settled : (o : Held) → held a ≡ Some o → Certain held moment possible b o)
-    (r1 : Rests held moment possible b c) (r2 : Rests held moment possible c e) (r3 : Rests held moment possible e f) (r4 : Rests held moment possible f i) where
-  pub to_third : Rests held moment possible b e
-  to_third = rests_then moment possible held b c e r1 r2
+module _ {D : Type 0} (state : D → SiteState) (possible : D → ℕ → Held → Type 0) (a b c e f i : D) (crash : (o : Held) → (state a).held ≡ Some o → Leaves state possible a b (possible a (state a).moment)) (settled : (o : Held) → (state a).held ≡ Some o → Certain state possible b o)
+    (r1 : Rests state possible b c) (r2 : Rests state possible c e) (r3 : Rests state possible e f) (r4 : Rests state possible f i) where
+  pub to_third : Rests state possible b e
+  to_third = rests_then state possible b c e r1 r2
 
-  pub to_fourth : Rests held moment possible b f
-  to_fourth = rests_then moment possible held b e f to_third r3
+  pub to_fourth : Rests state possible b f
+  to_fourth = rests_then state possible b e f to_third r3
 
-  pub to_last : Rests held moment possible b i
-  to_last = rests_then moment possible held b f i to_fourth r4
+  pub to_last : Rests state possible b i
+  to_last = rests_then state possible b f i to_fourth r4
 
-  pub steps_crash : (o : Held) → Certain held moment possible a o → Leaves moment possible a i (Keeps o)
-  steps_crash o h = and_then moment possible a b i (Keeps o)
-      (weaker moment possible a b (possible a (moment a)) (Keeps o) (λ p now. keeps_same o p (h.only p now)) (crash o h.told))
-      (rest_keeps held moment possible b i o (settled o h.told) to_last)
+  pub steps_crash : (o : Held) → Certain state possible a o → Leaves state possible a i (Keeps o)
+  steps_crash o h = and_then state possible a b i (Keeps o)
+      (weaker state possible a b (possible a (state a).moment) (Keeps o) (λ p now. keeps_same o p (h.only p now)) (crash o h.told))
+      (rest_keeps state possible b i o (settled o h.told) to_last)
 
-  module _ (o : Held) (told : held a ≡ Some o) (first second : Head) (first_len second_len : ℕ)
-      (first-len : (o : Held) → Certain held moment possible b o → first_len ≡ length (slot_of First o.slots))
-      (first-is : (o : Held) → Certain held moment possible c o → length (slot_of First o.slots) ≡ first_len → first ≡ head_of (slot_of First o.slots))
-      (second-len : (o : Held) → Certain held moment possible e o → second_len ≡ length (slot_of Second o.slots))
-      (second-is : (o : Held) → Certain held moment possible f o → length (slot_of Second o.slots) ≡ second_len → second ≡ head_of (slot_of Second o.slots)) where
-    pub at_last : Certain held moment possible i o
+  module _ (o : Held) (told : (state a).held ≡ Some o) (first second : Head) (first_len second_len : ℕ)
+      (first-len : (o : Held) → Certain state possible b o → first_len ≡ length (slot_of First o.slots))
+      (first-is : (o : Held) → Certain state possible c o → length (slot_of First o.slots) ≡ first_len → first ≡ head_of (slot_of First o.slots))
+      (second-len : (o : Held) → Certain state possible e o → second_len ≡ length (slot_of Second o.slots))
+      (second-is : (o : Held) → Certain state possible f o → length (slot_of Second o.slots) ≡ second_len → second ≡ head_of (slot_of Second o.slots)) where
+    pub at_last : Certain state possible i o
     at_last = (to_last o (settled o told)).0
 
     pub len_1 : length o.slots.first ≡ first_len

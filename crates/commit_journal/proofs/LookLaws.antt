@@ -1,9 +1,10 @@
 -- The bodies of a slot's batches.
-use Rattle.std.proofs.Common.{◌≡◌, ℕ, ◌+◌, ◌≤◌, ◌^◌, ◌⊎◌, List, [], ◌∷◌, ◌++◌, length, drop, refl, sym, ap, subst, ◌∙◌, append_assoc, arith, inl, inr, Option}
+use Rattle.std.proofs.Common.{◌≡◌, ℕ, ◌+◌, ◌≤◌, ◌^◌, ◌⊎◌, List, [], ◌∷◌, ◌++◌, length, drop, refl, sym, ap, subst, ◌∙◌, append_assoc, arith, inl, inr}
 use Rattle.std.specs.Int.{w32, to_be_bytes}
 use Rattle.std.specs.List.{AllByRecursion, flat_map}
 use Rattle.std.proofs.lemmas.List.{length-append, drop_at, drop-drop, flat_map_more}
 use Rattle.outside.specs.Calls.{Certain, Leaves, Rests}
+use Rattle.outside.specs.Sites.{SiteState}
 use Rattle.outside.specs.Holding.{Held, Slots, slot_of}
 use Rattle.outside.proofs.Moments.{and_then, weaker}
 use Rattle.journal_entries.specs.declared.entry.Entry.{Entry}
@@ -92,10 +93,10 @@ module _ (j : Journal) (slots : Slots) (flushed : List Entry) (r : AtRest j slot
   ]
 
 -- a quiet call behind one that kept what the slots said
-module _ {D : Type 0} (held : D → Option Held) (moment : D → ℕ) (possible : D → ℕ → Held → Type 0) (a b c : D) (o now : Held) where
-  pub kept_then : Leaves moment possible a b (Keeps o) → Certain held moment possible b now → possible b (moment b) now → Rests held moment possible b c → Leaves moment possible a c (Keeps o)
+module _ {D : Type 0} (state : D → SiteState) (possible : D → ℕ → Held → Type 0) (a b c : D) (o now : Held) where
+  pub kept_then : Leaves state possible a b (Keeps o) → Certain state possible b now → possible b (state b).moment now → Rests state possible b c → Leaves state possible a c (Keeps o)
   kept_then keeps certain is rests =
-      let le : moment a ≤ moment b = keeps.later in
-      let same : Keeps o now = keeps.each (moment b) now le (omega arith) is in
-      and_then moment possible a b c (Keeps o) keeps
-      (weaker moment possible b c (λ p. p ≡ now) (Keeps o) (λ p e. subst (λ (x : Held). Keeps o x) (sym e) same) (rests now certain).1)
+      let le : (state a).moment ≤ (state b).moment = keeps.later in
+      let same : Keeps o now = keeps.each (state b).moment now le (omega arith) is in
+      and_then state possible a b c (Keeps o) keeps
+      (weaker state possible b c (λ p. p ≡ now) (Keeps o) (λ p e. subst (λ (x : Held). Keeps o x) (sym e) same) (rests now certain).1)

@@ -1,7 +1,8 @@
 -- A journal in slot 0 where no slot was live.
-use Rattle.std.proofs.Common.{◌≡◌, ◌≢◌, ℕ, ◌≤◌, ◌<◌, ◌^◌, List, [], ◌++◌, length, refl, ap, ◌∙◌, arith, inl, inr, Option}
+use Rattle.std.proofs.Common.{◌≡◌, ◌≢◌, ℕ, ◌≤◌, ◌<◌, ◌^◌, List, [], ◌++◌, length, refl, ap, ◌∙◌, arith, inl, inr}
 use Rattle.std.proofs.lemmas.List.{drop_all}
 use Rattle.outside.specs.declared.disk.Slot.{Slot}
+use Rattle.outside.specs.Sites.{SiteState}
 use Rattle.outside.specs.declared.disk.Slot.TheVariants.{First}
 use Rattle.outside.specs.Holding.{Slots, Held, slot_of, other}
 use Rattle.outside.specs.Calls.{Certain, Leaves}
@@ -30,8 +31,8 @@ module _ (o : Held) (blank : IsBlank o.slots) where
   can_begin = record { some = blank.have.first; dead = dead_first o.slots.first blank.first }
 
   -- nothing was done yet
-  pub quiet_new : {D : Type 0} (held : D → Option Held) (moment : D → ℕ) (possible : D → ℕ → Held → Type 0) (a : D) (others : List Entry) → Certain held moment possible a o → Leaves moment possible a a (MidRotation o [] others)
-  quiet_new held moment possible a others h = at_once moment possible a (MidRotation o [] others) (λ p here.
+  pub quiet_new : {D : Type 0} (state : D → SiteState) (possible : D → ℕ → Held → Type 0) (a : D) (others : List Entry) → Certain state possible a o → Leaves state possible a a (MidRotation o [] others)
+  quiet_new state possible a others h = at_once state possible a (MidRotation o [] others) (λ p here.
       let same : p ≡ o = h.only p here in
       record { beside = ap (λ (x : Held). x.history) same; gives = inl (rw same (blank_gives o.slots blank.first blank.second)) })
 
@@ -47,9 +48,9 @@ module _ (o : Held) (blank : IsBlank o.slots) where
       ];
     }
 
-    pub is_made : {D : Type 0} (held : D → Option Held) (moment : D → ℕ) (possible : D → ℕ → Held → Type 0) (d : D) (j : Journal) → HasBegun held moment possible d First (slot_bytes generation body) o
-        → j.slot ≡ First → j.version ≡ 2 → j.generation ≡ generation → j.gate ≡ length (slot_bytes generation body) → j.standing ≡ t → length j.staged.items ≤ 4 → Rested held moment possible d j o (entries_of placed) []
-    is_made held moment possible d j h slot version gen gate standing short = record {
+    pub is_made : {D : Type 0} (state : D → SiteState) (possible : D → ℕ → Held → Type 0) (d : D) (j : Journal) → HasBegun state possible d First (slot_bytes generation body) o
+        → j.slot ≡ First → j.version ≡ 2 → j.generation ≡ generation → j.gate ≡ length (slot_bytes generation body) → j.standing ≡ t → length j.staged.items ≤ 4 → Rested state possible d j o (entries_of placed) []
+    is_made state possible d j h slot version gen gate standing short = record {
       now = h.now;
       certain = h.certain;
       beside = h.beside;

@@ -1,7 +1,8 @@
 -- Writing behind a gate, and opening it: what the slot's bytes are.
-use Rattle.std.proofs.Common.{◌≡◌, ℕ, suc, ◌+◌, ◌≤◌, ◌<◌, ◌⊎◌, List, [], ◌∷◌, ◌++◌, length, get_or, take, drop, refl, sym, ap, subst, ◌∙◌, append_assoc, arith, inl, inr, Option}
+use Rattle.std.proofs.Common.{◌≡◌, ℕ, suc, ◌+◌, ◌≤◌, ◌<◌, ◌⊎◌, List, [], ◌∷◌, ◌++◌, length, get_or, take, drop, refl, sym, ap, subst, ◌∙◌, append_assoc, arith, inl, inr}
 use Rattle.std.proofs.lemmas.List.{take_at, drop_at, drop_more, take-append-drop, length-append}
 use Rattle.outside.specs.declared.disk.Slot.{Slot}
+use Rattle.outside.specs.Sites.{SiteState}
 use Rattle.outside.specs.Holding.{Held, slot_of, other, with_bytes}
 use Rattle.outside.specs.Calls.{Changes, Torn, patched, Certain}
 use Rattle.outside.proofs.Moments.{slot_with, other_with, other_stays}
@@ -93,8 +94,8 @@ module _ (slot : Slot) (front : List ℕ) (gate : ℕ) (junk bytes : List ℕ) (
   last_is : slot_of slot last.slots ≡ front ++ 1 ∷ (bytes ++ rest)
   last_is = slot_with slot (patched (length front) (1 ∷ []) (slot_of slot middle.slots)) middle.slots ∙ ap (λ (l : List ℕ). patched (length front) (1 ∷ []) l) middle_is ∙ put_gate front gate (bytes ++ rest) 1
 
-  pub has_batch : {D : Type 0} (held : D → Option Held) (moment : D → ℕ) (possible : D → ℕ → Held → Type 0) (d : D) → Certain held moment possible d last → HasBatch held moment possible d slot front bytes o
-  has_batch held moment possible d c = record {
+  pub has_batch : {D : Type 0} (state : D → SiteState) (possible : D → ℕ → Held → Type 0) (d : D) → Certain state possible d last → HasBatch state possible d slot front bytes o
+  has_batch state possible d c = record {
     now = last;
     certain = c;
     beside = refl;

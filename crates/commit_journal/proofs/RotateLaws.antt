@@ -1,10 +1,11 @@
 -- Moving on to the other slot: which entries count at each moment.
-use Rattle.std.proofs.Common.{◌≡◌, ◌≢◌, ℕ, suc, ◌-◌, ◌≤◌, ◌<◌, ◌^◌, Bool, true, false, cond, eqb, ltb, List, [], ◌∷◌, ◌++◌, length, get_or, drop, refl, sym, ap, subst, ◌∙◌, append_assoc, arith, inl, inr, Option}
+use Rattle.std.proofs.Common.{◌≡◌, ◌≢◌, ℕ, suc, ◌-◌, ◌≤◌, ◌<◌, ◌^◌, Bool, true, false, cond, eqb, ltb, List, [], ◌∷◌, ◌++◌, length, get_or, drop, refl, sym, ap, subst, ◌∙◌, append_assoc, arith, inl, inr}
 use Rattle.std.specs.Int.{w64, to_be_bytes}
 use Rattle.std.proofs.lemmas.Bool.{eqb-true, eqb-false, le-ltb, ne_eqb}
 use Rattle.std.proofs.lemmas.List.{length-append, append-nil, drop_all}
 use Rattle.std.proofs.lemmas.Nat.{from_be_bytes-to_be_bytes_8}
 use Rattle.outside.specs.declared.disk.Slot.{Slot}
+use Rattle.outside.specs.Sites.{SiteState}
 use Rattle.outside.specs.declared.disk.Slot.TheVariants.{First, Second}
 use Rattle.outside.specs.Holding.{Slots, Held, slot_of, other}
 use Rattle.outside.specs.Calls.{Certain, Leaves}
@@ -132,9 +133,9 @@ module _ (j : Journal) (o : Held) (flushed tail : List Entry) (r : AtRest j o.sl
     ];
   }
 
-  pub is_rotated : {D : Type 0} (held : D → Option Held) (moment : D → ℕ) (possible : D → ℕ → Held → Type 0) (d : D) (j' : Journal) → Turned held moment possible d target (slot_bytes generation body) o
-      → j'.slot ≡ target → j'.version ≡ 2 → j'.generation ≡ generation → j'.gate ≡ length (slot_bytes generation body) → j'.standing ≡ t → length j'.staged.items ≤ 4 → Rested held moment possible d j' o (entries_of placed) []
-  is_rotated held moment possible d j' h slot version gen gate standing short =
+  pub is_rotated : {D : Type 0} (state : D → SiteState) (possible : D → ℕ → Held → Type 0) (d : D) (j' : Journal) → Turned state possible d target (slot_bytes generation body) o
+      → j'.slot ≡ target → j'.version ≡ 2 → j'.generation ≡ generation → j'.gate ≡ length (slot_bytes generation body) → j'.standing ≡ t → length j'.staged.items ≤ 4 → Rested state possible d j' o (entries_of placed) []
+  is_rotated state possible d j' h slot version gen gate standing short =
       let old : slot_of j.slot h.now.slots ≡ 0 ∷ h.old.0 = subst (λ (s : Slot). slot_of s h.now.slots ≡ 0 ∷ h.old.0) (other_other j.slot) h.old.1 in
       let others : slot_of (other j'.slot) h.now.slots ≡ 0 ∷ h.old.0 = ap (λ (s : Slot). slot_of (other s) h.now.slots) slot ∙ ap (λ (s : Slot). slot_of s h.now.slots) (other_other j.slot) ∙ old in
       record {
@@ -162,27 +163,27 @@ module _ (j : Journal) (o : Held) (flushed tail : List Entry) (r : AtRest j o.sl
         };
       }
 
-module _ {D : Type 0} (held : D → Option Held) (moment : D → ℕ) (possible : D → ℕ → Held → Type 0) (a b : D) (j : Journal) (o : Held) (flushed tail : List Entry) (h : Certain held moment possible a o) (r : AtRest j o.slots flushed tail)
+module _ {D : Type 0} (state : D → SiteState) (possible : D → ℕ → Held → Type 0) (a b : D) (j : Journal) (o : Held) (flushed tail : List Entry) (h : Certain state possible a o) (r : AtRest j o.slots flushed tail)
     (generation : ℕ) (lt : generation < 2 ^ 64) (above : j.generation < generation) (body : List ℕ) (placed : List Placed) (t : Standing) (small : length body ≤ 2 ^ 24) (reads : Body 2 beginning 15 body placed (Whole t))
     (u : Slot) (u-is : u ≡ other j.slot) (bytes : List ℕ) (bytes-are : bytes ≡ slot_bytes generation body) where
-  pub move_crash : ((o : Held) → Certain held moment possible a o → CanTurn u o → Leaves moment possible a b (MidTurn u bytes o)) → Leaves moment possible a b (MidRotation o flushed (entries_of placed))
+  pub move_crash : ((o : Held) → Certain state possible a o → CanTurn u o → Leaves state possible a b (MidTurn u bytes o)) → Leaves state possible a b (MidRotation o flushed (entries_of placed))
   move_crash crash =
-      let crash' : Leaves moment possible a b (MidTurn u bytes o) = crash o h (subst (λ (s : Slot). CanTurn s o) (sym u-is) (can_turn j o flushed tail r generation lt above body placed t small reads)) in
-      let one : Leaves moment possible a b (MidTurn (other j.slot) bytes o) = subst (λ (s : Slot). Leaves moment possible a b (MidTurn s bytes o)) u-is crash' in
-      let two : Leaves moment possible a b (MidTurn (other j.slot) (slot_bytes generation body) o) = subst (λ (l : List ℕ). Leaves moment possible a b (MidTurn (other j.slot) l o)) bytes-are one in
-      weaker moment possible a b (MidTurn (other j.slot) (slot_bytes generation body) o) (MidRotation o flushed (entries_of placed)) (mid_rotation j o flushed tail r generation lt above body placed t small reads) two
+      let crash' : Leaves state possible a b (MidTurn u bytes o) = crash o h (subst (λ (s : Slot). CanTurn s o) (sym u-is) (can_turn j o flushed tail r generation lt above body placed t small reads)) in
+      let one : Leaves state possible a b (MidTurn (other j.slot) bytes o) = subst (λ (s : Slot). Leaves state possible a b (MidTurn s bytes o)) u-is crash' in
+      let two : Leaves state possible a b (MidTurn (other j.slot) (slot_bytes generation body) o) = subst (λ (l : List ℕ). Leaves state possible a b (MidTurn (other j.slot) l o)) bytes-are one in
+      weaker state possible a b (MidTurn (other j.slot) (slot_bytes generation body) o) (MidRotation o flushed (entries_of placed)) (mid_rotation j o flushed tail r generation lt above body placed t small reads) two
 
-  pub move_done : ((o : Held) → Certain held moment possible a o → CanTurn u o → Turned held moment possible b u bytes o) → (j' : Journal) → j'.slot ≡ u → j'.version ≡ 2 → j'.generation ≡ generation → j'.gate ≡ length bytes → j'.standing ≡ t → length j'.staged.items ≤ 4
-      → Rested held moment possible b j' o (entries_of placed) []
+  pub move_done : ((o : Held) → Certain state possible a o → CanTurn u o → Turned state possible b u bytes o) → (j' : Journal) → j'.slot ≡ u → j'.version ≡ 2 → j'.generation ≡ generation → j'.gate ≡ length bytes → j'.standing ≡ t → length j'.staged.items ≤ 4
+      → Rested state possible b j' o (entries_of placed) []
   move_done turned j' slot version gen gate standing short =
-      let turned' : Turned held moment possible b u bytes o = turned o h (subst (λ (s : Slot). CanTurn s o) (sym u-is) (can_turn j o flushed tail r generation lt above body placed t small reads)) in
-      let one : Turned held moment possible b (other j.slot) bytes o = subst (λ (s : Slot). Turned held moment possible b s bytes o) u-is turned' in
-      let two : Turned held moment possible b (other j.slot) (slot_bytes generation body) o = subst (λ (l : List ℕ). Turned held moment possible b (other j.slot) l o) bytes-are one in
-      is_rotated j o flushed tail r generation lt above body placed t small reads held moment possible b j' two (slot ∙ u-is) version gen (gate ∙ ap (λ (l : List ℕ). length l) bytes-are) standing short
+      let turned' : Turned state possible b u bytes o = turned o h (subst (λ (s : Slot). CanTurn s o) (sym u-is) (can_turn j o flushed tail r generation lt above body placed t small reads)) in
+      let one : Turned state possible b (other j.slot) bytes o = subst (λ (s : Slot). Turned state possible b s bytes o) u-is turned' in
+      let two : Turned state possible b (other j.slot) (slot_bytes generation body) o = subst (λ (l : List ℕ). Turned state possible b (other j.slot) l o) bytes-are one in
+      is_rotated j o flushed tail r generation lt above body placed t small reads state possible b j' two (slot ∙ u-is) version gen (gate ∙ ap (λ (l : List ℕ). length l) bytes-are) standing short
 
 -- nothing was done yet
-pub quiet_rotation : {D : Type 0} (held : D → Option Held) (moment : D → ℕ) (possible : D → ℕ → Held → Type 0) (a : D) (j : Journal) (o : Held) (flushed tail others : List Entry) → Certain held moment possible a o → AtRest j o.slots flushed tail → Leaves moment possible a a (MidRotation o flushed others)
-quiet_rotation held moment possible a j o flushed tail others h r = at_once moment possible a (MidRotation o flushed others) (λ p here.
+pub quiet_rotation : {D : Type 0} (state : D → SiteState) (possible : D → ℕ → Held → Type 0) (a : D) (j : Journal) (o : Held) (flushed tail others : List Entry) → Certain state possible a o → AtRest j o.slots flushed tail → Leaves state possible a a (MidRotation o flushed others)
+quiet_rotation state possible a j o flushed tail others h r = at_once state possible a (MidRotation o flushed others) (λ p here.
     let same : p ≡ o = h.only p here in
     record { beside = ap (λ (x : Held). x.history) same; gives = inl (rw same (rest_gives j o.slots flushed tail r)) })
 

@@ -1,10 +1,11 @@
 -- Noting an entry, and flushing the tail.
-use Rattle.std.proofs.Common.{◌≡◌, ◌≢◌, ℕ, ◌+◌, ◌-◌, ◌≤◌, ◌^◌, ◌⊎◌, true, false, eqb, List, [], ◌∷◌, ◌++◌, length, drop, refl, sym, ap, subst, ◌∙◌, append_assoc, arith, inl, inr, Option}
+use Rattle.std.proofs.Common.{◌≡◌, ◌≢◌, ℕ, ◌+◌, ◌-◌, ◌≤◌, ◌^◌, ◌⊎◌, true, false, eqb, List, [], ◌∷◌, ◌++◌, length, drop, refl, sym, ap, subst, ◌∙◌, append_assoc, arith, inl, inr}
 use Rattle.std.specs.Int.{w32, to_be_bytes}
 use Rattle.std.specs.List.{flat_map}
 use Rattle.std.proofs.lemmas.Bool.{eqb-true, eqb-false}
 use Rattle.std.proofs.lemmas.List.{length-append, length-drop, append-nil, map-append, flat_map_more, drop_all, map_push, drop-append-le}
 use Rattle.outside.specs.Holding.{Slots, Held, slot_of, other}
+use Rattle.outside.specs.Sites.{SiteState}
 use Rattle.outside.specs.Calls.{Certain, Leaves}
 use Rattle.outside.proofs.Moments.{at_once, weaker}
 use Rattle.journal_entries.specs.declared.entry.Entry.{Entry}
@@ -134,9 +135,9 @@ module _ (j : Journal) (o : Held) (flushed tail : List Entry) (r : AtRest j o.sl
     ];
   }
 
-  pub is_flushed : {D : Type 0} (held : D → Option Held) (moment : D → ℕ) (possible : D → ℕ → Held → Type 0) (d : D) (j' : Journal) → HasBatch held moment possible d j.slot r.front sealed o
-      → j'.slot ≡ j.slot → j'.version ≡ j.version → j'.generation ≡ j.generation → j'.gate ≡ j.gate + length sealed → j'.standing ≡ j.standing → length j'.staged.items ≤ 4 → Rested held moment possible d j' o (flushed ++ tail) []
-  is_flushed held moment possible d j' h slot version generation gate standing short = record {
+  pub is_flushed : {D : Type 0} (state : D → SiteState) (possible : D → ℕ → Held → Type 0) (d : D) (j' : Journal) → HasBatch state possible d j.slot r.front sealed o
+      → j'.slot ≡ j.slot → j'.version ≡ j.version → j'.generation ≡ j.generation → j'.gate ≡ j.gate + length sealed → j'.standing ≡ j.standing → length j'.staged.items ≤ 4 → Rested state possible d j' o (flushed ++ tail) []
+  is_flushed state possible d j' h slot version generation gate standing short = record {
     now = h.now;
     certain = h.certain;
     beside = h.beside;
@@ -171,26 +172,26 @@ no_bytes (x ∷ tail) e =
 pub empty_tail : (j : Journal) (slots : Slots) (flushed tail : List Entry) → AtRest j slots flushed tail → length j.staged.items ≡ 4 → tail ≡ []
 empty_tail j slots flushed tail r four = no_bytes tail (sym (ap length r.staged) ∙ length-drop 4 j.staged.items ∙ omega arith)
 
-module _ {D : Type 0} (held : D → Option Held) (moment : D → ℕ) (possible : D → ℕ → Held → Type 0) (a : D) (j : Journal) (o : Held) (flushed tail : List Entry) (h : Certain held moment possible a o) (r : AtRest j o.slots flushed tail) where
-  pub quiet_crash : Leaves moment possible a a (MidFlush o flushed tail)
-  quiet_crash = at_once moment possible a (MidFlush o flushed tail) (λ p here.
+module _ {D : Type 0} (state : D → SiteState) (possible : D → ℕ → Held → Type 0) (a : D) (j : Journal) (o : Held) (flushed tail : List Entry) (h : Certain state possible a o) (r : AtRest j o.slots flushed tail) where
+  pub quiet_crash : Leaves state possible a a (MidFlush o flushed tail)
+  quiet_crash = at_once state possible a (MidFlush o flushed tail) (λ p here.
       let same : p ≡ o = h.only p here in
       record { beside = ap (λ (x : Held). x.history) same; gives = inl (rw same (rest_gives j o.slots flushed tail r)) })
 
-  pub quiet_flushed : length j.staged.items ≡ 4 → Rested held moment possible a j o (flushed ++ tail) []
+  pub quiet_flushed : length j.staged.items ≡ 4 → Rested state possible a j o (flushed ++ tail) []
   quiet_flushed four =
       let none : tail ≡ [] = empty_tail j o.slots flushed tail r four in
       let r' : AtRest j o.slots flushed [] = subst (λ (l : List Entry). AtRest j o.slots flushed l) none r in
       let same : flushed ≡ flushed ++ tail = sym (append-nil flushed) ∙ ap (λ (l : List Entry). flushed ++ l) (sym none) in
-      subst (λ (l : List Entry). Rested held moment possible a j o l []) same (record { now = o; certain = h; beside = refl; rest = r' })
+      subst (λ (l : List Entry). Rested state possible a j o l []) same (record { now = o; certain = h; beside = refl; rest = r' })
 
   module _ (sealed : List ℕ) (is : sealed ≡ to_be_bytes w32 (length j.staged.items - 4) ++ (drop 4 j.staged.items ++ 0 ∷ [])) (b : D) where
-    pub flush_crash : ((o : Held) (front junk : List ℕ) (g : ℕ) → Certain held moment possible a o → slot_of j.slot o.slots ≡ front ++ g ∷ junk → j.gate ≡ length front → Leaves moment possible a b (MidBatch j.slot front g sealed o))
-        → Leaves moment possible a b (MidFlush o flushed tail)
-    flush_crash crash = weaker moment possible a b (MidBatch j.slot r.front r.gate sealed o) (MidFlush o flushed tail) (mid_flush j o flushed tail r sealed is) (crash o r.front r.junk r.gate h r.bytes r.place)
+    pub flush_crash : ((o : Held) (front junk : List ℕ) (g : ℕ) → Certain state possible a o → slot_of j.slot o.slots ≡ front ++ g ∷ junk → j.gate ≡ length front → Leaves state possible a b (MidBatch j.slot front g sealed o))
+        → Leaves state possible a b (MidFlush o flushed tail)
+    flush_crash crash = weaker state possible a b (MidBatch j.slot r.front r.gate sealed o) (MidFlush o flushed tail) (mid_flush j o flushed tail r sealed is) (crash o r.front r.junk r.gate h r.bytes r.place)
 
-    pub flush_done : ((o : Held) (front junk : List ℕ) (g : ℕ) → Certain held moment possible a o → slot_of j.slot o.slots ≡ front ++ g ∷ junk → j.gate ≡ length front → HasBatch held moment possible b j.slot front sealed o)
+    pub flush_done : ((o : Held) (front junk : List ℕ) (g : ℕ) → Certain state possible a o → slot_of j.slot o.slots ≡ front ++ g ∷ junk → j.gate ≡ length front → HasBatch state possible b j.slot front sealed o)
         → (j' : Journal) → j'.slot ≡ j.slot → j'.version ≡ j.version → j'.generation ≡ j.generation → j'.gate ≡ j.gate + length sealed → j'.standing ≡ j.standing → length j'.staged.items ≤ 4
-        → Rested held moment possible b j' o (flushed ++ tail) []
+        → Rested state possible b j' o (flushed ++ tail) []
     flush_done batch j' slot version generation gate standing short =
-        is_flushed j o flushed tail r sealed is held moment possible b j' (batch o r.front r.junk r.gate h r.bytes r.place) slot version generation gate standing short
+        is_flushed j o flushed tail r sealed is state possible b j' (batch o r.front r.junk r.gate h r.bytes r.place) slot version generation gate standing short

@@ -3,6 +3,7 @@ use Rattle.std.proofs.Common.{Ok, zero, ◌≡◌, ◌≢◌, ℕ, suc, ◌+◌,
 use Rattle.std.proofs.lemmas.Bool.{eqb-true, eqb-false}
 use Rattle.std.proofs.lemmas.List.{append-nil, get_or-take}
 use Rattle.outside.specs.declared.disk.Slot.{Slot}
+use Rattle.outside.specs.Sites.{SiteState}
 use Rattle.outside.specs.declared.disk.Slot.TheVariants.{First, Second}
 use Rattle.outside.specs.Holding.{Held, slot_of, other, with_bytes}
 use Rattle.outside.specs.Calls.{Told, GoesOn, Stays, Same, Changes, Torn, Cut, patched, MayWrite, Wrote, MayCut, WasCut, Durable, Certain, Leaves}
@@ -54,16 +55,16 @@ module _ (slot : Slot) (o : Held) (some : 1 ≤ length (slot_of slot o.slots)) w
     first_same = first_torn n (slot_of slot q.slots) (slot_of slot p.slots) c.there ∙ f.first_same;
   }
 
-module _ {D : Type 0} (held : D → Option Held) (moment : D → ℕ) (possible : D → ℕ → Held → Type 0) (slot : Slot) (bytes : List ℕ) (o : Held) (some : 1 ≤ length (slot_of slot o.slots)) where
-  pub fill_cut : (a b : D) → Certain held moment possible a o → GoesOn moment possible a b (MayCut (held a) slot 1) → Leaves moment possible a b (Filling slot o)
-  fill_cut a b h g = weaker moment possible a b (λ p. (p ≡ o) ⊎ Changes slot (Cut 1) o p) (Filling slot o) (filling_cut slot o some) (cut_leaves moment possible held a b slot 1 o h some g)
+module _ {D : Type 0} (state : D → SiteState) (possible : D → ℕ → Held → Type 0) (slot : Slot) (bytes : List ℕ) (o : Held) (some : 1 ≤ length (slot_of slot o.slots)) where
+  pub fill_cut : (a b : D) → Certain state possible a o → GoesOn state possible a b (MayCut (state a).held slot 1) → Leaves state possible a b (Filling slot o)
+  fill_cut a b h g = weaker state possible a b (λ p. (p ≡ o) ⊎ Changes slot (Cut 1) o p) (Filling slot o) (filling_cut slot o some) (cut_leaves state possible a b slot 1 o h some g)
 
   abbrev cut_held : Held
   cut_held = with_bytes slot (take 1 (slot_of slot o.slots)) o
 
-  told_cut : (E : Type 0) (a b : D) → Certain held moment possible a o → Told (held a) (held b) (WasCut {T = Unit {0}} {E = E} slot 1 (Ok tt)) → held b ≡ Some cut_held
+  told_cut : (E : Type 0) (a b : D) → Certain state possible a o → Told (state a).held (state b).held (WasCut {T = Unit {0}} {E = E} slot 1 (Ok tt)) → (state b).held ≡ Some cut_held
   told_cut E a b h told =
-      let n = told_then (held a) (held b) (WasCut {T = Unit {0}} {E = E} slot 1 (Ok tt)) o h.told told in
+      let n = told_then (state a).held (state b).held (WasCut {T = Unit {0}} {E = E} slot 1 (Ok tt)) o h.told told in
       n.1 ∙ ap (λ (x : Held). Some x) (n.2 some)
 
   cut_there : slot_of slot cut_held.slots ≡ get_or (slot_of slot o.slots) 0 0 ∷ []
@@ -72,18 +73,18 @@ module _ {D : Type 0} (held : D → Option Held) (moment : D → ℕ) (possible 
   cut_within : 1 ≤ length (slot_of slot cut_held.slots)
   cut_within = let l : length (slot_of slot cut_held.slots) ≡ 1 = ap length cut_there in omega arith
 
-  pub fill_write : (E : Type 0) (a b c : D) → Certain held moment possible a o → GoesOn moment possible a b (MayCut (held a) slot 1) → Told (held a) (held b) (WasCut {T = Unit {0}} {E = E} slot 1 (Ok tt))
-      → GoesOn moment possible b c (MayWrite (held b) slot 1 bytes) → Leaves moment possible a c (Filling slot o)
+  pub fill_write : (E : Type 0) (a b c : D) → Certain state possible a o → GoesOn state possible a b (MayCut (state a).held slot 1) → Told (state a).held (state b).held (WasCut {T = Unit {0}} {E = E} slot 1 (Ok tt))
+      → GoesOn state possible b c (MayWrite (state b).held slot 1 bytes) → Leaves state possible a c (Filling slot o)
   fill_write E a b c h g told g2 =
       let first = fill_cut a b h g in
-      let le : moment a ≤ moment b = first.later in
+      let le : (state a).moment ≤ (state b).moment = first.later in
       let told_b = told_cut E a b h told in
-      and_then moment possible a b c (Filling slot o) first
-      (one_call moment possible b c (MayWrite (held b) slot 1 bytes) (Filling slot o) g2
-      (λ q now. first.each (moment b) q le (omega arith) now)
+      and_then state possible a b c (Filling slot o) first
+      (one_call state possible b c (MayWrite (state b).held slot 1 bytes) (Filling slot o) g2
+      (λ q now. first.each (state b).moment q le (omega arith) now)
       (λ q p now s.
       let step : MayWrite (Some cut_held) slot 1 bytes q p = subst (λ (x : Option Held). MayWrite x slot 1 bytes q p) told_b s in
-      filling_more slot o some (length bytes) q p (first.each (moment b) q le (omega arith) now) (step cut_within)))
+      filling_more slot o some (length bytes) q p (first.each (state b).moment q le (omega arith) now) (step cut_within)))
 
   abbrev full_held : Held
   full_held = with_bytes slot (patched 1 bytes (slot_of slot cut_held.slots)) cut_held
@@ -92,20 +93,20 @@ module _ {D : Type 0} (held : D → Option Held) (moment : D → ℕ) (possible 
   full_there = slot_with slot (patched 1 bytes (slot_of slot cut_held.slots)) cut_held.slots ∙ ap (λ (l : List ℕ). patched 1 bytes l) cut_there
       ∙ ap (λ (l : List ℕ). get_or (slot_of slot o.slots) 0 0 ∷ (bytes ++ l)) (drop_one (get_or (slot_of slot o.slots) 0 0) (length bytes)) ∙ ap (λ (l : List ℕ). get_or (slot_of slot o.slots) 0 0 ∷ l) (append-nil bytes)
 
-  pub fill_done : (E F G : Type 0) (a b c e : D) → Certain held moment possible a o → GoesOn moment possible a b (MayCut (held a) slot 1) → Told (held a) (held b) (WasCut {T = Unit {0}} {E = E} slot 1 (Ok tt))
-      → GoesOn moment possible b c (MayWrite (held b) slot 1 bytes) → Told (held b) (held c) (Wrote {T = Unit {0}} {E = F} slot 1 bytes (Ok tt)) → GoesOn moment possible c e Stays → Told (held c) (held e) Same → Durable {T = Unit {0}} {E = G} (held c) slot (Ok tt) (possible e (moment e))
-      → Filled held moment possible e slot bytes o
+  pub fill_done : (E F G : Type 0) (a b c e : D) → Certain state possible a o → GoesOn state possible a b (MayCut (state a).held slot 1) → Told (state a).held (state b).held (WasCut {T = Unit {0}} {E = E} slot 1 (Ok tt))
+      → GoesOn state possible b c (MayWrite (state b).held slot 1 bytes) → Told (state b).held (state c).held (Wrote {T = Unit {0}} {E = F} slot 1 bytes (Ok tt)) → GoesOn state possible c e Stays → Told (state c).held (state e).held Same → Durable {T = Unit {0}} {E = G} (state c).held slot (Ok tt) (possible e (state e).moment)
+      → Filled state possible e slot bytes o
   fill_done E F G a b c e h g told g2 told2 g3 told3 durable =
       let leaves = fill_write E a b c h g told g2 in
-      let le : moment a ≤ moment c = leaves.later in
+      let le : (state a).moment ≤ (state c).moment = leaves.later in
       let told_b = told_cut E a b h told in
-      let n = told_then (held b) (held c) (Wrote {T = Unit {0}} {E = F} slot 1 bytes (Ok tt)) cut_held told_b told2 in
-      let told_c : held c ≡ Some full_held = n.1 ∙ ap (λ (x : Held). Some x) (n.2 cut_within) in
+      let n = told_then (state b).held (state c).held (Wrote {T = Unit {0}} {E = F} slot 1 bytes (Ok tt)) cut_held told_b told2 in
+      let told_c : (state c).held ≡ Some full_held = n.1 ∙ ap (λ (x : Held). Some x) (n.2 cut_within) in
       let other_is : slot_of (other slot) full_held.slots ≡ slot_of (other slot) o.slots = other_with slot (patched 1 bytes (slot_of slot cut_held.slots)) cut_held.slots ∙ other_with slot (take 1 (slot_of slot o.slots)) o.slots in
       record {
         now = full_held;
-        certain = sync_certain moment possible held (Unit {0}) G c e slot tt full_held told_c
-            (λ p now. let f = leaves.each (moment c) p le (omega arith) now in inr (f.other_same ∙ sym other_is, f.beside))
+        certain = sync_certain state possible (Unit {0}) G c e slot tt full_held told_c
+            (λ p now. let f = leaves.each (state c).moment p le (omega arith) now in inr (f.other_same ∙ sym other_is, f.beside))
             g3 told3 durable;
         beside = refl;
         other_same = other_is;
@@ -150,8 +151,8 @@ module _ (t : Slot) (bytes : List ℕ) (o : Held) (dead : get_or (slot_of t o.sl
     pub opened_other : slot_of (other t) opened_held.slots ≡ slot_of (other t) o.slots
     opened_other = other_with t (patched 0 (1 ∷ []) (slot_of t n.slots)) n.slots ∙ other_same
 
-    pub has_begun : {D : Type 0} (held : D → Option Held) (moment : D → ℕ) (possible : D → ℕ → Held → Type 0) (d : D) → Certain held moment possible d opened_held → HasBegun held moment possible d t bytes o
-    has_begun held moment possible d h = record { now = opened_held; certain = h; beside = beside; other_same = opened_other; there = opened_there }
+    pub has_begun : {D : Type 0} (state : D → SiteState) (possible : D → ℕ → Held → Type 0) (d : D) → Certain state possible d opened_held → HasBegun state possible d t bytes o
+    has_begun state possible d h = record { now = opened_held; certain = h; beside = beside; other_same = opened_other; there = opened_there }
 
 -- the target is live, and the other slot is closed
 module _ (t : Slot) (bytes : List ℕ) (o : Held) (live : get_or (slot_of (other t) o.slots) 0 0 ≡ 1) (n : Held) (beside : n.history ≡ o.history) (other_same : slot_of (other t) n.slots ≡ slot_of (other t) o.slots) (there : slot_of t n.slots ≡ 1 ∷ bytes) where
@@ -172,8 +173,8 @@ module _ (t : Slot) (bytes : List ℕ) (o : Held) (live : get_or (slot_of (other
   abbrev pub last_held : Held
   last_held = with_bytes (other t) (patched 0 (0 ∷ []) (slot_of (other t) n.slots)) n
 
-  pub is_turned : {D : Type 0} (held : D → Option Held) (moment : D → ℕ) (possible : D → ℕ → Held → Type 0) (d : D) → Certain held moment possible d last_held → Turned held moment possible d t bytes o
-  is_turned held moment possible d h =
+  pub is_turned : {D : Type 0} (state : D → SiteState) (possible : D → ℕ → Held → Type 0) (d : D) → Certain state possible d last_held → Turned state possible d t bytes o
+  is_turned state possible d h =
       let split = head_split (slot_of (other t) o.slots) live in
       record {
         now = last_held;
@@ -183,27 +184,27 @@ module _ (t : Slot) (bytes : List ℕ) (o : Held) (live : get_or (slot_of (other
         old = (split.0, slot_with (other t) (patched 0 (0 ∷ []) (slot_of (other t) n.slots)) n.slots ∙ ap (λ (l : List ℕ). patched 0 (0 ∷ []) l) (other_same ∙ split.1) ∙ put_gate [] 1 split.0 0);
       }
 
-module _ {D : Type 0} (held : D → Option Held) (moment : D → ℕ) (possible : D → ℕ → Held → Type 0) (t : Slot) (bytes : List ℕ) (o : Held) where
+module _ {D : Type 0} (state : D → SiteState) (possible : D → ℕ → Held → Type 0) (t : Slot) (bytes : List ℕ) (o : Held) where
   module _ (dead : get_or (slot_of t o.slots) 0 0 ≢ 1) where
-    pub begin_first : (a b : D) → Leaves moment possible a b (Filling t o) → Leaves moment possible a b (MidTurn t bytes o)
-    begin_first a b f = weaker moment possible a b (Filling t o) (MidTurn t bytes o) (turn_filling t bytes o dead) f
+    pub begin_first : (a b : D) → Leaves state possible a b (Filling t o) → Leaves state possible a b (MidTurn t bytes o)
+    begin_first a b f = weaker state possible a b (Filling t o) (MidTurn t bytes o) (turn_filling t bytes o dead) f
 
-    pub begin_second : (a b c : D) → Leaves moment possible a b (Filling t o) → Filled held moment possible b t bytes o → PutCrash held moment possible t b c 0 (1 ∷ []) → Leaves moment possible a c (MidTurn t bytes o)
+    pub begin_second : (a b c : D) → Leaves state possible a b (Filling t o) → Filled state possible b t bytes o → PutCrash state possible t b c 0 (1 ∷ []) → Leaves state possible a c (MidTurn t bytes o)
     begin_second a b c f n crash =
-        and_then moment possible a b c (MidTurn t bytes o) (begin_first a b f)
-        (weaker moment possible b c (λ p. (p ≡ n.now) ⊎ Changes t (Torn 0 1) n.now p) (MidTurn t bytes o) (turn_opening t bytes o dead n.now n.beside n.other_same n.there) (crash n.now n.certain (omega arith)))
+        and_then state possible a b c (MidTurn t bytes o) (begin_first a b f)
+        (weaker state possible b c (λ p. (p ≡ n.now) ⊎ Changes t (Torn 0 1) n.now p) (MidTurn t bytes o) (turn_opening t bytes o dead n.now n.beside n.other_same n.there) (crash n.now n.certain (omega arith)))
 
-    pub begin_done : (b c : D) → Filled held moment possible b t bytes o → PutCertain held moment possible t b c 0 (1 ∷ []) → HasBegun held moment possible c t bytes o
-    begin_done b c n certain = has_begun t bytes o dead n.now n.beside n.other_same n.there held moment possible c (certain n.now n.certain (omega arith))
+    pub begin_done : (b c : D) → Filled state possible b t bytes o → PutCertain state possible t b c 0 (1 ∷ []) → HasBegun state possible c t bytes o
+    begin_done b c n certain = has_begun t bytes o dead n.now n.beside n.other_same n.there state possible c (certain n.now n.certain (omega arith))
 
   module _ (u : Slot) (u-is : u ≡ other t) (live : get_or (slot_of (other t) o.slots) 0 0 ≡ 1) where
-    pub turn_crash : (a c e : D) → Leaves moment possible a c (MidTurn t bytes o) → HasBegun held moment possible c t bytes o → PutCrash held moment possible u c e 0 (0 ∷ []) → Leaves moment possible a e (MidTurn t bytes o)
+    pub turn_crash : (a c e : D) → Leaves state possible a c (MidTurn t bytes o) → HasBegun state possible c t bytes o → PutCrash state possible u c e 0 (0 ∷ []) → Leaves state possible a e (MidTurn t bytes o)
     turn_crash a c e begun n crash =
-        let crash' : PutCrash held moment possible (other t) c e 0 (0 ∷ []) = subst (λ (s : Slot). PutCrash held moment possible s c e 0 (0 ∷ [])) u-is crash in
-        and_then moment possible a c e (MidTurn t bytes o) begun
-        (weaker moment possible c e (λ p. (p ≡ n.now) ⊎ Changes (other t) (Torn 0 1) n.now p) (MidTurn t bytes o) (turn_closing t bytes o live n.now n.beside n.other_same n.there) (crash' n.now n.certain (omega arith)))
+        let crash' : PutCrash state possible (other t) c e 0 (0 ∷ []) = subst (λ (s : Slot). PutCrash state possible s c e 0 (0 ∷ [])) u-is crash in
+        and_then state possible a c e (MidTurn t bytes o) begun
+        (weaker state possible c e (λ p. (p ≡ n.now) ⊎ Changes (other t) (Torn 0 1) n.now p) (MidTurn t bytes o) (turn_closing t bytes o live n.now n.beside n.other_same n.there) (crash' n.now n.certain (omega arith)))
 
-    pub turn_done : (c e : D) → HasBegun held moment possible c t bytes o → PutCertain held moment possible u c e 0 (0 ∷ []) → Turned held moment possible e t bytes o
+    pub turn_done : (c e : D) → HasBegun state possible c t bytes o → PutCertain state possible u c e 0 (0 ∷ []) → Turned state possible e t bytes o
     turn_done c e n certain =
-        let certain' : PutCertain held moment possible (other t) c e 0 (0 ∷ []) = subst (λ (s : Slot). PutCertain held moment possible s c e 0 (0 ∷ [])) u-is certain in
-        is_turned t bytes o live n.now n.beside n.other_same n.there held moment possible e (certain' n.now n.certain (omega arith))
+        let certain' : PutCertain state possible (other t) c e 0 (0 ∷ []) = subst (λ (s : Slot). PutCertain state possible s c e 0 (0 ∷ [])) u-is certain in
+        is_turned t bytes o live n.now n.beside n.other_same n.there state possible e (certain' n.now n.certain (omega arith))

@@ -1,7 +1,8 @@
 -- What two slots of bytes say. (This project's rule.)
 --
--- A slot: its gate, 1 where it is live; its version; eight bytes of generation; and batches from place 10 on. A batch: an
--- open gate, 1; four bytes of length; so many bytes of body. Another byte in a gate's place ends the journal there.
+-- A slot: its gate, 1 where it is live; its version; eight bytes of generation; and batches from place 10 on. A
+-- batch: an open gate, 1; four bytes of length; so many bytes of body. Another byte in a gate's place ends the
+-- journal there.
 
 use Rattle.std.specs.Prelude.{◌≡◌, ◌≢◌, ℕ, ◌+◌, ◌-◌, ◌^◌, ◌<◌, ◌≤◌, Option, Some, None, List, [], ◌∷◌, ◌++◌, length, take, drop, map, slice_index, nat_lt, ◌==◌, if◌then◌else◌}
 use Rattle.std.specs.Int.{w32, w64, to_be_bytes, from_be_bytes}
@@ -29,7 +30,8 @@ abbrev pub live_head : List ℕ → Head
 live_head bytes =
     if nat_lt (length bytes) 11 then Faulty 1
     else (if slice_index bytes 1 == 2 then Live 2 (generation_of bytes)
-    else (if slice_index bytes 1 == 1 then (if generation_of bytes == 2 ^ 64 - 1 then Faulty 2 else Live 1 (generation_of bytes))
+    else (if slice_index bytes 1 == 1
+    then (if generation_of bytes == 2 ^ 64 - 1 then Faulty 2 else Live 1 (generation_of bytes))
     else Faulty 1))
 
 unfoldable pub head_of : List ℕ → Head
@@ -50,12 +52,18 @@ pub data Outcome : Type 0 where
 
 -- the batches of a slot from a gate on, and their entries
 pub data Batches (version : ℕ) : Standing → ℕ → List ℕ → List Placed → Outcome → Type 0 where
-  closed : {s : Standing} {place : ℕ} {bytes : List ℕ} (gate : ℕ) (junk : List ℕ) → bytes ≡ gate ∷ junk → gate ≢ 1 → Batches version s place bytes [] (Closed place s)
-  cut : {s : Standing} {place : ℕ} {bytes : List ℕ} (rest : List ℕ) → bytes ≡ 1 ∷ rest → ((body more : List ℕ) → IsBatch rest body more → ⊥) → Batches version s place bytes [] (Damaged (place + 1))
-  broken : {s : Standing} {place : ℕ} {bytes : List ℕ} {entries : List Placed} (rest body more : List ℕ) (at : ℕ) → bytes ≡ 1 ∷ rest → IsBatch rest body more
+  closed : {s : Standing} {place : ℕ} {bytes : List ℕ} (gate : ℕ) (junk : List ℕ) → bytes ≡ gate ∷ junk → gate ≢ 1
+      → Batches version s place bytes [] (Closed place s)
+  cut : {s : Standing} {place : ℕ} {bytes : List ℕ} (rest : List ℕ) → bytes ≡ 1 ∷ rest
+      → ((body more : List ℕ) → IsBatch rest body more → ⊥) → Batches version s place bytes [] (Damaged (place + 1))
+  broken : {s : Standing} {place : ℕ} {bytes : List ℕ} {entries : List Placed} (rest body more : List ℕ) (at : ℕ)
+      → bytes ≡ 1 ∷ rest → IsBatch rest body more
       → Body version s (place + 5) body entries (Stops at) → Batches version s place bytes entries (Damaged at)
-  opened : {s : Standing} {place : ℕ} {bytes : List ℕ} {outcome : Outcome} (rest body more : List ℕ) (t : Standing) (entries others : List Placed) → bytes ≡ 1 ∷ rest → IsBatch rest body more
-      → Body version s (place + 5) body entries (Whole t) → Batches version t (place + 5 + length body) more others outcome → Batches version s place bytes (entries ++ others) outcome
+  opened : {s : Standing} {place : ℕ} {bytes : List ℕ} {outcome : Outcome} (rest body more : List ℕ) (t : Standing)
+      (entries others : List Placed) → bytes ≡ 1 ∷ rest → IsBatch rest body more
+      → Body version s (place + 5) body entries (Whole t)
+      → Batches version t (place + 5 + length body) more others outcome
+      → Batches version s place bytes (entries ++ others) outcome
 
 -- ---- two slots
 
@@ -78,9 +86,13 @@ IsFirstFault Second slots = (place : ℕ) → head_of slots.first ≢ Faulty pla
 -- The entries, up to the closed gate or the first damaged place. Without a live slot the journal is new, and has none.
 pub data Reads : Slots → List Placed → Option (Slot × ℕ) → Type 0 where
   new : {slots : Slots} → head_of slots.first ≡ Dead → head_of slots.second ≡ Dead → Reads slots [] None
-  faulty : {slots : Slots} (slot : Slot) (place : ℕ) → head_of (slot_of slot slots) ≡ Faulty place → IsFirstFault slot slots → Reads slots [] (Some (slot, place))
-  counts : {slots : Slots} {entries : List Placed} (slot : Slot) (version generation : ℕ) (outcome : Outcome) → head_of (slot_of slot slots) ≡ Live version generation → Beats slot generation (head_of (slot_of (other slot) slots))
-      → Batches version beginning 10 (drop 10 (slot_of slot slots)) entries outcome → Reads slots entries (place_of slot outcome)
+  faulty : {slots : Slots} (slot : Slot) (place : ℕ) → head_of (slot_of slot slots) ≡ Faulty place
+      → IsFirstFault slot slots → Reads slots [] (Some (slot, place))
+  counts : {slots : Slots} {entries : List Placed} (slot : Slot) (version generation : ℕ) (outcome : Outcome)
+      → head_of (slot_of slot slots) ≡ Live version generation
+      → Beats slot generation (head_of (slot_of (other slot) slots))
+      → Batches version beginning 10 (drop 10 (slot_of slot slots)) entries outcome
+      → Reads slots entries (place_of slot outcome)
 
 abbrev pub entries_of : List Placed → List Entry
 entries_of placed = map (λ p. p.1) placed

@@ -1,8 +1,9 @@
 -- What a look at the slots finds: the bodies of the live slot's batches.
 
-use Rattle.std.specs.Prelude.{◌≡◌, ◌≢◌, ℕ, ◌^◌, ◌≤◌, ◌⊎◌, Option, Some, None, List, [], ◌∷◌, ◌++◌, length, drop}
+use Rattle.std.specs.Prelude.{◌≡◌, ◌≢◌, ℕ, ◌^◌, ◌≤◌, ◌⊎◌, Some, None, List, [], ◌∷◌, ◌++◌, length, drop}
 use Rattle.std.specs.List.{AllByRecursion, flat_map}
 use Rattle.outside.specs.Calls.{Certain}
+use Rattle.outside.specs.Sites.{SiteState}
 use Rattle.outside.specs.Holding.{Held, slot_of}
 use Rattle.commit_journal.specs.declared.looked.Looked.{Looked}
 use Rattle.commit_journal.specs.declared.looked.Looked.TheVariants.{Live, Blank, Damaged}
@@ -32,13 +33,15 @@ pub record BeginsWith (bytes : List ℕ) (bodies : List (List ℕ)) : Type 0 whe
 -- written; or the first place that doesn't read.
 abbrev pub SlotsShow : Held → Held → Looked → Type 0
 SlotsShow o now (Live journal bodies) =
-    (placed : List Placed) × Reads o.slots placed None × AtRest journal now.slots (entries_of placed) [] × HasBodies (slot_of journal.slot now.slots) bodies.items
+    (placed : List Placed) × Reads o.slots placed None × AtRest journal now.slots (entries_of placed) []
+    × HasBodies (slot_of journal.slot now.slots) bodies.items
 SlotsShow o now Blank = (now ≡ o) × IsBlank now.slots
 SlotsShow o now (Damaged slot place) = (placed : List Placed) × Reads o.slots placed (Some (slot, place))
 
 -- what was found, over a certain disk
-pub record LooksAt {D : Type 0} (held : D → Option Held) (moment : D → ℕ) (possible : D → ℕ → Held → Type 0) (d : D) (o : Held) (r : Looked) : Type 0 where
+pub record LooksAt {D : Type 0} (state : D → SiteState) (possible : D → ℕ → Held → Type 0) (d : D) (o : Held)
+    (r : Looked) : Type 0 where
   pub now : Held
-  pub certain : Certain held moment possible d now
+  pub certain : Certain state possible d now
   pub beside : now.history ≡ o.history
   pub shows : SlotsShow o now r

@@ -4,6 +4,7 @@ use Rattle.std.specs.Prelude.{◌≡◌, ◌≤◌, ℕ, List, length, Option, N
 use Rattle.outside.specs.declared.disk.Slot.{Slot}
 use Rattle.outside.specs.Holding.{Slots, Held}
 use Rattle.outside.specs.Calls.{Certain}
+use Rattle.outside.specs.Sites.{SiteState}
 use Rattle.commit_journal.specs.declared.head.Head.{Head}
 use Rattle.commit_journal.specs.declared.head.Survey.{Survey}
 use Rattle.commit_journal.specs.declared.head.Head.TheVariants.{Dead, Faulty, Live}
@@ -19,12 +20,14 @@ pub record Finds (slots : Slots) (found : Opened) : Type 0 where
 -- what the slots said they say still; the rest stays
 pub record Keeps (o p : Held) : Type 0 where
   pub beside : p.history ≡ o.history
-  pub reads : (entries : List Placed) (damaged : Option (Slot × ℕ)) → Reads o.slots entries damaged → Reads p.slots entries damaged
+  pub reads : (entries : List Placed) (damaged : Option (Slot × ℕ)) → Reads o.slots entries damaged
+      → Reads p.slots entries damaged
 
 -- An opened journal has what the slots said. Where no place is damaged it is at rest over a certain disk.
-pub record Opens {D : Type 0} (held : D → Option Held) (moment : D → ℕ) (possible : D → ℕ → Held → Type 0) (d : D) (o : Held) (r : Opened) : Type 0 where
+pub record Opens {D : Type 0} (state : D → SiteState) (possible : D → ℕ → Held → Type 0) (d : D) (o : Held)
+    (r : Opened) : Type 0 where
   pub now : Held
-  pub certain : Certain held moment possible d now
+  pub certain : Certain state possible d now
   pub beside : now.history ≡ o.history
   pub reads : Reads o.slots r.entries.items r.damaged
   pub rests : r.damaged ≡ None → AtRest r.journal now.slots (entries_of r.entries.items) []
@@ -47,8 +50,9 @@ pub record IsBlank (slots : Slots) : Type 0 where
   pub have : HaveBytes slots
 
 -- these are the heads and the lengths of the slots, of a certain disk
-pub record Surveyed {D : Type 0} (held : D → Option Held) (moment : D → ℕ) (possible : D → ℕ → Held → Type 0) (d : D) (o : Held) (s : Survey) : Type 0 where
-  pub certain : Certain held moment possible d o
+pub record Surveyed {D : Type 0} (state : D → SiteState) (possible : D → ℕ → Held → Type 0) (d : D) (o : Held)
+    (s : Survey) : Type 0 where
+  pub certain : Certain state possible d o
   pub first_len : length o.slots.first ≡ s.first_len
   pub first : head_of o.slots.first ≡ s.first
   pub second_len : length o.slots.second ≡ s.second_len

@@ -1,9 +1,10 @@
 -- A journal at rest over its slots.
 
-use Rattle.std.specs.Prelude.{◌≡◌, ◌≢◌, ℕ, ◌+◌, ◌^◌, ◌<◌, ◌≤◌, ◌⊎◌, Option, List, ◌∷◌, ◌++◌, length, drop, vec_capacity}
+use Rattle.std.specs.Prelude.{◌≡◌, ◌≢◌, ℕ, ◌+◌, ◌^◌, ◌<◌, ◌≤◌, ◌⊎◌, List, ◌∷◌, ◌++◌, length, drop, vec_capacity}
 use Rattle.std.specs.List.{flat_map}
 use Rattle.outside.specs.Holding.{Slots, Held, slot_of, other}
 use Rattle.outside.specs.Calls.{Certain}
+use Rattle.outside.specs.Sites.{SiteState}
 use Rattle.journal_entries.specs.declared.entry.Entry.{Entry}
 use Rattle.journal_entries.specs.declared.standing.Standing.{Standing}
 use Rattle.journal_entries.specs.declared.standing.Ending.TheVariants.{Whole}
@@ -16,14 +17,17 @@ use Rattle.commit_journal.specs.Layout.{Placed, entries_of, head_of, Outcome, Ba
 -- These bytes are a slot up to a gate: whatever batches follow, behind their entries come those.
 pub record IsFront (version generation : ℕ) (front : List ℕ) (placed : List Placed) (s : Standing) : Type 0 where
   pub head : (rest : List ℕ) → 1 ≤ length rest → head_of (front ++ rest) ≡ Live version generation
-  pub onward : (rest : List ℕ) (more : List Placed) (outcome : Outcome) → Batches version s (length front) rest more outcome → Batches version beginning 10 (drop 10 (front ++ rest)) (placed ++ more) outcome
+  pub onward : (rest : List ℕ) (more : List Placed) (outcome : Outcome)
+      → Batches version s (length front) rest more outcome
+      → Batches version beginning 10 (drop 10 (front ++ rest)) (placed ++ more) outcome
 
 -- These bytes are the entries of a body that begins at this place, or its front: whatever entries follow.
-pub record IsBodyFront (version : ℕ) (s : Standing) (place : ℕ) (bytes : List ℕ) (placed : List Placed) (t : Standing) : Type 0 where
+pub record IsBodyFront (version : ℕ) (s : Standing) (place : ℕ) (bytes : List ℕ) (placed : List Placed) (t : Standing)
+    : Type 0 where
   pub whole : Body version s place bytes placed (Whole t)
 
--- The slot is whole batches and a closed gate, whatever stands behind it; the other slot isn't live. The journal knows the
--- place of the gate, and has the tail.
+-- The slot is whole batches and a closed gate, whatever stands behind it; the other slot isn't live. The journal
+-- knows the place of the gate, and has the tail.
 pub record AtRest (j : Journal) (slots : Slots) (flushed tail : List Entry) : Type 0 where
   pub front : List ℕ
   pub gate : ℕ
@@ -51,7 +55,8 @@ pub record HasRoom (j : Journal) (bytes : ℕ) : Type 0 where
 
 -- so many bytes more are too many: the batch's body would pass 2^24 bytes, or the slot 2^30
 abbrev pub IsPastLimit : Journal → ℕ → Type 0
-IsPastLimit j bytes = (2 ^ 24 + 4 < length j.staged.items + bytes) ⊎ (2 ^ 30 < j.gate + (length j.staged.items + bytes) + 2)
+IsPastLimit j bytes =
+    (2 ^ 24 + 4 < length j.staged.items + bytes) ⊎ (2 ^ 30 < j.gate + (length j.staged.items + bytes) + 2)
 
 -- the live slot, its version, its generation and the place of its gate stay
 pub record IsSameSlot (old new : Journal) : Type 0 where
@@ -72,8 +77,9 @@ pub record MidFlush (o : Held) (flushed tail : List Entry) (p : Held) : Type 0 w
   pub gives : Gives p.slots flushed ⊎ Gives p.slots (flushed ++ tail)
 
 -- a journal at rest over a certain disk
-pub record Rested {D : Type 0} (held : D → Option Held) (moment : D → ℕ) (possible : D → ℕ → Held → Type 0) (d : D) (j : Journal) (o : Held) (entries tail : List Entry) : Type 0 where
+pub record Rested {D : Type 0} (state : D → SiteState) (possible : D → ℕ → Held → Type 0) (d : D) (j : Journal)
+    (o : Held) (entries tail : List Entry) : Type 0 where
   pub now : Held
-  pub certain : Certain held moment possible d now
+  pub certain : Certain state possible d now
   pub beside : now.history ≡ o.history
   pub rest : AtRest j now.slots entries tail

@@ -1,11 +1,12 @@
 -- What moving on to the other slot leaves.
 
-use Rattle.std.specs.Prelude.{◌≡◌, ◌≢◌, ℕ, ◌-◌, ◌^◌, ◌<◌, ◌≤◌, ◌⊎◌, Option, List, [], ◌∷◌, ◌++◌, length, slice_index}
+use Rattle.std.specs.Prelude.{◌≡◌, ◌≢◌, ℕ, ◌-◌, ◌^◌, ◌<◌, ◌≤◌, ◌⊎◌, List, [], ◌∷◌, ◌++◌, length, slice_index}
 use Rattle.std.specs.List.{flat_map}
 use Rattle.std.specs.Int.{w32, w64, to_be_bytes}
 use Rattle.outside.specs.declared.disk.Slot.{Slot}
 use Rattle.outside.specs.Holding.{Held, slot_of, other}
 use Rattle.outside.specs.Calls.{Certain}
+use Rattle.outside.specs.Sites.{SiteState}
 use Rattle.journal_entries.specs.declared.entry.Entry.{Entry}
 use Rattle.journal_entries.specs.Spelling.{entry_bytes}
 use Rattle.commit_journal.specs.declared.journal.Journal.{Journal}
@@ -17,30 +18,38 @@ pub record Filling (slot : Slot) (o p : Held) : Type 0 where
   pub other_same : slot_of (other slot) p.slots ≡ slot_of (other slot) o.slots
   pub first_same : slice_index (slot_of slot p.slots) 0 ≡ slice_index (slot_of slot o.slots) 0
 
-pub record Filled {D : Type 0} (held : D → Option Held) (moment : D → ℕ) (possible : D → ℕ → Held → Type 0) (d : D) (slot : Slot) (bytes : List ℕ) (o : Held) : Type 0 where
+pub record Filled {D : Type 0} (state : D → SiteState) (possible : D → ℕ → Held → Type 0) (d : D) (slot : Slot)
+    (bytes : List ℕ) (o : Held) : Type 0 where
   pub now : Held
-  pub certain : Certain held moment possible d now
+  pub certain : Certain state possible d now
   pub beside : now.history ≡ o.history
   pub other_same : slot_of (other slot) now.slots ≡ slot_of (other slot) o.slots
   pub there : slot_of slot now.slots ≡ slice_index (slot_of slot o.slots) 0 ∷ bytes
 
+-- the slot is as it was
+abbrev pub IsAsBefore : Slot → Held → Held → Type 0
+IsAsBefore slot o p = slot_of slot p.slots ≡ slot_of slot o.slots
+
 -- The new slot isn't live and the old one is as it was; or the new one is whole, and the old one as it was or not live.
 pub record MidTurn (target : Slot) (bytes : List ℕ) (o p : Held) : Type 0 where
   pub beside : p.history ≡ o.history
-  pub there : ((slice_index (slot_of target p.slots) 0 ≢ 1) × (slot_of (other target) p.slots ≡ slot_of (other target) o.slots))
-      ⊎ ((slot_of target p.slots ≡ 1 ∷ bytes) × ((slot_of (other target) p.slots ≡ slot_of (other target) o.slots) ⊎ (slice_index (slot_of (other target) p.slots) 0 ≢ 1)))
+  pub there : ((slice_index (slot_of target p.slots) 0 ≢ 1) × IsAsBefore (other target) o p)
+      ⊎ ((slot_of target p.slots ≡ 1 ∷ bytes)
+      × (IsAsBefore (other target) o p ⊎ (slice_index (slot_of (other target) p.slots) 0 ≢ 1)))
 
 -- the slot is live with these bytes, and the other one is as it was
-pub record HasBegun {D : Type 0} (held : D → Option Held) (moment : D → ℕ) (possible : D → ℕ → Held → Type 0) (d : D) (slot : Slot) (bytes : List ℕ) (o : Held) : Type 0 where
+pub record HasBegun {D : Type 0} (state : D → SiteState) (possible : D → ℕ → Held → Type 0) (d : D) (slot : Slot)
+    (bytes : List ℕ) (o : Held) : Type 0 where
   pub now : Held
-  pub certain : Certain held moment possible d now
+  pub certain : Certain state possible d now
   pub beside : now.history ≡ o.history
   pub other_same : slot_of (other slot) now.slots ≡ slot_of (other slot) o.slots
   pub there : slot_of slot now.slots ≡ 1 ∷ bytes
 
-pub record Turned {D : Type 0} (held : D → Option Held) (moment : D → ℕ) (possible : D → ℕ → Held → Type 0) (d : D) (target : Slot) (bytes : List ℕ) (o : Held) : Type 0 where
+pub record Turned {D : Type 0} (state : D → SiteState) (possible : D → ℕ → Held → Type 0) (d : D) (target : Slot)
+    (bytes : List ℕ) (o : Held) : Type 0 where
   pub now : Held
-  pub certain : Certain held moment possible d now
+  pub certain : Certain state possible d now
   pub beside : now.history ≡ o.history
   pub there : slot_of target now.slots ≡ 1 ∷ bytes
   pub old : (rest : List ℕ) × (slot_of (other target) now.slots ≡ 0 ∷ rest)

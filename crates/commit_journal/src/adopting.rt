@@ -10,6 +10,7 @@ ghost use Rattle.journal_entries.specs.Bodies.{Body, beginning};
 ghost use Rattle.commit_journal.specs.Layout.{Placed, entries_of};
 ghost use Rattle.commit_journal.specs.Opening.{IsBlank};
 ghost use Rattle.commit_journal.specs.Resting.{AtRest, Rested};
+ghost use Rattle.commit_journal.specs.Scanning.{IsWholeBody};
 ghost use Rattle.commit_journal.specs.Turning.{MidRotation, slot_bytes};
 ghost use Rattle.commit_journal.specs.Causes.{RotateHasCause};
 ghost use Rattle.commit_journal.specs.declared.fault.RotateError.TheVariants.{Limit};
@@ -46,8 +47,9 @@ pub(crate) fn standing_behind(
     body: &[u8],
 ) -> Result<Standing, AllocError>
     requires small { place + length body.now < 2 ^ 64 }
-    requires reads { (placed : List Placed) × (t : OneStanding) × Body version standing place body.now placed (Whole t) }
-    ensures { IfOk result (λ s. (placed : List Placed) (t : OneStanding) → Body version standing place body.now placed (Whole t) → s ≡ t) }
+    requires reads { IsWholeBody version standing place body.now }
+    ensures { IfOk result (λ s. (placed : List Placed) (t : OneStanding)
+        → Body version standing place body.now placed (Whole t) → s ≡ t) }
 {
     let mut scratch = Vec::new(alloc);
     match read_body(alloc, version, standing, place, body, &mut scratch)? {
@@ -66,15 +68,18 @@ impl Journal {
         generation: u64,
         body: &[u8],
     ) -> Result<(), RotateError>
-        requires reads { (placed : List Placed) × (t : OneStanding) × Body 2 beginning 15 body.now placed (Whole t) }
-        ensures crash { (o : Held) (flushed : List OneEntry) (placed : List Placed) (t : OneStanding) → Certain D.held D.moment D.possible d.old o → AtRest self.old o.slots flushed [] → self.old.generation < generation →
-            Body 2 beginning 15 body.now placed (Whole t) → Leaves D.moment D.possible d.old d.new (MidRotation o flushed (entries_of placed)) }
-        ensures moved { OnOk result ((o : Held) (flushed : List OneEntry) (placed : List Placed) (t : OneStanding) → Certain D.held D.moment D.possible d.old o → AtRest self.old o.slots flushed [] → self.old.generation < generation →
-            Body 2 beginning 15 body.now placed (Whole t) → Rested D.held D.moment D.possible d.new self.new o (entries_of placed) []) }
+        requires reads { IsWholeBody 2 beginning 15 body.now }
+        ensures crash { (o : Held) (flushed : List OneEntry) (placed : List Placed) (t : OneStanding)
+            → Certain D.state D.possible d.old o → AtRest self.old o.slots flushed []
+            → self.old.generation < generation → Body 2 beginning 15 body.now placed (Whole t)
+            → Leaves D.state D.possible d.old d.new (MidRotation o flushed (entries_of placed)) }
+        ensures moved { OnOk result ((o : Held) (flushed : List OneEntry) (placed : List Placed) (t : OneStanding)
+            → Certain D.state D.possible d.old o → AtRest self.old o.slots flushed []
+            → self.old.generation < generation → Body 2 beginning 15 body.now placed (Whole t)
+            → Rested D.state D.possible d.new self.new o (entries_of placed) []) }
         ensures generation { OnOk result (self.new.generation ≡ generation) }
         ensures limit { (result ≡ Err Limit) ↔ (2 ^ 24 < length body.now) }
-        ensures shares { D.shared d.new ≡ D.shared d.old }
-        ensures cause { RotateHasCause (D.disk_faults d.old) (D.disk_faults d.new) result }
+        ensures cause { RotateHasCause (D.state d.old) (D.state d.new) result }
     {
         if body.len() > 16_777_216 {
             return Err(RotateError::Limit);
@@ -85,8 +90,8 @@ impl Journal {
         Ok(())
     }
 
-    /// A journal where no slot is live: fills slot 0 with this body as its only batch, and opens it. The body reads as a
-    /// slot's first batch. The other slot isn't written.
+    /// A journal where no slot is live: fills slot 0 with this body as its only batch, and opens it. The body reads as
+    /// a slot's first batch. The other slot isn't written.
     ///
     /// `Limit` exactly where the body is longer than 2^24 bytes. `Memory` for want of memory. In both the disk isn't
     /// called.
@@ -96,15 +101,16 @@ impl Journal {
         generation: u64,
         body: &[u8],
     ) -> Result<Journal, RotateError>
-        requires reads { (placed : List Placed) × (t : OneStanding) × Body 2 beginning 15 body.now placed (Whole t) }
-        ensures crash { (o : Held) (placed : List Placed) (t : OneStanding) → Certain D.held D.moment D.possible d.old o → IsBlank o.slots →
-            Body 2 beginning 15 body.now placed (Whole t) → Leaves D.moment D.possible d.old d.new (MidRotation o [] (entries_of placed)) }
-        ensures made { IfOk result (λ journal. (o : Held) (placed : List Placed) (t : OneStanding) → Certain D.held D.moment D.possible d.old o → IsBlank o.slots →
-            Body 2 beginning 15 body.now placed (Whole t) → Rested D.held D.moment D.possible d.new journal o (entries_of placed) []) }
+        requires reads { IsWholeBody 2 beginning 15 body.now }
+        ensures crash { (o : Held) (placed : List Placed) (t : OneStanding) → Certain D.state D.possible d.old o
+            → IsBlank o.slots → Body 2 beginning 15 body.now placed (Whole t)
+            → Leaves D.state D.possible d.old d.new (MidRotation o [] (entries_of placed)) }
+        ensures made { IfOk result (λ journal. (o : Held) (placed : List Placed) (t : OneStanding)
+            → Certain D.state D.possible d.old o → IsBlank o.slots → Body 2 beginning 15 body.now placed (Whole t)
+            → Rested D.state D.possible d.new journal o (entries_of placed) []) }
         ensures generation { IfOk result (λ journal. journal.generation ≡ generation) }
         ensures limit { (result ≡ Err Limit) ↔ (2 ^ 24 < length body.now) }
-        ensures shares { D.shared d.new ≡ D.shared d.old }
-        ensures cause { RotateHasCause (D.disk_faults d.old) (D.disk_faults d.new) result }
+        ensures cause { RotateHasCause (D.state d.old) (D.state d.new) result }
     {
         if body.len() > 16_777_216 {
             return Err(RotateError::Limit);
@@ -127,8 +133,9 @@ impl Journal {
     /// Whether the body reads behind the entries so far, or as a slot's first batch. The tail is empty.
     pub fn readable(&self, alloc: Global, body: &[u8], first: bool) -> Result<bool, AllocError>
         requires { self.now.gate + 5 + length body.now < 2 ^ 64 }
-        ensures first { first ≡ true → IfOk result (λ b. IsTrue b ↔ ((placed : List Placed) × (t : OneStanding) × Body 2 beginning 15 body.now placed (Whole t))) }
-        ensures behind { first ≡ false → IfOk result (λ b. IsTrue b ↔ ((placed : List Placed) × (t : OneStanding) × Body self.now.version self.now.standing (self.now.gate + 5) body.now placed (Whole t))) }
+        ensures first { first ≡ true → IfOk result (λ b. IsTrue b ↔ IsWholeBody 2 beginning 15 body.now) }
+        ensures behind { first ≡ false → IfOk result
+            (λ b. IsTrue b ↔ IsWholeBody self.now.version self.now.standing (self.now.gate + 5) body.now) }
     {
         if first {
             return reads_first(alloc, body);
@@ -141,7 +148,7 @@ impl Journal {
 ///
 /// It fails for want of memory alone.
 pub fn reads_first(alloc: Global, body: &[u8]) -> Result<bool, AllocError>
-    ensures { IfOk result (λ b. IsTrue b ↔ ((placed : List Placed) × (t : OneStanding) × Body 2 beginning 15 body.now placed (Whole t))) }
+    ensures { IfOk result (λ b. IsTrue b ↔ IsWholeBody 2 beginning 15 body.now) }
 {
     reads_whole(alloc, 2, Standing::beginning(), 15, body)
 }
@@ -155,7 +162,7 @@ fn reads_whole(
     body: &[u8],
 ) -> Result<bool, AllocError>
     requires { place + length body.now < 2 ^ 64 }
-    ensures { IfOk result (λ b. IsTrue b ↔ ((placed : List Placed) × (t : OneStanding) × Body version standing place body.now placed (Whole t))) }
+    ensures { IfOk result (λ b. IsTrue b ↔ IsWholeBody version standing place body.now) }
 {
     let mut scratch = Vec::new(alloc);
     match read_body(alloc, version, standing, place, body, &mut scratch)? {

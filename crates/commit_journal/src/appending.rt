@@ -9,6 +9,7 @@ ghost use Rattle.journal_entries.specs.declared.standing.Ending.TheVariants.{Who
 ghost use Rattle.journal_entries.specs.Bodies.{Body};
 ghost use Rattle.commit_journal.specs.Layout.{Placed, entries_of};
 ghost use Rattle.commit_journal.specs.Resting.{AtRest, IsPastLimit, MidFlush, Rested};
+ghost use Rattle.commit_journal.specs.Scanning.{IsWholeBody};
 ghost use Rattle.commit_journal.specs.Causes.{RotateHasCause};
 ghost use Rattle.commit_journal.specs.declared.fault.RotateError.TheVariants.{Limit};
 
@@ -31,14 +32,17 @@ impl Journal {
         d: &mut D,
         body: &[u8],
     ) -> Result<(), RotateError>
-        requires reads { (placed : List Placed) × (t : OneStanding) × Body self.old.version self.old.standing (self.old.gate + 5) body.now placed (Whole t) }
-        ensures crash { (o : Held) (flushed : List OneEntry) (placed : List Placed) (t : OneStanding) → Certain D.held D.moment D.possible d.old o → AtRest self.old o.slots flushed [] →
-            Body self.old.version self.old.standing (self.old.gate + 5) body.now placed (Whole t) → Leaves D.moment D.possible d.old d.new (MidFlush o flushed (entries_of placed)) }
-        ensures appended { OnOk result ((o : Held) (flushed : List OneEntry) (placed : List Placed) (t : OneStanding) → Certain D.held D.moment D.possible d.old o → AtRest self.old o.slots flushed [] →
-            Body self.old.version self.old.standing (self.old.gate + 5) body.now placed (Whole t) → Rested D.held D.moment D.possible d.new self.new o (flushed ++ entries_of placed) []) }
+        requires reads { IsWholeBody self.old.version self.old.standing (self.old.gate + 5) body.now }
+        ensures crash { (o : Held) (flushed : List OneEntry) (placed : List Placed) (t : OneStanding)
+            → Certain D.state D.possible d.old o → AtRest self.old o.slots flushed []
+            → Body self.old.version self.old.standing (self.old.gate + 5) body.now placed (Whole t)
+            → Leaves D.state D.possible d.old d.new (MidFlush o flushed (entries_of placed)) }
+        ensures appended { OnOk result ((o : Held) (flushed : List OneEntry) (placed : List Placed) (t : OneStanding)
+            → Certain D.state D.possible d.old o → AtRest self.old o.slots flushed []
+            → Body self.old.version self.old.standing (self.old.gate + 5) body.now placed (Whole t)
+            → Rested D.state D.possible d.new self.new o (flushed ++ entries_of placed) []) }
         ensures limit { (result ≡ Err Limit) ↔ IsPastLimit self.old (length body.now) }
-        ensures shares { D.shared d.new ≡ D.shared d.old }
-        ensures cause { RotateHasCause (D.disk_faults d.old) (D.disk_faults d.new) result }
+        ensures cause { RotateHasCause (D.state d.old) (D.state d.new) result }
     {
         self.reserve(body.len())?;
         let standing = standing_behind(alloc, self.version, self.standing, self.gate + 5, body)?;

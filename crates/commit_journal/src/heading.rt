@@ -53,11 +53,11 @@ pub(crate) fn head_at<D: Disk>(
     slot: Slot,
     len: u64,
 ) -> Result<Head, OpenError>
-    ensures head { IfOk result (λ head. (o : Held) → Certain D.held D.moment D.possible d.old o → length (slot_of slot o.slots) ≡ len → head ≡ head_of (slot_of slot o.slots)) }
+    ensures head { IfOk result (λ head. (o : Held) → Certain D.state D.possible d.old o
+        → length (slot_of slot o.slots) ≡ len → head ≡ head_of (slot_of slot o.slots)) }
     ensures fits { IfOk result (λ head. HeadFits len head) }
-    ensures rests { Rests D.held D.moment D.possible d.old d.new }
-    ensures shares { D.shared d.new ≡ D.shared d.old }
-    ensures cause { OpenHasCause (D.disk_faults d.old) (D.disk_faults d.new) result }
+    ensures rests { Rests D.state D.possible d.old d.new }
+    ensures cause { OpenHasCause (D.state d.old) (D.state d.new) result }
 {
     let front = read_bytes(alloc, d, slot, 0, len.min(11) as usize)?;
     Ok(head_in(&front))
@@ -65,12 +65,12 @@ pub(crate) fn head_at<D: Disk>(
 
 /// Makes both slots certain, and reads their heads.
 pub(crate) fn survey<D: Disk>(alloc: Global, d: &mut D) -> Result<Survey, OpenError>
-    ensures crash { (o : Held) → Certain D.held D.moment D.possible d.old o → Leaves D.moment D.possible d.old d.new (Keeps o) }
-    ensures found { IfOk result (λ s. (o : Held) → D.held d.old ≡ Some o → Surveyed D.held D.moment D.possible d.new o s) }
+    ensures crash { (o : Held) → Certain D.state D.possible d.old o → Leaves D.state D.possible d.old d.new (Keeps o) }
+    ensures found { IfOk result (λ s. (o : Held) → (D.state d.old).held ≡ Some o
+        → Surveyed D.state D.possible d.new o s) }
     ensures first { IfOk result (λ s. HeadFits s.first_len s.first) }
     ensures second { IfOk result (λ s. HeadFits s.second_len s.second) }
-    ensures shares { D.shared d.new ≡ D.shared d.old }
-    ensures cause { OpenHasCause (D.disk_faults d.old) (D.disk_faults d.new) result }
+    ensures cause { OpenHasCause (D.state d.old) (D.state d.new) result }
 {
     settle(d)?;
     let first_len = slot_length(d, Slot::First)?;

@@ -12,20 +12,25 @@ ghost use Rattle.commit_journal.specs.Resting.{AtRest};
 
 /// The batches of a slot say one thing.
 pub fn one_reading()
-    ensures { (version : ℕ) (s : Standing) (place : ℕ) (bytes : List ℕ) (entries others : List Placed) (outcome another : Outcome) → Batches version s place bytes entries outcome → Batches version s place bytes others another → (entries ≡ others) × (outcome ≡ another) }
+    ensures { (version : ℕ) (s : Standing) (place : ℕ) (bytes : List ℕ) (entries others : List Placed)
+        (outcome another : Outcome) → Batches version s place bytes entries outcome
+        → Batches version s place bytes others another → (entries ≡ others) × (outcome ≡ another) }
 {}
 
 /// Of a journal at rest the slots give what is flushed.
 pub fn rest_law()
-    ensures { (j : Journal) (slots : Slots) (flushed tail : List Entry) → AtRest j slots flushed tail → Gives slots flushed }
+    ensures { (j : Journal) (slots : Slots) (flushed tail : List Entry) → AtRest j slots flushed tail
+        → Gives slots flushed }
 {}
 
 /// A journal at rest stands behind its entries, flushed or not.
 pub fn standing_law()
-    ensures { (j : Journal) (slots : Slots) (flushed tail : List Entry) → AtRest j slots flushed tail → j.standing ≡ behind_all beginning (flushed ++ tail) }
+    ensures { (j : Journal) (slots : Slots) (flushed tail : List Entry) → AtRest j slots flushed tail
+        → j.standing ≡ behind_all beginning (flushed ++ tail) }
 {}
 
 /// Two slots say one thing.
 pub fn one_journal()
-    ensures { (slots : Slots) (entries others : List Placed) (damaged another : Option (Slot × ℕ)) → Reads slots entries damaged → Reads slots others another → (entries ≡ others) × (damaged ≡ another) }
+    ensures { (slots : Slots) (entries others : List Placed) (damaged another : Option (Slot × ℕ))
+        → Reads slots entries damaged → Reads slots others another → (entries ≡ others) × (damaged ≡ another) }
 {}

@@ -23,10 +23,10 @@ use tier_base::Seq;
 
 /// The bodies of the whole batches that stand in a live slot, one behind the other.
 fn read_bodies<D: Disk>(alloc: Global, d: &mut D, slot: Slot) -> Result<Vec<Bytes>, OpenError>
-    ensures bodies { IfOk result (λ bodies. (o : Held) → Certain D.held D.moment D.possible d.old o → 11 ≤ length (slot_of slot o.slots) → BeginsWith (slot_of slot o.slots) bodies.items) }
-    ensures rests { Rests D.held D.moment D.possible d.old d.new }
-    ensures shares { D.shared d.new ≡ D.shared d.old }
-    ensures cause { OpenHasCause (D.disk_faults d.old) (D.disk_faults d.new) result }
+    ensures bodies { IfOk result (λ bodies. (o : Held) → Certain D.state D.possible d.old o
+        → 11 ≤ length (slot_of slot o.slots) → BeginsWith (slot_of slot o.slots) bodies.items) }
+    ensures rests { Rests D.state D.possible d.old d.new }
+    ensures cause { OpenHasCause (D.state d.old) (D.state d.new) result }
 {
     let len = slot_length(d, slot)?;
     let mut bodies = Vec::new(alloc);
@@ -46,11 +46,12 @@ fn read_bodies<D: Disk>(alloc: Global, d: &mut D, slot: Slot) -> Result<Vec<Byte
 
 /// Reads the bodies of the journal that was opened.
 fn with_bodies<D: Disk>(alloc: Global, d: &mut D, opened: Opened) -> Result<Looked, OpenError>
-    ensures shows { IfOk result (λ r. (o now : Held) → Certain D.held D.moment D.possible d.old now → Reads o.slots opened.entries.items opened.damaged →
-        (opened.damaged ≡ None → AtRest opened.journal now.slots (entries_of opened.entries.items) []) → SlotsShow o now r) }
-    ensures rests { Rests D.held D.moment D.possible d.old d.new }
-    ensures shares { D.shared d.new ≡ D.shared d.old }
-    ensures cause { OpenHasCause (D.disk_faults d.old) (D.disk_faults d.new) result }
+    ensures shows { IfOk result (λ r. (o now : Held) → Certain D.state D.possible d.old now
+        → Reads o.slots opened.entries.items opened.damaged
+        → (opened.damaged ≡ None → AtRest opened.journal now.slots (entries_of opened.entries.items) [])
+        → SlotsShow o now r) }
+    ensures rests { Rests D.state D.possible d.old d.new }
+    ensures cause { OpenHasCause (D.state d.old) (D.state d.new) result }
 {
     let Opened {
         journal,
@@ -71,10 +72,11 @@ fn with_bodies<D: Disk>(alloc: Global, d: &mut D, opened: Opened) -> Result<Look
 ///
 /// `Disk` where a disk call failed, `Memory` for want of memory. After either the disk says what it said.
 pub fn look<D: Disk>(alloc: Global, d: &mut D) -> Result<Looked, OpenError>
-    ensures crash { (o : Held) → Certain D.held D.moment D.possible d.old o → HaveBytes o.slots → Leaves D.moment D.possible d.old d.new (Keeps o) }
-    ensures looked { IfOk result (λ r. (o : Held) → D.held d.old ≡ Some o → HaveBytes o.slots → LooksAt D.held D.moment D.possible d.new o r) }
-    ensures shares { D.shared d.new ≡ D.shared d.old }
-    ensures cause { OpenHasCause (D.disk_faults d.old) (D.disk_faults d.new) result }
+    ensures crash { (o : Held) → Certain D.state D.possible d.old o → HaveBytes o.slots
+        → Leaves D.state D.possible d.old d.new (Keeps o) }
+    ensures looked { IfOk result (λ r. (o : Held) → (D.state d.old).held ≡ Some o → HaveBytes o.slots
+        → LooksAt D.state D.possible d.new o r) }
+    ensures cause { OpenHasCause (D.state d.old) (D.state d.new) result }
 {
     let found = survey(alloc, d)?;
     if is_blank(found) {

@@ -42,11 +42,11 @@ fn open_live<D: Disk>(
     len: u64,
 ) -> Result<Opened, OpenError>
     requires { 11 ≤ len }
-    ensures found { IfOk result (λ r. (o : Held) → Certain D.held D.moment D.possible d.old o → length (slot_of slot o.slots) ≡ len → head_of (slot_of slot o.slots) ≡ Live version generation →
-        head_of (slot_of (other slot) o.slots) ≡ Dead → 1 ≤ length (slot_of (other slot) o.slots) → Finds o.slots r) }
-    ensures rests { Rests D.held D.moment D.possible d.old d.new }
-    ensures shares { D.shared d.new ≡ D.shared d.old }
-    ensures cause { OpenHasCause (D.disk_faults d.old) (D.disk_faults d.new) result }
+    ensures found { IfOk result (λ r. (o : Held) → Certain D.state D.possible d.old o
+        → length (slot_of slot o.slots) ≡ len → head_of (slot_of slot o.slots) ≡ Live version generation
+        → head_of (slot_of (other slot) o.slots) ≡ Dead → 1 ≤ length (slot_of (other slot) o.slots) → Finds o.slots r) }
+    ensures rests { Rests D.state D.possible d.old d.new }
+    ensures cause { OpenHasCause (D.state d.old) (D.state d.new) result }
 {
     let staged = Vec::from_elem(alloc, 0, 4)?;
     let mut staged = staged;
@@ -89,10 +89,11 @@ fn open_live<D: Disk>(
 
 /// Makes a journal where no slot is live.
 fn make<D: Disk>(alloc: Global, d: &mut D) -> Result<Opened, OpenError>
-    ensures crash { (o : Held) → Certain D.held D.moment D.possible d.old o → HaveBytes o.slots → head_of o.slots.first ≡ Dead → head_of o.slots.second ≡ Dead → Leaves D.moment D.possible d.old d.new (Keeps o) }
-    ensures made { IfOk result (λ r. (o : Held) → Certain D.held D.moment D.possible d.old o → HaveBytes o.slots → head_of o.slots.first ≡ Dead → head_of o.slots.second ≡ Dead → Opens D.held D.moment D.possible d.new o r) }
-    ensures shares { D.shared d.new ≡ D.shared d.old }
-    ensures cause { OpenHasCause (D.disk_faults d.old) (D.disk_faults d.new) result }
+    ensures crash { (o : Held) → Certain D.state D.possible d.old o → HaveBytes o.slots → head_of o.slots.first ≡ Dead
+        → head_of o.slots.second ≡ Dead → Leaves D.state D.possible d.old d.new (Keeps o) }
+    ensures made { IfOk result (λ r. (o : Held) → Certain D.state D.possible d.old o → HaveBytes o.slots
+        → head_of o.slots.first ≡ Dead → head_of o.slots.second ≡ Dead → Opens D.state D.possible d.new o r) }
+    ensures cause { OpenHasCause (D.state d.old) (D.state d.new) result }
 {
     let mut staged = Vec::from_elem(alloc, 0, 4)?;
     staged.reserve(1)?;
@@ -122,12 +123,14 @@ fn open_newer<D: Disk>(
     len: u64,
 ) -> Result<Opened, OpenError>
     requires { 11 ≤ len }
-    ensures crash { (o : Held) (w k : ℕ) → Certain D.held D.moment D.possible d.old o → head_of (slot_of slot o.slots) ≡ Live version generation → head_of (slot_of (other slot) o.slots) ≡ Live w k → Beats slot generation (Live w k) →
-        Leaves D.moment D.possible d.old d.new (Keeps o) }
-    ensures opened { IfOk result (λ r. (o : Held) (w k : ℕ) → Certain D.held D.moment D.possible d.old o → length (slot_of slot o.slots) ≡ len → head_of (slot_of slot o.slots) ≡ Live version generation → head_of (slot_of (other slot) o.slots) ≡ Live w k → Beats slot generation (Live w k) →
-        Opens D.held D.moment D.possible d.new o r) }
-    ensures shares { D.shared d.new ≡ D.shared d.old }
-    ensures cause { OpenHasCause (D.disk_faults d.old) (D.disk_faults d.new) result }
+    ensures crash { (o : Held) (w k : ℕ) → Certain D.state D.possible d.old o
+        → head_of (slot_of slot o.slots) ≡ Live version generation → head_of (slot_of (other slot) o.slots) ≡ Live w k
+        → Beats slot generation (Live w k) → Leaves D.state D.possible d.old d.new (Keeps o) }
+    ensures opened { IfOk result (λ r. (o : Held) (w k : ℕ) → Certain D.state D.possible d.old o
+        → length (slot_of slot o.slots) ≡ len → head_of (slot_of slot o.slots) ≡ Live version generation
+        → head_of (slot_of (other slot) o.slots) ≡ Live w k → Beats slot generation (Live w k)
+        → Opens D.state D.possible d.new o r) }
+    ensures cause { OpenHasCause (D.state d.old) (D.state d.new) result }
 {
     put(d, other_slot(slot), 0, &[0])?;
     let opened = open_live(alloc, d, slot, version, generation, len)?;
@@ -144,11 +147,12 @@ fn open_alone<D: Disk>(
     len: u64,
 ) -> Result<Opened, OpenError>
     requires { 11 ≤ len }
-    ensures crash { (o : Held) → Certain D.held D.moment D.possible d.old o → Leaves D.moment D.possible d.old d.new (Keeps o) }
-    ensures opened { IfOk result (λ r. (o : Held) → Certain D.held D.moment D.possible d.old o → length (slot_of slot o.slots) ≡ len → head_of (slot_of slot o.slots) ≡ Live version generation →
-        head_of (slot_of (other slot) o.slots) ≡ Dead → 1 ≤ length (slot_of (other slot) o.slots) → Opens D.held D.moment D.possible d.new o r) }
-    ensures shares { D.shared d.new ≡ D.shared d.old }
-    ensures cause { OpenHasCause (D.disk_faults d.old) (D.disk_faults d.new) result }
+    ensures crash { (o : Held) → Certain D.state D.possible d.old o → Leaves D.state D.possible d.old d.new (Keeps o) }
+    ensures opened { IfOk result (λ r. (o : Held) → Certain D.state D.possible d.old o
+        → length (slot_of slot o.slots) ≡ len → head_of (slot_of slot o.slots) ≡ Live version generation
+        → head_of (slot_of (other slot) o.slots) ≡ Dead → 1 ≤ length (slot_of (other slot) o.slots)
+        → Opens D.state D.possible d.new o r) }
+    ensures cause { OpenHasCause (D.state d.old) (D.state d.new) result }
 {
     let opened = open_live(alloc, d, slot, version, generation, len)?;
     Ok(opened)
@@ -184,10 +188,12 @@ fn open_second<D: Disk>(
     second_len: u64,
 ) -> Result<Opened, OpenError>
     requires { HeadFits second_len second }
-    ensures crash { (o : Held) → Certain D.held D.moment D.possible d.old o → HaveBytes o.slots → head_of o.slots.first ≡ Dead → head_of o.slots.second ≡ second → Leaves D.moment D.possible d.old d.new (Keeps o) }
-    ensures opened { IfOk result (λ r. (o : Held) → Certain D.held D.moment D.possible d.old o → HaveBytes o.slots → length o.slots.second ≡ second_len → head_of o.slots.first ≡ Dead → head_of o.slots.second ≡ second → Opens D.held D.moment D.possible d.new o r) }
-    ensures shares { D.shared d.new ≡ D.shared d.old }
-    ensures cause { OpenHasCause (D.disk_faults d.old) (D.disk_faults d.new) result }
+    ensures crash { (o : Held) → Certain D.state D.possible d.old o → HaveBytes o.slots → head_of o.slots.first ≡ Dead
+        → head_of o.slots.second ≡ second → Leaves D.state D.possible d.old d.new (Keeps o) }
+    ensures opened { IfOk result (λ r. (o : Held) → Certain D.state D.possible d.old o → HaveBytes o.slots
+        → length o.slots.second ≡ second_len → head_of o.slots.first ≡ Dead → head_of o.slots.second ≡ second
+        → Opens D.state D.possible d.new o r) }
+    ensures cause { OpenHasCause (D.state d.old) (D.state d.new) result }
 {
     match second {
         Head::Faulty(place) => {
@@ -217,10 +223,14 @@ fn open_first<D: Disk>(
 ) -> Result<Opened, OpenError>
     requires first { 11 ≤ first_len }
     requires second { HeadFits second_len second }
-    ensures crash { (o : Held) → Certain D.held D.moment D.possible d.old o → HaveBytes o.slots → head_of o.slots.first ≡ Live version generation → head_of o.slots.second ≡ second → Leaves D.moment D.possible d.old d.new (Keeps o) }
-    ensures opened { IfOk result (λ r. (o : Held) → Certain D.held D.moment D.possible d.old o → HaveBytes o.slots → length o.slots.first ≡ first_len → length o.slots.second ≡ second_len → head_of o.slots.first ≡ Live version generation → head_of o.slots.second ≡ second → Opens D.held D.moment D.possible d.new o r) }
-    ensures shares { D.shared d.new ≡ D.shared d.old }
-    ensures cause { OpenHasCause (D.disk_faults d.old) (D.disk_faults d.new) result }
+    ensures crash { (o : Held) → Certain D.state D.possible d.old o → HaveBytes o.slots
+        → head_of o.slots.first ≡ Live version generation → head_of o.slots.second ≡ second
+        → Leaves D.state D.possible d.old d.new (Keeps o) }
+    ensures opened { IfOk result (λ r. (o : Held) → Certain D.state D.possible d.old o → HaveBytes o.slots
+        → length o.slots.first ≡ first_len → length o.slots.second ≡ second_len
+        → head_of o.slots.first ≡ Live version generation → head_of o.slots.second ≡ second
+        → Opens D.state D.possible d.new o r) }
+    ensures cause { OpenHasCause (D.state d.old) (D.state d.new) result }
 {
     match second {
         Head::Faulty(place) => {
@@ -253,10 +263,13 @@ fn open_by<D: Disk>(
 ) -> Result<Opened, OpenError>
     requires first { HeadFits first_len first }
     requires second { HeadFits second_len second }
-    ensures crash { (o : Held) → Certain D.held D.moment D.possible d.old o → HaveBytes o.slots → head_of o.slots.first ≡ first → head_of o.slots.second ≡ second → Leaves D.moment D.possible d.old d.new (Keeps o) }
-    ensures opened { IfOk result (λ r. (o : Held) → Certain D.held D.moment D.possible d.old o → HaveBytes o.slots → length o.slots.first ≡ first_len → length o.slots.second ≡ second_len → head_of o.slots.first ≡ first → head_of o.slots.second ≡ second → Opens D.held D.moment D.possible d.new o r) }
-    ensures shares { D.shared d.new ≡ D.shared d.old }
-    ensures cause { OpenHasCause (D.disk_faults d.old) (D.disk_faults d.new) result }
+    ensures crash { (o : Held) → Certain D.state D.possible d.old o → HaveBytes o.slots
+        → head_of o.slots.first ≡ first → head_of o.slots.second ≡ second
+        → Leaves D.state D.possible d.old d.new (Keeps o) }
+    ensures opened { IfOk result (λ r. (o : Held) → Certain D.state D.possible d.old o → HaveBytes o.slots
+        → length o.slots.first ≡ first_len → length o.slots.second ≡ second_len → head_of o.slots.first ≡ first
+        → head_of o.slots.second ≡ second → Opens D.state D.possible d.new o r) }
+    ensures cause { OpenHasCause (D.state d.old) (D.state d.new) result }
 {
     match first {
         Head::Faulty(place) => {
@@ -278,10 +291,11 @@ pub(crate) fn open_surveyed<D: Disk>(
 ) -> Result<Opened, OpenError>
     requires first { HeadFits found.first_len found.first }
     requires second { HeadFits found.second_len found.second }
-    ensures crash { (o : Held) → Surveyed D.held D.moment D.possible d.old o found → HaveBytes o.slots → Leaves D.moment D.possible d.old d.new (Keeps o) }
-    ensures opened { IfOk result (λ r. (o : Held) → Surveyed D.held D.moment D.possible d.old o found → HaveBytes o.slots → Opens D.held D.moment D.possible d.new o r) }
-    ensures shares { D.shared d.new ≡ D.shared d.old }
-    ensures cause { OpenHasCause (D.disk_faults d.old) (D.disk_faults d.new) result }
+    ensures crash { (o : Held) → Surveyed D.state D.possible d.old o found → HaveBytes o.slots
+        → Leaves D.state D.possible d.old d.new (Keeps o) }
+    ensures opened { IfOk result (λ r. (o : Held) → Surveyed D.state D.possible d.old o found → HaveBytes o.slots
+        → Opens D.state D.possible d.new o r) }
+    ensures cause { OpenHasCause (D.state d.old) (D.state d.new) result }
 {
     let opened = open_by(
         alloc,
@@ -298,10 +312,11 @@ pub(crate) fn open_surveyed<D: Disk>(
 ///
 /// `Disk` where a disk call failed, `Memory` for want of memory. After either the disk says what it said.
 pub fn open<D: Disk>(alloc: Global, d: &mut D) -> Result<Opened, OpenError>
-    ensures crash { (o : Held) → Certain D.held D.moment D.possible d.old o → HaveBytes o.slots → Leaves D.moment D.possible d.old d.new (Keeps o) }
-    ensures opened { IfOk result (λ r. (o : Held) → D.held d.old ≡ Some o → HaveBytes o.slots → Opens D.held D.moment D.possible d.new o r) }
-    ensures shares { D.shared d.new ≡ D.shared d.old }
-    ensures cause { OpenHasCause (D.disk_faults d.old) (D.disk_faults d.new) result }
+    ensures crash { (o : Held) → Certain D.state D.possible d.old o → HaveBytes o.slots
+        → Leaves D.state D.possible d.old d.new (Keeps o) }
+    ensures opened { IfOk result (λ r. (o : Held) → (D.state d.old).held ≡ Some o → HaveBytes o.slots
+        → Opens D.state D.possible d.new o r) }
+    ensures cause { OpenHasCause (D.state d.old) (D.state d.new) result }
 {
     let found = survey(alloc, d)?;
     let opened = open_surveyed(alloc, d, found)?;

@@ -3,7 +3,7 @@
 ghost use Rattle.std.specs.Prelude.{◌≡◌, ◌↔◌, ◌+◌, ◌^◌, ◌<◌, ◌≤◌, ℕ, List, [], length, Err, IfOk, OnOk};
 ghost use Rattle.std.specs.List.{AllByRecursion, flat_map};
 ghost use Rattle.outside.specs.Calls.{Certain, Leaves};
-ghost use Rattle.outside.specs.Faults.{HasCause};
+ghost use Rattle.outside.specs.Faults.{DiskHasCause};
 ghost use Rattle.outside.specs.Holding.{Held};
 ghost use Rattle.journal_entries.specs.declared.entry.Entry.{Entry as OneEntry};
 ghost use Rattle.journal_entries.specs.declared.standing.Ending.TheVariants.{Whole};
@@ -36,8 +36,8 @@ fn spelled(alloc: Global, entries: &[Entry]) -> Result<Vec<u8>, AllocError>
 }
 
 impl Journal {
-    /// Moves on to the other slot, with these entries as its only batch, in version 2 and with the next generation. A mark
-    /// may be the first of them.
+    /// Moves on to the other slot, with these entries as its only batch, in version 2 and with the next generation. A
+    /// mark may be the first of them.
     ///
     /// `Limit` exactly where the entries take more than 2^24 bytes, or the generation is 2^64 - 1. `Memory` for want of
     /// memory. In both the disk isn't called.
@@ -49,13 +49,13 @@ impl Journal {
     ) -> Result<(), RotateError>
         requires entries { AllByRecursion (IsEntry 2) entries.now }
         requires order { AllFollow beginning entries.now }
-        ensures crash { (o : Held) (flushed tail : List OneEntry) → Certain D.held D.moment D.possible d.old o → AtRest self.old o.slots flushed tail →
-            Leaves D.moment D.possible d.old d.new (MidRotation o flushed entries.now) }
-        ensures moved { OnOk result ((o : Held) (flushed tail : List OneEntry) → Certain D.held D.moment D.possible d.old o → AtRest self.old o.slots flushed tail →
-            Rested D.held D.moment D.possible d.new self.new o entries.now []) }
+        ensures crash { (o : Held) (flushed tail : List OneEntry) → Certain D.state D.possible d.old o
+            → AtRest self.old o.slots flushed tail
+            → Leaves D.state D.possible d.old d.new (MidRotation o flushed entries.now) }
+        ensures moved { OnOk result ((o : Held) (flushed tail : List OneEntry) → Certain D.state D.possible d.old o
+            → AtRest self.old o.slots flushed tail → Rested D.state D.possible d.new self.new o entries.now []) }
         ensures limit { (result ≡ Err Limit) ↔ IsPastRotation self.old entries.now }
-        ensures shares { D.shared d.new ≡ D.shared d.old }
-        ensures cause { RotateHasCause (D.disk_faults d.old) (D.disk_faults d.new) result }
+        ensures cause { RotateHasCause (D.state d.old) (D.state d.new) result }
     {
         if self.generation == u64::MAX {
             return Err(RotateError::Limit);
@@ -71,8 +71,8 @@ impl Journal {
         Ok(())
     }
 
-    /// Moves on to the other slot, with these bytes behind its first: a header, a batch and a closed gate. The standing is
-    /// that behind the batch.
+    /// Moves on to the other slot, with these bytes behind its first: a header, a batch and a closed gate. The
+    /// standing is that behind the batch.
     pub(crate) fn move_on<D: Disk>(
         &mut self,
         d: &mut D,
@@ -80,13 +80,18 @@ impl Journal {
         standing: Standing,
         bytes: &[u8],
     ) -> Result<(), DiskFault>
-        ensures crash { (o : Held) (flushed tail : List OneEntry) (body : List ℕ) (placed : List Placed) → Certain D.held D.moment D.possible d.old o → AtRest self.old o.slots flushed tail → self.old.generation < generation →
-            bytes.now ≡ slot_bytes generation body → length body ≤ 2 ^ 24 → Body 2 beginning 15 body placed (Whole standing) → Leaves D.moment D.possible d.old d.new (MidRotation o flushed (entries_of placed)) }
-        ensures moved { OnOk result ((o : Held) (flushed tail : List OneEntry) (body : List ℕ) (placed : List Placed) → Certain D.held D.moment D.possible d.old o → AtRest self.old o.slots flushed tail → self.old.generation < generation →
-            bytes.now ≡ slot_bytes generation body → length body ≤ 2 ^ 24 → Body 2 beginning 15 body placed (Whole standing) → Rested D.held D.moment D.possible d.new self.new o (entries_of placed) []) }
+        ensures crash { (o : Held) (flushed tail : List OneEntry) (body : List ℕ) (placed : List Placed)
+            → Certain D.state D.possible d.old o → AtRest self.old o.slots flushed tail
+            → self.old.generation < generation → bytes.now ≡ slot_bytes generation body → length body ≤ 2 ^ 24
+            → Body 2 beginning 15 body placed (Whole standing)
+            → Leaves D.state D.possible d.old d.new (MidRotation o flushed (entries_of placed)) }
+        ensures moved { OnOk result ((o : Held) (flushed tail : List OneEntry) (body : List ℕ) (placed : List Placed)
+            → Certain D.state D.possible d.old o → AtRest self.old o.slots flushed tail
+            → self.old.generation < generation → bytes.now ≡ slot_bytes generation body → length body ≤ 2 ^ 24
+            → Body 2 beginning 15 body placed (Whole standing)
+            → Rested D.state D.possible d.new self.new o (entries_of placed) []) }
         ensures generation { OnOk result (self.new.generation ≡ generation) }
-        ensures cause { HasCause (D.disk_faults d.old) (D.disk_faults d.new) result }
-        ensures shares { D.shared d.new ≡ D.shared d.old }
+        ensures cause { DiskHasCause (D.state d.old) (D.state d.new) result }
     {
         let target = other(self.slot);
         turn_over(d, target, bytes)?;

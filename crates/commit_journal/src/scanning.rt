@@ -15,8 +15,8 @@ use journal_entries::{Ending, Entry, Standing, read_body};
 use outside::{Disk, Slot};
 use std::alloc::Global;
 
-/// What the bytes from a gate on say of the body, as far as they are there: how long it is, where the gate is open and a
-/// whole batch stands there. `left` is how many bytes the slot has from the gate on.
+/// What the bytes from a gate on say of the body, as far as they are there: how long it is, where the gate is open
+/// and a whole batch stands there. `left` is how many bytes the slot has from the gate on.
 fn size_behind(head: &[u8], left: u64) -> Result<usize, bool>
     requires some { 1 ≤ left }
     requires head { length head.now ≡ min 5 left }
@@ -46,11 +46,11 @@ pub(crate) fn next_batch<D: Disk>(
 ) -> Result<Next, OpenError>
     requires some { 1 ≤ left }
     requires range { place + left < 2 ^ 64 }
-    ensures next { IfOk result (λ next. (o : Held) → Certain D.held D.moment D.possible d.old o → length (slot_of slot o.slots) ≡ place + left → IsNext (drop place (slot_of slot o.slots)) next) }
+    ensures next { IfOk result (λ next. (o : Held) → Certain D.state D.possible d.old o
+        → length (slot_of slot o.slots) ≡ place + left → IsNext (drop place (slot_of slot o.slots)) next) }
     ensures fits { IfOk result (λ next. NextFits left next) }
-    ensures rests { Rests D.held D.moment D.possible d.old d.new }
-    ensures shares { D.shared d.new ≡ D.shared d.old }
-    ensures cause { OpenHasCause (D.disk_faults d.old) (D.disk_faults d.new) result }
+    ensures rests { Rests D.state D.possible d.old d.new }
+    ensures cause { OpenHasCause (D.state d.old) (D.state d.new) result }
 {
     let head = read_bytes(alloc, d, slot, place, left.min(5) as usize)?;
     match size_behind(&head, left) {
@@ -73,11 +73,11 @@ pub(crate) fn read_batches<D: Disk>(
     entries: &mut Vec<(u64, Entry)>,
 ) -> Result<Scan, OpenError>
     requires { 11 ≤ len }
-    ensures scanned { IfOk result (λ scan. (o : Held) → Certain D.held D.moment D.possible d.old o → length (slot_of slot o.slots) ≡ len →
-        Scanned version (slot_of slot o.slots) entries.old.items entries.new.items (outcome_of scan)) }
-    ensures rests { Rests D.held D.moment D.possible d.old d.new }
-    ensures shares { D.shared d.new ≡ D.shared d.old }
-    ensures cause { OpenHasCause (D.disk_faults d.old) (D.disk_faults d.new) result }
+    ensures scanned { IfOk result (λ scan. (o : Held) → Certain D.state D.possible d.old o
+        → length (slot_of slot o.slots) ≡ len
+        → Scanned version (slot_of slot o.slots) entries.old.items entries.new.items (outcome_of scan)) }
+    ensures rests { Rests D.state D.possible d.old d.new }
+    ensures cause { OpenHasCause (D.state d.old) (D.state d.new) result }
 {
     let mut place = 10;
     let mut standing = Standing::beginning();

@@ -3,7 +3,7 @@
 ghost use Rattle.std.specs.Prelude.{◌≡◌, ◌↔◌, ◌+◌, ◌-◌, ◌*◌, ◌^◌, ◌<◌, ◌≤◌, ◌⊎◌, ℕ, List, [], ◌∷◌, ◌++◌, true, length, drop, Ok, Err, OnOk, OnErr, vec_len, vec_capacity};
 ghost use Rattle.std.specs.Int.{w32, to_be_bytes};
 ghost use Rattle.outside.specs.Calls.{Certain, Leaves};
-ghost use Rattle.outside.specs.Faults.{HasCause};
+ghost use Rattle.outside.specs.Faults.{DiskHasCause};
 ghost use Rattle.outside.specs.Holding.{Held, Slots};
 ghost use Rattle.journal_entries.specs.declared.entry.Entry.{Entry as OneEntry};
 ghost use Rattle.journal_entries.specs.Spelling.{entry_bytes, IsEntry};
@@ -22,7 +22,8 @@ fn seal(staged: &mut Vec<u8>)
     requires least { 4 ≤ length staged.old.items }
     requires room { length staged.old.items < vec_capacity staged.old }
     requires small { length staged.old.items ≤ 2 ^ 30 }
-    ensures items { staged.new.items ≡ to_be_bytes w32 (length staged.old.items - 4) ++ (drop 4 staged.old.items ++ 0 ∷ []) }
+    ensures items { staged.new.items
+        ≡ to_be_bytes w32 (length staged.old.items - 4) ++ (drop 4 staged.old.items ++ 0 ∷ []) }
     ensures capacity { vec_capacity staged.old ≤ vec_capacity staged.new }
 {
     let [a, b, c, d] = ((staged.len() - 4) as u32).to_be_bytes();
@@ -39,7 +40,8 @@ impl Journal {
     /// `Limit` where the batch's body would pass 2^24 bytes, or the slot 2^30.
     pub fn reserve(&mut self, bytes: usize) -> Result<(), ReserveError>
         ensures room { OnOk result (HasRoom self.new bytes) }
-        ensures rest { (slots : Slots) (flushed tail : List OneEntry) → AtRest self.old slots flushed tail → AtRest self.new slots flushed tail }
+        ensures rest { (slots : Slots) (flushed tail : List OneEntry) → AtRest self.old slots flushed tail
+            → AtRest self.new slots flushed tail }
         ensures limit { (result ≡ Err ReserveError.Limit) ↔ IsPastLimit self.old bytes }
         ensures same { HasSameEntries self.old self.new }
     {
@@ -61,7 +63,8 @@ impl Journal {
         requires room { HasRoom self.old (length (entry_bytes entry)) }
         requires entry { IsEntry 2 entry }
         requires order { follows self.old.standing entry ≡ true }
-        ensures rest { (slots : Slots) (flushed tail : List OneEntry) → IsEntry self.old.version entry → AtRest self.old slots flushed tail → AtRest self.new slots flushed (tail ++ entry ∷ []) }
+        ensures rest { (slots : Slots) (flushed tail : List OneEntry) → IsEntry self.old.version entry
+            → AtRest self.old slots flushed tail → AtRest self.new slots flushed (tail ++ entry ∷ []) }
         ensures room { (more : ℕ) → HasRoom self.old (length (entry_bytes entry) + more) → HasRoom self.new more }
         ensures standing { self.new.standing ≡ behind self.old.standing entry }
         ensures same { IsSameSlot self.old self.new }
@@ -72,13 +75,12 @@ impl Journal {
 
     /// Puts the tail on the disk as one batch; where it is empty nothing is written. It takes no memory.
     pub fn flush<D: Disk>(&mut self, d: &mut D) -> Result<(), DiskFault>
-        ensures crash { (o : Held) (flushed tail : List OneEntry) → Certain D.held D.moment D.possible d.old o → AtRest self.old o.slots flushed tail →
-            Leaves D.moment D.possible d.old d.new (MidFlush o flushed tail) }
-        ensures flushed { OnOk result ((o : Held) (flushed tail : List OneEntry) → Certain D.held D.moment D.possible d.old o → AtRest self.old o.slots flushed tail →
-            Rested D.held D.moment D.possible d.new self.new o (flushed ++ tail) []) }
+        ensures crash { (o : Held) (flushed tail : List OneEntry) → Certain D.state D.possible d.old o
+            → AtRest self.old o.slots flushed tail → Leaves D.state D.possible d.old d.new (MidFlush o flushed tail) }
+        ensures flushed { OnOk result ((o : Held) (flushed tail : List OneEntry) → Certain D.state D.possible d.old o
+            → AtRest self.old o.slots flushed tail → Rested D.state D.possible d.new self.new o (flushed ++ tail) []) }
         ensures standing { self.new.standing ≡ self.old.standing }
-        ensures shares { D.shared d.new ≡ D.shared d.old }
-        ensures cause { HasCause (D.disk_faults d.old) (D.disk_faults d.new) result }
+        ensures cause { DiskHasCause (D.state d.old) (D.state d.new) result }
     {
         if self.staged.len() == 4 {
             return Ok(());
@@ -90,13 +92,12 @@ impl Journal {
     /// Puts the tail on the disk as one batch, also where it is empty.
     pub(crate) fn write_tail<D: Disk>(&mut self, d: &mut D) -> Result<(), DiskFault>
         requires within { self.old.gate + length self.old.staged.items + 2 ≤ 2 ^ 30 }
-        ensures crash { (o : Held) (flushed tail : List OneEntry) → Certain D.held D.moment D.possible d.old o → AtRest self.old o.slots flushed tail →
-            Leaves D.moment D.possible d.old d.new (MidFlush o flushed tail) }
-        ensures flushed { OnOk result ((o : Held) (flushed tail : List OneEntry) → Certain D.held D.moment D.possible d.old o → AtRest self.old o.slots flushed tail →
-            Rested D.held D.moment D.possible d.new self.new o (flushed ++ tail) []) }
+        ensures crash { (o : Held) (flushed tail : List OneEntry) → Certain D.state D.possible d.old o
+            → AtRest self.old o.slots flushed tail → Leaves D.state D.possible d.old d.new (MidFlush o flushed tail) }
+        ensures flushed { OnOk result ((o : Held) (flushed tail : List OneEntry) → Certain D.state D.possible d.old o
+            → AtRest self.old o.slots flushed tail → Rested D.state D.possible d.new self.new o (flushed ++ tail) []) }
         ensures standing { self.new.standing ≡ self.old.standing }
-        ensures shares { D.shared d.new ≡ D.shared d.old }
-        ensures cause { HasCause (D.disk_faults d.old) (D.disk_faults d.new) result }
+        ensures cause { DiskHasCause (D.state d.old) (D.state d.new) result }
     {
         seal(&mut self.staged);
         let outcome = write_batch(d, self.slot, self.gate, &self.staged);

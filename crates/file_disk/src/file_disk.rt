@@ -1,8 +1,7 @@
 //! Two files as the journal's disk.
 
-ghost use Rattle.file_disk.specs.Untold.{any_moment, no_certain, no_read, not_told, untold};
+ghost use Rattle.file_disk.specs.Untold.{no_certain, no_read, untold, untold_state};
 ghost use Rattle.outside.specs.Faults.{HasCause};
-ghost use Rattle.std.specs.Prelude.{[]};
 
 use crate::bytes::read_all_at;
 use outside::{Disk, DiskFault, Slot};
@@ -70,15 +69,9 @@ fn open_slot(rt: &HostRuntime, path: &str) -> io::Result<File> {
 }
 
 impl Disk for FileDisk {
-    ghost held = { not_told };
-
-    ghost moment = { any_moment };
+    ghost state = { λ d. untold_state d.faults };
 
     ghost possible = { untold };
-
-    ghost shared = { λ _. [] };
-
-    ghost disk_faults = { λ d. d.faults };
 
     fn len(&mut self, slot: Slot) -> Result<u64, DiskFault> {
         let told = match self.file(slot).metadata() {

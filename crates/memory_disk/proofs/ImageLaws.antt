@@ -9,7 +9,7 @@ use Rattle.memory_disk.specs.declared.call.DiskCall.{DiskCall}
 use Rattle.memory_disk.specs.declared.call.DiskCall.TheVariants.{Write, Cut, Sync}
 use Rattle.memory_disk.specs.declared.memory_disk.MemoryDisk.{MemoryDisk}
 use Rattle.memory_disk.specs.Images.{Image, after_call, after_calls, certain_image}
-use Rattle.memory_disk.specs.Possible.{IsDone, IsIdle, IsPossible, IsUntouched, first_after, held_of, moment_of, possible_of, second_after, told_of}
+use Rattle.memory_disk.specs.Possible.{IsDone, IsIdle, IsPossible, IsUntouched, first_after, held_of, moment_of, possible_of, second_after, site_state, told_of}
 use Rattle.memory_disk.specs.DiskLaws.{first_now, possible_after, second_now, seen_can, take_all}
 use Rattle.memory_disk.proofs.SlotLaws.{torn_within, cut_within}
 
@@ -34,7 +34,7 @@ module _ (a b : MemoryDisk) (idle : IsIdle a b) where
 pub turned : (a b : MemoryDisk) → IsIdle a b → IsIdle b a
 turned a b idle = record { calls = sym idle.calls; base_first = sym idle.base_first; base_second = sym idle.base_second }
 
-pub idle_goes : (a b : MemoryDisk) (step : Held → Held → Type 0) → IsIdle a b → GoesOn moment_of possible_of a b step
+pub idle_goes : (a b : MemoryDisk) (step : Held → Held → Type 0) → IsIdle a b → GoesOn site_state possible_of a b step
 idle_goes a b step idle =
     let same : length b.calls.items ≡ length a.calls.items = ap length idle.calls in
     record {
@@ -45,7 +45,7 @@ idle_goes a b step idle =
     }
 
 -- a fault behind a call that was done
-pub then_idle : (a b c : MemoryDisk) (step : Held → Held → Type 0) → GoesOn moment_of possible_of a b step → IsIdle b c → GoesOn moment_of possible_of a c step
+pub then_idle : (a b c : MemoryDisk) (step : Held → Held → Type 0) → GoesOn site_state possible_of a b step → IsIdle b c → GoesOn site_state possible_of a c step
 then_idle a b c step g idle =
     let same : length c.calls.items ≡ length b.calls.items = ap length idle.calls in
     let le : length a.calls.items ≤ length b.calls.items = g.later in
@@ -83,7 +83,7 @@ module _ (a b : MemoryDisk) (call : DiskCall) (is : IsDone call a b) where
       subst (λ (i : Image). IsPossible i (after_call Second call (second_now a)) p) (after_push First a.calls.items call (certain_image a.base_first.items))
       (subst (λ (i : Image). IsPossible (first_after a (a.calls.items ++ call ∷ [])) i p) (after_push Second a.calls.items call (certain_image a.base_second.items)) based)
 
-  pub done_goes : (step : Held → Held → Type 0) → ((p : Held) → IsPossible (after_call First call (first_now a)) (after_call Second call (second_now a)) p → (q : Held) × possible_after a a.calls.items q × step q p) → GoesOn moment_of possible_of a b step
+  pub done_goes : (step : Held → Held → Type 0) → ((p : Held) → IsPossible (after_call First call (first_now a)) (after_call Second call (second_now a)) p → (q : Held) × possible_after a a.calls.items q × step q p) → GoesOn site_state possible_of a b step
   done_goes step own = record {
     later = omega (arith, longer);
     past = λ k p le h. rebased a b (take k a.calls.items) p is.base_first is.base_second (subst (λ (c : List DiskCall). possible_after b c p) (front_same k le) h);
@@ -158,15 +158,15 @@ in_image : (a : MemoryDisk) (slot : Slot) (n : ℕ) → n ≤ length (slot_of sl
 in_image a First n le = subst (λ (l : List ℕ). n ≤ length l) a.first_is le
 in_image a Second n le = subst (λ (l : List ℕ). n ≤ length l) a.second_is le
 
-pub write_goes : (a b : MemoryDisk) (slot : Slot) (at : ℕ) (bytes : List ℕ) → at ≤ length (slot_of slot (held_of a).slots) → IsDone (Write slot at bytes) a b → GoesOn moment_of possible_of a b (MayWrite (told_of a) slot at bytes)
+pub write_goes : (a b : MemoryDisk) (slot : Slot) (at : ℕ) (bytes : List ℕ) → at ≤ length (slot_of slot (held_of a).slots) → IsDone (Write slot at bytes) a b → GoesOn site_state possible_of a b (MayWrite (told_of a) slot at bytes)
 write_goes a b slot at bytes le is = done_goes a b (Write slot at bytes) is (MayWrite (told_of a) slot at bytes)
     (λ p h. let s = write_step slot at bytes (first_now a) (second_now a) p (first_has a) (second_has a) (in_image a slot at le) h in (s.0, s.1, λ _. s.2))
 
-pub cut_goes : (a b : MemoryDisk) (slot : Slot) (n : ℕ) → n ≤ length (slot_of slot (held_of a).slots) → IsDone (Cut slot n) a b → GoesOn moment_of possible_of a b (MayCut (told_of a) slot n)
+pub cut_goes : (a b : MemoryDisk) (slot : Slot) (n : ℕ) → n ≤ length (slot_of slot (held_of a).slots) → IsDone (Cut slot n) a b → GoesOn site_state possible_of a b (MayCut (told_of a) slot n)
 cut_goes a b slot n le is = done_goes a b (Cut slot n) is (MayCut (told_of a) slot n)
     (λ p h. let s = cut_step slot n (first_now a) (second_now a) p (first_has a) (second_has a) (in_image a slot n le) h in (s.0, s.1, λ _. s.2))
 
-pub sync_goes : (a b : MemoryDisk) (slot : Slot) → IsDone (Sync slot) a b → GoesOn moment_of possible_of a b Stays
+pub sync_goes : (a b : MemoryDisk) (slot : Slot) → IsDone (Sync slot) a b → GoesOn site_state possible_of a b Stays
 sync_goes a b slot is = done_goes a b (Sync slot) is Stays (λ p h. (p, sync_step slot (first_now a) (second_now a) p (first_has a) (second_has a) h, refl))
 
 held_from : (d : MemoryDisk) (first second : List ℕ) → d.first.items ≡ first → d.second.items ≡ second → held_of d ≡ record { slots = record { first = first; second = second }; history = [] }

@@ -16,7 +16,7 @@ use Rattle.memory_disk.specs.declared.memory_disk.MemoryDisk.{MemoryDisk}
 use Rattle.memory_disk.specs.DiskLaws.{take_all}
 use Rattle.memory_disk.specs.Images.{Image, after_call, after_calls, certain_image, written, shortened}
 use Rattle.memory_disk.specs.Picking.{Chosen, certain_chosen, choose_call, choose_calls, cut_chosen, drawn, left_at, next_draw, write_chosen}
-use Rattle.memory_disk.specs.Possible.{held_of, moment_of, possible_of, told_of}
+use Rattle.memory_disk.specs.Possible.{held_of, possible_of, site_state}
 use Rattle.memory_disk.proofs.SlotLaws.{torn_within}
 
 pub drawn_length : (x n : ℕ) → length (drawn x n) ≡ n
@@ -91,7 +91,7 @@ held_from : (d : MemoryDisk) (p : Held) → d.first.items ≡ p.slots.first → 
 held_from d p f s h = same_held (held_of d) p (ap (λ (x : List ℕ). slots_from x d.second.items) f ∙ ap (λ (x : List ℕ). slots_from p.slots.first x) s) h
 
 -- a disk without a call is certain
-pub fresh_certain : (d : MemoryDisk) → d.calls.items ≡ [] → Certain told_of moment_of possible_of d (held_of d)
+pub fresh_certain : (d : MemoryDisk) → d.calls.items ≡ [] → Certain site_state possible_of d (held_of d)
 fresh_certain d none = record {
   told = refl;
   only = λ p h.

@@ -12,7 +12,8 @@ use Rattle.memory_disk.specs.Images.{Image, after_call, after_calls, certain_ima
 use Rattle.memory_disk.specs.Possible.{IsPossible, first_after, held_of, moment_of, possible_of, second_after}
 
 -- what a read gives is one of the images
-seen_step : (slot : Slot) (call : DiskCall) (i : Image) → i.can i.seen → (after_call slot call i).can (after_call slot call i).seen
+seen_step : (slot : Slot) (call : DiskCall) (i : Image) → i.can i.seen
+    → (after_call slot call i).can (after_call slot call i).seen
 seen_step First (Write First at bytes) i h = inl refl
 seen_step First (Cut First n) i h = inl refl
 seen_step First (Sync First) i h = refl
@@ -26,7 +27,8 @@ seen_step Second (Write First at bytes) i h = h
 seen_step Second (Cut First n) i h = h
 seen_step Second (Sync First) i h = h
 
-pub seen_can : (slot : Slot) (calls : List DiskCall) (i : Image) → i.can i.seen → (after_calls slot calls i).can (after_calls slot calls i).seen
+pub seen_can : (slot : Slot) (calls : List DiskCall) (i : Image) → i.can i.seen
+    → (after_calls slot calls i).can (after_calls slot calls i).seen
 seen_can slot [] i h = h
 seen_can slot (call ∷ calls) i h = seen_can slot calls (after_call slot call i) (seen_step slot call i h)
 
@@ -47,7 +49,8 @@ possible_after d calls p = IsPossible (first_after d calls) (second_after d call
 same_held : (a b : Held) → Some a ≡ Some b → a ≡ b
 same_held a b e = ap (λ o. unwrap_or o a) e
 
-pub certain_law : (d : MemoryDisk) (o p : Held) → Some (held_of d) ≡ Some o → possible_of d (moment_of d) p → p.history ≡ o.history
+pub certain_law : (d : MemoryDisk) (o p : Held) → Some (held_of d) ≡ Some o → possible_of d (moment_of d) p
+    → p.history ≡ o.history
 certain_law d o p e h = h.history ∙ ap (λ (x : Held). x.history) (same_held (held_of d) o e)
 
 pub possible_law : (d : MemoryDisk) (o : Held) → Some (held_of d) ≡ Some o → possible_of d (moment_of d) o

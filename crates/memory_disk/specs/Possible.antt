@@ -1,9 +1,9 @@
 -- What a disk in memory tells, and what a crash leaves of it. (This project's model of disk and crash.)
 
 use Rattle.std.specs.Prelude.{◌≡◌, ℕ, List, [], ◌∷◌, ◌++◌, Option, Some, length, take}
-use Rattle.tier_base.specs.declared.number.TableId.{TableId}
 use Rattle.outside.specs.declared.disk.Slot.TheVariants.{First, Second}
 use Rattle.outside.specs.Holding.{Held}
+use Rattle.outside.specs.Sites.{SiteState}
 use Rattle.memory_disk.specs.declared.call.DiskCall.{DiskCall}
 use Rattle.memory_disk.specs.declared.failure.Failure.{Failure}
 use Rattle.memory_disk.specs.declared.memory_disk.MemoryDisk.{MemoryDisk}
@@ -19,9 +19,15 @@ told_of d = Some (held_of d)
 abbrev pub moment_of : MemoryDisk → ℕ
 moment_of d = length d.calls.items
 
--- others change nothing that it keeps
-abbrev pub shared_of : MemoryDisk → List TableId
-shared_of d = []
+-- what is known of it: it has no bank, and others change nothing that it keeps
+abbrev pub site_state : MemoryDisk → SiteState
+site_state d = record {
+  held = told_of d;
+  disk_faults = d.faults;
+  bank_faults = 0;
+  moment = moment_of d;
+  shared = [];
+}
 
 abbrev pub first_after : MemoryDisk → List DiskCall → Image
 first_after d calls = after_calls First calls (certain_image d.base_first.items)
@@ -37,7 +43,8 @@ pub record IsPossible (first second : Image) (p : Held) : Type 0 where
 
 -- after so many of the calls
 abbrev pub possible_of : MemoryDisk → ℕ → Held → Type 0
-possible_of d k p = IsPossible (first_after d (take k d.calls.items)) (second_after d (take k d.calls.items)) p
+possible_of d k p =
+    IsPossible (first_after d (take k d.calls.items)) (second_after d (take k d.calls.items)) p
 
 -- the call was done, and nothing else
 pub record IsDone (call : DiskCall) (old new : MemoryDisk) : Type 0 where

@@ -3,12 +3,12 @@
 ghost use Rattle.std.specs.Prelude.{◌≡◌, ◌+◌, ◌≤◌, [], ◌∷◌, length, true, false, IfOk, None, OnErr, OnOk, Some};
 ghost use Rattle.std.specs.Result.{IsErr, IsOk};
 ghost use Rattle.outside.specs.Calls.{Certain, Durable, GoesOn, HasLength, MayCut, MayWrite, ReadsFrom, Same, Stays, Told, WasCut, Wrote};
-ghost use Rattle.outside.specs.Faults.{HasCause, Rose};
+ghost use Rattle.outside.specs.Faults.{DiskHasCause, Rose};
 ghost use Rattle.outside.specs.Holding.{slot_of};
 ghost use Rattle.outside.specs.declared.disk.Slot.TheVariants.{First, Second};
 ghost use Rattle.memory_disk.specs.declared.call.DiskCall.TheVariants as call;
 ghost use Rattle.memory_disk.specs.DiskLaws.{certain_law, possible_law};
-ghost use Rattle.memory_disk.specs.Possible.{IsDone, IsIdle, IsUnplanned, IsUntouched, held_of, moment_of, plans_of, possible_of, shared_of, told_of, unused};
+ghost use Rattle.memory_disk.specs.Possible.{IsDone, IsIdle, IsUnplanned, IsUntouched, held_of, moment_of, plans_of, possible_of, site_state, told_of, unused};
 
 use crate::call::DiskCall;
 use crate::failure::{Failure, When};
@@ -19,14 +19,14 @@ use std::alloc::{AllocError, Global};
 use tier_base::Seq;
 
 impl MemoryDisk {
-    /// Two slots that were never used, each the one byte 00. Calls fail as planned, before their effect or after it. Of two
-    /// plans for one call the first counts.
+    /// Two slots that were never used, each the one byte 00. Calls fail as planned, before their effect or after it. Of
+    /// two plans for one call the first counts.
     ///
     /// It fails for want of memory alone.
     pub fn new(alloc: Global, failing: Vec<Failure>) -> Result<MemoryDisk, AllocError>
         ensures held { IfOk result (λ d. told_of d ≡ Some unused) }
         ensures moment { IfOk result (λ d. moment_of d ≡ 0) }
-        ensures certain { IfOk result (λ d. Certain told_of moment_of possible_of d (held_of d)) }
+        ensures certain { IfOk result (λ d. Certain site_state possible_of d (held_of d)) }
         ensures plans { IfOk result (λ d. plans_of d ≡ failing.items) }
     {
         let base_first = Vec::from_slice(alloc, &[0])?;
@@ -197,21 +197,14 @@ impl MemoryDisk {
 }
 
 impl Disk for MemoryDisk {
-    ghost held = { told_of };
-
-    ghost moment = { moment_of };
+    ghost state = { site_state };
 
     ghost possible = { possible_of };
 
-    ghost shared = { shared_of };
-
-    ghost disk_faults = { λ d. d.faults };
-
     fn len(&mut self, slot: Slot) -> Result<u64, DiskFault>
         ensures told { Told (told_of self.old) (told_of self.new) (HasLength slot result) }
-        ensures crash { GoesOn moment_of possible_of self.old self.new Stays }
-        ensures shares { shared_of self.new ≡ shared_of self.old }
-        ensures cause { HasCause self.old.faults self.new.faults result }
+        ensures crash { GoesOn site_state possible_of self.old self.new Stays }
+        ensures cause { DiskHasCause (site_state self.old) (site_state self.new) result }
         ensures plans { plans_of self.new ≡ plans_of self.old }
         ensures same { IsIdle self.old self.new }
         ensures answers { IsUnplanned self.old → IsOk result }
@@ -227,9 +220,8 @@ impl Disk for MemoryDisk {
 
     fn read_at(&mut self, slot: Slot, at: u64, buf: &mut [u8]) -> Result<usize, DiskFault>
         ensures told { Told (told_of self.old) (told_of self.new) (ReadsFrom slot at buf.new result) }
-        ensures crash { GoesOn moment_of possible_of self.old self.new Stays }
-        ensures shares { shared_of self.new ≡ shared_of self.old }
-        ensures cause { HasCause self.old.faults self.new.faults result }
+        ensures crash { GoesOn site_state possible_of self.old self.new Stays }
+        ensures cause { DiskHasCause (site_state self.old) (site_state self.new) result }
         ensures plans { plans_of self.new ≡ plans_of self.old }
         ensures same { IsIdle self.old self.new }
         ensures answers { IsUnplanned self.old → IsOk result }
@@ -246,9 +238,9 @@ impl Disk for MemoryDisk {
     /// It fails, with nothing written, where the place is behind the slot's end, and for want of memory.
     fn write_at(&mut self, slot: Slot, at: u64, bytes: &[u8]) -> Result<(), DiskFault>
         ensures told { Told (told_of self.old) (told_of self.new) (Wrote slot at bytes.now result) }
-        ensures crash { GoesOn moment_of possible_of self.old self.new (MayWrite (told_of self.old) slot at bytes.now) }
-        ensures shares { shared_of self.new ≡ shared_of self.old }
-        ensures cause { HasCause self.old.faults self.new.faults result }
+        ensures crash { GoesOn site_state possible_of self.old self.new
+            (MayWrite (told_of self.old) slot at bytes.now) }
+        ensures cause { DiskHasCause (site_state self.old) (site_state self.new) result }
         ensures plans { plans_of self.new ≡ plans_of self.old }
         ensures undone { IsUnplanned self.old → IsErr result → IsIdle self.old self.new }
     {
@@ -268,9 +260,8 @@ impl Disk for MemoryDisk {
     /// It fails, with nothing cut, where the slot is shorter, and for want of memory.
     fn cut(&mut self, slot: Slot, len: u64) -> Result<(), DiskFault>
         ensures told { Told (told_of self.old) (told_of self.new) (WasCut slot len result) }
-        ensures crash { GoesOn moment_of possible_of self.old self.new (MayCut (told_of self.old) slot len) }
-        ensures shares { shared_of self.new ≡ shared_of self.old }
-        ensures cause { HasCause self.old.faults self.new.faults result }
+        ensures crash { GoesOn site_state possible_of self.old self.new (MayCut (told_of self.old) slot len) }
+        ensures cause { DiskHasCause (site_state self.old) (site_state self.new) result }
         ensures plans { plans_of self.new ≡ plans_of self.old }
         ensures undone { IsUnplanned self.old → IsErr result → IsIdle self.old self.new }
     {
@@ -290,10 +281,9 @@ impl Disk for MemoryDisk {
     /// It fails for want of memory, too.
     fn sync(&mut self, slot: Slot) -> Result<(), DiskFault>
         ensures told { Told (told_of self.old) (told_of self.new) Same }
-        ensures crash { GoesOn moment_of possible_of self.old self.new Stays }
+        ensures crash { GoesOn site_state possible_of self.old self.new Stays }
         ensures durable { Durable (told_of self.old) slot result (possible_of self.new (moment_of self.new)) }
-        ensures shares { shared_of self.new ≡ shared_of self.old }
-        ensures cause { HasCause self.old.faults self.new.faults result }
+        ensures cause { DiskHasCause (site_state self.old) (site_state self.new) result }
         ensures plans { plans_of self.new ≡ plans_of self.old }
         ensures undone { IsUnplanned self.old → IsErr result → IsIdle self.old self.new }
     {

@@ -4,7 +4,7 @@ ghost use Rattle.std.specs.Prelude.{◌≡◌, ◌≤◌, ◌+◌, ◌^◌, leng
 ghost use Rattle.outside.specs.Calls.{Certain};
 ghost use Rattle.outside.specs.declared.disk.Slot.TheVariants.{First, Second};
 ghost use Rattle.memory_disk.specs.Picking.{certain_chosen, choose_call, choose_calls, cut_chosen, drawn, patched_within, left_at, written_left, cut_left, next_draw, write_chosen};
-ghost use Rattle.memory_disk.specs.Possible.{IsUnplanned, held_of, moment_of, possible_of, told_of};
+ghost use Rattle.memory_disk.specs.Possible.{IsUnplanned, held_of, moment_of, possible_of, site_state};
 
 use crate::call::DiskCall;
 use crate::memory_disk::MemoryDisk;
@@ -56,7 +56,8 @@ fn leave_write(
     left: &mut Vec<u8>,
     seen: &[u8],
 ) -> Result<(), AllocError>
-    ensures { OnOk result (left.new.items ≡ written_left pick at bytes.now (record { left = left.old.items; seen = seen.now })) }
+    ensures { OnOk result
+        (left.new.items ≡ written_left pick at bytes.now (record { left = left.old.items; seen = seen.now })) }
 {
     match pick {
         Pick::Old => Ok(()),
@@ -83,7 +84,8 @@ fn leave_cut(
     left: &mut Vec<u8>,
     seen: &[u8],
 ) -> Result<(), AllocError>
-    ensures { OnOk result (left.new.items ≡ cut_left pick len (record { left = left.old.items; seen = seen.now })) }
+    ensures { OnOk result
+        (left.new.items ≡ cut_left pick len (record { left = left.old.items; seen = seen.now })) }
 {
     match pick {
         Pick::Old => Ok(()),
@@ -226,7 +228,8 @@ fn left_of(
     base: &[u8],
     calls: &[DiskCall],
 ) -> Result<Vec<u8>, AllocError>
-    ensures { IfOk result (λ left. left.items ≡ (choose_calls slot pick calls.now (certain_chosen base.now)).left) }
+    ensures { IfOk result
+        (λ left. left.items ≡ (choose_calls slot pick calls.now (certain_chosen base.now)).left) }
 {
     let mut trace = Trace::new(alloc, base)?;
     for call in calls {
@@ -243,7 +246,7 @@ impl MemoryDisk {
         ensures first { IfOk result (λ d. (held_of d).slots.first ≡ first.items) }
         ensures second { IfOk result (λ d. (held_of d).slots.second ≡ second.items) }
         ensures moment { IfOk result (λ d. moment_of d ≡ 0) }
-        ensures certain { IfOk result (λ d. Certain told_of moment_of possible_of d (held_of d)) }
+        ensures certain { IfOk result (λ d. Certain site_state possible_of d (held_of d)) }
         ensures unplanned { IfOk result IsUnplanned }
     {
         let base_first = Vec::from_slice(alloc, &first)?;
@@ -276,7 +279,7 @@ impl MemoryDisk {
         requires { moment ≤ moment_of self.now }
         ensures possible { IfOk result (λ d. possible_of self.now moment (held_of d)) }
         ensures picked { IfOk result (λ d. held_of d ≡ left_at self.now moment pick) }
-        ensures certain { IfOk result (λ d. Certain told_of moment_of possible_of d (held_of d)) }
+        ensures certain { IfOk result (λ d. Certain site_state possible_of d (held_of d)) }
         ensures moment { IfOk result (λ d. moment_of d ≡ 0) }
         ensures unplanned { IfOk result IsUnplanned }
     {

@@ -50,9 +50,13 @@ pub record IsReceipt (s : Sealed) (receipt : Receipt) (new : List Entry) : Type 
 -- told.
 abbrev pub AppliesOnce : Sealed → List Ticket → Result Applied BankError → List Entry → List Entry → Type 0
 AppliesOnce s after (Ok (Now receipt)) old new = Comes s after old new × IsReceipt s receipt new
-AppliesOnce s after (Ok (Before receipt)) old new = (has_ticket s.ticket.0 old ≡ true) × Grows [] old new × IsReceipt s receipt new
-AppliesOnce s after (Ok (NotReady ticket)) old new = (has_ticket s.ticket.0 old ≡ false) × Contains after ticket × (has_ticket ticket.0 old ≡ false) × Grows [] old new
-AppliesOnce s after (Ok (Differs table key row)) old new = (has_ticket s.ticket.0 old ≡ false) × HasAll after old × (state_of (old ++ entry_of s ∷ []) ≡ None) × Grows [] old new × IsFirstDifference (table, key, row) s.ops old
+AppliesOnce s after (Ok (Before receipt)) old new =
+    (has_ticket s.ticket.0 old ≡ true) × Grows [] old new × IsReceipt s receipt new
+AppliesOnce s after (Ok (NotReady ticket)) old new =
+    (has_ticket s.ticket.0 old ≡ false) × Contains after ticket × (has_ticket ticket.0 old ≡ false) × Grows [] old new
+AppliesOnce s after (Ok (Differs table key row)) old new =
+    (has_ticket s.ticket.0 old ≡ false) × HasAll after old × (state_of (old ++ entry_of s ∷ []) ≡ None)
+    × Grows [] old new × IsFirstDifference (table, key, row) s.ops old
 AppliesOnce s after (Err Memory) old new = Grows [] old new
 AppliesOnce s after (Err Failed) old new = Grows [] old new ⊎ Comes s after old new
 
@@ -77,5 +81,6 @@ TellsSchema (Err e) old new = Grows [] old new
 
 -- the row at the key in the table of the state that the history leaves
 abbrev pub TellsRow : TableId → List Value → Result (Option (List Value)) BankError → List Entry → List Entry → Type 0
-TellsRow table key (Ok row) old new = Grows [] old new × ((s : TableState) → state_of new ≡ Some s → row ≡ get (table_at s table) key)
+TellsRow table key (Ok row) old new =
+    Grows [] old new × ((s : TableState) → state_of new ≡ Some s → row ≡ get (table_at s table) key)
 TellsRow table key (Err e) old new = Grows [] old new

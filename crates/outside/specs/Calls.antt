@@ -7,6 +7,7 @@ use Rattle.table_state.specs.declared.history.Entry.{Entry}
 use Rattle.outside.specs.declared.disk.Slot.{Slot}
 use Rattle.outside.specs.Holding.{Held, slot_of, with_slot, with_bytes}
 use Rattle.outside.specs.Others.{Around}
+use Rattle.outside.specs.Sites.{SiteState}
 
 -- what is told before a call is told after it, and the call is this step of it
 abbrev pub Told : Option Held → Option Held → (Held → Held → Type 0) → Type 0
@@ -15,11 +16,13 @@ Told (Some old) None step = ⊥
 Told (Some old) (Some new) step = step old new
 
 -- A call, or several: what was possible up to now stays as it was, and what was possible since then came by a step.
-pub record GoesOn {D : Type 0} (moment : D → ℕ) (possible : D → ℕ → Held → Type 0) (old new : D) (step : Held → Held → Type 0) : Type 0 where
-  pub later : moment old ≤ moment new
-  pub past : (k : ℕ) (p : Held) → k ≤ moment old → possible new k p → possible old k p
-  pub kept : (k : ℕ) (p : Held) → k ≤ moment old → possible old k p → possible new k p
-  pub since : (k : ℕ) (p : Held) → moment old < k → k ≤ moment new → possible new k p → (q : Held) × possible old (moment old) q × step q p
+pub record GoesOn {D : Type 0} (state : D → SiteState) (possible : D → ℕ → Held → Type 0) (old new : D)
+    (step : Held → Held → Type 0) : Type 0 where
+  pub later : (state old).moment ≤ (state new).moment
+  pub past : (k : ℕ) (p : Held) → k ≤ (state old).moment → possible new k p → possible old k p
+  pub kept : (k : ℕ) (p : Held) → k ≤ (state old).moment → possible old k p → possible new k p
+  pub since : (k : ℕ) (p : Held) → (state old).moment < k → k ≤ (state new).moment → possible new k p
+      → (q : Held) × possible old (state old).moment q × step q p
 
 -- all stays
 abbrev pub Stays : Held → Held → Type 0
@@ -56,7 +59,8 @@ pub record Changes (slot : Slot) (step : List ℕ → List ℕ → Type 0) (old 
 -- what a crash may leave of a write within the slot, or at its end; of another nothing is said
 abbrev pub MayWrite : Option Held → Slot → ℕ → List ℕ → Held → Held → Type 0
 MayWrite None slot at bytes old new = Unit {0}
-MayWrite (Some seen) slot at bytes old new = at ≤ length (slot_of slot seen.slots) → Changes slot (Torn at (length bytes)) old new
+MayWrite (Some seen) slot at bytes old new =
+    at ≤ length (slot_of slot seen.slots) → Changes slot (Torn at (length bytes)) old new
 
 -- what a read gives after such a write; after a fault only what is kept beside the slots is told to stay
 abbrev pub Wrote : {T E : Type 0} → Slot → ℕ → List ℕ → Result T E → Held → Held → Type 0
@@ -89,7 +93,8 @@ HasLength slot result old new = (new ≡ old) × IfOk result (λ n. n ≡ length
 abbrev pub ReadsFrom : {E : Type 0} → Slot → ℕ → List ℕ → Result ℕ E → Held → Held → Type 0
 ReadsFrom slot at buf result old new =
     (new ≡ old)
-    × IfOk result (λ n. (n ≡ min (length buf) (length (slot_of slot old.slots) - at)) × (take n buf ≡ take n (drop at (slot_of slot old.slots))))
+    × IfOk result (λ n. (n ≡ min (length buf) (length (slot_of slot old.slots) - at))
+    × (take n buf ≡ take n (drop at (slot_of slot old.slots))))
 
 -- ---- calls of the backing database
 
@@ -104,21 +109,34 @@ abbrev pub MayApply : List TableId → Option Held → (List Entry → List Entr
 MayApply shared None step old new = Unit {0}
 MayApply shared (Some seen) step old new = BankCall shared step old new
 
+-- a call of the backing database, as it is told
+abbrev pub BankTold : SiteState → SiteState → (List Entry → List Entry → Type 0) → Type 0
+BankTold old new step = Told old.held new.held (BankCall old.shared step)
+
+-- a call of the backing database, as a crash may leave it
+abbrev pub BankGoesOn : {D : Type 0} → (D → SiteState) → (D → ℕ → Held → Type 0) → D → D
+    → (List Entry → List Entry → Type 0) → Type 0
+BankGoesOn state possible old new step =
+    GoesOn state possible old new (MayApply (state old).shared (state old).held step)
+
 -- ---- several calls
 
 -- it tells what it holds, and a crash now leaves that
-pub record Certain {D : Type 0} (held : D → Option Held) (moment : D → ℕ) (possible : D → ℕ → Held → Type 0) (d : D) (seen : Held) : Type 0 where
-  pub told : held d ≡ Some seen
-  pub only : (p : Held) → possible d (moment d) p → p ≡ seen
+pub record Certain {D : Type 0} (state : D → SiteState) (possible : D → ℕ → Held → Type 0) (d : D) (seen : Held)
+    : Type 0 where
+  pub told : (state d).held ≡ Some seen
+  pub only : (p : Held) → possible d (state d).moment p → p ≡ seen
 
 -- a crash at any moment from the old to the new leaves a pair that has P, and no earlier moment's pairs change
-pub record Leaves {D : Type 0} (moment : D → ℕ) (possible : D → ℕ → Held → Type 0) (old new : D) (P : Held → Type 0) : Type 0 where
-  pub later : moment old ≤ moment new
-  pub past : (k : ℕ) (p : Held) → k ≤ moment old → possible new k p → possible old k p
-  pub kept : (k : ℕ) (p : Held) → k ≤ moment old → possible old k p → possible new k p
-  pub each : (k : ℕ) (p : Held) → moment old ≤ k → k ≤ moment new → possible new k p → P p
+pub record Leaves {D : Type 0} (state : D → SiteState) (possible : D → ℕ → Held → Type 0) (old new : D)
+    (P : Held → Type 0) : Type 0 where
+  pub later : (state old).moment ≤ (state new).moment
+  pub past : (k : ℕ) (p : Held) → k ≤ (state old).moment → possible new k p → possible old k p
+  pub kept : (k : ℕ) (p : Held) → k ≤ (state old).moment → possible old k p → possible new k p
+  pub each : (k : ℕ) (p : Held) → (state old).moment ≤ k → k ≤ (state new).moment → possible new k p → P p
 
 -- what was certain is certain still, at each moment between
-abbrev pub Rests : {D : Type 0} → (D → Option Held) → (D → ℕ) → (D → ℕ → Held → Type 0) → D → D → Type 0
-Rests held moment possible old new =
-    (o : Held) → Certain held moment possible old o → Certain held moment possible new o × Leaves moment possible old new (λ p. p ≡ o)
+abbrev pub Rests : {D : Type 0} → (D → SiteState) → (D → ℕ → Held → Type 0) → D → D → Type 0
+Rests state possible old new =
+    (o : Held) → Certain state possible old o
+    → Certain state possible new o × Leaves state possible old new (λ p. p ≡ o)

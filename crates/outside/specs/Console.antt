@@ -37,7 +37,8 @@ pub record Writes (changes : List Change) (rows : ℕ) (old new : List Entry) : 
 
 -- its writes break this rule
 abbrev pub IsBrokenBy : List Change → Rule → List Entry → Type 0
-IsBrokenBy changes rule history = (s : TableState) → state_of history ≡ Some s → written_by_all changes s ≡ Err (error.Rule rule)
+IsBrokenBy changes rule history =
+    (s : TableState) → state_of history ≡ Some s → written_by_all changes s ≡ Err (error.Rule rule)
 
 -- A transaction of the console is done, all of its writes, or breaks a rule, and then none is done.
 abbrev pub WritesForeign : List Change → Result Done BankError → List Entry → List Entry → Type 0
@@ -55,5 +56,6 @@ pub record IsCopyOf (asked : List TableId) (s copy : TableState) : Type 0 where
 -- the tables as the history leaves them, and its length
 abbrev pub TakesSnapshot : List TableId → Result Snapshot BankError → List Entry → List Entry → Type 0
 TakesSnapshot asked (Ok snapshot) old new =
-    Grows [] old new × (snapshot.position.0 ≡ length new) × ((s : TableState) → state_of new ≡ Some s → IsCopyOf asked s snapshot.tables)
+    Grows [] old new × (snapshot.position.0 ≡ length new)
+    × ((s : TableState) → state_of new ≡ Some s → IsCopyOf asked s snapshot.tables)
 TakesSnapshot asked (Err e) old new = Grows [] old new

@@ -60,8 +60,10 @@ difference_of op s error.Memory = difference_at (table_of op, own_key op s) s
 -- of the first operation that doesn't apply behind those before it
 abbrev pub first_difference : List Op → TableState → Option Difference
 first_difference [] s = None
-first_difference (op ∷ ops) s = option_or (option_map (difference_of op s) (broken_by op s)) (option_and_then (first_difference ops) (applied op s))
+first_difference (op ∷ ops) s =
+    option_or (option_map (difference_of op s) (broken_by op s)) (option_and_then (first_difference ops) (applied op s))
 
 -- this is the first difference between the operations and the tables that the history leaves
 abbrev pub IsFirstDifference : Difference → List Op → List Entry → Type 0
-IsFirstDifference difference ops history = (s : TableState) → state_of history ≡ Some s → first_difference ops s ≡ Some difference
+IsFirstDifference difference ops history =
+    (s : TableState) → state_of history ≡ Some s → first_difference ops s ≡ Some difference

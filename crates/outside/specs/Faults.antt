@@ -2,6 +2,7 @@
 
 use Rattle.std.specs.Prelude.{◌≡◌, ℕ, ◌+◌, ◌-◌, ◌^◌, ◌≤◌, ◌<◌, min, Result, Ok}
 use Rattle.std.specs.Result.{OnErr, IsErrOf}
+use Rattle.outside.specs.Sites.{SiteState}
 use Rattle.outside.specs.declared.fault.BankError.{BankError}
 use Rattle.outside.specs.declared.fault.BankError.TheVariants.{Failed}
 
@@ -20,7 +21,17 @@ pub record PutHasCause {E : Type 0} (before now offered : ℕ) (result : Result 
   pub failed : OnErr result (Rose before now)
   pub none_taken : result ≡ Ok 0 → 0 < offered → Rose before now
 
--- a failed call of the backing database has its cause; want of memory needs none
-pub record BankHasCause {T : Type 0} (before now : ℕ) (result : Result T BankError) : Type 0 where
-  pub later : before ≤ now
-  pub failed : IsErrOf result Failed → Rose before now
+-- A failed call of the disk has its cause. The count of the bank's faults, and the tables that others change, stay.
+pub record DiskHasCause {T E : Type 0} (old new : SiteState) (result : Result T E) : Type 0 where
+  pub later : old.disk_faults ≤ new.disk_faults
+  pub failed : OnErr result (Rose old.disk_faults new.disk_faults)
+  pub bank : new.bank_faults ≡ old.bank_faults
+  pub shared : new.shared ≡ old.shared
+
+-- A failed call of the backing database has its cause; want of memory needs none. The count of the disk's faults, and
+-- the tables that others change, stay.
+pub record BankHasCause {T : Type 0} (old new : SiteState) (result : Result T BankError) : Type 0 where
+  pub later : old.bank_faults ≤ new.bank_faults
+  pub failed : IsErrOf result Failed → Rose old.bank_faults new.bank_faults
+  pub disk : new.disk_faults ≡ old.disk_faults
+  pub shared : new.shared ≡ old.shared

@@ -6,4 +6,5 @@ pub mod Differences
 pub mod Faults
 pub mod Holding
 pub mod Others
+pub mod Sites
 pub mod Writing

@@ -24,12 +24,15 @@ are_on_shared shared ops = list_all (λ op. is_shared shared (table_of op)) ops
 abbrev pub AreOthers : List TableId → List Entry → List Entry → Type 0
 AreOthers shared front [] = Unit {0}
 AreOthers shared front (Foreign ops ∷ entries) =
-    (are_on_shared shared ops ≡ true) × ((s : TableState) → state_of front ≡ Some s → IsSome (state_of (front ++ Foreign ops ∷ []))) × AreOthers shared (front ++ Foreign ops ∷ []) entries
+    (are_on_shared shared ops ≡ true)
+    × ((s : TableState) → state_of front ≡ Some s → IsSome (state_of (front ++ Foreign ops ∷ [])))
+    × AreOthers shared (front ++ Foreign ops ∷ []) entries
 AreOthers shared front (Definition def ∷ entries) = ⊥
 AreOthers shared front (Own ticket ops ∷ entries) = ⊥
 
 -- A call's own step, with transactions of others before and behind it.
-pub record Around (shared : List TableId) (step : List Entry → List Entry → Type 0) (old new : List Entry) : Type 0 where
+pub record Around (shared : List TableId) (step : List Entry → List Entry → Type 0) (old new : List Entry)
+    : Type 0 where
   pub before : List Entry
   pub middle : List Entry
   pub behind : List Entry

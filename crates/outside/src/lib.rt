@@ -11,8 +11,6 @@ pub mod script_clock;
 pub mod sink;
 pub mod site;
 pub mod source;
-#[cfg(test)]
-mod tests;
 pub mod write;
 
 pub use clock::Clock;

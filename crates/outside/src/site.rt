@@ -1,8 +1,7 @@
 //! The backing database, with the journal's disk beside it.
 
-ghost use Rattle.std.specs.Prelude.{◌≡◌};
 ghost use Rattle.outside.specs.Bank.{AppliesOnce, Defines, TellsRow, TellsSchema, WaitsForOne};
-ghost use Rattle.outside.specs.Calls.{BankCall, GoesOn, MayApply, Told};
+ghost use Rattle.outside.specs.Calls.{BankGoesOn, BankTold};
 ghost use Rattle.outside.specs.Console.{TakesSnapshot, WritesForeign};
 ghost use Rattle.outside.specs.Faults.{BankHasCause};
 ghost use Rattle.table_defs.specs.Declarations.{IsChecked};
@@ -63,61 +62,52 @@ pub struct Snapshot {
 /// a position that a call tells is a length that the history had in the call, and needn't be its end.
 ///
 /// `BankError::Failed` comes only where the count of bank faults rose in the call; a failed `define`, `apply_once` or
-/// `foreign` leaves the history with its own entry or without it. Where memory is wanting there is no own entry.
+/// `foreign` leaves the history with its own entry or without it. Where memory is wanting there is no own entry. No
+/// call changes the count of the disk's faults, or which tables others change.
 pub trait Site: Disk {
-    ghost use Rattle.std.specs.Prelude.{ℕ};
-
-    /// How often the bank has failed. The count never falls, and stays at 2^64 - 1.
-    ghost bank_faults: { Self → ℕ };
-
     /// The definitions of all tables, in the order in which they were made.
     fn schema(&mut self) -> Result<BackingSchema, BankError>
-        ensures told { Told (Self.held self.old) (Self.held self.new) (BankCall (Self.shared self.old) (TellsSchema result)) }
-        ensures crash { GoesOn Self.moment Self.possible self.old self.new (MayApply (Self.shared self.old) (Self.held self.old) (TellsSchema result)) }
-        ensures shares { Self.shared self.new ≡ Self.shared self.old }
-        ensures cause { BankHasCause (bank_faults self.old) (bank_faults self.new) result };
+        ensures told { BankTold (Self.state self.old) (Self.state self.new) (TellsSchema result) }
+        ensures crash { BankGoesOn Self.state Self.possible self.old self.new (TellsSchema result) }
+        ensures cause { BankHasCause (Self.state self.old) (Self.state self.new) result };
 
     /// Makes a table, which is behind the others then. A condition is that the definition passed `TableDef::check`.
     fn define(&mut self, def: &TableDef) -> Result<(), BankError>
         requires checked { IsChecked def.now }
-        ensures told { Told (Self.held self.old) (Self.held self.new) (BankCall (Self.shared self.old) (Defines def.now result)) }
-        ensures crash { GoesOn Self.moment Self.possible self.old self.new (MayApply (Self.shared self.old) (Self.held self.old) (Defines def.now result)) }
-        ensures shares { Self.shared self.new ≡ Self.shared self.old }
-        ensures cause { BankHasCause (bank_faults self.old) (bank_faults self.new) result };
+        ensures told { BankTold (Self.state self.old) (Self.state self.new) (Defines def.now result) }
+        ensures crash { BankGoesOn Self.state Self.possible self.old self.new (Defines def.now result) }
+        ensures cause { BankHasCause (Self.state self.old) (Self.state self.new) result };
 
     /// Applies and records a transaction, in one transaction of the bank, where its ticket isn't recorded yet and
     /// those of `after` are. What it waits for is one of `after`, also where the site tells nothing.
     fn apply_once(&mut self, sealed: &Sealed, after: &[Ticket]) -> Result<Applied, BankError>
-        ensures told { Told (Self.held self.old) (Self.held self.new) (BankCall (Self.shared self.old) (AppliesOnce sealed.now after.now result)) }
-        ensures crash { GoesOn Self.moment Self.possible self.old self.new (MayApply (Self.shared self.old) (Self.held self.old) (AppliesOnce sealed.now after.now result)) }
+        ensures told { BankTold (Self.state self.old) (Self.state self.new) (AppliesOnce sealed.now after.now result) }
+        ensures crash { BankGoesOn Self.state Self.possible self.old self.new
+            (AppliesOnce sealed.now after.now result) }
         ensures waits { WaitsForOne after.now result }
-        ensures shares { Self.shared self.new ≡ Self.shared self.old }
-        ensures cause { BankHasCause (bank_faults self.old) (bank_faults self.new) result };
+        ensures cause { BankHasCause (Self.state self.old) (Self.state self.new) result };
 
     /// The row at the key of the table, none where there is none.
     fn find(&mut self, table: TableId, key: &Key) -> Result<Option<Row>, BankError>
-        ensures told { Told (Self.held self.old) (Self.held self.new) (BankCall (Self.shared self.old) (TellsRow table key.now result)) }
-        ensures crash { GoesOn Self.moment Self.possible self.old self.new (MayApply (Self.shared self.old) (Self.held self.old) (TellsRow table key.now result)) }
-        ensures shares { Self.shared self.new ≡ Self.shared self.old }
-        ensures cause { BankHasCause (bank_faults self.old) (bank_faults self.new) result };
+        ensures told { BankTold (Self.state self.old) (Self.state self.new) (TellsRow table key.now result) }
+        ensures crash { BankGoesOn Self.state Self.possible self.old self.new (TellsRow table key.now result) }
+        ensures cause { BankHasCause (Self.state self.old) (Self.state self.new) result };
 
     /// Does the writes of a transaction of the console, one after the other, all of them or none. It isn't the tier's,
     /// so it has no ticket. Its entry comes also where no row is written.
     ///
-    /// It answers how many rows of the named tables were written (TimesTen SQL Reference, "INSERT", "UPDATE", "DELETE"),
-    /// or the first broken rule: 105 of a value that its column can't hold, 106 of NULL where it is refused, 120 of
-    /// a number past 64 signed bits, 119 of too many operations or rows, 107 of a key that has a row, 108 of a missing
-    /// parent, 109 of a row with a child; 104 and 118 of a write that isn't made for its table.
+    /// It answers how many rows of the named tables were written (TimesTen SQL Reference, "INSERT", "UPDATE" and
+    /// "DELETE"), or the first broken rule: 105 of a value that its column can't hold, 106 of NULL where it is refused,
+    /// 120 of a number past 64 signed bits, 119 of too many operations or rows, 107 of a key that has a row, 108 of a
+    /// missing parent, 109 of a row with a child; 104 and 118 of a write that isn't made for its table.
     fn foreign(&mut self, changes: &[Change]) -> Result<Done, BankError>
-        ensures told { Told (Self.held self.old) (Self.held self.new) (BankCall (Self.shared self.old) (WritesForeign changes.now result)) }
-        ensures crash { GoesOn Self.moment Self.possible self.old self.new (MayApply (Self.shared self.old) (Self.held self.old) (WritesForeign changes.now result)) }
-        ensures shares { Self.shared self.new ≡ Self.shared self.old }
-        ensures cause { BankHasCause (bank_faults self.old) (bank_faults self.new) result };
+        ensures told { BankTold (Self.state self.old) (Self.state self.new) (WritesForeign changes.now result) }
+        ensures crash { BankGoesOn Self.state Self.possible self.old self.new (WritesForeign changes.now result) }
+        ensures cause { BankHasCause (Self.state self.old) (Self.state self.new) result };
 
     /// The definitions of all tables, and the rows of these tables, at one position of the history.
     fn snapshot(&mut self, tables: &[TableId]) -> Result<Snapshot, BankError>
-        ensures told { Told (Self.held self.old) (Self.held self.new) (BankCall (Self.shared self.old) (TakesSnapshot tables.now result)) }
-        ensures crash { GoesOn Self.moment Self.possible self.old self.new (MayApply (Self.shared self.old) (Self.held self.old) (TakesSnapshot tables.now result)) }
-        ensures shares { Self.shared self.new ≡ Self.shared self.old }
-        ensures cause { BankHasCause (bank_faults self.old) (bank_faults self.new) result };
+        ensures told { BankTold (Self.state self.old) (Self.state self.new) (TakesSnapshot tables.now result) }
+        ensures crash { BankGoesOn Self.state Self.possible self.old self.new (TakesSnapshot tables.now result) }
+        ensures cause { BankHasCause (Self.state self.old) (Self.state self.new) result };
 }

@@ -1,8 +1,9 @@
--- A round of propagation by one thread: the unsettled transactions are applied at the bank in turn. (TimesTen Cache User's
--- Guide: asynchronous writethrough; the round is this project's rule.)
+-- A round of propagation by one thread: the unsettled transactions are applied at the bank in turn. (TimesTen Cache
+-- User's Guide: asynchronous writethrough; the round is this project's rule.)
 
 use Rattle.std.specs.Prelude.{◌≡◌, ◌⊎◌, ℕ, ◌≤◌, List, [], ◌∷◌, ◌++◌, true, false, Option, None, length, Result, Ok, Err}
 use Rattle.std.specs.List.{Contains}
+use Rattle.std.specs.Result.{IsErrOf}
 use Rattle.row_types.specs.declared.value.Value.{Value}
 use Rattle.tier_base.specs.declared.number.TableId.{TableId}
 use Rattle.table_state.specs.declared.history.Entry.{Entry}
@@ -14,8 +15,10 @@ use Rattle.table_state.specs.Histories.{entry_of, has_ticket, state_of}
 use Rattle.outside.specs.Bank.{CanFollow, Comes, Grows}
 use Rattle.outside.specs.Calls.{Told}
 use Rattle.outside.specs.Differences.{IsFirstDifference}
+use Rattle.outside.specs.Faults.{Rose}
 use Rattle.outside.specs.Holding.{Held}
 use Rattle.outside.specs.Others.{AreOthers, is_shared}
+use Rattle.outside.specs.Sites.{SiteState}
 use Rattle.commit_flow.specs.Events.{Event, Came, Left, Others}
 use Rattle.propagators.specs.declared.rounds.RoundFault.{RoundFault}
 use Rattle.propagators.specs.declared.rounds.RoundFault.TheVariants as stop
@@ -24,8 +27,8 @@ use Rattle.propagators.specs.declared.rounds.RoundFault.TheVariants as stop
 abbrev pub IsFirst : Sealed → List Sealed → Type 0
 IsFirst s unsettled = (rest : List Sealed) × (unsettled ≡ s ∷ rest)
 
--- These events lead from a history and unsettled transactions to others: a transaction of others comes, on shared tables;
--- the first unsettled one comes, which didn't stand there; the first one, which stands there, leaves.
+-- These events lead from a history and unsettled transactions to others: a transaction of others comes, on shared
+-- tables; the first unsettled one comes, which didn't stand there; the first one, which stands there, leaves.
 abbrev pub Leads : List TableId → List Event → List Entry → List Sealed → List Entry → List Sealed → Type 0
 Leads shared [] history unsettled later left = (later ≡ history) × (left ≡ unsettled)
 Leads shared (Others ops ∷ events) history unsettled later left =
@@ -73,6 +76,9 @@ pub record HoldsRound (shared : List TableId) (few : ℕ) (old new : List Sealed
 abbrev pub TellsRound : List TableId → Option Held → Option Held → ℕ → List Sealed → List Sealed → Type 0
 TellsRound shared told told' few old new = Told told told' (HoldsRound shared few old new)
 
+abbrev pub RoundTold : SiteState → SiteState → ℕ → List Sealed → List Sealed → Type 0
+RoundTold before after few old new = TellsRound before.shared before.held after.held few old new
+
 -- of how many transactions the entry may have come without a receipt: of one where a call of the bank failed
 abbrev pub doubts_at : RoundFault → ℕ
 doubts_at stop.Failed = 1
@@ -102,13 +108,21 @@ pub record DifferedAt (shared : List TableId) (table : TableId) (key : List Valu
   pub there : IsFirst one unsettled
   pub first : FirstDiffers table key one front
 
--- What the bank does for one unsettled transaction: it comes now, or it came before; at a fault it may have come, and for
--- want of memory, or where a row differs, it doesn't.
+-- What the bank does for one unsettled transaction: it comes now, or it came before; at a fault it may have come, and
+-- for want of memory, or where a row differs, it doesn't.
 abbrev pub Settles : Sealed → Result (Unit {0}) RoundFault → List Entry → List Entry → Type 0
 Settles s (Ok done) old new = Comes s [] old new ⊎ ((has_ticket s.ticket.0 old ≡ true) × Grows [] old new)
 Settles s (Err stop.Failed) old new = Grows [] old new ⊎ Comes s [] old new
 Settles s (Err stop.Memory) old new = Grows [] old new
 Settles s (Err (stop.Differs table key)) old new = FirstDiffers table key s old × Grows [] old new
+
+-- A failed call of the bank has its cause; want of memory needs none. The count of the disk's faults, and the tables
+-- that others change, stay.
+pub record RoundHasCause {T : Type 0} (before after : SiteState) (result : Result T RoundFault) : Type 0 where
+  pub later : before.bank_faults ≤ after.bank_faults
+  pub failed : IsErrOf result stop.Failed → Rose before.bank_faults after.bank_faults
+  pub disk : after.disk_faults ≡ before.disk_faults
+  pub shared : after.shared ≡ before.shared
 
 -- others change none of these tables
 abbrev pub AreUnshared : List TableId → List TableId → Type 0

@@ -13,10 +13,10 @@ use Rattle.outside.specs.Others.{AreOthers}
 use Rattle.order_laws.specs.Commits.{Once}
 use Rattle.order_laws.specs.Steps.{MayBegin}
 use Rattle.cache_tier.specs.TierStates.{Settings as TierSettings}
-use Rattle.cache_engine.specs.declared.tier.Tier.{Tier}
+use Rattle.stored_tier.specs.declared.tier.Tier.{Tier}
 use Rattle.cache_engine.specs.Beginning.{Begins, BeginsAt}
-use Rattle.cache_engine.specs.Performing.{KeepsSlots}
-use Rattle.cache_engine.specs.Sites.{SiteView}
+use Rattle.stored_tier.specs.Performing.{KeepsSlots}
+use Rattle.outside.specs.Sites.{SiteState}
 use Rattle.session_cli.specs.declared.session.Session.{Session}
 use Rattle.session_cli.specs.Opening.{HasNoTickets, IsNew, Opened, Opens, begins, world_at}
 use Rattle.session_cli.specs.Outside.{Outside}
@@ -75,7 +75,7 @@ may_begin h none = record {
 }
 
 -- the tier was begun, and its session has been given nothing
-pub opens_begun : (before behind : SiteView) (bases left : Coming) (propagate_ms : ℕ) (start : Moment) (tier : Tier) (session : Session) → session.tier ≡ tier → IsNext (bases 0) start.0 → AreLeft bases 1 left
+pub opens_begun : (before behind : SiteState) (bases left : Coming) (propagate_ms : ℕ) (start : Moment) (tier : Tier) (session : Session) → session.tier ≡ tier → IsNext (bases 0) start.0 → AreLeft bases 1 left
     → Begins start propagate_ms before behind (Ok tier) → BeginsAt before behind → Opens propagate_ms before behind bases left session
 opens_begun before behind bases left propagate_ms start tier session is first more begins later = λ there settings told none ms.
     let b = begins there told in
@@ -98,7 +98,7 @@ opens_begun before behind bases left propagate_ms start tier session is first mo
     }
 
 -- the site was asked, or wasn't: others came
-pub opened_at : (before behind : SiteView) (bases : Coming) (there : Held) → BeginsAt before behind → before.held ≡ Some there → HasNoTickets there.history → Opened there before behind bases
+pub opened_at : (before behind : SiteState) (bases : Coming) (there : Held) → BeginsAt before behind → before.held ≡ Some there → HasNoTickets there.history → Opened there before behind bases
 opened_at before behind bases there later told none =
     let o = later.others there told in
     let no : HasNoTickets o.now.history = subst HasNoTickets (sym o.is) (others_leave before.shared there.history o.others o.came none) in
@@ -117,7 +117,7 @@ opened_at before behind bases there later told none =
     }
 
 -- a site that isn't called begins so
-pub begins_still : (site : SiteView) → BeginsAt site site
+pub begins_still : (site : SiteState) → BeginsAt site site
 begins_still site = record {
   later = omega arith;
   moment = omega arith;
@@ -131,7 +131,7 @@ begins_still site = record {
     slots_still (Some held) = refl
 
 -- at the beginning nothing is given
-pub serving_new : (there : Held) (before : SiteView) (bases : Coming) (settings : TierSettings) (session : Session) (start : List ℕ) (now : Outside) (new : IsNew there before now.site bases now.coming settings session)
+pub serving_new : (there : Held) (before : SiteState) (bases : Coming) (settings : TierSettings) (session : Session) (start : List ℕ) (now : Outside) (new : IsNew there before now.site bases now.coming settings session)
     → session.line ≡ [] → session.output ≡ [] → now.written ≡ Some start → Serving (begins settings start new.opened) [] now session
 serving_new there before bases settings session start now new line output written = record {
   world = world_at settings new.opened;

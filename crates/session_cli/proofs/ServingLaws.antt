@@ -9,10 +9,11 @@ use Rattle.cache_tier.specs.declared.reply.Reply.{Reply}
 use Rattle.cache_tier.specs.Replying.{reply_bytes, replies_bytes}
 use Rattle.cache_tier.specs.Worlds.{IsUnshared, World}
 use Rattle.tier_laws.specs.Standing.{Stands}
-use Rattle.cache_engine.specs.declared.tier.Tier.{Tier}
-use Rattle.cache_engine.specs.Performing.{KeepsSlots, StandsFor}
+use Rattle.stored_tier.specs.declared.tier.Tier.{Tier}
+use Rattle.stored_tier.specs.Performing.{KeepsSlots, StandsFor}
 use Rattle.cache_engine.specs.Requests.{Given}
-use Rattle.cache_engine.specs.Sites.{IsAt, SiteView}
+use Rattle.stored_tier.specs.Sites.{IsAt}
+use Rattle.outside.specs.Sites.{SiteState}
 use Rattle.session_cli.specs.declared.session.Session.{Session}
 use Rattle.session_cli.specs.Cutting.{cut, front_of, text_of, ended_lines, all_lines}
 use Rattle.session_cli.specs.Outside.{Outside}
@@ -40,7 +41,7 @@ legal_of w x s is =
     subst (λ (state : TableState). IsLegal (conflicting state.schema) w.history w.tier.log) same over.legal
 
 -- a run has led to a world for which the tier stands
-pub answered_by : (o : Origin) (lines : List (List ℕ)) (replies : List (Option Reply)) (site : SiteView) (tier : Tier) (w : World) → Comes o lines replies w → (at : IsAt site w) → at.there.slots ≡ o.slots → StandsFor tier w
+pub answered_by : (o : Origin) (lines : List (List ℕ)) (replies : List (Option Reply)) (site : SiteState) (tier : Tier) (w : World) → Comes o lines replies w → (at : IsAt site w) → at.there.slots ≡ o.slots → StandsFor tier w
     → Answered o lines replies site
 answered_by o lines replies site tier w comes at slots stands = record {
   last = w;
@@ -193,9 +194,9 @@ serving_flushed (Ok done) o given bytes before behind session session' coming si
           (splits_then (Some o.written) before.written behind.written (replies_bytes s.replies) session.output [] session'.output s.passed p);
     }
   where
-    same_there : (w : World) (a b : SiteView) (o : Origin) → a ≡ b → (x : IsAt a w) (y : IsAt b w) → x.there.slots ≡ o.slots → y.there.slots ≡ o.slots
+    same_there : (w : World) (a b : SiteState) (o : Origin) → a ≡ b → (x : IsAt a w) (y : IsAt b w) → x.there.slots ≡ o.slots → y.there.slots ≡ o.slots
     same_there w a b o is x y slots =
-        let told : Some x.there ≡ Some y.there = sym x.told ∙ ap (λ (v : SiteView). v.held) is ∙ y.told in
+        let told : Some x.there ≡ Some y.there = sym x.told ∙ ap (λ (v : SiteState). v.held) is ∙ y.told in
         let same : x.there ≡ y.there = cc in
         sym (ap (λ (h : Held). h.slots) same) ∙ slots
 serving_flushed (Err e) o given bytes before behind session session' coming site tier line s p = (

@@ -7,7 +7,7 @@ use Rattle.command_line.specs.Keys.{AreBad}
 use Rattle.command_line.specs.Words.{Asks, Refuses}
 use Rattle.cache_tier.specs.TierStates.{Settings as TierSettings}
 use Rattle.cache_engine.specs.Beginning.{BeginsAt}
-use Rattle.cache_engine.specs.Sites.{SiteView}
+use Rattle.outside.specs.Sites.{SiteState}
 use Rattle.session_cli.specs.declared.serving.Status.{Status}
 use Rattle.session_cli.specs.declared.session.Session.{Session}
 use Rattle.session_cli.specs.declared.serving.Status.TheVariants.{Finished, SourceFailed, SinkFailed, SchemaFailed, NoMemory, LineUnchecked, InputTooLong}
@@ -90,7 +90,7 @@ Serves session status source before source' behind =
 -- transactions of others may come. Then the run begins, and ends so where others change no table of a group.
 pub record OpenedAndEnded (status : Status) (settings : TierSettings) (there : Held) (start input : List ℕ)
     (before : Outside) (source : Option (List ℕ)) (behind : Outside) : Type 0 where
-  pub site : SiteView
+  pub site : SiteState
   pub later : BeginsAt before.site site
   pub opened : Opened there before.site site before.coming
   pub ended : IsLeftAlone (begins settings start opened) input

@@ -10,8 +10,8 @@ use Rattle.command_line.specs.declared.settings.Settings.{Settings}
 use Rattle.cache_tier.specs.TierStates.{Settings as TierSettings}
 use Rattle.cache_engine.specs.Beginning.{opened_world}
 use Rattle.cache_tier.specs.Worlds.{World}
-use Rattle.cache_engine.specs.Performing.{StandsFor}
-use Rattle.cache_engine.specs.Sites.{SiteView}
+use Rattle.stored_tier.specs.Performing.{StandsFor}
+use Rattle.outside.specs.Sites.{SiteState}
 use Rattle.session_cli.specs.declared.session.Session.{Session}
 use Rattle.session_cli.specs.Serving.{Origin}
 use Rattle.session_cli.specs.Timing.{AreLeft, Coming, IsNext}
@@ -35,7 +35,7 @@ tier_settings s = record {
 
 -- What the opening leaves of a site that held this: no slot changed, and transactions of others alone came. The tier's
 -- first moment is the first of the bases.
-pub record Opened (there : Held) (before behind : SiteView) (bases : Coming) : Type 0 where
+pub record Opened (there : Held) (before behind : SiteState) (bases : Coming) : Type 0 where
   pub start : ℕ
   pub first : IsNext (bases 0) start
   pub held : Held
@@ -48,12 +48,12 @@ pub record Opened (there : Held) (before behind : SiteView) (bases : Coming) : T
   pub leaves : state_of held.history ≡ Some state
 
 -- the world of the tier that was opened so, over the schema of the state that the history leaves
-abbrev pub world_at : {there : Held} {before behind : SiteView} {bases : Coming} → TierSettings
+abbrev pub world_at : {there : Held} {before behind : SiteState} {bases : Coming} → TierSettings
     → Opened there before behind bases → World
 world_at {behind = behind} settings x = opened_world settings x.start x.state x.held.history behind
 
 -- where its run begins
-abbrev pub begins : {there : Held} {before behind : SiteView} {bases : Coming} → TierSettings → List ℕ
+abbrev pub begins : {there : Held} {before behind : SiteState} {bases : Coming} → TierSettings → List ℕ
     → Opened there before behind bases → Origin
 begins {bases = bases} settings written x = record {
   world = world_at settings x;
@@ -63,14 +63,14 @@ begins {bases = bases} settings written x = record {
 }
 
 -- the tier of a session stands for the opened one, and of the bases one is taken
-pub record IsNew (there : Held) (before behind : SiteView) (bases coming : Coming) (settings : TierSettings)
+pub record IsNew (there : Held) (before behind : SiteState) (bases coming : Coming) (settings : TierSettings)
     (session : Session) : Type 0 where
   pub opened : Opened there before behind bases
   pub stands : StandsFor session.tier (world_at settings opened)
   pub left : AreLeft bases 1 coming
 
 -- so it is where the site tells a history without tickets, and the settings have this span between rounds
-abbrev pub Opens : ℕ → SiteView → SiteView → Coming → Coming → Session → Type 0
+abbrev pub Opens : ℕ → SiteState → SiteState → Coming → Coming → Session → Type 0
 Opens propagate_ms before behind bases left session =
     (there : Held) (settings : TierSettings) → before.held ≡ Some there → HasNoTickets there.history
     → settings.propagate_ms ≡ propagate_ms → IsNew there before behind bases left settings session

@@ -8,10 +8,11 @@ use Rattle.cache_tier.specs.Replying.{reply_bytes, replies_bytes}
 use Rattle.cache_tier.specs.Rounds.{IsDrained}
 use Rattle.cache_tier.specs.Worlds.{IsUnshared, World}
 use Rattle.tier_laws.specs.Standing.{AreReadAt}
-use Rattle.cache_engine.specs.declared.tier.Tier.{Tier}
-use Rattle.cache_engine.specs.Performing.{StandsFor}
+use Rattle.stored_tier.specs.declared.tier.Tier.{Tier}
+use Rattle.stored_tier.specs.Performing.{StandsFor}
 use Rattle.cache_engine.specs.Requests.{Given, LineRun, LineStep}
-use Rattle.cache_engine.specs.Sites.{IsAt, SiteView}
+use Rattle.stored_tier.specs.Sites.{IsAt}
+use Rattle.outside.specs.Sites.{SiteState}
 use Rattle.session_cli.specs.declared.session.Session.{Session}
 use Rattle.session_cli.specs.Cutting.{cut, front_of, ended_lines, all_lines}
 use Rattle.session_cli.specs.Output.{Splits, Passes}
@@ -75,7 +76,7 @@ pub record Serving (o : Origin) (given : List ℕ) (now : Outside) (session : Se
 -- committed transaction stands once at most, and conflicting ones in commit order; where nothing is unsettled, as
 -- behind a ttDrain that succeeded, each stands once, and the tables of each writethrough group are what all of its
 -- transactions make in commit order; and the READONLY groups of one set that have something to show have one position.
-pub record Answered (o : Origin) (lines : List (List ℕ)) (replies : List (Option Reply)) (site : SiteView)
+pub record Answered (o : Origin) (lines : List (List ℕ)) (replies : List (Option Reply)) (site : SiteState)
     : Type 0 where
   pub last : World
   pub comes : Comes o lines replies last

@@ -83,10 +83,8 @@ pub fn top<'a, S: Source, K: Sink, P: Site, C: Clock>(
         → (source.new ≡ source.old) × (sink.new ≡ sink.old) × (site.new ≡ site.old) × (clock.new ≡ clock.old) }
     ensures runs { Asks (texts words.entry.now) Task.Run → (s : Set) → IsSetBy settings.now s
         → ((status : Status) × (result ≡ number_of status) × Runs (tier_settings s) status (S.left source.old)
-        (seen (K.written sink.old) (bases_by s (C.coming clock.old)) (P.Disk.held site.old)
-        (P.bank_faults site.old) (P.Disk.moment site.old) (P.Disk.shared site.old)) (S.left source.new)
-        (seen (K.written sink.new) (bases_by s (C.coming clock.new)) (P.Disk.held site.new)
-        (P.bank_faults site.new) (P.Disk.moment site.new) (P.Disk.shared site.new))) }
+        (seen (K.written sink.old) (bases_by s (C.coming clock.old)) (P.Disk.state site.old)) (S.left source.new)
+        (seen (K.written sink.new) (bases_by s (C.coming clock.new)) (P.Disk.state site.new))) }
     ensures checks { Asks (texts words.entry.now) Task.Check → (s : Set) → IsSetBy settings.now s
         → ((status : Status) × (result ≡ number_of status)
         × CheckRuns status (S.left source.old) (K.written sink.old) (S.left source.new) (K.written sink.new)) }
@@ -95,7 +93,7 @@ pub fn top<'a, S: Source, K: Sink, P: Site, C: Clock>(
     ensures read { result ≡ 3 → Rose (S.faults source.old) (S.faults source.new) }
     ensures write { result ≡ 4 → Rose (K.faults sink.old) (K.faults sink.new) }
     ensures unopened { result ≡ 6 → (source.new ≡ source.old) × (sink.new ≡ sink.old) }
-    ensures schema { result ≡ 6 → Rose (P.bank_faults site.old) (P.bank_faults site.new) }
+    ensures schema { result ≡ 6 → Rose (P.Disk.state site.old).bank_faults (P.Disk.state site.new).bank_faults }
     // In the run that the clause `runs` speaks of, each fault that is told has a failed call of its own.
     ensures caused { (w w' : World) (lines : List Given) (replies : List (Option Reply)) → LineRun w lines replies w'
         → FaultsAreCaused w w' replies }
@@ -128,16 +126,14 @@ fn run<S: Source, K: Sink, P: Site, C: Clock>(
     clock: &mut C,
 ) -> Status
     ensures runs { Runs (tier_settings settings.now) result (S.left source.old)
-        (seen (K.written sink.old) (bases_by settings.now (C.coming clock.old)) (P.Disk.held site.old)
-        (P.bank_faults site.old) (P.Disk.moment site.old) (P.Disk.shared site.old)) (S.left source.new)
-        (seen (K.written sink.new) (bases_by settings.now (C.coming clock.new)) (P.Disk.held site.new)
-        (P.bank_faults site.new) (P.Disk.moment site.new) (P.Disk.shared site.new)) }
+        (seen (K.written sink.old) (bases_by settings.now (C.coming clock.old)) (P.Disk.state site.old)) (S.left source.new)
+        (seen (K.written sink.new) (bases_by settings.now (C.coming clock.new)) (P.Disk.state site.new)) }
     ensures takes { Takes result (S.left source.old) (S.left source.new) }
     ensures read { result ≡ Status.SourceFailed → Rose (S.faults source.old) (S.faults source.new) }
     ensures write { result ≡ Status.SinkFailed → Rose (K.faults sink.old) (K.faults sink.new) }
     ensures unopened { (result ≡ Status.SchemaFailed) ⊎ (result ≡ Status.NoMemory)
         → (source.new ≡ source.old) × (sink.new ≡ sink.old) }
-    ensures schema { result ≡ Status.SchemaFailed → Rose (P.bank_faults site.old) (P.bank_faults site.new) }
+    ensures schema { result ≡ Status.SchemaFailed → Rose (P.Disk.state site.old).bank_faults (P.Disk.state site.new).bank_faults }
     ensures unasked { settings.now.clock ≡ Script → clock.new ≡ clock.old }
 {
     match settings.clock {

@@ -3,7 +3,7 @@
 ghost use Rattle.std.specs.Prelude.{◌≡◌, ◌<◌, ◌⊎◌, [], length};
 ghost use Rattle.outside.specs.Faults.{Rose};
 ghost use Rattle.cache_tier.specs.TierStates.{Settings as TierSettings};
-ghost use Rattle.cache_engine.specs.Stored.{IsSound};
+ghost use Rattle.stored_tier.specs.Stored.{IsSound};
 ghost use Rattle.session_cli.specs.Ends.{Runs, Serves, Takes};
 ghost use Rattle.session_cli.specs.Outside.{seen};
 
@@ -72,16 +72,14 @@ pub fn serve<S: Source, K: Sink, P: Site, C: Clock>(
 ) -> Status
     ensures runs { (settings : TierSettings) → settings.propagate_ms ≡ propagate_ms
         → Runs settings result (S.left source.old)
-        (seen (K.written sink.old) (C.coming clock.old) (P.Disk.held site.old)
-        (P.bank_faults site.old) (P.Disk.moment site.old) (P.Disk.shared site.old)) (S.left source.new)
-        (seen (K.written sink.new) (C.coming clock.new) (P.Disk.held site.new)
-        (P.bank_faults site.new) (P.Disk.moment site.new) (P.Disk.shared site.new)) }
+        (seen (K.written sink.old) (C.coming clock.old) (P.Disk.state site.old)) (S.left source.new)
+        (seen (K.written sink.new) (C.coming clock.new) (P.Disk.state site.new)) }
     ensures takes { Takes result (S.left source.old) (S.left source.new) }
     ensures read { result ≡ Status.SourceFailed → Rose (S.faults source.old) (S.faults source.new) }
     ensures write { result ≡ Status.SinkFailed → Rose (K.faults sink.old) (K.faults sink.new) }
     ensures unopened { (result ≡ Status.SchemaFailed) ⊎ (result ≡ Status.NoMemory)
         → (source.new ≡ source.old) × (sink.new ≡ sink.old) }
-    ensures schema { result ≡ Status.SchemaFailed → Rose (P.bank_faults site.old) (P.bank_faults site.new) }
+    ensures schema { result ≡ Status.SchemaFailed → Rose (P.Disk.state site.old).bank_faults (P.Disk.state site.new).bank_faults }
 {
     let Ok(mut piece) = vec![in alloc; 0u8; PIECE_BYTES] else {
         return Status::NoMemory;
@@ -110,10 +108,8 @@ fn serve_pieces<S: Source, K: Sink, P: Site, C: Clock>(
     requires room { 0 < length piece.old }
     requires sound { IsSound session.old.tier }
     ensures serves { Serves session.old result (S.left source.old)
-        (seen (K.written sink.old) (C.coming clock.old) (P.Disk.held site.old)
-        (P.bank_faults site.old) (P.Disk.moment site.old) (P.Disk.shared site.old)) (S.left source.new)
-        (seen (K.written sink.new) (C.coming clock.new) (P.Disk.held site.new)
-        (P.bank_faults site.new) (P.Disk.moment site.new) (P.Disk.shared site.new)) }
+        (seen (K.written sink.old) (C.coming clock.old) (P.Disk.state site.old)) (S.left source.new)
+        (seen (K.written sink.new) (C.coming clock.new) (P.Disk.state site.new)) }
     ensures takes { Takes result (S.left source.old) (S.left source.new) }
     ensures read { result ≡ Status.SourceFailed → Rose (S.faults source.old) (S.faults source.new) }
     ensures write { result ≡ Status.SinkFailed → Rose (K.faults sink.old) (K.faults sink.new) }

@@ -3,9 +3,10 @@
 use crate::answering::respond;
 use crate::line::LineBuffer;
 use crate::output::Output;
-use cache_engine::tier::Tier;
+use cache_engine::beginning::begin;
 use outside::{BankError, Clock, Failed, Sink, Site};
 use std::alloc::Global;
+use stored_tier::tier::Tier;
 
 /// What is kept between the pieces of the input.
 pub struct Session {
@@ -31,8 +32,7 @@ impl Session {
     ghost use Rattle.std.specs.Prelude.{◌≡◌, ◌++◌, ◌∷◌, [], List, ℕ, OnOk, IfOk};
     ghost use Rattle.outside.specs.Faults.{BankHasCause, HasCause};
     ghost use Rattle.cache_engine.specs.Beginning.{BeginsAt};
-    ghost use Rattle.cache_engine.specs.Sites.{seen_at};
-    ghost use Rattle.cache_engine.specs.Stored.{IsSound};
+    ghost use Rattle.stored_tier.specs.Stored.{IsSound};
     ghost use Rattle.session_cli.specs.Opening.{Opens};
     ghost use Rattle.session_cli.specs.Outside.{seen};
     ghost use Rattle.session_cli.specs.Serving.{Closes, Feeds, Finishes, IsLeftAlone, Origin, Serving};
@@ -48,17 +48,16 @@ impl Session {
         propagate_ms: u64,
     ) -> Result<Session, BankError>
         ensures opens { IfOk result (Opens propagate_ms
-            (seen_at (P.Disk.held site.old) (P.bank_faults site.old) (P.Disk.moment site.old) (P.Disk.shared site.old))
-            (seen_at (P.Disk.held site.new) (P.bank_faults site.new) (P.Disk.moment site.new) (P.Disk.shared site.new))
+            (P.Disk.state site.old)
+            (P.Disk.state site.new)
             (C.coming clock.old) (C.coming clock.new)) }
         ensures line { IfOk result (λ session. session.line ≡ []) }
         ensures output { IfOk result (λ session. session.output ≡ []) }
         ensures sound { IfOk result (λ session. IsSound session.tier) }
-        ensures cause { BankHasCause (P.bank_faults site.old) (P.bank_faults site.new) result }
+        ensures cause { BankHasCause (P.Disk.state site.old) (P.Disk.state site.new) result }
         ensures later { BeginsAt
-            (seen_at (P.Disk.held site.old) (P.bank_faults site.old) (P.Disk.moment site.old) (P.Disk.shared site.old))
-            (seen_at (P.Disk.held site.new) (P.bank_faults site.new)
-            (P.Disk.moment site.new) (P.Disk.shared site.new)) }
+            (P.Disk.state site.old)
+            (P.Disk.state site.new) }
     {
         let Ok(line) = LineBuffer::new(alloc) else {
             return Err(BankError::Memory);
@@ -67,7 +66,7 @@ impl Session {
             return Err(BankError::Memory);
         };
         let start = clock.now();
-        match Tier::begin(alloc, site, start, propagate_ms) {
+        match begin(alloc, site, start, propagate_ms) {
             Ok(tier) => Ok(Session { tier, line, output }),
             Err(error) => Err(error),
         }
@@ -87,11 +86,9 @@ impl Session {
     ) -> Result<(), Failed>
         requires { IsSound self.old.tier }
         ensures serves { (o : Origin) (given : List ℕ) → IsLeftAlone o (given ++ bytes.now) → Serving o given
-            (seen (K.written sink.old) (C.coming clock.old) (P.Disk.held site.old)
-            (P.bank_faults site.old) (P.Disk.moment site.old) (P.Disk.shared site.old)) self.old
+            (seen (K.written sink.old) (C.coming clock.old) (P.Disk.state site.old)) self.old
             → Feeds result o given bytes.now
-            (seen (K.written sink.new) (C.coming clock.new) (P.Disk.held site.new)
-            (P.bank_faults site.new) (P.Disk.moment site.new) (P.Disk.shared site.new)) self.new }
+            (seen (K.written sink.new) (C.coming clock.new) (P.Disk.state site.new)) self.new }
         ensures empty { OnOk result (self.new.output ≡ []) }
         ensures sound { IsSound self.new.tier }
         ensures cause { HasCause (K.faults sink.old) (K.faults sink.new) result }
@@ -113,11 +110,9 @@ impl Session {
     ) -> Result<(), Failed>
         requires { IsSound self.old.tier }
         ensures serves { (o : Origin) (given : List ℕ) → IsLeftAlone o given → Serving o given
-            (seen (K.written sink.old) (C.coming clock.old) (P.Disk.held site.old)
-            (P.bank_faults site.old) (P.Disk.moment site.old) (P.Disk.shared site.old)) self.old
+            (seen (K.written sink.old) (C.coming clock.old) (P.Disk.state site.old)) self.old
             → Finishes result o given
-            (seen (K.written sink.new) (C.coming clock.new) (P.Disk.held site.new)
-            (P.bank_faults site.new) (P.Disk.moment site.new) (P.Disk.shared site.new)) }
+            (seen (K.written sink.new) (C.coming clock.new) (P.Disk.state site.new)) }
         ensures sound { IsSound self.new.tier }
         ensures cause { HasCause (K.faults sink.old) (K.faults sink.new) result }
     {
@@ -135,11 +130,9 @@ impl Session {
     ) -> Result<(), Failed>
         requires { IsSound self.old.tier }
         ensures serves { (o : Origin) (given : List ℕ) → IsLeftAlone o given → Serving o given
-            (seen (K.written sink.old) (C.coming clock.old) (P.Disk.held site.old)
-            (P.bank_faults site.old) (P.Disk.moment site.old) (P.Disk.shared site.old)) self.old
+            (seen (K.written sink.old) (C.coming clock.old) (P.Disk.state site.old)) self.old
             → Closes result o given
-            (seen (K.written sink.new) (C.coming clock.new) (P.Disk.held site.new)
-            (P.bank_faults site.new) (P.Disk.moment site.new) (P.Disk.shared site.new)) self.new.output }
+            (seen (K.written sink.new) (C.coming clock.new) (P.Disk.state site.new)) self.new.output }
         ensures sound { IsSound self.new.tier }
         ensures cause { HasCause (K.faults sink.old) (K.faults sink.new) result }
     {
@@ -168,11 +161,9 @@ impl Session {
     ) -> Result<(), Failed>
         requires { IsSound self.old.tier }
         ensures serves { (o : Origin) (given : List ℕ) → IsLeftAlone o (given ++ bytes.now) → Serving o given
-            (seen (K.written sink.old) (C.coming clock.old) (P.Disk.held site.old)
-            (P.bank_faults site.old) (P.Disk.moment site.old) (P.Disk.shared site.old)) self.old
+            (seen (K.written sink.old) (C.coming clock.old) (P.Disk.state site.old)) self.old
             → Feeds result o given bytes.now
-            (seen (K.written sink.new) (C.coming clock.new) (P.Disk.held site.new)
-            (P.bank_faults site.new) (P.Disk.moment site.new) (P.Disk.shared site.new)) self.new }
+            (seen (K.written sink.new) (C.coming clock.new) (P.Disk.state site.new)) self.new }
         ensures sound { IsSound self.new.tier }
         ensures cause { HasCause (K.faults sink.old) (K.faults sink.new) result }
     {
@@ -192,11 +183,9 @@ impl Session {
     ) -> Result<(), Failed>
         requires { IsSound self.old.tier }
         ensures serves { (o : Origin) (given : List ℕ) → IsLeftAlone o given → Serving o given
-            (seen (K.written sink.old) (C.coming clock.old) (P.Disk.held site.old)
-            (P.bank_faults site.old) (P.Disk.moment site.old) (P.Disk.shared site.old)) self.old
+            (seen (K.written sink.old) (C.coming clock.old) (P.Disk.state site.old)) self.old
             → Feeds result o given (byte ∷ [])
-            (seen (K.written sink.new) (C.coming clock.new) (P.Disk.held site.new)
-            (P.bank_faults site.new) (P.Disk.moment site.new) (P.Disk.shared site.new)) self.new }
+            (seen (K.written sink.new) (C.coming clock.new) (P.Disk.state site.new)) self.new }
         ensures sound { IsSound self.new.tier }
         ensures cause { HasCause (K.faults sink.old) (K.faults sink.new) result }
     {
@@ -217,11 +206,9 @@ impl Session {
     ) -> Result<(), Failed>
         requires { IsSound self.old.tier }
         ensures serves { (o : Origin) (given : List ℕ) → IsLeftAlone o given → Serving o given
-            (seen (K.written sink.old) (C.coming clock.old) (P.Disk.held site.old)
-            (P.bank_faults site.old) (P.Disk.moment site.old) (P.Disk.shared site.old)) self.old
+            (seen (K.written sink.old) (C.coming clock.old) (P.Disk.state site.old)) self.old
             → Feeds result o given (10 ∷ [])
-            (seen (K.written sink.new) (C.coming clock.new) (P.Disk.held site.new)
-            (P.bank_faults site.new) (P.Disk.moment site.new) (P.Disk.shared site.new)) self.new }
+            (seen (K.written sink.new) (C.coming clock.new) (P.Disk.state site.new)) self.new }
         ensures sound { IsSound self.new.tier }
         ensures cause { HasCause (K.faults sink.old) (K.faults sink.new) result }
     {

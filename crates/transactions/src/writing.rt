@@ -56,8 +56,11 @@ fn most_operations() -> usize
     Limit::Operations.number() as usize
 }
 
-// After an error those before it stay done. What is done is noted in any case.
-fn write_each(
+/// Does the writes as `write_all` does, and notes how what is done is taken back, behind what is noted.
+///
+/// The errors are those of `write_all`. After an error those before it stay done, and that is noted, too: so
+/// `Tables::take_all_back` leaves the tables as they were, and takes no memory.
+pub fn write_each(
     alloc: Global,
     tables: &mut Tables,
     writes: &[Change],

@@ -1,7 +1,7 @@
 use Rattle.std.proofs.Common.{refl}
 use Rattle.group_catalog.specs.Catalogs.{groups_in}
 use Rattle.cache_engine.proofs.BeginningLaws.{sound_fresh}
-use Rattle.cache_engine.proofs.NamingLaws.{named_as}
+use Rattle.stored_tier.proofs.NamingLaws.{named_as}
 use Rattle.cache_engine.proofs.beginning.new_tier.Goals as goal
 
 pub returns-clause-sound : goal.returns-clause-sound

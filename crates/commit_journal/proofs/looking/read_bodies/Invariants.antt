@@ -6,12 +6,13 @@ use Rattle.commit_journal.proofs.looking.read_bodies.Given as goal
 
 abbrev pub invariant-loop-place : goal.invariant-loop-place
 invariant-loop-place g l = record {
-  so : (o : Held) → Certain g.D.Disk.held g.D.Disk.moment g.D.Disk.possible l.fn.d o → 11 ≤ length (slot_of l.slot o.slots) → BodiesSoFar (slot_of l.slot o.slots) l.bodies.items l.place;
-  within : (o : Held) → Certain g.D.Disk.held g.D.Disk.moment g.D.Disk.possible l.fn.d o → 11 ≤ length (slot_of l.slot o.slots) → l.place < l.len;
-  size : (o : Held) → Certain g.D.Disk.held g.D.Disk.moment g.D.Disk.possible l.fn.d o → l.len ≡ length (slot_of l.slot o.slots);
-  rests : Rests g.D.Disk.held g.D.Disk.moment g.D.Disk.possible l.fn.d l.d;
-  shares : g.D.Disk.shared l.d ≡ g.D.Disk.shared l.fn.d;
-  later : g.D.Disk.disk_faults l.fn.d ≤ g.D.Disk.disk_faults l.d;
+  so : (o : Held) → Certain g.D.Disk.state g.D.Disk.possible l.fn.d o → 11 ≤ length (slot_of l.slot o.slots) → BodiesSoFar (slot_of l.slot o.slots) l.bodies.items l.place;
+  within : (o : Held) → Certain g.D.Disk.state g.D.Disk.possible l.fn.d o → 11 ≤ length (slot_of l.slot o.slots) → l.place < l.len;
+  size : (o : Held) → Certain g.D.Disk.state g.D.Disk.possible l.fn.d o → l.len ≡ length (slot_of l.slot o.slots);
+  rests : Rests g.D.Disk.state g.D.Disk.possible l.fn.d l.d;
+  bank : (g.D.Disk.state l.d).bank_faults ≡ (g.D.Disk.state l.fn.d).bank_faults;
+  shared : (g.D.Disk.state l.d).shared ≡ (g.D.Disk.state l.fn.d).shared;
+  later : (g.D.Disk.state l.fn.d).disk_faults ≤ (g.D.Disk.state l.d).disk_faults;
 }
 
 abbrev pub decreases-loop-place : goal.decreases-loop-place

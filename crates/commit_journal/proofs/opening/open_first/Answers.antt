@@ -4,4 +4,4 @@ use Rattle.commit_journal.proofs.opening.open_first.Goals as goal
 
 pub returns-in_ok-opened-in-Faulty-clause-opened : goal.returns-in_ok-opened-in-Faulty-clause-opened
 returns-in_ok-opened-in-Faulty-clause-opened g c = λ o h have flen slen mine their.
-    second_damage g.D.Disk.held g.D.Disk.moment g.D.Disk.possible c.args.d.now c.args.d.now o h c.in_ok-opened-in-Faulty.opened c.in-Faulty.place (Live c.args.version c.args.generation) c.args.second mine (λ p e. absurd cc) their c.in-Faulty.is c.in_ok-opened-in-Faulty.ensures.told
+    second_damage g.D.Disk.state g.D.Disk.possible c.args.d.now c.args.d.now o h c.in_ok-opened-in-Faulty.opened c.in-Faulty.place (Live c.args.version c.args.generation) c.args.second mine (λ p e. absurd cc) their c.in-Faulty.is c.in_ok-opened-in-Faulty.ensures.told

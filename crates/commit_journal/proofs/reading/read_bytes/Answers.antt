@@ -12,7 +12,8 @@ loop-done-preserved g c =
       size = omega (arith, c.in_ok-append_piece.ensures.length, l.invariant.size);
       bytes = λ o h all. piece_more (slot_of c.args.slot o.slots) l.bytes.items c.append_piece.new.bytes.items c.args.at l.done c.min-size.result (l.invariant.bytes o h all)
           (c.in_ok-append_piece.ensures.bytes o (l.invariant.rests o h).0 (omega (arith, c.min-size.ensures)));
-      rests = rests_then g.D.Disk.moment g.D.Disk.possible g.D.Disk.held c.args.d.now l.d c.append_piece.new.d l.invariant.rests c.append_piece.ensures.rests;
-      shares = c.append_piece.ensures.shares ∙ l.invariant.shares;
+      rests = rests_then g.D.Disk.state g.D.Disk.possible c.args.d.now l.d c.append_piece.new.d l.invariant.rests c.append_piece.ensures.rests;
+      bank = c.append_piece.ensures.cause.bank ∙ l.invariant.bank;
+      shared = c.append_piece.ensures.cause.shared ∙ l.invariant.shared;
       later = omega (arith, c.append_piece.ensures.cause.later, l.invariant.later);
     }

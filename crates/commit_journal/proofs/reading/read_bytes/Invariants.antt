@@ -7,10 +7,11 @@ abbrev pub invariant-loop-done : goal.invariant-loop-done
 invariant-loop-done g l = record {
   within : l.done ≤ l.len;
   size : length l.bytes.items ≡ l.done;
-  bytes : (o : Held) → Certain g.D.Disk.held g.D.Disk.moment g.D.Disk.possible l.fn.d o → l.at + l.len ≤ length (slot_of l.slot o.slots) → l.bytes.items ≡ take l.done (drop l.at (slot_of l.slot o.slots));
-  rests : Rests g.D.Disk.held g.D.Disk.moment g.D.Disk.possible l.fn.d l.d;
-  shares : g.D.Disk.shared l.d ≡ g.D.Disk.shared l.fn.d;
-  later : g.D.Disk.disk_faults l.fn.d ≤ g.D.Disk.disk_faults l.d;
+  bytes : (o : Held) → Certain g.D.Disk.state g.D.Disk.possible l.fn.d o → l.at + l.len ≤ length (slot_of l.slot o.slots) → l.bytes.items ≡ take l.done (drop l.at (slot_of l.slot o.slots));
+  rests : Rests g.D.Disk.state g.D.Disk.possible l.fn.d l.d;
+  bank : (g.D.Disk.state l.d).bank_faults ≡ (g.D.Disk.state l.fn.d).bank_faults;
+  shared : (g.D.Disk.state l.d).shared ≡ (g.D.Disk.state l.fn.d).shared;
+  later : (g.D.Disk.state l.fn.d).disk_faults ≤ (g.D.Disk.state l.d).disk_faults;
 }
 
 abbrev pub decreases-loop-done : goal.decreases-loop-done

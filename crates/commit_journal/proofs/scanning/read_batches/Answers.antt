@@ -33,6 +33,10 @@ returns-in-Stops-clause-scanned g c = λ o h len.
     scan_broken c.args.version bytes c.args.entries.now.items l.entries.items l.standing l.place (l.invariant.scan o h len) next.0 c.in-Body.body.items next.1 next.2 next.3 read.0 c.read_body.new.entries.items read.1 c.in-Stops.at
     (subst (λ (b : List ℕ). Body c.args.version l.standing (l.place + 5) b read.0 (Stops c.in-Stops.at)) c.deref.ensures.value body)
 
+pub returns-in-Stops-clause-rests : goal.returns-in-Stops-clause-rests
+returns-in-Stops-clause-rests g c =
+    rests_then g.D.Disk.state g.D.Disk.possible c.args.d.now c.loop-place.d c.next_batch.new.d c.loop-place.invariant.rests c.next_batch.ensures.rests
+
 pub loop-place-preserved : goal.loop-place-preserved
 loop-place-preserved g c =
     let l = c.loop-place in
@@ -48,7 +52,8 @@ loop-place-preserved g c =
           subst (λ (p : ℕ). ScanSoFar c.args.version bytes c.args.entries.now.items c.read_body.new.entries.items c.in-Whole.behind p) at
           (scan_on c.args.version bytes c.args.entries.now.items l.entries.items l.standing l.place (l.invariant.scan o h len) next.0 c.in-Body.body.items next.1 next.2 next.3 read.0 c.read_body.new.entries.items read.1 c.in-Whole.behind
           (subst (λ (b : List ℕ). Body c.args.version l.standing (l.place + 5) b read.0 (Whole c.in-Whole.behind)) c.deref.ensures.value body));
-      rests = rests_then g.D.Disk.moment g.D.Disk.possible g.D.Disk.held c.args.d.now l.d c.next_batch.new.d l.invariant.rests c.next_batch.ensures.rests;
-      shares = c.next_batch.ensures.shares ∙ l.invariant.shares;
+      rests = rests_then g.D.Disk.state g.D.Disk.possible c.args.d.now l.d c.next_batch.new.d l.invariant.rests c.next_batch.ensures.rests;
+      bank = c.next_batch.ensures.cause.bank ∙ l.invariant.bank;
+      shared = c.next_batch.ensures.cause.shared ∙ l.invariant.shared;
       later = omega (arith, c.next_batch.ensures.cause.later, l.invariant.later);
     }

@@ -7,10 +7,11 @@ use Rattle.commit_journal.proofs.scanning.read_batches.Given as goal
 abbrev pub invariant-loop-place : goal.invariant-loop-place
 invariant-loop-place g l = record {
   within : l.place < l.len;
-  scan : (o : Held) → Certain g.D.Disk.held g.D.Disk.moment g.D.Disk.possible l.fn.d o → length (slot_of l.slot o.slots) ≡ l.len → ScanSoFar l.version (slot_of l.slot o.slots) l.fn.entries.items l.entries.items l.standing l.place;
-  rests : Rests g.D.Disk.held g.D.Disk.moment g.D.Disk.possible l.fn.d l.d;
-  shares : g.D.Disk.shared l.d ≡ g.D.Disk.shared l.fn.d;
-  later : g.D.Disk.disk_faults l.fn.d ≤ g.D.Disk.disk_faults l.d;
+  scan : (o : Held) → Certain g.D.Disk.state g.D.Disk.possible l.fn.d o → length (slot_of l.slot o.slots) ≡ l.len → ScanSoFar l.version (slot_of l.slot o.slots) l.fn.entries.items l.entries.items l.standing l.place;
+  rests : Rests g.D.Disk.state g.D.Disk.possible l.fn.d l.d;
+  bank : (g.D.Disk.state l.d).bank_faults ≡ (g.D.Disk.state l.fn.d).bank_faults;
+  shared : (g.D.Disk.state l.d).shared ≡ (g.D.Disk.state l.fn.d).shared;
+  later : (g.D.Disk.state l.fn.d).disk_faults ≤ (g.D.Disk.state l.d).disk_faults;
 }
 
 abbrev pub decreases-loop-place : goal.decreases-loop-place

@@ -8,12 +8,13 @@ use Rattle.propagators.proofs.rounds.round.Goals as goal
 
 pub loop-sealed-init : goal.loop-sealed-init
 loop-sealed-init g c = record {
-  goes = goes_same (g.P.Disk.shared c.args.site.now) (g.P.Disk.held c.args.site.now) c.args.unsettled.now.items;
+  goes = goes_same (g.P.Disk.state c.args.site.now).shared (g.P.Disk.state c.args.site.now).held c.args.unsettled.now.items;
   count = Prim.omega arith;
   rest = ([], refl);
   tells = λ some. some;
   faults = Prim.omega arith;
-  shares = refl;
+  disk = refl;
+  shared = refl;
   moment = Prim.omega arith;
 }
 
@@ -24,10 +25,10 @@ returns-in_err-settle-clause-goes g c =
     let is : items ≡ s ∷ drop 1 items = first_leaves items s c.in-Some.ensures.item.3.0 c.in-Some.ensures.lookup in
     let told : Err c.in_err-settle.field-0.0 ≡ c.from_residual.result = Prim.search rules in
     subst
-    (λ (r : Result ℕ RoundFault). TellsRound (g.P.Disk.shared c.args.site.now) (g.P.Disk.held c.args.site.now) (g.P.Disk.held c.settle.new.site) (doubts r) c.args.unsettled.now.items items) told
-    (goes_on (g.P.Disk.shared c.args.site.now) (doubts_at c.in_err-settle.field-0.0) (g.P.Disk.held c.args.site.now) (g.P.Disk.held c.loop-sealed.site) (g.P.Disk.held c.settle.new.site) c.args.unsettled.now.items items items
+    (λ (r : Result ℕ RoundFault). TellsRound (g.P.Disk.state c.args.site.now).shared (g.P.Disk.state c.args.site.now).held (g.P.Disk.state c.settle.new.site).held (doubts r) c.args.unsettled.now.items items) told
+    (goes_on (g.P.Disk.state c.args.site.now).shared (doubts_at c.in_err-settle.field-0.0) (g.P.Disk.state c.args.site.now).held (g.P.Disk.state c.loop-sealed.site).held (g.P.Disk.state c.settle.new.site).held c.args.unsettled.now.items items items
     c.loop-sealed.invariant.goes
-    (stopped_goes (g.P.Disk.shared c.args.site.now) (g.P.Disk.held c.loop-sealed.site) (g.P.Disk.held c.settle.new.site) items (drop 1 items) s c.in_err-settle.field-0.0 is (shared_call _ _ _ _ _ c.loop-sealed.invariant.shares c.in_err-settle.ensures.told)))
+    (stopped_goes (g.P.Disk.state c.args.site.now).shared (g.P.Disk.state c.loop-sealed.site).held (g.P.Disk.state c.settle.new.site).held items (drop 1 items) s c.in_err-settle.field-0.0 is (shared_call _ _ _ _ _ c.loop-sealed.invariant.shared c.in_err-settle.ensures.told)))
 
 pub loop-sealed-preserved : goal.loop-sealed-preserved
 loop-sealed-preserved g c =
@@ -40,18 +41,19 @@ loop-sealed-preserved g c =
     let left : items ≡ s ∷ new = is ∙ ap (λ l. s ∷ l) (sym rest) in
     let shorter : length new ≡ length (drop 1 items) = ap length rest in
     record {
-      goes = goes_on (g.P.Disk.shared c.args.site.now) 0 (g.P.Disk.held c.args.site.now) (g.P.Disk.held c.loop-sealed.site) (g.P.Disk.held c.settle.new.site) c.args.unsettled.now.items items new
+      goes = goes_on (g.P.Disk.state c.args.site.now).shared 0 (g.P.Disk.state c.args.site.now).held (g.P.Disk.state c.loop-sealed.site).held (g.P.Disk.state c.settle.new.site).held c.args.unsettled.now.items items new
           c.loop-sealed.invariant.goes
-          (settled_goes (g.P.Disk.shared c.args.site.now) (g.P.Disk.held c.loop-sealed.site) (g.P.Disk.held c.settle.new.site) items new s c.in_ok-settle.field-0 left (shared_call _ _ _ _ _ c.loop-sealed.invariant.shares c.in_ok-settle.ensures.told));
+          (settled_goes (g.P.Disk.state c.args.site.now).shared (g.P.Disk.state c.loop-sealed.site).held (g.P.Disk.state c.settle.new.site).held items new s c.in_ok-settle.field-0 left (shared_call _ _ _ _ _ c.loop-sealed.invariant.shared c.in_ok-settle.ensures.told));
       count = Prim.omega (arith, shorter, length-drop 1 items, some, c.loop-sealed.invariant.count);
       rest = (
         c.loop-sealed.invariant.rest.0 ++ s ∷ [],
         c.loop-sealed.invariant.rest.1 ∙ ap (λ l. c.loop-sealed.invariant.rest.0 ++ l) left
             ∙ sym (append_assoc c.loop-sealed.invariant.rest.0 (s ∷ []) new),
       );
-      tells = λ some. told_stays (g.P.Disk.held c.loop-sealed.site) (g.P.Disk.held c.settle.new.site) _ c.settle.ensures.told (c.loop-sealed.invariant.tells some);
-      faults = Prim.omega (arith, c.loop-sealed.invariant.faults, c.settle.ensures.faults);
-      shares = c.settle.ensures.shares ∙ c.loop-sealed.invariant.shares;
+      tells = λ some. told_stays (g.P.Disk.state c.loop-sealed.site).held (g.P.Disk.state c.settle.new.site).held _ c.settle.ensures.told (c.loop-sealed.invariant.tells some);
+      faults = Prim.omega (arith, c.loop-sealed.invariant.faults, c.settle.ensures.cause.later);
+      disk = c.settle.ensures.cause.disk ∙ c.loop-sealed.invariant.disk;
+      shared = c.settle.ensures.cause.shared ∙ c.loop-sealed.invariant.shared;
       moment = Prim.omega (arith, c.loop-sealed.invariant.moment, c.settle.ensures.moment);
     }
 
@@ -60,4 +62,4 @@ returns-in_err-settle-clause-differs g c = λ table key is some held tells.
     let items = c.loop-sealed.unsettled.items in
     let s = c.in-Some.sealed.now in
     let e : items ≡ s ∷ drop 1 items = first_leaves items s c.in-Some.ensures.item.3.0 c.in-Some.ensures.lookup in
-    first_differs (g.P.Disk.shared c.args.site.now) (g.P.Disk.held c.loop-sealed.site) (g.P.Disk.held c.settle.new.site) items (drop 1 items) s c.in_err-settle.field-0.0 table key e (shared_call _ _ _ _ _ c.loop-sealed.invariant.shares c.in_err-settle.ensures.told) (Prim.search rules) (c.loop-sealed.invariant.tells some) held tells
+    first_differs (g.P.Disk.state c.args.site.now).shared (g.P.Disk.state c.loop-sealed.site).held (g.P.Disk.state c.settle.new.site).held items (drop 1 items) s c.in_err-settle.field-0.0 table key e (shared_call _ _ _ _ _ c.loop-sealed.invariant.shared c.in_err-settle.ensures.told) (Prim.search rules) (c.loop-sealed.invariant.tells some) held tells

@@ -6,13 +6,14 @@ use Rattle.propagators.proofs.rounds.round.Given as goal
 
 abbrev pub invariant-loop-sealed : goal.invariant-loop-sealed
 invariant-loop-sealed g l = record {
-  goes : TellsRound (g.P.Disk.shared l.fn.site) (g.P.Disk.held l.fn.site) (g.P.Disk.held l.site) 0 l.fn.unsettled.items l.unsettled.items;
+  goes : TellsRound (g.P.Disk.state l.fn.site).shared (g.P.Disk.state l.fn.site).held (g.P.Disk.state l.site).held 0 l.fn.unsettled.items l.unsettled.items;
   count : l.receipts + length l.unsettled.items ≡ length l.fn.unsettled.items;
   rest : IsRestOf l.fn.unsettled.items l.unsettled.items;
-  tells : IsSome (g.P.Disk.held l.fn.site) → IsSome (g.P.Disk.held l.site);
-  faults : g.P.Site.bank_faults l.fn.site ≤ g.P.Site.bank_faults l.site;
-  shares : g.P.Disk.shared l.site ≡ g.P.Disk.shared l.fn.site;
-  moment : g.P.Disk.moment l.fn.site ≤ g.P.Disk.moment l.site;
+  tells : IsSome (g.P.Disk.state l.fn.site).held → IsSome (g.P.Disk.state l.site).held;
+  faults : (g.P.Disk.state l.fn.site).bank_faults ≤ (g.P.Disk.state l.site).bank_faults;
+  disk : (g.P.Disk.state l.site).disk_faults ≡ (g.P.Disk.state l.fn.site).disk_faults;
+  shared : (g.P.Disk.state l.site).shared ≡ (g.P.Disk.state l.fn.site).shared;
+  moment : (g.P.Disk.state l.fn.site).moment ≤ (g.P.Disk.state l.site).moment;
 }
 
 abbrev pub decreases-loop-sealed : goal.decreases-loop-sealed

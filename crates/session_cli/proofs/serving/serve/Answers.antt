@@ -10,8 +10,8 @@ returns-in_default-clause-runs g c = λ settings ms. runs_unopened settings _ _ 
 pub returns-in-Ok-open-clause-runs : goal.returns-in-Ok-open-clause-runs
 returns-in-Ok-open-clause-runs g c = λ settings ms.
     runs_opened settings c.args.propagate_ms c.in-Ok-open.session c.serve_pieces.result _ _
-    (seen (g.K.Sink.written c.args.sink.now) (g.C.Clock.coming c.args.clock.now) (g.P.Disk.held c.args.site.now) (g.P.Site.bank_faults c.args.site.now) (g.P.Disk.moment c.args.site.now) (g.P.Disk.shared c.args.site.now))
-    (seen (g.K.Sink.written c.args.sink.now) (g.C.Clock.coming c.open.new.clock) (g.P.Disk.held c.open.new.site) (g.P.Site.bank_faults c.open.new.site) (g.P.Disk.moment c.open.new.site) (g.P.Disk.shared c.open.new.site))
+    (seen (g.K.Sink.written c.args.sink.now) (g.C.Clock.coming c.args.clock.now) (g.P.Disk.state c.args.site.now))
+    (seen (g.K.Sink.written c.args.sink.now) (g.C.Clock.coming c.open.new.clock) (g.P.Disk.state c.open.new.site))
     _ ms c.in-Ok-open.ensures.later refl c.in-Ok-open.ensures.line c.in-Ok-open.ensures.output c.in-Ok-open.ensures.opens c.serve_pieces.ensures.serves
 
 pub returns-in-Ok-open-clause-unopened : goal.returns-in-Ok-open-clause-unopened

@@ -1,6 +1,6 @@
 -- Between two pieces.
 use Rattle.std.proofs.Common.{◌≡◌, ℕ, List, [], ◌≤◌, ◌<◌, length, Some}
-use Rattle.cache_engine.specs.Stored.{IsSound}
+use Rattle.stored_tier.specs.Stored.{IsSound}
 use Rattle.session_cli.specs.Outside.{seen}
 use Rattle.session_cli.specs.Serving.{IsLeftAlone, Origin, Serving}
 use Rattle.session_cli.proofs.EndsLaws.{Going, Taking}
@@ -9,9 +9,9 @@ use Rattle.session_cli.proofs.serving.serve_pieces.Given as goal
 abbrev pub invariant-loop-room : goal.invariant-loop-room
 invariant-loop-room g l = record {
   going : (o : Origin) (input : List ℕ) → g.S.Source.left l.fn.source ≡ Some input
-      → Serving o [] (seen (g.K.Sink.written l.fn.sink) (g.C.Clock.coming l.fn.clock) (g.P.Disk.held l.fn.site) (g.P.Site.bank_faults l.fn.site) (g.P.Disk.moment l.fn.site) (g.P.Disk.shared l.fn.site)) l.fn.session
+      → Serving o [] (seen (g.K.Sink.written l.fn.sink) (g.C.Clock.coming l.fn.clock) (g.P.Disk.state l.fn.site)) l.fn.session
       → IsLeftAlone o input
-      → Going o input l.room (g.S.Source.left l.source) (seen (g.K.Sink.written l.sink) (g.C.Clock.coming l.clock) (g.P.Disk.held l.site) (g.P.Site.bank_faults l.site) (g.P.Disk.moment l.site) (g.P.Disk.shared l.site)) l.session;
+      → Going o input l.room (g.S.Source.left l.source) (seen (g.K.Sink.written l.sink) (g.C.Clock.coming l.clock) (g.P.Disk.state l.site)) l.session;
   taking : (input : List ℕ) → g.S.Source.left l.fn.source ≡ Some input → Taking input l.room (g.S.Source.left l.source);
   empty : l.session.output ≡ [];
   sound : IsSound l.session.tier;

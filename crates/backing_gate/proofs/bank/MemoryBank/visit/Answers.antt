@@ -1,22 +1,28 @@
-use Rattle.std.proofs.Common.{List, [], ◌∷◌, ◌++◌, inr, sym, ap, ◌∙◌}
+use Rattle.std.proofs.Common.{List, [], ◌∷◌, ◌++◌, inr, ap, ◌∙◌}
 use Rattle.table_state.specs.declared.history.Entry.{Entry}
 use Rattle.table_state.specs.declared.history.Entry.TheVariants.{Foreign}
 use Rattle.table_state.specs.Histories.{state_of}
-use Rattle.backing_gate.proofs.BankLaws.{came}
+use Rattle.table_scan.proofs.KeyedLaws.{history_keyed}
+use Rattle.backing_gate.proofs.BankLaws.{came, did}
 use Rattle.backing_gate.proofs.bank.MemoryBank.visit.Goals as goal
 
-pub invariant_of-self : goal.invariant_of-self
-invariant_of-self c =
-    ap state_of c.in-Ok.ensures.ok
-    ∙ came c.self.inside.ledger (Foreign c.in-Some.tried.ops) c.self.inside.tables c.in-Some.tried.tables c.self.invariant (c.in-Some.ensures.applies c.self.inside.tables (ap state_of (sym c.self.view_is) ∙ c.self.invariant))
+pub write_on_shared-requires : goal.write_on_shared-requires
+write_on_shared-requires c = history_keyed c.self.inside.ledger c.self.inside.tables c.self.invariant
 
-pub returns-in-Ok : goal.returns-in-Ok
-returns-in-Ok c = inr (record {
-  rows = c.in-Some.tried.rows;
+pub invariant_of-self-in-Some : goal.invariant_of-self-in-Some
+invariant_of-self-in-Some c =
+    ap state_of (c.fill.ensures c.self.inside.ledger [] (c.in-Ok.ensures.ok ∙ ap (λ ops. c.self.inside.ledger ++ Foreign ops ∷ []) c.new.ensures))
+    ∙ came c.self.inside.ledger (Foreign c.in-Some.written.ops) c.self.inside.tables c.write_on_shared.new.tables c.self.invariant c.in-Some.ensures.some.applies
+
+pub returns-in-Some : goal.returns-in-Some
+returns-in-Some c = inr (record {
+  rows = c.in-Some.written.rows;
   writes = record {
-    ops = c.in-Some.tried.ops;
-    done = λ s is. record { left = c.in-Some.tried.tables; written = c.in-Some.ensures.written s is; applies = c.in-Some.ensures.applies s is };
-    grows = c.in-Ok.ensures.ok ∙ ap (λ (h : List Entry). h ++ Foreign c.in-Some.tried.ops ∷ []) c.self.view_is;
+    ops = c.in-Some.written.ops;
+    done = λ s is. did c.args.changes.now c.self.inside.ledger c.self.inside.tables c.write_on_shared.new.tables s c.in-Some.written.ops c.in-Some.written.rows c.self.invariant (ap state_of c.self.view_is ∙ is) c.in-Some.ensures.some.leaves c.in-Some.ensures.some.applies;
+    grows =
+        c.fill.ensures c.self.inside.ledger [] (c.in-Ok.ensures.ok ∙ ap (λ ops. c.self.inside.ledger ++ Foreign ops ∷ []) c.new.ensures)
+        ∙ ap (λ (h : List Entry). h ++ Foreign c.in-Some.written.ops ∷ []) c.self.view_is;
   };
-  shares = c.in-Some.ensures.shares;
+  shares = c.in-Some.ensures.some.shares;
 })

@@ -3,7 +3,7 @@ use Rattle.outside.specs.Bank.{TellsRow}
 use Rattle.backing_gate.specs.declared.plan.CallKind.TheVariants.{Find}
 use Rattle.backing_gate.specs.Heeding.{Heeds, bank_of}
 use Rattle.backing_gate.specs.Plans.{planned_next}
-use Rattle.backing_gate.proofs.CallLaws.{cause, counted, crash, goes, heeds_all, idle_all, moment, shares, told, visits}
+use Rattle.backing_gate.proofs.CallLaws.{cause, counted, crash, goes, heeds_all, idle_all, moment, told, visits}
 use Rattle.backing_gate.proofs.GrowthLaws.{find_grows}
 use Rattle.backing_gate.proofs.memory_site.MemorySiteSite.find.Goals as goal
 
@@ -18,9 +18,6 @@ returns-clause-crash c =
     crash Find c.begin-begun.result c.args.self.now c.begin-begun.new.self c.find_as-answer.new.self c.end.new.self c.begin-begun.ensures c.find_as-answer.ensures.kept c.end.ensures (TellsRow c.args.table c.args.key.now c.find_as-answer.result) c.find_as-answer.ensures.own
     (find_grows c.args.table c.args.key.now c.find_as-answer.result c.begin-begun.new.self.history c.find_as-answer.new.self.history c.find_as-answer.ensures.own)
     (idle_all c.begin-begun.result (planned_next Find c.args.self.now.planned) (bank_of c.begin-begun.new.self) (bank_of c.find_as-answer.new.self) c.find_as-answer.result (c.find_as-answer.new.self.history ≡ c.begin-begun.new.self.history) c.begin-begun.ensures.outcome c.find_as-answer.ensures.heeds)
-
-pub returns-clause-shares : goal.returns-clause-shares
-returns-clause-shares c = shares Find c.begin-begun.result c.args.self.now c.begin-begun.new.self c.find_as-answer.new.self c.end.new.self c.begin-begun.ensures c.find_as-answer.ensures.kept c.end.ensures
 
 pub returns-clause-cause : goal.returns-clause-cause
 returns-clause-cause c = cause Find c.begin-begun.result c.args.self.now c.begin-begun.new.self c.find_as-answer.new.self c.end.new.self c.begin-begun.ensures c.find_as-answer.ensures.kept c.end.ensures c.find_as-answer.result c.find_as-answer.ensures.cause

@@ -4,7 +4,7 @@ use Rattle.outside.specs.declared.site.Done.{Done}
 use Rattle.backing_gate.specs.declared.plan.CallKind.TheVariants.{Foreign}
 use Rattle.backing_gate.specs.Heeding.{Heeds, NoneDiffers, bank_of}
 use Rattle.backing_gate.specs.Plans.{planned_next}
-use Rattle.backing_gate.proofs.CallLaws.{cause, counted, crash, goes, heeds_all, idle_else, moment, shares, told, visits}
+use Rattle.backing_gate.proofs.CallLaws.{cause, counted, crash, goes, heeds_all, idle_else, moment, told, visits}
 use Rattle.backing_gate.proofs.GrowthLaws.{foreign_grows}
 use Rattle.backing_gate.proofs.memory_site.MemorySiteSite.foreign.Goals as goal
 
@@ -19,9 +19,6 @@ returns-clause-crash c =
     crash Foreign c.begin-begun.result c.args.self.now c.begin-begun.new.self c.foreign_as-answer.new.self c.end.new.self c.begin-begun.ensures c.foreign_as-answer.ensures.kept c.end.ensures (WritesForeign c.args.changes.now c.foreign_as-answer.result) c.foreign_as-answer.ensures.own
     (foreign_grows c.args.changes.now c.foreign_as-answer.result c.begin-begun.new.self.history c.foreign_as-answer.new.self.history c.foreign_as-answer.ensures.own)
     (idle_else c.begin-begun.result (planned_next Foreign c.args.self.now.planned) (c.foreign_as-answer.new.self.history ≡ c.begin-begun.new.self.history) c.begin-begun.ensures.outcome c.foreign_as-answer.ensures.idle)
-
-pub returns-clause-shares : goal.returns-clause-shares
-returns-clause-shares c = shares Foreign c.begin-begun.result c.args.self.now c.begin-begun.new.self c.foreign_as-answer.new.self c.end.new.self c.begin-begun.ensures c.foreign_as-answer.ensures.kept c.end.ensures
 
 pub returns-clause-cause : goal.returns-clause-cause
 returns-clause-cause c = cause Foreign c.begin-begun.result c.args.self.now c.begin-begun.new.self c.foreign_as-answer.new.self c.end.new.self c.begin-begun.ensures c.foreign_as-answer.ensures.kept c.end.ensures c.foreign_as-answer.result c.foreign_as-answer.ensures.cause

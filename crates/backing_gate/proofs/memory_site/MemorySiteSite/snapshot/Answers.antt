@@ -3,7 +3,7 @@ use Rattle.outside.specs.Console.{TakesSnapshot}
 use Rattle.backing_gate.specs.declared.plan.CallKind.TheVariants.{Snapshot}
 use Rattle.backing_gate.specs.Heeding.{Heeds, bank_of}
 use Rattle.backing_gate.specs.Plans.{planned_next}
-use Rattle.backing_gate.proofs.CallLaws.{cause, counted, crash, goes, heeds_all, idle_all, moment, shares, told, visits}
+use Rattle.backing_gate.proofs.CallLaws.{cause, counted, crash, goes, heeds_all, idle_all, moment, told, visits}
 use Rattle.backing_gate.proofs.GrowthLaws.{snapshot_grows}
 use Rattle.backing_gate.proofs.memory_site.MemorySiteSite.snapshot.Goals as goal
 
@@ -18,9 +18,6 @@ returns-clause-crash c =
     crash Snapshot c.begin-begun.result c.args.self.now c.begin-begun.new.self c.snapshot_as-answer.new.self c.end.new.self c.begin-begun.ensures c.snapshot_as-answer.ensures.kept c.end.ensures (TakesSnapshot c.args.tables.now c.snapshot_as-answer.result) c.snapshot_as-answer.ensures.own
     (snapshot_grows c.args.tables.now c.snapshot_as-answer.result c.begin-begun.new.self.history c.snapshot_as-answer.new.self.history c.snapshot_as-answer.ensures.own)
     (idle_all c.begin-begun.result (planned_next Snapshot c.args.self.now.planned) (bank_of c.begin-begun.new.self) (bank_of c.snapshot_as-answer.new.self) c.snapshot_as-answer.result (c.snapshot_as-answer.new.self.history ≡ c.begin-begun.new.self.history) c.begin-begun.ensures.outcome c.snapshot_as-answer.ensures.heeds)
-
-pub returns-clause-shares : goal.returns-clause-shares
-returns-clause-shares c = shares Snapshot c.begin-begun.result c.args.self.now c.begin-begun.new.self c.snapshot_as-answer.new.self c.end.new.self c.begin-begun.ensures c.snapshot_as-answer.ensures.kept c.end.ensures
 
 pub returns-clause-cause : goal.returns-clause-cause
 returns-clause-cause c = cause Snapshot c.begin-begun.result c.args.self.now c.begin-begun.new.self c.snapshot_as-answer.new.self c.end.new.self c.begin-begun.ensures c.snapshot_as-answer.ensures.kept c.end.ensures c.snapshot_as-answer.result c.snapshot_as-answer.ensures.cause

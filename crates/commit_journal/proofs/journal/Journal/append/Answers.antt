@@ -6,10 +6,10 @@ use Rattle.commit_journal.proofs.AppendLaws.{staged_rest, quiet_append}
 use Rattle.commit_journal.proofs.journal.Journal.append.Goals as goal
 
 pub returns-in_err-reserve-clause-crash : goal.returns-in_err-reserve-clause-crash
-returns-in_err-reserve-clause-crash g c = λ o flushed placed t h r reads. quiet_append g.D.Disk.held g.D.Disk.moment g.D.Disk.possible c.args.d.now c.args.self.now o flushed (entries_of placed) h r
+returns-in_err-reserve-clause-crash g c = λ o flushed placed t h r reads. quiet_append g.D.Disk.state g.D.Disk.possible c.args.d.now c.args.self.now o flushed (entries_of placed) h r
 
 pub returns-in_err-standing-clause-crash : goal.returns-in_err-standing-clause-crash
-returns-in_err-standing-clause-crash g c = λ o flushed placed t h r reads. quiet_append g.D.Disk.held g.D.Disk.moment g.D.Disk.possible c.args.d.now c.args.self.now o flushed (entries_of placed) h r
+returns-in_err-standing-clause-crash g c = λ o flushed placed t h r reads. quiet_append g.D.Disk.state g.D.Disk.possible c.args.d.now c.args.self.now o flushed (entries_of placed) h r
 
 pub returns-in_err-write_tail-clause-crash : goal.returns-in_err-write_tail-clause-crash
 returns-in_err-write_tail-clause-crash g c = λ o flushed placed t h r reads.

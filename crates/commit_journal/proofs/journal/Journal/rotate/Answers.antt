@@ -11,16 +11,16 @@ use Rattle.commit_journal.proofs.RotateLaws.{quiet_rotation, rotate_reads}
 use Rattle.commit_journal.proofs.journal.Journal.rotate.Goals as goal
 
 pub returns-then-self-clause-crash : goal.returns-then-self-clause-crash
-returns-then-self-clause-crash g c = λ o flushed tail h r. quiet_rotation g.D.Disk.held g.D.Disk.moment g.D.Disk.possible c.args.d.now c.args.self.now o flushed tail c.args.entries.now h r
+returns-then-self-clause-crash g c = λ o flushed tail h r. quiet_rotation g.D.Disk.state g.D.Disk.possible c.args.d.now c.args.self.now o flushed tail c.args.entries.now h r
 
 pub returns-then-entries_size-gt16777216-clause-crash : goal.returns-then-entries_size-gt16777216-clause-crash
-returns-then-entries_size-gt16777216-clause-crash g c = λ o flushed tail h r. quiet_rotation g.D.Disk.held g.D.Disk.moment g.D.Disk.possible c.args.d.now c.args.self.now o flushed tail c.args.entries.now h r
+returns-then-entries_size-gt16777216-clause-crash g c = λ o flushed tail h r. quiet_rotation g.D.Disk.state g.D.Disk.possible c.args.d.now c.args.self.now o flushed tail c.args.entries.now h r
 
 pub returns-in_err-body-clause-crash : goal.returns-in_err-body-clause-crash
-returns-in_err-body-clause-crash g c = λ o flushed tail h r. quiet_rotation g.D.Disk.held g.D.Disk.moment g.D.Disk.possible c.args.d.now c.args.self.now o flushed tail c.args.entries.now h r
+returns-in_err-body-clause-crash g c = λ o flushed tail h r. quiet_rotation g.D.Disk.state g.D.Disk.possible c.args.d.now c.args.self.now o flushed tail c.args.entries.now h r
 
 pub returns-in_err-bytes-clause-crash : goal.returns-in_err-bytes-clause-crash
-returns-in_err-bytes-clause-crash g c = λ o flushed tail h r. quiet_rotation g.D.Disk.held g.D.Disk.moment g.D.Disk.possible c.args.d.now c.args.self.now o flushed tail c.args.entries.now h r
+returns-in_err-bytes-clause-crash g c = λ o flushed tail h r. quiet_rotation g.D.Disk.state g.D.Disk.possible c.args.d.now c.args.self.now o flushed tail c.args.entries.now h r
 
 pub returns-in_err-move_on-clause-crash : goal.returns-in_err-move_on-clause-crash
 returns-in_err-move_on-clause-crash g c = λ o flushed tail h r.
@@ -30,7 +30,7 @@ returns-in_err-move_on-clause-crash g c = λ o flushed tail h r.
     let above : c.args.self.now.generation < c.args.self.now.generation + 1 = omega arith in
     let bytes : c.deref-2.result.now ≡ slot_bytes (c.args.self.now.generation + 1) (flat_map entry_bytes es) =
     c.deref-2.ensures.value ∙ c.in_ok-bytes.ensures ∙ ap (λ (b : List ℕ). slot_bytes (c.args.self.now.generation + 1) b) (c.deref.ensures.value ∙ c.in_ok-body.ensures) in
-    subst (λ (l : List Entry). Leaves g.D.Disk.moment g.D.Disk.possible c.args.d.now c.move_on.new.d (MidRotation o flushed l)) s.2
+    subst (λ (l : List Entry). Leaves g.D.Disk.state g.D.Disk.possible c.args.d.now c.move_on.new.d (MidRotation o flushed l)) s.2
     (c.move_on.ensures.crash o flushed tail (flat_map entry_bytes es) s.0 h r above bytes small s.1)
 
 pub returns-clause-crash : goal.returns-clause-crash
@@ -41,7 +41,7 @@ returns-clause-crash g c = λ o flushed tail h r.
     let above : c.args.self.now.generation < c.args.self.now.generation + 1 = omega arith in
     let bytes : c.deref-2.result.now ≡ slot_bytes (c.args.self.now.generation + 1) (flat_map entry_bytes es) =
     c.deref-2.ensures.value ∙ c.in_ok-bytes.ensures ∙ ap (λ (b : List ℕ). slot_bytes (c.args.self.now.generation + 1) b) (c.deref.ensures.value ∙ c.in_ok-body.ensures) in
-    subst (λ (l : List Entry). Leaves g.D.Disk.moment g.D.Disk.possible c.args.d.now c.move_on.new.d (MidRotation o flushed l)) s.2
+    subst (λ (l : List Entry). Leaves g.D.Disk.state g.D.Disk.possible c.args.d.now c.move_on.new.d (MidRotation o flushed l)) s.2
     (c.move_on.ensures.crash o flushed tail (flat_map entry_bytes es) s.0 h r above bytes small s.1)
 
 pub returns-clause-moved : goal.returns-clause-moved
@@ -52,5 +52,5 @@ returns-clause-moved g c = λ o flushed tail h r.
     let above : c.args.self.now.generation < c.args.self.now.generation + 1 = omega arith in
     let bytes : c.deref-2.result.now ≡ slot_bytes (c.args.self.now.generation + 1) (flat_map entry_bytes es) =
     c.deref-2.ensures.value ∙ c.in_ok-bytes.ensures ∙ ap (λ (b : List ℕ). slot_bytes (c.args.self.now.generation + 1) b) (c.deref.ensures.value ∙ c.in_ok-body.ensures) in
-    subst (λ (l : List Entry). Rested g.D.Disk.held g.D.Disk.moment g.D.Disk.possible c.move_on.new.d c.move_on.new.self o l []) s.2
+    subst (λ (l : List Entry). Rested g.D.Disk.state g.D.Disk.possible c.move_on.new.d c.move_on.new.self o l []) s.2
     (c.in_ok-move_on.ensures.moved o flushed tail (flat_map entry_bytes es) s.0 h r above bytes small s.1)

@@ -1,0 +1,13 @@
+use Rattle.cache_engine.proofs.DueStored.{due_done, due_stopped}
+use Rattle.cache_engine.proofs.due_work.do_due.Goals as goal
+
+pub returns-in-Some-clause-does : goal.returns-in-Some-clause-does
+returns-in-Some-clause-does g c =
+    due_stopped c.args.tier.now c.settle_due.new.tier _ _ c.args.notes.now.items c.settle_due.new.notes.items c.in-Some.stop
+    c.in-Some.ensures.does
+
+pub returns-in-None-clause-does : goal.returns-in-None-clause-does
+returns-in-None-clause-does g c =
+    due_done c.args.intervals.now c.args.tier.now c.settle_due.new.tier c.refresh_sets.new.tier _ _ _ c.args.notes.now.items
+    c.settle_due.new.notes.items c.refresh_sets.new.notes.items c.refresh_sets.result c.in-None.ensures.same
+    c.refresh_sets.ensures.sound c.requires.due c.in-None.ensures.does c.refresh_sets.ensures.does

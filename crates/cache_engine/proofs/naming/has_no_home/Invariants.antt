@@ -1,5 +1,0 @@
-use Rattle.cache_engine.specs.Naming.{HasNoHome}
-use Rattle.cache_engine.proofs.naming.has_no_home.Given as goal
-
-abbrev pub invariant-loop-number : goal.invariant-loop-number
-invariant-loop-number l = HasNoHome l.directory l.first l.number

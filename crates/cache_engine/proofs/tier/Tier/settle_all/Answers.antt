@@ -1,5 +1,0 @@
-use Rattle.cache_engine.proofs.SettlingLaws.{round_done}
-use Rattle.cache_engine.proofs.tier.Tier.settle_all.Goals as goal
-
-pub returns-in-Ok-clause-performs : goal.returns-in-Ok-clause-performs
-returns-in-Ok-clause-performs g c = round_done c.args.self.now _ _ _ _ c.in-Ok.ensures.performs

@@ -1,7 +1,0 @@
-use Rattle.std.proofs.Common.{take}
-use Rattle.group_store.specs.Stores.{SameButSpare}
-use Rattle.cache_engine.specs.Unloading.{cut_all}
-use Rattle.cache_engine.proofs.unloading.cut_all.Given as goal
-
-abbrev pub invariant-loop-key : goal.invariant-loop-key
-invariant-loop-key l = SameButSpare (cut_all (take l.key-index l.keys) l.initial.store) l.store

@@ -1,0 +1,418 @@
+-- ALTER CACHE GROUP: what it names, and the STATE of a group that changes, alone or behind a refresh.
+use Rattle.std.proofs.Common.{◌≡◌, ℕ, Bool, true, false, cond, not, ◌&&◌, ◌||◌, nat_eq, is_none, Option, Some, None, List, length, map, slice_get, refl, sym, ap, subst, ◌∙◌, inl, inr}
+use Rattle.std.specs.Prelude.{Result, Ok, Err}
+use Rattle.std.specs.Bool.{MatchBool}
+use Rattle.std.specs.Option.{option_or}
+use Rattle.std.proofs.lemmas.Bool.{eqb-true, eq-eqb}
+use Rattle.row_types.specs.declared.rule.Refused.{Refused}
+use Rattle.row_types.specs.declared.rule.Refused.TheVariants as refused
+use Rattle.row_types.specs.declared.rule.Rule.{Rule}
+use Rattle.resolution.specs.Results.{IsRefusal}
+use Rattle.tier_base.specs.declared.code.Code.TheVariants as code
+use Rattle.tier_base.specs.declared.number.SessionId.{SessionId}
+use Rattle.sql_subset.specs.declared.stmt.Alter.{Alter}
+use Rattle.sql_subset.specs.declared.stmt.RefreshState.{RefreshState}
+use Rattle.sql_subset.specs.declared.stmt.RefreshState.TheVariants.{On, Off, Paused}
+use Rattle.sql_subset.specs.declared.stmt.Stmt.TheVariants as statement
+use Rattle.table_defs.specs.Declarations.{IsRefusedBy}
+use Rattle.table_state.specs.declared.operation.Op.{Op}
+use Rattle.table_state.specs.Tables.{TableState}
+use Rattle.instances.specs.Trees.{place_of}
+use Rattle.instances.specs.Views.{kept_at}
+use Rattle.outside.specs.declared.fault.BankError.{BankError}
+use Rattle.open_sessions.specs.Lookups.{open_ops}
+use Rattle.open_sessions.specs.Opening.{seen_all}
+use Rattle.group_catalog.specs.Catalogs.{groups_in}
+use Rattle.group_store.specs.Stores.{Kept}
+use Rattle.order_laws.proofs.TruthLaws.{both_true}
+use Rattle.cache_tier.specs.declared.group.GroupDef.{GroupDef}
+use Rattle.cache_tier.specs.declared.reply.Last.TheVariants.{Done}
+use Rattle.cache_tier.specs.declared.reply.Reply.{Reply}
+use Rattle.cache_tier.specs.AlterSteps.{AltersTo, SetsStateAlone, SetsStateRefreshed, altered_entries, joins_something, same_state, with_state}
+use Rattle.cache_tier.specs.Groups.{Group, is_explicit, is_on, is_read_only, is_synchronous, is_writethrough, place_called}
+use Rattle.cache_tier.specs.Order.{Broken, alter_broken, first_broken, of_group, refusal}
+use Rattle.cache_tier.specs.Reading.{TellsPosition, as_it_was, backing_at}
+use Rattle.cache_tier.specs.Rules.{named}
+use Rattle.cache_tier.specs.Sets.{Choice, OnePosition, alone, at_position, changed, changed_from, has_something, is_in_set, of_set, shows_something}
+use Rattle.cache_tier.specs.Shown.{shown, state_behind}
+use Rattle.cache_tier.specs.Steps.{DoesStatement}
+use Rattle.cache_tier.specs.TierStates.{Session, Tier, refresh_tried}
+use Rattle.cache_tier.specs.Worlds.{BankCall, Tries, Unless, World, bank_fault, only}
+use Rattle.cache_tier.proofs.PositionLaws.{Hidden, alone_one, alone_twice, hidden_empty, hidden_state, join_base, join_one, join_step}
+use Rattle.stored_tier.specs.declared.tier.Tier.{Tier as Stored}
+use Rattle.group_engine.specs.Altering.{AimsAlter, AimsAlterIn, AltersAlone, AltersHere, AltersWith, FindsAltered, alter_state, altered_with}
+use Rattle.group_engine.specs.Fresh.{AreFresh, IsRead}
+use Rattle.stored_tier.specs.Performing.{Executes, IsPerformed, PerformsIn, StandsFor, reply_of}
+use Rattle.group_rows.specs.Refreshing.{is_filled, is_off}
+use Rattle.stored_tier.specs.Sites.{IsAt}
+use Rattle.outside.specs.Sites.{SiteState}
+use Rattle.stored_tier.specs.Stored.{AreKept, HasSession, IsSound, IsStoredAs, is_plain, without_list}
+use Rattle.group_engine.proofs.AimLaws.{IsUnlisted, unlisted}
+use Rattle.group_engine.proofs.CalmLaws.{NumberLaw, flushes_none, own_here, refused_by, wanting_still}
+use Rattle.group_engine.proofs.DropLocks.{group_stored, place_stored}
+use Rattle.group_engine.proofs.RefreshedSets.{shows_stored}
+use Rattle.group_engine.proofs.FreshLaws.{Changes, IsBeside, IsRefreshed, all_there, changed_at, changed_long, changed_mapped, groups_behind, stands_behind, stateless, tier_behind}
+use Rattle.group_engine.proofs.GroupRows.{AllBecome, Becomes, same_there, stands_after, there_too}
+use Rattle.group_rows.proofs.RefreshSteps.{something_there}
+use Rattle.group_engine.proofs.ShownStores.{EachShows, all_shown, each_shows}
+
+-- what refuses it
+
+of_none : (a : Tier) (name : List ℕ) (broken : Group → Broken) → place_called a.groups name ≡ None → first_broken (of_group a name broken) ≡ Some (named code.UnknownGroup name)
+of_none a name broken none = rw none refl
+
+of_some : (a : Tier) (name : List ℕ) (broken : Group → Broken) (place : ℕ) (g : Group) → place_called a.groups name ≡ Some place → slice_get a.groups place ≡ Some g → first_broken (of_group a name broken) ≡ first_broken (broken g)
+of_some a name broken place g found there = rw found (rw there refl)
+
+or_last : (o : Option Rule) → option_or o None ≡ o
+or_last None = refl
+or_last (Some r) = refl
+
+pub unknown_alter : (t : Stored) (a : Tier) (s : Session) (alter : Alter) (e : Refused) → IsStoredAs t a → place_called (groups_in t.catalog) alter.group ≡ None → IsRefusal (named code.UnknownGroup alter.group) e → AimsAlter a s alter (Err e)
+unknown_alter t a s alter (refused.Rule rule) is none told = of_none a alter.group (alter_broken s) (place_stored t a alter.group is ∙ none) ∙ ap Some (sym told)
+unknown_alter t a s alter refused.Memory is none told = tt
+
+-- the group that is found
+module _ (law : NumberLaw) (t : Stored) (a : Tier) (s : Session) (id : SessionId) (alter : Alter) (place : ℕ) (seen : Group) (own : List Op) (sound : IsSound t) (is : IsStoredAs t a) (has : HasSession t id s)
+    (found : place_called (groups_in t.catalog) alter.group ≡ Some place) (at : slice_get (groups_in t.catalog) place ≡ Some seen) (mine : own ≡ open_ops id (seen_all t.sessions)) where
+  group_here : IsUnlisted a.groups place seen
+  group_here = unlisted a.groups place seen (ap (λ gs. slice_get gs place) is.groups ∙ at)
+
+  called_here : place_called a.groups alter.group ≡ Some place
+  called_here = place_stored t a alter.group is ∙ found
+
+  refusal_is : refusal a s (statement.Alter alter) ≡ alter_state own seen
+  refusal_is =
+      of_some a alter.group (alter_broken s) place group_here.group called_here group_here.there
+      ∙ or_last (alter_state s.own group_here.group)
+      ∙ ap (λ ops. alter_state ops group_here.group) (sym (mine ∙ own_here law t id s sound has))
+      ∙ ap (alter_state own) group_here.is
+
+  pub refused_alter : (e : Refused) → IsRefusedBy (alter_state own seen) e → AimsAlter a s alter (Err e)
+  refused_alter (refused.Rule rule) told = refusal_is ∙ told
+  refused_alter refused.Memory told = tt
+
+  reads_so : (g : Group) (rest : Option Rule) → option_or (Rattle.cache_tier.specs.Order.wrong_state (is_writethrough g) g) rest ≡ None → is_read_only g ≡ true
+  reads_so g rest = by (is_read_only g)
+    where
+      by : (b : Bool) → option_or (Rattle.cache_tier.specs.Order.wrong_state (not b) g) rest ≡ None → b ≡ true
+      by true e = refl
+      by false e = cc
+
+  pub finds_alter : alter_state own seen ≡ None → AimsAlter a s alter (Ok place)
+  finds_alter free = record {
+    group = group_here.group;
+    free = refusal_is ∙ free;
+    called = called_here;
+    there = group_here.there;
+    reads = ap is_read_only group_here.is ∙ reads_so seen (Rattle.cache_tier.specs.Rules.open_writes own) free;
+  }
+
+-- it is refused, or memory was wanting
+pub not_altered : (t : Stored) (site : SiteState) (id : SessionId) (alter : Alter) (e : Refused) → AimsAlterIn t id alter (Err e) → PerformsIn t t site site id (Executes (statement.Alter alter)) (Err e)
+not_altered t site id alter (refused.Rule rule) aims = refused_by t site id (statement.Alter alter) rule (λ s w has is. aims w.tier s is has)
+not_altered t site id alter refused.Memory aims = wanting_still t t site id (statement.Alter alter) (λ w stands. stands)
+
+-- what it does of the group that is found
+pub altered : (t new : Stored) (before behind : SiteState) (id : SessionId) (alter : Alter) (place : ℕ) (result : Result Reply Refused) → AimsAlterIn t id alter (Ok place) → AltersHere t new before behind alter.state place (reply_of result)
+    → PerformsIn t new before behind id (Executes (statement.Alter alter)) result
+altered t new before behind id alter place result aims alters = λ s has w at stands apart.
+    let f = aims w.tier s stands.stored has in
+    let p = alters w f.group at stands apart f.there f.reads in
+    record { world = p.world; at = p.at; stands = p.stands; is = does s w p.world f p.is }
+  where
+    does : (s : Session) (w w' : World) (f : FindsAltered w.tier s alter place) → Tries (AltersTo alter.state place f.group) w w' (reply_of result) → Executes (statement.Alter alter) s w w' (reply_of result)
+    does s w w' f (inl d) = inl (subst (λ o. Unless o (DoesStatement s (statement.Alter alter)) w w' (reply_of result)) (sym f.free) (record { place = place; group = f.group; there = f.called; is = f.there; does = d }))
+    does s w w' f (inr m) = inr m
+
+-- the STATE alone
+
+pub record IsRestated (t t' : Stored) (place : ℕ) (st : RefreshState) : Type 0 where
+  pub beside : IsBeside t t'
+  pub groups : groups_in t'.catalog ≡ changed_from (alone place) (with_state st) 0 (groups_in t.catalog)
+  pub stores : t'.stores.items ≡ t.stores.items
+  pub was : AreKept t.schema (groups_in t.catalog) t.stores.items
+  pub kept : AreKept t'.schema (groups_in t'.catalog) t'.stores.items
+
+module _ (t t' : Stored) (w : World) (place : ℕ) (st : RefreshState) (x : StandsFor t w) (is : IsRestated t t' place st) where
+  abbrev final : List Group
+  final = changed_from (alone place) (with_state st) 0 w.tier.groups
+
+  abbrev last : ℕ → Group → Group
+  last k g = cond (nat_eq k place) (with_state st g) g
+
+  last_there : (k : ℕ) (g : Group) → slice_get w.tier.groups k ≡ Some g → slice_get final k ≡ Some (last k g)
+  last_there k g at = changed_at (alone place) (with_state st) w.tier.groups k g at
+
+  final_long : length final ≡ length w.tier.groups
+  final_long = changed_long (alone place) (with_state st) 0 w.tier.groups
+
+  still : (k : ℕ) (g : Group) → shown w.history w.tier.log (last k g) ≡ shown w.history w.tier.log g
+  still k g = by (nat_eq k place)
+    where
+      by : (b : Bool) → shown w.history w.tier.log (cond b (with_state st g) g) ≡ shown w.history w.tier.log g
+      by true = stateless (state_behind w.history w.tier.log g) g st
+      by false = refl
+
+  last_becomes : (k : ℕ) (g : Group) → Becomes w g (last k g)
+  last_becomes k g = by (nat_eq k place)
+    where
+      by : (b : Bool) → Becomes w g (cond b (with_state st g) g)
+      by true = record {
+        kept = record { def = refl; first = refl };
+        distinct = λ d. d;
+        within = λ before. before;
+        keys = λ writes. refl;
+        rows = λ writes p. ap (λ ts. kept_at ts p) (stateless (state_behind w.history w.tier.log g) g st);
+      }
+      by false = record { kept = record { def = refl; first = refl }; distinct = λ d. d; within = λ before. before; keys = λ writes. refl; rows = λ writes p. refl }
+
+  become : AllBecome w final
+  become = record { long = final_long; one = λ k g h at there. subst (Becomes w g) (sym (same_there final k h (last k g) there (last_there k g at))) (last_becomes k g) }
+
+  groups_then : map without_list final ≡ groups_in t'.catalog
+  groups_then =
+      changed_mapped (alone place) (with_state st) (with_state st) 0 w.tier.groups (λ k g. refl) (λ g. refl)
+      ∙ ap (changed_from (alone place) (with_state st) 0) x.stored.groups ∙ sym is.groups
+
+  shows_before : EachShows w.history w.tier.log w.tier.groups t.stores.items
+  shows_before = each_shows t.schema w.history w.tier t.stores.items x.stored.schema x.stands.catalog (subst (λ l. AreKept t.schema l t.stores.items) (sym x.stored.groups) is.was) x.shows
+
+  shows_then : EachShows w.history w.tier.log final t.stores.items
+  shows_then k h s u p at there spot =
+      let (g, was) = there_too final w.tier.groups k h (sym final_long) at in
+      let same : h ≡ last k g = same_there final k h (last k g) at (last_there k g was) in
+      let spot_before : place_of g.def.tree u ≡ Some p = ap (λ (d : GroupDef). place_of d.tree u) (sym (become.one k g h was at).kept.def) ∙ spot in
+      shows_before k g s u p was there spot_before
+      ∙ sym (ap (λ ts. kept_at ts p) (still k g))
+      ∙ ap (λ (y : Group). kept_at (shown w.history w.tier.log y) p) (sym same)
+
+  stored_then : IsStoredAs t' (changed (alone place) (with_state st) w.tier)
+  stored_then = record {
+    schema = x.stored.schema ∙ sym is.beside.schema;
+    stale = x.stored.stale ∙ sym is.beside.stale;
+    groups = groups_then;
+    sessions = x.stored.sessions ∙ ap (λ ss. map Rattle.tier_statements.specs.Seen.session_seen (seen_all ss)) (sym is.beside.sessions);
+    unsettled = x.stored.unsettled ∙ ap (λ q. q.items) (sym is.beside.unsettled);
+    next = x.stored.next ∙ sym is.beside.next;
+    doubt = x.stored.doubt;
+    time = subst (λ c. Rattle.stored_tier.specs.Stored.KeepsTime c w.tier.now w.tier.added w.tier.round w.tier.sets w.tier.settings) (sym is.beside.clock) x.stored.time;
+  }
+
+  hidden : (g : Group) → (is_on st && has_something g) ≡ false → Hidden (with_state st g)
+  hidden g none = by (is_on st) refl none
+    where
+      by : (b : Bool) → is_on st ≡ b → (b && has_something g) ≡ false → Hidden (with_state st g)
+      by true on e = hidden_empty (with_state st g) e
+      by false on e = hidden_state (with_state st g) on
+
+  module _ (g : Group) (there : slice_get w.tier.groups place ≡ Some g) (none : (is_on st && has_something g) ≡ false) where
+    positions : OnePosition final
+    positions = alone_one w.tier.groups place (with_state st) (λ h at. inr (hidden h (ap (λ y. is_on st && has_something y) (same_there w.tier.groups place h g at there) ∙ none))) x.stands.read.one
+
+    stands_then : StandsFor t' (record w { tier = changed (alone place) (with_state st) w.tier })
+    stands_then = record {
+      stored = stored_then;
+      shows = all_shown t'.schema w.history (changed (alone place) (with_state st) w.tier) t'.stores.items (x.stored.schema ∙ sym is.beside.schema) (subst (λ l. AreKept t'.schema l t'.stores.items) (sym groups_then) is.kept)
+          (subst (EachShows w.history w.tier.log final) (sym is.stores) shows_then);
+      stands = stands_after w x.stands final become positions;
+      unkept = x.unkept;
+      waits = x.waits;
+    }
+
+    pub set_alone : (site : SiteState) (reply : Reply) → IsAt site w → reply ≡ only (Done 0) → IsPerformed t' site (λ w'. SetsStateAlone place g st w w' reply)
+    set_alone site reply at told = record {
+      world = record w { tier = changed (alone place) (with_state st) w.tier };
+      at = record { there = at.there; told = at.told; history = at.history; faults = at.faults; moment = at.moment; shared = at.shared };
+      stands = stands_then;
+      is = record { mid = w; stop = None; first = flushes_none w (altered_entries g st) x.unkept; next = (refl, told) };
+    }
+
+-- the STATE behind a refresh
+
+plain_or : (b : Bool) → b ≡ (b || false)
+plain_or true = refl
+plain_or false = refl
+
+same_choice : (st : RefreshState) (interval place k : ℕ) (g : Group) → altered_with st interval place k (without_list g) ≡ altered_with st interval place k g
+same_choice On interval place k g = refl
+same_choice Off interval place k g = refl
+same_choice Paused interval place k g = refl
+
+state_changes : (st : RefreshState) (interval place : ℕ) → Changes false place (altered_with st interval place) None (with_state st)
+state_changes st interval place = record {
+  flagged = λ g e. record { is = λ i. record g { state = st; loaded = plain_or g.loaded i } };
+  loads_is = refl;
+  chosen_is = λ g e. cc;
+  unlisted = λ k g. same_choice st interval place k g;
+}
+
+altered_positions : (st : RefreshState) (groups : List Group) (place n : ℕ) (g : Group) (s : TableState) → slice_get groups place ≡ Some g → OnePosition groups → OnePosition (groups_behind (altered_with st g.def.interval place) place (with_state st) n s groups)
+altered_positions On groups place n g s at one =
+    join_one g.def.interval place n groups joins _ (join_step g.def.interval place n groups joins (with_state On) (λ x. refl) (λ x. refl) _ (join_base g.def.interval place n groups joins s)) one
+  where
+    joins : (x : Group) → slice_get groups place ≡ Some x → x.def.interval ≡ g.def.interval
+    joins x there = ap (λ (y : Group). y.def.interval) (same_there groups place x g there at)
+altered_positions Off groups place n g s at one = alone_twice groups place (at_position n s) (with_state Off) (λ x there. hidden_state (with_state Off (at_position n s x)) refl) one
+altered_positions Paused groups place n g s at one = alone_twice groups place (at_position n s) (with_state Paused) (λ x there. hidden_state (with_state Paused (at_position n s x)) refl) one
+
+only_read : (st : RefreshState) (groups : List Group) (place : ℕ) (g : Group) → slice_get groups place ≡ Some g → is_read_only g ≡ true → (k : ℕ) (x : Group) → slice_get groups k ≡ Some x → altered_with st g.def.interval place k x ≡ true → is_read_only x ≡ true
+only_read st groups place g at reads k x at_k = by st
+  where
+    here : nat_eq k place ≡ true → is_read_only x ≡ true
+    here e = ap is_read_only (same_there groups place x g (ap (slice_get groups) (sym (eqb-true k place e)) ∙ at_k) at) ∙ reads
+
+    in_set : (b : Bool) → is_in_set g.def.interval x ≡ b → (b || nat_eq place k) ≡ true → is_read_only x ≡ true
+    in_set true h e = (both_true (is_read_only x) (nat_eq x.def.interval g.def.interval) (both_true (is_read_only x && nat_eq x.def.interval g.def.interval) (is_on x.state) h).0).0
+    in_set false h e = here (eq-eqb k place (sym (eqb-true place k e)))
+
+    by : (s : RefreshState) → altered_with s g.def.interval place k x ≡ true → is_read_only x ≡ true
+    by On e = in_set (is_in_set g.def.interval x) refl e
+    by Off e = here e
+    by Paused e = here e
+
+module _ (t new : Stored) (behind : SiteState) (w : World) (place n : ℕ) (g : Group) (st : RefreshState) (made : List (Option Kept)) (at : slice_get w.tier.groups place ≡ Some g) (reads : is_read_only g ≡ true)
+    (r : IsRead t behind (Ok n) w) (fresh : AreFresh t r.world (is_filled (altered_with st g.def.interval place) None) n made) (is : IsRefreshed t new (altered_with st g.def.interval place) place (with_state st) n made)
+    (reply : Reply) (told : reply ≡ only (Done 0)) where
+  there : slice_get r.world.tier.groups place ≡ Some g
+  there = ap (λ (x : Tier). slice_get x.groups place) r.tier ∙ at
+
+  stands_last : StandsFor new (record r.world { tier = tier_behind (altered_with st g.def.interval place) place (with_state st) n (backing_at r.world n) r.world.tier })
+  stands_last = stands_behind t new r.world false place (altered_with st g.def.interval place) None (with_state st) (state_changes st g.def.interval place) n made r.stands fresh is
+      (only_read st r.world.tier.groups place g there reads) (λ x. refl)
+      (λ s. altered_positions st r.world.tier.groups place n g s there r.stands.stands.read.one)
+
+  pub set_refreshed : IsPerformed new behind (λ w'. SetsStateRefreshed place g st (altered_with st g.def.interval place) as_it_was w w' reply)
+  set_refreshed = record {
+    world = record r.world { tier = tier_behind (altered_with st g.def.interval place) place (with_state st) n (backing_at r.world n) r.world.tier };
+    at = record { there = r.at.there; told = r.at.told; history = r.at.history; faults = r.at.faults; moment = r.at.moment; shared = r.at.shared };
+    stands = stands_last;
+    is = record {
+      result = Ok n;
+      mid = r.world;
+      call = r.call;
+      tier = r.tier;
+      goes_on = inl (record { mid = r.world; stop = None; first = flushes_none r.world (altered_entries g st) r.stands.unkept; next = (refl, told) });
+    };
+  }
+
+-- so it is where these groups are the ones that it is refreshed with
+pub refreshed_with : (t new : Stored) (behind : SiteState) (w : World) (place n : ℕ) (g : Group) (st : RefreshState) (chosen : Choice) (made : List (Option Kept)) (reply : Reply) → slice_get w.tier.groups place ≡ Some g → is_read_only g ≡ true → chosen ≡ altered_with st g.def.interval place
+    → (r : IsRead t behind (Ok n) w) → AreFresh t r.world (is_filled chosen None) n made → IsRefreshed t new chosen place (with_state st) n made → reply ≡ only (Done 0) → IsPerformed new behind (λ w'. SetsStateRefreshed place g st chosen as_it_was w w' reply)
+refreshed_with t new behind w place n g st chosen made reply at reads chosen_is r fresh is told =
+    subst (λ (d : Choice). IsPerformed new behind (λ w'. SetsStateRefreshed place g st d as_it_was w w' reply)) (sym chosen_is)
+    (set_refreshed t new behind w place n g st made at reads r (subst (λ (d : Choice). AreFresh t r.world (is_filled d None) n made) chosen_is fresh)
+    (subst (λ (d : Choice). IsRefreshed t new d place (with_state st) n made) chosen_is is) reply told)
+
+-- the call failed
+pub not_refreshed : (t : Stored) (behind : SiteState) (w : World) (place : ℕ) (g : Group) (st : RefreshState) (chosen : Choice) (e : BankError) (reply : Reply) → IsRead t behind (Err e) w → reply ≡ bank_fault e
+    → IsPerformed t behind (λ w'. SetsStateRefreshed place g st chosen as_it_was w w' reply)
+not_refreshed t behind w place g st chosen e reply r told = record {
+  world = r.world;
+  at = r.at;
+  stands = r.stands;
+  is = record { result = Err e; mid = r.world; call = r.call; tier = r.tier; goes_on = (refl, told) };
+}
+
+-- to each STATE
+
+-- the STATE that is given
+pub of_state : (old new : Stored) (before behind : SiteState) (place : ℕ) (reply : Reply) (given st : RefreshState) → given ≡ st → AltersHere old new before behind st place reply → AltersHere old new before behind given place reply
+of_state old new before behind place reply given st is alters = subst (λ x. AltersHere old new before behind x place reply) (sym is) alters
+
+-- the group that is stored at the place
+record IsSeen (t : Stored) (w : World) (seen g : Group) : Type 0 where
+  pub is : without_list g ≡ seen
+  pub something : has_something g ≡ seen.loaded
+
+seen_there : (t : Stored) (w : World) (place : ℕ) (seen g : Group) → IsSound t → StandsFor t w → slice_get (groups_in t.catalog) place ≡ Some seen → slice_get w.tier.groups place ≡ Some g → IsSeen t w seen g
+seen_there t w place seen g sound stands at there =
+    let is : without_list g ≡ seen = same_there (groups_in t.catalog) place (without_list g) seen (group_stored t w.tier place g stands.stored there) at in
+    let plain = all_there is_plain (groups_in t.catalog) place seen sound.plain at in
+    let explicit : is_explicit g ≡ true = ap is_explicit is ∙ (both_true (is_explicit seen) (is_none seen.def.aging) (both_true (is_explicit seen && is_none seen.def.aging) (not (is_synchronous seen)) plain).0).0 in
+    record { is = is; something = something_there g explicit ∙ ap (λ (y : Group). y.loaded) is }
+
+joins_stored : (t : Stored) (w : World) (place : ℕ) (seen g : Group) → IsSound t → StandsFor t w → slice_get (groups_in t.catalog) place ≡ Some seen → slice_get w.tier.groups place ≡ Some g
+    → joins_something place g w.tier ≡ (seen.loaded || shows_something seen.def.interval (groups_in t.catalog))
+joins_stored t w place seen g sound stands at there =
+    let s = seen_there t w place seen g sound stands at there in
+    let shows = shows_stored t w g.def.interval sound stands.stored ∙ ap (λ (y : Group). shows_something y.def.interval (groups_in t.catalog)) s.is in
+    λ i. s.something i || shows i
+
+pub on_alone : (t new : Stored) (site : SiteState) (place : ℕ) (seen : Group) (reply : Reply) → IsSound t → slice_get (groups_in t.catalog) place ≡ Some seen → (seen.loaded || shows_something seen.def.interval (groups_in t.catalog)) ≡ false
+    → AltersAlone t new site On place reply → AltersHere t new site site On place reply
+on_alone t new site place seen reply sound at none alters = λ w g at_w stands apart there reads.
+    let s = seen_there t w place seen g sound stands at there in
+    let p = alters w g at_w stands there (s.something ∙ unloaded seen.loaded none) in
+    record {
+      world = p.world;
+      at = p.at;
+      stands = p.stands;
+      is = inl (subst (λ b. MatchBool b (SetsStateRefreshed place g On (of_set g.def.interval (Some place)) (refresh_tried g.def.interval) w p.world reply) (SetsStateAlone place g On w p.world reply)) (sym (joins_stored t w place seen g sound stands at there ∙ none)) p.is);
+    }
+  where
+    unloaded : (b : Bool) → (b || shows_something seen.def.interval (groups_in t.catalog)) ≡ false → b ≡ false
+    unloaded true e = e
+    unloaded false e = refl
+
+one_call : (step : List Rattle.table_state.specs.declared.history.Entry.Entry → List Rattle.table_state.specs.declared.history.Entry.Entry → Type 0) (w mid : World) (a : Tier) → BankCall step (record w { tier = a }) mid → BankCall step w mid
+one_call step w mid a c = record { history = c.history; journal = c.journal; faults = c.faults; disk = c.disk; moment = c.moment; shared = c.shared }
+
+tried_so : (place : ℕ) (g : Group) (st : RefreshState) (chosen : Choice) (interval : ℕ) (w w' : World) (reply : Reply) → SetsStateRefreshed place g st chosen as_it_was (record w { tier = refresh_tried interval w.tier }) w' reply
+    → SetsStateRefreshed place g st chosen (refresh_tried interval) w w' reply
+tried_so place g st chosen interval w w' reply r = record { result = r.result; mid = r.mid; call = one_call (TellsPosition r.result) w r.mid (refresh_tried interval w.tier) r.call; tier = r.tier; goes_on = r.goes_on }
+
+pub on_joined : (t noted new : Stored) (before behind : SiteState) (place : ℕ) (seen : Group) (reply : Reply) → IsSound t → slice_get (groups_in t.catalog) place ≡ Some seen → (seen.loaded || shows_something seen.def.interval (groups_in t.catalog)) ≡ true
+    → ((w : World) → StandsFor t w → StandsFor noted (record w { tier = refresh_tried seen.def.interval w.tier })) → AltersWith noted new before behind On place (of_set seen.def.interval (Some place)) reply → AltersHere t new before behind On place reply
+on_joined t noted new before behind place seen reply sound at some notes alters = λ w g at_w stands apart there reads.
+    let s = seen_there t w place seen g sound stands at there in
+    let interval : seen.def.interval ≡ g.def.interval = ap (λ (y : Group). y.def.interval) (sym s.is) in
+    let p = alters (record w { tier = refresh_tried seen.def.interval w.tier }) g (record { there = at_w.there; told = at_w.told; history = at_w.history; faults = at_w.faults; moment = at_w.moment; shared = at_w.shared }) (notes w stands) apart there reads
+    (ap (λ i. of_set i (Some place)) interval) in
+    record {
+      world = p.world;
+      at = p.at;
+      stands = p.stands;
+      is = inl (subst (λ b. MatchBool b (SetsStateRefreshed place g On (of_set g.def.interval (Some place)) (refresh_tried g.def.interval) w p.world reply) (SetsStateAlone place g On w p.world reply)) (sym (joins_stored t w place seen g sound stands at there ∙ some))
+          (subst (λ i. SetsStateRefreshed place g On (of_set i (Some place)) (refresh_tried i) w p.world reply) interval
+          (tried_so place g On (of_set seen.def.interval (Some place)) seen.def.interval w p.world reply p.is)));
+    }
+
+pub off_alone : (t new : Stored) (site : SiteState) (place : ℕ) (reply : Reply) → AltersAlone t new site Off place reply → AltersHere t new site site Off place reply
+off_alone t new site place reply alters = λ w g at stands apart there reads.
+    let p = alters w g at stands there refl in
+    record { world = p.world; at = p.at; stands = p.stands; is = inl p.is }
+
+was_off : (st : RefreshState) → same_state st Off ≡ is_off st
+was_off On = refl
+was_off Off = refl
+was_off Paused = refl
+
+leaves_stored : (t : Stored) (w : World) (place : ℕ) (seen g : Group) → IsSound t → StandsFor t w → slice_get (groups_in t.catalog) place ≡ Some seen → slice_get w.tier.groups place ≡ Some g
+    → (same_state g.state Off && has_something g) ≡ (is_off seen.state && seen.loaded)
+leaves_stored t w place seen g sound stands at there =
+    let s = seen_there t w place seen g sound stands at there in
+    let off = was_off g.state ∙ ap (λ (y : Group). is_off y.state) s.is in
+    λ i. off i && s.something i
+
+pub paused_alone : (t new : Stored) (site : SiteState) (place : ℕ) (seen : Group) (reply : Reply) → IsSound t → slice_get (groups_in t.catalog) place ≡ Some seen → (is_off seen.state && seen.loaded) ≡ false
+    → AltersAlone t new site Paused place reply → AltersHere t new site site Paused place reply
+paused_alone t new site place seen reply sound at none alters = λ w g at_w stands apart there reads.
+    let p = alters w g at_w stands there refl in
+    record {
+      world = p.world;
+      at = p.at;
+      stands = p.stands;
+      is = inl (subst (λ b. MatchBool b (SetsStateRefreshed place g Paused (alone place) as_it_was w p.world reply) (SetsStateAlone place g Paused w p.world reply)) (sym (leaves_stored t w place seen g sound stands at there ∙ none)) p.is);
+    }
+
+pub paused_with : (t new : Stored) (before behind : SiteState) (place : ℕ) (seen : Group) (reply : Reply) → IsSound t → slice_get (groups_in t.catalog) place ≡ Some seen → (is_off seen.state && seen.loaded) ≡ true
+    → AltersWith t new before behind Paused place (alone place) reply → AltersHere t new before behind Paused place reply
+paused_with t new before behind place seen reply sound at some alters = λ w g at_w stands apart there reads.
+    let p = alters w g at_w stands apart there reads refl in
+    record {
+      world = p.world;
+      at = p.at;
+      stands = p.stands;
+      is = inl (subst (λ b. MatchBool b (SetsStateRefreshed place g Paused (alone place) as_it_was w p.world reply) (SetsStateAlone place g Paused w p.world reply)) (sym (leaves_stored t w place seen g sound stands at there ∙ some)) p.is);
+    }

@@ -1,0 +1,274 @@
+-- CREATE CACHE GROUP over what is stored.
+use Rattle.std.proofs.Common.{◌≡◌, Bool, true, false, not, ◌&&◌, ◌||◌, nat_eq, Option, Some, None, Ok, List, [], ◌∷◌, ◌++◌, length, map, refl, sym, ap, subst, ◌∙◌, inl}
+use Rattle.std.specs.List.{list_all, list_any}
+use Rattle.std.specs.Option.{is_none, option_or}
+use Rattle.std.proofs.Math.Dec.{eqb-suc-zero}
+use Rattle.std.proofs.lemmas.List.{map-append}
+use Rattle.tier_base.specs.declared.code.Code.TheVariants as code
+use Rattle.tier_base.specs.declared.limit.Limit.TheVariants as limit
+use Rattle.tier_base.specs.declared.number.SessionId.{SessionId}
+use Rattle.table_defs.specs.declared.definition.TableDef.{TableDef}
+use Rattle.table_state.specs.declared.operation.Op.{Op}
+use Rattle.instances.specs.declared.tree.Child.{Child}
+use Rattle.instances.specs.declared.tree.Tree.{Tree}
+use Rattle.instances.specs.Trees.{is_sound}
+use Rattle.open_sessions.specs.Opening.{seen_all}
+use Rattle.sql_subset.specs.declared.stmt.CreateGroup.{CreateGroup}
+use Rattle.sql_subset.specs.declared.stmt.GroupKind.{GroupKind}
+use Rattle.sql_subset.specs.declared.stmt.GroupKind.TheVariants as kind
+use Rattle.sql_subset.specs.declared.stmt.Stmt.TheVariants as statement
+use Rattle.group_catalog.specs.Catalogs.{groups_in}
+use Rattle.group_catalog.specs.Sound.{AreUnfiltered, HasNewTables, IsAccepted, IsUnfiltered, StandsApart, WritesAll}
+use Rattle.group_catalog.proofs.SoundLaws.{or_none}
+use Rattle.group_store.specs.Stores.{Kept}
+use Rattle.tier_statements.specs.Seen.{session_seen}
+use Rattle.cache_tier.specs.declared.group.GroupDef.{GroupDef}
+use Rattle.cache_tier.specs.declared.reply.Last.TheVariants.{Done}
+use Rattle.cache_tier.specs.Definitions.{IsTreeOf, column_fault, defined_by, definition_broken, definition_fault, definition_names, definition_types, first_fault, first_unknown, is_read_only_kind, new_group, placed_tables, table_names, text_of}
+use Rattle.cache_tier.specs.DefineSteps.{CreatesGroup, define_answer, with_new_group}
+use Rattle.cache_tier.specs.Groups.{Group, defines_name, definitions_of, is_defined_on, is_read_only, is_synchronous, is_writethrough}
+use Rattle.cache_tier.specs.Journals.{Defines, JournalEntry, is_full}
+use Rattle.cache_tier.specs.JournalSteps.{Flushes, FlushesKept, journal_fault, name_sizes}
+use Rattle.cache_tier.specs.Order.{refusal}
+use Rattle.cache_tier.specs.Reading.{Answers}
+use Rattle.cache_tier.specs.Rules.{broken_if, named, open_writes, past, plain}
+use Rattle.cache_tier.specs.Steps.{DoesStatement}
+use Rattle.cache_tier.specs.TierStates.{Session, Tier}
+use Rattle.cache_tier.specs.Worlds.{Passes, Then, Unless, World, only}
+use Rattle.std.specs.Bool.{MatchBool}
+use Rattle.tier_laws.specs.Defining.{IsNewGroup}
+use Rattle.tier_laws.specs.Events.{StaysShown, with_tier}
+use Rattle.tier_laws.specs.Standing.{HasNoTableOf, Stands, foreign_key_in, has_no_where}
+use Rattle.stored_tier.specs.declared.tier.Tier.{Tier as Stored}
+use Rattle.group_engine.specs.Defining.{HasNewGroup, IsDefinition, is_done, is_free, is_synchronous_kind}
+use Rattle.stored_tier.specs.Grouping.{HasGroups, IsBareStore}
+use Rattle.stored_tier.specs.Performing.{Executes, PerformsIn, StandsFor}
+use Rattle.outside.specs.Sites.{SiteState}
+use Rattle.stored_tier.proofs.LaterLaws.{later_more}
+use Rattle.stored_tier.specs.Stored.{HasSession, IsSound, IsStoredAs, is_plain, without_list}
+use Rattle.group_engine.proofs.GroupComes.{kept_more, names_more, plain_more, shows_more, sound_grouped, time_kept, whole_more}
+
+-- the rule that refuses it
+
+open_is : (own : List Op) → open_writes own ≡ broken_if (not (nat_eq (length own) 0)) (plain code.TransactionOpen)
+open_is [] = refl
+open_is (op ∷ own) = ap (λ b. broken_if (not b) (plain code.TransactionOpen)) (sym (eqb-suc-zero (length own)))
+
+defs_bare : (groups : List Group) → definitions_of (map without_list groups) ≡ definitions_of groups
+defs_bare [] = refl
+defs_bare (g ∷ groups) = ap (λ defs. g.def ∷ defs) (defs_bare groups)
+
+pub defs_stored : (t : Stored) (a : Tier) → IsStoredAs t a → definitions_of a.groups ≡ definitions_of (groups_in t.catalog)
+defs_stored t a is = sym (defs_bare a.groups) ∙ ap definitions_of is.groups
+
+pub create_refusal : (t : Stored) (a : Tier) (s : Session) (d : CreateGroup) (own : List Op) → IsStoredAs t a → own ≡ s.own
+    → refusal a s (statement.CreateGroup d) ≡ definition_broken t.schema (definitions_of (groups_in t.catalog)) (not (nat_eq (length own) 0)) d
+create_refusal t a s d own is same =
+    let defs = defs_stored t a is in
+    let open_so = ap open_writes (sym same) ∙ open_is own in
+    λ i. option_or (definition_names (is.schema i) (defs i) d) (option_or (open_so i) (option_or (definition_types (is.schema i) d) (definition_fault (is.schema i) (defs i) d)))
+
+-- 113 isn't broken
+new_name : (schema : List TableDef) (groups : List GroupDef) (writes : Bool) (d : CreateGroup) → definition_broken schema groups writes d ≡ None → list_any (defines_name d.name) groups ≡ false
+new_name schema groups writes d e =
+    let names = (or_none (definition_names schema groups d) (option_or (broken_if writes (plain code.TransactionOpen)) (option_or (definition_types schema d) (definition_fault schema groups d))) e).0 in
+    let columns = (or_none (first_unknown schema (table_names d)) (option_or (first_fault column_fault (placed_tables schema d)) (broken_if (list_any (defines_name d.name) groups) (named code.NameInUse d.name))) names).1 in
+    by (list_any (defines_name d.name) groups) (or_none (first_fault column_fault (placed_tables schema d)) (broken_if (list_any (defines_name d.name) groups) (named code.NameInUse d.name)) columns).1
+  where
+    by : (b : Bool) → broken_if b (named code.NameInUse d.name) ≡ None → b ≡ false
+    by true e = cc
+    by false e = refl
+
+-- the group
+
+synchronous_is : (g : Group) → is_synchronous g ≡ is_synchronous_kind g.def.kind
+synchronous_is g = by g.def.kind
+  where
+    by : (k : GroupKind) → is_synchronous (record g { def = record (g.def) { kind = k } }) ≡ is_synchronous_kind k
+    by kind.ReadOnly = refl
+    by kind.AsynchronousWritethrough = refl
+    by kind.SynchronousWritethrough = refl
+    by kind.UserManaged = refl
+
+pub read_only_is : (g : Group) → is_read_only g ≡ is_read_only_kind g.def.kind
+read_only_is g = by g.def.kind
+  where
+    by : (k : GroupKind) → is_read_only (record g { def = record (g.def) { kind = k } }) ≡ is_read_only_kind k
+    by kind.ReadOnly = refl
+    by kind.AsynchronousWritethrough = refl
+    by kind.SynchronousWritethrough = refl
+    by kind.UserManaged = refl
+
+pub plain_new : (g : Group) → is_done g.def ≡ true → is_plain g ≡ true
+plain_new g e = ap (λ b. not g.def.dynamic && is_none g.def.aging && not b) (synchronous_is g) ∙ e
+
+unfiltered : (tree : Tree) → IsUnfiltered tree → has_no_where tree ≡ true
+unfiltered tree un = (λ i. is_none (un.0 i) && all tree.children un.1 i)
+  where
+    all : (children : List Child) → AreUnfiltered children → list_all (λ (c : Child). is_none c.filter) children ≡ true
+    all [] none = refl
+    all (c ∷ children) none = λ i. is_none (none.0 i) && all children none.1 i
+
+any_map : {A B : Type 0} (p : B → Bool) (f : A → B) (xs : List A) → list_any p (map f xs) ≡ list_any (λ x. p (f x)) xs
+any_map p f [] = refl
+any_map p f (x ∷ xs) = ap (λ b. p (f x) || b) (any_map p f xs)
+
+not_false : (b : Bool) → not b ≡ true → b ≡ false
+not_false true e = cc
+not_false false e = refl
+
+none_is : {X : Type 0} (o : Option X) → is_none o ≡ true → o ≡ None
+none_is None e = refl
+none_is (Some x) e = cc
+
+abbrev pub GroupLaw : Type 0
+GroupLaw =
+    (w : World) (d : CreateGroup) (tree : Tree) → Stands w → IsNewGroup w (new_group w.tier.next w.tier.now d (defined_by w.tier.schema d tree)) → StaysShown w (with_tier (with_new_group d tree w.tier) w)
+
+-- the same of its tree
+pub record IsDefined (t : Stored) (d : CreateGroup) (tree : Tree) : Type 0 where
+  pub writes : Bool
+  pub known : t.stale ≡ false
+  pub unbroken : definition_broken t.schema (definitions_of (groups_in t.catalog)) writes d ≡ None
+  pub tree_of : IsTreeOf (placed_tables t.schema d) tree
+  pub formed : is_sound t.schema tree ≡ true
+  pub done : is_done (defined_by t.schema d tree) ≡ true
+  pub free : is_free t.schema (defined_by t.schema d tree) ≡ true
+
+module _ (new_tables : HasNewTables) (writes_all : WritesAll) (apart : StandsApart) (t : Stored) (w : World) (stands : StandsFor t w) (sound : IsSound t) (d : CreateGroup) (tree : Tree) (x : IsDefined t d tree) where
+  schema : w.tier.schema ≡ t.schema
+  schema = stands.stored.schema
+
+  defs : definitions_of w.tier.groups ≡ definitions_of (groups_in t.catalog)
+  defs = defs_stored t w.tier stands.stored
+
+  abbrev coming : Group
+  coming = new_group w.tier.next w.tier.now d (defined_by w.tier.schema d tree)
+
+  accepted : IsAccepted w.tier.schema (definitions_of w.tier.groups) d tree
+  accepted = record {
+    has_writes = x.writes;
+    sound = (λ i. definition_broken (schema i) (defs i) x.writes d) ∙ x.unbroken;
+    tree_of = subst (λ defs. IsTreeOf (placed_tables defs d) tree) (sym schema) x.tree_of;
+  }
+
+  writes_through : is_writethrough coming ≡ true → is_read_only_kind d.kind ≡ false
+  writes_through e = sym (read_only_is coming) ∙ not_false (is_read_only coming) e
+
+  root_free : is_writethrough coming ≡ true → foreign_key_in w.tier.schema tree.root.table ≡ None
+  root_free e =
+      ap (λ defs. foreign_key_in defs tree.root.table) schema
+      ∙ none_is (foreign_key_in t.schema tree.root.table) (sym (ap (λ b. b || is_none (foreign_key_in t.schema tree.root.table)) (writes_through e)) ∙ x.free)
+
+  no_table : HasNoTableOf w.tier.groups coming
+  no_table u c = sym (any_map (is_defined_on u) (λ (g : Group). g.def) w.tier.groups) ∙ new_tables w.tier.schema (definitions_of w.tier.groups) d tree accepted u c
+
+  is_new : IsNewGroup w coming
+  is_new = record {
+    told = stands.stored.stale ∙ x.known;
+    sound = record {
+      sound = ap (λ defs. is_sound defs tree) schema ∙ x.formed;
+      plain = λ e. unfiltered tree (writes_all w.tier.schema (definitions_of w.tier.groups) d tree accepted (writes_through e));
+      free = root_free;
+    };
+    apart = no_table;
+    closed = λ e. apart w.tier.schema (definitions_of w.tier.groups) d tree accepted (writes_through e);
+    first = refl;
+    keys = refl;
+    unloaded = refl;
+    position = refl;
+  }
+
+  coming_is : coming ≡ new_group t.next t.clock.now d (defined_by t.schema d tree)
+  coming_is = λ i. new_group (stands.stored.next i) (stands.stored.time.moment i) d (defined_by (schema i) d tree)
+
+  module _ (law : GroupLaw) (new : Stored) (store : Kept) (bare : IsBareStore t.schema tree store)
+      (has : HasGroups t new (groups_in t.catalog ++ new_group t.next t.clock.now d (defined_by t.schema d tree) ∷ []) (t.stores.items ++ store ∷ [])) where
+    pub stays : StaysShown w (with_tier (with_new_group d tree w.tier) w)
+    stays = law w d tree stands.stands is_new
+
+    stored : IsStoredAs new (with_new_group d tree w.tier)
+    stored = record {
+      schema = schema ∙ sym has.beside.schema;
+      stale = stands.stored.stale ∙ sym has.beside.stale;
+      groups =
+          map-append without_list w.tier.groups (coming ∷ [])
+          ∙ ap (λ gs. gs ++ coming ∷ []) stands.stored.groups
+          ∙ ap (λ g. groups_in t.catalog ++ g ∷ []) coming_is ∙ sym has.groups;
+      sessions = stands.stored.sessions ∙ ap (λ y. map session_seen (seen_all y)) (sym has.beside.sessions);
+      unsettled = stands.stored.unsettled ∙ ap (λ u. u.items) (sym has.beside.unsettled);
+      next = stands.stored.next ∙ sym has.beside.next;
+      doubt = stands.stored.doubt;
+      time = time_kept t new w.tier has.beside.clock stands.stored.time;
+    }
+
+    pub stands_more : StandsFor new (with_tier (with_new_group d tree w.tier) w)
+    stands_more = record {
+      stored = stored;
+      shows = shows_more t new w (with_tier (with_new_group d tree w.tier) w) coming store stands sound has.beside.schema refl refl has.stores stays.same no_table bare;
+      stands = stays.stands;
+      unkept = stands.unkept;
+      waits = stands.waits;
+    }
+
+    abbrev entries : List JournalEntry
+    entries = Defines d (text_of d) ∷ []
+
+    pub creates : CreatesGroup d w (with_tier (with_new_group d tree w.tier) w) (only (Done 0))
+    creates = record {
+      tree = tree;
+      is = accepted.tree_of;
+      does = subst (λ o. Unless o (Then (Flushes entries) (Answers (define_answer d tree))) w (with_tier (with_new_group d tree w.tier) w) (only (Done 0))) (sym no_fault) then;
+    }
+      where
+        no_fault : journal_fault w entries ≡ None
+        no_fault = ap (λ b. broken_if (b && is_full (name_sizes w) w.journal entries) (past limit.JournalSlot)) stands.unkept
+
+        then : Then (Flushes entries) (Answers (define_answer d tree)) w (with_tier (with_new_group d tree w.tier) w) (only (Done 0))
+        then = record {
+          mid = w;
+          stop = None;
+          first = subst (λ b. MatchBool b (FlushesKept entries w w None) (Passes w w None)) (sym stands.unkept) (refl, refl);
+          next = (refl, refl);
+        }
+
+defined_tree : (t : Stored) (d : CreateGroup) (def : GroupDef) → IsDefinition t d def → IsDefined t d def.tree
+defined_tree t d def x = record {
+  writes = x.writes;
+  known = x.known;
+  unbroken = x.unbroken;
+  tree_of = x.tree_of;
+  formed = x.formed;
+  done = ap is_done (sym x.is) ∙ x.done;
+  free = ap (is_free t.schema) (sym x.is) ∙ x.free;
+}
+
+has_defined : (t new : Stored) (d : CreateGroup) (def : GroupDef) → IsDefinition t d def → (n : HasNewGroup t new d def)
+    → HasGroups t new (groups_in t.catalog ++ new_group t.next t.clock.now d (defined_by t.schema d def.tree) ∷ []) (t.stores.items ++ n.store ∷ [])
+has_defined t new d def x n =
+    subst (λ y. HasGroups t new (groups_in t.catalog ++ new_group t.next t.clock.now d y ∷ []) (t.stores.items ++ n.store ∷ [])) x.is n.has
+
+-- the group is there
+pub group_created : HasNewTables → WritesAll → StandsApart → GroupLaw → (t new : Stored) (site : SiteState) (id : SessionId) (d : CreateGroup) (def : GroupDef) → IsSound t → IsDefinition t d def → HasNewGroup t new d def
+    → ((a : Tier) (s : Session) → IsStoredAs t a → HasSession t id s → refusal a s (statement.CreateGroup d) ≡ None)
+    → PerformsIn t new site site id (Executes (statement.CreateGroup d)) (Ok (only (Done 0)))
+group_created new_tables writes_all apart law t new site id d def sound x n free = λ s has_session w at stands unshared. (
+    let y = defined_tree t d def x in
+    let has = has_defined t new d def x n in
+    record {
+      world = with_tier (with_new_group d def.tree w.tier) w;
+      at = record { there = at.there; told = at.told; history = at.history; faults = at.faults; moment = at.moment; shared = at.shared };
+      stands = stands_more new_tables writes_all apart t w stands sound d def.tree y law new n.store n.bare has;
+      is = inl (subst (λ o. Unless o (DoesStatement s (statement.CreateGroup d)) w (with_tier (with_new_group d def.tree w.tier) w) (only (Done 0))) (sym (free w.tier s stands.stored has_session)) (creates new_tables writes_all apart t w stands sound d def.tree y law new n.store n.bare has));
+    })
+
+-- and the parts are sound
+pub sound_created : (t new : Stored) (d : CreateGroup) (def : GroupDef) → IsSound t → IsDefinition t d def → HasNewGroup t new d def → IsSound new
+sound_created t new d def sound x n =
+    let g = new_group t.next t.clock.now d (defined_by t.schema d def.tree) in
+    let y = defined_tree t d def x in
+    sound_grouped t new (groups_in t.catalog ++ g ∷ []) (t.stores.items ++ n.store ∷ []) sound (has_defined t new d def x n)
+    (kept_more t.schema (groups_in t.catalog) t.stores.items g n.store sound.kept n.bare.form)
+    (plain_more (groups_in t.catalog) g sound.plain (plain_new g y.done))
+    (names_more (groups_in t.catalog) g sound.named (new_name t.schema (definitions_of (groups_in t.catalog)) x.writes d x.unbroken))
+    (whole_more t.stores.items n.store sound.whole n.bare.whole) (later_more (groups_in t.catalog) g t.unsettled.items sound.later) n.unverified

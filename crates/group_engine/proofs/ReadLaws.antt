@@ -1,0 +1,330 @@
+-- What is read for a refresh, in the worlds at the site.
+use Rattle.std.proofs.Common.{◌≡◌, ◌≤◌, ℕ, zero, suc, ◌+◌, Bool, true, false, cond, ◌&&◌, ◌||◌, nat_eq, Option, Some, None, is_some, List, [], ◌∷◌, ◌++◌, length, map, slice_get, take, refl, sym, ap, subst, ◌∙◌, arith}
+use Rattle.std.proofs.lemmas.List.{append-nil}
+use Rattle.std.proofs.lemmas.List.Folds.{list_any-append}
+use Rattle.std.specs.Prelude.{Result, Ok, Err}
+use Rattle.std.specs.FinMap as fm
+use Rattle.std.specs.FinMap.{empty}
+use Rattle.row_types.specs.declared.value.Value.{Value}
+use Rattle.tier_base.specs.declared.number.TableId.{TableId}
+use Rattle.table_defs.specs.declared.definition.TableDef.{TableDef}
+use Rattle.indexed_rows.specs.Rows.{Table}
+use Rattle.table_state.specs.declared.history.Entry.{Entry}
+use Rattle.table_state.specs.Copies.{is_one_of}
+use Rattle.table_state.specs.Histories.{state_at, state_of}
+use Rattle.table_state.specs.Tables.{TableState, table_at}
+use Rattle.instances.specs.declared.tree.Child.{Child}
+use Rattle.instances.specs.declared.tree.Tree.{Tree}
+use Rattle.instances.specs.Trees.{is_place}
+use Rattle.instances.specs.Views.{view_of}
+use Rattle.outside.specs.Bank.{Grows}
+use Rattle.outside.specs.Calls as site
+use Rattle.outside.specs.Console.{IsCopyOf, TakesSnapshot}
+use Rattle.outside.specs.Holding.{Held}
+use Rattle.outside.specs.Others.{Around, AreOthers}
+use Rattle.outside.specs.declared.fault.BankError.{BankError}
+use Rattle.outside.specs.declared.fault.BankError.TheVariants.{Memory}
+use Rattle.outside.specs.declared.site.Snapshot.{Snapshot}
+use Rattle.order_laws.proofs.TruthLaws.{both_true, or_true}
+use Rattle.group_catalog.specs.Catalogs.{groups_in}
+use Rattle.group_store.specs.Keeping.{IsFor, layer_for}
+use Rattle.group_store.specs.Stores.{Kept, SameButSpare, put_rows, put_store, put_tables}
+use Rattle.cache_store.specs.Operating.{change_at}
+use Rattle.cache_tier.specs.Commits.{tables_of}
+use Rattle.cache_tier.specs.Groups.{Group}
+use Rattle.cache_tier.specs.Reading.{TellsPosition}
+use Rattle.cache_tier.specs.Sets.{Choice}
+use Rattle.cache_tier.specs.TierStates.{Tier}
+use Rattle.cache_tier.specs.Worlds.{BankCall, IsUnshared, World}
+use Rattle.tier_laws.specs.Events.{StaysShown, at_history}
+use Rattle.tier_laws.specs.Standing.{IsCatalogued, Stands}
+use Rattle.tier_laws.proofs.ChosenGroups.{each_at}
+use Rattle.tier_laws.proofs.HistoryKeeps.{around_goes_on, others_go_on}
+use Rattle.tier_laws.proofs.SoundStates.{sound_history}
+use Rattle.stored_tier.specs.declared.tier.Tier.{Tier as Stored}
+use Rattle.group_rows.specs.Filling.{bare_store, viewed_store}
+use Rattle.group_engine.specs.Fresh.{AreFormed, AreFresh, IsRead, IsViewed}
+use Rattle.stored_tier.specs.Performing.{StandsFor}
+use Rattle.group_rows.specs.Refreshing.{AreMade, IsMade, is_filled, tables_read}
+use Rattle.stored_tier.specs.Sites.{IsAt}
+use Rattle.outside.specs.Sites.{SiteState}
+use Rattle.stored_tier.specs.Stored.{without_list}
+use Rattle.stored_tier.proofs.BankLaws.{TellsBehind, behind, behind_at, call_behind, told_behind}
+use Rattle.group_engine.proofs.FillLaws.{filled_form, filled_from}
+
+-- nothing was called
+pub not_called : (t : Stored) (seen : SiteState) (w : World) → IsAt seen w → StandsFor t w → IsRead t seen (Err Memory) w
+not_called t seen w at stands = record {
+  world = w;
+  at = at;
+  stands = stands;
+  call = record {
+    history = record {
+      before = [];
+      middle = w.history;
+      behind = [];
+      came_before = tt;
+      own = sym (append-nil (w.history ++ []) ∙ append-nil w.history);
+      came_behind = tt;
+      is = sym (append-nil w.history);
+    };
+    journal = refl;
+    faults = omega arith;
+    disk = refl;
+    moment = omega arith;
+    shared = refl;
+  };
+  tier = refl;
+}
+
+-- the counts of faults and the moment play no part
+pub stands_then : (w : World) (held : Held) (after : SiteState) → Stands (at_history held.history w) → Stands (behind w w.tier held after)
+stands_then w held after x = record {
+  flow = x.flow;
+  schema = record { front = x.schema.front; whole = x.schema.whole };
+  catalog = x.catalog;
+  keys = x.keys;
+  read = x.read;
+  sessions = x.sessions;
+}
+
+around_weaker : (shared : List TableId) (step other : List Entry → List Entry → Type 0) (old new : List Entry) → ((a b : List Entry) → step a b → other a b) → Around shared step old new → Around shared other old new
+around_weaker shared step other old new f a = record {
+  before = a.before;
+  middle = a.middle;
+  behind = a.behind;
+  came_before = a.came_before;
+  own = f (old ++ a.before) a.middle a.own;
+  came_behind = a.came_behind;
+  is = a.is;
+}
+
+module _ (t : Stored) (before after : SiteState) (step : List Entry → List Entry → Type 0) (grows : (a b : List Entry) → step a b → Grows [] a b) (given : site.Told before.held after.held (site.BankCall before.shared step))
+    (faults : before.bank_faults ≤ after.bank_faults) (moment : before.moment ≤ after.moment) (shares : after.shared ≡ before.shared) (w : World) (at : IsAt before w) (stands : StandsFor t w) (apart : IsUnshared w) where
+  now : TellsBehind at.there after.held (site.BankCall before.shared step)
+  now = told_behind at.there before.held after.held (site.BankCall before.shared step) at.told given
+
+  abbrev mid : World
+  mid = behind w w.tier now.there after
+
+  -- the call in the worlds
+  called : BankCall step w (behind w w.tier now.there after)
+  called = call_behind w w.tier before after now.there step at now.is faults moment
+
+  grown : Around w.shared (Grows []) w.history now.there.history
+  grown = around_weaker w.shared step (Grows []) w.history now.there.history grows called.history
+
+  still : StaysShown w (at_history now.there.history w)
+  still = around_goes_on w now.there.history stands.stands apart grown
+
+  pub was_read : (told : Result ℕ BankError) → ((a b : List Entry) → step a b → TellsPosition told a b) → IsRead t after told w
+  was_read told tells = record {
+    world = behind w w.tier now.there after;
+    at = behind_at w w.tier before after now.there at now.told shares;
+    stands = record {
+      stored = stands.stored;
+      shows = stands.shows ∙ sym still.same;
+      stands = stands_then w now.there after still.stands;
+      unkept = stands.unkept;
+      waits = stands.waits;
+    };
+    call = record {
+      history = around_weaker w.shared step (TellsPosition told) w.history now.there.history tells called.history;
+      journal = called.journal;
+      faults = called.faults;
+      disk = called.disk;
+      moment = called.moment;
+      shared = called.shared;
+    };
+    tier = refl;
+  }
+
+-- a snapshot that failed, or that memory was wanting for
+
+pub snapshot_grows : (asked : List TableId) (result : Result Snapshot BankError) (a b : List Entry) → TakesSnapshot asked result a b → Grows [] a b
+snapshot_grows asked (Ok snapshot) a b s = s.0
+snapshot_grows asked (Err e) a b s = s
+
+pub read_failed : (t : Stored) (before after : SiteState) (asked : List TableId) (e : BankError) (result : Result Snapshot BankError) → site.Told before.held after.held (site.BankCall before.shared (TakesSnapshot asked result)) → before.bank_faults ≤ after.bank_faults
+    → before.moment ≤ after.moment → after.shared ≡ before.shared → (w : World) → IsAt before w → StandsFor t w → IsUnshared w → IsRead t after (Err e) w
+read_failed t before after asked e result told faults moment shares w at stands apart =
+    was_read t before after (TakesSnapshot asked result) (snapshot_grows asked result) told faults moment shares w at stands apart (Err e) (snapshot_grows asked result)
+
+-- stores that were made
+
+any_taken : (asked more : List TableId) (u : TableId) → is_one_of (asked ++ more) u ≡ (is_one_of asked u || is_one_of more u)
+any_taken asked more u = list_any-append (λ (one : TableId). nat_eq one.0 u.0) asked more
+
+read_there : (chosen : Choice) (from : ℕ) (groups : List Group) (k : ℕ) (g : Group) (u : TableId) → slice_get groups k ≡ Some g → chosen (from + k) g ≡ true → is_one_of (tables_of g.def.tree) u ≡ true → is_one_of (tables_read chosen from groups) u ≡ true
+read_there chosen from [] k g u at c e = cc
+read_there chosen from (x ∷ groups) zero g u at c e =
+    let same : x ≡ g = cc in
+    let here : from ≡ from + 0 = omega arith in
+    any_taken (cond (chosen from x) (tables_of x.def.tree) []) (tables_read chosen (suc from) groups) u
+    ∙ ap (λ b. is_one_of (cond b (tables_of x.def.tree) []) u || is_one_of (tables_read chosen (suc from) groups) u) (ap (λ n. chosen n x) here ∙ ap (chosen (from + 0)) same ∙ c)
+    ∙ ap (λ b. b || is_one_of (tables_read chosen (suc from) groups) u) (ap (λ (y : Group). is_one_of (tables_of y.def.tree) u) same ∙ e)
+read_there chosen from (x ∷ groups) (suc k) g u at c e =
+    let here : from + suc k ≡ suc from + k = omega arith in
+    any_taken (cond (chosen from x) (tables_of x.def.tree) []) (tables_read chosen (suc from) groups) u
+    ∙ ap (λ b. is_one_of (cond (chosen from x) (tables_of x.def.tree) []) u || b) (read_there chosen (suc from) groups k g u at (ap (λ n. chosen n g) (sym here) ∙ c) e)
+    ∙ or_true (is_one_of (cond (chosen from x) (tables_of x.def.tree) []) u)
+
+made_there : (filled : Choice) (schema : List TableDef) (state : TableState) (from : ℕ) (groups : List Group) (made : List (Option Kept)) → AreMade filled schema state from groups made → (k : ℕ) (g : Group) (o : Option Kept) → slice_get groups k ≡ Some g → slice_get made k ≡ Some o
+    → IsMade (filled (from + k) g) schema g.def.tree state o
+made_there filled schema state from [] made are k g o at there = cc
+made_there filled schema state from (x ∷ groups) [] are k g o at there = absurd are
+made_there filled schema state from (x ∷ groups) (y ∷ made) are zero g o at there =
+    let same : x ≡ g = cc in
+    let other : y ≡ o = cc in
+    let here : from ≡ from + 0 = omega arith in
+    subst (λ n. IsMade (filled n g) schema g.def.tree state o) here (subst (λ z. IsMade (filled from g) schema g.def.tree state z) other (subst (λ (z : Group). IsMade (filled from z) schema z.def.tree state y) same are.0))
+made_there filled schema state from (x ∷ groups) (y ∷ made) are (suc k) g o at there =
+    let here : suc from + k ≡ from + suc k = omega arith in
+    subst (λ n. IsMade (filled n g) schema g.def.tree state o) here (made_there filled schema state (suc from) groups made are.1 k g o at there)
+
+made_at : (filled : Choice) (schema : List TableDef) (state : TableState) (groups : List Group) (made : List (Option Kept)) → AreMade filled schema state 0 groups made → (k : ℕ) (g : Group) (o : Option Kept) → slice_get groups k ≡ Some g → slice_get made k ≡ Some o → IsMade (filled k g) schema g.def.tree state o
+made_at filled schema state groups made are k g o at there =
+    let here : 0 + k ≡ k = omega arith in subst (λ n. IsMade (filled n g) schema g.def.tree state o) here (made_there filled schema state 0 groups made are k g o at there)
+
+made_long : (filled : Choice) (schema : List TableDef) (state : TableState) (from : ℕ) (groups : List Group) (made : List (Option Kept)) → AreMade filled schema state from groups made → length made ≡ length groups
+made_long filled schema state from [] [] are = refl
+made_long filled schema state from [] (y ∷ made) are = absurd are
+made_long filled schema state from (x ∷ groups) [] are = absurd are
+made_long filled schema state from (x ∷ groups) (y ∷ made) are = ap suc (made_long filled schema state (suc from) groups made are.1)
+
+change_long : (p : ℕ) (f : Table → Table) (ts : List Table) → length (change_at p f ts) ≡ length ts
+change_long p f [] = refl
+change_long zero f (t ∷ ts) = refl
+change_long (suc p) f (t ∷ ts) = ap suc (change_long p f ts)
+
+rows_long : (place : ℕ) (rows : List (List Value)) (k : Kept) → length (put_rows place rows k).tables ≡ length k.tables
+rows_long place [] k = refl
+rows_long place (row ∷ rows) k = rows_long place rows (put_store place row k) ∙ change_long place _ k.tables
+
+tables_long : (place : ℕ) (tables : List (List (List Value))) (k : Kept) → length (put_tables place tables k).tables ≡ length k.tables
+tables_long place [] k = refl
+tables_long place (rows ∷ tables) k = tables_long (suc place) tables (put_rows place rows k) ∙ rows_long place rows k
+
+mapped_long : {X Y : Type 0} (f : X → Y) (xs : List X) → length (map f xs) ≡ length xs
+mapped_long f [] = refl
+mapped_long f (x ∷ xs) = ap suc (mapped_long f xs)
+
+whole_made : (schema : List TableDef) (tree : Tree) (state : TableState) (x : Kept) → SameButSpare (viewed_store schema tree state) x → length x.tables ≡ suc (length x.layers)
+whole_made schema tree state x same =
+    let form = filled_form state schema tree x same in
+    ap length same.tables
+    ∙ tables_long 0 (map fm.values (view_of state tree)) (bare_store schema tree)
+    ∙ ap suc (mapped_long (λ (c : Child). empty) tree.children ∙ sym (mapped_long (layer_for schema) tree.children) ∙ ap length (sym form.layers))
+
+form_made : (b : Bool) (schema : List TableDef) (tree : Tree) (state : TableState) (x : Kept) → IsMade b schema tree state (Some x) → SameButSpare (viewed_store schema tree state) x
+form_made true schema tree state x is = is
+form_made false schema tree state x is = cc
+
+pub are_formed : (filled : Choice) (schema : List TableDef) (state : TableState) (groups : List Group) (made : List (Option Kept)) → AreMade filled schema state 0 groups made → AreFormed schema groups made
+are_formed filled schema state groups made are = record {
+  long = made_long filled schema state 0 groups made are;
+  form = λ k g s at there. filled_form state schema g.def.tree s (form_made (filled k g) schema g.def.tree state s (made_at filled schema state groups made are k g (Some s) at there));
+  whole = λ k s there.
+      let (g, at) = Rattle.group_engine.proofs.GroupRows.there_too made groups k (Some s) (sym (made_long filled schema state 0 groups made are)) there in
+      whole_made schema g.def.tree state s (form_made (filled k g) schema g.def.tree state s (made_at filled schema state groups made are k g (Some s) at there));
+}
+
+-- a front of a history
+
+take_front : {X : Type 0} (xs ys : List X) → take (length xs) (xs ++ ys) ≡ xs
+take_front [] ys = refl
+take_front (x ∷ xs) ys = ap (λ l. x ∷ l) (take_front xs ys)
+
+longer : {X : Type 0} (xs ys : List X) → length xs ≤ length (xs ++ ys)
+longer [] ys = omega arith
+longer (x ∷ xs) ys = let le = longer xs ys in omega (arith, le)
+
+pub unmapped : (groups : List Group) (k : ℕ) (g : Group) → slice_get (map without_list groups) k ≡ Some g → (h : Group) × (slice_get groups k ≡ Some h) × (without_list h ≡ g)
+unmapped [] k g at = cc
+unmapped (x ∷ groups) zero g at = let same : without_list x ≡ g = cc in (x, refl, same)
+unmapped (x ∷ groups) (suc k) g at = unmapped groups k g at
+
+-- what was read for a refresh
+module _ (t : Stored) (before after : SiteState) (asked : List TableId) (snapshot : Snapshot) (chosen : Choice) (loads : Option ℕ) (made : List (Option Kept)) (read : asked ≡ tables_read chosen 0 (groups_in t.catalog))
+    (are : AreMade (is_filled chosen loads) t.schema snapshot.tables 0 (groups_in t.catalog) made) (given : site.Told before.held after.held (site.BankCall before.shared (TakesSnapshot asked (Ok snapshot))))
+    (faults : before.bank_faults ≤ after.bank_faults) (moment : before.moment ≤ after.moment) (shares : after.shared ≡ before.shared) (w : World) (at : IsAt before w) (stands : StandsFor t w) (apart : IsUnshared w) where
+  abbrev step : List Entry → List Entry → Type 0
+  step = TakesSnapshot asked (Ok snapshot)
+
+  abbrev n : ℕ
+  n = snapshot.position.0
+
+  told_now : TellsBehind at.there after.held (site.BankCall before.shared (TakesSnapshot asked (Ok snapshot)))
+  told_now = now t before after (TakesSnapshot asked (Ok snapshot)) (snapshot_grows asked (Ok snapshot)) given faults moment shares w at stands apart
+
+  pub read_here : IsRead t after (Ok snapshot.position.0) w
+  read_here = was_read t before after (TakesSnapshot asked (Ok snapshot)) (snapshot_grows asked (Ok snapshot)) given faults moment shares w at stands apart (Ok snapshot.position.0) (λ a b s. (s.0, s.1))
+
+  around : Around w.shared (TakesSnapshot asked (Ok snapshot)) w.history told_now.there.history
+  unfolding told_now
+  around = (called t before after (TakesSnapshot asked (Ok snapshot)) (snapshot_grows asked (Ok snapshot)) given faults moment shares w at stands apart).history
+
+  first : StaysShown w (at_history (w.history ++ around.before) w)
+  first = others_go_on w around.before stands.stands apart around.came_before
+
+  middle_is : around.middle ≡ w.history ++ around.before
+  middle_is = around.own.0 ∙ append-nil (w.history ++ around.before)
+
+  abbrev state : TableState
+  state = first.stands.flow.stand.over.backing
+
+  there : state_of around.middle ≡ Some first.stands.flow.stand.over.backing
+  there = ap state_of middle_is ∙ first.stands.flow.stand.over.leaves
+
+  at_it : state_at told_now.there.history snapshot.position.0 ≡ Some first.stands.flow.stand.over.backing
+  at_it =
+      ap (state_at told_now.there.history) around.own.1
+      ∙ ap (λ h. state_at h (length around.middle)) around.is
+      ∙ ap state_of (take_front around.middle around.behind)
+      ∙ there
+
+  copy : IsCopyOf asked first.stands.flow.stand.over.backing snapshot.tables
+  copy = around.own.2 first.stands.flow.stand.over.backing there
+
+  viewed : (k : ℕ) (g : Group) (o : Option Kept) → slice_get (groups_in t.catalog) k ≡ Some g → slice_get made k ≡ Some o → IsViewed (is_filled chosen loads k g) first.stands.flow.stand.over.backing g.def.tree o
+  viewed k g o spot made_o = by (is_filled chosen loads k g) refl o (made_at (is_filled chosen loads) t.schema snapshot.tables (groups_in t.catalog) made are k g o spot made_o)
+    where
+      sound : Rattle.instances.specs.Trees.is_sound t.schema g.def.tree ≡ true
+      sound =
+          let (h, h_at, same) = unmapped w.tier.groups k g (ap (λ l. slice_get l k) stands.stored.groups ∙ spot) in
+          ap (λ (y : Group). Rattle.instances.specs.Trees.is_sound t.schema y.def.tree) (sym same)
+          ∙ ap (λ defs. Rattle.instances.specs.Trees.is_sound defs h.def.tree) (sym stands.stored.schema)
+          ∙ (each_at (IsCatalogued w.tier.schema) w.tier.groups k h stands.stands.catalog.each h_at).sound
+
+      front : (more : List TableDef) × (first.stands.flow.stand.over.backing.schema ≡ t.schema ++ more)
+      front =
+          let f = first.stands.schema.front first.stands.flow.stand.over.backing first.stands.flow.stand.over.leaves in
+          (f.0, f.1 ∙ ap (λ defs. defs ++ f.0) stands.stored.schema)
+
+      asked_all : is_filled chosen loads k g ≡ true → (u : TableId) → is_one_of (tables_of g.def.tree) u ≡ true → table_at snapshot.tables u ≡ table_at first.stands.flow.stand.over.backing u
+      asked_all f u e =
+          let zero_k : 0 + k ≡ k = omega arith in
+          let c : chosen (0 + k) g ≡ true = ap (λ m. chosen m g) zero_k ∙ (both_true (chosen k g) (g.loaded || is_place k loads) f).0 in
+          let one : is_one_of asked u ≡ true = ap (λ l. is_one_of l u) read ∙ read_there chosen 0 (groups_in t.catalog) k g u spot c e in
+          copy.rows u ∙ ap (λ b. cond b (table_at first.stands.flow.stand.over.backing u) empty) one
+
+      by : (b : Bool) → is_filled chosen loads k g ≡ b → (x : Option Kept) → IsMade (is_filled chosen loads k g) t.schema g.def.tree snapshot.tables x → IsViewed (is_filled chosen loads k g) first.stands.flow.stand.over.backing g.def.tree x
+      by true f None is = absurd (subst (λ c. IsMade c t.schema g.def.tree snapshot.tables None) f is)
+      by true f (Some x) is =
+          subst (λ c. IsViewed c first.stands.flow.stand.over.backing g.def.tree (Some x)) (sym f)
+          (filled_from first.stands.flow.stand.over.backing snapshot.tables t.schema front.0 g.def.tree x (sound_history (w.history ++ around.before) first.stands.flow.stand.over.backing first.stands.flow.stand.over.leaves) sound front.1 copy.schema (asked_all f)
+          (subst (λ c. IsMade c t.schema g.def.tree snapshot.tables (Some x)) f is))
+      by false f x is = subst (λ c. IsViewed c first.stands.flow.stand.over.backing g.def.tree x) (sym f) (subst (λ c. IsMade c t.schema g.def.tree snapshot.tables x) f is)
+
+  pub fresh_here : AreFresh t read_here.world (is_filled chosen loads) snapshot.position.0 made
+  unfolding read_here told_now was_read now
+  fresh_here = record {
+    state = first.stands.flow.stand.over.backing;
+    there = at_it;
+    within =
+        let le = longer around.middle around.behind in
+        let n_is = around.own.1 in
+        let long = ap length around.is in
+        omega (arith, le, n_is, long);
+    views = viewed;
+  }

@@ -1,0 +1,156 @@
+-- What a load leaves of the parts of the tier: it stays sound.
+use Rattle.std.proofs.Common.{◌≡◌, ◌≤◌, ◌+◌, ◌⊎◌, inl, inr, ℕ, zero, suc, Bool, true, false, not, cond, ◌&&◌, ◌||◌, nat_eq, Option, Some, None, Result, Ok, Err, List, [], ◌∷◌, ◌++◌, All, is_none, is_some, length, map, filter, slice_get, slice_set, take, arith, refl, sym, ap, subst, ◌∙◌}
+use Rattle.std.proofs.lemmas.Bool.{eq-eqb, eqb-true}
+use Rattle.std.proofs.lemmas.List.{append-nil, take_all}
+use Rattle.std.specs.Bool.{MatchBool}
+use Rattle.std.specs.List.{list_all, list_any}
+use Rattle.std.specs.FinMap as fm
+use Rattle.row_types.specs.declared.rule.Refused.{Refused}
+use Rattle.row_types.specs.declared.rule.Refused.TheVariants as refused
+use Rattle.row_types.specs.declared.rule.Rule.{Rule}
+use Rattle.row_types.specs.declared.value.Value.{Value}
+use Rattle.tier_base.specs.declared.code.Code.TheVariants as code
+use Rattle.tier_base.specs.declared.limit.Limit.TheVariants as limit
+use Rattle.tier_base.specs.declared.number.TableId.{TableId}
+use Rattle.indexed_rows.specs.Rows.{Table}
+use Rattle.key_rows.proofs.MapLaws.{slice_get_map}
+use Rattle.table_state.specs.Copies.{is_one_of}
+use Rattle.table_state.specs.declared.history.Entry.{Entry}
+use Rattle.table_state.specs.Histories.{state_at, state_of}
+use Rattle.table_state.specs.Tables.{TableState, table_at}
+use Rattle.instances.specs.declared.tree.Child.{Child}
+use Rattle.instances.specs.declared.tree.Tree.{Tree}
+use Rattle.instances.specs.Trees.{place_of}
+use Rattle.instances.specs.Views.{kept_at, passes}
+use Rattle.cache_store.specs.Shown.{shown_of}
+use Rattle.open_sessions.specs.Opening.{AreSessions, seen_all}
+use Rattle.order_laws.specs.Commits.{RiseBetween}
+use Rattle.own_rows.specs.OwnTables.{AreShown}
+use Rattle.order_laws.proofs.TruthLaws.{both_true, same_some}
+use Rattle.outside.specs.Bank.{Grows}
+use Rattle.outside.specs.Calls as site
+use Rattle.outside.specs.Console.{TakesSnapshot}
+use Rattle.outside.specs.Holding.{Held}
+use Rattle.outside.specs.Others.{Around}
+use Rattle.outside.specs.declared.fault.BankError.{BankError}
+use Rattle.outside.specs.declared.fault.BankError.TheVariants.{Memory}
+use Rattle.outside.specs.declared.site.Snapshot.{Snapshot}
+use Rattle.group_catalog.specs.Catalogs.{groups_in}
+use Rattle.group_catalog.specs.declared.which.ResolvedWhich.{ResolvedWhich}
+use Rattle.group_store.specs.Shown.{AreHoused, shown_by}
+use Rattle.group_store.specs.Stores.{Kept, SameButSpare, put_tables}
+use Rattle.tier_statements.specs.Seen.{session_seen}
+use Rattle.cache_tier.specs.declared.group.GroupDef.{GroupDef}
+use Rattle.cache_tier.specs.declared.reply.Last.TheVariants.{Done, No}
+use Rattle.cache_tier.specs.declared.reply.Reply.{Reply}
+use Rattle.cache_tier.specs.Conditions.{overflow_fault, overflows}
+use Rattle.cache_tier.specs.Groups.{Group, covers, definitions_of, is_explicit, is_key, is_synchronous, is_writethrough, with_keys}
+use Rattle.cache_tier.specs.JournalSteps.{Flushes, FlushesFitting, FlushesKept, FlushesSome, has_entries, name_sizes}
+use Rattle.cache_tier.specs.Journals.{JournalEntry, is_full}
+use Rattle.cache_tier.specs.LoadSteps.{added_answer}
+use Rattle.cache_tier.specs.Reading.{Answers, FollowsAt, Reads, TellsPosition, as_it_was, backing_at, state_or_none}
+use Rattle.cache_tier.specs.RefreshSteps.{judged_roots, refreshed_answer}
+use Rattle.cache_tier.specs.Rules.{broken_if, past, plain as plain_rule}
+use Rattle.cache_tier.specs.Sets.{alone, changed, changed_from}
+use Rattle.cache_tier.specs.Shown.{instances_where, root_key, shown_state}
+use Rattle.cache_tier.specs.Targets.{Settles, Target, backing_roots, has_flag, held_roots, load_entries, matching, new_keys, with_flag}
+use Rattle.cache_tier.specs.TierStates.{Tier}
+use Rattle.cache_tier.specs.Worlds.{Answer, BankCall, IsUnshared, Passes, Part, Quiet, Refuses, Then, Unless, World, bank_fault, faulty, only}
+use Rattle.tier_laws.specs.Events.{StaysShown, at_history, with_tier}
+use Rattle.tier_laws.specs.Loading.{ShowsKeys}
+use Rattle.tier_laws.specs.Standing.{Stands}
+use Rattle.tier_laws.specs.Statements.{IsLoadable}
+use Rattle.tier_laws.proofs.HistoryKeeps.{around_goes_on, root_covers}
+use Rattle.tier_laws.proofs.LoadStatements.{load_shows}
+use Rattle.stored_tier.specs.declared.clock.TierClock.{TierClock}
+use Rattle.stored_tier.specs.declared.tier.Tier.{Tier as Stored}
+use Rattle.group_rows.specs.Choosing.{chosen, comes, counted, matches_at}
+use Rattle.group_rows.specs.Gathering.{coming_in, gathered_in, overflows_in}
+use Rattle.stored_tier.specs.Performing.{IsPerformed, StandsFor, reply_of}
+use Rattle.stored_tier.specs.Sites.{IsAt}
+use Rattle.stored_tier.specs.Stored.{AreKept, AreWhole, HaveOwnNames, IsSound, IsStoredAs, IsVerified, KeepsTime, are_later, is_plain, named_where_cached, rows_of, without_list}
+use Rattle.group_engine.specs.Taking.{AsksTree, IsOfTarget, Pairs, IsSameButRoom, IsSameElsewhere, IsSettledAt, Overflows, PerformsWhere, ReadsMatching, TakesIn, TakesMatching}
+use Rattle.stored_tier.proofs.BankLaws.{TellsBehind, behind, call_behind, told_behind}
+use Rattle.group_engine.proofs.FlagLaws.{IsChanged, as_loaded, changed_at, flagged_seen, kept_loaded, names_loaded, own_place, plain_loaded, set_beside, set_there, visible_loaded}
+use Rattle.group_engine.proofs.LoadLaws.{filled_shown, has_roots, its_roots, store_has}
+use Rattle.group_engine.proofs.MatchLaws.{HasRoots, all_shown, count_coming, instances_of_keys, matching_is, shown_alike}
+use Rattle.group_engine.proofs.SnapshotLaws.{IsRead, is_read, tree_asked}
+use Rattle.stored_tier.proofs.LaterLaws.{later_by}
+use Rattle.stored_tier.proofs.SoundParts.{changed_defs}
+use Rattle.stored_tier.proofs.StandingLaws.{performed_behind, performed_here}
+use Rattle.group_engine.proofs.StorePairs.{SameForm, filled_form, form_set, housed_still, kept_still, room_forms, rows_still, whole_still}
+use Rattle.stored_tier.proofs.StoreRows.{are_kept, kept_is_shown, shows_kept}
+
+-- room alone is another
+
+module _ (old new : Stored) (same : IsSameButRoom old new) where
+  pub rows_room : rows_of new ≡ rows_of old
+  rows_room = ap (λ d. shown_by d new.stores.items) same.rest.schema ∙ rows_still old.schema old.stores.items new.stores.items same.stores
+
+  pub stored_room : (a : Tier) → IsStoredAs old a → IsStoredAs new a
+  stored_room a is = record {
+    schema = is.schema ∙ sym same.rest.schema;
+    stale = is.stale ∙ sym same.rest.stale;
+    groups = is.groups ∙ ap groups_in (sym same.catalog);
+    sessions = is.sessions ∙ ap (λ s. map session_seen (seen_all s)) (sym same.rest.sessions);
+    unsettled = is.unsettled ∙ sym (λ i. (same.rest.unsettled i).items);
+    next = is.next ∙ sym same.rest.next;
+    doubt = is.doubt;
+    time = subst (λ (c : TierClock). KeepsTime c a.now a.added a.round a.sets a.settings) (sym same.rest.clock) is.time;
+  }
+
+  pub sound_room : IsSound old → IsSound new
+  sound_room sound = record {
+    sessions = subst (λ s. AreSessions new.schema s) (sym same.rest.sessions) (subst (λ d. AreSessions d old.sessions) (sym same.rest.schema) sound.sessions);
+    stores =
+        subst (λ h. AreHoused new.schema new.stores.items h) (sym (λ i. same.rest.directory i))
+        (subst (λ d. AreHoused d new.stores.items old.directory) (sym same.rest.schema) (housed_still old.schema old.stores.items new.stores.items old.directory (room_forms old.stores.items new.stores.items same.stores) sound.stores));
+    kept =
+        subst (λ c. AreKept new.schema (groups_in c) new.stores.items) (sym same.catalog)
+        (subst (λ d. AreKept d (groups_in old.catalog) new.stores.items) (sym same.rest.schema)
+        (kept_still old.schema (groups_in old.catalog) old.stores.items new.stores.items (room_forms old.stores.items new.stores.items same.stores) sound.kept));
+    whole = whole_still old.stores.items new.stores.items (room_forms old.stores.items new.stores.items same.stores) sound.whole;
+    plain = ap (λ c. list_all is_plain (groups_in c)) same.catalog ∙ sound.plain;
+    named = subst (λ c. HaveOwnNames (groups_in c)) (sym same.catalog) sound.named;
+    visible = same.rest.visible ∙ sound.visible ∙ (λ i. named_where_cached (groups_in (sym same.catalog i)) (sym same.rest.schema i));
+    numbered = subst (λ u. RiseBetween 1 u.items new.next) (sym same.rest.unsettled) (subst (λ m. RiseBetween 1 old.unsettled.items m) (sym same.rest.next) sound.numbered);
+    later = ap (λ c. are_later (groups_in c) new.unsettled.items) same.catalog ∙ ap (λ u. are_later (groups_in old.catalog) u.items) same.rest.unsettled ∙ sound.later;
+    verified = λ noted. let v = sound.verified (sym same.verified ∙ noted) in record {
+      rows = subst (AreShown []) (sym rows_room) v.rows;
+      own = subst (λ s. All (λ x. AreShown x.ops (rows_of new)) (seen_all s)) (sym same.rest.sessions) (subst (λ r. All (λ x. AreShown x.ops r) (seen_all old.sessions)) (sym rows_room) v.own);
+    };
+  }
+
+-- what is taken in leaves the tier sound
+pub taken_sound : (old new : Stored) (place : ℕ) (which : ResolvedWhich) (refreshes : Bool) (s : TableState) (reply : Reply) → IsSound old → TakesIn old new place which refreshes s reply → IsSound new
+taken_sound old new place which refreshes s reply sound k =
+    let forms : Pairs SameForm old.stores.items (slice_set old.stores.items place k.filled) =
+    form_set old.stores.items place k.store k.filled k.kept (filled_form (map fm.values (gathered_in s k.group.def.tree k.store which)) k.store k.filled k.rows) in
+    let items : slice_set old.stores.items place k.filled ≡ new.stores.items = sym k.stores in
+    let same : Pairs SameForm old.stores.items new.stores.items = subst (Pairs SameForm old.stores.items) items forms in
+    record {
+      sessions = subst (λ z. AreSessions new.schema z) (sym k.rest.sessions) (subst (λ d. AreSessions d old.sessions) (sym k.rest.schema) sound.sessions);
+      stores =
+          subst (λ h. AreHoused new.schema new.stores.items h) (sym (λ i. k.rest.directory i))
+          (subst (λ d. AreHoused d new.stores.items old.directory) (sym k.rest.schema) (housed_still old.schema old.stores.items new.stores.items old.directory same sound.stores));
+      kept =
+          subst (λ gs. AreKept new.schema gs new.stores.items) (sym k.groups)
+          (kept_loaded (alone place) new.schema 0 (groups_in old.catalog) new.stores.items
+          (subst (λ d. AreKept d (groups_in old.catalog) new.stores.items) (sym k.rest.schema) (kept_still old.schema (groups_in old.catalog) old.stores.items new.stores.items same sound.kept)));
+      whole = whole_still old.stores.items new.stores.items same sound.whole;
+      plain = ap (list_all is_plain) k.groups ∙ plain_loaded (alone place) 0 (groups_in old.catalog) ∙ sound.plain;
+      named = subst HaveOwnNames (sym k.groups) (names_loaded (alone place) 0 (groups_in old.catalog) sound.named);
+      visible =
+          k.rest.visible ∙ sound.visible ∙ ap (named_where_cached (groups_in old.catalog)) (sym k.rest.schema)
+          ∙ sym (ap (λ gs. named_where_cached gs new.schema) k.groups ∙ visible_loaded (alone place) 0 (groups_in old.catalog) new.schema);
+      numbered = subst (λ u. RiseBetween 1 u.items new.next) (sym k.rest.unsettled) (subst (λ m. RiseBetween 1 old.unsettled.items m) (sym k.rest.next) sound.numbered);
+      later =
+          ap (λ u. are_later (groups_in new.catalog) u.items) k.rest.unsettled
+          ∙ later_by (groups_in old.catalog) (groups_in new.catalog) old.unsettled.items (ap definitions_of k.groups ∙ changed_defs (alone place) as_loaded 0 (groups_in old.catalog) (λ g. refl)) sound.later;
+      verified = λ noted. let no : false ≡ true = sym k.unverified ∙ noted in cc;
+    }
+
+pub matching_sound : (old new : Stored) (place : ℕ) (which : ResolvedWhich) (refreshes : Bool) (s : TableState) (result : Result Reply Refused) → IsSound old → TakesMatching old new place which refreshes s result → IsSound new
+matching_sound old new place which refreshes s (Ok reply) sound k = taken_sound old new place which refreshes s reply sound k
+matching_sound old new place which refreshes s (Err (refused.Rule rule)) sound k = sound_room old new k.0 sound
+matching_sound old new place which refreshes s (Err refused.Memory) sound k = sound_room old new k sound

@@ -1,0 +1,188 @@
+-- UNLOAD of a READONLY group over what is stored.
+use Rattle.std.proofs.Common.{◌≡◌, ◌<◌, ◌+◌, ℕ, zero, suc, Bool, true, false, not, cond, ◌&&◌, ◌||◌, Option, Some, None, Ok, is_none, List, [], ◌∷◌, length, map, set, slice_get, refl, sym, ap, subst, ◌∙◌, inl, inr}
+use Rattle.std.specs.Option.{option_or}
+use Rattle.std.proofs.lemmas.List.{length-map}
+use Rattle.std.specs.FinMap as fm
+use Rattle.std.specs.FinMap.{empty}
+use Rattle.row_types.proofs.OrderLaws.{key_exact, key_total}
+use Rattle.row_types.specs.declared.value.Value.{Value}
+use Rattle.tier_base.specs.declared.code.Code.TheVariants as code
+use Rattle.tier_base.specs.declared.number.SessionId.{SessionId}
+use Rattle.indexed_rows.specs.Rows.{Table}
+use Rattle.evaluator.specs.Writes.{selects}
+use Rattle.instances.specs.Views.{is_true, kept_at, passes, rows_where}
+use Rattle.instances.proofs.Gathering.{get_where}
+use Rattle.open_sessions.specs.Opening.{seen_all}
+use Rattle.session_state.proofs.ApartLaws.{any_false}
+use Rattle.group_catalog.specs.Catalogs.{groups_in}
+use Rattle.group_store.specs.Stores.{Kept, SameButSpare, cleared_store}
+use Rattle.group_store.specs.Trees.{all_empty}
+use Rattle.order_laws.proofs.TruthLaws.{both_true}
+use Rattle.tier_statements.specs.Seen.{session_seen}
+use Rattle.cache_tier.specs.declared.reply.Last.TheVariants.{Done}
+use Rattle.cache_tier.specs.Conditions.{is_id, matches, overflow_fault}
+use Rattle.cache_tier.specs.Groups.{Group, is_explicit, is_read_only}
+use Rattle.cache_tier.specs.JournalSteps.{FlushesSome}
+use Rattle.cache_tier.specs.Reading.{Answers}
+use Rattle.cache_tier.specs.Sets.{alone, changed_from}
+use Rattle.cache_tier.specs.Shown.{no_rows, root_key, shown_roots}
+use Rattle.cache_tier.specs.Targets.{Target}
+use Rattle.cache_tier.specs.TierStates.{Session}
+use Rattle.cache_tier.specs.UnloadSteps.{gone_keys, matching_shown, unload_answer, unload_entries, unload_fault, unloaded}
+use Rattle.cache_tier.specs.Worlds.{Then, Unless, World, faulty, only}
+use Rattle.tier_laws.specs.Dropping.{ShowsWithout}
+use Rattle.tier_laws.specs.Events.{with_tier}
+use Rattle.tier_laws.proofs.ShownTrees.{root_place}
+use Rattle.group_engine.specs.declared.aiming.Aim.{Aim}
+use Rattle.stored_tier.specs.declared.tier.Tier.{Tier as Stored}
+use Rattle.stored_tier.specs.Grouping.{KeepsGroups, SameTree}
+use Rattle.stored_tier.specs.Performing.{StandsFor}
+use Rattle.outside.specs.Sites.{SiteState}
+use Rattle.stored_tier.specs.Stored.{HasSession, IsSound, IsStoredAs, is_plain, without_list}
+use Rattle.group_engine.specs.Unloading.{IsClearedGroup, UnloadsHere, UnloadsTarget}
+use Rattle.group_engine.proofs.CalmLaws.{flushes_none}
+use Rattle.group_engine.proofs.DropLocks.{group_stored}
+use Rattle.group_engine.proofs.FlagLaws.{flagged_seen}
+use Rattle.group_engine.proofs.FreshLaws.{all_there}
+use Rattle.group_engine.proofs.GroupComes.{stands_kept, time_kept}
+use Rattle.group_engine.proofs.GroupRows.{shown_of_place}
+use Rattle.group_engine.proofs.ReadOnlyUnloads.{unheld, unload_shows, unloaded_is}
+use Rattle.stored_tier.proofs.SoundParts.{changed_defs}
+use Rattle.stored_tier.proofs.StoreChanges.{form_kept, shows_changed}
+use Rattle.stored_tier.proofs.StoreRows.{form_here, kept_is_shown}
+use Rattle.group_engine.proofs.UnloadDone.{marked, sound_left, unloaded_def}
+
+abbrev Row : Type 0
+Row = List Value
+
+-- a store without rows
+
+cleared_tree : (old new : Kept) → SameButSpare (cleared_store old) new → SameTree old new
+cleared_tree old new same = record { table = same.table; key = same.key; foreign = same.foreign; layers = same.layers }
+
+none_at : (ts : List Table) (p : ℕ) → kept_at (all_empty ts) p ≡ empty
+none_at [] zero = refl
+none_at [] (suc p) = refl
+none_at (t ∷ ts) zero = refl
+none_at (t ∷ ts) (suc p) = none_at ts p
+
+pub sound_cleared : (t new : Stored) (aim : Aim) (n : ℕ) → IsSound t → IsClearedGroup t new aim.place n → IsSound new
+sound_cleared t new aim n sound cleared =
+    sound_left t new aim.place true _ sound cleared (cleared_tree cleared.store cleared.left cleared.did.gone)
+    (ap (λ (ts : List Table). length ts) cleared.did.gone.tables ∙ length-map cleared.store.tables (λ t. empty))
+
+-- nothing is asked of the rows
+
+all_pass : (test : Row → Bool) (m : Table) → ((row : Row) → test row ≡ true) → rows_where test m ≡ m
+all_pass test m good = fm.same_map key_total key_exact (rows_where test m) m (λ k. get_where test m k ∙ by (fm.get m k))
+  where
+    by : (o : Option Row) → cond (passes test o) o None ≡ o
+    by None = refl
+    by (Some r) = ap (λ b. cond b (Some r) None) (good r)
+
+module _ (t new : Stored) (id : SessionId) (aim : Aim) (n : ℕ) (sound : IsSound t) (cleared : IsClearedGroup t new aim.place n)
+    (s : Session) (w : World) (x : Target) (has : HasSession t id s) (stands : StandsFor t w) (at : slice_get w.tier.groups aim.place ≡ Some x.group) (reads : is_read_only x.group ≡ true) (filter : x.filter ≡ None) (given : x.id ≡ None) (place : x.place ≡ aim.place) where
+  abbrev G : Group
+  G = x.group
+
+  there : slice_get w.tier.groups x.place ≡ Some x.group
+  there = ap (slice_get w.tier.groups) place ∙ at
+
+  explicit : is_explicit x.group ≡ true
+  explicit =
+      let plain = all_there is_plain (groups_in t.catalog) aim.place (without_list x.group) sound.plain (group_stored t w.tier aim.place x.group stands.stored at) in
+      (both_true (is_explicit x.group) (is_none x.group.def.aging) (both_true (is_explicit x.group && is_none x.group.def.aging) _ plain).0).0
+
+  roots : kept_at cleared.store.tables 0 ≡ shown_roots w.history w.tier.log x.group
+  roots =
+      kept_is_shown t w sound stands aim.place x.group cleared.store x.group.def.tree.root.table 0 at cleared.kept (root_place x.group.def.tree)
+      ∙ shown_of_place w.history w.tier aim.place x.group x.group.def.tree.root.table 0 stands.stands.catalog at (root_place x.group.def.tree)
+
+  each_matches : (row : Row) → matches x.filter x.id (no_rows w.tier) x.group row ≡ true
+  each_matches row =
+      ap (λ f. is_true (selects f row) && is_id (root_key (no_rows w.tier) x.group row) x.id) filter
+      ∙ ap (λ o. is_id (root_key (no_rows w.tier) x.group row) o) given
+
+  matching : matching_shown w x ≡ shown_roots w.history w.tier.log x.group
+  matching = all_pass (matches x.filter x.id (no_rows w.tier) x.group) (shown_roots w.history w.tier.log x.group) each_matches
+
+  count : n ≡ fm.len (matching_shown w x)
+  count = cleared.did.count ∙ ap (λ (m : Table). fm.len m) (roots ∙ sym matching)
+
+  no_overflow : overflow_fault x.filter (shown_roots w.history w.tier.log x.group) ≡ None
+  no_overflow =
+      ap (λ f. overflow_fault f (shown_roots w.history w.tier.log x.group)) filter
+      ∙ ap (λ b. Rattle.cache_tier.specs.Rules.broken_if b (Rattle.cache_tier.specs.Rules.plain Rattle.tier_base.specs.declared.code.Code.TheVariants.Overflow))
+      (any_false (λ row. is_none (selects None row)) (fm.values (shown_roots w.history w.tier.log x.group)) (λ row. refl))
+
+  pub free : unload_fault s x w ≡ None
+  free = λ i. option_or (no_overflow i) (unheld w stands.stands aim.place x.group at reads s.label (fm.contains_key (matching_shown w x)) i)
+
+  behind : ShowsWithout x.group w (with_tier (unload_answer x true w).0 w)
+  behind = unload_shows w stands.stands x.place x.group there reads explicit (gone_keys w x)
+
+  groups_behind : map without_list (unload_answer x true w).0.groups ≡ groups_in new.catalog
+  groups_behind =
+      flagged_seen (unloaded (gone_keys w x) true) (marked true) 0 x.place w.tier.groups (λ i y here e. ap without_list (unloaded_is (gone_keys w x) y (its i y here e)))
+      ∙ ap (changed_from (alone x.place) (marked true) 0) stands.stored.groups
+      ∙ ap (λ p. changed_from (alone p) (marked true) 0 (groups_in t.catalog)) place
+      ∙ sym cleared.groups
+    where
+      its : (i : ℕ) (y : Group) → slice_get w.tier.groups i ≡ Some y → 0 + i ≡ x.place → is_explicit y ≡ true
+      its i y here e =
+          let same_place : i ≡ aim.place = (let z : i ≡ 0 + i = omega Rattle.std.proofs.Common.arith in z) ∙ e ∙ place in
+          let both : Some y ≡ Some x.group = sym here ∙ ap (slice_get w.tier.groups) same_place ∙ at in
+          let same : y ≡ x.group = cc in
+          ap is_explicit same ∙ explicit
+
+  stored : IsStoredAs new (unload_answer x true w).0
+  stored = record {
+    schema = stands.stored.schema ∙ sym cleared.beside.schema;
+    stale = stands.stored.stale ∙ sym cleared.beside.stale;
+    groups = groups_behind;
+    sessions = stands.stored.sessions ∙ ap (λ y. map session_seen (seen_all y)) (sym cleared.beside.sessions);
+    unsettled = stands.stored.unsettled ∙ ap (λ u. u.items) (sym cleared.beside.unsettled);
+    next = stands.stored.next ∙ sym cleared.beside.next;
+    doubt = stands.stored.doubt;
+    time = time_kept t new w.tier cleared.beside.clock stands.stored.time;
+  }
+
+  pub stands_left : StandsFor new (with_tier (unload_answer x true w).0 w)
+  stands_left = record {
+    stored = stored;
+    shows = shows_changed t new w (with_tier (unload_answer x true w).0 w) aim.place x.group cleared.left sound stands (record {
+      there = at;
+      schema = cleared.beside.schema;
+      known = refl;
+      defined = changed_defs (alone x.place) (unloaded (gone_keys w x) true) 0 w.tier.groups (unloaded_def (gone_keys w x) true);
+      stores = cleared.stores;
+      form = form_kept t.schema x.group.def.tree cleared.store cleared.left (form_here t w sound stands aim.place x.group cleared.store at cleared.kept) (cleared_tree cleared.store cleared.left cleared.did.gone);
+      its = λ u p e. ap (λ ts. kept_at ts p) cleared.did.gone.tables ∙ none_at cleared.store.tables p ∙ sym (behind.its u (ap Rattle.std.proofs.Common.is_some e));
+      others = behind.others;
+    });
+    stands = behind.stands;
+    unkept = stands.unkept;
+    waits = stands.waits;
+  }
+
+  pub unloads : UnloadsTarget s x true w (with_tier (unload_answer x true w).0 w) (only (Done n))
+  unloads = subst (λ o. Unless o (Then (FlushesSome (unload_entries true x.group)) (Answers (unload_answer x true))) w (with_tier (unload_answer x true w).0 w) (only (Done n))) (sym free) then
+    where
+      then : Then (FlushesSome (unload_entries true x.group)) (Answers (unload_answer x true)) w (with_tier (unload_answer x true w).0 w) (only (Done n))
+      then = record { mid = w; stop = None; first = flushes_none w (unload_entries true x.group) stands.unkept; next = (refl, ap (λ m. only (Done m)) count) }
+
+pub cleared_here : (t new : Stored) (site : SiteState) (id : SessionId) (aim : Aim) (all : Bool) (n : ℕ) → IsSound t → aim.read_only ≡ true → IsClearedGroup t new aim.place n → UnloadsHere t new site id aim all (only (Done n))
+cleared_here t new site id aim all n sound kind cleared = λ s w x has rests asks at stands here kinds of. (
+    let reads : is_read_only x.group ≡ true = kinds ∙ kind in
+    let plain = all_there is_plain (groups_in t.catalog) aim.place (without_list x.group) sound.plain (group_stored t w.tier aim.place x.group stands.stored here) in
+    let explicit : is_explicit x.group ≡ true = (both_true (is_explicit x.group) (is_none x.group.def.aging) (both_true (is_explicit x.group && is_none x.group.def.aging) _ plain).0).0 in
+    let whole = asks reads explicit in
+    record {
+      world = with_tier (unload_answer x true w).0 w;
+      at = record { there = at.there; told = at.told; history = at.history; faults = at.faults; moment = at.moment; shared = at.shared };
+      stands = stands_left t new id aim n sound cleared s w x has stands here reads whole.1 whole.2 of.place;
+      is = inl (subst (λ b. UnloadsTarget s x b w (with_tier (unload_answer x true w).0 w) (only (Done n))) (sym whole.0) (unloads t new id aim n sound cleared s w x has stands here reads whole.1 whole.2 of.place));
+    })
+
+pub whole_wanting : (t new : Stored) (site : SiteState) (id : SessionId) (aim : Aim) (all : Bool) → KeepsGroups t new → UnloadsHere t new site id aim all (faulty code.Memory)
+whole_wanting t new site id aim all keeps = λ s w x has rests asks at stands there kinds of. record { world = w; at = at; stands = stands_kept t new w stands keeps; is = inr (refl, refl) }

@@ -1,0 +1,375 @@
+-- A READONLY group that is loaded with its set, or alone.
+use Rattle.std.proofs.Common.{◌≡◌, ◌<◌, ℕ, Bool, true, false, cond, not, ◌&&◌, ◌||◌, nat_eq, Option, Some, None, List, [], ◌∷◌, length, map, slice_get, refl, sym, ap, subst, ◌∙◌, inl, inr, ⊎_elim, arith}
+use Rattle.std.specs.Prelude.{Result, Ok, Err}
+use Rattle.std.specs.Bool.{MatchBool}
+use Rattle.std.specs.Option.{option_map}
+use Rattle.std.proofs.lemmas.Bool.{eq-eqb, eqb-true}
+use Rattle.std.specs.FinMap.{len}
+use Rattle.std.specs.List.{list_all}
+use Rattle.std.specs.Option.{is_none}
+use Rattle.sql_subset.specs.declared.stmt.RefreshState.{RefreshState}
+use Rattle.sql_subset.specs.declared.stmt.RefreshState.TheVariants.{On, Off, Paused}
+use Rattle.table_state.specs.Tables.{TableState}
+use Rattle.outside.specs.declared.fault.BankError.{BankError}
+use Rattle.instances.specs.Views.{kept_at}
+use Rattle.group_catalog.specs.Catalogs.{groups_in}
+use Rattle.group_store.specs.Stores.{Kept}
+use Rattle.cache_tier.specs.declared.reply.Reply.{Reply}
+use Rattle.cache_tier.specs.declared.reply.Last.TheVariants.{Done, No}
+use Rattle.cache_tier.specs.Rules.{past}
+use Rattle.tier_base.specs.declared.limit.Limit.TheVariants as limit
+use Rattle.cache_tier.specs.Groups.{Group, is_explicit, is_on, is_read_only, is_synchronous, is_writethrough}
+use Rattle.cache_tier.specs.DynamicLoads.{state_loaded}
+use Rattle.cache_tier.specs.JournalSteps.{FlushesFitting, FlushesSome, has_entries}
+use Rattle.cache_tier.specs.Journals.{JournalEntry, is_full}
+use Rattle.cache_tier.specs.JournalSteps.{FlushesKept, name_sizes}
+use Rattle.cache_tier.specs.Reading.{FollowsAt, Reads, TellsPosition, backing_at}
+use Rattle.cache_tier.specs.Sets.{Choice, OnePosition, alone, at_position, changed_from, loaded_state, loaded_with, of_set, is_in_set, set_tried}
+use Rattle.cache_tier.specs.Shown.{shown}
+use Rattle.cache_tier.specs.Targets.{Settles, Target, has_flag, load_entries, shown_count, whole_answer, with_flag}
+use Rattle.cache_tier.specs.TierStates.{Tier, refresh_tried}
+use Rattle.cache_tier.specs.Worlds.{BankCall, IsUnshared, Passes, Tries, World, only}
+use Rattle.cache_tier.proofs.PositionLaws.{alone_twice, hidden_state, join_base, join_one, join_step}
+use Rattle.order_laws.proofs.TruthLaws.{both_true, or_true}
+use Rattle.instances.specs.Trees.{place_of}
+use Rattle.stored_tier.specs.declared.tier.Tier.{Tier as Stored}
+use Rattle.group_engine.specs.Fresh.{AreFresh, IsRead}
+use Rattle.group_engine.specs.Loaded.{LoadsWhole, ReadsWhole, whole_target}
+use Rattle.group_engine.proofs.ReadLaws.{unmapped}
+use Rattle.stored_tier.specs.Performing.{IsPerformed, StandsFor}
+use Rattle.group_rows.specs.Refreshing.{IsStateAt, is_filled, is_off, positioned, roots_kept}
+use Rattle.stored_tier.specs.Sites.{IsAt}
+use Rattle.outside.specs.Sites.{SiteState}
+use Rattle.stored_tier.specs.Stored.{AreKept, IsSound, is_plain, without_list}
+use Rattle.group_engine.proofs.FreshLaws.{Changes, IsFlagged, IsRefreshed, all_there, changed_at, groups_behind, kept_long, mapped_there, stands_behind, tier_behind}
+use Rattle.group_rows.proofs.RefreshSteps.{same_by_place, changed_now}
+use Rattle.group_engine.proofs.GroupRows.{there_too}
+use Rattle.group_engine.proofs.ShownStores.{each_shows}
+
+-- the group at the place is changed twice, as once
+pub alone_two : (place : ℕ) (a b f : Group → Group) (groups : List Group) → ((g : Group) → slice_get groups place ≡ Some g → a (b g) ≡ f g) → changed_from (alone place) a 0 (changed_from (alone place) b 0 groups) ≡ changed_from (alone place) f 0 groups
+alone_two place a b f groups same =
+    same_by_place (changed_from (alone place) a 0 (changed_from (alone place) b 0 groups)) (changed_from (alone place) f 0 groups)
+    (λ k. changed_now (alone place) a (changed_from (alone place) b 0 groups) k ∙ ap (option_map (λ g. cond (alone place k g) (a g) g)) (changed_now (alone place) b groups k) ∙ by k (slice_get groups k) refl ∙ sym (changed_now (alone place) f groups k))
+  where
+    by : (k : ℕ) (o : Option Group) → slice_get groups k ≡ o → option_map (λ g. cond (alone place k g) (a g) g) (option_map (λ g. cond (alone place k g) (b g) g) (slice_get groups k)) ≡ option_map (λ g. cond (alone place k g) (f g) g) (slice_get groups k)
+    by k None e = ap (λ o. option_map (λ g. cond (alone place k g) (a g) g) (option_map (λ g. cond (alone place k g) (b g) g) o)) e ∙ sym (ap (option_map (λ g. cond (alone place k g) (f g) g)) e)
+    by k (Some g) e =
+        ap (λ o. option_map (λ x. cond (alone place k x) (a x) x) (option_map (λ x. cond (alone place k x) (b x) x) o)) e
+        ∙ of (nat_eq k place) refl
+        ∙ sym (ap (option_map (λ x. cond (alone place k x) (f x) x)) e)
+      where
+        of : (t : Bool) → nat_eq k place ≡ t → Some (cond (nat_eq k place) (a (cond (nat_eq k place) (b g) g)) (cond (nat_eq k place) (b g) g)) ≡ Some (cond (nat_eq k place) (f g) g)
+        of true h =
+            ap (λ t. Some (cond t (a (cond t (b g) g)) (cond t (b g) g))) h
+            ∙ ap (λ x. Some x) (same g (ap (slice_get groups) (sym (eqb-true k place h)) ∙ e))
+            ∙ sym (ap (λ t. Some (cond t (f g) g)) h)
+        of false h = ap (λ t. Some (cond t (a (cond t (b g) g)) (cond t (b g) g))) h ∙ sym (ap (λ t. Some (cond t (f g) g)) h)
+
+-- what becomes of the group
+abbrev pub loads_group : Group → Group
+loads_group g = with_flag true (state_loaded g)
+
+flag_there : (g : Group) → is_explicit g ≡ true → has_flag g ≡ true
+flag_there g e = ap (λ b. is_writethrough g || b) e ∙ or_true (is_writethrough g)
+
+loads_is : (g : Group) → is_explicit g ≡ true → loads_group g ≡ record g { state = loaded_state g.state; loaded = true }
+loads_is g e = ap (λ b. cond b (record (state_loaded g) { loaded = true }) (state_loaded g)) (flag_there g e)
+
+loads_mapped : (g : Group) → without_list (loads_group g) ≡ loads_group (without_list g)
+loads_mapped g = by (has_flag g)
+  where
+    by : (b : Bool) → without_list (cond b (record (state_loaded g) { loaded = true }) (state_loaded g)) ≡ cond b (record (state_loaded (without_list g)) { loaded = true }) (state_loaded (without_list g))
+    by true = refl
+    by false = refl
+
+loads_flagged : (g : Group) → is_explicit g ≡ true → IsFlagged true g (loads_group g)
+loads_flagged g e =
+    let is = loads_is g e in
+    let state = ap (λ (x : Group). x.state) is in
+    record { is = is ∙ (λ i. record g { state = sym state i; loaded = sym (or_true g.loaded) i }) }
+
+flag_keeps : (b : Bool) (g : Group) → (cond b (record g { loaded = true }) g).position ≡ g.position
+flag_keeps true g = refl
+flag_keeps false g = refl
+
+flag_defined : (b : Bool) (g : Group) → (cond b (record g { loaded = true }) g).def.interval ≡ g.def.interval
+flag_defined true g = refl
+flag_defined false g = refl
+
+flag_state : (b : Bool) (g : Group) → (cond b (record g { loaded = true }) g).state ≡ g.state
+flag_state true g = refl
+flag_state false g = refl
+
+chosen_there : (g : Group) (place : ℕ) (x : Group) → loaded_with g place place x ≡ true
+chosen_there g place x = by g.state
+  where
+    here : nat_eq place place ≡ true
+    here = eq-eqb place place refl
+
+    by : (st : RefreshState) → loaded_with (record g { state = st }) place place x ≡ true
+    by On = ap (λ b. is_in_set g.def.interval x || b) here ∙ or_true (is_in_set g.def.interval x)
+    by Paused = ap (λ b. is_in_set g.def.interval x || b) here ∙ or_true (is_in_set g.def.interval x)
+    by Off = here
+
+unlisted_with : (g : Group) (place k : ℕ) (x : Group) → loaded_with g place k (without_list x) ≡ loaded_with g place k x
+unlisted_with g place k x = by g.state
+  where
+    by : (st : RefreshState) → loaded_with (record g { state = st }) place k (without_list x) ≡ loaded_with (record g { state = st }) place k x
+    by On = refl
+    by Paused = refl
+    by Off = refl
+
+-- the positions behind it
+pub loaded_positions : (groups : List Group) (place n : ℕ) (g : Group) (s : TableState) → slice_get groups place ≡ Some g → OnePosition groups → OnePosition (groups_behind (loaded_with g place) place loads_group n s groups)
+loaded_positions groups place n g s at one = by g.state refl
+  where
+    joins : (x : Group) → slice_get groups place ≡ Some x → x.def.interval ≡ g.def.interval
+    joins x there = let both : Some x ≡ Some g = sym there ∙ at in let same : x ≡ g = cc in ap (λ (y : Group). y.def.interval) same
+
+    join : OnePosition (changed_from (alone place) loads_group 0 (changed_from (of_set g.def.interval (Some place)) (at_position n s) 0 groups))
+    join = join_one g.def.interval place n groups joins _
+        (join_step g.def.interval place n groups joins loads_group (λ x. flag_keeps (has_flag x) (state_loaded x)) (λ x. flag_defined (has_flag x) (state_loaded x)) _ (join_base g.def.interval place n groups joins s)) one
+
+    by : (st : RefreshState) → g.state ≡ st → OnePosition (changed_from (alone place) loads_group 0 (changed_from (loaded_with (record g { state = st }) place) (at_position n s) 0 groups))
+    by On e = join
+    by Paused e = join
+    by Off e = alone_twice groups place (at_position n s) loads_group
+        (λ x there.
+        let both : Some x ≡ Some g = sym there ∙ at in
+        let same : x ≡ g = cc in
+        hidden_state (loads_group (at_position n s x))
+        (ap is_on (flag_state (has_flag x) (state_loaded (at_position n s x)))
+        ∙ ap (λ (y : RefreshState). is_on (loaded_state y)) (ap (λ (y : Group). y.state) same ∙ e))) one
+
+-- nothing is flushed where there is no journal
+pub flushes_none : (entries : List JournalEntry) (w : World) → w.journal.kept ≡ false → FlushesSome entries w w None
+flushes_none entries w unkept = by (has_entries entries)
+  where
+    by : (b : Bool) → MatchBool b (FlushesFitting entries w w None) (Passes w w None)
+    by true = subst (λ k. MatchBool (k && is_full (name_sizes w) w.journal entries) ((w ≡ w) × (None ≡ Some (only (No (past limit.JournalSlot))))) (MatchBool k (FlushesKept entries w w None) (Passes w w None))) (sym unkept) (refl, refl)
+    by false = (refl, refl)
+
+-- STATE and the loaded flag, one after the other
+pub loaded_once : (groups : List Group) (place n : ℕ) (chosen : Choice) (st : RefreshState) → list_all is_plain groups ≡ true → IsStateAt groups place st
+    → changed_from (alone place) (λ h. record h { state = st }) 0 (changed_from (alone place) (λ h. record h { loaded = true }) 0 (changed_from chosen (positioned n) 0 groups)) ≡ changed_from (alone place) loads_group 0 (changed_from chosen (positioned n) 0 groups)
+loaded_once groups place n chosen st plain state = alone_two place (λ h. record h { state = st }) (λ h. record h { loaded = true }) loads_group (changed_from chosen (positioned n) 0 groups) (λ h at. by h (slice_get groups place) refl (sym (changed_now chosen (positioned n) groups place) ∙ at))
+  where
+    by : (h : Group) (o : Option Group) → slice_get groups place ≡ o → option_map (λ g. cond (chosen place g) (positioned n g) g) (slice_get groups place) ≡ Some h → record h { loaded = true; state = st } ≡ loads_group h
+    by h None e at = let wrong : None ≡ Some h = ap (option_map (λ g. cond (chosen place g) (positioned n g) g)) (sym e) ∙ at in cc
+    by h (Some g) e at =
+        let both : Some (cond (chosen place g) (positioned n g) g) ≡ Some h = ap (option_map (λ x. cond (chosen place x) (positioned n x) x)) (sym e) ∙ at in
+        let is : cond (chosen place g) (positioned n g) g ≡ h = cc in
+        let explicit : is_explicit g ≡ true = (both_true (is_explicit g) (is_none g.def.aging) (both_true (is_explicit g && is_none g.def.aging) (not (is_synchronous g)) (all_there is_plain groups place g plain e)).0).0 in
+        sym (loads_is h (ap is_explicit (sym is) ∙ kept (chosen place g) g ∙ explicit) ∙ ap (λ x. record h { state = x; loaded = true }) (ap (λ (y : Group). loaded_state y.state) (sym is) ∙ same (chosen place g) g ∙ sym (state g e)))
+      where
+        kept : (b : Bool) (x : Group) → is_explicit (cond b (positioned n x) x) ≡ is_explicit x
+        kept true x = refl
+        kept false x = refl
+
+        same : (b : Bool) (x : Group) → loaded_state (cond b (positioned n x) x).state ≡ loaded_state x.state
+        same true x = refl
+        same false x = refl
+
+module _ (t new : Stored) (behind : SiteState) (w : World) (place n : ℕ) (g : Group) (chosen : Choice) (made : List (Option Kept)) (at : slice_get w.tier.groups place ≡ Some g) (reads : is_read_only g ≡ true) (chosen_is : chosen ≡ loaded_with g place)
+    (r : IsRead t behind (Ok n) w) (fresh : AreFresh t r.world (is_filled chosen (Some place)) n made) (is : IsRefreshed t new chosen place loads_group n made) (reply : Reply) (reply_is : reply ≡ only (Done (roots_kept (slice_get new.stores.items place)))) (sound : IsSound new) where
+  there : slice_get r.world.tier.groups place ≡ Some g
+  there = ap (λ (x : Tier). slice_get x.groups place) r.tier ∙ at
+
+  changes : Changes true place chosen (Some place) loads_group
+  changes = record {
+    flagged = loads_flagged;
+    loads_is = refl;
+    chosen_is = λ x e. ap (λ (c : Choice). c place x) chosen_is ∙ chosen_there g place x;
+    unlisted = λ k x. ap (λ (c : Choice). c k (without_list x)) chosen_is ∙ unlisted_with g place k x ∙ sym (ap (λ (c : Choice). c k x) chosen_is);
+  }
+
+  only_read : (k : ℕ) (x : Group) → slice_get r.world.tier.groups k ≡ Some x → chosen k x ≡ true → is_read_only x ≡ true
+  only_read k x at_k c = by g.state refl (ap (λ (d : Choice). d k x) (sym chosen_is) ∙ c)
+    where
+      at_place : nat_eq k place ≡ true → is_read_only x ≡ true
+      at_place e =
+          let both : Some x ≡ Some g = sym at_k ∙ ap (slice_get r.world.tier.groups) (eqb-true k place e) ∙ there in
+          let same : x ≡ g = cc in ap is_read_only same ∙ reads
+
+      turned : nat_eq place k ≡ true → nat_eq k place ≡ true
+      turned e = eq-eqb k place (sym (eqb-true place k e))
+
+      in_set : (is_in_set g.def.interval x || nat_eq place k) ≡ true → is_read_only x ≡ true
+      in_set e = of (is_in_set g.def.interval x) refl e
+        where
+          of : (b : Bool) → is_in_set g.def.interval x ≡ b → (b || nat_eq place k) ≡ true → is_read_only x ≡ true
+          of true h e = (both_true (is_read_only x) (nat_eq x.def.interval g.def.interval) (both_true (is_read_only x && nat_eq x.def.interval g.def.interval) (is_on x.state) h).0).0
+          of false h e = at_place (turned e)
+
+      by : (st : RefreshState) → g.state ≡ st → loaded_with (record g { state = st }) place k x ≡ true → is_read_only x ≡ true
+      by On h e = in_set e
+      by Paused h e = in_set e
+      by Off h e = at_place e
+
+  pub stands_last : StandsFor new (record r.world { tier = tier_behind chosen place loads_group n (backing_at r.world n) r.world.tier })
+  stands_last = stands_behind t new r.world true place chosen (Some place) loads_group changes n made r.stands fresh is only_read loads_mapped
+      (λ s. subst (λ c. OnePosition (groups_behind c place loads_group n s r.world.tier.groups)) (sym chosen_is) (loaded_positions r.world.tier.groups place n g s there r.stands.stands.read.one))
+
+  abbrev tier_then : Tier
+  tier_then = tier_behind chosen place loads_group n (backing_at r.world n) r.world.tier
+
+  -- how many instances it shows
+  count_is : roots_kept (slice_get new.stores.items place) ≡ shown_count (whole_target place g) r.world.history (tier_behind chosen place loads_group n (backing_at r.world n) r.world.tier)
+  count_is =
+      let picked : Group = cond (chosen place g) (at_position n (backing_at r.world n) g) g in
+      let one : slice_get (changed_from chosen (at_position n (backing_at r.world n)) 0 r.world.tier.groups) place ≡ Some (cond (chosen place g) (at_position n (backing_at r.world n) g) g) = changed_at chosen (at_position n (backing_at r.world n)) r.world.tier.groups place g there in
+      let two : slice_get (tier_behind chosen place loads_group n (backing_at r.world n) r.world.tier).groups place ≡ Some (cond (nat_eq place place) (loads_group (cond (chosen place g) (at_position n (backing_at r.world n) g) g)) (cond (chosen place g) (at_position n (backing_at r.world n) g) g)) =
+      changed_at (alone place) loads_group (changed_from chosen (at_position n (backing_at r.world n)) 0 r.world.tier.groups) place (cond (chosen place g) (at_position n (backing_at r.world n) g) g) one in
+      of (cond (nat_eq place place) (loads_group (cond (chosen place g) (at_position n (backing_at r.world n) g) g)) (cond (chosen place g) (at_position n (backing_at r.world n) g) g)) two
+    where
+      kept : AreKept new.schema (map without_list (tier_behind chosen place loads_group n (backing_at r.world n) r.world.tier).groups) new.stores.items
+      kept = subst (λ l. AreKept new.schema l new.stores.items) (sym stands_last.stored.groups) sound.kept
+
+      of : (h : Group) → slice_get (tier_behind chosen place loads_group n (backing_at r.world n) r.world.tier).groups place ≡ Some h → roots_kept (slice_get new.stores.items place) ≡ shown_count (whole_target place g) r.world.history (tier_behind chosen place loads_group n (backing_at r.world n) r.world.tier)
+      of h h_at =
+          let long = kept_long new.schema (map without_list (tier_behind chosen place loads_group n (backing_at r.world n) r.world.tier).groups) new.stores.items kept in
+          let (s, s_at) = there_too (map without_list (tier_behind chosen place loads_group n (backing_at r.world n) r.world.tier).groups) new.stores.items place (without_list h) long (mapped_there (tier_behind chosen place loads_group n (backing_at r.world n) r.world.tier).groups place h h_at) in
+          let root : place_of h.def.tree h.def.tree.root.table ≡ Some 0 = ap (λ b. cond b (Some 0) (option_map Rattle.std.proofs.Common.suc (Rattle.std.proofs.Common.position (λ c. Rattle.instances.specs.Trees.same_table c.table h.def.tree.root.table) h.def.tree.children))) (eq-eqb h.def.tree.root.table.0 h.def.tree.root.table.0 refl) in
+          ap roots_kept s_at
+          ∙ ap len (each_shows new.schema r.world.history (tier_behind chosen place loads_group n (backing_at r.world n) r.world.tier) new.stores.items stands_last.stored.schema stands_last.stands.catalog kept stands_last.shows place h s h.def.tree.root.table 0 h_at s_at root)
+          ∙ ap (counted r.world.history r.world.tier.log) (sym h_at)
+        where
+          counted : List Rattle.table_state.specs.declared.history.Entry.Entry → List Rattle.table_state.specs.declared.history.Sealed.Sealed → Option Group → ℕ
+          counted history log None = 0
+          counted history log (Some x) = Rattle.cache_tier.specs.Shown.instances_of history log x
+
+  pub whole_read : IsPerformed new behind (λ w'. ReadsWhole place g w w' reply)
+  whole_read = record {
+    world = record r.world { tier = tier_behind chosen place loads_group n (backing_at r.world n) r.world.tier };
+    at = record { there = r.at.there; told = r.at.told; history = r.at.history; faults = r.at.faults; moment = r.at.moment; shared = r.at.shared };
+    stands = stands_last;
+    is = record {
+      told = Ok n;
+      mid = r.world;
+      call = r.call;
+      tier = r.tier;
+      goes_on = inl (record {
+        mid = r.world;
+        stop = None;
+        first = flushes_none (load_entries g) r.world r.stands.unkept;
+        next = (
+          ap (λ (c : Choice). record r.world { tier = tier_behind c place loads_group n (backing_at r.world n) r.world.tier }) chosen_is,
+          reply_is ∙ ap (λ m. only (Done m)) count_is ∙ ap (λ (c : Choice). only (Done (shown_count (whole_target place g) r.world.history (tier_behind c place loads_group n (backing_at r.world n) r.world.tier)))) chosen_is,
+        );
+      });
+    };
+  }
+
+-- the statements
+
+one_call : (step : List Rattle.table_state.specs.declared.history.Entry.Entry → List Rattle.table_state.specs.declared.history.Entry.Entry → Type 0) (w mid : World) (a : Tier) → BankCall step (record w { tier = a }) mid → BankCall step w mid
+one_call step w mid a c = record { history = c.history; journal = c.journal; faults = c.faults; disk = c.disk; moment = c.moment; shared = c.shared }
+
+settled_so : (x : Target) (place n : ℕ) (g : Group) (w w' : World) (reply : Reply) → x.place ≡ place → x.group ≡ g → Settles (whole_target place g) (whole_answer (whole_target place g) n) w w' reply → Settles x (whole_answer x n) w w' reply
+settled_so x place n g w w' reply place_is group_is s =
+    subst (λ p. Settles (whole_target p x.group) (whole_answer (whole_target p x.group) n) w w' reply) (sym place_is)
+    (subst (λ y. Settles (whole_target place y) (whole_answer (whole_target place y) n) w w' reply) (sym group_is) s)
+
+module _ (x : Target) (place : ℕ) (g : Group) (place_is : x.place ≡ place) (group_is : x.group ≡ g) (explicit : is_explicit g ≡ true) (other : ℕ → World → World → Reply → Type 0) where
+  follows_so : (told : Result ℕ BankError) (mid w' : World) (reply : Reply) → FollowsAt told (λ n. Settles (whole_target place g) (whole_answer (whole_target place g) n)) mid w' reply
+      → FollowsAt told (λ n w v r. MatchBool (is_explicit x.group) (Settles x (whole_answer x n) w v r) (other n w v r)) mid w' reply
+  follows_so (Err e) mid w' reply f = f
+  follows_so (Ok n) mid w' reply f = ⊎_elim
+      (λ s. inl (subst (λ b. MatchBool b (Settles x (whole_answer x n) mid w' reply) (other n mid w' reply)) (sym (ap is_explicit group_is ∙ explicit)) (settled_so x place n g mid w' reply place_is group_is s)))
+      (λ m. inr m) f
+
+  pub reads_whole : (w w' : World) (a : Tier) (reply : Reply) → a ≡ set_tried x.group w.tier → ReadsWhole place g (record w { tier = a }) w' reply
+      → Reads (set_tried x.group) (λ n v v' r. MatchBool (is_explicit x.group) (Settles x (whole_answer x n) v v' r) (other n v v' r)) w w' reply
+  reads_whole w w' a reply tried r = record {
+    result = r.told;
+    mid = r.mid;
+    call = one_call (TellsPosition r.told) w r.mid a r.call;
+    tier = r.tier ∙ tried;
+    goes_on = follows_so r.told r.mid w' reply r.goes_on;
+  }
+
+-- the group at a place of the catalog
+pub record GroupAt (t : Stored) (w : World) (place : ℕ) (seen : Group) : Type 0 where
+  pub group : Group
+  pub there : slice_get w.tier.groups place ≡ Some group
+  pub is : without_list group ≡ seen
+  pub explicit : is_explicit group ≡ true
+
+pub group_at : (t : Stored) (w : World) (place : ℕ) (seen : Group) → IsSound t → StandsFor t w → slice_get (groups_in t.catalog) place ≡ Some seen → GroupAt t w place seen
+group_at t w place seen sound stands at =
+    let (h, h_at, same) = unmapped w.tier.groups place seen (ap (λ l. slice_get l place) stands.stored.groups ∙ at) in
+    record {
+      group = h;
+      there = h_at;
+      is = same;
+      explicit = ap is_explicit same ∙ (both_true (is_explicit seen) (is_none seen.def.aging) (both_true (is_explicit seen && is_none seen.def.aging) (not (is_synchronous seen)) (all_there is_plain (groups_in t.catalog) place seen sound.plain at)).0).0;
+    }
+
+-- it is loaded alone, or with its set
+pub off_is : (st : RefreshState) → is_off st ≡ true → st ≡ Off
+off_is On e = cc
+off_is Paused e = cc
+off_is Off e = refl
+
+with_alone : (g : Group) (place : ℕ) → g.state ≡ Off → alone place ≡ loaded_with g place
+with_alone g place e = ap (λ st. loaded_with (record g { state = st }) place) (sym e)
+
+with_set : (g : Group) (place : ℕ) → is_off g.state ≡ false → of_set g.def.interval (Some place) ≡ loaded_with g place
+with_set g place e = by g.state e
+  where
+    by : (st : RefreshState) → is_off st ≡ false → of_set g.def.interval (Some place) ≡ loaded_with (record g { state = st }) place
+    by On e = refl
+    by Paused e = refl
+    by Off e = cc
+
+tried_alone : (g : Group) (a : Tier) → g.state ≡ Off → a ≡ set_tried g a
+tried_alone g a e = ap (λ st. set_tried (record g { state = st }) a) (sym e)
+
+tried_set : (g : Group) (a : Tier) → is_off g.state ≡ false → refresh_tried g.def.interval a ≡ set_tried g a
+tried_set g a e = by g.state e
+  where
+    by : (st : RefreshState) → is_off st ≡ false → refresh_tried g.def.interval a ≡ set_tried (record g { state = st }) a
+    by On e = refl
+    by Paused e = refl
+    by Off e = cc
+
+abbrev pub WholeReads : Target → (ℕ → World → World → Reply → Type 0) → World → World → Reply → Type 0
+WholeReads x other = Reads (set_tried x.group) (λ n v v' r. MatchBool (is_explicit x.group) (Settles x (whole_answer x n) v v' r) (other n v v' r))
+
+-- behind the load alone
+pub loaded_alone : (t new : Stored) (before behind : SiteState) (place : ℕ) (seen : Group) (reply : Reply) → IsSound t → slice_get (groups_in t.catalog) place ≡ Some seen → is_read_only seen ≡ true → seen.state ≡ Off → LoadsWhole t new before behind place (alone place) reply
+    → (x : Target) → x.place ≡ place → (other : ℕ → World → World → Reply → Type 0) → (w : World) → IsAt before w → StandsFor t w → IsUnshared w → IsPerformed new behind (λ w'. slice_get w.tier.groups place ≡ Some x.group → Tries (WholeReads x other) w w' reply)
+loaded_alone t new before behind place seen reply sound at reads off loads x place_is other w at_w stands apart =
+    let g = group_at t w place seen sound stands at in
+    let state : g.group.state ≡ Off = ap (λ (y : Group). y.state) g.is ∙ off in
+    let p = loads w g.group at_w stands apart g.there (ap is_read_only g.is ∙ reads) (with_alone g.group place state) in
+    record {
+      world = p.world;
+      at = p.at;
+      stands = p.stands;
+      is = λ there.
+          let both : Some x.group ≡ Some g.group = sym there ∙ g.there in
+          let same : x.group ≡ g.group = cc in
+          inl (reads_whole x place g.group place_is same g.explicit other w p.world w.tier reply (tried_alone g.group w.tier state ∙ ap (λ y. set_tried y w.tier) (sym same)) p.is);
+    }
+
+-- behind the load with its set, which was noted
+pub loaded_joined : (t noted new : Stored) (before behind : SiteState) (place : ℕ) (seen : Group) (reply : Reply) → IsSound t → slice_get (groups_in t.catalog) place ≡ Some seen → is_read_only seen ≡ true → is_off seen.state ≡ false
+    → ((w : World) → StandsFor t w → StandsFor noted (record w { tier = refresh_tried seen.def.interval w.tier })) → LoadsWhole noted new before behind place (of_set seen.def.interval (Some place)) reply
+    → (x : Target) → x.place ≡ place → (other : ℕ → World → World → Reply → Type 0) → (w : World) → IsAt before w → StandsFor t w → IsUnshared w → IsPerformed new behind (λ w'. slice_get w.tier.groups place ≡ Some x.group → Tries (WholeReads x other) w w' reply)
+loaded_joined t noted new before behind place seen reply sound at reads on notes loads x place_is other w at_w stands apart =
+    let g = group_at t w place seen sound stands at in
+    let state : is_off g.group.state ≡ false = ap (λ (y : Group). is_off y.state) g.is ∙ on in
+    let interval : g.group.def.interval ≡ seen.def.interval = ap (λ (y : Group). y.def.interval) g.is in
+    let p = loads (record w { tier = refresh_tried seen.def.interval w.tier }) g.group (record { there = at_w.there; told = at_w.told; history = at_w.history; faults = at_w.faults; moment = at_w.moment; shared = at_w.shared }) (notes w stands) apart g.there (ap is_read_only g.is ∙ reads)
+    (ap (λ i. of_set i (Some place)) (sym interval) ∙ with_set g.group place state) in
+    record {
+      world = p.world;
+      at = p.at;
+      stands = p.stands;
+      is = λ there.
+          let both : Some x.group ≡ Some g.group = sym there ∙ g.there in
+          let same : x.group ≡ g.group = cc in
+          inl (reads_whole x place g.group place_is same g.explicit other w p.world (refresh_tried seen.def.interval w.tier) reply (ap (λ i. refresh_tried i w.tier) (sym interval) ∙ tried_set g.group w.tier state ∙ ap (λ y. set_tried y w.tier) (sym same)) p.is);
+    }

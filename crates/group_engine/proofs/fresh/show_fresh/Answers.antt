@@ -1,0 +1,35 @@
+use Rattle.std.proofs.Common.{◌≡◌, ◌∙◌, ap, false, refl, subst, sym, true}
+use Rattle.cache_tier.specs.Groups.{definitions_of}
+use Rattle.group_catalog.specs.Catalogs.{groups_in}
+use Rattle.group_rows.specs.Refreshing.{choice_of, exchanged, positioned}
+use Rattle.stored_tier.specs.Stored.{AreKept, AreWhole}
+use Rattle.stored_tier.proofs.LaterLaws.{later_by}
+use Rattle.stored_tier.proofs.SoundParts.{all_plain, changed_defs, housed_exchanged, named_by, visible_by}
+use Rattle.group_engine.proofs.Exchanged.{kept_exchanged, whole_exchanged}
+use Rattle.stored_tier.proofs.StoreChanges.{kept_defined}
+use Rattle.group_engine.proofs.fresh.show_fresh.Goals as goal
+
+pub returns-clause-sound : goal.returns-clause-sound
+returns-clause-sound c =
+    let sound = c.requires.sound in
+    let schema = c.args.tier.now.schema in
+    let stores = c.args.tier.now.stores.items in
+    let was = groups_in c.args.tier.now.catalog in
+    let then = groups_in c.give_position.new.catalog in
+    let made = c.args.fresh.made.items in
+    let defs : definitions_of (groups_in c.give_position.new.catalog) ≡ definitions_of (groups_in c.args.tier.now.catalog) =
+    ap definitions_of c.give_position.ensures ∙ changed_defs (choice_of c.args.chosen) (positioned c.into_parts-made.result.0.0) 0 was (λ g. refl) in
+    let is : c.exchange.new.stores.items ≡ exchanged c.args.tier.now.stores.items c.args.fresh.made.items = c.exchange.ensures ∙ ap (λ parts. exchanged c.args.tier.now.stores.items parts.1.items) c.into_parts-made.ensures in
+    let kept = kept_exchanged schema was stores made sound.kept c.requires.formed.form in
+    record {
+      sessions = sound.sessions;
+      stores = subst (λ ss. Rattle.group_store.specs.Shown.AreHoused schema ss c.args.tier.now.directory) (sym is) (housed_exchanged schema was stores (exchanged stores made) c.args.tier.now.directory sound.stores sound.kept kept);
+      kept = subst (AreKept schema then) (sym is) (kept_defined schema was then (exchanged stores made) defs kept);
+      whole = subst AreWhole (sym is) (whole_exchanged stores made sound.whole c.requires.formed.whole);
+      plain = all_plain was then defs sound.plain;
+      named = named_by was then defs sound.named;
+      visible = sound.visible ∙ sym (visible_by was then schema defs);
+      numbered = sound.numbered;
+      later = later_by was then c.args.tier.now.unsettled.items defs sound.later;
+      verified = λ e. absurd (Rattle.std.proofs.lemmas.Bool.false≢true e);
+    }

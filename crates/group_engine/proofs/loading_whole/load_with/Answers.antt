@@ -1,0 +1,48 @@
+use Rattle.std.proofs.Common.{◌≡◌, ◌<◌, ◌∙◌, ap, arith, length, refl, subst, sym}
+use Rattle.cache_tier.specs.declared.reply.Last.TheVariants.{Done}
+use Rattle.cache_tier.specs.Groups.{definitions_of}
+use Rattle.cache_tier.specs.Sets.{alone, changed_from}
+use Rattle.cache_tier.specs.Worlds.{only}
+use Rattle.group_catalog.specs.Catalogs.{groups_in}
+use Rattle.group_rows.specs.Refreshing.{choice_of, positioned}
+use Rattle.group_engine.proofs.FreshLaws.{changed_long}
+use Rattle.group_engine.proofs.WholeLaws.{loaded_once, whole_read}
+use Rattle.stored_tier.proofs.SoundParts.{changed_defs, sound_regrouped}
+use Rattle.group_engine.proofs.loading_whole.load_with.Goals as goal
+
+pub with_loaded-requires : goal.with_loaded-requires
+with_loaded-requires g c =
+    let within = c.requires.within in
+    let long = ap length c.show_fresh.ensures.shown.groups ∙ changed_long (choice_of c.args.chosen) (positioned c.in-Ok.fresh.position.0) 0 (groups_in c.args.tier.now.catalog) in
+    omega (arith, within, long)
+
+pub with_state-requires : goal.with_state-requires
+with_state-requires g c =
+    let within = c.requires.within in
+    let long = ap length c.show_fresh.ensures.shown.groups ∙ changed_long (choice_of c.args.chosen) (positioned c.in-Ok.fresh.position.0) 0 (groups_in c.args.tier.now.catalog) in
+    let then = ap length c.with_loaded.ensures ∙ changed_long (alone c.args.place) _ 0 (groups_in c.show_fresh.new.tier.catalog) in
+    omega (arith, within, long, then)
+
+pub returns-in-Ok-clause-sound : goal.returns-in-Ok-clause-sound
+returns-in-Ok-clause-sound g c =
+    sound_regrouped c.show_fresh.new.tier c.with_state.new.self c.show_fresh.ensures.sound
+    (ap definitions_of c.with_state.ensures ∙ changed_defs (alone c.args.place) _ 0 (groups_in c.with_loaded.new.self) (λ x. refl)
+    ∙ ap definitions_of c.with_loaded.ensures ∙ changed_defs (alone c.args.place) _ 0 (groups_in c.show_fresh.new.tier.catalog) (λ x. refl))
+
+pub returns-in-Ok-clause-loads : goal.returns-in-Ok-clause-loads
+returns-in-Ok-clause-loads g c = λ w x at stands apart there reads chosen_is.
+    let read = c.in-Ok.ensures.reads w at stands apart in
+    let shown = c.show_fresh.ensures.shown in
+    let sound = returns-in-Ok-clause-sound g c in
+    whole_read c.args.tier.now _ _ w c.args.place c.in-Ok.fresh.position.0 x (choice_of c.args.chosen) c.in-Ok.fresh.made.items there reads chosen_is read.0 read.1
+    (record {
+      beside = record { schema = shown.schema; stale = shown.stale; sessions = shown.sessions; unsettled = shown.unsettled; next = shown.next; clock = shown.clock };
+      groups = c.with_state.ensures ∙ ap (changed_from (alone c.args.place) _ 0) (c.with_loaded.ensures ∙ ap (changed_from (alone c.args.place) _ 0) shown.groups)
+          ∙ loaded_once (groups_in c.args.tier.now.catalog) c.args.place c.in-Ok.fresh.position.0 (choice_of c.args.chosen) c.args.state c.requires.sound.plain c.requires.state;
+      stores = shown.stores;
+      was = c.requires.sound.kept;
+      kept = sound.kept;
+      plain = c.requires.sound.plain;
+      long = c.in-Ok.ensures.formed.long;
+    })
+    c.done.result (c.done.ensures ∙ ap (λ m. only (Done m)) c.roots_shown.ensures) sound

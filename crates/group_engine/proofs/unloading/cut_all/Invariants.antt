@@ -1,0 +1,7 @@
+use Rattle.std.proofs.Common.{take}
+use Rattle.group_store.specs.Stores.{SameButSpare}
+use Rattle.group_engine.specs.Unloading.{cut_all}
+use Rattle.group_engine.proofs.unloading.cut_all.Given as goal
+
+abbrev pub invariant-loop-key : goal.invariant-loop-key
+invariant-loop-key l = SameButSpare (cut_all (take l.key-index l.keys) l.initial.store) l.store

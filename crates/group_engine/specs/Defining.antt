@@ -1,0 +1,49 @@
+-- Which definitions of groups are done. (This project's rule.)
+
+use Rattle.std.specs.Prelude.{◌≡◌, List, [], ◌∷◌, ◌++◌, None, Bool, true, false, ◌&&◌, ◌||◌, not, is_none}
+use Rattle.table_defs.specs.declared.definition.TableDef.{TableDef}
+use Rattle.sql_subset.specs.declared.stmt.GroupKind.{GroupKind}
+use Rattle.sql_subset.specs.declared.stmt.GroupKind.TheVariants as kind
+use Rattle.sql_subset.specs.declared.stmt.CreateGroup.{CreateGroup}
+use Rattle.instances.specs.Trees.{is_sound}
+use Rattle.group_catalog.specs.Catalogs.{groups_in}
+use Rattle.group_store.specs.Stores.{Kept}
+use Rattle.cache_tier.specs.Definitions.{IsTreeOf, defined_by, definition_broken, is_read_only_kind, new_group, placed_tables}
+use Rattle.cache_tier.specs.Groups.{definitions_of}
+use Rattle.cache_tier.specs.declared.group.GroupDef.{GroupDef}
+use Rattle.tier_laws.specs.Standing.{foreign_key_in}
+use Rattle.stored_tier.specs.declared.tier.Tier.{Tier as Stored}
+use Rattle.stored_tier.specs.Grouping.{HasGroups, IsBareStore}
+
+abbrev pub is_synchronous_kind : GroupKind → Bool
+is_synchronous_kind kind.ReadOnly = false
+is_synchronous_kind kind.AsynchronousWritethrough = false
+is_synchronous_kind kind.SynchronousWritethrough = true
+is_synchronous_kind kind.UserManaged = false
+
+-- the tier does groups of this definition: they are loaded whole or by statements, don't age, and aren't SYNCHRONOUS
+abbrev pub is_done : GroupDef → Bool
+is_done def = not def.dynamic && is_none def.aging && not (is_synchronous_kind def.kind)
+
+-- where it is a writethrough group its root refers to no table
+abbrev pub is_free : List TableDef → GroupDef → Bool
+is_free schema def = is_read_only_kind def.kind || is_none (foreign_key_in schema def.tree.root.table)
+
+-- the definition breaks no rule over what is stored, it is what is made of the statement, and the tier does it
+pub record IsDefinition (t : Stored) (d : CreateGroup) (def : GroupDef) : Type 0 where
+  pub writes : Bool
+  pub known : t.stale ≡ false
+  pub unbroken : definition_broken t.schema (definitions_of (groups_in t.catalog)) writes d ≡ None
+  pub is : def ≡ defined_by t.schema d def.tree
+  pub tree_of : IsTreeOf (placed_tables t.schema d) def.tree
+  pub formed : is_sound t.schema def.tree ≡ true
+  pub done : is_done def ≡ true
+  pub free : is_free t.schema def ≡ true
+
+-- its group came, with a store without rows
+pub record HasNewGroup (t new : Stored) (d : CreateGroup) (def : GroupDef) : Type 0 where
+  pub store : Kept
+  pub bare : IsBareStore t.schema def.tree store
+  pub has :
+      HasGroups t new (groups_in t.catalog ++ new_group t.next t.clock.now d def ∷ []) (t.stores.items ++ store ∷ [])
+  pub unverified : new.verified ≡ false

@@ -1,0 +1,10 @@
+pub mod Aiming
+pub mod Altering
+pub mod Defining
+pub mod Dropping
+pub mod Fresh
+pub mod Loaded
+pub mod Putting
+pub mod Taking
+pub mod UnloadLocks
+pub mod Unloading

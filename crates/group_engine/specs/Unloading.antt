@@ -1,0 +1,156 @@
+-- UNLOAD over what is stored. (TimesTen SQL Reference, "UNLOAD CACHE GROUP".)
+
+use Rattle.std.specs.Prelude.{◌≡◌, ℕ, List, [], ◌∷◌, Bool, true, false, Option, None, Some, Result, Ok, Err, filter, length, map, set, slice_get, if◌then◌else◌}
+use Rattle.std.specs.FinMap.{len, values}
+use Rattle.row_types.specs.declared.rule.Refused.{Refused}
+use Rattle.row_types.specs.declared.rule.Refused.TheVariants as refused
+use Rattle.row_types.specs.declared.value.Value.{Value}
+use Rattle.tier_base.specs.declared.code.Code.TheVariants as code
+use Rattle.tier_base.specs.declared.number.SessionId.{SessionId}
+use Rattle.indexed_rows.specs.Rows.{Table, key_of}
+use Rattle.instances.specs.Views.{kept_at}
+use Rattle.sql_subset.specs.declared.stmt.OfGroup.{OfGroup}
+use Rattle.sql_subset.specs.declared.stmt.Stmt.TheVariants as statement
+use Rattle.sql_subset.specs.declared.stmt.Which.{Which}
+use Rattle.table_state.specs.declared.operation.Op.{Op}
+use Rattle.group_catalog.specs.Catalogs.{groups_in}
+use Rattle.group_catalog.specs.declared.which.ResolvedWhich.{ResolvedWhich}
+use Rattle.group_store.specs.Keeping.{primary_of}
+use Rattle.group_store.specs.Stores.{Kept, SameButSpare, cleared_store, cut_store}
+use Rattle.std.specs.Option.{option_or}
+use Rattle.row_types.specs.declared.rule.Rule.{Rule}
+use Rattle.cache_tier.specs.Conditions.{overflows, root_def}
+use Rattle.cache_tier.specs.Groups.{Group, is_explicit, is_read_only, place_called}
+use Rattle.cache_tier.specs.Order.{is_whole_only, refusal, wrong_state}
+use Rattle.cache_tier.specs.Rules.{open_writes, plain}
+use Rattle.cache_tier.specs.TierStates.{Session, Tier}
+use Rattle.group_engine.specs.declared.aiming.Aim.{Aim}
+use Rattle.stored_tier.specs.declared.tier.Tier.{Tier as Stored}
+use Rattle.group_engine.specs.Aiming.{IsAimed}
+use Rattle.group_rows.specs.Choosing.{matches_at}
+use Rattle.stored_tier.specs.Grouping.{KeepsBesideGroups}
+use Rattle.stored_tier.specs.Performing.{IsPerformed, StandsFor}
+use Rattle.stored_tier.specs.Sites.{IsAt}
+use Rattle.outside.specs.Sites.{SiteState}
+use Rattle.stored_tier.specs.Stored.{HasSession, IsStoredAs}
+use Rattle.group_engine.specs.Taking.{IsOfTarget}
+use Rattle.cache_tier.specs.JournalSteps.{FlushesSome}
+use Rattle.cache_tier.specs.Reading.{Answers}
+use Rattle.cache_tier.specs.Sets.{alone, changed_from}
+use Rattle.cache_tier.specs.Targets.{Target}
+use Rattle.cache_tier.specs.UnloadSteps.{unload_answer, unload_entries, unload_fault}
+use Rattle.cache_tier.specs.Worlds.{Part, Then, Tries, Unless, World}
+use Rattle.cache_tier.specs.declared.reply.Reply.{Reply}
+
+-- what refuses UNLOAD by the group's kind, and by the session's writes
+abbrev pub unload_state : Which → List Op → Group → Option Rule
+unload_state which own g = option_or (wrong_state (is_whole_only g which) g) (open_writes own)
+
+-- nothing refuses the statement, and its group is found
+pub record FindsUnload (a : Tier) (s : Session) (u : OfGroup) (aim : Aim) : Type 0 where
+  pub group : Group
+  pub free : refusal a s (statement.Unload u) ≡ None
+  pub place : place_called a.groups u.group ≡ Some aim.place
+  pub there : slice_get a.groups aim.place ≡ Some group
+  pub kind : is_read_only group ≡ aim.read_only
+  pub is : IsAimed (root_def a group) u.which aim
+
+abbrev pub AimsUnload : Tier → Session → OfGroup → Result Aim Refused → Type 0
+AimsUnload a s u (Ok aim) = FindsUnload a s u aim
+AimsUnload a s u (Err (refused.Rule rule)) = refusal a s (statement.Unload u) ≡ Some rule
+AimsUnload a s u (Err refused.Memory) = Unit {0}
+
+-- so it is of each abstract tier as which this one is stored
+abbrev pub AimsUnloadIn : Stored → SessionId → OfGroup → Result Aim Refused → Type 0
+AimsUnloadIn t id u result =
+    (a : Tier) (s : Session) → IsStoredAs t a → HasSession t id s → AimsUnload a s u result
+
+-- the keys of the rows that match, where rows stand under their values at these columns
+abbrev pub leaving : ResolvedWhich → List ℕ → Table → List (List Value)
+leaving which columns rows =
+    map (key_of columns) (filter (λ row. matches_at which (key_of columns row) row) (values rows))
+
+-- without the instances of these root keys
+abbrev pub cut_all : List (List Value) → Kept → Kept
+cut_all [] s = s
+cut_all (key ∷ keys) s = cut_all keys (cut_store 0 key s)
+
+-- the instances that match left, so many
+pub record IsCutBy (which : ResolvedWhich) (columns : List ℕ) (old new : Kept) (n : ℕ) : Type 0 where
+  pub count : n ≡ length (leaving which columns (kept_at old.tables 0))
+  pub gone : SameButSpare (cut_all (leaving which columns (kept_at old.tables 0)) old) new
+
+-- the same of the store at a place
+pub record IsCutAt (place : ℕ) (columns : List ℕ) (which : ResolvedWhich) (old new : List Kept) (n : ℕ) : Type 0 where
+  pub store : Kept
+  pub left : Kept
+  pub kept : slice_get old place ≡ Some store
+  pub cut : IsCutBy which columns store left n
+  pub is : new ≡ set old place left
+
+-- all instances left, so many
+pub record IsClearedBy (old new : Kept) (n : ℕ) : Type 0 where
+  pub count : n ≡ len (kept_at old.tables 0)
+  pub gone : SameButSpare (cleared_store old) new
+
+pub record IsClearedAt (place : ℕ) (old new : List Kept) (n : ℕ) : Type 0 where
+  pub store : Kept
+  pub left : Kept
+  pub kept : slice_get old place ≡ Some store
+  pub cleared : IsClearedBy store left n
+  pub is : new ≡ set old place left
+
+-- 120 of the condition on a row of the store at a place
+pub record OverflowsIn (place : ℕ) (which : ResolvedWhich) (stores : List Kept) (rule : Rule) : Type 0 where
+  pub store : Kept
+  pub kept : slice_get stores place ≡ Some store
+  pub is : overflows which.filter (kept_at store.tables 0) ≡ true
+  pub told : rule ≡ plain code.Overflow
+
+-- the group at a place has the flag cleared, where all of it left
+abbrev pub flagged : Bool → ℕ → List Group → List Group
+flagged all place groups = if all then changed_from (alone place) (λ g. record g { loaded = false }) 0 groups else groups
+
+-- instances left the store of the group at a place so, and nothing else changed but its flag
+pub record LeavesGroup (t new : Stored) (place : ℕ) (all : Bool) (does : Group → Kept → Kept → Type 0) : Type 0 where
+  pub group : Group
+  pub store : Kept
+  pub left : Kept
+  pub there : slice_get (groups_in t.catalog) place ≡ Some group
+  pub kept : slice_get t.stores.items place ≡ Some store
+  pub did : does group store left
+  pub stores : new.stores.items ≡ set t.stores.items place left
+  pub groups : groups_in new.catalog ≡ flagged all place (groups_in t.catalog)
+  pub beside : KeepsBesideGroups t new
+  pub visible : new.visible ≡ t.visible
+  pub directory : new.directory ≡ t.directory
+  pub unverified : new.verified ≡ false
+
+-- the instances that match, so many
+abbrev pub IsCutGroup : Stored → Stored → Aim → Bool → ℕ → Type 0
+IsCutGroup t new aim all n =
+    LeavesGroup t new aim.place all
+    (λ g store left. IsCutBy aim.which (primary_of t.schema g.def.tree.root.table) store left n)
+
+-- all of them
+abbrev pub IsClearedGroup : Stored → Stored → ℕ → ℕ → Type 0
+IsClearedGroup t new place n = LeavesGroup t new place true (λ g store left. IsClearedBy store left n)
+
+-- an explicit READONLY group is asked for whole
+abbrev pub AsksWhole : Target → Bool → Type 0
+AsksWhole x all =
+    is_read_only x.group ≡ true → is_explicit x.group ≡ true → (all ≡ true) × (x.filter ≡ None) × (x.id ≡ None)
+
+-- UNLOAD of a group that is found
+abbrev pub UnloadsTarget : Session → Target → Bool → Part
+UnloadsTarget s x all w w' reply =
+    Unless (unload_fault s x w) (Then (FlushesSome (unload_entries all x.group)) (Answers (unload_answer x all))) w w'
+    reply
+
+-- so it is of the group at a place, in each world for which the tier stands, where the session has no open writes
+abbrev pub UnloadsHere : Stored → Stored → SiteState → SessionId → Aim → Bool → Reply → Type 0
+UnloadsHere t new site id aim all reply =
+    (s : Session) (w : World) (x : Target) → HasSession t id s → s.own ≡ [] → AsksWhole x all → IsAt site w
+    → StandsFor t w → slice_get w.tier.groups aim.place ≡ Some x.group → is_read_only x.group ≡ aim.read_only
+    → IsOfTarget x aim.place aim.which
+    → IsPerformed new site (λ w'. Tries (UnloadsTarget s x all) w w' reply)

@@ -1,0 +1,236 @@
+//! ALTER CACHE GROUP .. SET AUTOREFRESH STATE.
+
+ghost use Rattle.std.specs.Prelude.{◌≡◌, ◌<◌, ◌&&◌, ◌||◌, IfOk, length, true};
+ghost use Rattle.std.specs.List.{list_all};
+ghost use Rattle.sql_subset.specs.declared.stmt.Stmt.TheVariants as statement;
+ghost use Rattle.sql_subset.specs.declared.stmt.RefreshState.TheVariants.{On, Paused};
+ghost use Rattle.table_defs.specs.Declarations.{Tells};
+ghost use Rattle.group_catalog.specs.Catalogs.{groups_in};
+ghost use Rattle.group_catalog.specs.Kept.{group_seen};
+ghost use Rattle.cache_tier.specs.Groups.{is_explicit};
+ghost use Rattle.cache_tier.specs.Sets.{shows_something};
+ghost use Rattle.group_engine.specs.Altering.{alter_state, AimsAlterIn, AltersAlone, AltersHere, AltersWith};
+ghost use Rattle.group_rows.specs.Refreshing.{choice_of, is_off};
+ghost use Rattle.stored_tier.specs.Performing.{Executes, IsCalm, IsCaused, PerformsIn, reply_of};
+ghost use Rattle.outside.specs.Sites.{SiteState};
+ghost use Rattle.stored_tier.specs.Stored.{IsSound};
+
+use crate::aiming::{about, is_read_only, judge_writes};
+use crate::fresh::{read_fresh, show_fresh};
+use cache_tier::reply::Reply;
+use group_catalog::{Catalog, KeptGroup};
+use group_rows::refreshing::{Chosen, is_off, make_moment, note_moment, shows_something};
+use open_sessions::laws::label_law;
+use outside::Site;
+use row_types::Refused;
+use sql_subset::stmt::{Alter, RefreshState};
+use std::alloc::Global;
+use stored_tier::tier::Tier;
+use table_state::Op;
+use tier_base::{Code, SessionId};
+use tier_statements::{bank_fault, done};
+
+/// ALTER CACHE GROUP: the STATE of a READONLY group changes. To ON, its set is refreshed with it where something is
+/// shown; from OFF to PAUSED it alone is.
+///
+/// The refusal is 112, 115 of a writethrough group, 122; a failed call is 201; or memory was wanting. (TimesTen SQL
+/// Reference, "ALTER CACHE GROUP".)
+pub fn alter_group<P: Site>(
+    tier: &mut Tier,
+    alloc: Global,
+    site: &mut P,
+    id: SessionId,
+    alter: &Alter,
+) -> Result<Reply, Refused>
+    requires { IsSound tier.old }
+    ensures performs { PerformsIn tier.old tier.new
+        (P.Disk.state site.old)
+        (P.Disk.state site.new)
+        id (Executes (statement.Alter alter.now)) result }
+    ensures sound { IsSound tier.new }
+    ensures cause { IsCaused
+        (P.Disk.state site.old)
+        (P.Disk.state site.new)
+        (reply_of result) }
+{
+    match aim_alter(tier, alloc, id, alter) {
+        Err(refused) => Err(refused),
+        Ok(place) => alter_at(tier, alloc, site, place, alter.state),
+    }
+}
+
+// The place of the group that ALTER names, where nothing refuses it: 112; 115; 122. Or memory was wanting.
+fn aim_alter(tier: &Tier, alloc: Global, id: SessionId, alter: &Alter) -> Result<usize, Refused>
+    requires { IsSound tier.now }
+    ensures aims { AimsAlterIn tier.now id alter.now result }
+    ensures within { IfOk result (λ place. place < length (groups_in tier.now.catalog)) }
+{
+    label_law();
+    match tier.catalog.find(&alter.group) {
+        None => Err(about(alloc, Code::UnknownGroup, &alter.group)),
+        Some(place) => match tier.catalog.get(place) {
+            None => Err(Refused::Memory),
+            Some(group) => match judge_alter(alloc, group, tier.sessions.ops(id)) {
+                Err(refused) => Err(refused),
+                Ok(()) => Ok(place),
+            },
+        },
+    }
+}
+
+// The READONLY group at a place gets a STATE. It is 201 where the bank's call failed; or memory was wanting.
+fn alter_at<P: Site>(
+    tier: &mut Tier,
+    alloc: Global,
+    site: &mut P,
+    place: usize,
+    state: RefreshState,
+) -> Result<Reply, Refused>
+    requires sound { IsSound tier.old }
+    requires within { place < length (groups_in tier.old.catalog) }
+    ensures alters { AltersHere tier.old tier.new
+        (P.Disk.state site.old)
+        (P.Disk.state site.new)
+        state place (reply_of result) }
+    ensures sound { IsSound tier.new }
+    ensures cause { IsCaused
+        (P.Disk.state site.old)
+        (P.Disk.state site.new)
+        (reply_of result) }
+{
+    match state {
+        RefreshState::On => alter_to_on(tier, alloc, site, place),
+        RefreshState::Off => Ok(give_state(tier, alloc, place, RefreshState::Off)),
+        RefreshState::Paused => alter_to_paused(tier, alloc, site, place),
+    }
+}
+
+// It joins its set, which is refreshed with it, where there is something to show.
+fn alter_to_on<P: Site>(
+    tier: &mut Tier,
+    alloc: Global,
+    site: &mut P,
+    place: usize,
+) -> Result<Reply, Refused>
+    requires sound { IsSound tier.old }
+    requires within { place < length (groups_in tier.old.catalog) }
+    ensures alters { AltersHere tier.old tier.new
+        (P.Disk.state site.old)
+        (P.Disk.state site.new)
+        On place (reply_of result) }
+    ensures sound { IsSound tier.new }
+    ensures cause { IsCaused
+        (P.Disk.state site.old)
+        (P.Disk.state site.new)
+        (reply_of result) }
+{
+    let (joins, interval) = match tier.catalog.get(place) {
+        None => return Err(Refused::Memory),
+        Some(group) => (joins_something(&tier.catalog, group), group.def.interval),
+    };
+    if !joins {
+        return Ok(give_state(tier, alloc, place, RefreshState::On));
+    }
+    make_moment(&mut tier.clock.sets, interval)?;
+    note_moment(&mut tier.clock.sets, interval, tier.clock.now);
+    let chosen = Chosen::Joined(interval, Some(place));
+    Ok(alter_with(tier, alloc, site, place, chosen, RefreshState::On))
+}
+
+// Where it was OFF and is loaded, it alone is refreshed.
+fn alter_to_paused<P: Site>(
+    tier: &mut Tier,
+    alloc: Global,
+    site: &mut P,
+    place: usize,
+) -> Result<Reply, Refused>
+    requires sound { IsSound tier.old }
+    requires within { place < length (groups_in tier.old.catalog) }
+    ensures alters { AltersHere tier.old tier.new
+        (P.Disk.state site.old)
+        (P.Disk.state site.new)
+        Paused place (reply_of result) }
+    ensures sound { IsSound tier.new }
+    ensures cause { IsCaused
+        (P.Disk.state site.old)
+        (P.Disk.state site.new)
+        (reply_of result) }
+{
+    let leaves = match tier.catalog.get(place) {
+        None => return Err(Refused::Memory),
+        Some(group) => leaves_off(group),
+    };
+    if !leaves {
+        return Ok(give_state(tier, alloc, place, RefreshState::Paused));
+    }
+    let chosen = Chosen::OneAlone(place);
+    Ok(alter_with(tier, alloc, site, place, chosen, RefreshState::Paused))
+}
+
+// These groups are refreshed from one snapshot, and the group at the place gets a STATE.
+fn alter_with<P: Site>(
+    tier: &mut Tier,
+    alloc: Global,
+    site: &mut P,
+    place: usize,
+    chosen: Chosen,
+    state: RefreshState,
+) -> Reply
+    requires sound { IsSound tier.old }
+    requires within { place < length (groups_in tier.old.catalog) }
+    ensures alters { AltersWith tier.old tier.new
+        (P.Disk.state site.old)
+        (P.Disk.state site.new)
+        state place (choice_of chosen) result }
+    ensures sound { IsSound tier.new }
+    ensures cause { IsCaused
+        (P.Disk.state site.old)
+        (P.Disk.state site.new)
+        result }
+{
+    match read_fresh(tier, alloc, site, chosen, None) {
+        Err(error) => bank_fault(alloc, error),
+        Ok(fresh) => {
+            show_fresh(tier, chosen, fresh);
+            tier.catalog.with_state(place, state);
+            done(alloc, 0)
+        }
+    }
+}
+
+// The STATE of the group at a place changes, and nothing else.
+fn give_state(tier: &mut Tier, alloc: Global, place: usize, state: RefreshState) -> Reply
+    requires sound { IsSound tier.old }
+    requires within { place < length (groups_in tier.old.catalog) }
+    ensures alters { (site : SiteState) → AltersAlone tier.old tier.new site state place result }
+    ensures sound { IsSound tier.new }
+    ensures calm { IsCalm result }
+{
+    tier.catalog.with_state(place, state);
+    done(alloc, 0)
+}
+
+// 115 of a writethrough group, then 122.
+fn judge_alter(alloc: Global, group: &KeptGroup, own: &[Op]) -> Result<(), Refused>
+    ensures { Tells result (alter_state own.now (group_seen group.now)) }
+{
+    if !is_read_only(group) {
+        return Err(about(alloc, Code::WrongState, &group.def.name));
+    }
+    judge_writes(own)
+}
+
+// Whether there is something to show in a group's set, with the group in it.
+fn joins_something(catalog: &Catalog, group: &KeptGroup) -> bool
+    requires { list_all is_explicit (groups_in catalog.now) ≡ true }
+    ensures { result ≡ (group.now.loaded || shows_something group.now.def.interval (groups_in catalog.now)) }
+{
+    group.loaded || shows_something(catalog, group.def.interval)
+}
+
+// Whether a group that becomes PAUSED is refreshed: it is OFF, and loaded.
+fn leaves_off(group: &KeptGroup) -> bool
+    ensures { result ≡ (is_off group.now.state && group.now.loaded) }
+{
+    is_off(group.state) && group.loaded
+}

@@ -1,0 +1,153 @@
+//! LOAD and REFRESH of a writethrough group, behind the rules that refuse them and the round that comes first.
+
+ghost use Rattle.std.specs.Prelude.{◌≡◌, ◌∷◌, IfOk, map, option_copied, slice_get, true};
+ghost use Rattle.instances.specs.declared.tree.Child.{Child as OneChild};
+ghost use Rattle.cache_tier.specs.Groups.{is_writethrough};
+ghost use Rattle.cache_tier.specs.Targets.{Target};
+ghost use Rattle.group_engine.specs.Putting.{FillsAt, HasPlaceFor, GathersAt};
+ghost use Rattle.stored_tier.specs.Performing.{IsCaused, reply_of};
+ghost use Rattle.stored_tier.specs.Stored.{IsSound};
+ghost use Rattle.group_engine.specs.Taking.{AsksTree, IsOfTarget, IsSettledAt, PerformsWhere, ReadsMatching, TakesMatching};
+
+use cache_tier::reply::Reply;
+use group_catalog::ResolvedWhich;
+use group_rows::gathering::{Gathered, fill, gather};
+use group_store::Store;
+use instances::Tree;
+use outside::Site;
+use row_types::{Refused, Row};
+use std::alloc::{AllocError, Global};
+use stored_tier::tier::Tier;
+use table_state::Tables;
+use tier_base::{Seq, TableId};
+use tier_statements::{bank_fault, done};
+
+/// The writethrough group at a place gains the instances that match, of one snapshot; its flag is set. Nothing is
+/// unsettled. The reply tells how many came, or for a refresh how many match.
+///
+/// It is 120 where the condition is so on some backing root, and 201 where the bank's call failed; or memory was
+/// wanting.
+pub(crate) fn load_written<P: Site>(
+    tier: &mut Tier,
+    alloc: Global,
+    site: &mut P,
+    place: usize,
+    which: &ResolvedWhich,
+    refreshes: bool,
+) -> Result<Reply, Refused>
+    requires sound { IsSound tier.old }
+    ensures reads { (x : Target) → IsOfTarget x place which.now → is_writethrough x.group ≡ true
+        → PerformsWhere (IsSettledAt place x.group) tier.old tier.new
+        (P.Disk.state site.old)
+        (P.Disk.state site.new)
+        (λ w w'. ReadsMatching refreshes x w w' (reply_of result)) }
+    ensures sound { IsSound tier.new }
+    ensures cause { IsCaused
+        (P.Disk.state site.old)
+        (P.Disk.state site.new)
+        (reply_of result) }
+{
+    match tables_of_tree(tier, alloc, place) {
+        Err(_) => Err(Refused::Memory),
+        Ok(asked) => match site.snapshot(asked.as_slice()) {
+            Err(error) => Ok(bank_fault(alloc, error)),
+            Ok(snapshot) => {
+                take_matching(tier, alloc, place, which, refreshes, &snapshot.tables)
+            }
+        },
+    }
+}
+
+// The tables of the group at a place.
+fn tables_of_tree(tier: &Tier, alloc: Global, place: usize) -> Result<Vec<TableId>, Refused>
+    ensures { IfOk result (λ asked. AsksTree tier.now place asked.items) }
+{
+    match tier.catalog.get(place) {
+        None => Err(Refused::Memory),
+        Some(group) => Ok(tree_tables(alloc, &group.def.tree)?),
+    }
+}
+
+// The group at a place takes in what matches of these tables, and is loaded; all memory comes first.
+fn take_matching(
+    tier: &mut Tier,
+    alloc: Global,
+    place: usize,
+    which: &ResolvedWhich,
+    refreshes: bool,
+    tables: &Tables,
+) -> Result<Reply, Refused>
+    requires { IsSound tier.old }
+    ensures { TakesMatching tier.old tier.new place which.now refreshes tables.now result }
+{
+    match gather_at(tier, alloc, place, which, refreshes, tables) {
+        Err(refused) => Err(refused),
+        Ok(gathered) => {
+            let count = gathered.count;
+            match fill_at(alloc, &mut tier.stores, place, gathered.into_rows()) {
+                Err(_) => Err(Refused::Memory),
+                Ok(()) => {
+                    tier.catalog.with_loaded(place, true);
+                    tier.verified = false;
+                    Ok(done(alloc, count))
+                }
+            }
+        }
+    }
+}
+
+// What the group at a place takes from these tables.
+fn gather_at(
+    tier: &Tier,
+    alloc: Global,
+    place: usize,
+    which: &ResolvedWhich,
+    refreshes: bool,
+    tables: &Tables,
+) -> Result<Gathered, Refused>
+    ensures { GathersAt tier.now place which.now refreshes tables.now result }
+{
+    match tier.catalog.get(place) {
+        None => Err(Refused::Memory),
+        Some(group) => match store_at(tier.stores.as_slice(), place) {
+            None => Err(Refused::Memory),
+            Some(store) => gather(alloc, tables, &group.def.tree, store, which, refreshes),
+        },
+    }
+}
+
+// The tables of a tree, the root's first.
+fn tree_tables(alloc: Global, tree: &Tree) -> Result<Vec<TableId>, AllocError>
+    ensures { IfOk result (λ tables. tables.items
+        ≡ tree.now.root.table ∷ map (λ (c : OneChild). c.table) tree.now.children) }
+{
+    let mut tables = Vec::new(alloc);
+    tables.push(tree.root.table)?;
+    for child in tree.children.as_slice() {
+        tables.push(child.table)?;
+    }
+    Ok(tables)
+}
+
+fn store_at(stores: &[Store], place: usize) -> Option<&Store>
+    ensures { option_copied result ≡ slice_get stores.now place }
+{
+    stores.get(place)
+}
+
+// Puts these rows into the store at a place, all memory first.
+fn fill_at(
+    alloc: Global,
+    stores: &mut Vec<Store>,
+    place: usize,
+    rows: Seq<Seq<Row>>,
+) -> Result<(), Refused>
+    requires { HasPlaceFor place rows stores.old.items }
+    ensures { FillsAt place rows stores.old.items stores.new.items result }
+{
+    if place < stores.len() {
+        fill(alloc, &mut stores[place], rows)
+    } else {
+        Err(Refused::Memory)
+    }
+}

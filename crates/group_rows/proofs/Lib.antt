@@ -1,0 +1,5 @@
+pub mod FillSteps
+pub mod GatherLaws
+pub mod PutLaws
+pub mod RefreshSteps
+pub mod StoreForms

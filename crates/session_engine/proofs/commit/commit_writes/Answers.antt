@@ -1,0 +1,82 @@
+use Rattle.std.proofs.Common.{◌≡◌, ◌∙◌, ◌++◌, ◌∷◌, [], Err, ap, refl, rules, subst, sym}
+use Rattle.cache_tier.specs.declared.reply.Last.TheVariants.{Done}
+use Rattle.cache_tier.specs.Worlds.{only}
+use Rattle.stored_tier.specs.Answering.{Replies}
+use Rattle.table_state.specs.declared.history.Sealed.{Sealed}
+use Rattle.group_catalog.specs.Catalogs.{groups_in}
+use Rattle.open_sessions.specs.Lookups.{open_ops}
+use Rattle.open_sessions.specs.Opening.{seen_all}
+use Rattle.stored_tier.specs.declared.tier.Tier.{Tier as Stored}
+use Rattle.session_engine.specs.Committing.{are_deferred, are_housed, bare_all, commit_answer, commit_fault, ops_at}
+use Rattle.session_engine.proofs.KindLaws.{later_sealed}
+use Rattle.session_engine.proofs.AppliedLaws.{applied_behind}
+use Rattle.session_engine.proofs.CommitPerformed.{rise_sealed, sound_roomed, sound_written}
+use Rattle.stored_tier.proofs.QuietLaws.{calm_done}
+use Rattle.session_engine.proofs.CommitLaws.{refused_stays, stored_behind_commit}
+use Rattle.session_engine.proofs.commit.commit_writes.Goals as goal
+
+pub returns-in_err-judge_commit-clause-answers : goal.returns-in_err-judge_commit-clause-answers
+returns-in_err-judge_commit-clause-answers c = λ a s is has.
+    let told : Err c.in_err-judge_commit.field-0.0 ≡ c.from_residual.result = Prim.search rules in
+    subst (Replies c.args.tier.now a (commit_fault s a) (commit_answer s a)) told
+    (refused_stays c.args.tier.now a (commit_fault s a) (commit_answer s a) c.in_err-judge_commit.field-0.0 is
+    (c.in_err-judge_commit.ensures.told a s is))
+
+pub returns-clause-answers : goal.returns-clause-answers
+returns-clause-answers c =
+    let same = c.note_verified.ensures.same in λ a s is has. (
+      c.in_ok-judge_commit.ensures.told a s is,
+      stored_behind_commit c.label_law.ensures.number c.label_law.ensures.change c.args.tier.now c.note_verified.new.tier a
+          c.args.id s c.requires.sound is has (ap (λ (t : Stored). t.schema) same) (ap (λ (t : Stored). t.stale) same)
+          (ap (λ (t : Stored). t.catalog) same)
+          (ap (λ (t : Stored). seen_all t.sessions) same ∙ c.rest.ensures.seen c.args.tier.now.schema c.requires.sound.sessions)
+          (ap (λ (t : Stored). t.unsettled.items) same ∙ c.in_ok-let_wait.ensures.ok
+          ∙ ap (λ x. c.args.tier.now.unsettled.items ++ x ∷ []) c.in_ok-sealed.ensures)
+          (ap (λ (t : Stored). t.next) same) (ap (λ (t : Stored). t.clock) same),
+      c.done.ensures ∙ ap (λ n. only (Done n)) (sym is.next),
+    )
+
+pub returns-clause-stores : goal.returns-clause-stores
+returns-clause-stores c =
+    let copies = c.in_ok-ops.ensures ∙ c.ops.ensures in
+    let room = c.in_ok-reserve_all.ensures.same in
+    ap (λ (t : Stored). bare_all t.stores.items) c.note_verified.ensures.same
+    ∙ c.store_ops.ensures ∙ (λ i. ops_at c.args.tier.now.directory (copies i) (room i))
+
+pub returns-clause-calm : goal.returns-clause-calm
+returns-clause-calm c = calm_done c.args.tier.now.next c.done.result c.done.ensures
+
+pub returns-in_err-reserve_all-clause-sound : goal.returns-in_err-reserve_all-clause-sound
+returns-in_err-reserve_all-clause-sound c =
+    sound_roomed c.args.tier.now _ c.requires.sound (record { schema = refl; catalog = refl; directory = refl; visible = refl })
+    c.in_err-reserve_all.ensures.same refl refl refl refl
+
+pub returns-in_err-let_wait-clause-sound : goal.returns-in_err-let_wait-clause-sound
+returns-in_err-let_wait-clause-sound c =
+    sound_roomed c.args.tier.now _ c.requires.sound (record { schema = refl; catalog = refl; directory = refl; visible = refl })
+    c.in_ok-reserve_all.ensures.same refl c.in_err-let_wait.ensures.err refl refl
+
+pub note_verified-requires-clause-sound : goal.note_verified-requires-clause-sound
+note_verified-requires-clause-sound c =
+    let own = open_ops c.args.id (seen_all c.args.tier.now.sessions) in
+    let copies = c.in_ok-ops.ensures ∙ c.ops.ensures in
+    let room = c.in_ok-reserve_all.ensures.same in
+    sound_written c.args.tier.now _ own c.requires.sound (record { schema = refl; catalog = refl; directory = refl; visible = refl })
+    (c.store_ops.ensures ∙ (λ i. ops_at c.args.tier.now.directory (copies i) (room i)))
+    (c.rest.ensures.sound c.args.tier.now.schema c.requires.sound.sessions)
+    (rise_sealed c.args.tier.now.unsettled.items _ _ c.args.tier.now.next own c.requires.sound.numbered c.in_ok-let_wait.ensures.ok
+    c.in_ok-sealed.ensures)
+    (later_sealed (groups_in c.args.tier.now.catalog) c.args.tier.now.unsettled.items _ _ c.requires.sound.later c.in_ok-let_wait.ensures.ok
+    (ap (λ (x : Sealed). are_deferred (groups_in c.args.tier.now.catalog) x.ops) c.in_ok-sealed.ensures
+    ∙ c.requires.deferred))
+    refl
+
+pub note_verified-requires-clause-known : goal.note_verified-requires-clause-known
+note_verified-requires-clause-known c = λ yes.
+    let copies = c.in_ok-ops.ensures ∙ c.ops.ensures in
+    let room = c.in_ok-reserve_all.ensures.same in
+    let slice = c.as_slice.ensures ∙ copies in
+    applied_behind c.args.tier.now _ c.args.id c.requires.sound (c.is_verified_for-known.ensures.verified yes)
+    (sym (ap (are_housed c.args.tier.now.directory) slice) ∙ c.is_verified_for-known.ensures.housed yes) refl
+    (c.store_ops.ensures ∙ (λ i. ops_at c.args.tier.now.directory (copies i) (room i)))
+    (c.rest.ensures.seen c.args.tier.now.schema c.requires.sound.sessions)

@@ -1,0 +1,58 @@
+-- A transaction of which nobody knows whether it came. (TimesTen Cache User's Guide, "Synchronous writethrough"; that
+-- its ticket is in doubt until the backing database has told is this project's rule.)
+
+use Rattle.std.specs.Prelude.{◌≡◌, ◌+◌, ◌≤◌, ◌^◌, [], Option, Some, None, true, Result, Err}
+use Rattle.tier_base.specs.declared.number.SessionId.{SessionId}
+use Rattle.row_types.specs.declared.rule.Refused.{Refused}
+use Rattle.outside.specs.Bank.{AppliesOnce}
+use Rattle.outside.specs.Sites.{SiteState}
+use Rattle.outside.specs.declared.fault.BankError.TheVariants.{Failed}
+use Rattle.cache_tier.specs.CommitSteps.{after_applied, sealed_own}
+use Rattle.cache_tier.specs.Groups.{is_synchronous}
+use Rattle.cache_tier.specs.PassedSteps.{with_ticket}
+use Rattle.cache_tier.specs.TierStates.{Session}
+use Rattle.cache_tier.specs.Worlds.{BankCall, IsUnshared, Part, World}
+use Rattle.cache_tier.specs.declared.reply.Reply.{Reply}
+use Rattle.stored_tier.specs.declared.tier.Tier.{Tier as Stored}
+use Rattle.stored_tier.specs.Performing.{StandsFor, reply_of}
+use Rattle.stored_tier.specs.Sites.{IsAt}
+use Rattle.stored_tier.specs.Stored.{HasSession, are_on}
+use Rattle.session_engine.specs.declared.doubt.Doubt.{Doubt}
+
+-- The commit of a session is in doubt in this world: it came of one for which the tier stood, but for the ticket, by a
+-- call that failed. The session's writes are on tables of synchronous groups.
+pub record IsInDoubt (t : Stored) (d : Doubt) (w : World) : Type 0 where
+  pub was : World
+  pub stands : StandsFor (record t { next = d.ticket }) was
+  pub unshared : IsUnshared was
+  pub session : Session
+  pub has : HasSession t d.session session
+  pub on : are_on is_synchronous was.tier.groups session.own ≡ true
+  pub next : t.next ≡ d.ticket + 1
+  pub room : d.ticket + 1 ≤ 2 ^ 63
+  pub call : BankCall (AppliesOnce (sealed_own was.tier session) [] (Err Failed)) was w
+  pub tier : w.tier ≡ after_applied (sealed_own was.tier session) session.label (Err Failed) (with_ticket was.tier)
+
+-- the tier stands for the world's, or a commit is in doubt there
+abbrev pub IsLeft : Stored → Option Doubt → World → Type 0
+IsLeft t None w = StandsFor t w
+IsLeft t (Some d) w = IsInDoubt t d w
+
+-- a world at the site behind, in which the new tier is left so, and which comes so
+pub record IsEnded (new : Stored) (doubt : Option Doubt) (site : SiteState) (does : World → Type 0) : Type 0 where
+  pub world : World
+  pub at : IsAt site world
+  pub left : IsLeft new doubt world
+  pub is : does world
+
+-- For each world at the site before, for which the old tier stands, and in which others leave the tables of writethrough
+-- groups alone.
+abbrev pub Ends : Stored → Stored → Option Doubt → SiteState → SiteState → (World → World → Type 0) → Type 0
+Ends old new doubt before behind does =
+    (w : World) → IsAt before w → StandsFor old w → IsUnshared w → IsEnded new doubt behind (does w)
+
+-- so it is of a part of a session's line, where the session has this number
+abbrev pub EndsIn : Stored → Stored → Option Doubt → SiteState → SiteState → SessionId → (Session → Part)
+    → Result Reply Refused → Type 0
+EndsIn old new doubt before behind id part result =
+    (s : Session) → HasSession old id s → Ends old new doubt before behind (λ w w'. part s w w' (reply_of result))

@@ -1,0 +1,6 @@
+pub mod AtOnce
+pub mod Changing
+pub mod Committing
+pub mod Doubting
+pub mod Inserting
+pub mod Selecting

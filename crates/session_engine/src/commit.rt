@@ -1,0 +1,143 @@
+//! COMMIT of a transaction whose groups are ASYNCHRONOUS WRITETHROUGH, where there is no journal.
+
+ghost use Rattle.std.specs.Prelude.{◌≡◌, ◌≤◌, ◌++◌, ◌∷◌, [], OnErr, OnOk, length, true};
+ghost use Rattle.row_types.specs.declared.rule.Refused.TheVariants as refused;
+ghost use Rattle.table_defs.specs.Declarations.{Tells};
+ghost use Rattle.cache_tier.specs.Rules.{past};
+ghost use Rattle.group_catalog.specs.Catalogs.{groups_in};
+ghost use Rattle.open_sessions.specs.Lookups.{open_ops};
+ghost use Rattle.open_sessions.specs.Opening.{seen_all};
+ghost use Rattle.cache_tier.specs.TierStates.{Session as OneSession, Tier as AbstractTier};
+ghost use Rattle.session_engine.specs.Committing.{HaveRoomFor, are_deferred, bare_all, commit_answer, commit_fault, is_deferred, ops_at, StoresOps};
+ghost use Rattle.stored_tier.specs.Answering.{AnswersIn};
+ghost use Rattle.stored_tier.specs.Performing.{IsCalm, reply_of};
+ghost use Rattle.stored_tier.specs.Stored.{IsSound, IsStoredAs};
+
+use crate::noting::{is_verified_for, note_verified};
+use cache_tier::reply::Reply;
+use group_catalog::Catalog;
+use group_store::{Directory, Home, Store};
+use open_sessions::laws::label_law;
+use row_types::{Detail, Refused, Rule};
+use std::alloc::{AllocError, Global};
+use std::collections::VecDeque;
+use stored_tier::tier::Tier;
+use table_state::{Op, Ops, Sealed, copied_ops};
+use tier_base::{Code, Limit, SessionId, TableId, Ticket};
+use tier_statements::done;
+
+/// COMMIT of an open session that has written tables of ASYNCHRONOUS WRITETHROUGH groups: the writes get the next
+/// ticket and wait for the backing database, the stores do them, and the transaction ends. Other sessions' writes
+/// still apply then, as no two conflict; no row is looked at for that.
+///
+/// The refusal is 119 where 4,096 transactions wait, then 119 where no ticket is left; or memory was wanting. All
+/// then stays. (TimesTen Cache User's Guide: asynchronous writethrough cache groups.)
+pub fn commit_writes(tier: &mut Tier, alloc: Global, id: SessionId) -> Result<Reply, Refused>
+    requires sound { IsSound tier.old }
+    requires deferred { are_deferred (groups_in tier.old.catalog) (open_ops id (seen_all tier.old.sessions)) ≡ true }
+    ensures answers { AnswersIn tier.old tier.new id commit_fault commit_answer result }
+    ensures stores { StoresOps tier.old tier.new id result }
+    ensures sound { IsSound tier.new }
+    ensures calm { IsCalm (reply_of result) }
+{
+    label_law();
+    judge_commit(tier)?;
+    let sealed = tier.sessions.seal(alloc, id, Ticket(tier.next))?;
+    let ops = copied_ops(alloc, tier.sessions.ops(id))?;
+    reserve_all(alloc, &mut tier.stores, ops.len())?;
+    let_wait(&mut tier.unsettled, sealed)?;
+    let known = is_verified_for(tier, ops.as_slice());
+    tier.verified = false;
+    store_ops(&mut tier.stores, &tier.directory, ops);
+    tier.sessions.rest(id);
+    let ticket = tier.next;
+    tier.next = ticket + 1;
+    note_verified(tier, known);
+    Ok(done(alloc, ticket))
+}
+
+// 119 of the transactions that wait, then of the tickets.
+fn judge_commit(tier: &Tier) -> Result<(), Refused>
+    ensures told { (a : AbstractTier) (s : OneSession) → IsStoredAs tier.now a
+        → Tells result (commit_fault s a) }
+    ensures fits { OnOk result (tier.now.next ≤ 9223372036854775807) }
+{
+    if tier.unsettled.len() >= 4096 {
+        return Err(past(Limit::Pending));
+    }
+    if tier.next > 9_223_372_036_854_775_807 {
+        return Err(past(Limit::Tickets));
+    }
+    Ok(())
+}
+
+/// Whether a session has written tables of ASYNCHRONOUS WRITETHROUGH groups alone.
+pub fn may_wait(tier: &Tier, id: SessionId) -> bool
+    ensures { result ≡ are_deferred (groups_in tier.now.catalog) (open_ops id (seen_all tier.now.sessions)) }
+{
+    are_deferred(&tier.catalog, tier.sessions.ops(id))
+}
+
+// Whether each operation is on a table of an ASYNCHRONOUS WRITETHROUGH group, and of no synchronous one.
+fn are_deferred(catalog: &Catalog, ops: &[Op]) -> bool
+    ensures { result ≡ are_deferred (groups_in catalog.now) ops.now }
+{
+    ops.iter().all(|op| is_deferred(catalog, op.table()))
+}
+
+fn is_deferred(catalog: &Catalog, table: TableId) -> bool
+    ensures { result ≡ is_deferred (groups_in catalog.now) table }
+{
+    catalog.is_written_through(table) && !catalog.is_synchronous(table)
+}
+
+/// 119 of a limit.
+pub fn past(limit: Limit) -> Refused
+    ensures { result ≡ refused.Rule (past limit) }
+{
+    Refused::Rule(Rule {
+        code: Code::Limit,
+        detail: Detail::Limit(limit),
+    })
+}
+
+// The transaction waits behind the others. It fails for want of memory alone.
+fn let_wait(unsettled: &mut VecDeque<Sealed>, sealed: Sealed) -> Result<(), AllocError>
+    ensures ok { OnOk result (unsettled.new.items ≡ unsettled.old.items ++ sealed ∷ []) }
+    ensures err { OnErr result (unsettled.new.items ≡ unsettled.old.items) }
+{
+    unsettled.push_back(sealed)?;
+    Ok(())
+}
+
+/// Makes room for so many rows in each store. It fails for want of memory alone, and no row changes.
+pub(crate) fn reserve_all(
+    alloc: Global,
+    stores: &mut Vec<Store>,
+    more: usize,
+) -> Result<(), AllocError>
+    ensures same { bare_all stores.new.items ≡ bare_all stores.old.items }
+    ensures room { OnOk result (HaveRoomFor more stores.new.items) }
+{
+    for number in 0..stores.len() {
+        stores[number].reserve(alloc, more)?;
+    }
+    Ok(())
+}
+
+/// The stores do operations, one after another. It takes no memory.
+pub(crate) fn store_ops(stores: &mut Vec<Store>, directory: &Directory, ops: Ops)
+    requires { HaveRoomFor (length ops) stores.old.items }
+    ensures { bare_all stores.new.items ≡ ops_at directory.now ops (bare_all stores.old.items) }
+{
+    for op in ops.into_vec() {
+        match directory.home(op.table()) {
+            None => {}
+            Some(Home { store, place: _ }) => {
+                if store < stores.len() {
+                    stores[store].apply(op);
+                }
+            }
+        }
+    }
+}

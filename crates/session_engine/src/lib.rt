@@ -1,0 +1,13 @@
+//! The statements of sessions on rows: queries, writes, and the ends of transactions.
+#![tactic(auto)]
+
+pub mod at_once;
+pub mod commit;
+pub mod doubt;
+pub mod holding;
+pub mod inserting;
+pub mod noting;
+pub mod preparing;
+pub mod query;
+pub mod resting;
+pub mod writing;

@@ -1,0 +1,159 @@
+//! SELECT.
+
+ghost use Rattle.std.specs.Prelude.{◌≡◌, [], IfErr, IfOk, true};
+ghost use Rattle.std.specs.List.{list_all, list_any};
+ghost use Rattle.resolution.specs.Queries.{query_seen};
+ghost use Rattle.tier_statements.specs.Answering.{IsAnswerTo};
+ghost use Rattle.group_catalog.specs.Catalogs.{groups_in};
+ghost use Rattle.cache_tier.specs.Groups.{definitions_of, is_defined_on};
+ghost use Rattle.cache_tier.specs.Routes.{is_cached, visible};
+ghost use Rattle.cache_tier.specs.Shown.{seen_by};
+ghost use Rattle.cache_tier.specs.TierStates.{Session as OneSession, Tier as AbstractTier, level_of};
+ghost use Rattle.cache_tier.specs.Worlds.{World};
+ghost use Rattle.session_engine.specs.Selecting.{query_reply, HasNoDynamic, SelectsHere};
+ghost use Rattle.session_engine.specs.declared.query.Selected.TheVariants.{Answered};
+ghost use Rattle.stored_tier.specs.Performing.{IsCalm, reply_of};
+ghost use Rattle.stored_tier.specs.Stored.{HasSession, IsSound, IsStoredAs, ShowsRows};
+
+use cache_tier::laws::tier_law;
+use cache_tier::reply::Reply;
+use group_catalog::Catalog;
+use group_store::Shown;
+use open_sessions::laws::label_law;
+use resolution::{ResolvedQuery, resolve_query};
+use row_types::Refused;
+use sql_query::Query;
+use std::alloc::Global;
+use stored_tier::tier::Tier;
+use table_defs::BackingSchema;
+use table_scan::laws::keyed_law;
+use tier_base::{SessionId, TableId};
+use tier_statements::answer_query;
+
+/// What becomes of a query that breaks no rule of its names.
+#[derive(Drop)]
+pub enum Selected {
+    /// It is answered in the cache.
+    Answered(Reply),
+    /// It is for the backing database, whole.
+    PassedOn(ResolvedQuery),
+}
+
+/// SELECT of an open session: it is answered in the cache, over what the session sees; or it is for the backing
+/// database, at level 3 and where a table isn't cached. The tier stays as it is.
+///
+/// The refusal is the first broken rule: that of its names over the tables that the session's level lets it see, or
+/// what the evaluator tells of it; or memory was wanting. (TimesTen SQL Reference, "SELECT"; TimesTen Cache User's
+/// Guide, "Setting a passthrough level".)
+pub fn select_rows(
+    tier: &Tier,
+    alloc: Global,
+    id: SessionId,
+    query: &Query,
+) -> Result<Selected, Refused>
+    requires sound { IsSound tier.now }
+    requires verified { tier.now.verified ≡ true }
+    requires simple { query.now.groups ≡ [] }
+    ensures calm { IsCalm (reply_of (query_reply result)) }
+    ensures selects { (w : World) (s : OneSession) → IsStoredAs tier.now w.tier → ShowsRows tier.now w
+        → HasNoDynamic w.tier → HasSession tier.now id s → SelectsHere tier.now s query.now w result }
+{
+    let level = level(tier, id);
+    let resolved = resolve_query(alloc, names(tier, level), query)?;
+    if level < 3 && has_all(tier, tables_of(&resolved)) {
+        answered(answer(tier, alloc, id, &resolved))
+    } else {
+        Ok(Selected::PassedOn(resolved))
+    }
+}
+
+// The level of passthrough that counts for a session now; 0 where no session has the number.
+pub(crate) fn level(tier: &Tier, id: SessionId) -> u8
+    requires { IsSound tier.now }
+    ensures { (s : OneSession) → HasSession tier.now id s → result ≡ level_of s }
+{
+    label_law();
+    match tier.sessions.level(id) {
+        Some(level) => level,
+        None => 0,
+    }
+}
+
+// The tables as a session of this level sees them.
+pub(crate) fn names(tier: &Tier, level: u8) -> &BackingSchema
+    requires { IsSound tier.now }
+    ensures { (a : AbstractTier) → IsStoredAs tier.now a → result.now ≡ visible level a }
+{
+    if level == 0 {
+        &tier.visible
+    } else {
+        &tier.schema
+    }
+}
+
+// Whether each of these tables is cached.
+fn has_all(tier: &Tier, tables: &[TableId]) -> bool
+    ensures { (a : AbstractTier) → IsStoredAs tier.now a → result ≡ list_all (is_cached a) tables.now }
+{
+    have_all(&tier.catalog, tables)
+}
+
+// The answer to a query over what a session sees.
+fn answer(
+    tier: &Tier,
+    alloc: Global,
+    id: SessionId,
+    query: &ResolvedQuery,
+) -> Result<Reply, Refused>
+    requires sound { IsSound tier.now }
+    requires verified { tier.now.verified ≡ true }
+    ensures calm { IsCalm (reply_of result) }
+    ensures answers { (w : World) (s : OneSession) → ShowsRows tier.now w → HasSession tier.now id s
+        → IsAnswerTo query.now (seen_by s w.history w.tier) result }
+{
+    keyed_law();
+    label_law();
+    tier_law();
+    let shown = Shown::new(&tier.schema, tier.stores.as_slice(), &tier.directory);
+    let seen = tier.sessions.overlay(id, &shown);
+    answer_query(alloc, &seen, query)
+}
+
+// Whether a group has each of these tables.
+fn have_all(catalog: &Catalog, tables: &[TableId]) -> bool
+    ensures { result ≡ list_all (λ table. list_any (is_defined_on table) (definitions_of (groups_in catalog.now)))
+        tables.now }
+{
+    tables.iter().all(|table| catalog.has_table(*table))
+}
+
+// A reply as an answer in the cache.
+fn answered(answer: Result<Reply, Refused>) -> Result<Selected, Refused>
+    ensures ok { IfOk answer (λ reply. result ≡ Ok (Answered reply)) }
+    ensures err { IfErr answer (λ error. result ≡ Err error) }
+{
+    match answer {
+        Ok(reply) => Ok(Selected::Answered(reply)),
+        Err(refused) => Err(refused),
+    }
+}
+
+fn tables_of(query: &ResolvedQuery) -> &[TableId]
+    ensures { result.now ≡ (query_seen query.now).tables }
+{
+    match query {
+        ResolvedQuery::Rows(plan) => plan.tables.as_slice(),
+        ResolvedQuery::Totals(_, plan) => plan.tables.as_slice(),
+    }
+}
+
+/// The reply to a query that is answered in the cache. One that is for the backing database isn't done yet.
+pub(crate) fn reply_to_query(selected: Result<Selected, Refused>) -> Result<Reply, Refused>
+    ensures { result ≡ query_reply selected }
+{
+    match selected {
+        Err(refused) => Err(refused),
+        Ok(Selected::Answered(reply)) => Ok(reply),
+        Ok(Selected::PassedOn(_)) => Err(Refused::Memory),
+    }
+}

@@ -1,0 +1,113 @@
+//! INSERT, UPDATE and DELETE of a session.
+
+ghost use Rattle.std.specs.Prelude.{◌≡◌};
+ghost use Rattle.std.specs.List.{list_all};
+ghost use Rattle.sql_subset.specs.declared.stmt.Stmt.TheVariants as statement;
+ghost use Rattle.transactions.specs.Transactions.{rows_in};
+ghost use Rattle.session_engine.specs.Changing.{is_change, Changed, IsUnbroken};
+ghost use Rattle.stored_tier.specs.Performing.{Executes, IsCalm, IsCaused, PerformsIn, reply_of};
+ghost use Rattle.stored_tier.specs.Stored.{IsSound};
+
+use crate::holding::hold;
+use crate::inserting::insert_rows;
+use crate::preparing::{Prepared, prepare};
+use cache_tier::laws::tier_law;
+use cache_tier::reply::Reply;
+use open_sessions::laws::label_law;
+use outside::Site;
+use row_types::Refused;
+use sql_query::Write;
+use std::alloc::Global;
+use stored_tier::tier::Tier;
+use table_state::Op;
+use tier_base::{SessionId, TableId};
+use tier_laws::use_shown_law;
+use tier_statements::done;
+
+/// INSERT, UPDATE and DELETE of an open session, in the cache: its operations stand behind the session's own, and hold
+/// the keys that they write and the parents that they name, until the transaction ends. The reply tells how many rows
+/// of the named table they write. The bank is asked for the key of an INSERT that isn't shown.
+///
+/// The refusal is the first broken rule: 102, 103; 118, 104, 105; 121, 110, 117; row by row 120, 105, 106; 119 of the
+/// operations; 111 with the holder of a key; 107, 108, 109. It is 201 where the bank's call failed; or memory was
+/// wanting. All then stays. (TimesTen SQL Reference, "INSERT", "UPDATE", "DELETE"; TimesTen Cache User's Guide,
+/// writethrough cache groups; the codes and their order are this project's rule.)
+pub fn write_rows<P: Site>(
+    tier: &mut Tier,
+    alloc: Global,
+    site: &mut P,
+    id: SessionId,
+    write: &Write,
+) -> Result<Reply, Refused>
+    requires { IsSound tier.old }
+    ensures performs { PerformsIn tier.old tier.new
+        (P.Disk.state site.old)
+        (P.Disk.state site.new)
+        id (Executes (statement.Write write.now)) result }
+    ensures sound { IsSound tier.new }
+    ensures cause { IsCaused
+        (P.Disk.state site.old)
+        (P.Disk.state site.new)
+        (reply_of result) }
+{
+    tier_law();
+    label_law();
+    use_shown_law();
+    match tier.verify(alloc) {
+        Err(_) => Err(Refused::Memory),
+        Ok(()) => match prepare(tier, alloc, id, write) {
+            Err(refused) => Err(refused),
+            Ok(prepared) => {
+                if are_changes(prepared.ops.as_slice()) {
+                    change(tier, alloc, id, prepared)
+                } else {
+                    insert_rows(tier, alloc, site, id, prepared)
+                }
+            }
+        },
+    }
+}
+
+/// Operations go behind the session's own.
+pub(crate) fn change(
+    tier: &mut Tier,
+    alloc: Global,
+    id: SessionId,
+    prepared: Prepared,
+) -> Result<Reply, Refused>
+    requires sound { IsSound tier.old }
+    requires unbroken { IsUnbroken tier.old id prepared.ops }
+    ensures changed { Changed tier.old tier.new id prepared result }
+    ensures sound { IsSound tier.new }
+    ensures calm { IsCalm (reply_of result) }
+{
+    let rows = rows_in(prepared.table, prepared.ops.as_slice());
+    match hold(tier, alloc, id, prepared.ops) {
+        Err(_) => Err(Refused::Memory),
+        Ok(()) => Ok(done(alloc, rows as u64)),
+    }
+}
+
+// How many of the operations are on a table.
+fn rows_in(table: TableId, ops: &[Op]) -> usize
+    ensures { result ≡ rows_in table ops.now }
+{
+    ops.iter().filter(|op| op.table().0 == table.0).count()
+}
+
+// Whether no operation inserts a row.
+fn are_changes(ops: &[Op]) -> bool
+    ensures { result ≡ list_all is_change ops.now }
+{
+    ops.iter().all(|op| is_change(op))
+}
+
+fn is_change(op: &Op) -> bool
+    ensures { result ≡ is_change op.now }
+{
+    match op {
+        Op::Insert(_, _) => false,
+        Op::Update(_, _, _) => true,
+        Op::Delete(_, _) => true,
+    }
+}

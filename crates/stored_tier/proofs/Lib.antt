@@ -1,0 +1,16 @@
+pub mod BankLaws
+pub mod DrainLaws
+pub mod LaterLaws
+pub mod NamingLaws
+pub mod OwnSeen
+pub mod QuietLaws
+pub mod RoundLaws
+pub mod SeenLaws
+pub mod SessionLaws
+pub mod SettlingLaws
+pub mod SoundParts
+pub mod StandingLaws
+pub mod StoreChanges
+pub mod StoreLists
+pub mod StoreRows
+pub mod VerifyLaws

@@ -1,0 +1,29 @@
+//! The tier's clock, and when what is due was done last.
+
+use group_rows::moments::SetMoment;
+
+/// The tier's clock, and when what is due was done last. Moments are in milliseconds since 1970.
+pub struct TierClock {
+    /// The tier's moment.
+    pub now: u64,
+    /// The sum of the console's additions.
+    pub added: u64,
+    /// The moment of the last round tried, or of the opening.
+    pub round: u64,
+    /// The last refresh of each set of READONLY groups that was refreshed.
+    pub sets: Vec<SetMoment>,
+    /// After how many milliseconds a round is due; 0 where none ever is.
+    pub propagate_ms: u64,
+}
+
+impl Drop for TierClock {
+    fn drop(self) {
+        let Self {
+            now: _,
+            added: _,
+            round: _,
+            sets: _,
+            propagate_ms: _,
+        } = self;
+    }
+}

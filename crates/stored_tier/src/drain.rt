@@ -1,0 +1,155 @@
+//! Rounds of propagation, and ttDrain.
+
+ghost use Rattle.std.specs.Prelude.{◌≡◌, [], IfOk, OnOk};
+ghost use Rattle.row_types.specs.declared.rule.Detail.TheVariants as detail;
+ghost use Rattle.cache_tier.specs.Rounds.{Drains, Round, RoundIfUnsettled};
+ghost use Rattle.cache_tier.specs.Worlds.{Tries};
+ghost use Rattle.tier_base.specs.declared.code.Code.TheVariants as code;
+
+use crate::tier::Tier;
+use cache_tier::reply::{Last, Reply};
+use outside::Site;
+use propagators::laws::{follow_law, left_law};
+use propagators::{RoundFault, round};
+use row_types::{Detail, Key, Rule};
+use std::alloc::{AllocError, Global};
+use tier_base::{Code, Name, TableId};
+use tier_laws::round_shown_law;
+use tier_statements::{done, faulty, only};
+
+impl Tier {
+    ghost use Rattle.stored_tier.specs.Draining.{SettlesAll, settled_reply};
+    ghost use Rattle.stored_tier.specs.Performing.{IsCaused, IsStopCaused, Performs, stop_of};
+    ghost use Rattle.stored_tier.specs.Refusing.{TellsRoundEnd};
+    ghost use Rattle.stored_tier.specs.Stored.{IsSound};
+
+    /// CALL ttDrain: the unsettled transactions are applied at the bank, in ticket order. The reply tells how many got
+    /// their receipt; nothing is unsettled then.
+    ///
+    /// It is 201 where a call of the bank failed, 210 with the table and the key of a row that isn't as the transaction
+    /// says, and 299 where memory was wanting; then those stay unsettled that have no receipt. (TimesTen Cache User's
+    /// Guide, asynchronous writethrough; the call and its codes are this project's rule.)
+    pub fn drain<P: Site>(&mut self, alloc: Global, site: &mut P) -> Reply
+        requires { IsSound self.old }
+        ensures performs { Performs self.old self.new
+            (P.Disk.state site.old)
+            (P.Disk.state site.new)
+            (λ w w'. Tries Drains w w' result) }
+        ensures sound { IsSound self.new }
+        ensures cause { IsCaused
+            (P.Disk.state site.old)
+            (P.Disk.state site.new)
+            result }
+    {
+        match self.settle(alloc, site) {
+            Ok(receipts) => done(alloc, receipts),
+            Err(reply) => reply,
+        }
+    }
+
+    /// A round. The reply is the one with which it ended early; else nothing is unsettled.
+    pub fn settle_all<P: Site>(&mut self, alloc: Global, site: &mut P) -> Result<(), Reply>
+        requires { IsSound self.old }
+        ensures performs { Performs self.old self.new
+            (P.Disk.state site.old)
+            (P.Disk.state site.new)
+            (λ w w'. Round w w' (stop_of result)) }
+        ensures all { OnOk result (self.new.unsettled.items ≡ []) }
+        ensures same { self.new ≡ record self.old { unsettled = self.new.unsettled; clock = self.new.clock } }
+        ensures clock { self.new.clock ≡ record self.old.clock { round = self.old.clock.now } }
+        ensures sound { IsSound self.new }
+        ensures cause { IsStopCaused
+            (P.Disk.state site.old)
+            (P.Disk.state site.new)
+            (stop_of result) }
+    {
+        match self.settle(alloc, site) {
+            Ok(_) => Ok(()),
+            Err(reply) => Err(reply),
+        }
+    }
+
+    /// A round, where a transaction is unsettled. The reply is the one with which it ended early; else nothing is
+    /// unsettled.
+    pub fn settle_pending<P: Site>(&mut self, alloc: Global, site: &mut P) -> Result<(), Reply>
+        requires { IsSound self.old }
+        ensures performs { Performs self.old self.new
+            (P.Disk.state site.old)
+            (P.Disk.state site.new)
+            (λ w w'. RoundIfUnsettled w w' (stop_of result)) }
+        ensures all { OnOk result (self.new.unsettled.items ≡ []) }
+        ensures same { self.new ≡ record self.old { unsettled = self.new.unsettled; clock = self.new.clock } }
+        ensures sound { IsSound self.new }
+        ensures cause { IsStopCaused
+            (P.Disk.state site.old)
+            (P.Disk.state site.new)
+            (stop_of result) }
+    {
+        if self.unsettled.is_empty() {
+            return Ok(());
+        }
+        self.settle_all(alloc, site)
+    }
+
+    // A round, and how many got their receipt, or the reply with which it ended early.
+    fn settle<P: Site>(&mut self, alloc: Global, site: &mut P) -> Result<u64, Reply>
+        requires { IsSound self.old }
+        ensures performs { Performs self.old self.new
+            (P.Disk.state site.old)
+            (P.Disk.state site.new)
+            (λ w w'. SettlesAll w w' result) }
+        ensures all { OnOk result (self.new.unsettled.items ≡ []) }
+        ensures same { self.new ≡ record self.old { unsettled = self.new.unsettled; clock = self.new.clock } }
+        ensures clock { self.new.clock ≡ record self.old.clock { round = self.old.clock.now } }
+        ensures sound { IsSound self.new }
+        ensures cause { IsCaused
+            (P.Disk.state site.old)
+            (P.Disk.state site.new)
+            (settled_reply result) }
+    {
+        left_law();
+        follow_law();
+        round_shown_law();
+        self.clock.round = self.clock.now;
+        match round(site, &mut self.unsettled) {
+            Ok(receipts) => Ok(receipts),
+            Err(fault) => Err(self.reply_to_round(alloc, &fault)),
+        }
+    }
+
+    // The reply to a round that ended early.
+    fn reply_to_round(&self, alloc: Global, fault: &RoundFault) -> Reply
+        ensures { TellsRoundEnd self.now fault.now result }
+    {
+        match fault {
+            RoundFault::Failed => faulty(alloc, Code::BackingFault),
+            RoundFault::Memory => faulty(alloc, Code::Memory),
+            RoundFault::Differs(table, key) => self.reply_to_difference(alloc, *table, key),
+        }
+    }
+
+    /// 210 of a row; want of memory where there is no such table.
+    pub fn reply_to_difference(&self, alloc: Global, table: TableId, key: &Key) -> Reply
+        ensures { TellsRoundEnd self.now (RoundFault.Differs table key.now) result }
+    {
+        match self.schema.get(table.0 as usize) {
+            None => faulty(alloc, Code::Memory),
+            Some(def) => match difference(alloc, &def.name, key) {
+                Err(_) => faulty(alloc, Code::Memory),
+                Ok(rule) => only(alloc, Last::Fault(rule)),
+            },
+        }
+    }
+}
+
+// 210 of the row at this key of the table of this name.
+fn difference(alloc: Global, name: &Name, key: &Key) -> Result<Rule, AllocError>
+    ensures { IfOk result (λ rule. rule ≡ record { code = code.RowDiffers; detail = detail.Row name.now key.now }) }
+{
+    let name = name.copied(alloc)?;
+    let key = key.copied(alloc)?;
+    Ok(Rule {
+        code: Code::RowDiffers,
+        detail: Detail::Row(name, key),
+    })
+}

@@ -1,0 +1,54 @@
+//! The tier.
+
+use crate::clock::TierClock;
+use group_catalog::Catalog;
+use group_store::{Directory, Store};
+use open_sessions::Sessions;
+use std::collections::VecDeque;
+use table_defs::BackingSchema;
+use table_state::Sealed;
+
+/// The tier: what it keeps between request lines. Clauses say of which abstract tiers it keeps what can change their
+/// answers, and which rows it shows.
+pub struct Tier {
+    /// The definitions of the backing tables, as the bank told them last.
+    pub schema: BackingSchema,
+    /// The same at their places, where a table that isn't cached has no name.
+    pub visible: BackingSchema,
+    /// A definition failed since, so the bank is asked before they count.
+    pub stale: bool,
+    /// The groups, without their rows.
+    pub catalog: Catalog,
+    /// The rows of each group.
+    pub stores: Vec<Store>,
+    /// Where each table is kept.
+    pub directory: Directory,
+    /// The open sessions.
+    pub sessions: Sessions,
+    /// The committed transactions whose receipt the tier hasn't seen, in ticket order.
+    pub unsettled: VecDeque<Sealed>,
+    /// The next ticket.
+    pub next: u64,
+    /// The clock, and when what is due was done last.
+    pub clock: TierClock,
+    /// Whether each session's operations are known to apply on the stored rows.
+    pub verified: bool,
+}
+
+impl Drop for Tier {
+    fn drop(self) {
+        let Self {
+            schema: _,
+            visible: _,
+            stale: _,
+            catalog: _,
+            stores: _,
+            directory: _,
+            sessions: _,
+            unsettled: _,
+            next: _,
+            clock: _,
+            verified: _,
+        } = self;
+    }
+}
