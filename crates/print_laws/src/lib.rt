@@ -1,0 +1,4 @@
+//! Laws of what is printed: it is read back.
+#![tactic(auto)]
+
+pub mod law;
