@@ -1,0 +1,89 @@
+//! Transactions of the tier.
+
+ghost use Rattle.backing_sqlite.specs.Waiting.{WaitsFor};
+
+use crate::fault::StoreFault;
+use crate::judging::{Difference, difference_at};
+use crate::reading::{first_missing, position_of};
+use crate::shelf::Shelf;
+use crate::writing::{add_entry, do_op, record};
+use outside::{Applied, Receipt};
+use sqlite::{Alter, Connection, Transaction};
+use std::alloc::Global;
+use table_state::{Op, Sealed};
+use tier_base::{Position, Ticket};
+
+/// Applies and records a transaction, in one transaction of the store, where its ticket isn't recorded yet, those of
+/// `after` are, and its operations apply. Else nothing changes.
+pub(crate) fn apply_once<S: Alter>(
+    alloc: Global,
+    conn: &mut Connection<S>,
+    shelf: &Shelf,
+    sealed: &Sealed,
+    after: &[Ticket],
+) -> Result<Applied, StoreFault>
+    ensures waits { WaitsFor after.now result }
+{
+    if !conn.is_autocommit() {
+        return Err(StoreFault::Failed);
+    }
+    let mut tx = conn.transaction();
+    let applied = apply_in(alloc, &mut tx, shelf, sealed, after)?;
+    match &applied {
+        Applied::Now(_) => match tx.commit() {
+            Ok(()) => Ok(applied),
+            Err(error) => Err(StoreFault::from(error)),
+        },
+        _ => Ok(applied),
+    }
+}
+
+// The same, where what was done before an operation that doesn't apply is still to be taken back.
+fn apply_in<S: Alter>(
+    alloc: Global,
+    tx: &mut Transaction<'_, S>,
+    shelf: &Shelf,
+    sealed: &Sealed,
+    after: &[Ticket],
+) -> Result<Applied, StoreFault>
+    ensures waits { WaitsFor after.now result }
+{
+    let ticket = sealed.ticket;
+    if let Some(position) = position_of(tx, ticket)? {
+        return Ok(Applied::Before(receipt(ticket, position)));
+    }
+    if let Some(missing) = first_missing(tx, after)? {
+        return Ok(Applied::NotReady(missing));
+    }
+    match do_all(alloc, tx, shelf, sealed.ops.as_slice())? {
+        Some(difference) => Ok(difference.told()),
+        None => {
+            let position = add_entry(tx)?;
+            record(tx, ticket, position)?;
+            Ok(Applied::Now(receipt(ticket, position)))
+        }
+    }
+}
+
+// Does the operations from left to right, up to the first that doesn't apply.
+fn do_all<S: Alter>(
+    alloc: Global,
+    tx: &mut Transaction<'_, S>,
+    shelf: &Shelf,
+    ops: &[Op],
+) -> Result<Option<Difference>, StoreFault> {
+    for op in ops {
+        match difference_at(alloc, tx, shelf, op)? {
+            None => do_op(alloc, tx, shelf, op)?,
+            Some(difference) => return Ok(Some(difference)),
+        }
+    }
+    Ok(None)
+}
+
+fn receipt(ticket: Ticket, position: u64) -> Receipt {
+    Receipt {
+        ticket,
+        position: Position(position),
+    }
+}

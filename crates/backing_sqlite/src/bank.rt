@@ -1,0 +1,155 @@
+//! The backing database in a file.
+
+ghost use Rattle.std.specs.Prelude.{◌≡◌, IfOk};
+ghost use Rattle.outside.specs.Bank.{WaitsForOne};
+ghost use Rattle.backing_sqlite.specs.Counting.{Counts, answer_of};
+
+use crate::applying::apply_once;
+use crate::catalog::open_catalog;
+use crate::defining::define;
+use crate::fault::{OpenError, StoreFault};
+use crate::foreign::{foreign, snapshot};
+use crate::reading::find;
+use crate::shelf::Shelf;
+use evaluator::Change;
+use outside::{Applied, BankError, Done, Snapshot};
+use row_types::{Key, Row};
+use sqlite::{Connection, File, FileStore};
+use std::alloc::Global;
+use std::marker::Model;
+use table_defs::{BackingSchema, TableDef, copied_schema};
+use table_state::Sealed;
+use tier_base::{TableId, Ticket};
+
+/// The backing database in a SQLite file, which it holds alone while it is open. It doesn't tell what it holds. Each call
+/// is one transaction of the store, and each failed one is counted. Clauses see how many have failed.
+pub struct SqliteBank {
+    alloc: Global,
+    conn: Connection<FileStore<File>>,
+    shelf: Shelf,
+    faults: u64,
+}
+
+impl Drop for SqliteBank {
+    fn drop(self) {
+        let Self {
+            alloc: _,
+            conn: _,
+            shelf: _,
+            faults: _,
+        } = self;
+    }
+}
+
+impl Model for SqliteBank {
+    ghost use Rattle.std.specs.Prelude.{ℕ};
+
+    ghost Value = { ℕ };
+
+    ghost view = { λ bank. bank.faults };
+}
+
+impl SqliteBank {
+    /// The backing database in the file of this path. A file that isn't there is made, with an empty history.
+    pub fn open(rt: &HostRuntime, path: &str) -> Result<SqliteBank, OpenError>
+        ensures { IfOk result (λ bank. bank ≡ 0) }
+    {
+        let alloc = rt.alloc();
+        let mut conn = Connection::open(rt, path)?;
+        let shelf = open_catalog(alloc, &mut conn)?;
+        Ok(SqliteBank {
+            alloc,
+            conn,
+            shelf,
+            faults: 0,
+        })
+    }
+
+    /// Closes the file, with all in it that was beside it. Where it fails, what was done is found all the same when the
+    /// file is opened again.
+    pub fn close(self) -> Result<(), BankError> {
+        let Self {
+            alloc: _,
+            conn,
+            shelf: _,
+            faults: _,
+        } = self;
+        match conn.close() {
+            Ok(()) => Ok(()),
+            Err(_) => Err(BankError::Failed),
+        }
+    }
+
+    /// How many calls have failed, up to 2^64 - 1.
+    pub fn faults(&self) -> u64
+        ensures { result ≡ self.now }
+    {
+        self.faults
+    }
+
+    // The answer of a call, whose failure is counted.
+    fn answer<T>(&mut self, done: Result<T, StoreFault>) -> Result<T, BankError>
+        ensures told { result ≡ answer_of done }
+        ensures counts { Counts self.old self.new result }
+    {
+        match done {
+            Ok(told) => Ok(told),
+            Err(StoreFault::Memory) => Err(BankError::Memory),
+            Err(StoreFault::Failed) => {
+                self.faults = self.faults.saturating_add(1);
+                Err(BankError::Failed)
+            }
+        }
+    }
+
+    /// The definitions of all tables, in the order in which they were made.
+    pub fn schema(&mut self) -> Result<BackingSchema, BankError>
+        ensures counts { Counts self.old self.new result }
+    {
+        match copied_schema(self.alloc, self.shelf.schema().as_slice()) {
+            Ok(schema) => Ok(schema),
+            Err(_) => Err(BankError::Memory),
+        }
+    }
+
+    /// Makes a table, which is behind the others then.
+    pub fn define(&mut self, def: &TableDef) -> Result<(), BankError>
+        ensures counts { Counts self.old self.new result }
+    {
+        let done = define(self.alloc, &mut self.conn, &mut self.shelf, def);
+        self.answer(done)
+    }
+
+    /// Applies and records a transaction, where its ticket isn't recorded yet and those of `after` are.
+    pub fn apply_once(&mut self, sealed: &Sealed, after: &[Ticket]) -> Result<Applied, BankError>
+        ensures counts { Counts self.old self.new result }
+        ensures waits { WaitsForOne after.now result }
+    {
+        let done = apply_once(self.alloc, &mut self.conn, &self.shelf, sealed, after);
+        self.answer(done)
+    }
+
+    /// The row at the key of the table, none where there is none.
+    pub fn find(&mut self, table: TableId, key: &Key) -> Result<Option<Row>, BankError>
+        ensures counts { Counts self.old self.new result }
+    {
+        let done = find(self.alloc, &mut self.conn, &self.shelf, table, key);
+        self.answer(done)
+    }
+
+    /// Does the writes of a transaction of the console, one after the other, all of them or none.
+    pub fn foreign(&mut self, changes: &[Change]) -> Result<Done, BankError>
+        ensures counts { Counts self.old self.new result }
+    {
+        let done = foreign(self.alloc, &mut self.conn, &self.shelf, changes);
+        self.answer(done)
+    }
+
+    /// The definitions of all tables, and the rows of these tables, at one position of the history.
+    pub fn snapshot(&mut self, tables: &[TableId]) -> Result<Snapshot, BankError>
+        ensures counts { Counts self.old self.new result }
+    {
+        let done = snapshot(self.alloc, &mut self.conn, &self.shelf, tables);
+        self.answer(done)
+    }
+}

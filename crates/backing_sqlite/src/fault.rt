@@ -1,0 +1,66 @@
+//! Refusals of the store.
+
+use sqlite::{Error, ErrorCode};
+use std::alloc::{AllocError, AllocFailed};
+
+/// Why a call of the store gave no answer.
+#[derive(Clone, Copy, Debug, PartialEq, Eq)]
+pub(crate) enum StoreFault {
+    /// It failed, or what stands in it can't be read.
+    Failed,
+    /// Memory was wanting.
+    Memory,
+}
+
+impl From<AllocError> for StoreFault {
+    fn from(_error: AllocError) -> StoreFault {
+        StoreFault::Memory
+    }
+}
+
+impl<T: Drop> From<AllocFailed<T>> for StoreFault {
+    fn from(_error: AllocFailed<T>) -> StoreFault {
+        StoreFault::Memory
+    }
+}
+
+impl From<Error> for StoreFault {
+    fn from(error: Error) -> StoreFault {
+        match error {
+            Error::SqliteFailure(ErrorCode::OutOfMemory) => StoreFault::Memory,
+            _ => StoreFault::Failed,
+        }
+    }
+}
+
+/// Why a file wasn't opened.
+#[derive(Debug, Drop, thiserror::Error)]
+pub enum OpenError {
+    /// The store refused it.
+    #[error("{0}")]
+    Store(Error),
+    /// What this crate keeps in it can't be read or made.
+    #[error("the definitions in the database can't be read")]
+    Catalog,
+    /// Memory was wanting.
+    #[error("memory is wanting")]
+    Memory,
+}
+
+impl From<Error> for OpenError {
+    fn from(error: Error) -> OpenError {
+        match error {
+            Error::SqliteFailure(ErrorCode::OutOfMemory) => OpenError::Memory,
+            error => OpenError::Store(error),
+        }
+    }
+}
+
+impl From<StoreFault> for OpenError {
+    fn from(fault: StoreFault) -> OpenError {
+        match fault {
+            StoreFault::Failed => OpenError::Catalog,
+            StoreFault::Memory => OpenError::Memory,
+        }
+    }
+}

@@ -1,0 +1,109 @@
+//! Transactions of the console, and copies of the tables.
+
+use crate::closure::Choice;
+use crate::fault::StoreFault;
+use crate::loading::load;
+use crate::reading::entries;
+use crate::shelf::Shelf;
+use crate::writing::{add_entry, do_op};
+use evaluator::Change;
+use outside::{Done, Snapshot};
+use sqlite::{Alter, Connection, Transaction};
+use std::alloc::Global;
+use table_state::{ApplyError, Op};
+use tier_base::{Position, TableId};
+use transactions::write_all;
+
+/// Does the writes of a transaction of the console, all of them or none, in one transaction of the store. They are judged
+/// on copies of their tables, and of those that refer to these or are referred to.
+pub(crate) fn foreign<S: Alter>(
+    alloc: Global,
+    conn: &mut Connection<S>,
+    shelf: &Shelf,
+    changes: &[Change],
+) -> Result<Done, StoreFault> {
+    if !conn.is_autocommit() {
+        return Err(StoreFault::Failed);
+    }
+    let mut tx = conn.transaction();
+    let done = foreign_in(alloc, &mut tx, shelf, changes)?;
+    match &done {
+        Done::Broken(_) => Ok(done),
+        Done::Rows(_) => match tx.commit() {
+            Ok(()) => Ok(done),
+            Err(error) => Err(StoreFault::from(error)),
+        },
+    }
+}
+
+fn foreign_in<S: Alter>(
+    alloc: Global,
+    tx: &mut Transaction<'_, S>,
+    shelf: &Shelf,
+    changes: &[Change],
+) -> Result<Done, StoreFault> {
+    let mut choice = Choice::none(alloc, shelf.schema().len())?;
+    for change in changes {
+        choice.add(change.table);
+    }
+    choice.add_family(shelf.schema())?;
+    let mut tables = load(alloc, tx, shelf, &choice)?;
+    match write_all(alloc, &mut tables, changes) {
+        Err(ApplyError::Rule(rule)) => Ok(Done::Broken(rule)),
+        Err(ApplyError::Differs(_, _, _)) => Err(StoreFault::Failed),
+        Err(ApplyError::Memory) => Err(StoreFault::Memory),
+        Ok(written) => {
+            write_ops(alloc, tx, shelf, written.ops.as_slice())?;
+            Ok(Done::Rows(written.rows as u64))
+        }
+    }
+}
+
+fn write_ops<S: Alter>(
+    alloc: Global,
+    tx: &mut Transaction<'_, S>,
+    shelf: &Shelf,
+    ops: &[Op],
+) -> Result<(), StoreFault> {
+    for op in ops {
+        do_op(alloc, tx, shelf, op)?;
+    }
+    let _ = add_entry(tx)?;
+    Ok(())
+}
+
+/// The definitions of all tables and the rows of these, with the number of entries. Nothing changes.
+pub(crate) fn snapshot<S: Alter>(
+    alloc: Global,
+    conn: &mut Connection<S>,
+    shelf: &Shelf,
+    asked: &[TableId],
+) -> Result<Snapshot, StoreFault> {
+    if !conn.is_autocommit() {
+        return Err(StoreFault::Failed);
+    }
+    let mut tx = conn.transaction();
+    snapshot_in(alloc, &mut tx, shelf, asked)
+}
+
+fn snapshot_in<S: Alter>(
+    alloc: Global,
+    tx: &mut Transaction<'_, S>,
+    shelf: &Shelf,
+    asked: &[TableId],
+) -> Result<Snapshot, StoreFault> {
+    let mut choice = Choice::none(alloc, shelf.schema().len())?;
+    for table in asked {
+        choice.add(*table);
+    }
+    let own = choice.len();
+    choice.add_parents(shelf.schema())?;
+    let position = Position(entries(tx)?);
+    let all = load(alloc, tx, shelf, &choice)?;
+    let tables = if choice.len() == own {
+        all
+    } else {
+        all.copied_of(alloc, asked)?
+    };
+    Ok(Snapshot { position, tables })
+}

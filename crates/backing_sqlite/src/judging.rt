@@ -1,0 +1,197 @@
+//! Whether operations apply to what stands in the store.
+
+use crate::fault::StoreFault;
+use crate::reading::{child_key, row_at};
+use crate::shelf::Shelf;
+use indexed_rows::key_at;
+use outside::Applied;
+use row_types::{Key, Row};
+use sqlite::{Alter, Transaction};
+use std::alloc::Global;
+use table_defs::TableDef;
+use table_state::{ApplyError, Op, check_key_stays, check_row, key_of_row};
+use tier_base::TableId;
+
+/// A row that isn't as an operation wants it: its table, its key, and the row that is there.
+pub(crate) struct Difference {
+    /// The table.
+    pub table: TableId,
+    /// The key.
+    pub key: Key,
+    /// The row there, where there is one.
+    pub row: Option<Row>,
+}
+
+impl Drop for Difference {
+    fn drop(self) {
+        let Self {
+            table: _,
+            key: _,
+            row: _,
+        } = self;
+    }
+}
+
+impl Difference {
+    ghost use Rattle.std.specs.Prelude.{◌≡◌};
+
+    /// What is told of a transaction that doesn't apply.
+    pub(crate) fn told(self) -> Applied
+        ensures { result ≡ Applied.Differs self.table self.key self.row }
+    {
+        let Self { table, key, row } = self;
+        Applied::Differs(table, key, row)
+    }
+}
+
+/// What keeps the operation from being applied, where something does: its own row, the parent that is missing, or the
+/// least child that is there, in the order in which the rules are tested.
+pub(crate) fn difference_at<S: Alter>(
+    alloc: Global,
+    tx: &mut Transaction<'_, S>,
+    shelf: &Shelf,
+    op: &Op,
+) -> Result<Option<Difference>, StoreFault> {
+    let table = op.table();
+    let Some(def) = shelf.def(table) else {
+        let key = Key::from_vec(Vec::new(alloc));
+        return Ok(Some(Difference {
+            table,
+            key,
+            row: None,
+        }));
+    };
+    let key = key_of_row(alloc, def, named_row(op))?;
+    let row = row_at(alloc, tx, shelf, table, &key)?;
+    if !is_as_wanted(alloc, def, op, &row)? {
+        return Ok(Some(Difference { table, key, row }));
+    }
+    match op {
+        Op::Insert(_, row) => missing_parent(alloc, tx, shelf, def, row),
+        Op::Update(_, _, row) => missing_parent(alloc, tx, shelf, def, row),
+        Op::Delete(_, _) => first_child(alloc, tx, shelf, table, &key),
+    }
+}
+
+/// The row that an operation puts in, changes or takes out.
+pub(crate) fn named_row(op: &Op) -> &Row {
+    match op {
+        Op::Insert(_, row) => row,
+        Op::Update(_, row, _) => row,
+        Op::Delete(_, row) => row,
+    }
+}
+
+// Whether what it puts in fits the table, and the row at its key is as it wants it.
+fn is_as_wanted(
+    alloc: Global,
+    def: &TableDef,
+    op: &Op,
+    there: &Option<Row>,
+) -> Result<bool, StoreFault> {
+    match op {
+        Op::Insert(_, row) => Ok(
+            there.is_none() && holds(check_row(alloc, def.columns.as_slice(), row))?,
+        ),
+        Op::Update(_, old, new) => Ok(
+            is_row(there, old)
+                && holds(check_key_stays(alloc, def, old, new))?
+                && holds(check_row(alloc, def.columns.as_slice(), new))?,
+        ),
+        Op::Delete(_, old) => Ok(is_row(there, old)),
+    }
+}
+
+fn holds(checked: Result<(), ApplyError>) -> Result<bool, StoreFault> {
+    match checked {
+        Ok(()) => Ok(true),
+        Err(ApplyError::Memory) => Err(StoreFault::Memory),
+        Err(_) => Ok(false),
+    }
+}
+
+fn is_row(there: &Option<Row>, row: &Row) -> bool {
+    match there {
+        None => false,
+        Some(there) => there.same(row),
+    }
+}
+
+fn missing_parent<S: Alter>(
+    alloc: Global,
+    tx: &mut Transaction<'_, S>,
+    shelf: &Shelf,
+    def: &TableDef,
+    row: &Row,
+) -> Result<Option<Difference>, StoreFault> {
+    match &def.foreign_key {
+        None => Ok(None),
+        Some(foreign) => {
+            let key = key_at(alloc, foreign.columns.as_slice(), row)?;
+            let table = foreign.parent;
+            match row_at(alloc, tx, shelf, table, &key)? {
+                Some(_) => Ok(None),
+                None => Ok(Some(Difference {
+                    table,
+                    key,
+                    row: None,
+                })),
+            }
+        }
+    }
+}
+
+// The least row of the first table that has one which refers to the row of this table and key.
+fn first_child<S: Alter>(
+    alloc: Global,
+    tx: &mut Transaction<'_, S>,
+    shelf: &Shelf,
+    table: TableId,
+    key: &Key,
+) -> Result<Option<Difference>, StoreFault> {
+    for (place, def) in shelf.schema().as_slice().iter().enumerate() {
+        if refers_to(def, table) {
+            match child_at(alloc, tx, shelf, table_at(place)?, key)? {
+                None => {}
+                Some(found) => return Ok(Some(found)),
+            }
+        }
+    }
+    Ok(None)
+}
+
+fn child_at<S: Alter>(
+    alloc: Global,
+    tx: &mut Transaction<'_, S>,
+    shelf: &Shelf,
+    child: TableId,
+    key: &Key,
+) -> Result<Option<Difference>, StoreFault> {
+    match child_key(alloc, tx, shelf, child, key)? {
+        None => Ok(None),
+        Some(key) => {
+            let row = row_at(alloc, tx, shelf, child, &key)?;
+            Ok(Some(Difference {
+                table: child,
+                key,
+                row,
+            }))
+        }
+    }
+}
+
+/// Whether the table's foreign key refers to the other.
+pub(crate) fn refers_to(def: &TableDef, parent: TableId) -> bool {
+    match &def.foreign_key {
+        None => false,
+        Some(foreign) => foreign.parent == parent,
+    }
+}
+
+/// The table at a place of the definitions.
+pub(crate) fn table_at(place: usize) -> Result<TableId, StoreFault> {
+    match u32::try_from(place) {
+        Ok(number) => Ok(TableId(number)),
+        Err(_) => Err(StoreFault::Failed),
+    }
+}

@@ -1,0 +1,23 @@
+//! The backing database over a SQLite file, and a site of it and a disk. It tells nothing of what it holds.
+#![tactic(auto)]
+
+mod applying;
+pub mod bank;
+mod catalog;
+mod closure;
+mod defining;
+mod fault;
+mod foreign;
+mod judging;
+mod loading;
+mod reading;
+pub mod real_site;
+mod schema_rows;
+mod shelf;
+mod texts;
+mod values;
+mod writing;
+
+pub use bank::SqliteBank;
+pub use fault::OpenError;
+pub use real_site::RealSite;

@@ -1,0 +1,121 @@
+//! What stands in the store.
+
+ghost use Rattle.backing_sqlite.specs.Waiting.{MissesOne};
+
+use crate::fault::StoreFault;
+use crate::shelf::Shelf;
+use crate::values::{is_key_of, key_of, lent_all, row_of};
+use row_types::{Key, Row};
+use sqlite::types::ValueRef;
+use sqlite::{Alter, Connection, Error, Transaction};
+use std::alloc::Global;
+use tier_base::{TableId, Ticket};
+
+/// The first row of the answer, where there is one.
+pub(crate) fn first_row<S: Alter>(
+    tx: &mut Transaction<'_, S>,
+    sql: &str,
+    values: &[ValueRef<'_>],
+) -> Result<Option<sqlite::Row>, StoreFault> {
+    match tx.query_row(sql, values) {
+        Ok(row) => Ok(Some(row)),
+        Err(Error::QueryReturnedNoRows) => Ok(None),
+        Err(error) => Err(StoreFault::from(error)),
+    }
+}
+
+/// The row of a key in a table; none where there is none, or no such table.
+pub(crate) fn row_at<S: Alter>(
+    alloc: Global,
+    tx: &mut Transaction<'_, S>,
+    shelf: &Shelf,
+    table: TableId,
+    key: &Key,
+) -> Result<Option<Row>, StoreFault> {
+    let Some(def) = shelf.def(table) else {
+        return Ok(None);
+    };
+    if !is_key_of(def, key) {
+        return Ok(None);
+    }
+    let texts = shelf.texts(table)?;
+    let values = lent_all(alloc, key.values())?;
+    match first_row(tx, texts.find.as_str(), values.as_slice())? {
+        None => Ok(None),
+        Some(stored) => Ok(Some(row_of(alloc, def.columns.as_slice(), &stored)?)),
+    }
+}
+
+/// The least key of a row in `child` that refers to the key by its foreign key.
+pub(crate) fn child_key<S: Alter>(
+    alloc: Global,
+    tx: &mut Transaction<'_, S>,
+    shelf: &Shelf,
+    child: TableId,
+    key: &Key,
+) -> Result<Option<Key>, StoreFault> {
+    let Some(def) = shelf.def(child) else {
+        return Ok(None);
+    };
+    let Some(text) = &shelf.texts(child)?.child else {
+        return Ok(None);
+    };
+    let values = lent_all(alloc, key.values())?;
+    match first_row(tx, text.as_str(), values.as_slice())? {
+        None => Ok(None),
+        Some(stored) => Ok(Some(key_of(alloc, def, &stored)?)),
+    }
+}
+
+/// How many entries the history has.
+pub(crate) fn entries<S: Alter>(tx: &mut Transaction<'_, S>) -> Result<u64, StoreFault> {
+    match first_row(tx, "SELECT entries FROM \"ttcache-history\"", &[])? {
+        None => Err(StoreFault::Failed),
+        Some(row) => Ok(row.get::<u64>(0)?),
+    }
+}
+
+/// The position of a ticket, where it is recorded.
+pub(crate) fn position_of<S: Alter>(
+    tx: &mut Transaction<'_, S>,
+    ticket: Ticket,
+) -> Result<Option<u64>, StoreFault> {
+    let Ok(number) = i64::try_from(ticket.0) else {
+        return Ok(None);
+    };
+    let text = "SELECT position FROM \"ttcache-tickets\" WHERE ticket = ?";
+    match first_row(tx, text, &[ValueRef::Int(number)])? {
+        None => Ok(None),
+        Some(row) => Ok(Some(row.get::<u64>(0)?)),
+    }
+}
+
+/// The first of the tickets that isn't recorded.
+pub(crate) fn first_missing<S: Alter>(
+    tx: &mut Transaction<'_, S>,
+    tickets: &[Ticket],
+) -> Result<Option<Ticket>, StoreFault>
+    ensures { MissesOne tickets.now result }
+{
+    for ticket in tickets {
+        if position_of(tx, *ticket)?.is_none() {
+            return Ok(Some(*ticket));
+        }
+    }
+    Ok(None)
+}
+
+/// The row of a key in a table, read in a transaction of its own.
+pub(crate) fn find<S: Alter>(
+    alloc: Global,
+    conn: &mut Connection<S>,
+    shelf: &Shelf,
+    table: TableId,
+    key: &Key,
+) -> Result<Option<Row>, StoreFault> {
+    if !conn.is_autocommit() {
+        return Err(StoreFault::Failed);
+    }
+    let mut tx = conn.transaction();
+    row_at(alloc, &mut tx, shelf, table, key)
+}

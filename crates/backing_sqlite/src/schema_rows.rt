@@ -1,0 +1,213 @@
+//! Definitions of tables as rows.
+
+use crate::fault::StoreFault;
+use crate::texts::text_of;
+use crate::writing::give;
+use row_types::{Column, Ty};
+use sqlite::types::{ToSql, ValueRef};
+use sqlite::{Alter, Transaction};
+use std::alloc::Global;
+use table_defs::{ForeignKey, TableDef};
+use tier_base::{Name, NameError, Seq, TableId};
+
+/// The definition of the table at a place, of which the row has name, parent and ON DELETE CASCADE.
+pub(crate) fn read_def<S: Alter>(
+    alloc: Global,
+    tx: &mut Transaction<'_, S>,
+    place: usize,
+    stored: &sqlite::Row,
+) -> Result<TableDef, StoreFault> {
+    let Ok(place) = i64::try_from(place) else {
+        return Err(StoreFault::Failed);
+    };
+    let name = name_at(alloc, stored, 0)?;
+    let columns = read_columns(alloc, tx, place)?;
+    let text =
+        "SELECT place FROM \"ttcache-columns\" WHERE table_place = ? AND key_place IS NOT NULL ORDER BY key_place";
+    let primary_key = read_places(alloc, tx, text, place)?;
+    let text =
+        "SELECT place FROM \"ttcache-columns\" WHERE table_place = ? AND foreign_place IS NOT NULL ORDER BY foreign_place";
+    let foreign = read_places(alloc, tx, text, place)?;
+    let foreign_key = foreign_key_of(stored, foreign)?;
+    Ok(TableDef {
+        name,
+        columns,
+        primary_key,
+        foreign_key,
+    })
+}
+
+fn foreign_key_of(
+    stored: &sqlite::Row,
+    columns: Seq<usize>,
+) -> Result<Option<ForeignKey>, StoreFault> {
+    let cascade = stored.get::<bool>(2)?;
+    match stored.get::<Option<u32>>(1)? {
+        None => Ok(None),
+        Some(parent) => Ok(Some(ForeignKey {
+            columns,
+            parent: TableId(parent),
+            cascade,
+        })),
+    }
+}
+
+fn read_columns<S: Alter>(
+    alloc: Global,
+    tx: &mut Transaction<'_, S>,
+    place: i64,
+) -> Result<Seq<Column>, StoreFault> {
+    let text =
+        "SELECT name, type, size, scale, not_null FROM \"ttcache-columns\" WHERE table_place = ? ORDER BY place";
+    let stored = tx.query_all(text, &[ValueRef::Int(place)])?;
+    let mut columns = Vec::with_capacity(alloc, stored.len())?;
+    for row in &stored {
+        columns.push(column_of(alloc, row)?)?;
+    }
+    Ok(Seq::from_vec(columns))
+}
+
+fn column_of(alloc: Global, stored: &sqlite::Row) -> Result<Column, StoreFault> {
+    let name = name_at(alloc, stored, 0)?;
+    let ty = type_of(stored)?;
+    let not_null = stored.get::<bool>(4)?;
+    Ok(Column { name, ty, not_null })
+}
+
+fn type_of(stored: &sqlite::Row) -> Result<Ty, StoreFault> {
+    let size = number_at(stored, 2)?;
+    let scale = number_at(stored, 3)?;
+    match stored.get_ref(1)? {
+        ValueRef::Text(b"TT_INTEGER") => Ok(Ty::TtInteger),
+        ValueRef::Text(b"TT_BIGINT") => Ok(Ty::TtBigint),
+        ValueRef::Text(b"NUMBER") => match (u8::try_from(size), u8::try_from(scale)) {
+            (Ok(size), Ok(scale)) => Ok(Ty::Number(size, scale)),
+            _ => Err(StoreFault::Failed),
+        },
+        ValueRef::Text(b"VARCHAR2") => Ok(Ty::Varchar2(size)),
+        ValueRef::Text(b"TIMESTAMP") => Ok(Ty::Timestamp),
+        _ => Err(StoreFault::Failed),
+    }
+}
+
+fn number_at(stored: &sqlite::Row, at: usize) -> Result<u16, StoreFault> {
+    match u16::try_from(stored.get::<i64>(at)?) {
+        Ok(number) => Ok(number),
+        Err(_) => Err(StoreFault::Failed),
+    }
+}
+
+fn name_at(alloc: Global, stored: &sqlite::Row, at: usize) -> Result<Name, StoreFault> {
+    match stored.get_ref(at)? {
+        ValueRef::Text(bytes) => match Name::new(alloc, bytes) {
+            Ok(name) => Ok(name),
+            Err(NameError::Memory) => Err(StoreFault::Memory),
+            Err(NameError::Bad) => Err(StoreFault::Failed),
+        },
+        _ => Err(StoreFault::Failed),
+    }
+}
+
+fn read_places<S: Alter>(
+    alloc: Global,
+    tx: &mut Transaction<'_, S>,
+    text: &str,
+    place: i64,
+) -> Result<Seq<usize>, StoreFault> {
+    let stored = tx.query_all(text, &[ValueRef::Int(place)])?;
+    let mut places = Vec::with_capacity(alloc, stored.len())?;
+    for row in &stored {
+        places.push(row.get::<u32>(0)? as usize)?;
+    }
+    Ok(Seq::from_vec(places))
+}
+
+/// Puts in the rows of a definition, which stands at a place.
+pub(crate) fn write_def<S: Alter>(
+    tx: &mut Transaction<'_, S>,
+    place: u32,
+    def: &TableDef,
+) -> Result<(), StoreFault> {
+    write_table(tx, place, def)?;
+    for (at, column) in def.columns.as_slice().iter().enumerate() {
+        write_column(tx, place, def, at, column)?;
+    }
+    Ok(())
+}
+
+fn write_table<S: Alter>(
+    tx: &mut Transaction<'_, S>,
+    place: u32,
+    def: &TableDef,
+) -> Result<(), StoreFault> {
+    let (parent, cascades) = match &def.foreign_key {
+        None => (ValueRef::Null, false),
+        Some(foreign) => (foreign.parent.0.to_sql(), foreign.cascade),
+    };
+    let text = "INSERT INTO \"ttcache-tables\" (place, name, parent, cascades) VALUES (?, ?, ?, ?)";
+    let values = [
+        place.to_sql(),
+        text_of(&def.name)?.to_sql(),
+        parent,
+        cascades.to_sql(),
+    ];
+    let _ = give(tx, text, &values)?;
+    Ok(())
+}
+
+fn write_column<S: Alter>(
+    tx: &mut Transaction<'_, S>,
+    place: u32,
+    def: &TableDef,
+    at: usize,
+    column: &Column,
+) -> Result<(), StoreFault> {
+    let (ty, size, scale) = words_of(column.ty);
+    let text =
+        "INSERT INTO \"ttcache-columns\" (table_place, place, name, type, size, scale, not_null, key_place, foreign_place) VALUES (?, ?, ?, ?, ?, ?, ?, ?, ?)";
+    let values = [
+        place.to_sql(),
+        number(at)?,
+        text_of(&column.name)?.to_sql(),
+        ty.to_sql(),
+        u32::from(size).to_sql(),
+        u32::from(scale).to_sql(),
+        column.not_null.to_sql(),
+        place_in(def.primary_key.as_slice(), at)?,
+        place_in(foreign_places(def), at)?,
+    ];
+    let _ = give(tx, text, &values)?;
+    Ok(())
+}
+
+fn words_of(ty: Ty) -> (&'static str, u16, u8) {
+    match ty {
+        Ty::TtInteger => ("TT_INTEGER", 0, 0),
+        Ty::TtBigint => ("TT_BIGINT", 0, 0),
+        Ty::Number(precision, scale) => ("NUMBER", u16::from(precision), scale),
+        Ty::Varchar2(size) => ("VARCHAR2", size, 0),
+        Ty::Timestamp => ("TIMESTAMP", 0, 0),
+    }
+}
+
+fn foreign_places(def: &TableDef) -> &[usize] {
+    match &def.foreign_key {
+        None => &[],
+        Some(foreign) => foreign.columns.as_slice(),
+    }
+}
+
+fn number(place: usize) -> Result<ValueRef<'static>, StoreFault> {
+    match i64::try_from(place) {
+        Ok(number) => Ok(ValueRef::Int(number)),
+        Err(_) => Err(StoreFault::Failed),
+    }
+}
+
+// At which place of the key the column stands, NULL where it isn't one of the key's.
+fn place_in(places: &[usize], column: usize) -> Result<ValueRef<'static>, StoreFault> {
+    match places.iter().position(|place| *place == column) {
+        None => Ok(ValueRef::Null),
+        Some(place) => number(place),
+    }
+}

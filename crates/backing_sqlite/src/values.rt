@@ -1,0 +1,150 @@
+//! Values of columns as values of SQLite: numbers as their units and times as seconds in INTEGER, texts as TEXT.
+
+ghost use Rattle.std.specs.Prelude.{IfSome};
+ghost use Rattle.row_types.specs.Times.{IsTime};
+
+use crate::fault::StoreFault;
+use numbers::Number;
+use row_types::{Column, Key, Row, Text, Time, Ty, Value, fits};
+use sqlite::types::ValueRef;
+use std::alloc::Global;
+use table_defs::TableDef;
+
+/// The first and the last second of the years 0001 to 9999.
+const FIRST_SECOND: i64 = -62_135_596_800;
+
+const LAST_SECOND: i64 = 253_402_300_799;
+
+/// The value as SQLite keeps it.
+fn lent(value: &Value) -> ValueRef<'_> {
+    match value {
+        Value::Null => ValueRef::Null,
+        Value::Number(number) => ValueRef::Int(number.units()),
+        Value::Text(text) => ValueRef::Text(text.as_bytes()),
+        Value::Time(time) => ValueRef::Int(time.seconds()),
+    }
+}
+
+/// The values as SQLite keeps them.
+pub(crate) fn lent_all<'a>(
+    alloc: Global,
+    values: &'a [Value],
+) -> Result<Vec<ValueRef<'a>>, StoreFault> {
+    let mut out = Vec::with_capacity(alloc, values.len())?;
+    for value in values {
+        out.push(lent(value))?;
+    }
+    Ok(out)
+}
+
+/// The values of an update: those of the new row that aren't of the key, and then the key.
+pub(crate) fn lent_update<'a>(
+    alloc: Global,
+    def: &TableDef,
+    row: &'a Row,
+    key: &'a Key,
+) -> Result<Vec<ValueRef<'a>>, StoreFault> {
+    let mut out = Vec::with_capacity(alloc, row.values().len())?;
+    for (place, value) in row.values().iter().enumerate() {
+        if !def.primary_key.as_slice().contains(&place) {
+            out.push(lent(value))?;
+        }
+    }
+    for value in key.values() {
+        out.push(lent(value))?;
+    }
+    Ok(out)
+}
+
+/// The row of these columns, in their order. It fails where a value isn't one that its column holds.
+pub(crate) fn row_of(
+    alloc: Global,
+    columns: &[Column],
+    stored: &sqlite::Row,
+) -> Result<Row, StoreFault> {
+    let mut values = Vec::with_capacity(alloc, columns.len())?;
+    for (place, column) in columns.iter().enumerate() {
+        values.push(value_of(alloc, column, stored.get_ref(place)?)?)?;
+    }
+    Ok(Row::from_vec(values))
+}
+
+/// The key of the columns at these places. It fails where a value isn't one that its column holds.
+pub(crate) fn key_of(
+    alloc: Global,
+    def: &TableDef,
+    stored: &sqlite::Row,
+) -> Result<Key, StoreFault> {
+    let places = def.primary_key.as_slice();
+    let mut values = Vec::with_capacity(alloc, places.len())?;
+    for (at, place) in places.iter().enumerate() {
+        match def.columns.get(*place) {
+            None => return Err(StoreFault::Failed),
+            Some(column) => values.push(value_of(alloc, column, stored.get_ref(at)?)?)?,
+        }
+    }
+    Ok(Key::from_vec(values))
+}
+
+fn value_of(alloc: Global, column: &Column, stored: ValueRef<'_>) -> Result<Value, StoreFault> {
+    let value = match stored {
+        ValueRef::Null => Value::Null,
+        ValueRef::Int(number) => whole_of(column.ty, number)?,
+        ValueRef::Text(bytes) => text_value(alloc, bytes)?,
+        ValueRef::Blob(bytes) => text_value(alloc, bytes)?,
+        ValueRef::Real(_) => return Err(StoreFault::Failed),
+    };
+    match fits(&value, column) {
+        Ok(()) => Ok(value),
+        Err(_) => Err(StoreFault::Failed),
+    }
+}
+
+fn text_value(alloc: Global, bytes: &[u8]) -> Result<Value, StoreFault> {
+    if bytes.is_empty() {
+        return Ok(Value::Null);
+    }
+    Ok(Value::Text(Text::new(alloc, bytes)?))
+}
+
+fn whole_of(ty: Ty, number: i64) -> Result<Value, StoreFault> {
+    match ty {
+        Ty::TtInteger => Ok(Value::integer(number)),
+        Ty::TtBigint => Ok(Value::integer(number)),
+        Ty::Number(_, scale) => match Number::new(number, scale) {
+            None => Err(StoreFault::Failed),
+            Some(number) => Ok(Value::Number(number)),
+        },
+        Ty::Timestamp => match time_of(number) {
+            None => Err(StoreFault::Failed),
+            Some(time) => Ok(Value::Time(time)),
+        },
+        Ty::Varchar2(_) => Err(StoreFault::Failed),
+    }
+}
+
+fn time_of(seconds: i64) -> Option<Time> {
+    if FIRST_SECOND <= seconds && seconds <= LAST_SECOND {
+        Some(Time::from_seconds(seconds))
+    } else {
+        None
+    }
+}
+
+/// Whether each value of the key is one that its column of the table's primary key holds.
+pub(crate) fn is_key_of(def: &TableDef, key: &Key) -> bool {
+    let places = def.primary_key.as_slice();
+    let values = key.values();
+    places.len() == values.len()
+        && places
+            .iter()
+            .zip(values.iter())
+            .all(|(place, value)| holds_at(def, *place, value))
+}
+
+fn holds_at(def: &TableDef, place: usize, value: &Value) -> bool {
+    match def.columns.get(place) {
+        None => false,
+        Some(column) => column.ty.holds(value),
+    }
+}

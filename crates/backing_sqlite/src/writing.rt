@@ -1,0 +1,134 @@
+//! What is written into the store.
+
+use crate::fault::StoreFault;
+use crate::judging::named_row;
+use crate::reading::entries;
+use crate::shelf::Shelf;
+use crate::values::{lent_all, lent_update};
+use row_types::{Key, Row};
+use sqlite::types::ValueRef;
+use sqlite::{Alter, Transaction};
+use std::alloc::Global;
+use table_state::{Op, key_of_row};
+use tier_base::{TableId, Ticket};
+
+/// Does a statement, and tells how many rows it changed.
+pub(crate) fn give<S: Alter>(
+    tx: &mut Transaction<'_, S>,
+    sql: &str,
+    values: &[ValueRef<'_>],
+) -> Result<usize, StoreFault> {
+    match tx.execute(sql, values) {
+        Ok(count) => Ok(count),
+        Err(error) => Err(StoreFault::from(error)),
+    }
+}
+
+// Does a statement that has to change one row.
+fn give_one<S: Alter>(
+    tx: &mut Transaction<'_, S>,
+    sql: &str,
+    values: &[ValueRef<'_>],
+) -> Result<(), StoreFault> {
+    match give(tx, sql, values)? {
+        1 => Ok(()),
+        _ => Err(StoreFault::Failed),
+    }
+}
+
+/// Does an operation, which applies.
+pub(crate) fn do_op<S: Alter>(
+    alloc: Global,
+    tx: &mut Transaction<'_, S>,
+    shelf: &Shelf,
+    op: &Op,
+) -> Result<(), StoreFault> {
+    match op {
+        Op::Insert(table, row) => insert(alloc, tx, shelf, *table, row),
+        Op::Update(_, _, new) => {
+            let key = key_in(alloc, shelf, op)?;
+            update(alloc, tx, shelf, op.table(), &key, new)
+        }
+        Op::Delete(_, _) => {
+            let key = key_in(alloc, shelf, op)?;
+            delete(alloc, tx, shelf, op.table(), &key)
+        }
+    }
+}
+
+fn key_in(alloc: Global, shelf: &Shelf, op: &Op) -> Result<Key, StoreFault> {
+    match shelf.def(op.table()) {
+        None => Err(StoreFault::Failed),
+        Some(def) => Ok(key_of_row(alloc, def, named_row(op))?),
+    }
+}
+
+fn insert<S: Alter>(
+    alloc: Global,
+    tx: &mut Transaction<'_, S>,
+    shelf: &Shelf,
+    table: TableId,
+    row: &Row,
+) -> Result<(), StoreFault> {
+    let values = lent_all(alloc, row.values())?;
+    give_one(tx, shelf.texts(table)?.insert.as_str(), values.as_slice())
+}
+
+fn update<S: Alter>(
+    alloc: Global,
+    tx: &mut Transaction<'_, S>,
+    shelf: &Shelf,
+    table: TableId,
+    key: &Key,
+    row: &Row,
+) -> Result<(), StoreFault> {
+    let Some(def) = shelf.def(table) else {
+        return Err(StoreFault::Failed);
+    };
+    match &shelf.texts(table)?.update {
+        None => Ok(()),
+        Some(text) => {
+            let values = lent_update(alloc, def, row, key)?;
+            give_one(tx, text.as_str(), values.as_slice())
+        }
+    }
+}
+
+fn delete<S: Alter>(
+    alloc: Global,
+    tx: &mut Transaction<'_, S>,
+    shelf: &Shelf,
+    table: TableId,
+    key: &Key,
+) -> Result<(), StoreFault> {
+    let values = lent_all(alloc, key.values())?;
+    give_one(tx, shelf.texts(table)?.delete.as_str(), values.as_slice())
+}
+
+/// Counts one entry more, and tells how many there are then.
+pub(crate) fn add_entry<S: Alter>(tx: &mut Transaction<'_, S>) -> Result<u64, StoreFault> {
+    let Some(count) = entries(tx)?.checked_add(1) else {
+        return Err(StoreFault::Failed);
+    };
+    let Ok(number) = i64::try_from(count) else {
+        return Err(StoreFault::Failed);
+    };
+    let text = "UPDATE \"ttcache-history\" SET entries = ?";
+    give_one(tx, text, &[ValueRef::Int(number)])?;
+    Ok(count)
+}
+
+/// Records a ticket with its position.
+pub(crate) fn record<S: Alter>(
+    tx: &mut Transaction<'_, S>,
+    ticket: Ticket,
+    position: u64,
+) -> Result<(), StoreFault> {
+    match (i64::try_from(ticket.0), i64::try_from(position)) {
+        (Ok(ticket), Ok(position)) => {
+            let text = "INSERT INTO \"ttcache-tickets\" (ticket, position) VALUES (?, ?)";
+            give_one(tx, text, &[ValueRef::Int(ticket), ValueRef::Int(position)])
+        }
+        _ => Err(StoreFault::Failed),
+    }
+}

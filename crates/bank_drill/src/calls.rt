@@ -1,0 +1,143 @@
+//! Calls of the site, as a script asks for them.
+
+use crate::answers::{
+    tell_applied, tell_bank_error, tell_done, tell_found, tell_lines, tell_schema, tell_snapshot,
+};
+use crate::asking::{asked, changes_of, key_of, ops_of, table_of, tables_of, tickets_of};
+use crate::error::DrillError;
+use outside::Site;
+use row_types::TableDeclaration;
+use sql_subset::request::ConsoleRequest;
+use std::alloc::Global;
+use table_defs::{BackingSchema, TableDef};
+use table_state::Sealed;
+use tier_base::Ticket;
+
+/// Makes a table, or does the writes of a transaction of the console.
+pub fn console<T: Site>(
+    alloc: Global,
+    site: &mut T,
+    text: &str,
+    line: usize,
+    out: &mut Vec<u8>,
+) -> Result<(), DrillError> {
+    let known = site.schema()?;
+    match asked(alloc, text)? {
+        None => Err(DrillError::Line(line)),
+        Some(ConsoleRequest::CreateTable(table)) => define(alloc, site, &known, &table, line, out),
+        Some(ConsoleRequest::Writes(_)) => foreign(alloc, site, &known, text, line, out),
+    }
+}
+
+fn define<T: Site>(
+    alloc: Global,
+    site: &mut T,
+    known: &BackingSchema,
+    table: &TableDeclaration,
+    line: usize,
+    out: &mut Vec<u8>,
+) -> Result<(), DrillError> {
+    let Ok(def) = TableDef::check(alloc, table, known) else {
+        return Err(DrillError::Line(line));
+    };
+    match site.define(&def) {
+        Ok(()) => tell_lines(out, b"defined"),
+        Err(error) => tell_bank_error(out, error),
+    }
+}
+
+fn foreign<T: Site>(
+    alloc: Global,
+    site: &mut T,
+    known: &BackingSchema,
+    text: &str,
+    line: usize,
+    out: &mut Vec<u8>,
+) -> Result<(), DrillError> {
+    let changes = changes_of(alloc, known, text, line)?;
+    match site.foreign(changes.as_slice()) {
+        Ok(done) => tell_done(out, &done),
+        Err(error) => tell_bank_error(out, error),
+    }
+}
+
+/// The transaction of this ticket that does these operations.
+pub fn seal<T: Site>(
+    alloc: Global,
+    site: &mut T,
+    ticket: u64,
+    ops: &str,
+    line: usize,
+) -> Result<Sealed, DrillError> {
+    let known = site.schema()?;
+    let ops = ops_of(alloc, &known, ops, line)?;
+    Ok(Sealed {
+        ticket: Ticket(ticket),
+        ops,
+    })
+}
+
+/// Applies the transaction of this ticket once.
+pub fn apply<T: Site>(
+    alloc: Global,
+    site: &mut T,
+    sealed: &[Sealed],
+    ticket: u64,
+    after: &str,
+    line: usize,
+    out: &mut Vec<u8>,
+) -> Result<(), DrillError> {
+    let after = tickets_of(alloc, after, line)?;
+    match sealed.iter().find(|one| one.ticket.0 == ticket) {
+        None => Err(DrillError::Line(line)),
+        Some(one) => match site.apply_once(one, after.as_slice()) {
+            Ok(applied) => {
+                let known = site.schema()?;
+                tell_applied(out, &known, &applied)
+            }
+            Err(error) => tell_bank_error(out, error),
+        },
+    }
+}
+
+/// Tells the row at a key.
+pub fn find<T: Site>(
+    alloc: Global,
+    site: &mut T,
+    table: &str,
+    key: &str,
+    line: usize,
+    out: &mut Vec<u8>,
+) -> Result<(), DrillError> {
+    let known = site.schema()?;
+    let table = table_of(alloc, &known, table, line)?;
+    let key = key_of(alloc, key, line)?;
+    match site.find(table, &key) {
+        Ok(row) => tell_found(out, &row),
+        Err(error) => tell_bank_error(out, error),
+    }
+}
+
+/// Tells the definitions.
+pub fn schema<T: Site>(site: &mut T, out: &mut Vec<u8>) -> Result<(), DrillError> {
+    match site.schema() {
+        Ok(known) => tell_schema(out, &known),
+        Err(error) => tell_bank_error(out, error),
+    }
+}
+
+/// Tells the rows of these tables.
+pub fn snapshot<T: Site>(
+    alloc: Global,
+    site: &mut T,
+    tables: &str,
+    line: usize,
+    out: &mut Vec<u8>,
+) -> Result<(), DrillError> {
+    let known = site.schema()?;
+    let tables = tables_of(alloc, &known, tables, line)?;
+    match site.snapshot(tables.as_slice()) {
+        Ok(copy) => tell_snapshot(out, &copy),
+        Err(error) => tell_bank_error(out, error),
+    }
+}

@@ -1,0 +1,74 @@
+//! The lines of a script.
+
+/// What a line asks for.
+#[derive(Clone, Copy)]
+pub enum Command<'a> {
+    /// `#..`: what the script is about.
+    Note,
+    /// `!seal TICKET OPERATIONS`: the operations are kept as the transaction of this ticket.
+    Seal(u64, &'a str),
+    /// `!apply TICKET` or `!apply TICKET OTHER ..`: the transaction is applied once, behind those of the other tickets.
+    Apply(u64, &'a str),
+    /// `!find TABLE VALUE,..`: the row at a key.
+    Find(&'a str, &'a str),
+    /// `!schema`: the definitions.
+    Schema,
+    /// `!snapshot TABLE ..`: rows of these tables.
+    Snapshot(&'a str),
+    /// `!put TEXT`: the bytes are written into the second slot behind its first byte, and synced.
+    Put(&'a str),
+    /// `!get`: the bytes of the second slot behind its first one.
+    Get,
+    /// `!again`: the files are closed, and opened again.
+    Again,
+    /// `!open PATH`: another database is opened.
+    Open(&'a str),
+    /// A definition or writes, as the console spells them.
+    Console(&'a str),
+}
+
+impl<'a> Command<'a> {
+    /// What the line asks for, none where it isn't understood.
+    pub fn parse(line: &'a [u8]) -> Option<Command<'a>> {
+        let text = str::from_utf8(line).ok()?;
+        if text.starts_with("#") {
+            return Some(Command::Note);
+        }
+        match text.strip_prefix("!") {
+            None => Some(Command::Console(text)),
+            Some(rest) => parse_call(rest),
+        }
+    }
+}
+
+fn parse_call(text: &str) -> Option<Command<'_>> {
+    let (word, rest) = first_word(text);
+    match word {
+        "seal" => {
+            let (ticket, ops) = first_word(rest);
+            let ticket = ticket.parse::<u64>().ok()?;
+            Some(Command::Seal(ticket, ops))
+        }
+        "apply" => {
+            let (ticket, after) = first_word(rest);
+            let ticket = ticket.parse::<u64>().ok()?;
+            Some(Command::Apply(ticket, after))
+        }
+        "find" => {
+            let (table, key) = first_word(rest);
+            Some(Command::Find(table, key))
+        }
+        "schema" => Some(Command::Schema),
+        "snapshot" => Some(Command::Snapshot(rest)),
+        "put" => Some(Command::Put(rest)),
+        "get" => Some(Command::Get),
+        "again" => Some(Command::Again),
+        "open" => Some(Command::Open(rest)),
+        _ => None,
+    }
+}
+
+// The text up to its first blank, and what stands behind that.
+fn first_word(text: &str) -> (&str, &str) {
+    text.split_once(' ').unwrap_or((text, ""))
+}
