@@ -14,7 +14,7 @@ ghost use Rattle.outside.specs.declared.fault.BankError.{BankError};
 ghost use Rattle.transactions.specs.Transactions.{Tells, written_by_all};
 ghost use Rattle.backing_gate.specs.Heeding.{MayVisit, NoneDiffers};
 ghost use Rattle.backing_gate.specs.Sharing.{WritesOnShared};
-ghost use Rattle.table_scan.specs.Keyed.{IsKeyed};
+ghost use Rattle.table_state.specs.Keyed.{IsKeyed};
 ghost use Rattle.backing_gate.specs.Tickets.{FirstMissing};
 
 use crate::difference::{first_difference, row_at};

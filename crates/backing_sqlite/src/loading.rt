@@ -1,6 +1,6 @@
 //! Tables read out of the store.
 
-ghost use Rattle.table_scan.specs.Keyed.{IsKeyed};
+ghost use Rattle.table_state.specs.Keyed.{IsKeyed};
 ghost use Rattle.std.specs.Prelude.{IfOk};
 
 use crate::closure::Choice;
@@ -11,7 +11,7 @@ use crate::values::row_of;
 use sqlite::{Alter, Transaction};
 use std::alloc::Global;
 use table_defs::TableDef;
-use table_scan::laws::keyed_law;
+use table_state::scan_laws::keyed_law;
 use table_state::{ApplyError, Entry, Op, Tables};
 use tier_base::TableId;
 

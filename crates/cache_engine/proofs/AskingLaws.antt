@@ -23,9 +23,9 @@ use Rattle.cache_tier.specs.Groups.{Group, covers, definitions_of, is_defined_on
 use Rattle.cache_tier.specs.Shown.{shown_state}
 use Rattle.cache_tier.specs.TierStates.{Tier}
 use Rattle.cache_tier.specs.Worlds.{BankCall, IsUnshared, Passes, World, bank_fault}
-use Rattle.tier_laws.specs.Defining.{ShowsSchema, with_tables}
-use Rattle.tier_laws.specs.Events.{StaysShown, at_history, with_tier}
-use Rattle.tier_laws.specs.Standing.{Stands}
+use Rattle.cache_tier.specs.Defining.{ShowsSchema, with_tables}
+use Rattle.cache_tier.specs.Events.{StaysShown, at_history, with_tier}
+use Rattle.cache_tier.specs.StandingBetween.{Stands}
 use Rattle.stored_tier.specs.declared.tier.Tier.{Tier as Stored}
 use Rattle.cache_engine.specs.Growing.{Learns, has_to_ask, misses}
 use Rattle.stored_tier.specs.Performing.{Performs}

@@ -22,8 +22,8 @@ use Rattle.tier_statements.specs.Seen.{session_seen}
 use Rattle.cache_tier.specs.Shown.{shown_state, shown_table, tables_from}
 use Rattle.cache_tier.specs.TierStates.{Settings, Tier, opened}
 use Rattle.cache_tier.specs.Worlds.{World}
-use Rattle.tier_laws.specs.Events.{with_tier}
-use Rattle.tier_laws.specs.Standing.{Stands}
+use Rattle.cache_tier.specs.Events.{with_tier}
+use Rattle.cache_tier.specs.StandingBetween.{Stands}
 use Rattle.stored_tier.specs.declared.tier.Tier.{Tier as Stored}
 use Rattle.stored_tier.specs.declared.clock.TierClock.{TierClock}
 use Rattle.cache_engine.specs.Beginning.{Begins, BeginsAt, IsBegun, IsFresh, IsNewClock, IsOpened, OthersCame, opened_world}
@@ -31,7 +31,7 @@ use Rattle.stored_tier.specs.Naming.{AreNamed}
 use Rattle.stored_tier.specs.Performing.{KeepsSlots, StandsFor}
 use Rattle.outside.specs.Sites.{SiteState}
 use Rattle.stored_tier.specs.Stored.{AreKept, HaveOwnNames, IsSound, IsStoredAs, KeepsTime, are_later, is_plain, rows_of, without_list}
-use Rattle.group_rows.specs.Moments.{refreshed_in, set_seen}
+use Rattle.stored_tier.specs.Moments.{refreshed_in, set_seen}
 use Rattle.stored_tier.proofs.BankLaws.{told_behind}
 use Rattle.session_engine.proofs.OthersLaws.{came_by, schema_told}
 use Rattle.stored_tier.proofs.StandingLaws.{slots_kept}

@@ -43,8 +43,8 @@ use Rattle.cache_tier.specs.Routes.{is_written_through}
 use Rattle.cache_tier.specs.Rules.{named}
 use Rattle.tier_base.specs.declared.code.Code.TheVariants as code
 use Rattle.cache_tier.specs.TierStates.{Tier}
-use Rattle.tier_laws.specs.Standing.{live_groups_of}
-use Rattle.tier_laws.proofs.GroupTables.{live_table}
+use Rattle.cache_tier.specs.StandingBetween.{live_groups_of}
+use Rattle.cache_tier.proofs.GroupTables.{live_table}
 
 module _ (live : List TableId) where
   abbrev pub IsOff : List Op → Type 0

@@ -19,7 +19,7 @@ use Rattle.table_state.specs.Tables.{TableState}
 use Rattle.table_state.proofs.HistoryLaws.{state_of-append}
 use Rattle.order_laws.specs.Sides.{are_off}
 use Rattle.order_laws.proofs.AgreeLaws.{all_closed}
-use Rattle.commit_flow.specs.Events.{Others}
+use Rattle.order_laws.specs.Events.{Others}
 use Rattle.evaluator.specs.declared.change.Change.{Change}
 use Rattle.transactions.specs.Transactions.{Done}
 use Rattle.outside.specs.Bank.{Grows}
@@ -42,8 +42,8 @@ use Rattle.cache_tier.specs.TierStates.{Tier}
 use Rattle.cache_tier.specs.Worlds.{IsUnshared, Tries, Unless, World, faulty, only}
 use Rattle.cache_tier.specs.declared.reply.Last.TheVariants.{No}
 use Rattle.cache_tier.specs.declared.reply.Reply.{Reply}
-use Rattle.tier_laws.specs.Events.{StaysShown, at_history}
-use Rattle.tier_laws.specs.Standing.{Stands, live_groups_of}
+use Rattle.cache_tier.specs.Events.{StaysShown, at_history}
+use Rattle.cache_tier.specs.StandingBetween.{Stands, live_groups_of}
 use Rattle.tier_statements.specs.Replies.{reply_to}
 use Rattle.stored_tier.specs.declared.tier.Tier.{Tier as Stored}
 use Rattle.stored_tier.specs.Performing.{AreLast, IsCaused, Performs, StandsFor}

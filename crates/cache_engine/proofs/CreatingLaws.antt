@@ -30,9 +30,9 @@ use Rattle.cache_tier.specs.TierStates.{Tier}
 use Rattle.cache_tier.specs.Worlds.{BankCall, IsUnshared, Part, Quiet, Tries, Unless, World, faulty, only}
 use Rattle.cache_tier.specs.declared.reply.Last.TheVariants.{Done, No}
 use Rattle.cache_tier.specs.declared.reply.Reply.{Reply}
-use Rattle.tier_laws.specs.Defining.{ShowsTable, with_tables}
-use Rattle.tier_laws.specs.Events.{StaysShown, at_history, with_tier}
-use Rattle.tier_laws.specs.Standing.{Stands}
+use Rattle.cache_tier.specs.Defining.{ShowsTable, with_tables}
+use Rattle.cache_tier.specs.Events.{StaysShown, at_history, with_tier}
+use Rattle.cache_tier.specs.StandingBetween.{Stands}
 use Rattle.stored_tier.specs.declared.tier.Tier.{Tier as Stored}
 use Rattle.cache_engine.specs.Growing.{Learns}
 use Rattle.stored_tier.specs.Performing.{IsCaused, IsPerformed, Performs, StandsFor, reply_of}

@@ -21,11 +21,11 @@ use Rattle.stored_tier.specs.declared.tier.Tier.{Tier as Stored}
 use Rattle.cache_engine.specs.Due.{IsDueCaused}
 use Rattle.cache_engine.specs.DueItems.{DoesItem, due_of, note_of, notes_since}
 use Rattle.stored_tier.specs.Performing.{IsCaused, IsStopCaused, KeepsSlots, Performs, StandsFor}
-use Rattle.group_rows.specs.Refreshing.{has_moment}
+use Rattle.stored_tier.specs.Refreshing.{has_moment}
 use Rattle.stored_tier.specs.Sites.{IsAt}
 use Rattle.outside.specs.Sites.{SiteState}
 use Rattle.stored_tier.specs.Stored.{without_list}
-use Rattle.group_rows.proofs.FillSteps.{drop_one, drop_past}
+use Rattle.stored_tier.proofs.FillSteps.{drop_one, drop_past}
 
 -- notes behind notes
 

@@ -4,9 +4,9 @@ use Rattle.std.specs.List.{list_all}
 use Rattle.order_laws.proofs.TruthLaws.{both_true}
 use Rattle.cache_tier.specs.DueWork.{intervals, with_number}
 use Rattle.cache_tier.specs.Groups.{Group, is_on, is_read_only}
-use Rattle.group_rows.specs.declared.moments.SetMoment.{SetMoment}
-use Rattle.group_rows.specs.Refreshing.{has_moment}
-use Rattle.group_rows.proofs.FillSteps.{drop_one, take_one}
+use Rattle.stored_tier.specs.declared.moments.SetMoment.{SetMoment}
+use Rattle.stored_tier.specs.Refreshing.{has_moment}
+use Rattle.stored_tier.proofs.FillSteps.{drop_one, take_one}
 
 -- the intervals of the groups from a place on
 

@@ -24,13 +24,13 @@ use Rattle.cache_tier.specs.Worlds.{OnlyWhere, Passes, World, bank_fault, faulty
 use Rattle.cache_tier.specs.declared.reply.Note.{Note}
 use Rattle.cache_tier.specs.declared.reply.Reply.{Reply}
 use Rattle.group_catalog.specs.Catalogs.{groups_in}
-use Rattle.tier_laws.specs.Events.{with_tier}
-use Rattle.tier_laws.specs.Standing.{Stands}
+use Rattle.cache_tier.specs.Events.{with_tier}
+use Rattle.cache_tier.specs.StandingBetween.{Stands}
 use Rattle.stored_tier.specs.declared.clock.TierClock.{TierClock}
 use Rattle.stored_tier.specs.declared.tier.Tier.{Tier as Stored}
 use Rattle.cache_engine.specs.DueItems.{DoesItem, KeepsSets, due_at, is_due_at, note_of, round_is_due}
 use Rattle.stored_tier.specs.Performing.{IsStopCaused, Performs, StandsFor}
-use Rattle.group_rows.specs.Refreshing.{has_moment, moment_in}
+use Rattle.stored_tier.specs.Refreshing.{has_moment, moment_in}
 use Rattle.outside.specs.Sites.{SiteState}
 use Rattle.stored_tier.specs.Stored.{IsSound, IsStoredAs, KeepsTime, is_plain, without_list}
 use Rattle.cache_engine.proofs.DueItemLaws.{as_item, idle_item, noted_item, since_none, stopped_item, then_items}

@@ -26,7 +26,7 @@ use Rattle.group_store.specs.Stores.{Kept, foreign_columns, place_in}
 use Rattle.group_store.specs.Trees.{Layer}
 use Rattle.group_store.specs.declared.directory.Home.{Home}
 use Rattle.cache_tier.specs.Groups.{Group}
-use Rattle.tier_laws.specs.Defining.{with_tables}
+use Rattle.cache_tier.specs.Defining.{with_tables}
 use Rattle.stored_tier.specs.declared.tier.Tier.{Tier as Stored}
 use Rattle.cache_engine.specs.Growing.{BeginsWith, Learns, MayLearn}
 use Rattle.stored_tier.specs.Naming.{AreNamed, HasNoHome}

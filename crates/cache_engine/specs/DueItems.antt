@@ -11,12 +11,12 @@ use Rattle.cache_tier.specs.declared.reply.Note.{Note}
 use Rattle.cache_tier.specs.declared.reply.Note.TheVariants.{Propagate, Refresh}
 use Rattle.cache_tier.specs.declared.reply.Reply.{Reply}
 use Rattle.group_catalog.specs.Catalogs.{groups_in}
-use Rattle.group_rows.specs.declared.moments.SetMoment.{SetMoment}
+use Rattle.stored_tier.specs.declared.moments.SetMoment.{SetMoment}
 use Rattle.cache_engine.specs.declared.due.Due.{Due}
 use Rattle.stored_tier.specs.declared.tier.Tier.{Tier as Stored}
 use Rattle.cache_engine.specs.Due.{IsDueCaused}
 use Rattle.stored_tier.specs.Performing.{Performs}
-use Rattle.group_rows.specs.Refreshing.{has_moment, moment_in}
+use Rattle.stored_tier.specs.Refreshing.{has_moment, moment_in}
 use Rattle.outside.specs.Sites.{SiteState}
 
 -- a set is due at a moment: its interval after its last refresh

@@ -11,7 +11,7 @@ use Rattle.group_store.specs.declared.directory.Home.{Home}
 use Rattle.sql_subset.specs.declared.request.Line.{Line}
 use Rattle.cache_tier.specs.ConsoleSteps.{names_of_line}
 use Rattle.cache_tier.specs.Groups.{is_table_of}
-use Rattle.tier_laws.specs.Defining.{with_tables}
+use Rattle.cache_tier.specs.Defining.{with_tables}
 use Rattle.stored_tier.specs.declared.tier.Tier.{Tier as Stored}
 use Rattle.stored_tier.specs.Naming.{AreNamed, HasNoHome}
 use Rattle.stored_tier.specs.Stored.{rows_of}

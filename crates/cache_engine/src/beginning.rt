@@ -5,6 +5,7 @@ ghost use Rattle.cache_engine.specs.Beginning.{IsFresh, IsNewClock, Begins, Begi
 ghost use Rattle.stored_tier.specs.Stored.{IsSound};
 ghost use Rattle.outside.specs.Faults.{BankHasCause};
 
+use cache_tier::opened_law;
 use group_catalog::Catalog;
 use open_sessions::Sessions;
 use outside::{BankError, Site};
@@ -15,7 +16,6 @@ use stored_tier::naming::name_tables;
 use stored_tier::tier::Tier;
 use table_defs::BackingSchema;
 use tier_base::{Limit, Moment};
-use tier_laws::opened_law;
 
 /// A tier over a backing database in which no transaction of a tier stands. It asks for the schema; transactions of
 /// others may come in that call. `start` is its first moment, and `propagate_ms` says after how many milliseconds a

@@ -12,15 +12,15 @@ ghost use Rattle.stored_tier.specs.Stored.{HasSession, IsSound};
 use crate::due_work::refresh_set;
 use cache_tier::called::Called;
 use cache_tier::reply::Reply;
+use cache_tier::session_law;
 use group_catalog::resolve_call;
-use group_rows::refreshing::{make_moment, set_size};
 use outside::Site;
 use row_types::Refused;
 use sql_subset::stmt::Call;
 use std::alloc::Global;
+use stored_tier::refreshing::{make_moment, set_size};
 use stored_tier::tier::Tier;
 use tier_base::{Code, SessionId};
-use tier_laws::session_law;
 use tier_statements::{done, faulty};
 
 /// CALL: ttDrain applies what is unsettled at the bank, and tells how many transactions that were; ttCacheAutorefresh

@@ -11,10 +11,10 @@ ghost use Rattle.stored_tier.specs.Stored.{IsSound};
 use crate::due_sets::{due_intervals, with_entries};
 use crate::due_work::do_due;
 use cache_tier::reply::{Note, Reply};
-use group_rows::moments::SetMoment;
 use outside::Site;
 use sql_subset::request::Line;
 use std::alloc::{AllocError, Global};
+use stored_tier::moments::SetMoment;
 use stored_tier::tier::Tier;
 use tier_base::{Limit, Moment, Seq};
 

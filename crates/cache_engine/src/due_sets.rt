@@ -5,12 +5,12 @@ ghost use Rattle.std.specs.List.{filter, list_all};
 ghost use Rattle.cache_tier.specs.DueWork.{intervals, with_number};
 ghost use Rattle.group_catalog.specs.Catalogs.{groups_in};
 ghost use Rattle.cache_engine.specs.DueItems.{due_at, is_due_at};
-ghost use Rattle.group_rows.specs.Refreshing.{has_moment, moment_in};
+ghost use Rattle.stored_tier.specs.Refreshing.{has_moment, moment_in};
 
 use group_catalog::Catalog;
-use group_rows::moments::SetMoment;
-use group_rows::refreshing::{is_on, is_read_only, make_moment};
 use std::alloc::{AllocError, Global};
+use stored_tier::moments::SetMoment;
+use stored_tier::refreshing::{is_on, is_read_only, make_moment};
 
 // The intervals of the sets that are due at a moment, rising. It fails for want of memory alone.
 pub(crate) fn due_intervals(

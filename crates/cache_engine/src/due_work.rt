@@ -8,14 +8,14 @@ ghost use Rattle.cache_tier.specs.Sets.{RefreshesIfShown};
 ghost use Rattle.group_catalog.specs.Catalogs.{groups_in};
 ghost use Rattle.cache_engine.specs.DueItems.{DoesItem, due_at, note_of, round_is_due, KeepsSets};
 ghost use Rattle.stored_tier.specs.Performing.{stop_of, IsStopCaused, Performs};
-ghost use Rattle.group_rows.specs.Refreshing.{has_moment};
+ghost use Rattle.stored_tier.specs.Refreshing.{has_moment};
 ghost use Rattle.stored_tier.specs.Stored.{IsSound};
 
 use cache_tier::reply::{Last, Note, Reply};
 use group_engine::fresh::refresh_members;
-use group_rows::refreshing::shows_something;
 use outside::Site;
 use std::alloc::Global;
+use stored_tier::refreshing::shows_something;
 use stored_tier::tier::Tier;
 use tier_base::Code;
 use tier_statements::bank_fault;

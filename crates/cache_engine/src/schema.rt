@@ -12,6 +12,7 @@ ghost use Rattle.stored_tier.specs.Stored.{IsSound};
 
 use crate::growing::{learn, name_grown};
 use cache_tier::reply::Reply;
+use cache_tier::{others_shown_law, table_shown_law};
 use outside::Site;
 use row_types::TableDeclaration;
 use sql_query::{FromTable, Write};
@@ -21,7 +22,6 @@ use std::alloc::Global;
 use stored_tier::tier::Tier;
 use table_defs::find_table;
 use tier_base::{Code, Name};
-use tier_laws::{others_shown_law, table_shown_law};
 use tier_statements::{bank_fault, faulty};
 
 /// Asks the bank for the schema, where a definition has failed since it was told, and the line names a table that

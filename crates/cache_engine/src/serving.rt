@@ -10,6 +10,7 @@ use crate::console::write_console;
 use crate::create::check_table;
 use crate::growing::{learn, name_grown};
 use cache_tier::reply::Reply;
+use cache_tier::{others_shown_law, round_shown_law, table_shown_law};
 use outside::{BankError, Site};
 use row_types::{Refused, TableDeclaration};
 use sql_subset::request::ConsoleRequest;
@@ -17,7 +18,6 @@ use std::alloc::{AllocError, Global};
 use stored_tier::tier::Tier;
 use table_defs::{BackingSchema, TableDef, copied_schema};
 use tier_base::Code;
-use tier_laws::{others_shown_law, round_shown_law, table_shown_law};
 use tier_statements::{done, faulty};
 
 /// What the console asks: CREATE TABLE, which `check_table` judges, or writes as one transaction of others, as

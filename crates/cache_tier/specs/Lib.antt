@@ -54,3 +54,11 @@ pub mod Wants
 pub mod Worked
 pub mod Worlds
 pub mod WriteSteps
+pub mod StandingBetween
+pub mod Events
+pub mod Pending
+pub mod Defining
+pub mod Refreshing
+pub mod Loading
+pub mod Dropping
+pub mod Statements

@@ -10,7 +10,7 @@ ghost use Rattle.change_log.specs.Netting.{where_it_differs};
 
 use crate::log::{Log, RowChange};
 use crate::netting::{copied_row, is_same_place};
-use key_rows::Rows;
+use indexed_rows::Rows;
 use row_types::{Key, Row};
 use std::alloc::{AllocError, Global};
 use table_state::Tables;

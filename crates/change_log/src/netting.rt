@@ -10,8 +10,7 @@ ghost use Rattle.change_log.specs.Tags.{tagged};
 
 use crate::log::{Log, RowChange};
 use crate::tags::tagged;
-use indexed_rows::is_same_row;
-use key_rows::Rows;
+use indexed_rows::{Rows, is_same_row};
 use row_types::Row;
 use std::alloc::{AllocError, Global};
 use tier_base::Seq;

@@ -5,7 +5,7 @@ use Rattle.std.proofs.lemmas.Grind.{flat_map-append}
 use Rattle.std.proofs.lemmas.List.{take-append-drop, take_all}
 use Rattle.std.proofs.lemmas.List.Elements.{filter-append}
 use Rattle.std.proofs.lemmas.Option.{slice_get_within}
-use Rattle.table_scan.specs.Children.{first_from}
+use Rattle.table_state.specs.ScanChildren.{first_from}
 use Rattle.evaluator.specs.declared.capped.Capped.{Capped}
 use Rattle.row_types.specs.declared.rule.Rule.{Rule}
 use Rattle.evaluator.specs.Capping.{extended}

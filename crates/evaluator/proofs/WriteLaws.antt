@@ -17,11 +17,11 @@ use Rattle.table_state.specs.declared.operation.Op.TheVariants as op
 use Rattle.table_defs.specs.Declarations.{foreign_places}
 use Rattle.indexed_rows.specs.Rows.{Table}
 use Rattle.table_state.specs.Tables.{TableState, table_at}
-use Rattle.table_scan.specs.Children.{refers_to}
+use Rattle.table_state.specs.ScanChildren.{refers_to}
 use Rattle.table_state.specs.Tables.{fits_columns}
-use Rattle.table_scan.specs.Keyed.{HasFit, IsKeyed, IsUnderKeys, has_key}
-use Rattle.table_scan.proofs.KeyedLaws.{none_has_fit, none_is_under}
-use Rattle.table_scan.proofs.KeyLaws.{all_fit, found_by_key}
+use Rattle.table_state.specs.Keyed.{HasFit, IsKeyed, IsUnderKeys, has_key}
+use Rattle.table_state.proofs.KeyedLaws.{none_has_fit, none_is_under}
+use Rattle.table_state.proofs.KeyLaws.{all_fit, found_by_key}
 use Rattle.expressions.specs.declared.condition.Cond.{Cond}
 use Rattle.expressions.specs.declared.expression.Expr.{Expr}
 use Rattle.evaluator.specs.declared.capped.Capped.{Capped}

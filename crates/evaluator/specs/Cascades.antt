@@ -13,7 +13,7 @@ use Rattle.table_state.specs.declared.operation.Op.TheVariants.{Delete}
 use Rattle.table_defs.specs.Names.{table_id}
 use Rattle.indexed_rows.specs.Rows.{key_of}
 use Rattle.table_state.specs.Tables.{TableState, table_at}
-use Rattle.table_scan.specs.Children.{refers_to}
+use Rattle.table_state.specs.ScanChildren.{refers_to}
 
 -- the foreign key refers to this table, and its rows leave with the parent's
 abbrev pub cascades_from : TableId → Option ForeignKey → Bool

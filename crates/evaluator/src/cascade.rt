@@ -11,8 +11,7 @@ use crate::capped::Capped;
 use row_types::{Key, Row};
 use std::alloc::{AllocError, Global};
 use table_defs::{ForeignKey, TableDef};
-use table_scan::Scan;
-use table_state::{Op, key_of_row};
+use table_state::{Op, Scan, key_of_row};
 use tier_base::TableId;
 
 /// Puts the deletion of a row behind `out`, and before it those of the rows that leave with it by ON DELETE CASCADE.

@@ -3,7 +3,7 @@
 ghost use Rattle.std.specs.Prelude.{◌≡◌, Some, slice_get};
 ghost use Rattle.std.specs.FinMap.{values};
 ghost use Rattle.table_state.specs.Tables.{table_at};
-ghost use Rattle.table_scan.specs.Keyed.{HasFit, IsKeyed, IsUnderKeys};
+ghost use Rattle.table_state.specs.Keyed.{HasFit, IsKeyed, IsUnderKeys};
 ghost use Rattle.evaluator.specs.KeyPaths.{ChangesChildren};
 ghost use Rattle.evaluator.specs.Rules.{Adds, Gives, each};
 ghost use Rattle.evaluator.specs.Writes.{done_in, done_on, done_to, effects_of, passes_rows};
@@ -20,8 +20,7 @@ use expressions::NoColumns;
 use row_types::{Key, Refused, Row, Truth};
 use std::alloc::Global;
 use table_defs::TableDef;
-use table_scan::Scan;
-use table_state::{Op, Ops};
+use table_state::{Op, Ops, Scan};
 use tier_base::{Limit, TableId};
 
 /// The operations of a write, on its selected rows in key order. An update's expressions are read on the old row, and

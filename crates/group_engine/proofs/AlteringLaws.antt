@@ -43,7 +43,7 @@ use Rattle.stored_tier.specs.declared.tier.Tier.{Tier as Stored}
 use Rattle.group_engine.specs.Altering.{AimsAlter, AimsAlterIn, AltersAlone, AltersHere, AltersWith, FindsAltered, alter_state, altered_with}
 use Rattle.group_engine.specs.Fresh.{AreFresh, IsRead}
 use Rattle.stored_tier.specs.Performing.{Executes, IsPerformed, PerformsIn, StandsFor, reply_of}
-use Rattle.group_rows.specs.Refreshing.{is_filled, is_off}
+use Rattle.stored_tier.specs.Refreshing.{is_filled, is_off}
 use Rattle.stored_tier.specs.Sites.{IsAt}
 use Rattle.outside.specs.Sites.{SiteState}
 use Rattle.stored_tier.specs.Stored.{AreKept, HasSession, IsSound, IsStoredAs, is_plain, without_list}
@@ -53,7 +53,7 @@ use Rattle.group_engine.proofs.DropLocks.{group_stored, place_stored}
 use Rattle.group_engine.proofs.RefreshedSets.{shows_stored}
 use Rattle.group_engine.proofs.FreshLaws.{Changes, IsBeside, IsRefreshed, all_there, changed_at, changed_long, changed_mapped, groups_behind, stands_behind, stateless, tier_behind}
 use Rattle.group_engine.proofs.GroupRows.{AllBecome, Becomes, same_there, stands_after, there_too}
-use Rattle.group_rows.proofs.RefreshSteps.{something_there}
+use Rattle.stored_tier.proofs.RefreshSteps.{something_there}
 use Rattle.group_engine.proofs.ShownStores.{EachShows, all_shown, each_shows}
 
 -- what refuses it

@@ -18,7 +18,7 @@ use Rattle.group_engine.specs.declared.fresh.Fresh.{Fresh}
 use Rattle.stored_tier.specs.declared.tier.Tier.{Tier as Stored}
 use Rattle.group_engine.specs.Fresh.{AreFresh, IsRead, ReadsFresh, ReadsIn}
 use Rattle.stored_tier.specs.Performing.{IsPerformed, Performs, StandsFor}
-use Rattle.group_rows.specs.Refreshing.{end_of, is_filled, positioned}
+use Rattle.stored_tier.specs.Refreshing.{end_of, is_filled, positioned}
 use Rattle.stored_tier.specs.Sites.{IsAt}
 use Rattle.outside.specs.Sites.{SiteState}
 use Rattle.stored_tier.specs.Stored.{IsSound, without_list}

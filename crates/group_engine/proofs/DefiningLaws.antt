@@ -36,9 +36,9 @@ use Rattle.cache_tier.specs.Steps.{DoesStatement}
 use Rattle.cache_tier.specs.TierStates.{Session, Tier}
 use Rattle.cache_tier.specs.Worlds.{Passes, Then, Unless, World, only}
 use Rattle.std.specs.Bool.{MatchBool}
-use Rattle.tier_laws.specs.Defining.{IsNewGroup}
-use Rattle.tier_laws.specs.Events.{StaysShown, with_tier}
-use Rattle.tier_laws.specs.Standing.{HasNoTableOf, Stands, foreign_key_in, has_no_where}
+use Rattle.cache_tier.specs.Defining.{IsNewGroup}
+use Rattle.cache_tier.specs.Events.{StaysShown, with_tier}
+use Rattle.cache_tier.specs.StandingBetween.{HasNoTableOf, Stands, foreign_key_in, has_no_where}
 use Rattle.stored_tier.specs.declared.tier.Tier.{Tier as Stored}
 use Rattle.group_engine.specs.Defining.{HasNewGroup, IsDefinition, is_done, is_free, is_synchronous_kind}
 use Rattle.stored_tier.specs.Grouping.{HasGroups, IsBareStore}

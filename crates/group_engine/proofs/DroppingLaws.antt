@@ -28,10 +28,10 @@ use Rattle.cache_tier.specs.Rounds.{Round}
 use Rattle.cache_tier.specs.Steps.{DoesStatement}
 use Rattle.cache_tier.specs.TierStates.{Session, Tier, is_labelled, session_of}
 use Rattle.cache_tier.specs.Worlds.{Passes, Then, Tries, Unless, World, only}
-use Rattle.tier_laws.specs.Dropping.{ShowsWithout}
-use Rattle.tier_laws.specs.Events.{with_tier}
-use Rattle.tier_laws.specs.Standing.{Stands}
-use Rattle.tier_laws.specs.Statements.{IsDroppable}
+use Rattle.cache_tier.specs.Dropping.{ShowsWithout}
+use Rattle.cache_tier.specs.Events.{with_tier}
+use Rattle.cache_tier.specs.StandingBetween.{Stands}
+use Rattle.cache_tier.specs.Statements.{IsDroppable}
 use Rattle.stored_tier.specs.declared.tier.Tier.{Tier as Stored}
 use Rattle.group_engine.specs.Dropping.{DropsHere, IsWithoutGroup, RoundFor, is_written_at}
 use Rattle.stored_tier.specs.Performing.{Executes, IsCaused, IsPerformed, Performs, PerformsIn, StandsFor, reply_of, stop_of}

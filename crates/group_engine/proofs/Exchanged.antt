@@ -12,7 +12,7 @@ use Rattle.cache_tier.specs.declared.group.GroupDef.{GroupDef}
 use Rattle.cache_tier.specs.Groups.{Group, covers, definitions_of, is_defined_on, is_synchronous, is_table_of}
 use Rattle.cache_tier.specs.Routes.{hidden_where}
 use Rattle.cache_tier.specs.Sets.{Choice, changed_from}
-use Rattle.group_rows.specs.Refreshing.{exchanged}
+use Rattle.stored_tier.specs.Refreshing.{exchanged}
 use Rattle.group_catalog.specs.Catalogs.{groups_in}
 use Rattle.group_catalog.specs.declared.catalog.Catalog.{Catalog}
 use Rattle.stored_tier.specs.Stored.{AreKept, AreWhole}

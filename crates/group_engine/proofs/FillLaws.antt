@@ -29,12 +29,12 @@ use Rattle.group_store.specs.Keeping.{IsFor, layer_for, primary_of}
 use Rattle.group_store.specs.Shown.{foreign_key_of}
 use Rattle.group_store.specs.Stores.{Kept, SameButSpare, put_rows, put_store, put_tables}
 use Rattle.group_store.specs.Trees.{Layer, key_at}
-use Rattle.tier_laws.proofs.ShownTables.{defined_in, some_def}
-use Rattle.group_rows.proofs.StoreForms.{key_for, primary}
+use Rattle.cache_tier.proofs.ShownTables.{defined_in, some_def}
+use Rattle.stored_tier.proofs.StoreForms.{key_for, primary}
 use Rattle.cache_tier.specs.Commits.{tables_of}
-use Rattle.tier_laws.proofs.SoundStates.{IsSoundState}
-use Rattle.tier_laws.proofs.ShownTrees.{sound_later}
-use Rattle.group_rows.specs.Filling.{bare_store, viewed_store}
+use Rattle.cache_tier.proofs.SoundStates.{IsSoundState}
+use Rattle.cache_tier.proofs.ShownTrees.{sound_later}
+use Rattle.stored_tier.specs.Filling.{bare_store, viewed_store}
 
 abbrev Row : Type 0
 Row = List Value

@@ -10,7 +10,7 @@ use Rattle.cache_tier.specs.declared.group.GroupDef.{GroupDef}
 use Rattle.cache_tier.specs.Groups.{Group, covers, is_table_of}
 use Rattle.cache_tier.specs.Routes.{hidden, hidden_where}
 use Rattle.cache_tier.specs.Sets.{Choice, alone, changed_from}
-use Rattle.tier_laws.specs.Standing.{HaveOwnTables}
+use Rattle.cache_tier.specs.StandingBetween.{HaveOwnTables}
 use Rattle.stored_tier.specs.Stored.{AreKept, HaveOwnNames, is_plain, named_where_cached, without_list}
 
 abbrev pub as_loaded : Group → Group

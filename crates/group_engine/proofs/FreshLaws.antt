@@ -31,11 +31,11 @@ use Rattle.cache_tier.specs.Shown.{exceeds, shown, shown_in, shown_state, shown_
 use Rattle.cache_tier.specs.TierStates.{Tier}
 use Rattle.cache_tier.specs.Worlds.{World}
 use Rattle.cache_tier.proofs.ApartLaws.{refresh}
-use Rattle.tier_laws.proofs.GroupTables.{read_only_not}
+use Rattle.cache_tier.proofs.GroupTables.{read_only_not}
 use Rattle.stored_tier.specs.declared.tier.Tier.{Tier as Stored}
 use Rattle.group_engine.specs.Fresh.{AreFresh, IsViewed}
 use Rattle.stored_tier.specs.Performing.{StandsFor}
-use Rattle.group_rows.specs.Refreshing.{exchanged, is_filled, positioned}
+use Rattle.stored_tier.specs.Refreshing.{exchanged, is_filled, positioned}
 use Rattle.stored_tier.specs.Stored.{AreKept, IsStoredAs, is_plain, without_list}
 use Rattle.group_engine.proofs.GroupRows.{AllBecome, Becomes, catalog_after, same_there, stands_after, there_too}
 use Rattle.group_engine.proofs.ShownStores.{EachShows, all_shown, each_shows}

@@ -22,7 +22,7 @@ use Rattle.cache_tier.specs.Groups.{Group, covers, defines_name, definitions_of}
 use Rattle.cache_tier.specs.Shown.{shown_state}
 use Rattle.cache_tier.specs.TierStates.{Tier}
 use Rattle.cache_tier.specs.Worlds.{World}
-use Rattle.tier_laws.specs.Standing.{HasNoTableOf}
+use Rattle.cache_tier.specs.StandingBetween.{HasNoTableOf}
 use Rattle.tier_statements.specs.Seen.{session_seen}
 use Rattle.stored_tier.specs.declared.tier.Tier.{Tier as Stored}
 use Rattle.stored_tier.specs.Grouping.{HasGroups, IsBareStore, KeepsGroups}

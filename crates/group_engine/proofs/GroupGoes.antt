@@ -12,7 +12,7 @@ use Rattle.group_store.specs.Stores.{Kept}
 use Rattle.cache_tier.specs.Groups.{Group, covers, is_called}
 use Rattle.cache_tier.specs.Shown.{shown_state}
 use Rattle.cache_tier.specs.Worlds.{World}
-use Rattle.tier_laws.specs.Dropping.{ShowsWithout}
+use Rattle.cache_tier.specs.Dropping.{ShowsWithout}
 use Rattle.stored_tier.specs.declared.tier.Tier.{Tier as Stored}
 use Rattle.stored_tier.specs.Performing.{StandsFor}
 use Rattle.stored_tier.specs.Stored.{AreKept, AreWhole, HaveOwnNames, IsSound, ShowsRows, is_plain}

@@ -15,16 +15,16 @@ use Rattle.cache_tier.specs.Shown.{shown, shown_state, shown_table, table_of_gro
 use Rattle.cache_tier.specs.Standing.{AreDistinct}
 use Rattle.cache_tier.specs.TierStates.{Tier}
 use Rattle.cache_tier.specs.Worlds.{World}
-use Rattle.tier_laws.specs.Events.{with_tier}
-use Rattle.tier_laws.specs.Standing.{Each, HasCatalog, HasKeys, IsCatalogued, IsReadWithin, Stands, has_root_row, own_writes}
-use Rattle.tier_laws.proofs.ChosenGroups.{each_at, found_place}
-use Rattle.tier_laws.proofs.GroupPairs.{IsKept, Pairs, catalogued_kept, own_tables_kept, pairs_each, same_covers, same_kind}
-use Rattle.tier_laws.proofs.GroupTables.{IsFound, each_own, live_at, live_table, over_is_found}
-use Rattle.tier_laws.proofs.HistoryKeeps.{all_through_on, applies_stay}
-use Rattle.tier_laws.proofs.Regrouping.{regrouped}
-use Rattle.tier_laws.proofs.SessionLaws.{Known, known}
-use Rattle.tier_laws.proofs.ShownTables.{from_length, live_of, table_shown}
-use Rattle.tier_laws.proofs.TableLaws.{covered_defined}
+use Rattle.cache_tier.specs.Events.{with_tier}
+use Rattle.cache_tier.specs.StandingBetween.{Each, HasCatalog, HasKeys, IsCatalogued, IsReadWithin, Stands, has_root_row, own_writes}
+use Rattle.cache_tier.proofs.ChosenGroups.{each_at, found_place}
+use Rattle.cache_tier.proofs.GroupPairs.{IsKept, Pairs, catalogued_kept, own_tables_kept, pairs_each, same_covers, same_kind}
+use Rattle.cache_tier.proofs.GroupTables.{IsFound, each_own, live_at, live_table, over_is_found}
+use Rattle.cache_tier.proofs.HistoryKeeps.{all_through_on, applies_stay}
+use Rattle.cache_tier.proofs.Regrouping.{regrouped}
+use Rattle.cache_tier.proofs.SessionLaws.{Known, known}
+use Rattle.cache_tier.proofs.ShownTables.{from_length, live_of, table_shown}
+use Rattle.cache_tier.proofs.TableLaws.{covered_defined}
 
 -- of what holds at each place
 

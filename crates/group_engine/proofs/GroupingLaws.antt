@@ -10,7 +10,7 @@ use Rattle.instances.specs.declared.tree.Child.{Child}
 use Rattle.instances.specs.declared.tree.Tree.{Tree}
 use Rattle.instances.specs.Trees.{table_of}
 use Rattle.instances.specs.Views.{kept_at}
-use Rattle.key_rows.proofs.MapLaws.{slice_get_map}
+use Rattle.indexed_rows.proofs.MapLaws.{slice_get_map}
 use Rattle.group_store.specs.Keeping.{layer_for, primary_of}
 use Rattle.group_store.specs.Shown.{foreign_key_of}
 use Rattle.group_store.specs.Stores.{AddsChild, IsNewStore, Kept}

@@ -31,21 +31,21 @@ use Rattle.order_laws.proofs.TruthLaws.{same_some}
 use Rattle.cache_tier.specs.Groups.{Group, covers, is_key, is_read_only, is_writethrough}
 use Rattle.cache_tier.specs.Shown.{root_key, shown_in, shown_state}
 use Rattle.cache_tier.specs.Worlds.{World}
-use Rattle.tier_laws.specs.Events.{at_history}
-use Rattle.tier_laws.specs.Standing.{HaveOwnTables, IsCatalogued, Stands}
-use Rattle.tier_laws.proofs.ChosenGroups.{each_at}
-use Rattle.tier_laws.proofs.GroupTables.{IsFound, LiveTable, each_own, read_only_not}
-use Rattle.tier_laws.proofs.HistoryKeeps.{root_covers}
-use Rattle.tier_laws.proofs.SessionLaws.{Known}
-use Rattle.tier_laws.proofs.ShownTables.{defined_in, root_plain, row_shown, some_def}
-use Rattle.tier_laws.proofs.ShownTrees.{place_there, root_place, sound_child}
+use Rattle.cache_tier.specs.Events.{at_history}
+use Rattle.cache_tier.specs.StandingBetween.{HaveOwnTables, IsCatalogued, Stands}
+use Rattle.cache_tier.proofs.ChosenGroups.{each_at}
+use Rattle.cache_tier.proofs.GroupTables.{IsFound, LiveTable, each_own, read_only_not}
+use Rattle.cache_tier.proofs.HistoryKeeps.{root_covers}
+use Rattle.cache_tier.proofs.SessionLaws.{Known}
+use Rattle.cache_tier.proofs.ShownTables.{defined_in, root_plain, row_shown, some_def}
+use Rattle.cache_tier.proofs.ShownTrees.{place_there, root_place, sound_child}
 use Rattle.stored_tier.specs.declared.tier.Tier.{Tier as Stored}
-use Rattle.group_rows.specs.Choosing.{comes, matches_at}
-use Rattle.group_rows.specs.Gathering.{gathered_in}
+use Rattle.stored_tier.specs.Choosing.{comes, matches_at}
+use Rattle.stored_tier.specs.Gathering.{gathered_in}
 use Rattle.stored_tier.specs.Performing.{StandsFor}
 use Rattle.stored_tier.specs.Stored.{IsSound}
 use Rattle.group_engine.proofs.MatchLaws.{AreCopied, HasRoots, gathered_shown, root_of_shown, shown_by_keys}
-use Rattle.group_rows.proofs.PutLaws.{AreKeyed, shown_with, tables_put}
+use Rattle.stored_tier.proofs.PutLaws.{AreKeyed, shown_with, tables_put}
 use Rattle.group_engine.proofs.SnapshotLaws.{IsRead}
 use Rattle.stored_tier.proofs.StoreRows.{form_here, kept_is_shown}
 

@@ -21,11 +21,11 @@ use Rattle.cache_tier.specs.Conditions.{is_id, matches}
 use Rattle.cache_tier.specs.Groups.{Group, is_explicit, is_key, is_read_only}
 use Rattle.cache_tier.specs.Shown.{exceeds, instances_where, root_key, shown_in, shows_root}
 use Rattle.cache_tier.specs.Targets.{Target, matching, new_keys}
-use Rattle.tier_laws.proofs.ShownTrees.{front_kept}
-use Rattle.group_rows.specs.Choosing.{chosen, comes, matches_at}
-use Rattle.group_rows.specs.Gathering.{gathered_in}
+use Rattle.cache_tier.proofs.ShownTrees.{front_kept}
+use Rattle.stored_tier.specs.Choosing.{chosen, comes, matches_at}
+use Rattle.stored_tier.specs.Gathering.{gathered_in}
 use Rattle.group_engine.specs.Taking.{IsOfTarget}
-use Rattle.group_rows.proofs.GatherLaws.{count_chosen, entries_kept, get_chosen}
+use Rattle.stored_tier.proofs.GatherLaws.{count_chosen, entries_kept, get_chosen}
 
 abbrev Row : Type 0
 Row = List Value

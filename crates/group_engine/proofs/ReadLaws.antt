@@ -36,16 +36,16 @@ use Rattle.cache_tier.specs.Reading.{TellsPosition}
 use Rattle.cache_tier.specs.Sets.{Choice}
 use Rattle.cache_tier.specs.TierStates.{Tier}
 use Rattle.cache_tier.specs.Worlds.{BankCall, IsUnshared, World}
-use Rattle.tier_laws.specs.Events.{StaysShown, at_history}
-use Rattle.tier_laws.specs.Standing.{IsCatalogued, Stands}
-use Rattle.tier_laws.proofs.ChosenGroups.{each_at}
-use Rattle.tier_laws.proofs.HistoryKeeps.{around_goes_on, others_go_on}
-use Rattle.tier_laws.proofs.SoundStates.{sound_history}
+use Rattle.cache_tier.specs.Events.{StaysShown, at_history}
+use Rattle.cache_tier.specs.StandingBetween.{IsCatalogued, Stands}
+use Rattle.cache_tier.proofs.ChosenGroups.{each_at}
+use Rattle.cache_tier.proofs.HistoryKeeps.{around_goes_on, others_go_on}
+use Rattle.cache_tier.proofs.SoundStates.{sound_history}
 use Rattle.stored_tier.specs.declared.tier.Tier.{Tier as Stored}
-use Rattle.group_rows.specs.Filling.{bare_store, viewed_store}
+use Rattle.stored_tier.specs.Filling.{bare_store, viewed_store}
 use Rattle.group_engine.specs.Fresh.{AreFormed, AreFresh, IsRead, IsViewed}
 use Rattle.stored_tier.specs.Performing.{StandsFor}
-use Rattle.group_rows.specs.Refreshing.{AreMade, IsMade, is_filled, tables_read}
+use Rattle.stored_tier.specs.Refreshing.{AreMade, IsMade, is_filled, tables_read}
 use Rattle.stored_tier.specs.Sites.{IsAt}
 use Rattle.outside.specs.Sites.{SiteState}
 use Rattle.stored_tier.specs.Stored.{without_list}

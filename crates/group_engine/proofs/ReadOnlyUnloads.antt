@@ -31,19 +31,19 @@ use Rattle.cache_tier.specs.UnloadSteps.{unloaded}
 use Rattle.cache_tier.specs.Worlds.{World}
 use Rattle.cache_tier.proofs.ApartLaws.{unload}
 use Rattle.cache_tier.proofs.PositionLaws.{alone_one, unloaded_weaker}
-use Rattle.tier_laws.specs.Dropping.{ShowsWithout}
-use Rattle.tier_laws.specs.Events.{with_tier}
-use Rattle.tier_laws.specs.Standing.{HasKeys, IsCatalogued, IsReadWithin, Stands, own_writes}
-use Rattle.tier_laws.proofs.ChosenGroups.{changed_kept, each_at, each_chosen, found_changed, table_unchosen}
-use Rattle.tier_laws.proofs.DefineLaws.{shows_nothing}
-use Rattle.tier_laws.proofs.GroupTables.{IsFound, each_own, live_at, live_table, over_is_found, read_only_not}
-use Rattle.tier_laws.proofs.HistoryKeeps.{all_through_on, applies_stay}
-use Rattle.tier_laws.proofs.LoadLaws.{unload_keeps, unload_keys, unload_stays}
-use Rattle.tier_laws.proofs.Regrouping.{regrouped}
-use Rattle.tier_laws.proofs.SessionLaws.{Known, known}
-use Rattle.tier_laws.proofs.ShownTables.{from_length, live_of, no_table_shown, table_shown}
-use Rattle.tier_laws.proofs.ShownTrees.{place_there}
-use Rattle.tier_laws.proofs.TableLaws.{covered_defined}
+use Rattle.cache_tier.specs.Dropping.{ShowsWithout}
+use Rattle.cache_tier.specs.Events.{with_tier}
+use Rattle.cache_tier.specs.StandingBetween.{HasKeys, IsCatalogued, IsReadWithin, Stands, own_writes}
+use Rattle.cache_tier.proofs.ChosenGroups.{changed_kept, each_at, each_chosen, found_changed, table_unchosen}
+use Rattle.cache_tier.proofs.DefineLaws.{shows_nothing}
+use Rattle.cache_tier.proofs.GroupTables.{IsFound, each_own, live_at, live_table, over_is_found, read_only_not}
+use Rattle.cache_tier.proofs.HistoryKeeps.{all_through_on, applies_stay}
+use Rattle.cache_tier.proofs.LoadLaws.{unload_keeps, unload_keys, unload_stays}
+use Rattle.cache_tier.proofs.Regrouping.{regrouped}
+use Rattle.cache_tier.proofs.SessionLaws.{Known, known}
+use Rattle.cache_tier.proofs.ShownTables.{from_length, live_of, no_table_shown, table_shown}
+use Rattle.cache_tier.proofs.ShownTrees.{place_there}
+use Rattle.cache_tier.proofs.TableLaws.{covered_defined}
 use Rattle.group_engine.proofs.UnloadWithin.{listed, table_listed}
 
 abbrev Row : Type 0
@@ -140,7 +140,7 @@ module _ (w : World) (x : Stands w) (place : ℕ) (g : Group) (at : slice_get w.
     keys_one : HasKeys x.flow.stand.over.virtual g → HasKeys x.flow.stand.over.virtual (unloaded gone true g)
     keys_one keys = record {
       distinct = subst AreDistinct (sym (unload_keys gone true g)) (unload gone g.keys keys.distinct);
-      rooted = λ writes key e. absurd (never_both (is_read_only g) reads (read_only_not g (sym (Rattle.tier_laws.proofs.GroupPairs.same_kind g (unloaded gone true g) (unload_keeps gone true g)) ∙ writes)));
+      rooted = λ writes key e. absurd (never_both (is_read_only g) reads (read_only_not g (sym (Rattle.cache_tier.proofs.GroupPairs.same_kind g (unloaded gone true g) (unload_keeps gone true g)) ∙ writes)));
     }
 
     pub unload_shows : ShowsWithout g w (with_tier after w)

@@ -24,16 +24,16 @@ use Rattle.cache_tier.specs.Worlds.{OnlyWhere, Passes, World, bank_fault, faulty
 use Rattle.cache_tier.specs.declared.reply.Note.{Note}
 use Rattle.cache_tier.specs.declared.reply.Reply.{Reply}
 use Rattle.group_catalog.specs.Catalogs.{groups_in}
-use Rattle.tier_laws.specs.Events.{with_tier}
-use Rattle.tier_laws.specs.Standing.{Stands}
-use Rattle.group_rows.specs.declared.moments.SetMoment.{SetMoment}
+use Rattle.cache_tier.specs.Events.{with_tier}
+use Rattle.cache_tier.specs.StandingBetween.{Stands}
+use Rattle.stored_tier.specs.declared.moments.SetMoment.{SetMoment}
 use Rattle.stored_tier.specs.declared.clock.TierClock.{TierClock}
 use Rattle.stored_tier.specs.declared.tier.Tier.{Tier as Stored}
 use Rattle.stored_tier.specs.Performing.{Performs}
-use Rattle.group_rows.specs.Refreshing.{has_moment, is_noted, moment_in, moments_with}
+use Rattle.stored_tier.specs.Refreshing.{has_moment, is_noted, moment_in, moments_with}
 use Rattle.outside.specs.Sites.{SiteState}
 use Rattle.stored_tier.specs.Stored.{IsSound, IsStoredAs, KeepsTime, is_plain, without_list}
-use Rattle.group_rows.specs.Moments.{refreshed_in, set_seen}
+use Rattle.stored_tier.specs.Moments.{refreshed_in, set_seen}
 use Rattle.stored_tier.proofs.QuietLaws.{at_still}
 
 -- another clock

@@ -19,11 +19,11 @@ use Rattle.stored_tier.proofs.StoreRows.{place_same}
 use Rattle.cache_tier.specs.Groups.{Group, covers, group_over}
 use Rattle.cache_tier.specs.Shown.{shown, shown_state, shown_table, table_of_group, tables_from}
 use Rattle.cache_tier.specs.TierStates.{Tier}
-use Rattle.tier_laws.specs.Standing.{HasCatalog, HaveOwnTables}
-use Rattle.tier_laws.proofs.GroupTables.{any_found, each_own, over_is_found, IsFound}
-use Rattle.tier_laws.proofs.ChosenGroups.{each_at}
-use Rattle.tier_laws.proofs.TableLaws.{covered_defined}
-use Rattle.tier_laws.specs.Standing.{IsCatalogued}
+use Rattle.cache_tier.specs.StandingBetween.{HasCatalog, HaveOwnTables}
+use Rattle.cache_tier.proofs.GroupTables.{any_found, each_own, over_is_found, IsFound}
+use Rattle.cache_tier.proofs.ChosenGroups.{each_at}
+use Rattle.cache_tier.proofs.TableLaws.{covered_defined}
+use Rattle.cache_tier.specs.StandingBetween.{IsCatalogued}
 use Rattle.stored_tier.specs.Stored.{AreKept, without_list}
 use Rattle.group_engine.proofs.GroupRows.{shown_of_place}
 

@@ -29,14 +29,14 @@ use Rattle.outside.specs.declared.site.Snapshot.{Snapshot}
 use Rattle.cache_tier.specs.Groups.{Group, covers, is_table_of, is_writethrough}
 use Rattle.cache_tier.specs.Shown.{shown_state}
 use Rattle.cache_tier.specs.Worlds.{IsUnshared, World}
-use Rattle.tier_laws.specs.Events.{at_history}
-use Rattle.tier_laws.specs.Standing.{HaveOwnTables, Stands}
-use Rattle.tier_laws.proofs.ChosenGroups.{each_at}
-use Rattle.tier_laws.proofs.GroupTables.{IsFound, each_own, live_table, through_live}
-use Rattle.tier_laws.proofs.HistoryKeeps.{others_go_on}
-use Rattle.tier_laws.proofs.SessionLaws.{Known, known}
-use Rattle.tier_laws.proofs.ShownTables.{InTree, in_tree_at, live_of}
-use Rattle.tier_laws.proofs.ShownTables.InTree.{AtRoot, AtChild}
+use Rattle.cache_tier.specs.Events.{at_history}
+use Rattle.cache_tier.specs.StandingBetween.{HaveOwnTables, Stands}
+use Rattle.cache_tier.proofs.ChosenGroups.{each_at}
+use Rattle.cache_tier.proofs.GroupTables.{IsFound, each_own, live_table, through_live}
+use Rattle.cache_tier.proofs.HistoryKeeps.{others_go_on}
+use Rattle.cache_tier.proofs.SessionLaws.{Known, known}
+use Rattle.cache_tier.proofs.ShownTables.{InTree, in_tree_at, live_of}
+use Rattle.cache_tier.proofs.ShownTables.InTree.{AtRoot, AtChild}
 
 -- transactions of others leave the rows of live tables
 

@@ -16,7 +16,7 @@ use Rattle.group_store.specs.declared.directory.Home.{Home}
 use Rattle.cache_tier.specs.Groups.{Group}
 use Rattle.stored_tier.specs.Stored.{AreKept, AreWhole}
 use Rattle.group_engine.specs.Taking.{Pairs}
-use Rattle.group_rows.proofs.PutLaws.{form_tables, long_tables}
+use Rattle.stored_tier.proofs.PutLaws.{form_tables, long_tables}
 
 -- the same tables, each with rows still
 pub record SameForm (a b : Kept) : Type 0 where

@@ -19,12 +19,12 @@ use Rattle.cache_tier.specs.declared.reply.Reply.{Reply}
 use Rattle.cache_tier.specs.Groups.{Group}
 use Rattle.cache_tier.specs.Sets.{alone, changed_from}
 use Rattle.cache_tier.specs.Worlds.{only}
-use Rattle.tier_laws.proofs.ShownTrees.{length_kept}
-use Rattle.group_rows.specs.declared.gathering.Gathered.{Gathered}
+use Rattle.cache_tier.proofs.ShownTrees.{length_kept}
+use Rattle.stored_tier.specs.declared.gathering.Gathered.{Gathered}
 use Rattle.stored_tier.specs.declared.tier.Tier.{Tier as Stored}
 use Rattle.stored_tier.proofs.StoreLists.{got}
 use Rattle.group_engine.specs.Putting.{FillsAt, GathersAt, HasPlaceFor, IsFilledAt}
-use Rattle.group_rows.specs.Gathering.{Gathers, coming_in, gathered_in}
+use Rattle.stored_tier.specs.Gathering.{Gathers, coming_in, gathered_in}
 use Rattle.stored_tier.specs.Stored.{IsSound}
 use Rattle.group_engine.specs.Taking.{IsSameButRoom, IsSameElsewhere, Pairs, TakesIn, TakesMatching}
 use Rattle.group_engine.proofs.StorePairs.{room_self, room_set}

@@ -13,7 +13,7 @@ use Rattle.tier_base.specs.declared.code.Code.TheVariants as code
 use Rattle.tier_base.specs.declared.limit.Limit.TheVariants as limit
 use Rattle.tier_base.specs.declared.number.TableId.{TableId}
 use Rattle.indexed_rows.specs.Rows.{Table}
-use Rattle.key_rows.proofs.MapLaws.{slice_get_map}
+use Rattle.indexed_rows.proofs.MapLaws.{slice_get_map}
 use Rattle.table_state.specs.Copies.{is_one_of}
 use Rattle.table_state.specs.declared.history.Entry.{Entry}
 use Rattle.table_state.specs.Histories.{state_at, state_of}
@@ -56,16 +56,16 @@ use Rattle.cache_tier.specs.Shown.{instances_where, root_key, shown_state}
 use Rattle.cache_tier.specs.Targets.{Settles, Target, backing_roots, has_flag, held_roots, load_entries, matching, new_keys, with_flag}
 use Rattle.cache_tier.specs.TierStates.{Tier}
 use Rattle.cache_tier.specs.Worlds.{Answer, BankCall, IsUnshared, Passes, Part, Quiet, Refuses, Then, Unless, World, bank_fault, faulty, only}
-use Rattle.tier_laws.specs.Events.{StaysShown, at_history, with_tier}
-use Rattle.tier_laws.specs.Loading.{ShowsKeys}
-use Rattle.tier_laws.specs.Standing.{Stands}
-use Rattle.tier_laws.specs.Statements.{IsLoadable}
-use Rattle.tier_laws.proofs.HistoryKeeps.{around_goes_on, root_covers}
-use Rattle.tier_laws.proofs.LoadStatements.{load_shows}
+use Rattle.cache_tier.specs.Events.{StaysShown, at_history, with_tier}
+use Rattle.cache_tier.specs.Loading.{ShowsKeys}
+use Rattle.cache_tier.specs.StandingBetween.{Stands}
+use Rattle.cache_tier.specs.Statements.{IsLoadable}
+use Rattle.cache_tier.proofs.HistoryKeeps.{around_goes_on, root_covers}
+use Rattle.cache_tier.proofs.LoadStatements.{load_shows}
 use Rattle.stored_tier.specs.declared.clock.TierClock.{TierClock}
 use Rattle.stored_tier.specs.declared.tier.Tier.{Tier as Stored}
-use Rattle.group_rows.specs.Choosing.{chosen, comes, counted, matches_at}
-use Rattle.group_rows.specs.Gathering.{coming_in, gathered_in, overflows_in}
+use Rattle.stored_tier.specs.Choosing.{chosen, comes, counted, matches_at}
+use Rattle.stored_tier.specs.Gathering.{coming_in, gathered_in, overflows_in}
 use Rattle.stored_tier.specs.Performing.{IsPerformed, StandsFor, reply_of}
 use Rattle.stored_tier.specs.Sites.{IsAt}
 use Rattle.outside.specs.Sites.{SiteState}

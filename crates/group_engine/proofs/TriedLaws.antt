@@ -4,14 +4,14 @@ use Rattle.std.proofs.lemmas.Bool.{eq-eqb, eqb-true}
 use Rattle.std.specs.Option.{option_map}
 use Rattle.cache_tier.specs.TierStates.{SetState, Settings, Tier, is_of_interval, refresh_tried}
 use Rattle.cache_tier.specs.Worlds.{World}
-use Rattle.tier_laws.specs.Standing.{Stands}
-use Rattle.group_rows.specs.declared.moments.SetMoment.{SetMoment}
+use Rattle.cache_tier.specs.StandingBetween.{Stands}
+use Rattle.stored_tier.specs.declared.moments.SetMoment.{SetMoment}
 use Rattle.stored_tier.specs.declared.clock.TierClock.{TierClock}
 use Rattle.stored_tier.specs.declared.tier.Tier.{Tier as Stored}
 use Rattle.stored_tier.specs.Performing.{StandsFor}
-use Rattle.group_rows.specs.Refreshing.{has_moment, is_noted, moment_in, moments_with}
+use Rattle.stored_tier.specs.Refreshing.{has_moment, is_noted, moment_in, moments_with}
 use Rattle.stored_tier.specs.Stored.{IsSound, IsStoredAs, KeepsTime}
-use Rattle.group_rows.specs.Moments.{refreshed_in, set_seen}
+use Rattle.stored_tier.specs.Moments.{refreshed_in, set_seen}
 
 -- the set that was tried
 

@@ -36,10 +36,10 @@ use Rattle.cache_tier.specs.Targets.{Target}
 use Rattle.cache_tier.specs.TierStates.{Session}
 use Rattle.cache_tier.specs.UnloadSteps.{Unloads, gone_keys, matching_shown, unload_answer, unload_entries, unload_fault, unloaded}
 use Rattle.cache_tier.specs.Worlds.{Then, Tries, Unless, World, only}
-use Rattle.tier_laws.specs.Events.{with_tier}
-use Rattle.tier_laws.specs.Loading.{ShowsKeys}
-use Rattle.tier_laws.specs.Standing.{Stands}
-use Rattle.tier_laws.specs.Statements.{IsUnloadable}
+use Rattle.cache_tier.specs.Events.{with_tier}
+use Rattle.cache_tier.specs.Loading.{ShowsKeys}
+use Rattle.cache_tier.specs.StandingBetween.{Stands}
+use Rattle.cache_tier.specs.Statements.{IsUnloadable}
 use Rattle.group_engine.specs.declared.aiming.Aim.{Aim}
 use Rattle.stored_tier.specs.declared.tier.Tier.{Tier as Stored}
 use Rattle.stored_tier.specs.Grouping.{SameTree}

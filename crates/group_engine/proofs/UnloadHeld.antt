@@ -18,7 +18,7 @@ use Rattle.table_state.specs.declared.operation.Op.TheVariants.{Delete, Insert, 
 use Rattle.table_state.specs.Footprints.{footprint_of, is_in}
 use Rattle.table_state.specs.Operations.{applied_all}
 use Rattle.table_state.specs.Tables.{TableState}
-use Rattle.table_scan.specs.Keyed.{IsKeyed}
+use Rattle.table_state.specs.Keyed.{IsKeyed}
 use Rattle.indexed_rows.specs.Rows.{Table}
 use Rattle.instances.specs.Trees.{is_sound}
 use Rattle.instances.specs.Views.{kept_at, passes}
@@ -42,12 +42,12 @@ use Rattle.cache_tier.specs.Targets.{Target}
 use Rattle.cache_tier.specs.TierStates.{Session, is_labelled}
 use Rattle.cache_tier.specs.UnloadSteps.{matching_shown, unload_fault}
 use Rattle.cache_tier.specs.Worlds.{World}
-use Rattle.tier_laws.specs.Standing.{IsCatalogued, Stands}
-use Rattle.tier_laws.proofs.ChosenGroups.{each_at}
-use Rattle.tier_laws.proofs.UnloadStatements.{none_written}
+use Rattle.cache_tier.specs.StandingBetween.{IsCatalogued, Stands}
+use Rattle.cache_tier.proofs.ChosenGroups.{each_at}
+use Rattle.cache_tier.proofs.UnloadStatements.{none_written}
 use Rattle.group_engine.specs.declared.aiming.Aim.{Aim}
 use Rattle.stored_tier.specs.declared.tier.Tier.{Tier as Stored}
-use Rattle.group_rows.specs.Choosing.{matches_at}
+use Rattle.stored_tier.specs.Choosing.{matches_at}
 use Rattle.stored_tier.specs.Performing.{StandsFor}
 use Rattle.stored_tier.specs.Stored.{HasSession, IsSound, IsStoredAs, IsVerified, rows_of, without_list}
 use Rattle.group_engine.specs.Taking.{IsOfTarget}
@@ -107,7 +107,7 @@ abbrev pub KeyedLaw : Type 0
 KeyedLaw = (ops : List Op) (s n : TableState) → applied_all ops s ≡ Some n → IsKeyed s → IsKeyed n
 
 -- a session's writes in instances, by the keys that it holds
-module _ (over_law : OverIsApplied) (keyed_law : KeyedLaw) (s : TableState) (g : Group) (test : Row → Bool) (sound : is_sound s.schema g.def.tree ≡ true) (plain : Rattle.tier_laws.specs.Standing.has_no_where g.def.tree ≡ true) (x : OpenSession) (shown : AreShown x.ops s) where
+module _ (over_law : OverIsApplied) (keyed_law : KeyedLaw) (s : TableState) (g : Group) (test : Row → Bool) (sound : is_sound s.schema g.def.tree ≡ true) (plain : Rattle.cache_tier.specs.StandingBetween.has_no_where g.def.tree ≡ true) (x : OpenSession) (shown : AreShown x.ops s) where
   abbrev holding : List RowKey → Bool
   holding = list_any (λ z. is_in (footprint_of s.schema x.ops) z)
 

@@ -30,20 +30,20 @@ use Rattle.cache_tier.specs.Shown.{instances_where, no_rows, root_key, shown, sh
 use Rattle.cache_tier.specs.Targets.{Target}
 use Rattle.cache_tier.specs.UnloadSteps.{matching_shown}
 use Rattle.cache_tier.specs.Worlds.{World}
-use Rattle.tier_laws.specs.Standing.{IsCatalogued}
-use Rattle.tier_laws.proofs.ChosenGroups.{each_at}
-use Rattle.tier_laws.proofs.GroupTables.{read_only_not}
-use Rattle.tier_laws.proofs.KeyListLaws.{key_in_map}
-use Rattle.tier_laws.proofs.SessionLaws.{Known, known}
-use Rattle.tier_laws.proofs.ShownTables.{cond_some, defined_in, root_plain, some_def}
-use Rattle.tier_laws.proofs.ShownTrees.{place_there}
+use Rattle.cache_tier.specs.StandingBetween.{IsCatalogued}
+use Rattle.cache_tier.proofs.ChosenGroups.{each_at}
+use Rattle.cache_tier.proofs.GroupTables.{read_only_not}
+use Rattle.cache_tier.proofs.KeyListLaws.{key_in_map}
+use Rattle.cache_tier.proofs.SessionLaws.{Known, known}
+use Rattle.cache_tier.proofs.ShownTables.{cond_some, defined_in, root_plain, some_def}
+use Rattle.cache_tier.proofs.ShownTrees.{place_there}
 use Rattle.stored_tier.specs.declared.tier.Tier.{Tier as Stored}
-use Rattle.group_rows.specs.Choosing.{chosen, matches_at}
+use Rattle.stored_tier.specs.Choosing.{chosen, matches_at}
 use Rattle.stored_tier.specs.Performing.{StandsFor}
 use Rattle.stored_tier.specs.Stored.{IsSound}
 use Rattle.group_engine.specs.Taking.{IsOfTarget}
 use Rattle.group_engine.specs.Unloading.{cut_all, leaving}
-use Rattle.group_rows.proofs.GatherLaws.{entries_kept}
+use Rattle.stored_tier.proofs.GatherLaws.{entries_kept}
 use Rattle.group_engine.proofs.GroupRows.{shown_of_place}
 use Rattle.group_engine.proofs.LoadLaws.{same_kept}
 use Rattle.group_engine.proofs.MatchLaws.{HasRoots, instances_of_keys, retain_alike, root_of_shown, shown_alike, shown_by_keys}

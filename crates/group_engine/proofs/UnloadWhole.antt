@@ -30,9 +30,9 @@ use Rattle.cache_tier.specs.Targets.{Target}
 use Rattle.cache_tier.specs.TierStates.{Session}
 use Rattle.cache_tier.specs.UnloadSteps.{gone_keys, matching_shown, unload_answer, unload_entries, unload_fault, unloaded}
 use Rattle.cache_tier.specs.Worlds.{Then, Unless, World, faulty, only}
-use Rattle.tier_laws.specs.Dropping.{ShowsWithout}
-use Rattle.tier_laws.specs.Events.{with_tier}
-use Rattle.tier_laws.proofs.ShownTrees.{root_place}
+use Rattle.cache_tier.specs.Dropping.{ShowsWithout}
+use Rattle.cache_tier.specs.Events.{with_tier}
+use Rattle.cache_tier.proofs.ShownTrees.{root_place}
 use Rattle.group_engine.specs.declared.aiming.Aim.{Aim}
 use Rattle.stored_tier.specs.declared.tier.Tier.{Tier as Stored}
 use Rattle.stored_tier.specs.Grouping.{KeepsGroups, SameTree}

@@ -15,7 +15,7 @@ use Rattle.table_state.specs.declared.footprint.RowKey.{RowKey}
 use Rattle.table_state.specs.declared.operation.Op.{Op}
 use Rattle.table_state.specs.Footprints.{footprint_of, is_among, is_in, same_row_key}
 use Rattle.table_state.specs.Tables.{TableState, table_at}
-use Rattle.table_scan.specs.Keyed.{IsKeyed}
+use Rattle.table_state.specs.Keyed.{IsKeyed}
 use Rattle.evaluator.specs.Cascades.{key_in}
 use Rattle.instances.specs.declared.tree.Child.{Child}
 use Rattle.instances.specs.declared.tree.Tree.{Tree}
@@ -28,9 +28,9 @@ use Rattle.order_laws.proofs.TruthLaws.{both_true, or_true}
 use Rattle.cache_tier.specs.Groups.{Group}
 use Rattle.cache_tier.specs.Locks.{instance_rows, keys_in_children, keys_in_table, tree_tables}
 use Rattle.cache_tier.specs.Shown.{instances_where, root_key}
-use Rattle.tier_laws.specs.Standing.{has_no_where}
-use Rattle.tier_laws.proofs.ShownTables.{AtChild, AtRoot, InTree, child_plain, in_tree_at, root_plain, same_id, some_def}
-use Rattle.tier_laws.proofs.ShownTrees.{SoundChild, at_place, child_kept, front_kept, get_child, place_there, sound_child}
+use Rattle.cache_tier.specs.StandingBetween.{has_no_where}
+use Rattle.cache_tier.proofs.ShownTables.{AtChild, AtRoot, InTree, child_plain, in_tree_at, root_plain, same_id, some_def}
+use Rattle.cache_tier.proofs.ShownTrees.{SoundChild, at_place, child_kept, front_kept, get_child, place_there, sound_child}
 use Rattle.group_engine.specs.UnloadLocks.{is_within, touches}
 use Rattle.group_engine.proofs.MatchLaws.{plain_roots}
 

@@ -37,12 +37,12 @@ use Rattle.group_engine.specs.Fresh.{AreFresh, IsRead}
 use Rattle.group_engine.specs.Loaded.{LoadsWhole, ReadsWhole, whole_target}
 use Rattle.group_engine.proofs.ReadLaws.{unmapped}
 use Rattle.stored_tier.specs.Performing.{IsPerformed, StandsFor}
-use Rattle.group_rows.specs.Refreshing.{IsStateAt, is_filled, is_off, positioned, roots_kept}
+use Rattle.stored_tier.specs.Refreshing.{IsStateAt, is_filled, is_off, positioned, roots_kept}
 use Rattle.stored_tier.specs.Sites.{IsAt}
 use Rattle.outside.specs.Sites.{SiteState}
 use Rattle.stored_tier.specs.Stored.{AreKept, IsSound, is_plain, without_list}
 use Rattle.group_engine.proofs.FreshLaws.{Changes, IsFlagged, IsRefreshed, all_there, changed_at, groups_behind, kept_long, mapped_there, stands_behind, tier_behind}
-use Rattle.group_rows.proofs.RefreshSteps.{same_by_place, changed_now}
+use Rattle.stored_tier.proofs.RefreshSteps.{same_by_place, changed_now}
 use Rattle.group_engine.proofs.GroupRows.{there_too}
 use Rattle.group_engine.proofs.ShownStores.{each_shows}
 

@@ -11,7 +11,7 @@ use Rattle.group_store.specs.Stores.{Kept}
 use Rattle.cache_tier.specs.Definitions.{IsTreeOf, defined_by, definition_broken, is_read_only_kind, new_group, placed_tables}
 use Rattle.cache_tier.specs.Groups.{definitions_of}
 use Rattle.cache_tier.specs.declared.group.GroupDef.{GroupDef}
-use Rattle.tier_laws.specs.Standing.{foreign_key_in}
+use Rattle.cache_tier.specs.StandingBetween.{foreign_key_in}
 use Rattle.stored_tier.specs.declared.tier.Tier.{Tier as Stored}
 use Rattle.stored_tier.specs.Grouping.{HasGroups, IsBareStore}
 

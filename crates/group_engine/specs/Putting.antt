@@ -11,9 +11,9 @@ use Rattle.group_catalog.specs.Catalogs.{groups_in}
 use Rattle.group_catalog.specs.declared.which.ResolvedWhich.{ResolvedWhich}
 use Rattle.group_store.specs.Stores.{Kept, SameButSpare, put_tables}
 use Rattle.cache_tier.specs.Groups.{Group}
-use Rattle.group_rows.specs.declared.gathering.Gathered.{Gathered}
+use Rattle.stored_tier.specs.declared.gathering.Gathered.{Gathered}
 use Rattle.stored_tier.specs.declared.tier.Tier.{Tier as Stored}
-use Rattle.group_rows.specs.Gathering.{Gathers}
+use Rattle.stored_tier.specs.Gathering.{Gathers}
 use Rattle.group_engine.specs.Taking.{Pairs}
 
 -- the group at a place, and its store

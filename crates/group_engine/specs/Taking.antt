@@ -27,8 +27,8 @@ use Rattle.cache_tier.specs.Sets.{alone, changed_from}
 use Rattle.cache_tier.specs.Targets.{Settles, Target, backing_roots}
 use Rattle.cache_tier.specs.Worlds.{IsUnshared, Part, Unless, World, only}
 use Rattle.stored_tier.specs.declared.tier.Tier.{Tier as Stored}
-use Rattle.group_rows.specs.Choosing.{counted}
-use Rattle.group_rows.specs.Gathering.{coming_in, gathered_in, overflows_in}
+use Rattle.stored_tier.specs.Choosing.{counted}
+use Rattle.stored_tier.specs.Gathering.{coming_in, gathered_in, overflows_in}
 use Rattle.stored_tier.specs.Performing.{IsPerformed, StandsFor}
 use Rattle.stored_tier.specs.Sites.{IsAt}
 use Rattle.outside.specs.Sites.{SiteState}

@@ -33,7 +33,7 @@ use Rattle.cache_tier.specs.UnloadSteps.{unload_fault}
 use Rattle.cache_tier.specs.Worlds.{World}
 use Rattle.group_engine.specs.declared.aiming.Aim.{Aim}
 use Rattle.stored_tier.specs.declared.tier.Tier.{Tier as Stored}
-use Rattle.group_rows.specs.Choosing.{matches_at}
+use Rattle.stored_tier.specs.Choosing.{matches_at}
 use Rattle.stored_tier.specs.Performing.{StandsFor}
 use Rattle.stored_tier.specs.Stored.{HasSession, rows_of}
 use Rattle.group_engine.specs.Taking.{IsOfTarget}

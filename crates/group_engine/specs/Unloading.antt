@@ -27,7 +27,7 @@ use Rattle.cache_tier.specs.TierStates.{Session, Tier}
 use Rattle.group_engine.specs.declared.aiming.Aim.{Aim}
 use Rattle.stored_tier.specs.declared.tier.Tier.{Tier as Stored}
 use Rattle.group_engine.specs.Aiming.{IsAimed}
-use Rattle.group_rows.specs.Choosing.{matches_at}
+use Rattle.stored_tier.specs.Choosing.{matches_at}
 use Rattle.stored_tier.specs.Grouping.{KeepsBesideGroups}
 use Rattle.stored_tier.specs.Performing.{IsPerformed, StandsFor}
 use Rattle.stored_tier.specs.Sites.{IsAt}

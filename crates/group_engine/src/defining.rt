@@ -5,7 +5,7 @@ ghost use Rattle.sql_subset.specs.declared.stmt.Stmt.TheVariants as statement;
 ghost use Rattle.table_defs.specs.Declarations.{Tells};
 ghost use Rattle.cache_tier.specs.Order.{refusal};
 ghost use Rattle.cache_tier.specs.TierStates.{Session as OneSession, Tier as AbstractTier};
-ghost use Rattle.tier_laws.specs.Standing.{foreign_key_in};
+ghost use Rattle.cache_tier.specs.StandingBetween.{foreign_key_in};
 ghost use Rattle.group_engine.specs.Defining.{HasNewGroup, IsDefinition, is_done, is_free};
 ghost use Rattle.stored_tier.specs.Grouping.{KeepsGroups};
 ghost use Rattle.stored_tier.specs.Performing.{Executes, IsCalm, PerformsIn, reply_of};
@@ -14,6 +14,7 @@ ghost use Rattle.stored_tier.specs.Stored.{HasSession, IsSound, IsStoredAs};
 
 use crate::grouping::{bare_store, keep_group};
 use cache_tier::group::GroupDef;
+use cache_tier::group_shown_law;
 use cache_tier::reply::Reply;
 use group_catalog::laws::definition_law;
 use group_catalog::{KeptGroup, define};
@@ -24,7 +25,6 @@ use std::alloc::{AllocError, Global};
 use stored_tier::tier::Tier;
 use table_defs::TableDef;
 use tier_base::{Moment, SessionId, TableId, Ticket};
-use tier_laws::group_shown_law;
 use tier_statements::done;
 
 /// CREATE CACHE GROUP: the group is there, without rows.

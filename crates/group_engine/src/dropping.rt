@@ -27,6 +27,7 @@ ghost use Rattle.stored_tier.specs.Stored.{named_where_cached, HasSession, IsSou
 ghost use Rattle.stored_tier.specs.Performing.{Executes, IsCalm, IsCaused, IsStopCaused, Performs, PerformsIn, reply_of, stop_of};
 ghost use Rattle.outside.specs.Sites.{SiteState};
 
+use cache_tier::drop_statement_law;
 use cache_tier::reply::Reply;
 use group_catalog::{Catalog, KeptGroup};
 use group_store::{Directory, Store};
@@ -41,7 +42,6 @@ use stored_tier::tier::Tier;
 use table_defs::{BackingSchema, TableDef};
 use table_state::Op;
 use tier_base::{Code, Name, Seq, SessionId, TableId};
-use tier_laws::drop_statement_law;
 use tier_statements::done;
 
 /// DROP CACHE GROUP: the group is gone with its rows; the backing tables stay. What is unsettled is applied at the bank

@@ -4,17 +4,17 @@ ghost use Rattle.std.specs.Prelude.{◌≡◌, ℕ, IfOk, true};
 ghost use Rattle.group_catalog.specs.Catalogs.{groups_in};
 ghost use Rattle.cache_tier.specs.Groups.{definitions_of};
 ghost use Rattle.cache_tier.specs.Sets.{RefreshesSet};
-ghost use Rattle.group_rows.specs.Refreshing.{choice_of, end_of, has_moment, is_filled};
+ghost use Rattle.stored_tier.specs.Refreshing.{choice_of, end_of, has_moment, is_filled};
 ghost use Rattle.group_engine.specs.Fresh.{AreFormed, IsCalled, IsExchanged, ReadsFresh};
 ghost use Rattle.stored_tier.specs.Performing.{Performs};
 ghost use Rattle.stored_tier.specs.Stored.{IsSound};
 
-use group_rows::refreshing::{
-    Chosen, exchange, give_position, made_stores, note_moment, tables_read,
-};
 use group_store::Store;
 use outside::{BankError, Site};
 use std::alloc::Global;
+use stored_tier::refreshing::{
+    Chosen, exchange, give_position, made_stores, note_moment, tables_read,
+};
 use stored_tier::tier::Tier;
 use tier_base::Position;
 

@@ -8,18 +8,18 @@ ghost use Rattle.cache_tier.specs.Sets.{loaded_state};
 ghost use Rattle.cache_tier.specs.Targets.{Target};
 ghost use Rattle.cache_tier.specs.Worlds.{Tries};
 ghost use Rattle.group_catalog.specs.Catalogs.{groups_in};
-ghost use Rattle.group_rows.specs.Refreshing.{IsStateAt, choice_of, roots_kept};
+ghost use Rattle.stored_tier.specs.Refreshing.{IsStateAt, choice_of, roots_kept};
 ghost use Rattle.group_engine.specs.Loaded.{LoadsWhole};
 ghost use Rattle.stored_tier.specs.Performing.{IsCaused, Performs, reply_of};
 ghost use Rattle.stored_tier.specs.Stored.{IsSound};
 
 use crate::fresh::{read_fresh, show_fresh};
 use cache_tier::reply::Reply;
-use group_rows::refreshing::{Chosen, is_off, is_read_only, make_moment, note_moment};
 use outside::Site;
 use row_types::Refused;
 use sql_subset::stmt::RefreshState;
 use std::alloc::Global;
+use stored_tier::refreshing::{Chosen, is_off, is_read_only, make_moment, note_moment};
 use stored_tier::tier::Tier;
 use tier_statements::{bank_fault, done};
 

@@ -11,12 +11,12 @@ ghost use Rattle.group_engine.specs.Taking.{AsksTree, IsOfTarget, IsSettledAt, P
 
 use cache_tier::reply::Reply;
 use group_catalog::ResolvedWhich;
-use group_rows::gathering::{Gathered, fill, gather};
 use group_store::Store;
 use instances::Tree;
 use outside::Site;
 use row_types::{Refused, Row};
 use std::alloc::{AllocError, Global};
+use stored_tier::gathering::{Gathered, fill, gather};
 use stored_tier::tier::Tier;
 use table_state::Tables;
 use tier_base::{Seq, TableId};

@@ -13,15 +13,14 @@ ghost use Rattle.group_engine.specs.UnloadLocks.{is_within, leaves, touches, wri
 
 use cache_tier::laws::tier_law;
 use group_catalog::ResolvedWhich;
-use group_rows::gathering::foreign_places;
 use group_store::Store;
 use indexed_rows::key_at;
 use instances::{Child, Root, Tree};
 use row_types::Key;
 use session_state::Session;
 use std::alloc::{AllocError, Global};
-use table_scan::Scan;
-use table_state::{Footprint, Op, RowKey};
+use stored_tier::gathering::foreign_places;
+use table_state::{Footprint, Op, RowKey, Scan};
 use tier_base::{SessionId, TableId};
 
 /// The session opened earliest, but that of the number, that has uncommitted writes in an instance of the tree that

@@ -26,6 +26,7 @@ use crate::dropping::refuse_locked;
 use crate::unload_locks::writer_within;
 use cache_tier::laws::tier_law;
 use cache_tier::reply::Reply;
+use cache_tier::unload_statement_law;
 use group_catalog::{KeptGroup, ResolvedWhich};
 use group_store::laws::drop_instance_law;
 use group_store::{Shown, Store};
@@ -36,10 +37,9 @@ use session_state::Session;
 use sql_subset::stmt::{OfGroup, Which};
 use std::alloc::{AllocError, Global};
 use stored_tier::tier::Tier;
-use table_scan::laws::keyed_law;
 use table_state::Op;
+use table_state::scan_laws::keyed_law;
 use tier_base::{Code, SessionId};
-use tier_laws::unload_statement_law;
 use tier_statements::done;
 
 /// UNLOAD CACHE GROUP: the instances that match leave the cache, and nothing changes at the backing database. The reply

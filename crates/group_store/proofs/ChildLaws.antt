@@ -14,7 +14,7 @@ use Rattle.group_store.specs.declared.tree_rows.TreeRows.{TreeRows}
 use Rattle.group_store.proofs.JoinedLaws.{next_place}
 use Rattle.std.proofs.Common.{◌-◌, slice_get, unwrap_or}
 use Rattle.std.specs.Option.{option_map}
-use Rattle.key_rows.proofs.MapLaws.{slice_get_map}
+use Rattle.indexed_rows.proofs.MapLaws.{slice_get_map}
 use Rattle.group_store.specs.Joined.{layer_of}
 
 abbrev Row : Type 0

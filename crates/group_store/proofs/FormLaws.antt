@@ -23,7 +23,7 @@ use Rattle.cache_store.specs.Shown.{shown_of}
 use Rattle.cache_store.proofs.ShownLaws.{at_drop, at_end, at_front, length_more, past_drop}
 use Rattle.group_store.specs.Keeping.{HasNoFilter, IsFor, layer_for, primary_of}
 use Rattle.group_store.specs.Trees.{key_at}
-use Rattle.key_rows.proofs.MapLaws.{slice_get_map}
+use Rattle.indexed_rows.proofs.MapLaws.{slice_get_map}
 use Rattle.group_store.specs.Stores.{Kept, place_in}
 use Rattle.std.specs.FinMap.{retain_keys}
 

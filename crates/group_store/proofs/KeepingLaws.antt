@@ -4,7 +4,7 @@ use Rattle.std.proofs.lemmas.List.{length-map}
 use Rattle.std.specs.Option.{option_and_then, option_map}
 use Rattle.std.specs.FinMap as fm
 use Rattle.row_types.specs.declared.value.Value.{Value}
-use Rattle.key_rows.proofs.MapLaws.{slice_get_map}
+use Rattle.indexed_rows.proofs.MapLaws.{slice_get_map}
 use Rattle.table_defs.specs.declared.definition.TableDef.{TableDef}
 use Rattle.table_defs.specs.Declarations.{foreign_places}
 use Rattle.indexed_rows.specs.Rows.{Table, is_same, key_of}

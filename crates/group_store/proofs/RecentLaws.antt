@@ -10,8 +10,8 @@ use Rattle.row_types.specs.Order.{key_order}
 use Rattle.row_types.proofs.OrderLaws.{key_exact, key_total}
 use Rattle.indexed_rows.specs.Rows.{Table, is_same}
 use Rattle.indexed_rows.proofs.EntryLaws.{same_values}
-use Rattle.key_rows.specs.Places.{IsKeyAt}
-use Rattle.key_rows.proofs.MapLaws.{slice_get_map}
+use Rattle.indexed_rows.specs.Places.{IsKeyAt}
+use Rattle.indexed_rows.proofs.MapLaws.{slice_get_map}
 use Rattle.recency.specs.Rings.{keys_without, next_key, touched}
 use Rattle.slot_rows.specs.SlotKeys.{IsPlaceOf, RowsHeld, SlotKeys}
 use Rattle.slot_rows.proofs.SlotKeyLaws.{number_itself, same_number}

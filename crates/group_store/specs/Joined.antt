@@ -2,7 +2,7 @@
 use Rattle.std.specs.Prelude.{◌≡◌, ◌≢◌, ℕ, ◌<◌, ◌≤◌, List, [], ◌∷◌, ◌++◌, Option, Some, None, length, map, min, slice_get}
 use Rattle.std.specs.FinMap.{entries, get, remove}
 use Rattle.row_types.specs.declared.value.Value.{Value}
-use Rattle.key_rows.specs.Places.{IsKeyAt}
+use Rattle.indexed_rows.specs.Places.{IsKeyAt}
 use Rattle.indexed_rows.specs.Rows.{Table, key_of}
 use Rattle.instances.specs.Views.{kept_at}
 use Rattle.cache_store.specs.Operating.{change_at}

@@ -6,7 +6,7 @@ use Rattle.std.specs.Coded.{Coded, code_by, coded×, coded_list, coded_ℕ}
 use Rattle.std.specs.FinMap as fm
 use Rattle.row_types.specs.declared.value.Value.{Value}
 use Rattle.row_types.specs.contracts.value.Value as one
-use Rattle.key_rows.specs.Places.{IsKeyAt}
+use Rattle.indexed_rows.specs.Places.{IsKeyAt}
 use Rattle.indexed_rows.specs.Rows.{Table, is_same}
 use Rattle.recency.specs.Rings.{keys_without}
 use Rattle.slot_rows.specs.SlotKeys.{RowsHeld, SlotKeys}

@@ -5,7 +5,7 @@ ghost use Rattle.std.specs.Option.{option_and_then};
 ghost use Rattle.std.specs.FinMap as map;
 ghost use Rattle.recency.specs.Rings.{keys_without, next_key, touched};
 ghost use Rattle.indexed_rows.specs.Rows.{is_same, key_of, put_in, put_over};
-ghost use Rattle.key_rows.specs.Places.{IsKeyAt};
+ghost use Rattle.indexed_rows.specs.Places.{IsKeyAt};
 ghost use Rattle.row_types.specs.declared.value.Value.{Value as OneValue};
 ghost use Rattle.slot_rows.specs.SlotKeys.{IsKeyedBy};
 ghost use Rattle.slot_rows.specs.Orders.{place_from};

@@ -9,7 +9,7 @@ use crate::directory::{Directory, Home};
 use crate::store::Store;
 use row_types::{Key, Row};
 use table_defs::BackingSchema;
-use table_scan::Scan;
+use table_state::Scan;
 use tier_base::TableId;
 
 /// What the stores of all groups show: each table of the schema with the rows that its store keeps. A table of no store

@@ -18,8 +18,7 @@ ghost use Rattle.group_store.specs.Stores.{AddsChild, IsNewStore, SameButSpare, 
 use crate::columns::joined;
 use crate::recent::RecentRows;
 use crate::tree_rows::{ChildRows, TreeRows};
-use indexed_rows::key_at;
-use key_rows::Rows;
+use indexed_rows::{Rows, key_at};
 use row_types::{Key, Row};
 use slot_rows::SlotRows;
 use std::alloc::{AllocError, Global};

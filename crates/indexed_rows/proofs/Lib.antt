@@ -3,3 +3,5 @@ pub mod EntryLaws
 pub mod FirstLaws
 pub mod IndexLaws
 pub mod ParentLaws
+pub mod Sorted
+pub mod MapLaws

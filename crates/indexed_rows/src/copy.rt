@@ -2,7 +2,7 @@
 
 ghost use Rattle.std.specs.Prelude.{◌≡◌, IfOk};
 
-use key_rows::Rows;
+use crate::Rows;
 use std::alloc::{AllocError, Global};
 
 /// A second copy of rows.

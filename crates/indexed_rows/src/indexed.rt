@@ -6,7 +6,7 @@ ghost use Rattle.indexed_rows.specs.Rows.{put_in, put_over, first_from, has_key}
 
 use crate::copy::copied_rows;
 use crate::parents::{Parents, insert_both, put_back_both, remove_both, replace_both, walked};
-use key_rows::{Rows, Spare};
+use crate::{Rows, Spare};
 use row_types::{Key, Row};
 use std::alloc::{AllocError, Global};
 use std::marker::Model;

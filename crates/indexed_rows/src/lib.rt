@@ -5,8 +5,12 @@ mod copy;
 mod indexed;
 mod keys;
 mod parents;
+mod rows;
+mod spare;
 mod values;
 
 pub use indexed::IndexedRows;
 pub use keys::key_at;
+pub use rows::Rows;
+pub use spare::Spare;
 pub use values::{first_change, is_same_row, is_same_values};

@@ -8,7 +8,7 @@ ghost use Rattle.indexed_rows.specs.Indexes.{IsFirstOf, IsIndexOf, IsIndexed, be
 use crate::copy::copied_rows;
 use crate::keys::values_at;
 use crate::values::{first_change, has_key, is_same_values};
-use key_rows::{Rows, Spare};
+use crate::{Rows, Spare};
 use row_types::{Key, Row, Value};
 use std::alloc::{AllocError, Global};
 use tier_base::Seq;

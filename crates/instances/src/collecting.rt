@@ -8,13 +8,11 @@ ghost use Rattle.instances.specs.Views.{child_rows, kept_at, only, refers_to_one
 
 use crate::tree::{Child, Root};
 use expressions::{Cond, truth_on};
-use indexed_rows::key_at;
-use key_rows::Rows;
+use indexed_rows::{Rows, key_at};
 use row_types::{Key, Row, Truth};
 use std::alloc::{AllocError, Global};
 use table_defs::{ForeignKey, TableDef};
-use table_scan::Scan;
-use table_state::Tables;
+use table_state::{Scan, Tables};
 
 /// The rows of the root table that its WHERE selects.
 pub(crate) fn root_rows(alloc: Global, tables: &Tables, root: &Root) -> Result<Rows, AllocError>

@@ -10,8 +10,7 @@ use crate::tree::{Child, Root, Tree};
 use indexed_rows::key_at;
 use row_types::Key;
 use std::alloc::{AllocError, Global};
-use table_scan::Scan;
-use table_state::Tables;
+use table_state::{Scan, Tables};
 use tier_base::TableId;
 
 /// The key of the root row that the row of a key in this table is reached from, whatever the WHERE conditions say; none

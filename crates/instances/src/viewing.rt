@@ -5,7 +5,7 @@ ghost use Rattle.instances.specs.Views.{instance_of, view_of, with_children};
 
 use crate::collecting::{child_rows, root_row, root_rows};
 use crate::tree::{Child, Tree};
-use key_rows::Rows;
+use indexed_rows::Rows;
 use row_types::Key;
 use std::alloc::{AllocError, Global};
 use table_state::Tables;

@@ -19,8 +19,7 @@ use row_types::Key;
 use session_state::{Session, holder, keeper_of_key};
 use std::alloc::{AllocError, Global};
 use table_defs::BackingSchema;
-use table_scan::Scan;
-use table_state::{Op, Ops, Sealed, copied_ops};
+use table_state::{Op, Ops, Scan, Sealed, copied_ops};
 use tier_base::{Label, Limit, SessionId, TableId, Ticket};
 
 // The greatest number of open sessions.

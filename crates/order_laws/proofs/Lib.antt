@@ -25,3 +25,6 @@ pub mod WholeLaws
 pub mod BehindLaws
 pub mod UnrelatedLaws
 pub mod ProgressLaws
+pub mod PendingLaws
+pub mod FlowLaws
+pub mod OpenLaws

@@ -4,3 +4,6 @@ pub mod Laws
 pub mod Sides
 pub mod Standing
 pub mod Steps
+pub mod Pipelines
+pub mod Events
+pub mod OpenWrites

@@ -15,7 +15,7 @@ use Rattle.table_defs.specs.Declarations.{foreign_places}
 use Rattle.table_state.specs.Children.{refers_to}
 use Rattle.indexed_rows.specs.Rows.{Table, first_from, has_key, key_of}
 use Rattle.indexed_rows.proofs.EntryLaws.{behind_split, below_split}
-use Rattle.table_scan.specs.Keyed.{IsUnderKeys}
+use Rattle.table_state.specs.Keyed.{IsUnderKeys}
 use Rattle.own_rows.specs.declared.own.OwnRows.{OwnRows}
 use Rattle.own_rows.specs.Next.{stays_and}
 use Rattle.own_rows.specs.Ranks.{rank}

@@ -12,7 +12,7 @@ use Rattle.indexed_rows.specs.Rows.{Table}
 use Rattle.table_state.specs.declared.operation.Op.{Op}
 use Rattle.table_state.specs.Operations.{applied, applied_all, table_of}
 use Rattle.table_state.specs.Tables.{TableState, table_at}
-use Rattle.table_scan.specs.Keyed.{IsUnderKeys}
+use Rattle.table_state.specs.Keyed.{IsUnderKeys}
 use Rattle.own_rows.specs.declared.own.OwnRows.{OwnRows}
 use Rattle.own_rows.specs.Over.{Lies}
 use Rattle.own_rows.specs.Overlays.{FitsOn, overlaid}

@@ -9,7 +9,7 @@ use Rattle.std.proofs.lemmas.Option.{slice_get_within}
 use Rattle.row_types.specs.declared.value.Value.{Value}
 use Rattle.row_types.proofs.OrderLaws.{key_total, key_exact}
 use Rattle.indexed_rows.specs.Rows.{Table, key_of}
-use Rattle.table_scan.specs.Keyed.{IsUnderKeys}
+use Rattle.table_state.specs.Keyed.{IsUnderKeys}
 use Rattle.own_rows.specs.declared.own.OwnRows.{OwnRows}
 use Rattle.own_rows.specs.Ranks.{rank}
 use Rattle.own_rows.specs.Overlays.{AgreesWith, left_over}

@@ -7,7 +7,7 @@ use Rattle.table_defs.specs.declared.definition.TableDef.{TableDef}
 use Rattle.table_state.specs.declared.operation.Op.{Op}
 use Rattle.table_state.specs.Operations.{applied_all}
 use Rattle.table_state.specs.Tables.{TableState, table_at}
-use Rattle.table_scan.specs.Keyed.{IsKeyed}
+use Rattle.table_state.specs.Keyed.{IsKeyed}
 use Rattle.own_rows.specs.declared.own.OwnRows.{OwnRows}
 use Rattle.own_rows.specs.Knowing.{Knows}
 use Rattle.own_rows.specs.Laying.{LiesOn}

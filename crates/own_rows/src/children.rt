@@ -9,7 +9,7 @@ ghost use Rattle.table_defs.specs.Declarations.{foreign_places};
 ghost use Rattle.indexed_rows.specs.Rows.{first_from, key_of};
 ghost use Rattle.table_state.specs.Children.{refers_to};
 ghost use Rattle.table_state.specs.Tables.{table_at};
-ghost use Rattle.table_scan.specs.Keyed.{IsUnderKeys};
+ghost use Rattle.table_state.specs.Keyed.{IsUnderKeys};
 ghost use Rattle.own_rows.specs.Next.{stays_and};
 ghost use Rattle.own_rows.specs.Ranks.{rank};
 ghost use Rattle.own_rows.specs.Overlays.{AgreesWith, left_over};
@@ -22,7 +22,7 @@ use crate::table_rows::len_in;
 use row_types::{Key, Row};
 use std::cmp::Ordering;
 use table_defs::{ForeignKey, TableDef};
-use table_scan::Scan;
+use table_state::Scan;
 use tier_base::TableId;
 
 /// The first place, from a place on, of a row that refers to the key by its table's foreign key.

@@ -8,7 +8,7 @@ use crate::own::{OwnRows, own_of};
 use crate::table_rows::{find_in, len_in, row_in};
 use row_types::{Key, Row};
 use table_defs::BackingSchema;
-use table_scan::Scan;
+use table_state::Scan;
 use tier_base::TableId;
 
 /// The tables of a scan with a session's own operations over them. No row is copied, and no call takes memory.

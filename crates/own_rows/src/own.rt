@@ -4,8 +4,7 @@ ghost use Rattle.std.specs.Prelude.{◌≡◌, ◌+◌, ◌<◌, ◌^◌, [], op
 ghost use Rattle.std.specs.FinMap as map;
 ghost use Rattle.own_rows.specs.Laying.{HasRoom, with_changed, with_new, without};
 
-use indexed_rows::IndexedRows;
-use key_rows::{Rows, Spare};
+use indexed_rows::{IndexedRows, Rows, Spare};
 use std::alloc::Global;
 use tier_base::TableId;
 

@@ -6,7 +6,7 @@ ghost use Rattle.row_types.specs.Order.{key_order, order_of};
 ghost use Rattle.indexed_rows.specs.Rows.{key_of, value_at};
 ghost use Rattle.own_rows.specs.Ranks.{rank};
 
-use key_rows::Rows;
+use indexed_rows::Rows;
 use row_types::{Key, Row, Value, order};
 use std::cmp::Ordering;
 

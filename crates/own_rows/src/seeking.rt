@@ -5,7 +5,7 @@ ghost use Rattle.row_types.specs.declared.value.Value.{Value};
 ghost use Rattle.std.specs.FinMap as map;
 ghost use Rattle.indexed_rows.specs.Rows.{Table, key_of};
 ghost use Rattle.table_state.specs.Tables.{table_at};
-ghost use Rattle.table_scan.specs.Keyed.{IsUnderKeys};
+ghost use Rattle.table_state.specs.Keyed.{IsUnderKeys};
 ghost use Rattle.own_rows.specs.Ranks.{rank};
 ghost use Rattle.own_rows.specs.Overlays.{AgreesWith, left_over};
 ghost use Rattle.own_rows.specs.Stands.{IsSide, IsStand};
@@ -14,7 +14,7 @@ use crate::own::OwnRows;
 use crate::search::{has_same_key, rank_of_row};
 use row_types::Row;
 use std::cmp::Ordering;
-use table_scan::Scan;
+use table_state::Scan;
 use tier_base::TableId;
 
 // How often a guess is tried before halving. Own rows are mostly few, so that the first or second guess is right.

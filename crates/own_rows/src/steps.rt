@@ -8,7 +8,7 @@ ghost use Rattle.own_rows.specs.Laying.{AreReady, AreStepsOf, HasRoom, HaveRoom,
 ghost use Rattle.table_state.specs.Operations.{table_of};
 
 use crate::own::OwnRows;
-use key_rows::Spare;
+use indexed_rows::Spare;
 use row_types::Row;
 use std::alloc::{AllocError, Global};
 use table_defs::{BackingSchema, TableDef};

@@ -4,14 +4,14 @@ ghost use Rattle.std.specs.Prelude.{◌≡◌, ◌<◌, ◌^◌, option_copied, 
 ghost use Rattle.std.specs.FinMap as map;
 ghost use Rattle.indexed_rows.specs.Rows.{key_of};
 ghost use Rattle.table_state.specs.Tables.{table_at};
-ghost use Rattle.table_scan.specs.Keyed.{IsUnderKeys};
+ghost use Rattle.table_state.specs.Keyed.{IsUnderKeys};
 ghost use Rattle.own_rows.specs.Overlays.{AgreesWith, left_over};
 
 use crate::own::OwnRows;
 use crate::search::row_of_same_key;
 use crate::seeking::{Stand, seek};
 use row_types::{Key, Row};
-use table_scan::Scan;
+use table_state::Scan;
 use tier_base::TableId;
 
 /// How many rows there are.

@@ -11,7 +11,7 @@ use crate::widening::widen_rows;
 use std::alloc::{AllocError, Global};
 use std::marker::Model;
 use table_defs::BackingSchema;
-use table_scan::Scan;
+use table_state::Scan;
 
 /// What open operations leave of each table, by its place in the schema. Tables past the end have no own rows. Clauses
 /// see a list.

@@ -8,8 +8,7 @@ ghost use Rattle.own_rows.specs.Laying.{HaveRoom};
 ghost use Rattle.own_rows.specs.OwnTables.{AreRowsOf};
 
 use crate::own::OwnRows;
-use indexed_rows::IndexedRows;
-use key_rows::Rows;
+use indexed_rows::{IndexedRows, Rows};
 use std::alloc::{AllocError, Global};
 use table_defs::{BackingSchema, ForeignKey, TableDef, copied_places};
 

@@ -9,7 +9,7 @@ ghost use Rattle.pending_writes.specs.LastWrites.{left_by};
 ghost use Rattle.pending_writes.specs.Writing.{AreReadyOf, HasRoom, HaveRoom, IsReadyOf, made, made_all};
 
 use crate::table_writes::TableWrites;
-use key_rows::Spare;
+use indexed_rows::Spare;
 use row_types::Row;
 use std::alloc::{AllocError, Global};
 use table_defs::{BackingSchema, TableDef};

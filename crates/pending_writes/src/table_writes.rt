@@ -4,7 +4,7 @@ ghost use Rattle.std.specs.Prelude.{◌≡◌, ◌+◌, ◌<◌, ◌^◌};
 ghost use Rattle.std.specs.FinMap as map;
 ghost use Rattle.pending_writes.specs.Writing.{with_gone, with_row};
 
-use key_rows::{Rows, Spare};
+use indexed_rows::{Rows, Spare};
 use std::alloc::Global;
 
 /// The last writes at the keys of one table.

@@ -14,7 +14,7 @@ use Rattle.table_state.specs.Tables.{TableState}
 use Rattle.order_laws.specs.Commits.{pending, is_pending}
 use Rattle.order_laws.specs.Sides.{are_off}
 use Rattle.outside.specs.Others.{are_on_shared, is_shared}
-use Rattle.commit_flow.specs.Events.{Event, Came, Follows, IsNext, IsSettled, Left, Others, OthersMayCome}
+use Rattle.order_laws.specs.Events.{Event, Came, Follows, IsNext, IsSettled, Left, Others, OthersMayCome}
 use Rattle.propagators.specs.Rounds.{AreUnshared, Leads}
 
 record Leaves (history : List Entry) : Type 0 where

@@ -5,7 +5,7 @@ use Rattle.table_state.specs.declared.history.Entry.{Entry}
 use Rattle.table_state.specs.declared.history.Entry.TheVariants.{Foreign}
 use Rattle.table_state.specs.declared.history.Sealed.{Sealed}
 use Rattle.table_state.specs.Histories.{entry_of}
-use Rattle.commit_flow.specs.Events.{Event, Came, Left, Others}
+use Rattle.order_laws.specs.Events.{Event, Came, Left, Others}
 use Rattle.propagators.specs.Rounds.{Leads, left_in}
 
 pub left_and_rest : (shared : List TableId) (events : List Event) (h later : List Entry) (us left : List Sealed) → Leads shared events h us later left → us ≡ left_in events ++ left

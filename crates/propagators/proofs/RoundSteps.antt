@@ -16,7 +16,7 @@ use Rattle.outside.specs.Bank.{Comes}
 use Rattle.outside.specs.Calls.{BankCall, Told}
 use Rattle.outside.specs.Holding.{Held}
 use Rattle.outside.specs.Others.{AreOthers, Around}
-use Rattle.commit_flow.specs.Events.{Event, Came, Left, Others}
+use Rattle.order_laws.specs.Events.{Event, Came, Left, Others}
 use Rattle.propagators.specs.declared.rounds.RoundFault.{RoundFault}
 use Rattle.propagators.specs.declared.rounds.RoundFault.TheVariants as stop
 use Rattle.propagators.specs.Rounds.{DifferedAt, FirstDiffers, HoldsRound, Leads, Round, Settles, TellsRound, came_in, doubts_at, left_in}

@@ -19,7 +19,7 @@ use Rattle.outside.specs.Faults.{Rose}
 use Rattle.outside.specs.Holding.{Held}
 use Rattle.outside.specs.Others.{AreOthers, is_shared}
 use Rattle.outside.specs.Sites.{SiteState}
-use Rattle.commit_flow.specs.Events.{Event, Came, Left, Others}
+use Rattle.order_laws.specs.Events.{Event, Came, Left, Others}
 use Rattle.propagators.specs.declared.rounds.RoundFault.{RoundFault}
 use Rattle.propagators.specs.declared.rounds.RoundFault.TheVariants as stop
 

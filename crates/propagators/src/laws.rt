@@ -1,7 +1,7 @@
 //! What a round leaves of a pipeline.
 
 ghost use Rattle.std.specs.Prelude.{◌≡◌, ◌++◌, ℕ, List, Some};
-ghost use Rattle.commit_flow.specs.Events.{Event, Follows};
+ghost use Rattle.order_laws.specs.Events.{Event, Follows};
 ghost use Rattle.table_defs.specs.declared.definition.TableDef.{TableDef};
 ghost use Rattle.table_state.specs.declared.history.Entry.{Entry};
 ghost use Rattle.table_state.specs.declared.history.Sealed.{Sealed};

@@ -1,7 +1,7 @@
 // What the tests make tables, rows and conditions of.
 
 ghost use Rattle.std.specs.Prelude.{IfOk};
-ghost use Rattle.table_scan.specs.Keyed.{IsKeyed};
+ghost use Rattle.table_state.specs.Keyed.{IsKeyed};
 
 use expressions::{Arithmetic, Comparator, Cond, Expr};
 use row_types::{Column, Key, Row, Ty, Value, print_values_into};

@@ -2,8 +2,8 @@
 
 use crate::build::{A, C, K, binary, int, key, put_row, tables};
 use expressions::{Arithmetic, Comparator, Cond, Expr};
+use indexed_rows::Rows;
 use instances::{Child, Root, Tree, instance, root_of, view};
-use key_rows::Rows;
 use row_types::Key;
 use std::alloc::{AllocError, Global};
 use std::test::Fail;

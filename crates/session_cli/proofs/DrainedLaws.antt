@@ -4,13 +4,13 @@ use Rattle.std.specs.List.{filter, Contains}
 use Rattle.table_state.specs.Tables.{TableState, table_at}
 use Rattle.order_laws.specs.Commits.{pending}
 use Rattle.order_laws.specs.Standing.{HasGroup}
-use Rattle.commit_flow.proofs.FlowLaws.{flow_drained}
+use Rattle.order_laws.proofs.FlowLaws.{flow_drained}
 use Rattle.cache_tier.specs.Commits.{live_group}
 use Rattle.cache_tier.specs.Groups.{Group, is_writethrough}
 use Rattle.cache_tier.specs.Rounds.{HasInOrder, IsDrained}
 use Rattle.cache_tier.specs.Worlds.{World}
-use Rattle.tier_laws.specs.Standing.{Stands, live_groups_of, progress_in}
-use Rattle.tier_laws.proofs.GroupTables.{in_tree}
+use Rattle.cache_tier.specs.StandingBetween.{Stands, live_groups_of, progress_in}
+use Rattle.cache_tier.proofs.GroupTables.{in_tree}
 
 -- a writethrough group at a place is one of the live groups
 live_at : (groups : List Group) (g : Group) (k : ℕ) → k < length groups → slice_index_or groups k g ≡ g → is_writethrough g ≡ true → HasGroup (live_groups_of groups) (live_group g)

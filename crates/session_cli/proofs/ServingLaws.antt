@@ -8,7 +8,7 @@ use Rattle.order_laws.specs.Commits.{IsLegal, KeepsCommitOrder, conflicting}
 use Rattle.cache_tier.specs.declared.reply.Reply.{Reply}
 use Rattle.cache_tier.specs.Replying.{reply_bytes, replies_bytes}
 use Rattle.cache_tier.specs.Worlds.{IsUnshared, World}
-use Rattle.tier_laws.specs.Standing.{Stands}
+use Rattle.cache_tier.specs.StandingBetween.{Stands}
 use Rattle.stored_tier.specs.declared.tier.Tier.{Tier}
 use Rattle.stored_tier.specs.Performing.{KeepsSlots, StandsFor}
 use Rattle.cache_engine.specs.Requests.{Given}

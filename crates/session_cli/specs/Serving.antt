@@ -7,7 +7,7 @@ use Rattle.cache_tier.specs.declared.reply.Reply.{Reply}
 use Rattle.cache_tier.specs.Replying.{reply_bytes, replies_bytes}
 use Rattle.cache_tier.specs.Rounds.{IsDrained}
 use Rattle.cache_tier.specs.Worlds.{IsUnshared, World}
-use Rattle.tier_laws.specs.Standing.{AreReadAt}
+use Rattle.cache_tier.specs.StandingBetween.{AreReadAt}
 use Rattle.stored_tier.specs.declared.tier.Tier.{Tier}
 use Rattle.stored_tier.specs.Performing.{StandsFor}
 use Rattle.cache_engine.specs.Requests.{Given, LineRun, LineStep}

@@ -12,8 +12,8 @@ use Rattle.table_state.specs.declared.operation.Op.{Op}
 use Rattle.table_state.specs.Footprints.{footprint_of}
 use Rattle.table_state.specs.Operations.{applied, applied_all, table_of}
 use Rattle.table_state.specs.Tables.{TableState}
-use Rattle.table_scan.specs.Keyed.{IsKeyed}
-use Rattle.table_scan.proofs.KeyedLaws.{ops_keyed}
+use Rattle.table_state.specs.Keyed.{IsKeyed}
+use Rattle.table_state.proofs.KeyedLaws.{ops_keyed}
 use Rattle.instances.specs.Views.{kept_at}
 use Rattle.own_rows.specs.OwnTables.{AreShown}
 use Rattle.session_state.specs.Locks.{IsApart}

@@ -46,8 +46,8 @@ use Rattle.cache_tier.specs.TierStates.{Session, Tier, at_rest, session_of}
 use Rattle.cache_tier.specs.Worlds.{BankCall, Becomes, IsUnshared, Part, Passes, Then, ThenStage, Unless, World, faulty, only}
 use Rattle.cache_tier.specs.declared.reply.Last.TheVariants.{Done, Fault, No}
 use Rattle.cache_tier.specs.declared.reply.Reply.{Reply}
-use Rattle.tier_laws.specs.Events.{with_tier}
-use Rattle.tier_laws.specs.Standing.{Stands}
+use Rattle.cache_tier.specs.Events.{with_tier}
+use Rattle.cache_tier.specs.StandingBetween.{Stands}
 use Rattle.tier_statements.specs.Seen.{session_seen}
 use Rattle.stored_tier.specs.declared.tier.Tier.{Tier as Stored}
 use Rattle.stored_tier.specs.Performing.{Executes, IsCaused, IsPerformed, PerformsIn, StandsFor, reply_of}

@@ -16,8 +16,8 @@ use Rattle.order_laws.specs.Commits.{is_pending, pending}
 use Rattle.order_laws.specs.Standing.{Progress, live_tables}
 use Rattle.order_laws.specs.Steps.{with_next}
 use Rattle.order_laws.proofs.TruthLaws.{same_some}
-use Rattle.commit_flow.specs.Events.{Came, Event, Follows, IsNext, IsSettled, Left}
-use Rattle.commit_flow.specs.Pipelines.{Pipeline}
+use Rattle.order_laws.specs.Events.{Came, Event, Follows, IsNext, IsSettled, Left}
+use Rattle.order_laws.specs.Pipelines.{Pipeline}
 use Rattle.cache_tier.specs.CommitSteps.{committed, committed_unsettled, sealed_own}
 use Rattle.cache_tier.specs.Groups.{Group, is_synchronous, is_table_of, is_writethrough}
 use Rattle.cache_tier.specs.PassedSteps.{with_ticket}
@@ -25,9 +25,9 @@ use Rattle.cache_tier.specs.Recency.{with_commit}
 use Rattle.cache_tier.specs.Shown.{no_rows, shown_state}
 use Rattle.cache_tier.specs.TierStates.{Session, session_of}
 use Rattle.cache_tier.specs.Worlds.{IsUnshared, World}
-use Rattle.tier_laws.specs.Events.{StaysShown, TakesOwn, at_history, settled_to, with_tier}
-use Rattle.tier_laws.specs.Standing.{HasKeys, Each, HaveWritten, Stands, live_groups_of, progress_in}
-use Rattle.tier_laws.proofs.GroupPairs.{IsKept, pairs_mapped, same_tables}
+use Rattle.cache_tier.specs.Events.{StaysShown, TakesOwn, at_history, settled_to, with_tier}
+use Rattle.cache_tier.specs.StandingBetween.{HasKeys, Each, HaveWritten, Stands, live_groups_of, progress_in}
+use Rattle.cache_tier.proofs.GroupPairs.{IsKept, pairs_mapped, same_tables}
 use Rattle.stored_tier.specs.Stored.{are_later, are_on}
 use Rattle.session_engine.proofs.KindLaws.{none_conflicts}
 use Rattle.session_engine.proofs.OthersLaws.{came_by}

@@ -36,8 +36,8 @@ use Rattle.cache_tier.specs.Steps.{DoesStatement}
 use Rattle.cache_tier.specs.TierStates.{Session, Tier, is_labelled, session_of, with_session, with_writes}
 use Rattle.cache_tier.specs.WriteSteps.{WritesOps}
 use Rattle.cache_tier.specs.Worlds.{Unless, World, only, unless}
-use Rattle.tier_laws.specs.Events.{HasNewKey, HaveNewKeys, MayWriteMore, StaysShown, with_tier}
-use Rattle.tier_laws.specs.Standing.{Stands, are_written_through}
+use Rattle.cache_tier.specs.Events.{HasNewKey, HaveNewKeys, MayWriteMore, StaysShown, with_tier}
+use Rattle.cache_tier.specs.StandingBetween.{Stands, are_written_through}
 use Rattle.tier_statements.specs.Preparing.{inserted_row}
 use Rattle.tier_statements.specs.Seen.{session_seen}
 use Rattle.session_engine.specs.declared.preparing.Prepared.{Prepared}

@@ -39,8 +39,8 @@ use Rattle.cache_tier.specs.TierStates.{Session, Tier, is_labelled, session_of}
 use Rattle.cache_tier.specs.Worlds.{Part, Passes, Then, Unless, World, only}
 use Rattle.cache_tier.specs.declared.reply.Last.TheVariants.{Done, No}
 use Rattle.cache_tier.specs.declared.reply.Reply.{Reply}
-use Rattle.tier_laws.specs.Events.{TakesOwn, with_tier}
-use Rattle.tier_laws.specs.Standing.{Stands, are_written_through, own_writes}
+use Rattle.cache_tier.specs.Events.{TakesOwn, with_tier}
+use Rattle.cache_tier.specs.StandingBetween.{Stands, are_written_through, own_writes}
 use Rattle.stored_tier.specs.declared.tier.Tier.{Tier as Stored}
 use Rattle.stored_tier.specs.Answering.{AnswersIn, Replies}
 use Rattle.session_engine.specs.Committing.{StoresOps, are_deferred, bare, bare_all, commit_answer, commit_fault, ops_at}

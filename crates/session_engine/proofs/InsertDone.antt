@@ -46,11 +46,11 @@ use Rattle.cache_tier.specs.TierStates.{Session, Tier, session_of, with_session,
 use Rattle.cache_tier.specs.WriteSteps.{WritesOps}
 use Rattle.cache_tier.specs.Worlds.{BankCall, IsUnshared, Refuses, World, bank_fault, faulty, only, unless}
 use Rattle.tier_statements.specs.Preparing.{shown_fault}
-use Rattle.tier_laws.specs.Events.{MayWriteMore, StaysShown, at_history, with_tier}
-use Rattle.tier_laws.specs.Pending.{last_written}
-use Rattle.tier_laws.specs.Standing.{Stands}
-use Rattle.tier_laws.proofs.GroupTables.{over_is_found}
-use Rattle.tier_laws.proofs.PendingRows.{all_written}
+use Rattle.cache_tier.specs.Events.{MayWriteMore, StaysShown, at_history, with_tier}
+use Rattle.cache_tier.specs.Pending.{last_written}
+use Rattle.cache_tier.specs.StandingBetween.{Stands}
+use Rattle.cache_tier.proofs.GroupTables.{over_is_found}
+use Rattle.cache_tier.proofs.PendingRows.{all_written}
 use Rattle.session_engine.specs.declared.inserting.Weighed.{Weighed}
 use Rattle.session_engine.specs.declared.preparing.Prepared.{Prepared}
 use Rattle.stored_tier.specs.declared.tier.Tier.{Tier as Stored}

@@ -32,11 +32,11 @@ use Rattle.cache_tier.specs.InsertSteps.{has_key_in}
 use Rattle.cache_tier.specs.Shown.{all_over, over, shown_state, written_on}
 use Rattle.cache_tier.specs.TierStates.{Session, Tier, session_of}
 use Rattle.cache_tier.specs.Worlds.{World}
-use Rattle.tier_laws.specs.Pending.{last_written, pending_ops}
-use Rattle.tier_laws.specs.Standing.{Stands}
-use Rattle.tier_laws.proofs.GroupTables.{live_table}
-use Rattle.tier_laws.proofs.PendingRows.{all_written}
-use Rattle.tier_laws.proofs.SessionLaws.{known}
+use Rattle.cache_tier.specs.Pending.{last_written, pending_ops}
+use Rattle.cache_tier.specs.StandingBetween.{Stands}
+use Rattle.cache_tier.proofs.GroupTables.{live_table}
+use Rattle.cache_tier.proofs.PendingRows.{all_written}
+use Rattle.cache_tier.proofs.SessionLaws.{known}
 use Rattle.session_engine.specs.Inserting.{HasWriter, leaves_row, writes_key}
 
 abbrev at_key : TableId → List Value → RowKey

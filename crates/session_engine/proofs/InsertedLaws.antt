@@ -46,11 +46,11 @@ use Rattle.cache_tier.specs.TierStates.{Session, Tier, session_of, with_session,
 use Rattle.cache_tier.specs.WriteSteps.{WritesOps}
 use Rattle.cache_tier.specs.Worlds.{Answer, BankCall, IsUnshared, Refuses, World, bank_fault, faulty, only, unless}
 use Rattle.tier_base.specs.declared.code.Code.TheVariants as code
-use Rattle.tier_laws.specs.Events.{HaveNewKeys, MayWriteMore, StaysShown, at_history, with_tier}
-use Rattle.tier_laws.specs.Pending.{last_written, pending_ops}
-use Rattle.tier_laws.specs.Standing.{Stands}
-use Rattle.tier_laws.proofs.GroupTables.{live_at}
-use Rattle.tier_laws.proofs.PendingRows.{all_written, virtual_row}
+use Rattle.cache_tier.specs.Events.{HaveNewKeys, MayWriteMore, StaysShown, at_history, with_tier}
+use Rattle.cache_tier.specs.Pending.{last_written, pending_ops}
+use Rattle.cache_tier.specs.StandingBetween.{Stands}
+use Rattle.cache_tier.proofs.GroupTables.{live_at}
+use Rattle.cache_tier.proofs.PendingRows.{all_written, virtual_row}
 use Rattle.session_engine.specs.declared.inserting.Weighed.{Weighed}
 use Rattle.session_engine.specs.declared.preparing.Prepared.{Prepared}
 use Rattle.stored_tier.specs.declared.tier.Tier.{Tier as Stored}

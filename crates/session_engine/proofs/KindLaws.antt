@@ -17,8 +17,8 @@ use Rattle.order_laws.proofs.SideLaws.{OnSide}
 use Rattle.order_laws.proofs.TruthLaws.{both_true, never_both, untrue}
 use Rattle.cache_tier.specs.Commits.{live_group, tables_of}
 use Rattle.cache_tier.specs.Groups.{Group, covers, is_asynchronous, is_synchronous, is_table_of, is_writethrough}
-use Rattle.tier_laws.specs.Standing.{HaveOwnTables}
-use Rattle.tier_laws.proofs.GroupTables.{in_tree}
+use Rattle.cache_tier.specs.StandingBetween.{HaveOwnTables}
+use Rattle.cache_tier.proofs.GroupTables.{in_tree}
 use Rattle.stored_tier.specs.Performing.{is_written, meets}
 use Rattle.stored_tier.specs.Stored.{are_later, are_on, without_list}
 use Rattle.stored_tier.proofs.LaterLaws.{all_same, all_weaker, later_last}

@@ -26,15 +26,15 @@ use Rattle.group_store.specs.Trees.{key_at}
 use Rattle.group_store.specs.declared.directory.Home.{Home}
 use Rattle.order_laws.proofs.TruthLaws.{both_true, never_both}
 use Rattle.cache_tier.specs.Groups.{Group, covers, is_table_of, is_writethrough}
-use Rattle.tier_laws.specs.Standing.{are_written_through}
-use Rattle.tier_laws.proofs.GroupTables.{any_found}
-use Rattle.tier_laws.proofs.ShownTables.{same_state}
-use Rattle.tier_laws.proofs.ShownTrees as trees
+use Rattle.cache_tier.specs.StandingBetween.{are_written_through}
+use Rattle.cache_tier.proofs.GroupTables.{any_found}
+use Rattle.cache_tier.proofs.ShownTables.{same_state}
+use Rattle.cache_tier.proofs.ShownTrees as trees
 use Rattle.session_engine.specs.Committing.{at_home, at_number, home_in, ops_at}
 use Rattle.stored_tier.specs.Grouping.{SameTree}
 use Rattle.stored_tier.specs.Stored.{AreKept, AreWhole}
 use Rattle.stored_tier.proofs.StoreChanges.{form_kept}
-use Rattle.group_rows.proofs.StoreForms.{key_for, primary}
+use Rattle.stored_tier.proofs.StoreForms.{key_for, primary}
 use Rattle.stored_tier.proofs.StoreRows.{no_table_stored, place_same, table_kept, table_stored}
 use Rattle.stored_tier.proofs.SoundParts.{housed_exchanged}
 

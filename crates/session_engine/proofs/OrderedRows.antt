@@ -27,13 +27,13 @@ use Rattle.order_laws.proofs.ProgressLaws.{virtual_in_groups}
 use Rattle.cache_tier.specs.Commits.{live_group}
 use Rattle.cache_tier.specs.Groups.{Group, covers, is_writethrough}
 use Rattle.cache_tier.specs.Worlds.{World}
-use Rattle.tier_laws.specs.Pending.{last_written}
-use Rattle.tier_laws.specs.Standing.{Stands, live_groups_of, progress_in}
-use Rattle.tier_laws.proofs.GroupTables.{LiveTable, in_tree, live_table, same_found, some_place, through_live}
-use Rattle.tier_laws.proofs.PartLaws.{between}
-use Rattle.tier_laws.proofs.PendingRows.{all_written}
-use Rattle.tier_laws.proofs.SessionLaws.{known}
-use Rattle.tier_laws.proofs.ShownTables.{place_covers}
+use Rattle.cache_tier.specs.Pending.{last_written}
+use Rattle.cache_tier.specs.StandingBetween.{Stands, live_groups_of, progress_in}
+use Rattle.cache_tier.proofs.GroupTables.{LiveTable, in_tree, live_table, same_found, some_place, through_live}
+use Rattle.cache_tier.proofs.PartLaws.{between}
+use Rattle.cache_tier.proofs.PendingRows.{all_written}
+use Rattle.cache_tier.proofs.SessionLaws.{known}
+use Rattle.cache_tier.proofs.ShownTables.{place_covers}
 use Rattle.session_engine.specs.Inserting.{writes_key}
 use Rattle.session_engine.proofs.InsertLaws.{apart_tables, or_none, some_written, none_written, split_written}
 

@@ -25,8 +25,8 @@ use Rattle.cache_tier.specs.Shown.{seen_by}
 use Rattle.cache_tier.specs.Steps.{DoesStatement}
 use Rattle.cache_tier.specs.TierStates.{Session, Tier, level_of}
 use Rattle.cache_tier.specs.Worlds.{Unless, World, only}
-use Rattle.tier_laws.specs.Events.{StaysShown, with_tier}
-use Rattle.tier_laws.specs.Standing.{Stands}
+use Rattle.cache_tier.specs.Events.{StaysShown, with_tier}
+use Rattle.cache_tier.specs.StandingBetween.{Stands}
 use Rattle.tier_statements.specs.Answering.{IsAnswerTo, IsAnswered}
 use Rattle.session_engine.specs.declared.query.Selected.{Selected}
 use Rattle.session_engine.specs.declared.query.Selected.TheVariants.{Answered, PassedOn}

@@ -24,7 +24,7 @@ use Rattle.cache_tier.specs.Shown.{seen_by}
 use Rattle.cache_tier.specs.TierStates.{Session}
 use Rattle.cache_tier.specs.Worlds.{World, only}
 use Rattle.cache_tier.specs.WriteSteps.{WritesOps}
-use Rattle.tier_laws.specs.Standing.{are_written_through}
+use Rattle.cache_tier.specs.StandingBetween.{are_written_through}
 use Rattle.tier_statements.specs.Preparing.{shown_fault}
 use Rattle.session_engine.specs.declared.preparing.Prepared.{Prepared}
 use Rattle.stored_tier.specs.declared.tier.Tier.{Tier as Stored}

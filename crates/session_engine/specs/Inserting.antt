@@ -29,7 +29,7 @@ use Rattle.cache_tier.specs.InsertSteps.{taken}
 use Rattle.cache_tier.specs.TierStates.{Session, Tier}
 use Rattle.cache_tier.specs.Worlds.{IsUnshared, World}
 use Rattle.cache_tier.specs.declared.reply.Reply.{Reply}
-use Rattle.tier_laws.specs.Pending.{last_written}
+use Rattle.cache_tier.specs.Pending.{last_written}
 use Rattle.sql_query.specs.declared.write.Write.{Write}
 use Rattle.sql_subset.specs.declared.stmt.Stmt.TheVariants as statement
 use Rattle.session_engine.specs.Changing.{Changed, IsPrepared}

@@ -23,16 +23,16 @@ use crate::doubt::Doubt;
 use crate::noting::{is_verified_for, note_verified};
 use crate::resting::commit_session;
 use cache_tier::reply::Reply;
-use commit_flow::flow_skip_law;
+use cache_tier::{commit_shown_law, others_shown_law, round_shown_law};
 use group_catalog::Catalog;
 use open_sessions::laws::label_law;
+use order_laws::flow_skip_law;
 use outside::{Applied, BankError, Site};
 use row_types::Refused;
 use std::alloc::{AllocError, Global};
 use stored_tier::tier::Tier;
 use table_state::{Op, Ops, Sealed, copied_ops};
 use tier_base::{Code, Limit, SessionId, Ticket};
-use tier_laws::{commit_shown_law, others_shown_law, round_shown_law};
 use tier_statements::{done, faulty};
 
 /// A transaction that is ready for the backing database, and its operations for the stores.

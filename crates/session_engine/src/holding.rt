@@ -6,7 +6,7 @@ ghost use Rattle.session_state.specs.Locks.{holder_of};
 ghost use Rattle.open_sessions.specs.Lookups.{room_of};
 ghost use Rattle.open_sessions.specs.Opening.{seen_all};
 ghost use Rattle.group_catalog.specs.Catalogs.{groups_in};
-ghost use Rattle.tier_laws.specs.Standing.{are_written_through};
+ghost use Rattle.cache_tier.specs.StandingBetween.{are_written_through};
 ghost use Rattle.session_engine.specs.Changing.{Holds, HoldsNothing, IsUnbroken};
 ghost use Rattle.stored_tier.specs.Stored.{IsSound};
 

@@ -12,6 +12,7 @@ use crate::preparing::Prepared;
 use crate::writing::change;
 use cache_tier::laws::tier_law;
 use cache_tier::reply::Reply;
+use cache_tier::{others_shown_law, pending_row_law, use_shown_law};
 use group_store::Shown;
 use indexed_rows::is_same_values;
 use open_sessions::laws::label_law;
@@ -21,10 +22,9 @@ use std::alloc::{AllocError, Global};
 use std::collections::VecDeque;
 use stored_tier::tier::Tier;
 use table_defs::BackingSchema;
-use table_scan::laws::keyed_law;
+use table_state::scan_laws::keyed_law;
 use table_state::{ApplyError, Footprint, Op, RowKey, Sealed, key_of_row};
 use tier_base::{SessionId, TableId, Ticket};
-use tier_laws::{others_shown_law, pending_row_law, use_shown_law};
 use tier_statements::{bank_fault, judge_ops, taken};
 
 /// What is known of a key before the bank is asked for it.

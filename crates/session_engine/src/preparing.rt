@@ -23,8 +23,8 @@ use row_types::Refused;
 use sql_query::Write;
 use std::alloc::Global;
 use stored_tier::tier::Tier;
-use table_scan::laws::keyed_law;
 use table_state::Ops;
+use table_state::scan_laws::keyed_law;
 use tier_base::{SessionId, TableId};
 use tier_statements::{Route, RoutedWrite, prepare_write, route_write};
 

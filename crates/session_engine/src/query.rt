@@ -26,7 +26,7 @@ use sql_query::Query;
 use std::alloc::Global;
 use stored_tier::tier::Tier;
 use table_defs::BackingSchema;
-use table_scan::laws::keyed_law;
+use table_state::scan_laws::keyed_law;
 use tier_base::{SessionId, TableId};
 use tier_statements::answer_query;
 

@@ -15,6 +15,7 @@ ghost use Rattle.stored_tier.specs.Stored.{IsSound};
 use crate::commit::{commit_writes, may_wait};
 use crate::query::{reply_to_query, select_rows};
 use cache_tier::reply::Reply;
+use cache_tier::{commit_shown_law, session_law, use_shown_law};
 use group_catalog::{KeptGroup, resolve_which};
 use open_sessions::laws::label_law;
 use row_types::{Detail, Refused, Rule};
@@ -25,7 +26,6 @@ use std::alloc::Global;
 use stored_tier::naming::refuse_name;
 use stored_tier::tier::Tier;
 use tier_base::{Code, Label, Name, SessionId};
-use tier_laws::{commit_shown_law, session_law, use_shown_law};
 
 /// OPEN, as `open`.
 pub fn open_session(

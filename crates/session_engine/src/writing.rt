@@ -13,6 +13,7 @@ use crate::inserting::insert_rows;
 use crate::preparing::{Prepared, prepare};
 use cache_tier::laws::tier_law;
 use cache_tier::reply::Reply;
+use cache_tier::use_shown_law;
 use open_sessions::laws::label_law;
 use outside::Site;
 use row_types::Refused;
@@ -21,7 +22,6 @@ use std::alloc::Global;
 use stored_tier::tier::Tier;
 use table_state::Op;
 use tier_base::{SessionId, TableId};
-use tier_laws::use_shown_law;
 use tier_statements::done;
 
 /// INSERT, UPDATE and DELETE of an open session, in the cache: its operations stand behind the session's own, and hold

@@ -6,7 +6,7 @@ ghost use Rattle.table_state.specs.declared.footprint.RowKey.{RowKey as OneKey};
 
 use crate::mark::Mark;
 use crate::putting::{hold_all, widen_keys};
-use key_rows::Rows;
+use indexed_rows::Rows;
 use own_rows::has_same_key;
 use row_types::{Key, Row};
 use std::alloc::{AllocError, Global};

@@ -3,7 +3,7 @@
 ghost use Rattle.std.specs.Prelude.{◌≡◌, IfOk, map};
 ghost use Rattle.session_state.specs.Holding.{key_of_mark};
 
-use key_rows::Spare;
+use indexed_rows::Spare;
 use row_types::Row;
 use std::alloc::{AllocError, Global};
 use table_state::RowKey;

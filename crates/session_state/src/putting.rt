@@ -5,7 +5,7 @@ ghost use Rattle.table_state.specs.declared.footprint.RowKey.{RowKey};
 ghost use Rattle.session_state.specs.Holding.{AreKeysOf, AreWithin, KeysHaveRoom, with_mark, with_marks};
 
 use crate::mark::Mark;
-use key_rows::Rows;
+use indexed_rows::Rows;
 use std::alloc::{AllocError, Global};
 
 /// A place for the keys of each of so many tables. What was pushed stays where memory is wanting.

@@ -15,8 +15,7 @@ use crate::mark::{Mark, marks};
 use own_rows::{Overlay, OwnTables, Steps, steps_of};
 use std::alloc::{AllocError, Global};
 use table_defs::BackingSchema;
-use table_scan::Scan;
-use table_state::{Footprint, Op, Ops};
+use table_state::{Footprint, Op, Ops, Scan};
 use tier_base::{Label, SessionId};
 
 /// An open session.

@@ -11,8 +11,8 @@ use Rattle.slab.specs.Slab.{Slab, get}
 use Rattle.row_types.specs.declared.value.Value.{Value}
 use Rattle.row_types.specs.Order.{key_order, order_of}
 use Rattle.row_types.proofs.OrderLaws.{key_exact, key_total, order_total}
-use Rattle.key_rows.proofs.MapLaws.{entries_of}
-use Rattle.key_rows.proofs.Sorted.{sorted_tail}
+use Rattle.indexed_rows.proofs.MapLaws.{entries_of}
+use Rattle.indexed_rows.proofs.Sorted.{sorted_tail}
 use Rattle.indexed_rows.specs.Rows.{Table, key_of, put_over}
 use Rattle.indexed_rows.proofs.EntryLaws.{same_values}
 use Rattle.slot_rows.specs.Leads.{lead_first, lead_of}

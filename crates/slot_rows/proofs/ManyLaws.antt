@@ -8,9 +8,9 @@ use Rattle.row_types.specs.declared.value.Value.{Value}
 use Rattle.row_types.specs.declared.value.Value.TheVariants.{Null}
 use Rattle.row_types.specs.Order.{key_order}
 use Rattle.row_types.proofs.OrderLaws.{key_total}
-use Rattle.key_rows.specs.Places.{IsGapFor, IsKeyAt}
-use Rattle.key_rows.proofs.MapLaws.{entries_of, has_key, no_key}
-use Rattle.key_rows.proofs.Sorted.{sorted_tail}
+use Rattle.indexed_rows.specs.Places.{IsGapFor, IsKeyAt}
+use Rattle.indexed_rows.proofs.MapLaws.{entries_of, has_key, no_key}
+use Rattle.indexed_rows.proofs.Sorted.{sorted_tail}
 use Rattle.indexed_rows.specs.Rows.{key_of}
 use Rattle.slot_rows.specs.Leads.{lead_of}
 use Rattle.slot_rows.specs.Orders.{AllIn, Awaits, Each, EachNow, EntersOrder, HasSpare, Includes, IsOther, IsWider, SameOrder, LeavesOrder}

@@ -8,9 +8,9 @@ use Rattle.slab.specs.Slab.{Slab}
 use Rattle.row_types.specs.declared.value.Value.{Value}
 use Rattle.row_types.specs.Order.{key_order}
 use Rattle.row_types.proofs.OrderLaws.{key_total}
-use Rattle.key_rows.specs.Places.{IsGapFor, IsKeyAt, IsSplitAt}
-use Rattle.key_rows.proofs.MapLaws.{entries_of, has_key, keys_at_least, keys_below}
-use Rattle.key_rows.proofs.Sorted.{split_at_key}
+use Rattle.indexed_rows.specs.Places.{IsGapFor, IsKeyAt, IsSplitAt}
+use Rattle.indexed_rows.proofs.MapLaws.{entries_of, has_key, keys_at_least, keys_below}
+use Rattle.indexed_rows.proofs.Sorted.{split_at_key}
 use Rattle.indexed_rows.specs.declared.parents.Parents.{Parents}
 use Rattle.indexed_rows.specs.Indexes.{IsFirstOf, IsIndexOf, behind}
 use Rattle.indexed_rows.specs.Rows.{Table, has_key as is_with, is_same, key_of}

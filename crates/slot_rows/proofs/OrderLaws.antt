@@ -9,8 +9,8 @@ use Rattle.slab.specs.Slab.{Slab, Updates, get}
 use Rattle.row_types.specs.declared.value.Value.{Value}
 use Rattle.row_types.specs.declared.value.Value.TheVariants.{Null}
 use Rattle.row_types.specs.Order.{key_order}
-use Rattle.key_rows.specs.Places.{IsGapFor, IsKeyAt, IsSplitAt}
-use Rattle.key_rows.proofs.MapLaws.{found_gap, found_key, found_split, goes_in, length_of, now_has, now_sorted, removed, slice_get_map}
+use Rattle.indexed_rows.specs.Places.{IsGapFor, IsKeyAt, IsSplitAt}
+use Rattle.indexed_rows.proofs.MapLaws.{found_gap, found_key, found_split, goes_in, length_of, now_has, now_sorted, removed, slice_get_map}
 use Rattle.slot_rows.specs.Leads.{lead, lead_first, lead_of}
 use Rattle.indexed_rows.specs.Rows.{Table, key_of, put_in}
 use Rattle.slot_rows.specs.Slots.{AreOrdered, AreSlots, entries_in, entry_in, row_in, slots_of, table_in}

@@ -8,8 +8,8 @@ use Rattle.slab.specs.Slab.{Slab, Updates, get}
 use Rattle.row_types.specs.declared.value.Value.{Value}
 use Rattle.row_types.specs.Order.{key_order}
 use Rattle.row_types.proofs.OrderLaws.{key_exact}
-use Rattle.key_rows.specs.Places.{IsGapFor, IsKeyAt}
-use Rattle.key_rows.proofs.MapLaws.{entries_of, has_key, no_key}
+use Rattle.indexed_rows.specs.Places.{IsGapFor, IsKeyAt}
+use Rattle.indexed_rows.proofs.MapLaws.{entries_of, has_key, no_key}
 use Rattle.indexed_rows.specs.Rows.{key_of}
 use Rattle.slot_rows.specs.Slots.{AreOrdered, entries_in, row_in, slots_of, table_in}
 use Rattle.slot_rows.specs.SlotKeys.{IsKeyedBy, PutsInSlot, RowsHeld, SlotKeys, slot_entries, slot_keys_in}

@@ -5,17 +5,17 @@ use Rattle.std.proofs.lemmas.Option.{slice_get-get_or}
 use Rattle.std.specs.List.{insert, remove}
 use Rattle.std.proofs.lemmas.Cmp.{tied_itself}
 use Rattle.row_types.proofs.OrderLaws.{key_total}
-use Rattle.key_rows.proofs.Sorted.{below_at, below_tail, sorted_remove, sorted_tail}
+use Rattle.indexed_rows.proofs.Sorted.{below_at, below_tail, sorted_remove, sorted_tail}
 use Rattle.std.specs.List.Sorted.{IsBinarySearchResult, IsSearchInRange}
 use Rattle.std.specs.Ordering.{ordering_index}
 use Rattle.std.specs.FinMap as fm
 use Rattle.slab.specs.Slab.{Slab, Updates, get}
 use Rattle.row_types.specs.declared.value.Value.{Value}
 use Rattle.row_types.specs.Order.{key_order}
-use Rattle.key_rows.specs.Places.{IsKeyAt}
+use Rattle.indexed_rows.specs.Places.{IsKeyAt}
 use Rattle.indexed_rows.specs.Rows.{Table, key_of}
 use Rattle.slot_rows.specs.Slots.{AreSlots, entries_in, entry_in, row_in}
-use Rattle.key_rows.proofs.MapLaws.{entries_of, row_of, slice_get_map}
+use Rattle.indexed_rows.proofs.MapLaws.{entries_of, row_of, slice_get_map}
 
 module _ {X Y : Type 0} (f : X → Y) where
   pub mapped_range : (xs : List X) (r : Result ℕ ℕ) → IsSearchInRange r (length xs) → IsSearchInRange r (length (map f xs))

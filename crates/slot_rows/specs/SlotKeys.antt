@@ -6,7 +6,7 @@ use Rattle.std.specs.FinMap as fm
 use Rattle.slab.specs.Slab.{Slab}
 use Rattle.row_types.specs.declared.value.Value.{Value}
 use Rattle.row_types.specs.contracts.value.Value as one
-use Rattle.key_rows.specs.Places.{IsKeyAt}
+use Rattle.indexed_rows.specs.Places.{IsKeyAt}
 use Rattle.indexed_rows.specs.Rows.{Table, key_of}
 use Rattle.slot_rows.specs.Slots.{row_in, slots_of}
 use Rattle.slot_rows.specs.declared.order.Entry.{Entry}

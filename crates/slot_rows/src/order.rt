@@ -3,7 +3,7 @@
 ghost use Rattle.std.specs.Prelude.{◌≡◌, ◌≤◌, ◌<◌, ◌+◌, ◌^◌, ◌++◌, [], length, IfOk, IfErr, OnOk, Some, slice_get, take, insert, remove};
 ghost use Rattle.std.specs.List.Sorted.{IsSearchInRange};
 ghost use Rattle.std.specs.FinMap as map;
-ghost use Rattle.key_rows.specs.Places.{IsGapFor, IsKeyAt};
+ghost use Rattle.indexed_rows.specs.Places.{IsGapFor, IsKeyAt};
 ghost use Rattle.indexed_rows.specs.Rows.{key_of};
 ghost use Rattle.slot_rows.specs.Orders.{Awaits, EmptiesOrder, EntersOrder, Includes, IsSlotWith, IsStart, SameOrder, LeavesOrder};
 ghost use Rattle.slot_rows.specs.Slots.{AreOrdered, slot_at_front, slots_of, table_in};

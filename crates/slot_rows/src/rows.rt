@@ -2,7 +2,7 @@
 
 ghost use Rattle.std.specs.Prelude.{◌≡◌, ◌≤◌, ◌<◌, ◌+◌, ◌^◌, ◌++◌, ℕ, List, [], ◌∷◌, length, IfSome, OnOk, OnErr, None, Some, false, option_copied, slice_get, slice_index_or};
 ghost use Rattle.std.specs.FinMap as map;
-ghost use Rattle.key_rows.specs.Places.{IsKeyAt};
+ghost use Rattle.indexed_rows.specs.Places.{IsKeyAt};
 ghost use Rattle.indexed_rows.specs.Rows.{key_of, put_in, put_over};
 ghost use Rattle.row_types.specs.declared.value.Value.{Value as OneValue};
 ghost use Rattle.slot_rows.specs.Orders.{HasBefore, IsRowWith, IsWider, TakesRow, first_columns, place_from};

@@ -2,7 +2,7 @@
 
 use crate::error::BenchError;
 use crate::watch::{mixed, tell_calls};
-use key_rows::Rows;
+use indexed_rows::Rows;
 use row_types::{Key, Row, Value};
 use slot_rows::SlotRows;
 use std::alloc::{AllocError, Global};

@@ -11,7 +11,7 @@ use Rattle.table_state.specs.declared.history.Sealed.{Sealed}
 use Rattle.table_state.specs.declared.operation.Op.{Op}
 use Rattle.table_state.specs.Histories.{entry_of, has_ticket, is_of}
 use Rattle.order_laws.specs.Commits.{FollowsLower, KeepsOrder, Once, RiseBetween, pending}
-use Rattle.commit_flow.specs.Events.{Event, Came, Left, Others}
+use Rattle.order_laws.specs.Events.{Event, Came, Left, Others}
 use Rattle.propagators.specs.Rounds.{Leads, came_in, left_in}
 use Rattle.cache_tier.specs.Rounds.{Mixes}
 

@@ -14,3 +14,8 @@ pub mod StoreChanges
 pub mod StoreLists
 pub mod StoreRows
 pub mod VerifyLaws
+pub mod FillSteps
+pub mod GatherLaws
+pub mod PutLaws
+pub mod RefreshSteps
+pub mod StoreForms

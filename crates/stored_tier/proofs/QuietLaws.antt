@@ -17,7 +17,7 @@ use Rattle.cache_tier.specs.Steps.{DoesStatement, tells}
 use Rattle.cache_tier.specs.TierStates.{Session, Tier, is_labelled, session_of}
 use Rattle.cache_tier.specs.Worlds.{Answer, IsUnshared, Part, Quiet, Tries, Unless, World, faulty, only}
 use Rattle.open_sessions.specs.Opening.{seen_all}
-use Rattle.tier_laws.specs.Events.{StaysShown, with_tier}
+use Rattle.cache_tier.specs.Events.{StaysShown, with_tier}
 use Rattle.tier_statements.specs.Seen.{session_seen}
 use Rattle.stored_tier.specs.declared.tier.Tier.{Tier as Stored}
 use Rattle.stored_tier.specs.Answering.{Replies}

@@ -16,7 +16,7 @@ use Rattle.table_state.specs.Histories.{state_of}
 use Rattle.table_state.specs.Tables.{TableState}
 use Rattle.order_laws.specs.Commits.{RiseBetween}
 use Rattle.order_laws.specs.Standing.{live_tables}
-use Rattle.commit_flow.specs.Events.{Event, Follows}
+use Rattle.order_laws.specs.Events.{Event, Follows}
 use Rattle.outside.specs.Faults.{Rose}
 use Rattle.outside.specs.Holding.{Held}
 use Rattle.propagators.specs.declared.rounds.RoundFault.{RoundFault}
@@ -32,9 +32,9 @@ use Rattle.cache_tier.specs.TierStates.{Tier}
 use Rattle.cache_tier.specs.Worlds.{IsUnshared, Passes, Tries, World, faulty, only}
 use Rattle.cache_tier.specs.declared.reply.Last.TheVariants.{Done, Fault}
 use Rattle.cache_tier.specs.declared.reply.Reply.{Reply}
-use Rattle.tier_laws.specs.Events.{StaysShown, at_history, settled_to}
-use Rattle.tier_laws.specs.Standing.{Stands, live_groups_of}
-use Rattle.tier_laws.proofs.GroupTables.{live_table}
+use Rattle.cache_tier.specs.Events.{StaysShown, at_history, settled_to}
+use Rattle.cache_tier.specs.StandingBetween.{Stands, live_groups_of}
+use Rattle.cache_tier.proofs.GroupTables.{live_table}
 use Rattle.group_catalog.specs.Catalogs.{groups_in}
 use Rattle.stored_tier.specs.declared.tier.Tier.{Tier as Stored}
 use Rattle.stored_tier.specs.Draining.{SettlesAll, settled_reply}

@@ -7,8 +7,8 @@ use Rattle.outside.specs.Holding.{Held}
 use Rattle.cache_tier.specs.Shown.{shown_state}
 use Rattle.cache_tier.specs.TierStates.{Tier}
 use Rattle.cache_tier.specs.Worlds.{World}
-use Rattle.tier_laws.specs.Events.{at_history, with_tier}
-use Rattle.tier_laws.specs.Standing.{Stands}
+use Rattle.cache_tier.specs.Events.{at_history, with_tier}
+use Rattle.cache_tier.specs.StandingBetween.{Stands}
 use Rattle.stored_tier.specs.declared.tier.Tier.{Tier as Stored}
 use Rattle.stored_tier.specs.Performing.{AreLast, IsPerformed, KeepsSlots, StandsFor, Waits, meets}
 use Rattle.stored_tier.specs.Sites.{IsAt}

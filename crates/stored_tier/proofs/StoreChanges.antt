@@ -10,7 +10,7 @@ use Rattle.instances.specs.declared.tree.Child.{Child}
 use Rattle.instances.specs.declared.tree.Tree.{Tree}
 use Rattle.instances.specs.Trees.{place_of, same_table, table_of}
 use Rattle.instances.specs.Views.{kept_at}
-use Rattle.key_rows.proofs.MapLaws.{slice_get_map}
+use Rattle.indexed_rows.proofs.MapLaws.{slice_get_map}
 use Rattle.group_store.specs.Keeping.{IsFor, layer_for}
 use Rattle.group_store.specs.Shown.{AreHoused, IsOver, foreign_key_of, home_from, home_of, homes_from}
 use Rattle.group_store.specs.Stores.{Kept, place_in}
@@ -20,7 +20,7 @@ use Rattle.cache_tier.specs.Groups.{Group, covers, definitions_of}
 use Rattle.cache_tier.specs.declared.group.GroupDef.{GroupDef}
 use Rattle.cache_tier.specs.Shown.{shown_state}
 use Rattle.cache_tier.specs.Worlds.{World}
-use Rattle.tier_laws.proofs.ShownTrees.{at_place}
+use Rattle.cache_tier.proofs.ShownTrees.{at_place}
 use Rattle.stored_tier.specs.declared.tier.Tier.{Tier as Stored}
 use Rattle.stored_tier.specs.Grouping.{SameTree}
 use Rattle.stored_tier.specs.Performing.{StandsFor}

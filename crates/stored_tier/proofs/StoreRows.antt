@@ -20,11 +20,11 @@ use Rattle.cache_tier.specs.Groups.{Group, covers}
 use Rattle.cache_tier.specs.Shown.{shown_state, table_of_group}
 use Rattle.cache_tier.specs.TierStates.{Tier}
 use Rattle.cache_tier.specs.Worlds.{World}
-use Rattle.tier_laws.specs.Standing.{HaveOwnTables, IsCatalogued}
-use Rattle.tier_laws.proofs.ChosenGroups.{each_at}
-use Rattle.tier_laws.proofs.GroupTables.{IsFound, each_own, over_is_found}
-use Rattle.tier_laws.proofs.ShownTables.{no_table_shown, same_state, shown_whole, table_shown}
-use Rattle.tier_laws.proofs.TableLaws.{covered_defined}
+use Rattle.cache_tier.specs.StandingBetween.{HaveOwnTables, IsCatalogued}
+use Rattle.cache_tier.proofs.ChosenGroups.{each_at}
+use Rattle.cache_tier.proofs.GroupTables.{IsFound, each_own, over_is_found}
+use Rattle.cache_tier.proofs.ShownTables.{no_table_shown, same_state, shown_whole, table_shown}
+use Rattle.cache_tier.proofs.TableLaws.{covered_defined}
 use Rattle.stored_tier.specs.declared.tier.Tier.{Tier as Stored}
 use Rattle.stored_tier.specs.Performing.{StandsFor}
 use Rattle.stored_tier.specs.Stored.{AreKept, IsSound, IsStoredAs, ShowsRows, rows_of, without_list}

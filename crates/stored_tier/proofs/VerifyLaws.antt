@@ -19,7 +19,7 @@ use Rattle.table_state.specs.Operations.{applied, applied_all}
 use Rattle.table_state.specs.Refusals.{broken_by, broken_by_all}
 use Rattle.table_state.specs.Tables.{TableState, fits_columns, table_at}
 use Rattle.table_state.proofs.ChangeLaws.{applies}
-use Rattle.table_scan.specs.Keyed.{HasFit, IsKeyed, IsUnderKeys}
+use Rattle.table_state.specs.Keyed.{HasFit, IsKeyed, IsUnderKeys}
 use Rattle.slot_rows.specs.SlotKeys.{IsKeyedBy}
 use Rattle.instances.specs.Views.{kept_at}
 use Rattle.own_rows.specs.OwnTables.{AreShown}

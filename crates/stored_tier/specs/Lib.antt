@@ -6,3 +6,8 @@ pub mod Performing
 pub mod Refusing
 pub mod Sites
 pub mod Stored
+pub mod Choosing
+pub mod Filling
+pub mod Gathering
+pub mod Moments
+pub mod Refreshing

@@ -22,7 +22,7 @@ use Rattle.cache_tier.specs.SessionSteps.{close_answer, open_answer, open_fault}
 use Rattle.cache_tier.specs.Steps.{DoesStatement, tells}
 use Rattle.cache_tier.specs.TierStates.{Session}
 use Rattle.cache_tier.specs.Worlds.{IsUnshared, Part, Quiet, Tries, Unless, World, faulty, only}
-use Rattle.tier_laws.specs.Standing.{Stands}
+use Rattle.cache_tier.specs.StandingBetween.{Stands}
 use Rattle.stored_tier.specs.declared.tier.Tier.{Tier as Stored}
 use Rattle.stored_tier.specs.Sites.{IsAt}
 use Rattle.outside.specs.Sites.{SiteState}

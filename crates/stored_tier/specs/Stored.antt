@@ -8,7 +8,7 @@ use Rattle.table_state.specs.declared.history.Sealed.{Sealed}
 use Rattle.table_state.specs.declared.operation.Op.{Op}
 use Rattle.table_state.specs.Operations.{applied_all, table_of}
 use Rattle.table_state.specs.Tables.{TableState}
-use Rattle.table_scan.specs.Keyed.{IsKeyed}
+use Rattle.table_state.specs.Keyed.{IsKeyed}
 use Rattle.own_rows.specs.OwnTables.{AreShown}
 use Rattle.session_state.specs.Sessions.{OpenSession}
 use Rattle.open_sessions.specs.Lookups.{of_label}
@@ -24,7 +24,7 @@ use Rattle.cache_tier.specs.Shown.{shown_state}
 use Rattle.cache_tier.specs.TierStates.{Session, SetState, Settings, Tier}
 use Rattle.cache_tier.specs.Worlds.{World}
 use Rattle.tier_statements.specs.Seen.{session_seen}
-use Rattle.group_rows.specs.Moments.{refreshed_in, set_seen}
+use Rattle.stored_tier.specs.Moments.{refreshed_in, set_seen}
 use Rattle.stored_tier.specs.declared.clock.TierClock.{TierClock}
 use Rattle.stored_tier.specs.declared.tier.Tier.{Tier as Stored}
 

@@ -1,6 +1,6 @@
 //! The tier's clock, and when what is due was done last.
 
-use group_rows::moments::SetMoment;
+use crate::moments::SetMoment;
 
 /// The tier's clock, and when what is due was done last. Moments are in milliseconds since 1970.
 pub struct TierClock {

@@ -8,13 +8,13 @@ ghost use Rattle.tier_base.specs.declared.code.Code.TheVariants as code;
 
 use crate::tier::Tier;
 use cache_tier::reply::{Last, Reply};
+use cache_tier::round_shown_law;
 use outside::Site;
 use propagators::laws::{follow_law, left_law};
 use propagators::{RoundFault, round};
 use row_types::{Detail, Key, Rule};
 use std::alloc::{AllocError, Global};
 use tier_base::{Code, Name, TableId};
-use tier_laws::round_shown_law;
 use tier_statements::{done, faulty, only};
 
 impl Tier {

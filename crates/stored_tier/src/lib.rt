@@ -3,7 +3,11 @@
 
 pub mod clock;
 pub mod drain;
+pub mod filling;
+pub mod gathering;
+pub mod moments;
 pub mod naming;
+pub mod refreshing;
 pub mod session;
 pub mod tier;
 pub mod verifying;

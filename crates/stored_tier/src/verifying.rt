@@ -6,7 +6,7 @@ ghost use Rattle.table_defs.specs.declared.definition.TableDef.{TableDef as Def}
 ghost use Rattle.table_state.specs.Independence.{IsWhole};
 ghost use Rattle.table_state.specs.Operations.{applied_all};
 ghost use Rattle.table_state.specs.Tables.{fits_columns, table_at};
-ghost use Rattle.table_scan.specs.Keyed.{HasFit, IsKeyed, IsUnderKeys};
+ghost use Rattle.table_state.specs.Keyed.{HasFit, IsKeyed, IsUnderKeys};
 ghost use Rattle.instances.specs.Views.{kept_at};
 ghost use Rattle.session_state.specs.Kept.{seen_of};
 ghost use Rattle.group_store.specs.Stores.{key_columns};
@@ -17,7 +17,7 @@ use group_store::{Home, Shown, Store};
 use row_types::{Column, Value, fits};
 use session_state::Session;
 use std::alloc::{AllocError, Global};
-use table_scan::Scan;
+use table_state::Scan;
 use tier_base::TableId;
 use tier_statements::{are_small, judge_ops};
 

@@ -8,3 +8,7 @@ pub mod ListLaws
 pub mod PositionLaws
 pub mod RefusalLaws
 pub mod SoundLaws
+pub mod EmptyTables
+pub mod KeyLaws
+pub mod KeyedLaws
+pub mod PairLaws

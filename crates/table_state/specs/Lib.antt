@@ -10,3 +10,5 @@ pub mod Refusals
 pub mod Sound
 pub mod StateCode
 pub mod Tables
+pub mod ScanChildren
+pub mod Keyed

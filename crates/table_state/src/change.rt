@@ -7,7 +7,7 @@ ghost use Rattle.table_state.specs.Changes.{HasRoom, taken_back, with_table};
 ghost use Rattle.table_state.specs.Tables.{table_at};
 
 use crate::tables::Tables;
-use key_rows::Spare;
+use indexed_rows::Spare;
 use row_types::{Key, Row};
 use std::alloc::{AllocError, Global};
 use tier_base::TableId;

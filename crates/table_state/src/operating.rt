@@ -12,7 +12,7 @@ use crate::fitting::broken;
 use crate::operation::Op;
 use crate::refusal::ApplyError;
 use crate::tables::Tables;
-use key_rows::Spare;
+use indexed_rows::Spare;
 use row_types::{Detail, Key, Row};
 use std::alloc::Global;
 use tier_base::{Code, TableId};

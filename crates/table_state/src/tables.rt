@@ -6,8 +6,7 @@ ghost use Rattle.table_state.specs.Children.{child_from};
 ghost use Rattle.table_defs.specs.Declarations.{foreign_places};
 ghost use Rattle.table_state.specs.Histories.{no_tables};
 
-use indexed_rows::IndexedRows;
-use key_rows::Rows;
+use indexed_rows::{IndexedRows, Rows};
 use row_types::Key;
 use std::alloc::{AllocError, Global};
 use std::marker::Model;

@@ -17,8 +17,8 @@ use Rattle.table_state.specs.Operations.{applied, applied_all, table_of}
 use Rattle.table_state.specs.Refusals.{IsFault, broken_by, broken_by_all, delete_fault, in_table, insert_fault, update_fault}
 use Rattle.table_state.specs.Tables.{TableState, table_at}
 use Rattle.table_state.proofs.HistoryLaws.{applied_all-append, one_more}
-use Rattle.table_scan.specs.Keyed.{IsKeyed}
-use Rattle.table_scan.proofs.KeyedLaws.{ops_keyed}
+use Rattle.table_state.specs.Keyed.{IsKeyed}
+use Rattle.table_state.proofs.KeyedLaws.{ops_keyed}
 use Rattle.own_rows.specs.declared.own.OwnRows.{OwnRows}
 use Rattle.own_rows.specs.Laying.{AreReady, AreStepsOf, HaveRoom}
 use Rattle.own_rows.specs.Overlays.{FitsOn, overlaid}
@@ -26,7 +26,7 @@ use Rattle.own_rows.specs.OwnTables.{AreRowsOf, AreShown}
 use Rattle.own_rows.proofs.RowsLaws.{fits, rows_none, sees}
 use Rattle.own_rows.specs.declared.steps.Step.{Step}
 use Rattle.own_rows.proofs.StepLaws.{as_many, room_less, steps_ready}
-use Rattle.table_scan.proofs.EmptyTables.{no_len}
+use Rattle.table_state.proofs.EmptyTables.{no_len}
 use Rattle.std.specs.List.{All}
 use Rattle.std.proofs.lemmas.List.Elements.{All-cons}
 use Rattle.tier_statements.specs.Judging.{AreSmall}

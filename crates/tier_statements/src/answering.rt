@@ -1,7 +1,7 @@
 //! The answer to a query.
 
 ghost use Rattle.std.specs.Prelude.{◌≡◌, ◌++◌, IfOk, OnOk};
-ghost use Rattle.table_scan.specs.Keyed.{IsKeyed};
+ghost use Rattle.table_state.specs.Keyed.{IsKeyed};
 ghost use Rattle.cache_tier.specs.Printing.{row_bytes, rows_bytes};
 ghost use Rattle.cache_tier.specs.SelectSteps.{rows_reply};
 ghost use Rattle.tier_statements.specs.Answering.{IsAnswerTo};
@@ -12,7 +12,7 @@ use resolution::ResolvedQuery;
 use row_types::{Refused, Row, print_values_into};
 use std::alloc::{AllocError, Global};
 use std::slice::from_ref;
-use table_scan::Scan;
+use table_state::Scan;
 use tier_base::Seq;
 
 /// The rows that a query answers over what the session sees, as they are printed, and their number. A query for totals

@@ -6,7 +6,7 @@ ghost use Rattle.table_state.specs.Independence.{IsWhole};
 ghost use Rattle.table_state.specs.Refusals.{Judges, broken_by_all};
 ghost use Rattle.table_state.specs.Operations.{table_of};
 ghost use Rattle.table_state.specs.declared.operation.Op.{Op as OneOp};
-ghost use Rattle.table_scan.specs.Keyed.{IsKeyed};
+ghost use Rattle.table_state.specs.Keyed.{IsKeyed};
 ghost use Rattle.own_rows.specs.Laying.{HaveRoom};
 ghost use Rattle.own_rows.specs.OwnTables.{AreRowsOf};
 ghost use Rattle.own_rows.specs.Overlays.{FitsOn, overlaid};
@@ -18,8 +18,7 @@ use row_types::Refused;
 use std::alloc::{AllocError, Global};
 use std::slice::from_ref;
 use table_defs::BackingSchema;
-use table_scan::Scan;
-use table_state::{ApplyError, Op};
+use table_state::{ApplyError, Op, Scan};
 use tier_base::TableId;
 use transactions::{judge_delete, judge_insert, judge_update};
 

@@ -9,8 +9,7 @@ ghost use Rattle.cache_tier.specs.TierStates.{Tier};
 use row_types::{Detail, Key, Row, Rule};
 use std::alloc::{AllocError, Global};
 use table_defs::{BackingSchema, TableDef};
-use table_scan::Scan;
-use table_state::key_of_row;
+use table_state::{Scan, key_of_row};
 use tier_base::{Code, TableId};
 
 /// Whether the key of a row has a row, in the tables of a scan. It fails for want of memory alone.

@@ -5,7 +5,7 @@ ghost use Rattle.std.specs.List.{AllPairs};
 ghost use Rattle.table_defs.specs.Declarations.{Tells};
 ghost use Rattle.table_state.specs.Independence.{IsWhole};
 ghost use Rattle.table_state.specs.Refusals.{broken_by_all};
-ghost use Rattle.table_scan.specs.Keyed.{IsKeyed};
+ghost use Rattle.table_state.specs.Keyed.{IsKeyed};
 ghost use Rattle.evaluator.specs.Rules.{Gives};
 ghost use Rattle.evaluator.specs.Writes.{effects_of};
 ghost use Rattle.session_state.specs.Kept.{IsKept, seen_of};
@@ -23,8 +23,7 @@ use evaluator::{Change, effects};
 use row_types::{Refused, Row};
 use session_state::Session;
 use std::alloc::Global;
-use table_scan::Scan;
-use table_state::{Op, Ops};
+use table_state::{Op, Ops, Scan};
 use tier_base::{Limit, SessionId, TableId};
 
 /// The operations of a session's write over what the session sees, all tested that can be before the bank is asked: an

@@ -16,9 +16,9 @@ use Rattle.indexed_rows.specs.Rows.{Table, is_same, key_of}
 use Rattle.table_state.specs.Tables.{TableState, names_parent, table_at}
 use Rattle.indexed_rows.proofs.FirstLaws.{drop_at}
 use Rattle.table_state.proofs.ListLaws.{find_none}
-use Rattle.table_scan.specs.Children.{child_from, first_from, refers_to}
-use Rattle.table_scan.specs.Keyed.{IsUnderKeys, has_key}
-use Rattle.table_scan.proofs.KeyLaws.{entries_under}
+use Rattle.table_state.specs.ScanChildren.{child_from, first_from, refers_to}
+use Rattle.table_state.specs.Keyed.{IsUnderKeys, has_key}
+use Rattle.table_state.proofs.KeyLaws.{entries_under}
 
 abbrev Row : Type 0
 Row = List Value

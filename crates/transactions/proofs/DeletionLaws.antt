@@ -15,10 +15,10 @@ use Rattle.table_defs.specs.Declarations.{foreign_places}
 use Rattle.indexed_rows.specs.Rows.{Table, key_of}
 use Rattle.table_state.specs.Tables.{TableState, table_at}
 use Rattle.indexed_rows.proofs.EntryLaws.{same_values}
-use Rattle.table_scan.specs.Children.{refers_to}
-use Rattle.table_scan.specs.Keyed.{IsKeyed, IsUnderKeys, has_key}
-use Rattle.table_scan.proofs.KeyLaws.{rows_apart, rows_there}
-use Rattle.table_scan.proofs.PairLaws.{Every, Pairs, every_append, every_as, every_filter, pairs_filter}
+use Rattle.table_state.specs.ScanChildren.{refers_to}
+use Rattle.table_state.specs.Keyed.{IsKeyed, IsUnderKeys, has_key}
+use Rattle.table_state.proofs.KeyLaws.{rows_apart, rows_there}
+use Rattle.table_state.proofs.PairLaws.{Every, Pairs, every_append, every_as, every_filter, pairs_filter}
 use Rattle.evaluator.specs.Cascades.{cascades_from, child_at, children_from, deleted, key_in, referring}
 use Rattle.evaluator.specs.Rules.{added, each}
 use Rattle.evaluator.proofs.WriteLaws.{keyed_at}

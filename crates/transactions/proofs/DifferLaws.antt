@@ -14,10 +14,10 @@ use Rattle.table_state.specs.declared.refusal.ApplyError.TheVariants as error
 use Rattle.table_state.specs.Refusals.{broken_by_all}
 use Rattle.indexed_rows.specs.Rows.{key_of}
 use Rattle.table_state.specs.Tables.{TableState, table_at}
-use Rattle.table_scan.specs.Keyed.{IsKeyed}
-use Rattle.table_scan.proofs.KeyLaws.{rows_apart, rows_there}
-use Rattle.table_scan.proofs.KeyedLaws.{ops_keyed}
-use Rattle.table_scan.proofs.PairLaws.{Every, Pairs, every_as}
+use Rattle.table_state.specs.Keyed.{IsKeyed}
+use Rattle.table_state.proofs.KeyLaws.{rows_apart, rows_there}
+use Rattle.table_state.proofs.KeyedLaws.{ops_keyed}
+use Rattle.table_state.proofs.PairLaws.{Every, Pairs, every_as}
 use Rattle.expressions.specs.declared.condition.Cond.{Cond}
 use Rattle.expressions.specs.declared.expression.Expr.{Expr}
 use Rattle.evaluator.specs.declared.change.Action.{Action}

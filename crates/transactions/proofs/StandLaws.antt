@@ -27,7 +27,7 @@ use Rattle.table_state.specs.Refusals.{broken_by, broken_by_all, changed_key, co
 use Rattle.table_state.specs.Tables.{TableState, has_parent, is_found, is_there}
 use Rattle.indexed_rows.proofs.EntryLaws.{same_values}
 use Rattle.evaluator.specs.Cascades.{key_in}
-use Rattle.table_scan.proofs.PairLaws.{Every, Pairs}
+use Rattle.table_state.proofs.PairLaws.{Every, Pairs}
 use Rattle.transactions.specs.Differing.{is_difference}
 use Rattle.transactions.proofs.TouchLaws.{applied_schema}
 

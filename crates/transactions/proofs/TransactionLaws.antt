@@ -8,8 +8,8 @@ use Rattle.table_state.specs.Tables.{TableState}
 use Rattle.table_state.proofs.HistoryLaws.{applied_all-append, none_all}
 use Rattle.evaluator.specs.declared.change.Change.{Change}
 use Rattle.evaluator.specs.Writes.{effects_of}
-use Rattle.table_scan.specs.Keyed.{IsKeyed}
-use Rattle.table_scan.proofs.KeyedLaws.{ops_keyed}
+use Rattle.table_state.specs.Keyed.{IsKeyed}
+use Rattle.table_state.proofs.KeyedLaws.{ops_keyed}
 use Rattle.std.specs.Option.{option_and_then}
 use Rattle.transactions.specs.declared.written.Written.{Written}
 use Rattle.transactions.specs.Transactions.{Done, Leaves, and_then, applied_to, behind, joined, left_by, rows_in, written_by, written_in}

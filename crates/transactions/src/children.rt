@@ -5,13 +5,12 @@ ghost use Rattle.std.specs.Option.{option_or};
 ghost use Rattle.table_state.specs.Independence.{IsWhole, refers_to};
 ghost use Rattle.table_state.specs.Refusals.{child_of, first_child};
 ghost use Rattle.table_state.specs.Tables.{table_at};
-ghost use Rattle.table_scan.specs.Keyed.{IsKeyed};
+ghost use Rattle.table_state.specs.Keyed.{IsKeyed};
 
 use row_types::{Detail, Key};
 use std::alloc::{AllocError, Global};
 use table_defs::{ForeignKey, TableDef};
-use table_scan::Scan;
-use table_state::key_of_row;
+use table_state::{Scan, key_of_row};
 use tier_base::TableId;
 
 /// The table and the least key of the first row that refers to the row of this table and key, in the order of the

@@ -9,7 +9,7 @@ ghost use Rattle.table_state.specs.declared.refusal.ApplyError.TheVariants as er
 ghost use Rattle.table_state.specs.Refusals.{Judges, delete_fault, has_children, insert_fault, missing_parent, refused, row_of, update_fault};
 ghost use Rattle.indexed_rows.specs.Rows.{is_same};
 ghost use Rattle.table_state.specs.Tables.{is_found, table_at};
-ghost use Rattle.table_scan.specs.Keyed.{IsKeyed};
+ghost use Rattle.table_state.specs.Keyed.{IsKeyed};
 ghost use Rattle.transactions.specs.Judging.{broken_by_delete, broken_by_insert, broken_by_update};
 
 use crate::children::first_child;
@@ -18,8 +18,7 @@ use row_types::{Detail, Key, Row, Rule, order_of_values};
 use std::alloc::{AllocError, Global};
 use std::cmp::Ordering;
 use table_defs::TableDef;
-use table_scan::Scan;
-use table_state::{ApplyError, check_key_stays, check_row, key_of_row};
+use table_state::{ApplyError, Scan, check_key_stays, check_row, key_of_row};
 use tier_base::{Code, TableId};
 
 /// Whether a row can be inserted, without inserting it. So the operation of an INSERT is judged over rows that can't

@@ -10,7 +10,7 @@ ghost use Rattle.table_defs.specs.Declarations.{fault_of, resolved};
 ghost use Rattle.table_state.specs.Operations.{applied_all};
 ghost use Rattle.table_state.specs.Refusals.{broken_by_all};
 ghost use Rattle.table_state.specs.Tables.{TableState};
-ghost use Rattle.table_scan.specs.Keyed.{IsKeyed};
+ghost use Rattle.table_state.specs.Keyed.{IsKeyed};
 ghost use Rattle.evaluator.specs.declared.change.Change.{Change};
 ghost use Rattle.evaluator.specs.Writes.{effects_of};
 ghost use Rattle.transactions.specs.Differing.{RefersBack, is_difference};

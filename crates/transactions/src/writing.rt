@@ -3,7 +3,7 @@
 ghost use Rattle.std.specs.Prelude.{◌≡◌, ◌≤◌, IfErr, IfOk, OnErr, OnOk, Some, length};
 ghost use Rattle.tier_base.specs.Limits.{greatest};
 ghost use Rattle.tier_base.specs.declared.limit.Limit.TheVariants.{Operations};
-ghost use Rattle.table_scan.specs.Keyed.{IsKeyed};
+ghost use Rattle.table_state.specs.Keyed.{IsKeyed};
 ghost use Rattle.table_state.specs.Changes.{LeadsBack};
 ghost use Rattle.table_state.specs.Operations.{applied_all};
 ghost use Rattle.table_state.specs.Refusals.{IsFault, broken_by_all};

@@ -1,5 +1,5 @@
 use Rattle.std.proofs.Common.{◌∙◌, ap, refl}
-use Rattle.group_rows.specs.Refreshing.{moment_in}
+use Rattle.stored_tier.specs.Refreshing.{moment_in}
 use Rattle.cache_engine.proofs.DueStored.{line_done}
 use Rattle.cache_engine.proofs.due.begin_line.Goals as goal
 

@@ -1,5 +1,5 @@
 use Rattle.std.proofs.Common.{◌≡◌, drop}
-use Rattle.group_rows.specs.Refreshing.{moment_in}
+use Rattle.stored_tier.specs.Refreshing.{moment_in}
 use Rattle.cache_engine.proofs.due_sets.last_refresh.Given as goal
 
 abbrev pub invariant-loop-set : goal.invariant-loop-set

@@ -1,6 +1,6 @@
 use Rattle.std.proofs.Common.{◌≡◌, ℕ, take, true}
 use Rattle.std.specs.List.{list_all}
-use Rattle.group_rows.specs.Refreshing.{has_moment, moment_in}
+use Rattle.stored_tier.specs.Refreshing.{has_moment, moment_in}
 use Rattle.cache_engine.proofs.due_sets.with_entries.Given as goal
 
 abbrev pub invariant-loop-interval : goal.invariant-loop-interval

@@ -1,7 +1,7 @@
 -- The sets before a place are refreshed, and there is room for the notes of the others.
 use Rattle.std.proofs.Common.{◌≡◌, ◌≤◌, ◌+◌, drop, length, true, vec_capacity, vec_len}
 use Rattle.std.specs.List.{list_all}
-use Rattle.group_rows.specs.Refreshing.{has_moment}
+use Rattle.stored_tier.specs.Refreshing.{has_moment}
 use Rattle.stored_tier.specs.Stored.{IsSound}
 use Rattle.cache_engine.proofs.DueItemLaws.{SetsSoFar}
 use Rattle.cache_engine.proofs.due_work.refresh_sets.Given as goal

@@ -2,7 +2,7 @@ use Rattle.std.proofs.Common.{◌≤◌, ◌<◌, length, slice_get, Fits, w64, 
 use Rattle.std.specs.FinMap as fm
 use Rattle.std.proofs.lemmas.List.{length-map}
 use Rattle.table_state.specs.Tables.{table_at}
-use Rattle.table_scan.specs.Children.{refers_to}
+use Rattle.table_state.specs.ScanChildren.{refers_to}
 use Rattle.evaluator.specs.Cascades.{deleted}
 use Rattle.evaluator.proofs.CapLaws.{on_ok}
 use Rattle.evaluator.proofs.CascadeLaws.{deleted_last, no_row}

@@ -2,7 +2,7 @@
 use Rattle.std.proofs.Common.{◌≡◌, ◌+◌, ◌-◌, ◌*◌, take, slice_get}
 use Rattle.std.specs.List.{filter, flat_map}
 use Rattle.std.specs.FinMap.{values}
-use Rattle.table_scan.specs.Children.{refers_to}
+use Rattle.table_state.specs.ScanChildren.{refers_to}
 use Rattle.table_state.specs.Tables.{table_at}
 use Rattle.evaluator.specs.Capping.{extended}
 use Rattle.evaluator.specs.Cascades.{deleted, key_in, referring}

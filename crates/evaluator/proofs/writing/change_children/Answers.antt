@@ -2,7 +2,7 @@ use Rattle.std.proofs.Common.{◌<◌, Fits, w64, slice_get, rules, sym, arith}
 use Rattle.std.specs.FinMap.{entries, len-entries, values}
 use Rattle.std.proofs.lemmas.List.{length-map}
 use Rattle.table_state.specs.Tables.{table_at}
-use Rattle.table_scan.specs.Children.{refers_to}
+use Rattle.table_state.specs.ScanChildren.{refers_to}
 use Rattle.evaluator.specs.Capping.{put}
 use Rattle.evaluator.specs.Writes.{done_on}
 use Rattle.evaluator.proofs.CascadeLaws.{all_rows, no_row}

@@ -2,7 +2,7 @@ use Rattle.std.proofs.Common.{◌∙◌, ap, arith, length, refl}
 use Rattle.cache_tier.specs.Groups.{definitions_of}
 use Rattle.cache_tier.specs.Sets.{alone, changed_from}
 use Rattle.group_catalog.specs.Catalogs.{groups_in}
-use Rattle.group_rows.specs.Refreshing.{choice_of, positioned}
+use Rattle.stored_tier.specs.Refreshing.{choice_of, positioned}
 use Rattle.group_engine.proofs.AlteringLaws.{not_refreshed, refreshed_with}
 use Rattle.group_engine.proofs.FreshLaws.{changed_long}
 use Rattle.stored_tier.proofs.SoundParts.{changed_defs, sound_regrouped}

@@ -1,6 +1,6 @@
 use Rattle.std.proofs.Common.{◌≡◌, ◌∙◌, Err, rules, subst, sym}
 use Rattle.group_engine.specs.Fresh.{ReadsIn}
-use Rattle.group_rows.specs.Refreshing.{choice_of, is_filled}
+use Rattle.stored_tier.specs.Refreshing.{choice_of, is_filled}
 use Rattle.group_engine.proofs.ReadLaws.{are_formed, fresh_here, not_called, read_failed, read_here}
 use Rattle.group_engine.proofs.fresh.read_fresh.Goals as goal
 

@@ -2,7 +2,7 @@ use Rattle.std.proofs.Common.{◌∙◌, None, ap, refl}
 use Rattle.group_catalog.specs.Catalogs.{groups_in}
 use Rattle.group_engine.proofs.CalledLaws.{set_failed, set_groups, set_refreshed}
 use Rattle.cache_tier.specs.Groups.{definitions_of}
-use Rattle.group_rows.specs.Refreshing.{has_moment, positioned}
+use Rattle.stored_tier.specs.Refreshing.{has_moment, positioned}
 use Rattle.group_engine.proofs.RefreshedSets.{entries_noted}
 use Rattle.stored_tier.proofs.SoundParts.{changed_defs}
 use Rattle.group_engine.proofs.TriedLaws.{stands_noted}

@@ -1,7 +1,7 @@
 use Rattle.std.proofs.Common.{◌≡◌, ◌∙◌, ap, false, refl, subst, sym, true}
 use Rattle.cache_tier.specs.Groups.{definitions_of}
 use Rattle.group_catalog.specs.Catalogs.{groups_in}
-use Rattle.group_rows.specs.Refreshing.{choice_of, exchanged, positioned}
+use Rattle.stored_tier.specs.Refreshing.{choice_of, exchanged, positioned}
 use Rattle.stored_tier.specs.Stored.{AreKept, AreWhole}
 use Rattle.stored_tier.proofs.LaterLaws.{later_by}
 use Rattle.stored_tier.proofs.SoundParts.{all_plain, changed_defs, housed_exchanged, named_by, visible_by}

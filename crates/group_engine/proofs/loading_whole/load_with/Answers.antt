@@ -4,7 +4,7 @@ use Rattle.cache_tier.specs.Groups.{definitions_of}
 use Rattle.cache_tier.specs.Sets.{alone, changed_from}
 use Rattle.cache_tier.specs.Worlds.{only}
 use Rattle.group_catalog.specs.Catalogs.{groups_in}
-use Rattle.group_rows.specs.Refreshing.{choice_of, positioned}
+use Rattle.stored_tier.specs.Refreshing.{choice_of, positioned}
 use Rattle.group_engine.proofs.FreshLaws.{changed_long}
 use Rattle.group_engine.proofs.WholeLaws.{loaded_once, whole_read}
 use Rattle.stored_tier.proofs.SoundParts.{changed_defs, sound_regrouped}

@@ -3,9 +3,9 @@ use Rattle.std.specs.FinMap.{values}
 use Rattle.row_types.specs.declared.value.Value.{Value}
 use Rattle.indexed_rows.specs.Rows.{key_of}
 use Rattle.instances.specs.Views.{kept_at}
-use Rattle.group_rows.specs.Choosing.{matches_at}
+use Rattle.stored_tier.specs.Choosing.{matches_at}
 use Rattle.group_engine.proofs.CutLaws.{keys_more, keys_skip, take_past}
-use Rattle.group_rows.proofs.GatherLaws.{values_long}
+use Rattle.stored_tier.proofs.GatherLaws.{values_long}
 use Rattle.group_engine.proofs.GroupingLaws.{take_all}
 use Rattle.group_engine.proofs.unloading.leaving.Goals as goal
 use Rattle.group_engine.proofs.unloading.leaving.Goals.{in-None, in-Some+in_ok-key-in-Some+then-matches+in_ok-push-in-Some, in-Some+in_ok-key-in-Some+else-matches}

@@ -3,7 +3,7 @@ use Rattle.std.proofs.Common.{◌≡◌, filter, map, take}
 use Rattle.std.specs.FinMap.{values}
 use Rattle.indexed_rows.specs.Rows.{key_of}
 use Rattle.instances.specs.Views.{kept_at}
-use Rattle.group_rows.specs.Choosing.{matches_at}
+use Rattle.stored_tier.specs.Choosing.{matches_at}
 use Rattle.group_engine.proofs.unloading.leaving.Given as goal
 
 abbrev pub invariant-loop-place : goal.invariant-loop-place

@@ -4,7 +4,7 @@ use Rattle.std.specs.List.{list_any}
 use Rattle.evaluator.specs.Writes.{selects}
 use Rattle.instances.specs.Views.{kept_at}
 use Rattle.group_engine.proofs.CutLaws.{take_past}
-use Rattle.group_rows.proofs.GatherLaws.{none_at_all, none_more, some_there, values_long}
+use Rattle.stored_tier.proofs.GatherLaws.{none_at_all, none_more, some_there, values_long}
 use Rattle.group_engine.proofs.unloading.overflows.Goals as goal
 use Rattle.group_engine.proofs.unloading.overflows.Goals.{in-None, in-Some+else-is_none}
 

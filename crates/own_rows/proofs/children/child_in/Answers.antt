@@ -1,7 +1,7 @@
 -- From the key at the place on, among own rows and those of the table.
 use Rattle.std.proofs.Common.{sym, subst}
 use Rattle.table_state.specs.Tables.{table_at}
-use Rattle.table_scan.specs.Keyed.{IsUnderKeys}
+use Rattle.table_state.specs.Keyed.{IsUnderKeys}
 use Rattle.own_rows.proofs.StandLaws.{no_row_past, stands_within}
 use Rattle.own_rows.proofs.ChildSteps.{none_from, starts_under}
 use Rattle.own_rows.proofs.children.child_in.Goals as goal

@@ -1,5 +1,5 @@
 use Rattle.std.proofs.Common.{ap, subst, sym, ◌∙◌}
-use Rattle.table_scan.specs.Keyed.{IsKeyed}
+use Rattle.table_state.specs.Keyed.{IsKeyed}
 use Rattle.table_state.specs.Independence.{IsWhole}
 use Rattle.table_state.proofs.IndependenceLaws.{all_whole}
 use Rattle.own_rows.specs.OwnTables.{AreShown}

@@ -1,5 +1,5 @@
 use Rattle.std.proofs.Common.{◌≡◌, ◌∙◌, Some, ap, subst, sym}
-use Rattle.table_scan.specs.Keyed.{IsKeyed}
+use Rattle.table_state.specs.Keyed.{IsKeyed}
 use Rattle.table_state.specs.Independence.{IsWhole}
 use Rattle.table_state.specs.Operations.{applied_all}
 use Rattle.table_state.specs.Tables.{TableState}

@@ -2,7 +2,7 @@ use Rattle.std.proofs.Common.{List, [], ◌∷◌, ◌++◌, inr, ap, ◌∙◌}
 use Rattle.table_state.specs.declared.history.Entry.{Entry}
 use Rattle.table_state.specs.declared.history.Entry.TheVariants.{Foreign}
 use Rattle.table_state.specs.Histories.{state_of}
-use Rattle.table_scan.proofs.KeyedLaws.{history_keyed}
+use Rattle.table_state.proofs.KeyedLaws.{history_keyed}
 use Rattle.backing_gate.proofs.BankLaws.{came, did}
 use Rattle.backing_gate.proofs.bank.MemoryBank.visit.Goals as goal
 

@@ -1,7 +1,7 @@
 use Rattle.std.proofs.Common.{◌<◌, nat_eq, ap, sym, subst, ◌∙◌}
 use Rattle.std.specs.List.{list_any}
 use Rattle.std.specs.FinMap as fm
-use Rattle.key_rows.specs.Places.{IsKeyAt}
+use Rattle.indexed_rows.specs.Places.{IsKeyAt}
 use Rattle.indexed_rows.specs.Rows.{is_same}
 use Rattle.recency.specs.Rings.{keys_without}
 use Rattle.group_store.specs.Recent.{AreOnce, keys_of, orders_for}

@@ -1,7 +1,7 @@
 use Rattle.std.proofs.Common.{◌+◌, drop, map, slice_get, refl, sym, ap, ◌∙◌, arith}
 use Rattle.std.proofs.lemmas.List.{length-map}
 use Rattle.std.specs.FinMap as fm
-use Rattle.key_rows.proofs.MapLaws.{slice_get_map}
+use Rattle.indexed_rows.proofs.MapLaws.{slice_get_map}
 use Rattle.instances.specs.Views.{kept_at}
 use Rattle.group_store.specs.Entering.{entered}
 use Rattle.group_store.specs.declared.tree_rows.ChildRows.{ChildRows}

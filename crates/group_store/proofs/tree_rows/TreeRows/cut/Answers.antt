@@ -6,7 +6,7 @@ use Rattle.group_store.specs.Joined.{layer_of, layers_of, tables_of}
 use Rattle.group_store.proofs.JoinedLaws.{long_tables}
 use Rattle.group_store.proofs.RecentLaws.{spot_within}
 use Rattle.group_store.proofs.TreeLaws.{count_rows, cut_done, cut_stays, fewer_rows}
-use Rattle.key_rows.proofs.MapLaws.{has_key}
+use Rattle.indexed_rows.proofs.MapLaws.{has_key}
 use Rattle.group_store.proofs.tree_rows.TreeRows.cut.Goals as goal
 
 pub take_child-requires-clause-child : goal.take_child-requires-clause-child

@@ -1,7 +1,7 @@
 use Rattle.std.proofs.Common.{◌≡◌, length, ap, sym, subst, ◌∙◌}
 use Rattle.std.proofs.lemmas.List.Edits.{length-insert}
 use Rattle.std.specs.FinMap as fm
-use Rattle.key_rows.specs.Places.{IsGapFor, IsKeyAt}
+use Rattle.indexed_rows.specs.Places.{IsGapFor, IsKeyAt}
 use Rattle.indexed_rows.specs.Rows.{key_of}
 use Rattle.slot_rows.specs.Leads.{lead_of}
 use Rattle.slot_rows.specs.Slots.{AreOrdered, row_in, slots_of, table_in}

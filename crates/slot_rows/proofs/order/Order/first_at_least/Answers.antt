@@ -1,7 +1,7 @@
 use Rattle.std.proofs.Common.{◌++◌, MatchResult, rules, subst, arith, ◌∙◌}
 use Rattle.std.specs.List.Sorted.{IsBinarySearchResult}
 use Rattle.std.specs.FinMap as fm
-use Rattle.key_rows.specs.Places.{IsSplitAt}
+use Rattle.indexed_rows.specs.Places.{IsSplitAt}
 use Rattle.indexed_rows.specs.Rows.{key_of}
 use Rattle.slot_rows.specs.Slots.{entry_order, table_in}
 use Rattle.slot_rows.proofs.NextLaws.{lead_more, start_split}

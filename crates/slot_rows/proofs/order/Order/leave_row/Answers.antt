@@ -1,7 +1,7 @@
 use Rattle.std.proofs.Common.{◌+◌, length, ap, subst, ◌∙◌}
 use Rattle.std.proofs.lemmas.List.Edits.{length-remove}
 use Rattle.std.specs.FinMap as fm
-use Rattle.key_rows.specs.Places.{IsGapFor, IsKeyAt}
+use Rattle.indexed_rows.specs.Places.{IsGapFor, IsKeyAt}
 use Rattle.indexed_rows.specs.Rows.{key_of}
 use Rattle.slot_rows.specs.Slots.{table_in}
 use Rattle.slot_rows.proofs.ManyLaws.{found_slot, not_absent}

@@ -3,7 +3,7 @@ use Rattle.slab.specs.Slab.{slab_len}
 use Rattle.slot_rows.specs.Orders.{Each, IsOther}
 use Rattle.slot_rows.specs.Slots.{table_in}
 use Rattle.slot_rows.specs.SlotKeys.{slot_keys_in}
-use Rattle.key_rows.proofs.MapLaws.{no_entries}
+use Rattle.indexed_rows.proofs.MapLaws.{no_entries}
 use Rattle.slot_rows.proofs.FrontLaws.{each_emptied, none_ordered}
 use Rattle.slot_rows.proofs.ManyLaws.{columns_stay}
 use Rattle.slot_rows.proofs.rows.SlotRows.clear.Goals as goal

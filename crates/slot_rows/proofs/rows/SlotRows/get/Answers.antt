@@ -1,6 +1,6 @@
 use Rattle.std.proofs.Common.{ap, sym, ◌∙◌}
 use Rattle.std.specs.FinMap as fm
-use Rattle.key_rows.proofs.MapLaws.{no_row}
+use Rattle.indexed_rows.proofs.MapLaws.{no_row}
 use Rattle.slot_rows.specs.Slots.{table_in}
 use Rattle.slot_rows.proofs.OrderLaws.{row_at_key}
 use Rattle.slot_rows.proofs.rows.SlotRows.get.Goals as goal

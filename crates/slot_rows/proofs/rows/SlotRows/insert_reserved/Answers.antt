@@ -1,8 +1,8 @@
 use Rattle.std.proofs.Common.{◌≡◌, ◌<◌, ◌+◌, true, false, None, refl, ap, sym, subst, cond, length, ◌∙◌, arith}
 use Rattle.std.proofs.lemmas.List.Edits.{length-insert}
 use Rattle.std.specs.FinMap as fm
-use Rattle.key_rows.specs.Places.{IsGapFor, IsKeyAt}
-use Rattle.key_rows.proofs.MapLaws.{has_key, no_key}
+use Rattle.indexed_rows.specs.Places.{IsGapFor, IsKeyAt}
+use Rattle.indexed_rows.proofs.MapLaws.{has_key, no_key}
 use Rattle.indexed_rows.specs.Rows.{key_of, put_in}
 use Rattle.slot_rows.specs.Leads.{lead_of}
 use Rattle.slot_rows.specs.Orders.{Each, IsOther}

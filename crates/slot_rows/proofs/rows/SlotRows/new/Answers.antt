@@ -1,7 +1,7 @@
 use Rattle.std.proofs.Common.{ap, ◌∙◌}
 use Rattle.slot_rows.specs.Slots.{table_in}
 use Rattle.slot_rows.specs.SlotKeys.{slot_keys_in}
-use Rattle.key_rows.proofs.MapLaws.{no_entries}
+use Rattle.indexed_rows.proofs.MapLaws.{no_entries}
 use Rattle.slot_rows.proofs.rows.SlotRows.new.Goals as goal
 
 pub returns-clause-table : goal.returns-clause-table

@@ -1,7 +1,7 @@
 use Rattle.std.proofs.Common.{◌≡◌, ◌<◌, ◌≤◌, ◌+◌, ◌++◌, [], None, Some, length, map, take, get_or, ap, sym, subst, ◌∙◌}
 use Rattle.std.proofs.lemmas.List.{length-map}
 use Rattle.std.specs.FinMap as fm
-use Rattle.key_rows.specs.Places.{IsGapFor, IsKeyAt}
+use Rattle.indexed_rows.specs.Places.{IsGapFor, IsKeyAt}
 use Rattle.indexed_rows.specs.Rows.{key_of}
 use Rattle.slot_rows.specs.Orders.{HasBefore, IsOther, IsStart, first_columns, place_from}
 use Rattle.slot_rows.specs.Slots.{table_in}

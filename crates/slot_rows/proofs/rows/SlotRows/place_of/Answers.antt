@@ -1,7 +1,7 @@
 use Rattle.std.proofs.Common.{None, Some, subst}
 use Rattle.std.specs.FinMap as fm
-use Rattle.key_rows.specs.Places.{IsGapFor, IsKeyAt}
-use Rattle.key_rows.proofs.MapLaws.{no_key}
+use Rattle.indexed_rows.specs.Places.{IsGapFor, IsKeyAt}
+use Rattle.indexed_rows.proofs.MapLaws.{no_key}
 use Rattle.indexed_rows.specs.Rows.{key_of}
 use Rattle.slot_rows.specs.SlotKeys.{IsPlaceOf}
 use Rattle.slot_rows.specs.Slots.{table_in}

@@ -1,7 +1,7 @@
 use Rattle.std.proofs.Common.{◌≡◌, ◌<◌, Some, refl, ap, sym, subst, ◌∙◌}
 use Rattle.std.specs.FinMap as fm
-use Rattle.key_rows.specs.Places.{IsKeyAt}
-use Rattle.key_rows.proofs.MapLaws.{no_row, not_removed}
+use Rattle.indexed_rows.specs.Places.{IsKeyAt}
+use Rattle.indexed_rows.proofs.MapLaws.{no_row, not_removed}
 use Rattle.slot_rows.specs.Slots.{table_in}
 use Rattle.slot_rows.proofs.OrderLaws.{table_len}
 use Rattle.slot_rows.proofs.SlotKeyLaws.{no_slot}

@@ -2,13 +2,13 @@ use Rattle.std.proofs.Common.{◌≡◌, ◌<◌, ◌+◌, OnSome, Some, true, f
 use Rattle.std.proofs.lemmas.List.Edits.{length-remove}
 use Rattle.std.specs.FinMap as fm
 use Rattle.slab.specs.Slab.{slab_len}
-use Rattle.key_rows.specs.Places.{IsKeyAt}
+use Rattle.indexed_rows.specs.Places.{IsKeyAt}
 use Rattle.slot_rows.specs.Orders.{Each, IsOther}
 use Rattle.slot_rows.specs.SlotKeys.{slot_entries, slot_keys_in}
 use Rattle.slot_rows.specs.Slots.{AreOrdered, table_in}
 use Rattle.slot_rows.proofs.OrderLaws.{left_order, left_rows, row_at_key, row_is_there, slots_left, table_len}
 use Rattle.slot_rows.proofs.ManyLaws.{columns_stay, each_includes, each_left}
-use Rattle.key_rows.proofs.MapLaws.{has_key}
+use Rattle.indexed_rows.proofs.MapLaws.{has_key}
 use Rattle.slot_rows.proofs.SlotKeyLaws.{key_in_slot, only_slot, slot_emptied}
 use Rattle.slot_rows.proofs.rows.SlotRows.remove_at.Goals as goal
 

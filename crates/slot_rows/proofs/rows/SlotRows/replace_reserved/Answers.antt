@@ -1,7 +1,7 @@
 use Rattle.std.proofs.Common.{◌≡◌, ◌<◌, Some, cond, ap, sym, subst, ◌∙◌}
 use Rattle.std.specs.FinMap as fm
-use Rattle.key_rows.specs.Places.{IsGapFor, IsKeyAt}
-use Rattle.key_rows.proofs.MapLaws.{has_key, no_key}
+use Rattle.indexed_rows.specs.Places.{IsGapFor, IsKeyAt}
+use Rattle.indexed_rows.proofs.MapLaws.{has_key, no_key}
 use Rattle.indexed_rows.specs.Rows.{key_of, put_in, put_over}
 use Rattle.slot_rows.specs.SlotKeys.{PutsInSlot}
 use Rattle.slot_rows.specs.Slots.{table_in}

@@ -1,7 +1,7 @@
 use Rattle.std.proofs.Common.{◌<◌, Some, ap, sym, subst, ◌∙◌}
 use Rattle.std.specs.FinMap as fm
-use Rattle.key_rows.specs.Places.{IsKeyAt}
-use Rattle.key_rows.proofs.MapLaws.{has_key}
+use Rattle.indexed_rows.specs.Places.{IsKeyAt}
+use Rattle.indexed_rows.proofs.MapLaws.{has_key}
 use Rattle.slot_rows.specs.SlotKeys.{IsSlotOf}
 use Rattle.slot_rows.specs.Slots.{table_in}
 use Rattle.slot_rows.proofs.OrderLaws.{table_len}

@@ -1,5 +1,5 @@
 use Rattle.std.proofs.Common.{None, Some, ap, subst}
-use Rattle.key_rows.proofs.MapLaws.{has_key, no_key}
+use Rattle.indexed_rows.proofs.MapLaws.{has_key, no_key}
 use Rattle.slot_rows.specs.SlotKeys.{IsSlotOf}
 use Rattle.slot_rows.specs.Slots.{table_in}
 use Rattle.slot_rows.proofs.SlotKeyLaws.{key_in_slot, key_there, no_slot, only_slot}

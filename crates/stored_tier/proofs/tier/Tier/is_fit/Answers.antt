@@ -1,7 +1,7 @@
 use Rattle.std.proofs.Common.{ap, rules, subst, sym, ◌∙◌}
 use Rattle.group_store.specs.Shown.{shown_by}
 use Rattle.table_state.specs.Independence.{IsWhole}
-use Rattle.table_scan.specs.Keyed.{IsKeyed}
+use Rattle.table_state.specs.Keyed.{IsKeyed}
 use Rattle.stored_tier.proofs.VerifyLaws.{over_shown, whole_rows}
 use Rattle.stored_tier.proofs.tier.Tier.is_fit.Goals as goal
 

@@ -1,3 +1,0 @@
-pub mod PendingLaws
-pub mod FlowLaws
-pub mod OpenLaws

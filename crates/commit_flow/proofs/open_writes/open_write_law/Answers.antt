@@ -1,5 +1,0 @@
-use Rattle.commit_flow.proofs.OpenLaws.{open_write}
-use Rattle.commit_flow.proofs.open_writes.open_write_law.Goals as goal
-
-pub returns : goal.returns
-returns c s before own more behind x writes = open_write s writes.top before own more behind x writes.leads writes.meets

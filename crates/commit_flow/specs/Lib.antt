@@ -1,3 +1,0 @@
-pub mod Pipelines
-pub mod Events
-pub mod OpenWrites

@@ -1,6 +1,0 @@
--- Of the rows so far those that come.
-use Rattle.group_rows.specs.Choosing.{Chooses, comes}
-use Rattle.group_rows.proofs.gathering.coming_among.Given as goal
-
-abbrev pub invariant-loop-place : goal.invariant-loop-place
-invariant-loop-place l = Chooses (comes l.which l.store) l.rows l.place l.out

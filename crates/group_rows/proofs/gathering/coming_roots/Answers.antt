@@ -1,7 +1,0 @@
-use Rattle.std.proofs.Common.{◌∙◌, sym}
-use Rattle.group_rows.specs.Choosing.{comes}
-use Rattle.group_rows.proofs.GatherLaws.{none_chosen}
-use Rattle.group_rows.proofs.gathering.coming_roots.Goals as goal
-
-pub returns-in-None : goal.returns-in-None
-returns-in-None c = c.new.ensures ∙ sym (none_chosen (comes c.args.which.now c.args.store.now) c.args.tables.now.tables c.args.table.0 c.in-None.ensures)

@@ -1,7 +1,0 @@
-use Rattle.std.proofs.Common.{◌≡◌, ◌++◌, drop}
-use Rattle.group_catalog.specs.Catalogs.{groups_in}
-use Rattle.group_rows.specs.Refreshing.{choice_of, tables_read}
-use Rattle.group_rows.proofs.refreshing.tables_read.Given as goal
-
-abbrev pub invariant-loop-place : goal.invariant-loop-place
-invariant-loop-place l = l.tables.items ++ tables_read (choice_of l.chosen) l.place (drop l.place (groups_in l.catalog)) ≡ tables_read (choice_of l.chosen) 0 (groups_in l.catalog)

@@ -1,6 +1,0 @@
-use Rattle.std.proofs.Common.{sym, ◌∙◌}
-use Rattle.key_rows.proofs.MapLaws.{length_of}
-use Rattle.key_rows.proofs.rows.Rows.len.Goals as goal
-
-pub returns-clause-value : goal.returns-clause-value
-returns-clause-value c = c.len.ensures.value ∙ sym (length_of c.self.inside.entries c.args.self.now c.self.invariant c.self.view_is)

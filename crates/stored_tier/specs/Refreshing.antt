@@ -1,0 +1,112 @@
+-- Which READONLY groups are refreshed together, and what a refresh makes of what is stored. (TimesTen Cache User's Guide,
+-- "Automatically refreshing a cache group"; that a set is refreshed from one snapshot is this project's rule.)
+
+use Rattle.std.specs.Prelude.{◌≡◌, ℕ, suc, List, [], ◌∷◌, ◌++◌, Bool, true, false, ◌&&◌, ◌||◌, Option, Some, None, Result, Ok, Err, map, nat_eq, slice_get, slice_set, unwrap_or, if◌then◌else◌}
+use Rattle.std.specs.List.{list_any}
+use Rattle.tier_base.specs.declared.number.TableId.{TableId}
+use Rattle.table_defs.specs.declared.definition.TableDef.{TableDef}
+use Rattle.table_state.specs.Tables.{TableState}
+use Rattle.instances.specs.declared.tree.Tree.{Tree}
+use Rattle.instances.specs.Trees.{is_place}
+use Rattle.outside.specs.declared.fault.BankError.{BankError}
+use Rattle.group_store.specs.Stores.{Kept, SameButSpare}
+use Rattle.cache_tier.specs.declared.reply.Reply.{Reply}
+use Rattle.cache_tier.specs.Commits.{tables_of}
+use Rattle.cache_tier.specs.Groups.{Group}
+use Rattle.cache_tier.specs.Sets.{Choice, alone, loaded_state, of_set}
+use Rattle.sql_subset.specs.declared.stmt.RefreshState.{RefreshState}
+use Rattle.sql_subset.specs.declared.stmt.RefreshState.TheVariants.{On, Off, Paused}
+use Rattle.std.specs.FinMap.{len}
+use Rattle.instances.specs.Views.{kept_at}
+use Rattle.cache_tier.specs.Worlds.{bank_fault}
+use Rattle.stored_tier.specs.declared.moments.SetMoment.{SetMoment}
+use Rattle.stored_tier.specs.declared.refreshing.Chosen.{Chosen}
+use Rattle.stored_tier.specs.declared.refreshing.Chosen.TheVariants.{Joined, OneAlone}
+use Rattle.stored_tier.specs.Filling.{viewed_store}
+use Rattle.stored_tier.specs.Moments.{refreshed_in, set_seen}
+
+-- which groups these are
+abbrev pub choice_of : Chosen → Choice
+choice_of (Joined interval joining) = of_set interval joining
+choice_of (OneAlone place) = alone place
+
+-- of the groups those whose store is made anew: they are chosen, and are loaded, or are so from now on
+abbrev pub is_filled : Choice → Option ℕ → Choice
+is_filled chosen loads place g = chosen place g && (g.loaded || is_place place loads)
+
+-- the tables of the chosen groups, from a place on
+abbrev pub tables_read : Choice → ℕ → List Group → List TableId
+tables_read chosen place [] = []
+tables_read chosen place (g ∷ groups) =
+    (if chosen place g then tables_of g.def.tree else []) ++ tables_read chosen (suc place) groups
+
+-- a store is made of a group's tree with its view of a state, where one is wanted
+abbrev pub IsMade : Bool → List TableDef → Tree → TableState → Option Kept → Type 0
+IsMade true schema tree state None = ⊥
+IsMade true schema tree state (Some s) = SameButSpare (viewed_store schema tree state) s
+IsMade false schema tree state o = o ≡ None
+
+-- so it is of each group from a place on
+abbrev pub AreMade : Choice → List TableDef → TableState → ℕ → List Group → List (Option Kept) → Type 0
+AreMade filled schema state place [] [] = Unit {0}
+AreMade filled schema state place [] (o ∷ made) = ⊥
+AreMade filled schema state place (g ∷ groups) [] = ⊥
+AreMade filled schema state place (g ∷ groups) (o ∷ made) =
+    IsMade (filled place g) schema g.def.tree state o × AreMade filled schema state (suc place) groups made
+
+-- the stores, with those that were made in place of old ones
+abbrev pub exchanged : List Kept → List (Option Kept) → List Kept
+exchanged [] made = []
+exchanged (s ∷ stores) [] = s ∷ stores
+exchanged (s ∷ stores) (o ∷ made) = unwrap_or o s ∷ exchanged stores made
+
+-- a store that was made comes at a place
+abbrev pub put_at : ℕ → Option Kept → List Kept → List Kept
+put_at place None stores = stores
+put_at place (Some s) stores = slice_set stores place s
+
+-- the group at a place is there, and chosen
+abbrev pub is_chosen_by : Choice → ℕ → Option Group → Bool
+is_chosen_by chosen place None = false
+is_chosen_by chosen place (Some g) = chosen place g
+
+abbrev pub is_chosen_in : Choice → List Group → ℕ → Bool
+is_chosen_in chosen groups place = is_chosen_by chosen place (slice_get groups place)
+
+-- the group at this position
+abbrev pub positioned : ℕ → Group → Group
+positioned n g = record g { position = Some n }
+
+-- when a set was refreshed last, and whether that is noted
+abbrev pub moment_in : List SetMoment → ℕ → ℕ
+moment_in sets interval = refreshed_in (map set_seen sets) interval
+
+abbrev pub is_noted : ℕ → SetMoment → Bool
+is_noted interval s = nat_eq s.interval interval
+
+abbrev pub has_moment : List SetMoment → ℕ → Bool
+has_moment sets interval = list_any (is_noted interval) sets
+
+-- the last refresh of the set of an interval was tried at this moment
+abbrev pub moments_with : ℕ → ℕ → List SetMoment → List SetMoment
+moments_with interval now sets = map (λ s. if is_noted interval s then record s { refreshed = now } else s) sets
+
+-- the fault of a call ends a stage
+abbrev pub end_of : Result (Unit {0}) BankError → Option Reply
+end_of (Ok done) = None
+end_of (Err e) = Some (bank_fault e)
+
+-- the group at a place has this STATE when it is loaded
+abbrev pub IsStateAt : List Group → ℕ → RefreshState → Type 0
+IsStateAt groups place state = (g : Group) → slice_get groups place ≡ Some g → state ≡ loaded_state g.state
+
+-- how many root rows a store keeps
+abbrev pub roots_kept : Option Kept → ℕ
+roots_kept None = 0
+roots_kept (Some s) = len (kept_at s.tables 0)
+
+-- the group is in no set
+abbrev pub is_off : RefreshState → Bool
+is_off On = false
+is_off Paused = false
+is_off Off = true

@@ -1,4 +1,0 @@
-pub mod EmptyTables
-pub mod KeyLaws
-pub mod KeyedLaws
-pub mod PairLaws

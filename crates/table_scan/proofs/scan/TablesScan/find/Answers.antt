@@ -1,6 +1,0 @@
-use Rattle.table_scan.proofs.EmptyTables.{no_find}
-use Rattle.table_scan.proofs.scan.TablesScan.find.Goals as goal
-
--- there is no such table
-pub returns-in-None : goal.returns-in-None
-returns-in-None c = no_find _ c.in-None.ensures c.args.key.now

@@ -1,6 +1,0 @@
-use Rattle.table_scan.proofs.EmptyTables.{no_len}
-use Rattle.table_scan.proofs.scan.TablesScan.len.Goals as goal
-
--- there is no such table
-pub returns-in-None : goal.returns-in-None
-returns-in-None c = no_len _ c.in-None.ensures

@@ -1,5 +1,0 @@
-use Rattle.tier_laws.proofs.LockLaws.{untouched}
-use Rattle.tier_laws.proofs.loading.unheld_law.Goals as goal
-
-pub returns : goal.returns
-returns c w place g gone all test s x at writes tests free = untouched w x place g at writes gone all test tests s free

@@ -1,8 +1,0 @@
-use Rattle.tier_laws.proofs.LoadStatements.{load_shows, refresh_shows}
-use Rattle.tier_laws.proofs.statements.load_statement_law.Goals as goal
-
-pub returns-clause-loaded : goal.returns-clause-loaded
-returns-clause-loaded c = load_shows
-
-pub returns-clause-refreshed : goal.returns-clause-refreshed
-returns-clause-refreshed c = refresh_shows
