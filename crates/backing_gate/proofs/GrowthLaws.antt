@@ -1,5 +1,5 @@
 -- The own steps of calls put entries behind the history.
-use Rattle.std.proofs.Common.{inl, inr, Option, Result, Ok, Err, List, [], ◌∷◌}
+use Rattle.std.proofs.Common.{inl, inr, ℕ, Bool, Option, Result, Ok, Err, List, [], ◌∷◌}
 use Rattle.row_types.specs.declared.value.Value.{Value}
 use Rattle.tier_base.specs.declared.number.TableId.{TableId}
 use Rattle.tier_base.specs.declared.number.Ticket.{Ticket}
@@ -9,7 +9,7 @@ use Rattle.table_state.specs.declared.history.Entry.TheVariants.{Definition, For
 use Rattle.table_state.specs.declared.history.Sealed.{Sealed}
 use Rattle.table_state.specs.Histories.{entry_of}
 use Rattle.evaluator.specs.declared.change.Change.{Change}
-use Rattle.outside.specs.Bank.{AppliesOnce, Defines, TellsRow, TellsSchema, WaitsForOne}
+use Rattle.outside.specs.Bank.{AppliesOnce, Defines, TellsRecorded, TellsRow, TellsSchema, WaitsForOne}
 use Rattle.outside.specs.Console.{TakesSnapshot, WritesForeign}
 use Rattle.outside.specs.declared.fault.BankError.{BankError}
 use Rattle.outside.specs.declared.fault.BankError.TheVariants.{Failed, Memory}
@@ -44,6 +44,10 @@ apply_waits s after (Ok (Before receipt)) old new h = tt
 apply_waits s after (Ok (NotReady ticket)) old new h = h.1
 apply_waits s after (Ok (Differs table key row)) old new h = tt
 apply_waits s after (Err e) old new h = tt
+
+pub recorded_grows : (ticket : ℕ) (result : Result Bool BankError) (old new : List Entry) → TellsRecorded ticket result old new → Extends old new
+recorded_grows ticket (Ok stands) old new h = ([], h.0)
+recorded_grows ticket (Err e) old new h = ([], h)
 
 pub find_grows : (table : TableId) (key : List Value) (result : Result (Option (List Value)) BankError) (old new : List Entry) → TellsRow table key result old new → Extends old new
 find_grows table key (Ok row) old new h = ([], h.0)

@@ -3,7 +3,7 @@
 use Rattle.std.specs.Prelude.{ℕ, ◌+◌, ◌-◌, ◌^◌, List, [], ◌∷◌, ◌++◌, Option, Bool, true, false, ◌&&◌, ◌==◌, min, find}
 use Rattle.std.specs.Option.{option_map}
 use Rattle.backing_gate.specs.declared.plan.CallKind.{CallKind}
-use Rattle.backing_gate.specs.declared.plan.CallKind.TheVariants.{Schema, Define, ApplyOnce, Find, Foreign, Snapshot, Len, ReadAt, WriteAt, Cut, Sync}
+use Rattle.backing_gate.specs.declared.plan.CallKind.TheVariants.{Schema, Define, ApplyOnce, Recorded, Find, Foreign, Snapshot, Len, ReadAt, WriteAt, Cut, Sync}
 use Rattle.backing_gate.specs.declared.plan.CallCounts.{CallCounts}
 use Rattle.backing_gate.specs.declared.plan.Outcome.{Outcome}
 use Rattle.backing_gate.specs.declared.plan.Plan.{Plan}
@@ -18,6 +18,7 @@ no_calls = record {
   schema = 0;
   define = 0;
   apply_once = 0;
+  recorded = 0;
   find = 0;
   foreign = 0;
   snapshot = 0;
@@ -35,6 +36,7 @@ abbrev pub number_of : CallKind → CallCounts → ℕ
 number_of Schema calls = calls.schema
 number_of Define calls = calls.define
 number_of ApplyOnce calls = calls.apply_once
+number_of Recorded calls = calls.recorded
 number_of Find calls = calls.find
 number_of Foreign calls = calls.foreign
 number_of Snapshot calls = calls.snapshot
@@ -52,6 +54,7 @@ abbrev pub counted : CallKind → CallCounts → CallCounts
 counted Schema calls = record calls { schema = one_more calls.schema }
 counted Define calls = record calls { define = one_more calls.define }
 counted ApplyOnce calls = record calls { apply_once = one_more calls.apply_once }
+counted Recorded calls = record calls { recorded = one_more calls.recorded }
 counted Find calls = record calls { find = one_more calls.find }
 counted Foreign calls = record calls { foreign = one_more calls.foreign }
 counted Snapshot calls = record calls { snapshot = one_more calls.snapshot }
@@ -65,6 +68,7 @@ abbrev pub same_kind : CallKind → CallKind → Bool
 same_kind Schema Schema = true
 same_kind Define Define = true
 same_kind ApplyOnce ApplyOnce = true
+same_kind Recorded Recorded = true
 same_kind Find Find = true
 same_kind Foreign Foreign = true
 same_kind Snapshot Snapshot = true

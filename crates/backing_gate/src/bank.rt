@@ -124,6 +124,13 @@ impl MemoryBank {
         self.tables.schema()
     }
 
+    /// Whether a transaction with this ticket is recorded.
+    pub(crate) fn recorded(&self, ticket: Ticket) -> bool
+        ensures { result ≡ has_ticket ticket.0 self.now }
+    {
+        self.ledger.position_of(ticket).is_some()
+    }
+
     /// The row at the key of the table, none where there is none. It fails for want of memory alone.
     pub(crate) fn find(
         &self,

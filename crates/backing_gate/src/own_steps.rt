@@ -2,7 +2,7 @@
 
 ghost use Rattle.std.specs.Prelude.{◌≡◌, ◌≤◌, ◌⊎◌, [], ◌∷◌};
 ghost use Rattle.table_state.specs.declared.history.Entry.{Entry};
-ghost use Rattle.outside.specs.Bank.{AppliesOnce, Defines, Grows, TellsRow, TellsSchema};
+ghost use Rattle.outside.specs.Bank.{AppliesOnce, Defines, Grows, TellsRecorded, TellsRow, TellsSchema};
 ghost use Rattle.outside.specs.Console.{TakesSnapshot, WritesForeign};
 ghost use Rattle.outside.specs.Faults.{BankHasCause, Rose};
 ghost use Rattle.backing_gate.specs.Plans.{one_more};
@@ -111,6 +111,27 @@ impl MemorySite {
                 Ok(applied) => return Ok(applied),
                 Err(_) => return Err(BankError::Memory),
             },
+        }
+    }
+
+    /// Whether a transaction with this ticket is recorded.
+    pub(crate) fn recorded_as(
+        &mut self,
+        outcome: Option<Outcome>,
+        ticket: Ticket,
+    ) -> Result<bool, BankError>
+        ensures own { TellsRecorded ticket.0 result self.old.history self.new.history }
+        ensures heeds { HeedsAs outcome self.old self.new result (λ begun done. done ≡ begun) }
+        ensures cause { BankHasCause (site_state self.old) (site_state self.new) result }
+        ensures kept { self.new ≡ record self.old { history = self.new.history; bank_faults = self.new.bank_faults } }
+    {
+        match outcome {
+            Some(Outcome::Failed(_)) => {
+                self.count_failure();
+                Err(BankError::Failed)
+            }
+            Some(Outcome::Refused) => Err(BankError::Memory),
+            None => Ok(self.bank.recorded(ticket)),
         }
     }
 

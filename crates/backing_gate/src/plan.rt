@@ -15,6 +15,8 @@ pub enum CallKind {
     Define,
     /// `apply_once`.
     ApplyOnce,
+    /// `recorded`.
+    Recorded,
     /// `find`.
     Find,
     /// `foreign`.
@@ -71,6 +73,8 @@ pub struct CallCounts {
     pub define: u64,
     /// Of `apply_once`.
     pub apply_once: u64,
+    /// Of `recorded`.
+    pub recorded: u64,
     /// Of `find`.
     pub find: u64,
     /// Of `foreign`.
@@ -98,6 +102,7 @@ impl CallCounts {
             CallKind::Schema => self.schema,
             CallKind::Define => self.define,
             CallKind::ApplyOnce => self.apply_once,
+            CallKind::Recorded => self.recorded,
             CallKind::Find => self.find,
             CallKind::Foreign => self.foreign,
             CallKind::Snapshot => self.snapshot,
@@ -117,6 +122,7 @@ impl CallCounts {
             CallKind::Schema => self.schema = self.schema.saturating_add(1),
             CallKind::Define => self.define = self.define.saturating_add(1),
             CallKind::ApplyOnce => self.apply_once = self.apply_once.saturating_add(1),
+            CallKind::Recorded => self.recorded = self.recorded.saturating_add(1),
             CallKind::Find => self.find = self.find.saturating_add(1),
             CallKind::Foreign => self.foreign = self.foreign.saturating_add(1),
             CallKind::Snapshot => self.snapshot = self.snapshot.saturating_add(1),
@@ -160,6 +166,7 @@ impl Plans {
                 schema: 0,
                 define: 0,
                 apply_once: 0,
+                recorded: 0,
                 find: 0,
                 foreign: 0,
                 snapshot: 0,

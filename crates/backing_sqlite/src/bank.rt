@@ -9,7 +9,7 @@ use crate::catalog::open_catalog;
 use crate::defining::define;
 use crate::fault::{OpenError, StoreFault};
 use crate::foreign::{foreign, snapshot};
-use crate::reading::find;
+use crate::reading::{find, recorded};
 use crate::shelf::Shelf;
 use evaluator::Change;
 use outside::{Applied, BankError, Done, Snapshot};
@@ -126,6 +126,14 @@ impl SqliteBank {
         ensures waits { WaitsForOne after.now result }
     {
         let done = apply_once(self.alloc, &mut self.conn, &self.shelf, sealed, after);
+        self.answer(done)
+    }
+
+    /// Whether a transaction with this ticket is recorded.
+    pub fn recorded(&mut self, ticket: Ticket) -> Result<bool, BankError>
+        ensures counts { Counts self.old self.new result }
+    {
+        let done = recorded(&mut self.conn, ticket);
         self.answer(done)
     }
 

@@ -105,6 +105,18 @@ pub(crate) fn first_missing<S: Alter>(
     Ok(None)
 }
 
+/// Whether a transaction with this ticket is recorded, read in a transaction of its own.
+pub(crate) fn recorded<S: Alter>(
+    conn: &mut Connection<S>,
+    ticket: Ticket,
+) -> Result<bool, StoreFault> {
+    if !conn.is_autocommit() {
+        return Err(StoreFault::Failed);
+    }
+    let mut tx = conn.transaction();
+    Ok(position_of(&mut tx, ticket)?.is_some())
+}
+
 /// The row of a key in a table, read in a transaction of its own.
 pub(crate) fn find<S: Alter>(
     alloc: Global,

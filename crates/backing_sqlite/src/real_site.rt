@@ -86,6 +86,10 @@ impl<D: Disk> Site for RealSite<D> {
         self.bank.apply_once(sealed, after)
     }
 
+    fn recorded(&mut self, ticket: Ticket) -> Result<bool, BankError> {
+        self.bank.recorded(ticket)
+    }
+
     fn find(&mut self, table: TableId, key: &Key) -> Result<Option<Row>, BankError> {
         self.bank.find(table, key)
     }

@@ -11,7 +11,7 @@ use Rattle.table_state.specs.declared.operation.Op.TheVariants.{Insert, Update, 
 use Rattle.table_state.specs.Tables.{TableState}
 use Rattle.evaluator.specs.declared.change.Change.{Change}
 use Rattle.evaluator.specs.declared.plan.Plan.{Plan}
-use Rattle.outside.specs.Bank.{AppliesOnce, Defines, TellsRow, TellsSchema}
+use Rattle.outside.specs.Bank.{AppliesOnce, Defines, TellsRecorded, TellsRow, TellsSchema}
 use Rattle.outside.specs.Console.{WritesForeign}
 use Rattle.outside.specs.declared.fault.BankError.{BankError}
 use Rattle.outside.specs.declared.fault.BankError.TheVariants.{Failed, Memory}
@@ -47,7 +47,7 @@ use Rattle.cache_tier.specs.CommitSteps.{AppliesNow, CommitsLater, CommitsNow, C
 use Rattle.cache_tier.specs.Conditions.{asks_all, overflow_fault}
 use Rattle.cache_tier.specs.ConsoleSteps.{Asked, AsksSchema, Creates, DoesConsole, WritesAll, after_define, asks_schema, told}
 use Rattle.cache_tier.specs.DefineSteps.{CreatesGroup, define_answer}
-use Rattle.cache_tier.specs.DoubtSteps.{AsksRecorded, SettlesDoubt, TellsRecorded, settled}
+use Rattle.cache_tier.specs.DoubtSteps.{AsksRecorded, SettlesDoubt, settled}
 use Rattle.cache_tier.specs.DropSteps.{DropsAt, DropsGroup, DropsRest, drop_answer}
 use Rattle.cache_tier.specs.DueWork.{DueAging, DueDoubt, DueRound, DueSets, DueSetsOf, DueWork, Item, ItemFollows, ThenItem, due_sets, is_round_due}
 use Rattle.cache_tier.specs.DynamicLoads.{Brings, BringsAt, BringsInto, BringsReadOnly, BringsWritethrough, LoadsWanted, joined_tier, state_entries}

@@ -6,8 +6,7 @@ use Rattle.table_state.specs.declared.history.Entry.{Entry}
 use Rattle.table_state.specs.declared.history.Entry.TheVariants.{Definition, Foreign, Own}
 use Rattle.table_state.specs.declared.history.Sealed.{Sealed}
 use Rattle.table_state.specs.declared.operation.Op.{Op}
-use Rattle.table_state.specs.Histories.{has_ticket}
-use Rattle.outside.specs.Bank.{Grows}
+use Rattle.outside.specs.Bank.{TellsRecorded}
 use Rattle.outside.specs.declared.fault.BankError.{BankError}
 use Rattle.cache_tier.specs.declared.reply.Reply.{Reply}
 use Rattle.cache_tier.specs.declared.reply.Note.{Note}
@@ -15,11 +14,6 @@ use Rattle.cache_tier.specs.declared.reply.Note.TheVariants.{Committed, RolledBa
 use Rattle.cache_tier.specs.CommitSteps.{committed}
 use Rattle.cache_tier.specs.TierStates.{ACommit, APassedWrite, Doubt, Doubted, Tier, with_session, at_rest}
 use Rattle.cache_tier.specs.Worlds.{BankCall, World, bank_fault}
-
--- whether the ticket stands in the history
-abbrev pub TellsRecorded : ℕ → Result Bool BankError → List Entry → List Entry → Type 0
-TellsRecorded ticket (Ok stands) old new = Grows [] old new × (stands ≡ has_ticket ticket new)
-TellsRecorded ticket (Err e) old new = Grows [] old new
 
 -- the operations with which a ticket stands there
 abbrev pub ops_of : ℕ → List Entry → List Op

@@ -95,6 +95,7 @@ fn parse_kind(word: &str) -> Option<CallKind> {
         "schema" => Some(CallKind::Schema),
         "define" => Some(CallKind::Define),
         "apply_once" => Some(CallKind::ApplyOnce),
+        "recorded" => Some(CallKind::Recorded),
         "find" => Some(CallKind::Find),
         "foreign" => Some(CallKind::Foreign),
         "snapshot" => Some(CallKind::Snapshot),

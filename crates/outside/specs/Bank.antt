@@ -1,6 +1,6 @@
 -- What the calls of the backing database do to its history. (This project's model of the backing database.)
 
-use Rattle.std.specs.Prelude.{◌≡◌, ◌⊎◌, List, [], ◌∷◌, ◌++◌, true, false, Option, Some, None, Result, Ok, Err}
+use Rattle.std.specs.Prelude.{◌≡◌, ◌⊎◌, ℕ, List, [], ◌∷◌, ◌++◌, Bool, true, false, Option, Some, None, Result, Ok, Err}
 use Rattle.std.specs.Option.{IsSome}
 use Rattle.std.specs.List.{Contains}
 use Rattle.std.specs.FinMap.{get}
@@ -84,3 +84,8 @@ abbrev pub TellsRow : TableId → List Value → Result (Option (List Value)) Ba
 TellsRow table key (Ok row) old new =
     Grows [] old new × ((s : TableState) → state_of new ≡ Some s → row ≡ get (table_at s table) key)
 TellsRow table key (Err e) old new = Grows [] old new
+
+-- whether the ticket stands in the history
+abbrev pub TellsRecorded : ℕ → Result Bool BankError → List Entry → List Entry → Type 0
+TellsRecorded ticket (Ok stands) old new = Grows [] old new × (stands ≡ has_ticket ticket new)
+TellsRecorded ticket (Err e) old new = Grows [] old new

@@ -1,6 +1,6 @@
 //! The backing database, with the journal's disk beside it.
 
-ghost use Rattle.outside.specs.Bank.{AppliesOnce, Defines, TellsRow, TellsSchema, WaitsForOne};
+ghost use Rattle.outside.specs.Bank.{AppliesOnce, Defines, TellsRecorded, TellsRow, TellsSchema, WaitsForOne};
 ghost use Rattle.outside.specs.Calls.{BankGoesOn, BankTold};
 ghost use Rattle.outside.specs.Console.{TakesSnapshot, WritesForeign};
 ghost use Rattle.outside.specs.Faults.{BankHasCause};
@@ -85,6 +85,12 @@ pub trait Site: Disk {
         ensures crash { BankGoesOn Self.state Self.possible self.old self.new
             (AppliesOnce sealed.now after.now result) }
         ensures waits { WaitsForOne after.now result }
+        ensures cause { BankHasCause (Self.state self.old) (Self.state self.new) result };
+
+    /// Whether a transaction with this ticket is recorded.
+    fn recorded(&mut self, ticket: Ticket) -> Result<bool, BankError>
+        ensures told { BankTold (Self.state self.old) (Self.state self.new) (TellsRecorded ticket.0 result) }
+        ensures crash { BankGoesOn Self.state Self.possible self.old self.new (TellsRecorded ticket.0 result) }
         ensures cause { BankHasCause (Self.state self.old) (Self.state self.new) result };
 
     /// The row at the key of the table, none where there is none.
