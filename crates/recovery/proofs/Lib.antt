@@ -1,0 +1,3 @@
+pub mod NewestLaws
+pub mod FoldLaws
+pub mod RecalledLaws

@@ -1,0 +1,25 @@
+//! A law of recovery, on the contract of a function that does nothing. It is this project's rule, over recovery as the
+//! TimesTen Cache User's Guide tells of it.
+
+ghost use Rattle.std.specs.Prelude.{◌≡◌, ℕ, List};
+ghost use Rattle.table_state.specs.declared.history.Entry.{Entry};
+ghost use Rattle.cache_tier.specs.Events.{with_tier};
+ghost use Rattle.cache_tier.specs.Journals.{JournalEntry};
+ghost use Rattle.cache_tier.specs.Shown.{shown_state};
+ghost use Rattle.cache_tier.specs.StandingBetween.{Stands};
+ghost use Rattle.cache_tier.specs.TierStates.{Settings, Tier, opened};
+ghost use Rattle.cache_tier.specs.Worlds.{World};
+ghost use Rattle.recovery.specs.Recalling.{AreMatched, RecallsAll, recalled};
+
+/// Where a journal's entries and a history belong together, the tier that the entries leave stands over the history,
+/// with no session, and the entries' commits unsettled (`stands`). It shows what a tier shows that has no group: nothing
+/// is loaded yet (`bare`).
+pub fn recalled_law()
+    ensures stands { (w : World) (entries : List JournalEntry) (settings : Settings) (moment : ℕ) (t : Tier)
+        (m : AreMatched entries w.history) → RecallsAll entries (opened settings moment m.backing.schema) t
+        → Stands (with_tier (recalled m.backing.schema entries w.history t) w) }
+    ensures bare { (h : List Entry) (entries : List JournalEntry) (settings : Settings) (moment : ℕ) (t : Tier)
+        (m : AreMatched entries h) → RecallsAll entries (opened settings moment m.backing.schema) t
+        → shown_state h (recalled m.backing.schema entries h t)
+        ≡ shown_state h (opened settings moment m.backing.schema) }
+{}
