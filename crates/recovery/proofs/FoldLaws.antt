@@ -1,5 +1,5 @@
 -- The fold of a journal's entries: what the tier has and what the laws of recovery see stay together.
-use Rattle.std.proofs.Common.{◌≡◌, ℕ, ◌+◌, ◌≤◌, Bool, true, false, cond, not, ◌||◌, max, None, List, [], ◌∷◌, ◌++◌, map, refl, sym, ap, subst, ◌∙◌, arith}
+use Rattle.std.proofs.Common.{◌≡◌, ℕ, ◌+◌, ◌≤◌, Bool, true, false, cond, not, ◌||◌, max, None, List, [], ◌∷◌, ◌++◌, map, refl, sym, ap, subst, ◌∙◌, arith, Option, Some}
 use Rattle.std.specs.Prelude.{fold}
 use Rattle.std.specs.List.{filter, list_any}
 use Rattle.std.proofs.Math.Nat.{le-max_left, le-max_right, max-eq_left, max-eq_right, max-le, max_comm}
@@ -18,7 +18,12 @@ use Rattle.sql_subset.specs.declared.stmt.RefreshState.{RefreshState}
 use Rattle.recovery_laws.specs.Notes.{Catalog, FitAll, Fits, Note, mark_of, recall, recall_all, told, without}
 use Rattle.cache_tier.specs.AlterSteps.{with_state}
 use Rattle.cache_tier.specs.Commits.{tables_of}
-use Rattle.cache_tier.specs.Definitions.{AreChildrenOf, IsTreeOf, Placed, is_read_only_kind, placed_tables}
+use Rattle.cache_tier.specs.Definitions.{AreChildrenOf, IsTreeOf, Placed, column_fault, definition_names, first_fault, first_unknown, is_read_only_kind, placed_tables, table_names}
+use Rattle.cache_tier.specs.Rules.{broken_if, named}
+use Rattle.cache_tier.specs.declared.group.GroupDef.{GroupDef}
+use Rattle.row_types.specs.declared.rule.Rule.{Rule}
+use Rattle.std.specs.Option.{option_or}
+use Rattle.tier_base.specs.declared.code.Code.TheVariants as code
 use Rattle.cache_tier.specs.Groups.{Group, covers, defines_name, definitions_of, is_called, is_read_only}
 use Rattle.cache_tier.specs.Journals.{Commits, Defines, Drops, JournalEntry, Marks, Numbers, Prepares, SetsLoaded, SetsState, next_with}
 use Rattle.cache_tier.specs.StandingBetween.{Each, HasNoTableOf, HaveOwnTables, IsCatalogued}
@@ -125,7 +130,7 @@ own_map schema change steady (g ∷ gs) own = (
 names_map : (schema : List TableDef) (change : Group → Group) → IsSteady schema change → (gs : List Group) → NamesApart gs → NamesApart (map change gs)
 names_map schema change steady [] apart = tt
 names_map schema change steady (g ∷ gs) apart = (
-  ap (λ (d : Rattle.cache_tier.specs.declared.group.GroupDef.GroupDef). list_any (is_called d.name) (map change gs)) (steady.def g) ∙ any_called schema change steady g.def.name gs ∙ apart.0,
+  ap (λ (d : GroupDef). list_any (is_called d.name) (map change gs)) (steady.def g) ∙ any_called schema change steady g.def.name gs ∙ apart.0,
   names_map schema change steady gs apart.1,
 )
 
@@ -163,6 +168,16 @@ names_last (h ∷ gs) g apart none = by (is_called g.def.name h) refl none (name
       list_any-append (is_called h.def.name) gs (g ∷ []) ∙ (λ i. apart.0 i || ((nat_list_eq_equiv.symm g.def.name h.def.name ∙ e) i || false)),
       rest none,
     )
+
+-- a definition that breaks no rule of names has a name of its own
+is_unnamed : (schema : List TableDef) (defs : List GroupDef) (d : CreateGroup) → definition_names schema defs d ≡ None → list_any (defines_name d.name) defs ≡ false
+is_unnamed schema defs d none = of (first_unknown schema (table_names d)) (first_fault column_fault (placed_tables schema d)) (list_any (defines_name d.name) defs) none
+  where
+    of : (a b : Option Rule) (c : Bool) → option_or a (option_or b (broken_if c (named code.NameInUse d.name))) ≡ None → c ≡ false
+    of None None true none = Prim.cc
+    of None None false none = refl
+    of None (Some r) c none = Prim.cc
+    of (Some r) b c none = Prim.cc
 
 -- a definition's tables are those of its tree
 children_placed : (ps : List Placed) (children : List Child) → AreChildrenOf ps children → map (λ (p : Placed). p.id) ps ≡ map (λ (c : Child). c.table) children
@@ -237,7 +252,7 @@ defined schema t t' c d f is = subst (λ x. IsFolded schema x after) (sym is.lef
   each = each_last (IsCatalogued schema) t.groups g f.each (subst (λ s. IsCatalogued s g) f.schema_is is.sound);
   apart = own_last t.groups g f.apart is.apart;
   fresh = each_last IsFresh t.groups g f.fresh (refl, refl);
-  names = names_last t.groups g f.names (none_defined d.name t.groups is.unnamed);
+  names = names_last t.groups g f.names (none_defined d.name t.groups (is_unnamed t.schema (definitions_of t.groups) d is.names));
 })
   where
     g : Group

@@ -2,8 +2,7 @@
 -- committed, and the next ticket. (TimesTen Cache User's Guide, "Recovery"; that nothing is loaded yet, and what is
 -- pending waits for a round, is this project's rule.)
 
-use Rattle.std.specs.Prelude.{◌≡◌, ℕ, ◌≤◌, ◌^◌, List, [], ◌∷◌, Bool, false, Some, map, if◌then◌else◌}
-use Rattle.std.specs.List.{list_any}
+use Rattle.std.specs.Prelude.{◌≡◌, ℕ, ◌≤◌, ◌^◌, List, [], ◌∷◌, Bool, false, Some, map, if◌then◌else◌, None}
 use Rattle.tier_base.specs.declared.number.TableId.{TableId}
 use Rattle.table_defs.specs.declared.definition.TableDef.{TableDef}
 use Rattle.table_state.specs.declared.history.Entry.{Entry}
@@ -17,9 +16,9 @@ use Rattle.recovery_laws.specs.Matching.{IsMatched}
 use Rattle.recovery_laws.specs.Notes.{Commit, Define, Drop, Flag, Mark, Note, Number, Prepare, commits_in, log_in}
 use Rattle.cache_tier.specs.AlterSteps.{with_state}
 use Rattle.cache_tier.specs.DefineSteps.{with_new_group}
-use Rattle.cache_tier.specs.Definitions.{IsTreeOf, defined_by, is_read_only_kind, new_group, placed_tables}
+use Rattle.cache_tier.specs.Definitions.{IsTreeOf, defined_by, definition_names, is_read_only_kind, new_group, placed_tables}
 use Rattle.cache_tier.specs.DropSteps.{without_group}
-use Rattle.cache_tier.specs.Groups.{Group, defines_name, definitions_of}
+use Rattle.cache_tier.specs.Groups.{Group, definitions_of}
 use Rattle.cache_tier.specs.Journals.{Commits, Defines, Drops, JournalEntry, Marks, Numbers, Prepares, SetsLoaded, SetsState, next_behind, next_with}
 use Rattle.cache_tier.specs.StandingBetween.{HasNoTableOf, IsCatalogued}
 use Rattle.cache_tier.specs.TierStates.{Tier, with_group}
@@ -54,12 +53,12 @@ notes_of schema entries = map (note_of schema) entries
 abbrev pub group_of : Tier → CreateGroup → Tree → Group
 group_of t d tree = new_group t.next t.now d (defined_by t.schema d tree)
 
--- A definition makes this group: its tree stands for what is written and is sound, no group has its name, and none has a
--- table of it.
+-- A definition makes this group: it breaks no rule of names, its tree stands for what is written and is sound, and no
+-- group has a table of it.
 pub record IsDefined (d : CreateGroup) (t t' : Tier) : Type 0 where
   pub tree : Tree
   pub is : IsTreeOf (placed_tables t.schema d) tree
-  pub unnamed : list_any (defines_name d.name) (definitions_of t.groups) ≡ false
+  pub names : definition_names t.schema (definitions_of t.groups) d ≡ None
   pub sound : IsCatalogued t.schema (group_of t d tree)
   pub apart : HasNoTableOf t.groups (group_of t d tree)
   pub left : t' ≡ with_new_group d tree t
