@@ -1,3 +1,4 @@
 pub mod NewestLaws
 pub mod FoldLaws
 pub mod RecalledLaws
+pub mod JournalledLaws

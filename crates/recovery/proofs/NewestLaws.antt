@@ -179,7 +179,7 @@ tie_has g t = by (is_read_only g)
     by true = refl
     by false = in_tree g.def.tree t
 
-newest_has : (gs : List Group) (t : TableId) → is_one_of (live_tables (seconds (newest gs))) t ≡ is_table_of is_writethrough gs t
+pub newest_has : (gs : List Group) (t : TableId) → is_one_of (live_tables (seconds (newest gs))) t ≡ is_table_of is_writethrough gs t
 newest_has [] t = refl
 newest_has (g ∷ gs) t =
     ap (λ l. is_one_of (live_tables l) t) (seconds_last (newest gs) (pair g)) ∙ live_append (seconds (newest gs)) (tie g) t

@@ -77,7 +77,7 @@ folded entries h settings moment t m is =
     folds m.backing.schema h [] entries (opened settings moment m.backing.schema) t empty_catalog
     (record { schema_is = refl; idle = refl; pairs = refl; next = refl; each = tt; apart = tt; fresh = tt; names = tt }) m.matched.fits is
 
-next_is : (schema : List TableDef) (h : List Entry) (entries : List JournalEntry) → IsMatched (notes_of schema entries) h → next_behind entries ≡ next_of (notes_of schema entries)
+pub next_is : (schema : List TableDef) (h : List Entry) (entries : List JournalEntry) → IsMatched (notes_of schema entries) h → next_behind entries ≡ next_of (notes_of schema entries)
 next_is schema h entries m = behind schema h [] entries 1 0 empty_catalog refl m.fits ∙ ap (λ k. max k (catalog_of (notes_of schema entries)).next) (max-eq_right {n = 0} {m = mark_of (notes_of schema entries)} (omega arith))
 
 -- it stands

@@ -1,14 +1,16 @@
-//! A law of recovery, on the contract of a function that does nothing. It is this project's rule, over recovery as the
-//! TimesTen Cache User's Guide tells of it.
+//! Laws of recovery, each on the contract of a function that does nothing. They are this project's rules, over recovery
+//! as the TimesTen Cache User's Guide tells of it.
 
-ghost use Rattle.std.specs.Prelude.{◌≡◌, ℕ, List};
+ghost use Rattle.std.specs.Prelude.{◌≡◌, ℕ, List, Some};
 ghost use Rattle.table_state.specs.declared.history.Entry.{Entry};
+ghost use Rattle.table_state.specs.declared.history.Sealed.{Sealed};
 ghost use Rattle.cache_tier.specs.Events.{with_tier};
-ghost use Rattle.cache_tier.specs.Journals.{JournalEntry};
+ghost use Rattle.cache_tier.specs.Journals.{Journal, JournalEntry};
 ghost use Rattle.cache_tier.specs.Shown.{shown_state};
 ghost use Rattle.cache_tier.specs.StandingBetween.{Stands};
-ghost use Rattle.cache_tier.specs.TierStates.{Settings, Tier, opened};
+ghost use Rattle.cache_tier.specs.TierStates.{Session, Settings, Tier, opened, session_of};
 ghost use Rattle.cache_tier.specs.Worlds.{World};
+ghost use Rattle.recovery.specs.Journalled.{IsFlushed, IsJournalled, IsJournalledOn, with_commit_noted};
 ghost use Rattle.recovery.specs.Recalling.{AreMatched, RecallsAll, recalled};
 
 /// Where a journal's entries and a history belong together, the tier that the entries leave stands over the history,
@@ -22,4 +24,13 @@ pub fn recalled_law()
         (m : AreMatched entries h) → RecallsAll entries (opened settings moment m.backing.schema) t
         → shown_state h (recalled m.backing.schema entries h t)
         ≡ shown_state h (opened settings moment m.backing.schema) }
+{}
+
+/// The journal stays the tier's where a session's transaction commits and its record is noted (`commits`), and where the
+/// tail is flushed (`flushes`). What was held is held.
+pub fn journalled_law()
+    ensures commits { (w : World) (early : List Sealed) (s : Session) → Stands w → IsJournalled w early
+        → session_of w.tier s.label ≡ Some s → IsJournalledOn (with_commit_noted s w) early }
+    ensures flushes { (w : World) (early : List Sealed) (new : Journal) → IsJournalled w early
+        → IsFlushed w.journal new → IsJournalledOn (record w { journal = new }) early }
 {}

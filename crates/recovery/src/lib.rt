@@ -3,4 +3,4 @@
 
 mod laws;
 
-pub use laws::recalled_law;
+pub use laws::{journalled_law, recalled_law};

@@ -1,0 +1,72 @@
+-- The journal's part of what holds of a tier between two events. (This project's rule.)
+
+use Rattle.std.specs.Prelude.{◌≡◌, ◌≤◌, List, [], ◌∷◌, ◌++◌, true, Some, map}
+use Rattle.table_defs.specs.declared.definition.TableDef.{TableDef}
+use Rattle.table_state.specs.declared.history.Sealed.{Sealed}
+use Rattle.table_state.specs.Histories.{state_of}
+use Rattle.table_state.specs.Tables.{TableState}
+use Rattle.order_laws.specs.Commits.{pending}
+use Rattle.recovery_laws.specs.Crashes.{Stands, World as Seen}
+use Rattle.recovery_laws.specs.Notes.{log_in}
+use Rattle.cache_tier.specs.CommitSteps.{committed_unsettled, sealed_own}
+use Rattle.cache_tier.specs.Groups.{Group}
+use Rattle.cache_tier.specs.Journals.{Commits, Journal, next_behind, with_noted}
+use Rattle.cache_tier.specs.JournalWays.{given}
+use Rattle.cache_tier.specs.TierStates.{Session, Settings, Tier, opened}
+use Rattle.cache_tier.specs.Worlds.{World}
+use Rattle.recovery.specs.Recalling.{RecallsAll, notes_of}
+
+-- the second is the first but for what no entry tells: its first ticket, its keys, its position, its horizon, its moment
+pub record IsAlike (g h : Group) : Type 0 where
+  pub def : h.def ≡ g.def
+  pub state : h.state ≡ g.state
+  pub loaded : h.loaded ≡ g.loaded
+
+abbrev pub AreAlike : List Group → List Group → Type 0
+AreAlike [] [] = Unit {0}
+AreAlike (g ∷ gs) (h ∷ hs) = IsAlike g h × AreAlike gs hs
+AreAlike [] (h ∷ hs) = ⊥
+AreAlike (g ∷ gs) [] = ⊥
+
+-- journal and history as the laws of crashes see them: the commits that are held, and those that wait in the tail
+abbrev pub seen_as : List TableDef → World → List Sealed → List Sealed → Seen
+seen_as schema w early late =
+    record { flushed = notes_of schema w.journal.flushed; late = late; history = w.history; commits = early ++ late }
+
+-- The journal is the tier's: in its tail are commits alone; its entries match the history, with these asynchronous commits
+-- held (early); they leave the tier's catalog; what is pending of all that they tell is what is pending of the log; and no
+-- ticket of theirs is at or above the next one.
+pub record IsJournalled (w : World) (early : List Sealed) : Type 0 where
+  pub kept : w.journal.kept ≡ true
+  pub backing : TableState
+  pub leaves : state_of w.history ≡ Some backing
+  pub late : List Sealed
+  pub tail : w.journal.tail ≡ map Commits late
+  pub stands : Stands (seen_as backing.schema w early late) early
+  pub settings : Settings
+  pub catalog : Tier
+  pub recalls : RecallsAll (given w.journal) (opened settings 0 backing.schema) catalog
+  pub alike : AreAlike catalog.groups w.tier.groups
+  pub tie : pending w.history w.tier.log ≡ pending w.history (log_in w.history (notes_of backing.schema (given w.journal)))
+  pub next : next_behind (given w.journal) ≤ w.tier.next
+
+-- so it is, and what was held is held
+pub record IsJournalledOn (w : World) (early : List Sealed) : Type 0 where
+  pub now : List Sealed
+  pub is : IsJournalled w now
+  pub more : List Sealed
+  pub grows : now ≡ early ++ more
+
+-- the session's transaction has committed, and its record waits in the tail
+abbrev pub with_commit_noted : Session → World → World
+with_commit_noted s w =
+    record w {
+      tier = committed_unsettled (sealed_own w.tier s) s.label w.tier;
+      journal = with_noted (Commits (sealed_own w.tier s)) w.journal;
+    }
+
+-- the tail is flushed
+pub record IsFlushed (old new : Journal) : Type 0 where
+  pub kept : new.kept ≡ true
+  pub flushed : new.flushed ≡ given old
+  pub tail : new.tail ≡ []
