@@ -20,26 +20,28 @@ use Rattle.order_laws.specs.OpenWrites.{AllApply, Applies}
 use Rattle.order_laws.specs.Sides.{are_on}
 use Rattle.order_laws.specs.Standing.{live_tables}
 use Rattle.order_laws.proofs.TruthLaws.{both_true, same_some}
-use Rattle.recovery_laws.specs.Crashes.{Over, Stands, StandsOn, commits, flushes, with_commit as with_seen_commit, with_flushed}
+use Rattle.recovery_laws.specs.Crashes.{Over, Stands, StandsOn, commits, flags, flushes, with_commit as with_seen_commit, with_flushed}
 use Rattle.recovery_laws.specs.Crashes as crash
 use Rattle.recovery_laws.specs.Matching.{IsMatched}
-use Rattle.recovery_laws.specs.Notes.{Commit, Note, catalog_of, empty_catalog, groups_of, log_in, next_of}
+use Rattle.recovery_laws.specs.Notes.{Commit, Flag, Note, catalog_of, empty_catalog, groups_of, log_in, next_of, told}
 use Rattle.recovery_laws.proofs.CrashLaws.{event_keeps}
-use Rattle.recovery_laws.proofs.TieLaws.{tied_commit}
+use Rattle.recovery_laws.proofs.TieLaws.{tied_commit, tied_quiet}
 use Rattle.cache_tier.specs.CommitSteps.{sealed_own}
-use Rattle.cache_tier.specs.Groups.{Group, covers, is_table_of, is_writethrough}
-use Rattle.cache_tier.specs.Journals.{Commits, Journal, JournalEntry, next_behind, next_with, with_noted}
+use Rattle.cache_tier.specs.AlterSteps.{with_state}
+use Rattle.cache_tier.specs.Groups.{Group, covers, defines_name, is_called, is_table_of, is_writethrough}
+use Rattle.sql_subset.specs.declared.stmt.RefreshState.{RefreshState}
+use Rattle.cache_tier.specs.Journals.{Commits, Journal, JournalEntry, SetsLoaded, SetsState, next_behind, next_with, with_noted}
 use Rattle.cache_tier.specs.JournalWays.{given}
 use Rattle.cache_tier.specs.PassedSteps.{with_ticket}
 use Rattle.cache_tier.specs.Recency.{with_commit}
 use Rattle.cache_tier.specs.Shown.{no_rows}
 use Rattle.cache_tier.specs.StandingBetween.{are_written_through, live_groups_of, own_writes}
 use Rattle.cache_tier.specs.StandingBetween as between
-use Rattle.cache_tier.specs.TierStates.{Session, Tier, is_labelled, opened, session_of}
+use Rattle.cache_tier.specs.TierStates.{Session, Tier, is_labelled, opened, session_of, with_group}
 use Rattle.cache_tier.specs.Worlds.{World}
 use Rattle.cache_tier.proofs.GroupTables.{through_on}
-use Rattle.recovery.specs.Journalled.{AreAlike, IsAlike, IsFlushed, IsJournalled, IsJournalledOn, seen_as, with_commit_noted}
-use Rattle.recovery.specs.Recalling.{Recalls, RecallsAll, note_of, notes_of}
+use Rattle.recovery.specs.Journalled.{AreAlike, IsAlike, IsFlushed, IsFlushedWith, IsJournalled, IsJournalledOn, IsQuiet, seen_as, with_commit_noted, with_flushed_entry}
+use Rattle.recovery.specs.Recalling.{Recalls, RecallsAll, note_of, notes_of, state_number, with_loaded}
 use Rattle.recovery.proofs.FoldLaws.{IsFolded, folds}
 use Rattle.recovery.proofs.NewestLaws.{live_plain, newest, newest_has, plain, seconds}
 use Rattle.recovery.proofs.RecalledLaws.{next_is}
@@ -102,6 +104,42 @@ alike_commit schema ops (g ∷ gs) [] are = absurd are
 ops_same : (a b : List TableId) → ((t : TableId) → is_one_of a t ≡ is_one_of b t) → (ops : List Op) → are_on a ops ≡ are_on b ops
 ops_same a b same [] = refl
 ops_same a b same (op ∷ ops) = λ i. same (table_of op) i && ops_same a b same ops i
+
+alike_trans : (gs hs ks : List Group) → AreAlike gs hs → AreAlike hs ks → AreAlike gs ks
+alike_trans [] [] [] a b = tt
+alike_trans (g ∷ gs) (h ∷ hs) (k ∷ ks) a b =
+    (record { def = b.0.def ∙ a.0.def; state = b.0.state ∙ a.0.state; loaded = b.0.loaded ∙ a.0.loaded }, alike_trans gs hs ks a.1 b.1)
+alike_trans [] [] (k ∷ ks) a b = absurd b
+alike_trans [] (h ∷ hs) ks a b = absurd a
+alike_trans (g ∷ gs) [] ks a b = absurd a
+alike_trans (g ∷ gs) (h ∷ hs) [] a b = absurd b
+
+-- a group of this name is changed
+abbrev turned : List ℕ → (Group → Group) → Group → Group
+turned name change g = cond (is_called name g) (change g) g
+
+-- the change does the same to groups that are alike, and keeps their names
+record TurnsAlike (change : Group → Group) : Type 0 where
+  alike : (g h : Group) → IsAlike g h → IsAlike (change g) (change h)
+
+state_steady : (state : RefreshState) → TurnsAlike (with_state state)
+state_steady state = record { alike = λ g h a. record { def = a.def; state = refl; loaded = a.loaded } }
+
+loaded_steady : (flag : Bool) → TurnsAlike (with_loaded flag)
+loaded_steady flag = record { alike = λ g h a. record { def = a.def; state = a.state; loaded = refl } }
+
+alike_turned : (name : List ℕ) (change : Group → Group) → TurnsAlike change → (gs hs : List Group) → AreAlike gs hs → AreAlike (map (turned name change) gs) (map (turned name change) hs)
+alike_turned name change steady [] [] a = tt
+alike_turned name change steady (g ∷ gs) (h ∷ hs) a = (
+  subst (λ b. IsAlike (cond b (change g) g) (turned name change h)) (λ i. defines_name name (a.0.def i)) (by (is_called name h)),
+  alike_turned name change steady gs hs a.1,
+)
+  where
+    by : (b : Bool) → IsAlike (cond b (change g) g) (cond b (change h) h)
+    by true = steady.alike g h a.0
+    by false = a.0
+alike_turned name change steady [] (h ∷ hs) a = absurd a
+alike_turned name change steady (g ∷ gs) [] a = absurd a
 
 module _ (w : World) (early : List Sealed) (j : IsJournalled w early) where
   abbrev schema : List TableDef
@@ -203,8 +241,8 @@ module _ (w : World) (early : List Sealed) (j : IsJournalled w early) where
 
   -- the tail is flushed
   module _ (new : Journal) (is : IsFlushed w.journal new) where
-    turned : StandsOn (with_flushed (crash.given seen) seen) early
-    turned = event_keeps seen (with_flushed (crash.given seen) seen) early flushes j.stands
+    flushed_on : StandsOn (with_flushed (crash.given seen) seen) early
+    flushed_on = event_keeps seen (with_flushed (crash.given seen) seen) early flushes j.stands
 
     given_same : given new ≡ given w.journal
     given_same = (λ i. is.flushed i ++ is.tail i) ∙ append-nil (given w.journal)
@@ -214,15 +252,15 @@ module _ (w : World) (early : List Sealed) (j : IsJournalled w early) where
 
     pub flush_journalled : IsJournalledOn (record w { journal = new }) early
     flush_journalled = record {
-      now = turned.now;
+      now = flushed_on.now;
       is = record {
         kept = is.kept;
         backing = j.backing;
         leaves = j.leaves;
         late = [];
         tail = is.tail;
-        stands = subst (λ l. Stands (record { flushed = l; late = []; history = w.history; commits = turned.now ++ [] }) turned.now) flushed_seen
-            (subst (λ l. Stands (record { flushed = crash.given seen; late = []; history = w.history; commits = l }) turned.now) turned.stands.are turned.stands);
+        stands = subst (λ l. Stands (record { flushed = l; late = []; history = w.history; commits = flushed_on.now ++ [] }) flushed_on.now) flushed_seen
+            (subst (λ l. Stands (record { flushed = crash.given seen; late = []; history = w.history; commits = l }) flushed_on.now) flushed_on.stands.are flushed_on.stands);
         settings = j.settings;
         catalog = j.catalog;
         recalls = subst (λ l. RecallsAll l (opened j.settings 0 schema) j.catalog) (sym given_same) j.recalls;
@@ -230,9 +268,86 @@ module _ (w : World) (early : List Sealed) (j : IsJournalled w early) where
         tie = j.tie ∙ sym (ap (λ l. pending w.history (log_in w.history (notes_of schema l))) given_same);
         next = subst (λ l. next_behind l ≤ w.tier.next) (sym given_same) j.next;
       };
-      more = turned.more;
-      grows = turned.grows;
+      more = flushed_on.more;
+      grows = flushed_on.grows;
     }
+
+  -- an entry is flushed behind the tail
+  module _ (e : JournalEntry) (new : Journal) (is : IsFlushedWith e w.journal new) (kept_on : StandsOn (with_flushed (crash.given seen ++ note_of schema e ∷ []) seen) early) where
+    given_with : given new ≡ given w.journal ++ e ∷ []
+    given_with = (λ i. is.flushed i ++ is.tail i) ∙ append-nil (given w.journal ++ e ∷ [])
+
+    notes_with : notes_of schema (given w.journal ++ e ∷ []) ≡ notes ++ note_of schema e ∷ []
+    notes_with = map-append (note_of schema) (given w.journal) (e ∷ [])
+
+    seen_with : crash.given seen ++ note_of schema e ∷ [] ≡ notes_of schema new.flushed
+    seen_with = ap (λ l. l ++ note_of schema e ∷ []) given_is ∙ sym notes_with ∙ ap (notes_of schema) (sym is.flushed)
+
+    pub entry_journalled : (t catalog' : Tier) → Recalls e j.catalog catalog' → AreAlike catalog'.groups t.groups → t.log ≡ w.tier.log → told w.history (note_of schema e) ≡ [] → next_behind (given w.journal ++ e ∷ []) ≤ t.next
+        → IsJournalledOn (with_flushed_entry t new w) early
+    entry_journalled t catalog' one alike log silent below = record {
+      now = kept_on.now;
+      is = record {
+        kept = is.kept;
+        backing = j.backing;
+        leaves = j.leaves;
+        late = [];
+        tail = is.tail;
+        stands = subst (λ l. Stands (record { flushed = l; late = []; history = w.history; commits = kept_on.now ++ [] }) kept_on.now) seen_with
+            (subst (λ l. Stands (record { flushed = crash.given seen ++ note_of schema e ∷ []; late = []; history = w.history; commits = l }) kept_on.now) kept_on.stands.are kept_on.stands);
+        settings = j.settings;
+        catalog = catalog';
+        recalls = subst (λ l. RecallsAll l (opened j.settings 0 schema) catalog') (sym given_with) (recalls_push (given w.journal) e (opened j.settings 0 schema) j.catalog catalog' j.recalls one);
+        alike = alike;
+        tie = ap (pending w.history) log ∙ tied_quiet w.history w.tier.log notes (note_of schema e) silent j.tie ∙ sym (ap (λ l. pending w.history (log_in w.history l)) (ap (notes_of schema) given_with ∙ notes_with));
+        next = subst (λ l. next_behind l ≤ t.next) (sym given_with) below;
+      };
+      more = kept_on.more;
+      grows = kept_on.grows;
+    }
+
+  below_same : (e : JournalEntry) (next : ℕ) → ((n : ℕ) → next_with n e ≡ n) → w.tier.next ≤ next → next_behind (given w.journal ++ e ∷ []) ≤ next
+  below_same e next same le =
+      subst (λ n. n ≤ next) (sym (fold-append next_with 1 (given w.journal) (e ∷ []) ∙ same (next_behind (given w.journal)))) (let below = j.next in omega (arith, below, le))
+
+  -- a STATE, a flag
+  pub state_journalled : (name : List ℕ) (state : RefreshState) (t : Tier) (new : Journal) → IsFlushedWith (SetsState name state) w.journal new → IsQuiet (with_group name (with_state state) w.tier) t → IsJournalledOn (with_flushed_entry t new w) early
+  state_journalled name state t new is quiet =
+      entry_journalled (SetsState name state) new is (event_keeps seen (with_flushed (crash.given seen ++ Flag name (state_number state) ∷ []) seen) early (flags name (state_number state)) j.stands)
+      t (with_group name (with_state state) j.catalog) refl (alike_trans (map (turned name (with_state state)) j.catalog.groups) (map (turned name (with_state state)) w.tier.groups) t.groups (alike_turned name (with_state state) (state_steady state) j.catalog.groups w.tier.groups j.alike) quiet.groups)
+      quiet.log refl (below_same (SetsState name state) t.next (λ n. refl) quiet.next)
+
+  pub loaded_journalled : (name : List ℕ) (flag : Bool) (t : Tier) (new : Journal) → IsFlushedWith (SetsLoaded name flag) w.journal new → IsQuiet (with_group name (with_loaded flag) w.tier) t → IsJournalledOn (with_flushed_entry t new w) early
+  loaded_journalled name flag t new is quiet =
+      entry_journalled (SetsLoaded name flag) new is (event_keeps seen (with_flushed (crash.given seen ++ Flag name (cond flag 4 0) ∷ []) seen) early (flags name (cond flag 4 0)) j.stands)
+      t (with_group name (with_loaded flag) j.catalog) refl (alike_trans (map (turned name (with_loaded flag)) j.catalog.groups) (map (turned name (with_loaded flag)) w.tier.groups) t.groups (alike_turned name (with_loaded flag) (loaded_steady flag) j.catalog.groups w.tier.groups j.alike) quiet.groups)
+      quiet.log refl (below_same (SetsLoaded name flag) t.next (λ n. refl) quiet.next)
+
+  -- nothing that an entry tells changes
+  pub quiet_journalled : (t : Tier) → IsQuiet w.tier t → IsJournalled (record w { tier = t }) early
+  quiet_journalled t quiet = record {
+    kept = j.kept;
+    backing = j.backing;
+    leaves = j.leaves;
+    late = j.late;
+    tail = j.tail;
+    stands = j.stands;
+    settings = j.settings;
+    catalog = j.catalog;
+    recalls = j.recalls;
+    alike = alike_trans j.catalog.groups w.tier.groups t.groups j.alike quiet.groups;
+    tie = ap (pending w.history) quiet.log ∙ j.tie;
+    next = let below = j.next in let up = quiet.next in omega (arith, below, up);
+  }
+
+pub quiet_kept : (w : World) (early : List Sealed) (t : Tier) → IsJournalled w early → IsQuiet w.tier t → IsJournalled (record w { tier = t }) early
+quiet_kept w early t j quiet = quiet_journalled w early j t quiet
+
+pub state_kept : (w : World) (early : List Sealed) (name : List ℕ) (state : RefreshState) (t : Tier) (new : Journal) → IsJournalled w early → IsFlushedWith (SetsState name state) w.journal new → IsQuiet (with_group name (with_state state) w.tier) t → IsJournalledOn (with_flushed_entry t new w) early
+state_kept w early name state t new j is quiet = state_journalled w early j name state t new is quiet
+
+pub loaded_kept : (w : World) (early : List Sealed) (name : List ℕ) (flag : Bool) (t : Tier) (new : Journal) → IsJournalled w early → IsFlushedWith (SetsLoaded name flag) w.journal new → IsQuiet (with_group name (with_loaded flag) w.tier) t → IsJournalledOn (with_flushed_entry t new w) early
+loaded_kept w early name flag t new j is quiet = loaded_journalled w early j name flag t new is quiet
 
 pub commits_kept : (w : World) (early : List Sealed) (s : Session) → between.Stands w → IsJournalled w early → session_of w.tier s.label ≡ Some s → IsJournalledOn (with_commit_noted s w) early
 commits_kept w early s stands j there = commit_journalled w early j s stands there

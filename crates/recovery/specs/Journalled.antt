@@ -10,7 +10,7 @@ use Rattle.recovery_laws.specs.Crashes.{Stands, World as Seen}
 use Rattle.recovery_laws.specs.Notes.{log_in}
 use Rattle.cache_tier.specs.CommitSteps.{committed_unsettled, sealed_own}
 use Rattle.cache_tier.specs.Groups.{Group}
-use Rattle.cache_tier.specs.Journals.{Commits, Journal, next_behind, with_noted}
+use Rattle.cache_tier.specs.Journals.{Commits, Journal, JournalEntry, next_behind, with_noted}
 use Rattle.cache_tier.specs.JournalWays.{given}
 use Rattle.cache_tier.specs.TierStates.{Session, Settings, Tier, opened}
 use Rattle.cache_tier.specs.Worlds.{World}
@@ -65,8 +65,24 @@ with_commit_noted s w =
       journal = with_noted (Commits (sealed_own w.tier s)) w.journal;
     }
 
+-- the tail is flushed with this entry behind it
+pub record IsFlushedWith (e : JournalEntry) (old new : Journal) : Type 0 where
+  pub kept : new.kept ≡ true
+  pub flushed : new.flushed ≡ given old ++ e ∷ []
+  pub tail : new.tail ≡ []
+
 -- the tail is flushed
 pub record IsFlushed (old new : Journal) : Type 0 where
   pub kept : new.kept ≡ true
   pub flushed : new.flushed ≡ given old
   pub tail : new.tail ≡ []
+
+-- the tier changes in what no entry tells
+pub record IsQuiet (old new : Tier) : Type 0 where
+  pub log : new.log ≡ old.log
+  pub next : old.next ≤ new.next
+  pub groups : AreAlike old.groups new.groups
+
+-- the tier has changed so, and the entry is flushed
+abbrev pub with_flushed_entry : Tier → Journal → World → World
+with_flushed_entry t j w = record w { tier = t; journal = j }

@@ -1,4 +1,4 @@
-use Rattle.recovery.proofs.JournalledLaws.{commits_kept, flushes_kept}
+use Rattle.recovery.proofs.JournalledLaws.{commits_kept, flushes_kept, loaded_kept, quiet_kept, state_kept}
 use Rattle.recovery.proofs.laws.journalled_law.Goals as goal
 
 pub returns-clause-commits : goal.returns-clause-commits
@@ -6,3 +6,12 @@ returns-clause-commits c = commits_kept
 
 pub returns-clause-flushes : goal.returns-clause-flushes
 returns-clause-flushes c = flushes_kept
+
+pub returns-clause-states : goal.returns-clause-states
+returns-clause-states c = state_kept
+
+pub returns-clause-flags : goal.returns-clause-flags
+returns-clause-flags c = loaded_kept
+
+pub returns-clause-quiet : goal.returns-clause-quiet
+returns-clause-quiet c = quiet_kept
