@@ -196,7 +196,7 @@ kind_seen g AsynchronousWritethrough e = ap (λ (k : GroupKind). is_read_only (r
 kind_seen g SynchronousWritethrough e = ap (λ (k : GroupKind). is_read_only (record g { def = record (g.def) { kind = k } })) e
 kind_seen g UserManaged e = ap (λ (k : GroupKind). is_read_only (record g { def = record (g.def) { kind = k } })) e
 
-written : (t : Tier) (d : CreateGroup) (tree : Tree) → IsTreeOf (placed_tables t.schema d) tree → written_tables t.schema d ≡ cond (is_read_only (group_of t d tree)) [] (tables_of tree)
+pub written : (t : Tier) (d : CreateGroup) (tree : Tree) → IsTreeOf (placed_tables t.schema d) tree → written_tables t.schema d ≡ cond (is_read_only (group_of t d tree)) [] (tables_of tree)
 written t d tree is = λ i. cond (sym (kind_seen (group_of t d tree) d.kind refl) i) [] (tables_placed (placed_tables t.schema d) tree is i)
 
 -- ---- the fold

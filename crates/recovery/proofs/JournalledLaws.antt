@@ -105,7 +105,7 @@ ops_same : (a b : List TableId) → ((t : TableId) → is_one_of a t ≡ is_one_
 ops_same a b same [] = refl
 ops_same a b same (op ∷ ops) = λ i. same (table_of op) i && ops_same a b same ops i
 
-alike_trans : (gs hs ks : List Group) → AreAlike gs hs → AreAlike hs ks → AreAlike gs ks
+pub alike_trans : (gs hs ks : List Group) → AreAlike gs hs → AreAlike hs ks → AreAlike gs ks
 alike_trans [] [] [] a b = tt
 alike_trans (g ∷ gs) (h ∷ hs) (k ∷ ks) a b =
     (record { def = b.0.def ∙ a.0.def; state = b.0.state ∙ a.0.state; loaded = b.0.loaded ∙ a.0.loaded }, alike_trans gs hs ks a.1 b.1)
@@ -142,28 +142,28 @@ alike_turned name change steady [] (h ∷ hs) a = absurd a
 alike_turned name change steady (g ∷ gs) [] a = absurd a
 
 module _ (w : World) (early : List Sealed) (j : IsJournalled w early) where
-  abbrev schema : List TableDef
+  abbrev pub schema : List TableDef
   schema = j.backing.schema
 
-  abbrev notes : List Note
+  abbrev pub notes : List Note
   notes = notes_of schema (given w.journal)
 
-  abbrev seen : crash.World
+  abbrev pub seen : crash.World
   seen = seen_as schema w early j.late
 
-  given_is : crash.given seen ≡ notes
+  pub given_is : crash.given seen ≡ notes
   given_is = given_seen schema w early j.late j.tail
 
-  matched : IsMatched notes w.history
+  pub matched : IsMatched notes w.history
   matched = subst (λ l. IsMatched l w.history) given_is j.stands.matched
 
-  folded : IsFolded schema j.catalog (catalog_of notes)
+  pub folded : IsFolded schema j.catalog (catalog_of notes)
   folded =
       folds schema w.history [] (given w.journal) (opened j.settings 0 schema) j.catalog empty_catalog
       (record { schema_is = refl; idle = refl; pairs = refl; next = refl; each = tt; apart = tt; fresh = tt; names = tt }) matched.fits j.recalls
 
   -- the tables of live groups are the tier's
-  live : (u : TableId) → is_one_of (live_tables (groups_of notes)) u ≡ is_table_of is_writethrough w.tier.groups u
+  pub live : (u : TableId) → is_one_of (live_tables (groups_of notes)) u ≡ is_table_of is_writethrough w.tier.groups u
   live u =
       ap (λ l. is_one_of (live_tables l) u) (live_plain (catalog_of notes).groups ∙ ap seconds folded.pairs)
       ∙ newest_has j.catalog.groups u
@@ -306,7 +306,7 @@ module _ (w : World) (early : List Sealed) (j : IsJournalled w early) where
       grows = kept_on.grows;
     }
 
-  below_same : (e : JournalEntry) (next : ℕ) → ((n : ℕ) → next_with n e ≡ n) → w.tier.next ≤ next → next_behind (given w.journal ++ e ∷ []) ≤ next
+  pub below_same : (e : JournalEntry) (next : ℕ) → ((n : ℕ) → next_with n e ≡ n) → w.tier.next ≤ next → next_behind (given w.journal ++ e ∷ []) ≤ next
   below_same e next same le =
       subst (λ n. n ≤ next) (sym (fold-append next_with 1 (given w.journal) (e ∷ []) ∙ same (next_behind (given w.journal)))) (let below = j.next in omega (arith, below, le))
 

@@ -2,3 +2,4 @@ pub mod NewestLaws
 pub mod FoldLaws
 pub mod RecalledLaws
 pub mod JournalledLaws
+pub mod CatalogLaws

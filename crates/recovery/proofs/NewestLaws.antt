@@ -86,7 +86,7 @@ abbrev pub NamesApart : List Group → Type 0
 NamesApart [] = Unit {0}
 NamesApart (g ∷ gs) = (list_any (is_called g.def.name) gs ≡ false) × NamesApart gs
 
-abbrev named : List ℕ → Pair → Bool
+abbrev pub named : List ℕ → Pair → Bool
 named name x = same_name x.0 name
 
 skip_other : (name : List ℕ) (xs : List Pair) (x : Pair) → same_name x.0 name ≡ false → skip name (xs ++ x ∷ []) ≡ skip name xs ++ x ∷ []
@@ -105,7 +105,7 @@ skip_last name (y ∷ xs) x none e = by (same_name y.0 name) none (λ h. skip_la
     by true none rest = Prim.cc
     by false none rest = ap (λ l. y ∷ l) (rest none)
 
-any_newest : (name : List ℕ) (gs : List Group) → list_any (named name) (newest gs) ≡ list_any (is_called name) gs
+pub any_newest : (name : List ℕ) (gs : List Group) → list_any (named name) (newest gs) ≡ list_any (is_called name) gs
 any_newest name [] = refl
 any_newest name (g ∷ gs) = list_any-append (named name) (newest gs) (pair g ∷ []) ∙ ap (λ b. b || (is_called name g || false)) (any_newest name gs) ∙ turn (list_any (is_called name) gs) (is_called name g)
   where
@@ -172,7 +172,7 @@ live_append (x ∷ xs) y t = list_any-append same x.tables (live_tables (xs ++ y
     assoc true b c = refl
     assoc false b c = refl
 
-tie_has : (g : Group) (t : TableId) → is_one_of (tie g).tables t ≡ (is_writethrough g && covers t g)
+pub tie_has : (g : Group) (t : TableId) → is_one_of (tie g).tables t ≡ (is_writethrough g && covers t g)
 tie_has g t = by (is_read_only g)
   where
     by : (b : Bool) → is_one_of (cond b [] (tables_of g.def.tree)) t ≡ (not b && covers t g)

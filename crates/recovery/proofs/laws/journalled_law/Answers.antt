@@ -1,3 +1,4 @@
+use Rattle.recovery.proofs.CatalogLaws.{define_kept}
 use Rattle.recovery.proofs.JournalledLaws.{commits_kept, flushes_kept, loaded_kept, quiet_kept, state_kept}
 use Rattle.recovery.proofs.laws.journalled_law.Goals as goal
 
@@ -15,3 +16,6 @@ returns-clause-flags c = loaded_kept
 
 pub returns-clause-quiet : goal.returns-clause-quiet
 returns-clause-quiet c = quiet_kept
+
+pub returns-clause-definitions : goal.returns-clause-definitions
+returns-clause-definitions c = define_kept
