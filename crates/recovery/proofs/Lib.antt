@@ -3,3 +3,4 @@ pub mod FoldLaws
 pub mod RecalledLaws
 pub mod JournalledLaws
 pub mod CatalogLaws
+pub mod DroppedLaws

@@ -1,15 +1,17 @@
 //! Laws of recovery, each on the contract of a function that does nothing. They are this project's rules, over recovery
 //! as the TimesTen Cache User's Guide tells of it.
 
-ghost use Rattle.std.specs.Prelude.{◌≡◌, Bool, ℕ, List, None, Some};
+ghost use Rattle.std.specs.Prelude.{◌≡◌, Bool, ℕ, List, None, Some, true};
 ghost use Rattle.table_state.specs.declared.history.Entry.{Entry};
 ghost use Rattle.table_state.specs.declared.history.Sealed.{Sealed};
 ghost use Rattle.cache_tier.specs.Events.{with_tier};
 ghost use Rattle.cache_tier.specs.Defining.{IsNewGroup};
 ghost use Rattle.cache_tier.specs.DefineSteps.{with_new_group};
 ghost use Rattle.cache_tier.specs.Definitions.{IsTreeOf, definition_names, placed_tables};
-ghost use Rattle.cache_tier.specs.Groups.{definitions_of};
-ghost use Rattle.cache_tier.specs.Journals.{Defines, Journal, JournalEntry, SetsLoaded, SetsState};
+ghost use Rattle.cache_tier.specs.Dropping.{MayDrop};
+ghost use Rattle.cache_tier.specs.DropSteps.{without_group};
+ghost use Rattle.cache_tier.specs.Groups.{Group, definitions_of, is_called};
+ghost use Rattle.cache_tier.specs.Journals.{Defines, Drops, Journal, JournalEntry, SetsLoaded, SetsState};
 ghost use Rattle.instances.specs.declared.tree.Tree.{Tree};
 ghost use Rattle.sql_subset.specs.declared.stmt.CreateGroup.{CreateGroup};
 ghost use Rattle.cache_tier.specs.AlterSteps.{with_state};
@@ -35,8 +37,8 @@ pub fn recalled_law()
 {}
 
 /// The journal stays the tier's where a session's transaction commits and its record is noted (`commits`), where the
-/// tail is flushed (`flushes`), or with a definition, a STATE or a flag behind it (`definitions`, `states`, `flags`), and
-/// where the tier changes in what no entry tells (`quiet`). What was held is held.
+/// tail is flushed (`flushes`), or with a definition, a drop, a STATE or a flag behind it (`definitions`, `drops`, `states`,
+/// `flags`), and where the tier changes in what no entry tells (`quiet`). What was held is held.
 pub fn journalled_law()
     ensures commits { (w : World) (early : List Sealed) (s : Session) → Stands w → IsJournalled w early
         → session_of w.tier s.label ≡ Some s → IsJournalledOn (with_commit_noted s w) early }
@@ -47,6 +49,10 @@ pub fn journalled_law()
         → definition_names w.tier.schema (definitions_of w.tier.groups) d ≡ None
         → IsNewGroup w (group_of w.tier d tree) → IsFlushedWith (Defines d text) w.journal new
         → IsQuiet (with_new_group d tree w.tier) t → IsJournalledOn (with_flushed_entry t new w) early }
+    ensures drops { (w : World) (early : List Sealed) (name : List ℕ) (g : Group) (t : Tier) (new : Journal)
+        → Stands w → IsJournalled w early → MayDrop w name g → is_called name g ≡ true
+        → IsFlushedWith (Drops name) w.journal new → IsQuiet (without_group name w.tier) t
+        → IsJournalledOn (with_flushed_entry t new w) early }
     ensures states { (w : World) (early : List Sealed) (name : List ℕ) (state : RefreshState) (t : Tier) (new : Journal)
         → IsJournalled w early → IsFlushedWith (SetsState name state) w.journal new
         → IsQuiet (with_group name (with_state state) w.tier) t → IsJournalledOn (with_flushed_entry t new w) early }

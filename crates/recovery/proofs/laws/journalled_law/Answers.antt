@@ -1,3 +1,4 @@
+use Rattle.recovery.proofs.DroppedLaws.{drop_kept}
 use Rattle.recovery.proofs.CatalogLaws.{define_kept}
 use Rattle.recovery.proofs.JournalledLaws.{commits_kept, flushes_kept, loaded_kept, quiet_kept, state_kept}
 use Rattle.recovery.proofs.laws.journalled_law.Goals as goal
@@ -19,3 +20,6 @@ returns-clause-quiet c = quiet_kept
 
 pub returns-clause-definitions : goal.returns-clause-definitions
 returns-clause-definitions c = define_kept
+
+pub returns-clause-drops : goal.returns-clause-drops
+returns-clause-drops c = drop_kept
