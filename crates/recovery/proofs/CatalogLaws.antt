@@ -3,19 +3,16 @@ use Rattle.std.proofs.Common.{◌≡◌, ℕ, ◌+◌, ◌≤◌, Bool, true, fa
 use Rattle.std.specs.List.{list_all, list_any}
 use Rattle.std.specs.Option.{option_and_then}
 use Rattle.tier_base.specs.declared.number.TableId.{TableId}
-use Rattle.table_defs.specs.declared.definition.ForeignKey.{ForeignKey}
-use Rattle.table_defs.specs.declared.definition.TableDef.{TableDef}
 use Rattle.table_state.specs.declared.history.Sealed.{Sealed}
 use Rattle.table_state.specs.declared.operation.Op.{Op}
 use Rattle.table_state.specs.Copies.{is_one_of}
 use Rattle.table_state.specs.Histories.{state_of}
 use Rattle.table_state.specs.Operations.{table_of}
-use Rattle.table_state.specs.Tables.{TableState}
 use Rattle.instances.specs.declared.tree.Tree.{Tree}
 use Rattle.order_laws.specs.Commits.{applied_sealed, is_op_on, pending, virtual_state}
 use Rattle.order_laws.specs.Sides.{IsClosed, all_on, are_off, are_on}
 use Rattle.order_laws.specs.Standing.{all_off, live_tables}
-use Rattle.order_laws.proofs.TruthLaws.{both_true, never_both, not_both}
+use Rattle.order_laws.proofs.TruthLaws.{both_true, never_both}
 use Rattle.recovery_laws.specs.Crashes.{Over, StandsOn, defines, with_flushed}
 use Rattle.recovery_laws.specs.Crashes as crash
 use Rattle.recovery_laws.specs.Notes.{Define, are_apart, groups_of, log_in}
@@ -32,11 +29,11 @@ use Rattle.cache_tier.specs.StandingBetween as between
 use Rattle.cache_tier.specs.TierStates.{Tier}
 use Rattle.cache_tier.specs.Worlds.{World}
 use Rattle.cache_tier.proofs.GroupTables.{live_table}
-use Rattle.recovery.specs.Journalled.{AreAlike, IsAlike, IsFlushedWith, IsJournalled, IsJournalledOn, IsQuiet, seen_as, with_flushed_entry}
+use Rattle.recovery.specs.Journalled.{AreAlike, IsAlike, IsFlushedWith, IsJournalled, IsJournalledOn, IsQuiet, with_flushed_entry}
 use Rattle.recovery.specs.Recalling.{IsDefined, group_of, written_tables}
 use Rattle.recovery.proofs.FoldLaws.{written}
-use Rattle.recovery.proofs.JournalledLaws.{alike_trans, below_same, entry_journalled, folded, given_is, live, notes, schema, seen}
-use Rattle.recovery.proofs.NewestLaws.{tie, tie_has}
+use Rattle.recovery.proofs.JournalledLaws.{alike_trans, below_same, entry_journalled, folded, given_is, live, notes, seen}
+use Rattle.recovery.proofs.NewestLaws.{tie_has}
 
 -- ---- lists of tables
 
@@ -84,13 +81,13 @@ alike_definitions (g ∷ gs) (h ∷ hs) are = λ i. sym are.0.def i ∷ alike_de
 alike_definitions [] (h ∷ hs) are = absurd are
 alike_definitions (g ∷ gs) [] are = absurd are
 
-alike_covers : (gs hs : List Group) (u : TableId) → AreAlike gs hs → list_any (covers u) gs ≡ list_any (covers u) hs
+pub alike_covers : (gs hs : List Group) (u : TableId) → AreAlike gs hs → list_any (covers u) gs ≡ list_any (covers u) hs
 alike_covers [] [] u are = refl
 alike_covers (g ∷ gs) (h ∷ hs) u are = λ i. is_defined_on u (sym are.0.def i) || alike_covers gs hs u are.1 i
 alike_covers [] (h ∷ hs) u are = absurd are
 alike_covers (g ∷ gs) [] u are = absurd are
 
-alike_last : (gs hs : List Group) (g h : Group) → AreAlike gs hs → IsAlike g h → AreAlike (gs ++ g ∷ []) (hs ++ h ∷ [])
+pub alike_last : (gs hs : List Group) (g h : Group) → AreAlike gs hs → IsAlike g h → AreAlike (gs ++ g ∷ []) (hs ++ h ∷ [])
 alike_last [] [] g h are one = (one, tt)
 alike_last (x ∷ gs) (y ∷ hs) g h are one = (are.0, alike_last gs hs g h are.1 one)
 alike_last [] (y ∷ hs) g h are one = absurd are

@@ -1,10 +1,9 @@
 -- What keeps the journal the tier's where a group is dropped.
-use Rattle.std.proofs.Common.{◌≡◌, ℕ, Bool, true, false, cond, not, ◌&&◌, ◌||◌, Option, Some, None, List, [], ◌∷◌, ◌++◌, map, refl, sym, ap, subst, ◌∙◌}
+use Rattle.std.proofs.Common.{◌≡◌, ℕ, Bool, true, false, cond, not, ◌&&◌, ◌||◌, List, [], ◌∷◌, ◌++◌, refl, sym, ap, subst, ◌∙◌}
 use Rattle.std.specs.List.{filter, list_any}
 use Rattle.std.proofs.lemmas.List.Folds.{list_any-append}
 use Rattle.std.specs.Cmp.Lexicographic.{bytes_decides}
 use Rattle.table_defs.specs.Names.{same_name}
-use Rattle.table_defs.specs.declared.definition.TableDef.{TableDef}
 use Rattle.table_state.specs.declared.history.Sealed.{Sealed}
 use Rattle.order_laws.specs.Commits.{LiveGroup, pending}
 use Rattle.order_laws.specs.Standing.{all_off}
@@ -79,7 +78,7 @@ alike_apart (g ∷ gs) [] are apart = absurd are
 alike_kind : (g h : Group) → IsAlike g h → is_read_only h ≡ is_read_only g
 alike_kind g h a = λ i. is_read_only (record h { def = a.def i })
 
-alike_without : (name : List ℕ) (gs hs : List Group) → AreAlike gs hs → AreAlike (filter (λ g. not (is_called name g)) gs) (filter (λ g. not (is_called name g)) hs)
+pub alike_without : (name : List ℕ) (gs hs : List Group) → AreAlike gs hs → AreAlike (filter (λ g. not (is_called name g)) gs) (filter (λ g. not (is_called name g)) hs)
 alike_without name [] [] are = tt
 alike_without name (g ∷ gs) (h ∷ hs) are =
     subst (λ b. AreAlike (cond (not b) (g ∷ filter (λ k. not (is_called name k)) gs) (filter (λ k. not (is_called name k)) gs)) (filter (λ k. not (is_called name k)) (h ∷ hs))) (λ i. defines_name name (are.0.def i))

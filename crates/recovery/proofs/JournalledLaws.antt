@@ -1,6 +1,5 @@
 -- What keeps the journal the tier's.
-use Rattle.std.proofs.Common.{◌≡◌, ℕ, ◌+◌, ◌≤◌, Bool, true, false, cond, ◌&&◌, ◌||◌, max, Option, Some, None, List, [], ◌∷◌, ◌++◌, map, refl, sym, ap, subst, ◌∙◌, arith, append_assoc, append-nil}
-use Rattle.std.specs.Prelude.{fold}
+use Rattle.std.proofs.Common.{◌≡◌, ℕ, ◌+◌, ◌≤◌, Bool, true, false, cond, ◌&&◌, ◌||◌, Some, List, [], ◌∷◌, ◌++◌, map, refl, sym, ap, subst, ◌∙◌, arith, append_assoc, append-nil}
 use Rattle.std.specs.List.{find, list_all, list_any}
 use Rattle.std.specs.Option.{option_and_then}
 use Rattle.std.proofs.Math.Nat.{max-le}
@@ -8,12 +7,11 @@ use Rattle.std.proofs.lemmas.List.{map-append}
 use Rattle.std.proofs.lemmas.List.Sums.{fold-append}
 use Rattle.tier_base.specs.declared.number.TableId.{TableId}
 use Rattle.table_defs.specs.declared.definition.TableDef.{TableDef}
-use Rattle.table_state.specs.declared.history.Entry.{Entry}
 use Rattle.table_state.specs.declared.history.Sealed.{Sealed}
 use Rattle.table_state.specs.declared.operation.Op.{Op}
 use Rattle.table_state.specs.Copies.{is_one_of}
 use Rattle.table_state.specs.Histories.{has_ticket, state_of}
-use Rattle.table_state.specs.Operations.{applied_all, table_of}
+use Rattle.table_state.specs.Operations.{table_of}
 use Rattle.table_state.specs.Tables.{TableState}
 use Rattle.order_laws.specs.Commits.{applied_sealed, pending, virtual_state}
 use Rattle.order_laws.specs.OpenWrites.{AllApply, Applies}
@@ -43,7 +41,7 @@ use Rattle.cache_tier.proofs.GroupTables.{through_on}
 use Rattle.recovery.specs.Journalled.{AreAlike, IsAlike, IsFlushed, IsFlushedWith, IsJournalled, IsJournalledOn, IsQuiet, seen_as, with_commit_noted, with_flushed_entry}
 use Rattle.recovery.specs.Recalling.{Recalls, RecallsAll, note_of, notes_of, state_number, with_loaded}
 use Rattle.recovery.proofs.FoldLaws.{IsFolded, folds}
-use Rattle.recovery.proofs.NewestLaws.{live_plain, newest, newest_has, plain, seconds}
+use Rattle.recovery.proofs.NewestLaws.{live_plain, newest_has, seconds}
 use Rattle.recovery.proofs.RecalledLaws.{next_is}
 
 -- ---- entries
@@ -115,20 +113,20 @@ alike_trans (g ∷ gs) [] ks a b = absurd a
 alike_trans (g ∷ gs) (h ∷ hs) [] a b = absurd b
 
 -- a group of this name is changed
-abbrev turned : List ℕ → (Group → Group) → Group → Group
+abbrev pub turned : List ℕ → (Group → Group) → Group → Group
 turned name change g = cond (is_called name g) (change g) g
 
 -- the change does the same to groups that are alike, and keeps their names
-record TurnsAlike (change : Group → Group) : Type 0 where
-  alike : (g h : Group) → IsAlike g h → IsAlike (change g) (change h)
+pub record TurnsAlike (change : Group → Group) : Type 0 where
+  pub alike : (g h : Group) → IsAlike g h → IsAlike (change g) (change h)
 
-state_steady : (state : RefreshState) → TurnsAlike (with_state state)
+pub state_steady : (state : RefreshState) → TurnsAlike (with_state state)
 state_steady state = record { alike = λ g h a. record { def = a.def; state = refl; loaded = a.loaded } }
 
-loaded_steady : (flag : Bool) → TurnsAlike (with_loaded flag)
+pub loaded_steady : (flag : Bool) → TurnsAlike (with_loaded flag)
 loaded_steady flag = record { alike = λ g h a. record { def = a.def; state = a.state; loaded = refl } }
 
-alike_turned : (name : List ℕ) (change : Group → Group) → TurnsAlike change → (gs hs : List Group) → AreAlike gs hs → AreAlike (map (turned name change) gs) (map (turned name change) hs)
+pub alike_turned : (name : List ℕ) (change : Group → Group) → TurnsAlike change → (gs hs : List Group) → AreAlike gs hs → AreAlike (map (turned name change) gs) (map (turned name change) hs)
 alike_turned name change steady [] [] a = tt
 alike_turned name change steady (g ∷ gs) (h ∷ hs) a = (
   subst (λ b. IsAlike (cond b (change g) g) (turned name change h)) (λ i. defines_name name (a.0.def i)) (by (is_called name h)),

@@ -4,3 +4,5 @@ pub mod RecalledLaws
 pub mod JournalledLaws
 pub mod CatalogLaws
 pub mod DroppedLaws
+pub mod RoundedLaws
+pub mod LeftLaws

@@ -1,12 +1,12 @@
 -- The journal's part of what holds of a tier between two events. (This project's rule.)
 
-use Rattle.std.specs.Prelude.{◌≡◌, ◌≤◌, List, [], ◌∷◌, ◌++◌, true, Some, map}
+use Rattle.std.specs.Prelude.{◌≡◌, ◌≤◌, ℕ, List, [], ◌∷◌, ◌++◌, true, Some, map}
 use Rattle.table_defs.specs.declared.definition.TableDef.{TableDef}
 use Rattle.table_state.specs.declared.history.Sealed.{Sealed}
 use Rattle.table_state.specs.Histories.{state_of}
 use Rattle.table_state.specs.Tables.{TableState}
 use Rattle.order_laws.specs.Commits.{pending}
-use Rattle.recovery_laws.specs.Crashes.{Stands, World as Seen}
+use Rattle.recovery_laws.specs.Crashes.{IsLeft, Stands, World as Seen}
 use Rattle.recovery_laws.specs.Notes.{log_in}
 use Rattle.cache_tier.specs.CommitSteps.{committed_unsettled, sealed_own}
 use Rattle.cache_tier.specs.Groups.{Group}
@@ -14,7 +14,7 @@ use Rattle.cache_tier.specs.Journals.{Commits, Journal, JournalEntry, next_behin
 use Rattle.cache_tier.specs.JournalWays.{given}
 use Rattle.cache_tier.specs.TierStates.{Session, Settings, Tier, opened}
 use Rattle.cache_tier.specs.Worlds.{World}
-use Rattle.recovery.specs.Recalling.{RecallsAll, notes_of}
+use Rattle.recovery.specs.Recalling.{AreMatched, RecallsAll, notes_of}
 
 -- the second is the first but for what no entry tells: its first ticket, its keys, its position, its horizon, its moment
 pub record IsAlike (g h : Group) : Type 0 where
@@ -86,3 +86,14 @@ pub record IsQuiet (old new : Tier) : Type 0 where
 -- the tier has changed so, and the entry is flushed
 abbrev pub with_flushed_entry : Tier → Journal → World → World
 with_flushed_entry t j w = record w { tier = t; journal = j }
+
+-- What a crash leaves now: the entries that are flushed match the history; they leave a catalog with the tier's
+-- definitions, STATEs and flags; and of the asynchronous commits they and the history hold those that were held, and none
+-- of the tail.
+pub record CrashLeaves (w : World) (early : List Sealed) (settings : Settings) (moment : ℕ) : Type 0 where
+  pub matched : AreMatched w.journal.flushed w.history
+  pub catalog : Tier
+  pub recalls : RecallsAll w.journal.flushed (opened settings moment matched.backing.schema) catalog
+  pub alike : AreAlike catalog.groups w.tier.groups
+  pub late : List Sealed
+  pub left : IsLeft early (early ++ late) (notes_of matched.backing.schema w.journal.flushed) w.history

@@ -2,7 +2,7 @@
 -- committed, and the next ticket. (TimesTen Cache User's Guide, "Recovery"; that nothing is loaded yet, and what is
 -- pending waits for a round, is this project's rule.)
 
-use Rattle.std.specs.Prelude.{◌≡◌, ℕ, ◌≤◌, ◌^◌, List, [], ◌∷◌, Bool, false, Some, map, if◌then◌else◌, None}
+use Rattle.std.specs.Prelude.{◌≡◌, ℕ, ◌≤◌, ◌^◌, List, [], ◌∷◌, Bool, Some, map, if◌then◌else◌, None}
 use Rattle.tier_base.specs.declared.number.TableId.{TableId}
 use Rattle.table_defs.specs.declared.definition.TableDef.{TableDef}
 use Rattle.table_state.specs.declared.history.Entry.{Entry}

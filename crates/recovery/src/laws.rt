@@ -1,10 +1,12 @@
 //! Laws of recovery, each on the contract of a function that does nothing. They are this project's rules, over recovery
 //! as the TimesTen Cache User's Guide tells of it.
 
-ghost use Rattle.std.specs.Prelude.{◌≡◌, Bool, ℕ, List, None, Some, true};
+ghost use Rattle.std.specs.Prelude.{◌≡◌, Bool, ℕ, List, [], None, Some, true};
 ghost use Rattle.table_state.specs.declared.history.Entry.{Entry};
 ghost use Rattle.table_state.specs.declared.history.Sealed.{Sealed};
-ghost use Rattle.cache_tier.specs.Events.{with_tier};
+ghost use Rattle.order_laws.specs.Events.{Event, Follows};
+ghost use Rattle.order_laws.specs.Standing.{live_tables};
+ghost use Rattle.cache_tier.specs.Events.{at_history, settled_to, with_tier};
 ghost use Rattle.cache_tier.specs.Defining.{IsNewGroup};
 ghost use Rattle.cache_tier.specs.DefineSteps.{with_new_group};
 ghost use Rattle.cache_tier.specs.Definitions.{IsTreeOf, definition_names, placed_tables};
@@ -17,10 +19,10 @@ ghost use Rattle.sql_subset.specs.declared.stmt.CreateGroup.{CreateGroup};
 ghost use Rattle.cache_tier.specs.AlterSteps.{with_state};
 ghost use Rattle.sql_subset.specs.declared.stmt.RefreshState.{RefreshState};
 ghost use Rattle.cache_tier.specs.Shown.{shown_state};
-ghost use Rattle.cache_tier.specs.StandingBetween.{Stands};
+ghost use Rattle.cache_tier.specs.StandingBetween.{Stands, live_groups_of};
 ghost use Rattle.cache_tier.specs.TierStates.{Session, Settings, Tier, opened, session_of, with_group};
 ghost use Rattle.cache_tier.specs.Worlds.{World};
-ghost use Rattle.recovery.specs.Journalled.{IsFlushed, IsFlushedWith, IsJournalled, IsJournalledOn, IsQuiet, with_commit_noted, with_flushed_entry};
+ghost use Rattle.recovery.specs.Journalled.{CrashLeaves, IsFlushed, IsFlushedWith, IsJournalled, IsJournalledOn, IsQuiet, with_commit_noted, with_flushed_entry};
 ghost use Rattle.recovery.specs.Recalling.{AreMatched, RecallsAll, group_of, recalled, with_loaded};
 
 /// Where a journal's entries and a history belong together, the tier that the entries leave stands over the history,
@@ -38,7 +40,8 @@ pub fn recalled_law()
 
 /// The journal stays the tier's where a session's transaction commits and its record is noted (`commits`), where the
 /// tail is flushed (`flushes`), or with a definition, a drop, a STATE or a flag behind it (`definitions`, `drops`, `states`,
-/// `flags`), and where the tier changes in what no entry tells (`quiet`). What was held is held.
+/// `flags`), where a round is done, with the tail flushed before, and transactions of others come (`round`), and where the
+/// tier changes in what no entry tells (`quiet`). What was held is held.
 pub fn journalled_law()
     ensures commits { (w : World) (early : List Sealed) (s : Session) → Stands w → IsJournalled w early
         → session_of w.tier s.label ≡ Some s → IsJournalledOn (with_commit_noted s w) early }
@@ -59,6 +62,17 @@ pub fn journalled_law()
     ensures flags { (w : World) (early : List Sealed) (name : List ℕ) (flag : Bool) (t : Tier) (new : Journal)
         → IsJournalled w early → IsFlushedWith (SetsLoaded name flag) w.journal new
         → IsQuiet (with_group name (with_loaded flag) w.tier) t → IsJournalledOn (with_flushed_entry t new w) early }
+    ensures round { (w : World) (early : List Sealed) (events : List Event) (later : List Entry) (left : List Sealed)
+        (moment : ℕ) (stands : Stands w) → IsJournalled w early → w.journal.tail ≡ []
+        → Follows stands.flow.stand.over.backing.schema (live_tables (live_groups_of w.tier.groups)) events w.history
+        w.tier.unsettled later left → IsJournalledOn (settled_to left moment (at_history later w)) early }
     ensures quiet { (w : World) (early : List Sealed) (t : Tier) → IsJournalled w early → IsQuiet w.tier t
         → IsJournalled (record w { tier = t }) early }
+{}
+
+/// What a crash leaves between two events: the entries that are flushed belong to the history, they leave the tier's
+/// catalog, and all commits that were held are held. By `recalled_law` the tier of these entries stands.
+pub fn crash_leaves_law()
+    ensures { (w : World) (early : List Sealed) (settings : Settings) (moment : ℕ) → Stands w → IsJournalled w early
+        → CrashLeaves w early settings moment }
 {}

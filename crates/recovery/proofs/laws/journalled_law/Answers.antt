@@ -1,6 +1,7 @@
 use Rattle.recovery.proofs.DroppedLaws.{drop_kept}
 use Rattle.recovery.proofs.CatalogLaws.{define_kept}
 use Rattle.recovery.proofs.JournalledLaws.{commits_kept, flushes_kept, loaded_kept, quiet_kept, state_kept}
+use Rattle.recovery.proofs.RoundedLaws.{round_kept}
 use Rattle.recovery.proofs.laws.journalled_law.Goals as goal
 
 pub returns-clause-commits : goal.returns-clause-commits
@@ -23,3 +24,6 @@ returns-clause-definitions c = define_kept
 
 pub returns-clause-drops : goal.returns-clause-drops
 returns-clause-drops c = drop_kept
+
+pub returns-clause-round : goal.returns-clause-round
+returns-clause-round c = round_kept
