@@ -169,7 +169,7 @@ module _ (w : World) (early : List Sealed) (j : IsJournalled w early) where
 
   -- a session's transaction commits
   module _ (s : Session) (stands : between.Stands w) (there : session_of w.tier s.label ≡ Some s) where
-    abbrev x : Sealed
+    abbrev pub x : Sealed
     x = sealed_own w.tier s
 
     abbrev entry : JournalEntry
@@ -184,13 +184,13 @@ module _ (w : World) (early : List Sealed) (j : IsJournalled w early) where
       is = ap (λ l. virtual_state w.history (log_in w.history l)) given_is ∙ ap (λ p. option_and_then (applied_sealed p) (state_of w.history)) (sym j.tie) ∙ stands.flow.stand.over.virtual_is;
     }
 
-    le : next_of (crash.given seen) ≤ w.tier.next
+    pub le : next_of (crash.given seen) ≤ w.tier.next
     le = subst (λ n. n ≤ w.tier.next) (next_is schema w.history (given w.journal) matched ∙ ap next_of (sym given_is)) j.next
 
-    applies : Applies v s.own
+    pub applies : Applies v s.own
     applies = found_applies v (is_labelled s.label) w.tier.sessions s there stands.sessions.virtual
 
-    on : are_on (live_tables (crash.live_of seen)) s.own ≡ true
+    pub on : are_on (live_tables (crash.live_of seen)) s.own ≡ true
     on = ap (λ l. are_on (live_tables (groups_of l)) s.own) given_is
         ∙ ops_same (live_tables (groups_of notes)) (live_tables (live_groups_of w.tier.groups)) (λ u. live u ∙ sym (Rattle.cache_tier.proofs.GroupTables.live_table w.tier.groups u)) s.own
         ∙ through_on w.tier.groups s.own
@@ -199,7 +199,7 @@ module _ (w : World) (early : List Sealed) (j : IsJournalled w early) where
     kept : StandsOn (with_seen_commit x seen) early
     kept = event_keeps seen (with_seen_commit x seen) early (commits x j.backing v applies.top over le applies.leads on) j.stands
 
-    fresh : has_ticket x.ticket.0 w.history ≡ false
+    pub fresh : has_ticket x.ticket.0 w.history ≡ false
     fresh = stands.flow.stand.over.below w.tier.next (omega arith)
 
     given_then : given (with_noted entry w.journal) ≡ given w.journal ++ entry ∷ []

@@ -6,3 +6,4 @@ pub mod CatalogLaws
 pub mod DroppedLaws
 pub mod RoundedLaws
 pub mod LeftLaws
+pub mod AtOnceLaws

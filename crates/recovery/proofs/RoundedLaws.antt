@@ -48,7 +48,7 @@ single (Some s) = refl
 leads_foreign : (h : List Entry) (ops : List Op) (b n : TableState) → state_of h ≡ Some b → state_of (h ++ Foreign ops ∷ []) ≡ Some n → applied_all ops b ≡ Some n
 leads_foreign h ops b n leaves is = sym (single (applied_all ops b)) ∙ sym (state_of-append h (Foreign ops ∷ []) ∙ ap (option_and_then (state_from (Foreign ops ∷ []))) leaves) ∙ is
 
-leads_own : (h : List Entry) (s : Sealed) (b n : TableState) → state_of h ≡ Some b → state_of (h ++ entry_of s ∷ []) ≡ Some n → applied_all s.ops b ≡ Some n
+pub leads_own : (h : List Entry) (s : Sealed) (b n : TableState) → state_of h ≡ Some b → state_of (h ++ entry_of s ∷ []) ≡ Some n → applied_all s.ops b ≡ Some n
 leads_own h s b n leaves is = sym (single (applied_all s.ops b)) ∙ sym (state_of-append h (entry_of s ∷ []) ∙ ap (option_and_then (state_from (entry_of s ∷ []))) leaves) ∙ is
 
 off_same : (a b : List TableId) → ((t : TableId) → is_one_of a t ≡ is_one_of b t) → (ops : List Op) → are_off a ops ≡ are_off b ops

@@ -1,16 +1,17 @@
 -- The journal's part of what holds of a tier between two events. (This project's rule.)
 
-use Rattle.std.specs.Prelude.{◌≡◌, ◌≤◌, ℕ, List, [], ◌∷◌, ◌++◌, true, Some, map}
+use Rattle.std.specs.Prelude.{◌≡◌, ◌⊎◌, ◌≤◌, ℕ, false, List, [], ◌∷◌, ◌++◌, true, Some, map}
 use Rattle.table_defs.specs.declared.definition.TableDef.{TableDef}
 use Rattle.table_state.specs.declared.history.Sealed.{Sealed}
-use Rattle.table_state.specs.Histories.{state_of}
+use Rattle.table_state.specs.Histories.{has_ticket, state_of}
+use Rattle.table_state.specs.Operations.{applied_all}
 use Rattle.table_state.specs.Tables.{TableState}
-use Rattle.order_laws.specs.Commits.{pending}
+use Rattle.order_laws.specs.Commits.{NoneConflicts, pending, virtual_state}
 use Rattle.recovery_laws.specs.Crashes.{IsLeft, Stands, World as Seen}
 use Rattle.recovery_laws.specs.Notes.{log_in}
 use Rattle.cache_tier.specs.CommitSteps.{committed_unsettled, sealed_own}
 use Rattle.cache_tier.specs.Groups.{Group}
-use Rattle.cache_tier.specs.Journals.{Commits, Journal, JournalEntry, next_behind, with_noted}
+use Rattle.cache_tier.specs.Journals.{Commits, Journal, JournalEntry, Prepares, next_behind, with_noted}
 use Rattle.cache_tier.specs.JournalWays.{given}
 use Rattle.cache_tier.specs.TierStates.{Session, Settings, Tier, opened}
 use Rattle.cache_tier.specs.Worlds.{World}
@@ -86,6 +87,25 @@ pub record IsQuiet (old new : Tier) : Type 0 where
 -- the tier has changed so, and the entry is flushed
 abbrev pub with_flushed_entry : Tier → Journal → World → World
 with_flushed_entry t j w = record w { tier = t; journal = j }
+
+-- A synchronous transaction may come now: its record is the last that is flushed, its ticket is new and above all before,
+-- it applies to the virtual state, and nothing pending conflicts with it.
+pub record IsPrepared (w : World) (s : Sealed) (front : List JournalEntry) : Type 0 where
+  pub flushed : w.journal.flushed ≡ front ++ Prepares s ∷ []
+  pub tail : w.journal.tail ≡ []
+  pub below : next_behind front ≤ s.ticket.0
+  pub fresh : has_ticket s.ticket.0 w.history ≡ false
+  pub meets : (b : TableState) → state_of w.history ≡ Some b → NoneConflicts b.schema (pending w.history w.tier.log) s
+  pub virtual : TableState
+  pub virtual_is : virtual_state w.history w.tier.log ≡ Some virtual
+  pub left : TableState
+  pub leads : applied_all s.ops virtual ≡ Some left
+
+-- the tier has been told that it came, or hasn't yet, as where its ticket is in doubt; else no entry tells what changed
+pub record IsToldAtOnce (s : Sealed) (old new : Tier) : Type 0 where
+  pub log : (new.log ≡ old.log) ⊎ (new.log ≡ old.log ++ s ∷ [])
+  pub next : old.next ≤ new.next
+  pub groups : AreAlike old.groups new.groups
 
 -- What a crash leaves now: the entries that are flushed match the history; they leave a catalog with the tier's
 -- definitions, STATEs and flags; and of the asynchronous commits they and the history hold those that were held, and none

@@ -1,7 +1,7 @@
 //! Laws of recovery, each on the contract of a function that does nothing. They are this project's rules, over recovery
 //! as the TimesTen Cache User's Guide tells of it.
 
-ghost use Rattle.std.specs.Prelude.{◌≡◌, Bool, ℕ, List, [], None, Some, true};
+ghost use Rattle.std.specs.Prelude.{◌≡◌, ◌++◌, ◌∷◌, Bool, ℕ, List, [], None, Some, true};
 ghost use Rattle.table_state.specs.declared.history.Entry.{Entry};
 ghost use Rattle.table_state.specs.declared.history.Sealed.{Sealed};
 ghost use Rattle.order_laws.specs.Events.{Event, Follows};
@@ -13,7 +13,10 @@ ghost use Rattle.cache_tier.specs.Definitions.{IsTreeOf, definition_names, place
 ghost use Rattle.cache_tier.specs.Dropping.{MayDrop};
 ghost use Rattle.cache_tier.specs.DropSteps.{without_group};
 ghost use Rattle.cache_tier.specs.Groups.{Group, definitions_of, is_called};
-ghost use Rattle.cache_tier.specs.Journals.{Defines, Drops, Journal, JournalEntry, SetsLoaded, SetsState};
+ghost use Rattle.cache_tier.specs.Journals.{Defines, Drops, Journal, JournalEntry, Prepares, SetsLoaded, SetsState};
+ghost use Rattle.cache_tier.specs.CommitSteps.{sealed_own};
+ghost use Rattle.cache_tier.specs.PassedSteps.{with_ticket};
+ghost use Rattle.table_state.specs.Histories.{entry_of};
 ghost use Rattle.instances.specs.declared.tree.Tree.{Tree};
 ghost use Rattle.sql_subset.specs.declared.stmt.CreateGroup.{CreateGroup};
 ghost use Rattle.cache_tier.specs.AlterSteps.{with_state};
@@ -22,7 +25,7 @@ ghost use Rattle.cache_tier.specs.Shown.{shown_state};
 ghost use Rattle.cache_tier.specs.StandingBetween.{Stands, live_groups_of};
 ghost use Rattle.cache_tier.specs.TierStates.{Session, Settings, Tier, opened, session_of, with_group};
 ghost use Rattle.cache_tier.specs.Worlds.{World};
-ghost use Rattle.recovery.specs.Journalled.{CrashLeaves, IsFlushed, IsFlushedWith, IsJournalled, IsJournalledOn, IsQuiet, with_commit_noted, with_flushed_entry};
+ghost use Rattle.recovery.specs.Journalled.{CrashLeaves, IsFlushed, IsFlushedWith, IsJournalled, IsJournalledOn, IsPrepared, IsQuiet, IsToldAtOnce, with_commit_noted, with_flushed_entry};
 ghost use Rattle.recovery.specs.Recalling.{AreMatched, RecallsAll, group_of, recalled, with_loaded};
 
 /// Where a journal's entries and a history belong together, the tier that the entries leave stands over the history,
@@ -40,8 +43,9 @@ pub fn recalled_law()
 
 /// The journal stays the tier's where a session's transaction commits and its record is noted (`commits`), where the
 /// tail is flushed (`flushes`), or with a definition, a drop, a STATE or a flag behind it (`definitions`, `drops`, `states`,
-/// `flags`), where a round is done, with the tail flushed before, and transactions of others come (`round`), and where the
-/// tier changes in what no entry tells (`quiet`). What was held is held.
+/// `flags`), where a round is done, with the tail flushed before, and transactions of others come (`round`), where a
+/// synchronous transaction's record is flushed (`prepares`) and it comes (`applies`), and where the tier changes in what
+/// no entry tells (`quiet`). What was held is held.
 pub fn journalled_law()
     ensures commits { (w : World) (early : List Sealed) (s : Session) → Stands w → IsJournalled w early
         → session_of w.tier s.label ≡ Some s → IsJournalledOn (with_commit_noted s w) early }
@@ -66,6 +70,13 @@ pub fn journalled_law()
         (moment : ℕ) (stands : Stands w) → IsJournalled w early → w.journal.tail ≡ []
         → Follows stands.flow.stand.over.backing.schema (live_tables (live_groups_of w.tier.groups)) events w.history
         w.tier.unsettled later left → IsJournalledOn (settled_to left moment (at_history later w)) early }
+    ensures prepares { (w : World) (early : List Sealed) (s : Session) (t : Tier) (new : Journal) → Stands w
+        → IsJournalled w early → session_of w.tier s.label ≡ Some s
+        → IsFlushedWith (Prepares (sealed_own w.tier s)) w.journal new → IsQuiet (with_ticket w.tier) t
+        → IsJournalledOn (with_flushed_entry t new w) early }
+    ensures applies { (w : World) (early : List Sealed) (s : Sealed) (front : List JournalEntry) (t : Tier)
+        → IsJournalled w early → IsPrepared w s front → IsToldAtOnce s w.tier t
+        → IsJournalledOn (at_history (w.history ++ entry_of s ∷ []) (record w { tier = t })) early }
     ensures quiet { (w : World) (early : List Sealed) (t : Tier) → IsJournalled w early → IsQuiet w.tier t
         → IsJournalled (record w { tier = t }) early }
 {}

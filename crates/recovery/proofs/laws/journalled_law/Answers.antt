@@ -1,3 +1,4 @@
+use Rattle.recovery.proofs.AtOnceLaws.{at_once_kept, prepare_kept}
 use Rattle.recovery.proofs.DroppedLaws.{drop_kept}
 use Rattle.recovery.proofs.CatalogLaws.{define_kept}
 use Rattle.recovery.proofs.JournalledLaws.{commits_kept, flushes_kept, loaded_kept, quiet_kept, state_kept}
@@ -27,3 +28,9 @@ returns-clause-drops c = drop_kept
 
 pub returns-clause-round : goal.returns-clause-round
 returns-clause-round c = round_kept
+
+pub returns-clause-prepares : goal.returns-clause-prepares
+returns-clause-prepares c = prepare_kept
+
+pub returns-clause-applies : goal.returns-clause-applies
+returns-clause-applies c = at_once_kept
