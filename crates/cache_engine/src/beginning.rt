@@ -9,6 +9,7 @@ use cache_tier::opened_law;
 use group_catalog::Catalog;
 use open_sessions::Sessions;
 use outside::{BankError, Site};
+use pending_writes::PendingWrites;
 use std::alloc::{AllocError, Global};
 use std::collections::VecDeque;
 use stored_tier::clock::TierClock;
@@ -71,6 +72,7 @@ fn new_tier(
         directory,
         sessions: Sessions::new(alloc),
         unsettled: VecDeque::new(alloc),
+        writers: PendingWrites::new(alloc),
         next: 1,
         clock: new_clock(alloc, start, propagate_ms),
         verified: false,

@@ -351,6 +351,7 @@ pub record IsBeside (t t' : Stored) : Type 0 where
   pub stale : t'.stale ≡ t.stale
   pub sessions : t'.sessions ≡ t.sessions
   pub unsettled : t'.unsettled ≡ t.unsettled
+  pub writers : t'.writers ≡ t.writers
   pub next : t'.next ≡ t.next
   pub clock : t'.clock ≡ t.clock
 

@@ -59,6 +59,7 @@ use Rattle.stored_tier.proofs.OwnSeen.{NumberLaw, own_found}
 use Rattle.stored_tier.proofs.QuietLaws.{its_session, stands_still}
 use Rattle.stored_tier.proofs.SessionLaws.{ChangeLaw, session_changed}
 use Rattle.stored_tier.proofs.SettlingLaws.{name_of_table}
+use Rattle.stored_tier.proofs.WriterLaws.{writers_drawn}
 use Rattle.stored_tier.proofs.StandingLaws.{last_at_once, performed_behind, slots_kept}
 use Rattle.session_engine.specs.declared.at_once.Ready.{Ready}
 use Rattle.session_engine.specs.declared.doubt.Doubt.{Doubt}
@@ -91,6 +92,7 @@ sound_drawn t sound = record {
   visible = sound.visible;
   numbered = rise_more 1 t.next t.unsettled.items sound.numbered;
   later = sound.later;
+  writers = writers_drawn t.schema t.writers t.next t.unsettled.items sound.writers;
   verified = λ e. let v = sound.verified e in record { rows = v.rows; own = v.own };
 }
 

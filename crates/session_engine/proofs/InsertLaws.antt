@@ -39,7 +39,7 @@ use Rattle.cache_tier.proofs.PendingRows.{all_written}
 use Rattle.cache_tier.proofs.SessionLaws.{known}
 use Rattle.session_engine.specs.Inserting.{HasWriter, leaves_row, writes_key}
 
-abbrev at_key : TableId → List Value → RowKey
+abbrev pub at_key : TableId → List Value → RowKey
 at_key t key = record { table = t; key = key }
 
 -- none of several transactions writes a key

@@ -17,3 +17,4 @@ pub mod QueryLaws
 pub mod SelectLaws
 pub mod WaitingLaws
 pub mod WriteLaws
+pub mod WriterLaws
