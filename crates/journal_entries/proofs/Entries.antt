@@ -5,7 +5,7 @@ use Rattle.std.specs.Int.{Width, w16, w32, w64, to_be_bytes}
 use Rattle.std.proofs.lemmas.Bool.{ltb-true, eqb-true, ne_eqb, lt-ltb, le-leb, leb-true}
 use Rattle.std.proofs.lemmas.Option.{cond_some, same_Some}
 use Rattle.tier_base.specs.declared.number.Ticket.{Ticket}
-use Rattle.journal_entries.specs.declared.value.Value.{Value}
+use Rattle.row_types.specs.declared.value.Value.{Value}
 use Rattle.journal_entries.specs.declared.entry.Op.{Op}
 use Rattle.journal_entries.specs.declared.entry.Op.TheVariants.{Insert, Update, Delete}
 use Rattle.journal_entries.specs.declared.entry.GroupState.{GroupState}

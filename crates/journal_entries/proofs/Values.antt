@@ -10,9 +10,9 @@ use Rattle.std.specs.Int.Signed.{lt_z, lt_z_no, lt_z_yes}
 use Rattle.std.proofs.lemmas.Float.{T_from_true}
 use Rattle.std.proofs.lemmas.Int.{ints}
 use Rattle.row_types.specs.Times.{IsTime}
-use Rattle.journal_entries.specs.declared.value.Number.{Number as OneNumber}
-use Rattle.journal_entries.specs.declared.value.Value.{Value}
-use Rattle.journal_entries.specs.declared.value.Value.TheVariants.{Null, Number, Text, Time}
+use Rattle.numbers.specs.Decimals.{Decimal as OneNumber}
+use Rattle.row_types.specs.declared.value.Value.{Value}
+use Rattle.row_types.specs.declared.value.Value.TheVariants.{Null, Number, Text, Time}
 use Rattle.journal_entries.specs.Spelling.{IsBytes, signed_bytes, value_bytes, row_bytes, IsScale, IsValue, IsRow}
 use Rattle.journal_entries.specs.Reading.{◌>>=◌, as_at, both_at, then_at, test_at, code_at, many_at, byte_at, number_at, bytes_at, signed_at, name_at, integer_at, string_at, is_text, text_at, is_time, time_at, is_scale, scaled_at, tagged_value_at, value_at, row_at}
 use Rattle.journal_entries.proofs.Exact.{Takes, Takes-then, Exact, bind_some, exact_both, exact_then, exact_test, exact_code, exact_many, as_takes, as_again, wide16, exact_number, exact_byte, exact_bytes, exact_signed, IsBytes-rest}

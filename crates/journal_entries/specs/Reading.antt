@@ -6,8 +6,8 @@ use Rattle.std.specs.Str.{is_utf8}
 use Rattle.tier_base.specs.declared.number.Ticket.{Ticket}
 use Rattle.journal_entries.specs.declared.fault.ReadError.{ReadError}
 use Rattle.journal_entries.specs.declared.fault.ReadError.TheVariants.{Bad, Memory}
-use Rattle.journal_entries.specs.declared.value.Value.{Value}
-use Rattle.journal_entries.specs.declared.value.Value.TheVariants.{Null, Number, Text, Time}
+use Rattle.row_types.specs.declared.value.Value.{Value}
+use Rattle.row_types.specs.declared.value.Value.TheVariants.{Null, Number, Text, Time}
 use Rattle.journal_entries.specs.declared.entry.Op.{Op}
 use Rattle.journal_entries.specs.declared.entry.Op.TheVariants.{Insert, Update, Delete}
 use Rattle.journal_entries.specs.declared.entry.GroupState.{GroupState}
