@@ -1,0 +1,5 @@
+pub mod Lists
+pub mod SizeLaws
+pub mod WrittenLaws
+pub mod BatchLaws
+pub mod KeepLaws

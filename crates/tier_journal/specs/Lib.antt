@@ -1,0 +1,5 @@
+pub mod Writing
+pub mod Batches
+pub mod Keeping
+pub mod Leaving
+pub mod Opening
