@@ -10,7 +10,7 @@ ghost use Rattle.tier_journal.specs.Batches.{Adds, CanFollow};
 ghost use Rattle.tier_journal.specs.Writing.{HasTables, written, written_ops, written_state};
 
 use crate::batch::Batch;
-use crate::writing::push_ops;
+use crate::writing::{push_ops, reserve};
 use journal_entries::writing::{put_byte, put_bytes, put_entry};
 use journal_entries::{Bytes, Entry, GroupState, Standing, entry_size};
 use sql_subset::stmt::RefreshState;
@@ -61,19 +61,11 @@ impl Batch {
         ensures { IfOk result (λ batch. (schema : List OneTable) (e : TierEntry) → HasTables schema e
             → written schema e ≡ entry.now → Adds schema self batch e) }
     {
-        let Batch {
-            begins,
-            standing,
-            bytes,
-        } = self;
-        let mut bytes = bytes;
-        bytes.reserve(entry_size(entry) as usize)?;
-        put_entry(&mut bytes, entry);
-        Ok(Batch {
-            begins,
-            standing: standing.behind(entry),
-            bytes,
-        })
+        let mut batch = self;
+        reserve(&mut batch.bytes, entry_size(entry))?;
+        put_entry(&mut batch.bytes, entry);
+        batch.standing = batch.standing.behind(entry);
+        Ok(batch)
     }
 
     /// With a commit of asynchronous writes behind the others.
@@ -81,21 +73,13 @@ impl Batch {
         requires { CanFollow schema.now self (Commits sealed.now) }
         ensures { IfOk result (λ batch. Adds schema.now self batch (Commits sealed.now)) }
     {
-        let Batch {
-            begins,
-            standing: _,
-            bytes,
-        } = self;
-        let mut bytes = bytes;
-        push_transaction(&mut bytes, 1, schema, sealed)?;
-        Ok(Batch {
-            begins,
-            standing: Standing {
-                first: false,
-                last: sealed.ticket.0,
-            },
-            bytes,
-        })
+        let mut batch = self;
+        push_transaction(&mut batch.bytes, 1, schema, sealed)?;
+        batch.standing = Standing {
+            first: false,
+            last: sealed.ticket.0,
+        };
+        Ok(batch)
     }
 
     /// With synchronous writes that are to be applied behind the others.
@@ -103,21 +87,13 @@ impl Batch {
         requires { CanFollow schema.now self (Prepares sealed.now) }
         ensures { IfOk result (λ batch. Adds schema.now self batch (Prepares sealed.now)) }
     {
-        let Batch {
-            begins,
-            standing: _,
-            bytes,
-        } = self;
-        let mut bytes = bytes;
-        push_transaction(&mut bytes, 2, schema, sealed)?;
-        Ok(Batch {
-            begins,
-            standing: Standing {
-                first: false,
-                last: sealed.ticket.0,
-            },
-            bytes,
-        })
+        let mut batch = self;
+        push_transaction(&mut batch.bytes, 2, schema, sealed)?;
+        batch.standing = Standing {
+            first: false,
+            last: sealed.ticket.0,
+        };
+        Ok(batch)
     }
 
     /// With the number of a passed-on write behind the others.

@@ -24,8 +24,8 @@ fn name_in(schema: &[TableDef], table: TableId) -> &[u8]
     }
 }
 
-/// Takes memory for so many bytes.
-fn reserve(out: &mut Vec<u8>, bytes: u64) -> Result<(), AllocError>
+/// Takes memory for so many bytes more.
+pub(crate) fn reserve(out: &mut Vec<u8>, bytes: u64) -> Result<(), AllocError>
     ensures room { OnOk result ((size : ℕ) → bytes ≡ capped size → length out.new.items + size ≤ vec_capacity out.new) }
     ensures items { out.new.items ≡ out.old.items }
 {
