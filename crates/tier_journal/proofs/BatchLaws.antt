@@ -1,5 +1,5 @@
 -- An entry behind those of a batch.
-use Rattle.std.proofs.Common.{◌≡◌, ℕ, true, List, [], ◌∷◌, ◌++◌, map, refl, sym, ap, subst, ◌∙◌}
+use Rattle.std.proofs.Common.{◌≡◌, ℕ, true, List, [], ◌∷◌, ◌++◌, map, refl, sym, ap, subst, ◌∙◌, append_assoc}
 use Rattle.std.specs.List.{AllByRecursion, flat_map}
 use Rattle.std.proofs.lemmas.Grind.{flat_map-append}
 use Rattle.std.proofs.lemmas.List.{append-nil, map-append}
@@ -29,6 +29,12 @@ spells_push version s bytes t entries e h is f = record {
   behind = ap (λ (x : Standing). behind x e) h.behind ∙ sym (behind_append s entries (e ∷ []));
 }
 
+-- four parts, one behind the other
+pub four_parts : (x a b c d t n f : List ℕ) (tag : ℕ) → a ≡ x ++ tag ∷ [] → b ≡ a ++ t → c ≡ b ++ n → d ≡ c ++ f → d ≡ x ++ tag ∷ (t ++ (n ++ f))
+four_parts x a b c d t n f tag one two three four =
+    four ∙ ap (λ l. l ++ f) (three ∙ ap (λ l. l ++ n) (two ∙ ap (λ l. l ++ t) one))
+    ∙ append_assoc ((x ++ tag ∷ []) ++ t) n f ∙ append_assoc (x ++ tag ∷ []) t (n ++ f) ∙ append_assoc x (tag ∷ []) (t ++ (n ++ f))
+
 pub added : (schema : List TableDef) (old new : Batch) (e : JournalEntry) → HasTables schema e → follows old.standing (written schema e) ≡ true → new.begins ≡ old.begins → new.standing ≡ behind old.standing (written schema e)
     → new.bytes.items ≡ old.bytes.items ++ entry_bytes (written schema e) → Adds schema old new e
 added schema old new e tables f begins standing bytes = record {
@@ -40,3 +46,10 @@ added schema old new e tables f begins standing bytes = record {
       subst (λ (l : List Entry). Spells version old.begins (old.bytes.items ++ entry_bytes (written schema e)) (behind old.standing (written schema e)) l) (sym (map-append (written schema) entries (e ∷ []))) one in
       record { spells = rw (begins, standing, bytes) two; tables = all_append (HasTables schema) entries (e ∷ []) h.tables (tables, tt) };
 }
+
+-- the batch's bytes, behind this standing
+pub spells_as : (version : ℕ) (schema : List TableDef) (b : Batch) (entries : List JournalEntry) → Holds version schema b entries → (s : Standing) → b.begins ≡ s → (bytes : List ℕ) → bytes ≡ b.bytes.items
+    → Spells version s bytes b.standing (written_all schema entries)
+spells_as version schema b entries h s begins bytes is =
+    subst (λ (x : Standing). Spells version x bytes b.standing (written_all schema entries)) begins
+    (subst (λ (l : List ℕ). Spells version b.begins l b.standing (written_all schema entries)) (sym is) h.spells)

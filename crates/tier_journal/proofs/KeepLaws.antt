@@ -1,7 +1,7 @@
 -- What a journal keeps.
-use Rattle.std.proofs.Common.{◌≡◌, ◌⊎◌, ◌↔◌, ℕ, ◌+◌, ◌-◌, ◌^◌, ◌<◌, ◌≤◌, Bool, true, false, ◌||◌, eqb, cond, List, [], ◌∷◌, ◌++◌, length, drop, map, refl, sym, ap, subst, ◌∙◌, append_assoc, arith, inl, inr}
+use Rattle.std.proofs.Common.{◌≡◌, ◌⊎◌, ◌↔◌, ℕ, ◌+◌, ◌-◌, ◌^◌, ◌<◌, ◌≤◌, Bool, true, false, ◌&&◌, ◌||◌, eqb, ltb, cond, List, [], ◌∷◌, ◌++◌, length, drop, map, refl, sym, ap, subst, ◌∙◌, append_assoc, arith, inl, inr}
 use Rattle.std.specs.List.{AllByRecursion, flat_map}
-use Rattle.std.proofs.lemmas.Bool.{eqb-refl, lt-ltb, ltb-true, ne_eqb}
+use Rattle.std.proofs.lemmas.Bool.{lt-ltb, ltb-true, ne_eqb}
 use Rattle.std.proofs.lemmas.Grind.{flat_map-append}
 use Rattle.std.proofs.lemmas.List.{append-nil, length-append, length-drop, map-append}
 use Rattle.table_defs.specs.declared.definition.TableDef.{TableDef}
@@ -10,13 +10,16 @@ use Rattle.outside.specs.Holding.{Held, Slots}
 use Rattle.outside.specs.Sites.{SiteState}
 use Rattle.outside.proofs.Moments.{weaker}
 use Rattle.journal_entries.specs.declared.entry.Entry.{Entry}
+use Rattle.journal_entries.specs.declared.standing.Standing.{Standing}
+use Rattle.journal_entries.specs.Bodies.{beginning, behind_all, rises}
 use Rattle.journal_entries.specs.Spelling.{entry_bytes}
 use Rattle.journal_entries.proofs.BodyLaws.{some_bytes}
 use Rattle.commit_journal.specs.declared.journal.Journal as commit
 use Rattle.commit_journal.specs.Layout.{Gives}
 use Rattle.commit_journal.specs.Resting.{AtRest, HasFlushed, IsPastLimit, MidFlush, Rested, gate_behind}
 use Rattle.commit_journal.specs.Turning.{HasRenewed, MidRotation}
-use Rattle.cache_tier.specs.Journals.{Journal, JournalEntry, body_size, entry_size, flushed_batch, flushed_with, is_full, rotated}
+use Rattle.commit_journal.proofs.StandingLaws.{rest_standing}
+use Rattle.cache_tier.specs.Journals.{Journal, JournalEntry, body_size, entry_size, flushed_batch, flushed_with, is_full, next_behind, rotated}
 use Rattle.cache_tier.specs.JournalSteps.{name_size}
 use Rattle.tier_journal.specs.declared.batch.Batch.{Batch}
 use Rattle.tier_journal.specs.declared.journal.TierJournal.{TierJournal}
@@ -26,7 +29,7 @@ use Rattle.tier_journal.specs.Leaving.{GivesEither, GivesEntries, LeftByFlush, L
 use Rattle.tier_journal.specs.Writing.{HasTables, written, written_all}
 use Rattle.tier_journal.proofs.Lists.{all_append, all_back, all_front}
 use Rattle.tier_journal.proofs.SizeLaws.{body_is, entry_is}
-use Rattle.tier_journal.proofs.WrittenLaws.{all_grown, all_stay}
+use Rattle.tier_journal.proofs.WrittenLaws.{all_grown, all_stay, last_next}
 
 or_is : (a b : Bool) → (a || b) ≡ true → (a ≡ true) ⊎ (b ≡ true)
 or_is true b h = inl refl
@@ -59,14 +62,32 @@ module _ (schema : List TableDef) (t : TierJournal) (slots : Slots) (j : Journal
       ∙ ap (λ n. n + length (flat_map entry_bytes (written_all schema entries))) (tail_is t.journal slots (written_all schema j.flushed) (written_all schema j.tail) k.rests)
       ∙ ap (λ (l : List ℕ). (length t.journal.staged.items - 4) + length l) (sym h.spells.are)
 
+  abbrev size : ℕ
+  size = body_size (name_size schema) (j.tail ++ entries)
+
+  abbrev length_with : ℕ
+  length_with = j.written + 5 + size
+
+  long_body : (2 ^ 24 + 4 < length t.journal.staged.items + batch_size b) → 2 ^ 24 < size
+  long_body long = omega (arith, size_is, least, long)
+
+  long_slot : (2 ^ 30 < t.journal.gate + (length t.journal.staged.items + batch_size b) + 2) → 2 ^ 30 < length_with
+  long_slot long = omega (arith, size_is, least, long, k.written)
+
+  body_long : 2 ^ 24 < size → (2 ^ 24 + 4 < length t.journal.staged.items + batch_size b)
+  body_long long = omega (arith, size_is, least, long)
+
+  slot_long : 2 ^ 30 < length_with → (2 ^ 30 < t.journal.gate + (length t.journal.staged.items + batch_size b) + 2)
+  slot_long long = omega (arith, size_is, least, long, k.written)
+
   pub past_full : IsTooMuch t b → is_full (name_size schema) j entries ≡ true
-  past_full (inl long) = or_left _ _ (lt-ltb _ _ (omega (arith, size_is, least, long)))
-  past_full (inr long) = or_right _ _ (lt-ltb _ _ (omega (arith, size_is, least, long, k.written)))
+  past_full (inl long) = or_left (ltb (2 ^ 24) size) (ltb (2 ^ 30) length_with) (lt-ltb (2 ^ 24) size (long_body long))
+  past_full (inr long) = or_right (ltb (2 ^ 24) size) (ltb (2 ^ 30) length_with) (lt-ltb (2 ^ 30) length_with (long_slot long))
 
   pub full_past : is_full (name_size schema) j entries ≡ true → IsTooMuch t b
-  full_past full = elim (or_is _ _ full) [
-    | inl e ↦ inl (let l = ltb-true _ _ e in omega (arith, size_is, least, l))
-    | inr e ↦ inr (let l = ltb-true _ _ e in omega (arith, size_is, least, l, k.written))
+  full_past full = elim (or_is (ltb (2 ^ 24) size) (ltb (2 ^ 30) length_with) full) [
+    | inl e ↦ inl (body_long (ltb-true (2 ^ 24) size e))
+    | inr e ↦ inr (slot_long (ltb-true (2 ^ 30) length_with e))
   ]
 
 -- ---- the tail
@@ -200,3 +221,16 @@ kept_grown schema more t slots j k =
       generation = k.generation;
       tables = all_stay schema more (j.flushed ++ j.tail) k.tables;
     }
+
+-- ---- the next ticket
+
+pub may_follow : (schema : List TableDef) (t : TierJournal) (slots : Slots) (j : Journal) (ticket : ℕ) → Keeps schema t slots j → next_behind (j.flushed ++ j.tail) ≤ ticket → ticket < 2 ^ 63 → rises t.journal.standing (record { 0 = ticket }) ≡ true
+may_follow schema t slots j ticket k least small =
+    let is : t.journal.standing ≡ behind_all beginning (written_all schema (j.flushed ++ j.tail)) =
+    rest_standing t.journal slots (written_all schema j.flushed) (written_all schema j.tail) k.rests ∙ ap (λ (l : List Entry). behind_all beginning l) (sym (map-append (written schema) j.flushed j.tail)) in
+    let last = last_next schema beginning 1 (j.flushed ++ j.tail) (omega arith) in
+    let below : t.journal.standing.last < ticket = subst (λ (s : Standing). s.last < ticket) (sym is) (omega (arith, last, least)) in
+    both (ltb t.journal.standing.last ticket) (ltb ticket (2 ^ 63)) (lt-ltb t.journal.standing.last ticket below) (lt-ltb ticket (2 ^ 63) small)
+  where
+    both : (a b : Bool) → a ≡ true → b ≡ true → (a && b) ≡ true
+    both a b x y = rw (x, y) refl

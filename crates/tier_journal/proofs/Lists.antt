@@ -20,6 +20,10 @@ pub all_weaker : {X : Type 0} (P Q : X → Type 0) → ((x : X) → P x → Q x)
 all_weaker P Q f [] h = tt
 all_weaker P Q f (x ∷ xs) h = (f x h.0, all_weaker P Q f xs h.1)
 
+pub all_mapped : {X Y : Type 0} (P : Y → Type 0) (f : X → Y) (xs : List X) → AllByRecursion P (map f xs) → AllByRecursion (λ x. P (f x)) xs
+all_mapped P f [] h = tt
+all_mapped P f (x ∷ xs) h = (h.0, all_mapped P f xs h.1)
+
 -- what is mapped alike
 pub map_same : {X Y : Type 0} (P : X → Type 0) (f g : X → Y) → ((x : X) → P x → f x ≡ g x) → (xs : List X) → AllByRecursion P xs → map f xs ≡ map g xs
 map_same P f g same [] h = refl

@@ -1,5 +1,5 @@
 -- The sizes of entries are the lengths of their bytes.
-use Rattle.std.proofs.Common.{◌≡◌, ℕ, ◌+◌, Option, Some, None, Bool, true, false, List, [], ◌∷◌, ◌++◌, length, map, refl, sym, ap, ◌∙◌, arith}
+use Rattle.std.proofs.Common.{◌≡◌, ◌⊎◌, ℕ, ◌+◌, Option, Some, None, Bool, true, false, List, [], ◌∷◌, ◌++◌, length, map, refl, sym, ap, ◌∙◌, arith, inl, inr}
 use Rattle.std.specs.Prelude.{slice_get, sum_by}
 use Rattle.std.specs.Int.{w16, w32, w64, to_be_bytes}
 use Rattle.std.specs.List.{flat_map}
@@ -15,10 +15,10 @@ use Rattle.table_state.specs.declared.operation.Op.TheVariants.{Insert, Update, 
 use Rattle.table_state.specs.declared.history.Sealed.{Sealed}
 use Rattle.table_state.specs.Operations.{table_of}
 use Rattle.journal_entries.specs.declared.entry.Entry.{Entry}
-use Rattle.journal_entries.specs.Spelling.{entry_bytes, name_bytes, op_bytes, row_bytes, signed_bytes, value_bytes}
+use Rattle.journal_entries.specs.Spelling.{entry_bytes, flag_byte, name_bytes, op_bytes, row_bytes, signed_bytes, state_byte, value_bytes}
 use Rattle.cache_tier.specs.Journals.{JournalEntry, Commits, Prepares, Numbers, Marks, Defines, Drops, SetsState, SetsLoaded, body_size, entry_size, op_size, row_size, sealed_size, value_size}
 use Rattle.cache_tier.specs.JournalSteps.{name_size}
-use Rattle.tier_journal.specs.Writing.{name_in, name_of, written, written_all, written_op, written_ops}
+use Rattle.tier_journal.specs.Writing.{name_in, name_of, written, written_all, written_op, written_ops, written_state}
 
 -- the sum of sizes that are lengths
 sums_are : {X : Type 0} (size : X → ℕ) (spell : X → List ℕ) → ((x : X) → size x ≡ length (spell x)) → (xs : List X) → sum_by size xs ≡ length (flat_map spell xs)
@@ -36,8 +36,12 @@ value_is (Time seconds) = refl
 row_is : (row : List Value) → row_size row ≡ length (row_bytes row)
 row_is row = let s = sums_are value_size value_bytes value_is row in omega (arith, s)
 
+option_case : {X : Type 0} (o : Option X) → (o ≡ None) ⊎ ((x : X) × (o ≡ Some x))
+option_case None = inl refl
+option_case (Some x) = inr (x, refl)
+
 name_is : (schema : List TableDef) (op : Op) → name_size schema op ≡ length (name_in schema (table_of op))
-name_is schema op = elim (slice_get schema (table_of op).0) [ None ↦ refl | Some def ↦ refl ]
+name_is schema op = elim (option_case (slice_get schema (table_of op).0)) [ inl e ↦ rw e refl | inr x ↦ rw x.1 refl ]
 
 op_is : (schema : List TableDef) (op : Op) → op_size (name_size schema op) op ≡ length (op_bytes (written_op schema op))
 op_is schema (Insert t row) =
@@ -66,8 +70,8 @@ entry_is schema (Numbers t) = refl
 entry_is schema (Marks t) = refl
 entry_is schema (Defines d text) = omega arith
 entry_is schema (Drops g) = omega arith
-entry_is schema (SetsState g state) = omega (arith, length-append g (0 ∷ []))
-entry_is schema (SetsLoaded g flag) = omega (arith, length-append g (0 ∷ []))
+entry_is schema (SetsState g state) = omega (arith, length-append g (state_byte (written_state state) ∷ []))
+entry_is schema (SetsLoaded g flag) = omega (arith, length-append g (flag_byte flag ∷ []))
 
 pub body_is : (schema : List TableDef) (entries : List JournalEntry) → body_size (name_size schema) entries ≡ length (flat_map entry_bytes (written_all schema entries))
 body_is schema entries =

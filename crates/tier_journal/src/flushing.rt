@@ -29,7 +29,8 @@ impl TierJournal {
         ensures version { OnOk result (version_in self.new ≡ version_in self.old) }
         ensures cause { DiskHasCause (D.state d.old) (D.state d.new) result }
     {
-        self.journal.flush(d)
+        self.journal.flush(d)?;
+        Ok(())
     }
 
     /// Puts the tail and the batch's entries on the disk as one batch. Room was made for them. It takes no memory. After
@@ -50,6 +51,7 @@ impl TierJournal {
         ensures cause { DiskHasCause (D.state d.old) (D.state d.new) result }
     {
         self.note(batch);
-        self.flush(d)
+        self.flush(d)?;
+        Ok(())
     }
 }

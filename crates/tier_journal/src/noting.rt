@@ -1,6 +1,6 @@
 //! Room for entries, and entries in the tail.
 
-ghost use Rattle.std.specs.Prelude.{◌≡◌, ◌↔◌, List, true, Err, OnOk};
+ghost use Rattle.std.specs.Prelude.{◌≡◌, ◌↔◌, ℕ, List, true, Err, OnOk};
 ghost use Rattle.table_defs.specs.declared.definition.TableDef.{TableDef};
 ghost use Rattle.outside.specs.Holding.{Slots};
 ghost use Rattle.commit_journal.specs.declared.fault.ReserveError.TheVariants.{Limit};

@@ -1,6 +1,6 @@
 //! Putting entries into a batch. Each call fails for want of memory alone; the batch is gone then.
 
-ghost use Rattle.std.specs.Prelude.{◌≡◌, ◌∷◌, ◌++◌, List, IfOk, OnOk, true};
+ghost use Rattle.std.specs.Prelude.{◌≡◌, ◌<◌, ◌^◌, [], ◌∷◌, ◌++◌, List, IfOk, OnOk, length, true};
 ghost use Rattle.table_defs.specs.declared.definition.TableDef.{TableDef as OneTable};
 ghost use Rattle.sql_subset.specs.declared.stmt.CreateGroup.{CreateGroup};
 ghost use Rattle.journal_entries.specs.Bodies.{follows};
@@ -50,7 +50,8 @@ fn push_transaction(
     put_byte(out, tag);
     put_bytes(out, &sealed.ticket.0.to_be_bytes());
     put_bytes(out, &(sealed.ops.len() as u16).to_be_bytes());
-    push_ops(out, schema, sealed.ops.as_slice())
+    push_ops(out, schema, sealed.ops.as_slice())?;
+    Ok(())
 }
 
 impl Batch {
@@ -98,37 +99,41 @@ impl Batch {
 
     /// With the number of a passed-on write behind the others.
     pub fn with_number(self, ticket: Ticket) -> Result<Batch, AllocError>
-        requires { (schema : List OneTable) → CanFollow schema self (Numbers ticket.0) }
+        requires { CanFollow [] self (Numbers ticket.0) }
         ensures { IfOk result (λ batch. (schema : List OneTable) → Adds schema self batch (Numbers ticket.0)) }
     {
-        self.with_entry(&Entry::Passed(ticket))
+        let batch = self.with_entry(&Entry::Passed(ticket))?;
+        Ok(batch)
     }
 
     /// With the next ticket, where the batch begins a slot.
     pub fn with_mark(self, next: Ticket) -> Result<Batch, AllocError>
-        requires { (schema : List OneTable) → CanFollow schema self (Marks next.0) }
+        requires { CanFollow [] self (Marks next.0) }
         ensures { IfOk result (λ batch. (schema : List OneTable) → Adds schema self batch (Marks next.0)) }
     {
-        self.with_entry(&Entry::Mark(next))
+        let batch = self.with_entry(&Entry::Mark(next))?;
+        Ok(batch)
     }
 
     /// With the definition of a group, by its text, behind the others.
     pub fn with_definition(self, alloc: Global, text: &[u8]) -> Result<Batch, AllocError>
-        requires { (schema : List OneTable) (def : CreateGroup) → CanFollow schema self (Defines def text.now) }
+        requires { length text.now < 2 ^ 32 }
         ensures { IfOk result (λ batch. (schema : List OneTable) (def : CreateGroup)
             → Adds schema self batch (Defines def text.now)) }
     {
         let text = copied(alloc, text)?;
-        self.with_entry(&Entry::Defined(text))
+        let batch = self.with_entry(&Entry::Defined(text))?;
+        Ok(batch)
     }
 
     /// With the drop of a group behind the others.
     pub fn with_drop(self, alloc: Global, name: &[u8]) -> Result<Batch, AllocError>
-        requires { (schema : List OneTable) → CanFollow schema self (Drops name.now) }
+        requires { length name.now < 2 ^ 8 }
         ensures { IfOk result (λ batch. (schema : List OneTable) → Adds schema self batch (Drops name.now)) }
     {
         let name = copied(alloc, name)?;
-        self.with_entry(&Entry::Dropped(name))
+        let batch = self.with_entry(&Entry::Dropped(name))?;
+        Ok(batch)
     }
 
     /// With the STATE of a group behind the others.
@@ -138,19 +143,21 @@ impl Batch {
         name: &[u8],
         state: RefreshState,
     ) -> Result<Batch, AllocError>
-        requires { (schema : List OneTable) → CanFollow schema self (SetsState name.now state) }
+        requires { length name.now < 2 ^ 8 }
         ensures { IfOk result (λ batch. (schema : List OneTable) → Adds schema self batch (SetsState name.now state)) }
     {
         let name = copied(alloc, name)?;
-        self.with_entry(&Entry::Turned(name, written_state(state)))
+        let batch = self.with_entry(&Entry::Turned(name, written_state(state)))?;
+        Ok(batch)
     }
 
     /// With whether a group is loaded behind the others.
     pub fn with_loaded(self, alloc: Global, name: &[u8], flag: bool) -> Result<Batch, AllocError>
-        requires { (schema : List OneTable) → CanFollow schema self (SetsLoaded name.now flag) }
+        requires { length name.now < 2 ^ 8 }
         ensures { IfOk result (λ batch. (schema : List OneTable) → Adds schema self batch (SetsLoaded name.now flag)) }
     {
         let name = copied(alloc, name)?;
-        self.with_entry(&Entry::Loaded(name, flag))
+        let batch = self.with_entry(&Entry::Loaded(name, flag))?;
+        Ok(batch)
     }
 }

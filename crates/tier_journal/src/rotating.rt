@@ -43,6 +43,7 @@ impl TierJournal {
         ensures limit { (result ≡ Err Limit) ↔ IsPastSlot self.old batch.now }
         ensures cause { RotateHasCause (D.state d.old) (D.state d.new) result }
     {
-        self.journal.renew(alloc, d, &batch.bytes, batch.standing)
+        self.journal.renew(alloc, d, &batch.bytes, batch.standing)?;
+        Ok(())
     }
 }

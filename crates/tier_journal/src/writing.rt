@@ -4,7 +4,7 @@ ghost use Rattle.std.specs.Prelude.{◌≡◌, ◌+◌, ◌≤◌, ℕ, ◌∷�
 ghost use Rattle.std.specs.List.{AllByRecursion, flat_map};
 ghost use Rattle.journal_entries.specs.Sizes.{capped};
 ghost use Rattle.journal_entries.specs.Spelling.{IsName, IsOp, IsRow, name_bytes, op_bytes, row_bytes};
-ghost use Rattle.tier_journal.specs.Writing.{name_in, written_op, written_ops};
+ghost use Rattle.tier_journal.specs.Writing.{name_in, written_op};
 
 use journal_entries::size::row_size;
 use journal_entries::writing::{put_byte, put_name, put_row};
@@ -75,8 +75,8 @@ fn push_op(out: &mut Vec<u8>, schema: &[TableDef], op: &Op) -> Result<(), AllocE
 
 /// Puts operations behind the others, by the names of their tables.
 pub(crate) fn push_ops(out: &mut Vec<u8>, schema: &[TableDef], ops: &[Op]) -> Result<(), AllocError>
-    requires { AllByRecursion (IsOp 2) (written_ops schema.now ops.now) }
-    ensures { OnOk result (out.new.items ≡ out.old.items ++ flat_map op_bytes (written_ops schema.now ops.now)) }
+    requires { AllByRecursion (λ op. IsOp 2 (written_op schema.now op)) ops.now }
+    ensures { OnOk result (out.new.items ≡ out.old.items ++ flat_map (λ op. op_bytes (written_op schema.now op)) ops.now) }
 {
     for op in ops {
         push_op(out, schema, op)?;
