@@ -3,3 +3,4 @@ pub mod SizeLaws
 pub mod WrittenLaws
 pub mod BatchLaws
 pub mod KeepLaws
+pub mod ReadLaws

@@ -3,3 +3,4 @@ pub mod Batches
 pub mod Keeping
 pub mod Leaving
 pub mod Opening
+pub mod Reading

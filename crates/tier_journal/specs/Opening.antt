@@ -12,7 +12,7 @@ use Rattle.journal_entries.specs.declared.entry.Entry.{Entry}
 use Rattle.commit_journal.specs.declared.journal.Journal as commit
 use Rattle.commit_journal.specs.Layout.{Placed, Reads, entries_of}
 use Rattle.commit_journal.specs.Resting.{AtRest}
-use Rattle.cache_tier.specs.Journals.{Journal, JournalEntry, Commits, Prepares, Numbers, Marks, Defines, Drops, SetsState, SetsLoaded}
+use Rattle.cache_tier.specs.Journals.{Journal, JournalEntry, Commits, Prepares, Numbers, Marks, Defines, Drops, SetsState, SetsLoaded, new_journal}
 use Rattle.tier_journal.specs.declared.opening.Found.{Found}
 use Rattle.tier_journal.specs.declared.opening.Found.TheVariants.{Whole, Damaged}
 use Rattle.tier_journal.specs.declared.record.Record.{Record}
@@ -95,11 +95,11 @@ opened_journal t entries =
 
 -- Of the slots as they were and as they are now: each entry in the tier's words, and the journal with them; or the first
 -- damaged place.
-abbrev pub ShowsFound : List TableDef → Held → Held → Found → Type 0
-ShowsFound schema o now (Whole t records) =
-    (placed : List Placed) × Reads o.slots placed None × StandForAll schema (meanings records.items) placed
-    × Keeps schema t now.slots (opened_journal t (meanings records.items))
-ShowsFound schema o now (Damaged slot place) = IsDamagedAt schema o.slots now.slots slot place
+abbrev pub ShowsFound : List TableDef → Slots → Slots → Found → Type 0
+ShowsFound schema slots now (Whole t records) =
+    (placed : List Placed) × Reads slots placed None × StandForAll schema (meanings records.items) placed
+    × Keeps schema t now (opened_journal t (meanings records.items))
+ShowsFound schema slots now (Damaged slot place) = IsDamagedAt schema slots now slot place
 
 -- what was found, over a certain disk
 pub record Finds {D : Type 0} (state : D → SiteState) (possible : D → ℕ → Held → Type 0) (d : D)
@@ -107,4 +107,14 @@ pub record Finds {D : Type 0} (state : D → SiteState) (possible : D → ℕ �
   pub now : Held
   pub certain : Certain state possible d now
   pub beside : now.history ≡ o.history
-  pub shows : ShowsFound schema o now found
+  pub shows : ShowsFound schema o.slots now.slots found
+
+-- what was found is over this journal
+abbrev pub IsOfJournal : commit.Journal → Found → Type 0
+IsOfJournal j (Whole t records) = t.journal ≡ j
+IsOfJournal j (Damaged slot place) = Unit {0}
+
+-- a new journal without entries
+abbrev pub IsNewFound : Found → Type 0
+IsNewFound (Whole t records) = (records.items ≡ []) × (opened_journal t [] ≡ new_journal)
+IsNewFound (Damaged slot place) = ⊥
