@@ -1,6 +1,6 @@
 -- An entry behind those of a batch.
-use Rattle.std.proofs.Common.{◌≡◌, ℕ, true, List, [], ◌∷◌, ◌++◌, map, refl, sym, ap, subst, ◌∙◌, append_assoc}
-use Rattle.std.specs.List.{AllByRecursion, flat_map}
+use Rattle.std.proofs.Common.{◌≡◌, ℕ, true, List, [], ◌∷◌, ◌++◌, sym, ap, subst, ◌∙◌, append_assoc}
+use Rattle.std.specs.List.{flat_map}
 use Rattle.std.proofs.lemmas.Grind.{flat_map-append}
 use Rattle.std.proofs.lemmas.List.{append-nil, map-append}
 use Rattle.table_defs.specs.declared.definition.TableDef.{TableDef}
@@ -12,7 +12,7 @@ use Rattle.journal_entries.proofs.BodyLaws.{behind_append}
 use Rattle.commit_journal.specs.Resting.{Spells}
 use Rattle.cache_tier.specs.Journals.{JournalEntry}
 use Rattle.tier_journal.specs.declared.batch.Batch.{Batch}
-use Rattle.tier_journal.specs.Batches.{Adds, CanFollow, Holds}
+use Rattle.tier_journal.specs.Batches.{Adds, Holds}
 use Rattle.tier_journal.specs.Writing.{HasTables, written, written_all}
 use Rattle.tier_journal.proofs.Lists.{all_append}
 

@@ -1,14 +1,12 @@
 -- What a journal keeps.
-use Rattle.std.proofs.Common.{◌≡◌, ◌⊎◌, ◌↔◌, ℕ, ◌+◌, ◌-◌, ◌^◌, ◌<◌, ◌≤◌, Bool, true, false, ◌&&◌, ◌||◌, eqb, ltb, cond, List, [], ◌∷◌, ◌++◌, length, drop, map, refl, sym, ap, subst, ◌∙◌, append_assoc, arith, inl, inr}
+use Rattle.std.proofs.Common.{◌≡◌, ◌⊎◌, ℕ, ◌+◌, ◌-◌, ◌^◌, ◌<◌, ◌≤◌, Bool, true, false, ◌&&◌, ◌||◌, ltb, List, [], ◌∷◌, ◌++◌, length, refl, sym, ap, subst, ◌∙◌, append_assoc, arith, inl, inr}
 use Rattle.std.specs.List.{AllByRecursion, flat_map}
 use Rattle.std.proofs.lemmas.Bool.{lt-ltb, ltb-true, ne_eqb}
 use Rattle.std.proofs.lemmas.Grind.{flat_map-append}
 use Rattle.std.proofs.lemmas.List.{append-nil, length-append, length-drop, map-append}
 use Rattle.table_defs.specs.declared.definition.TableDef.{TableDef}
-use Rattle.outside.specs.Calls.{Certain, Leaves}
 use Rattle.outside.specs.Holding.{Held, Slots}
 use Rattle.outside.specs.Sites.{SiteState}
-use Rattle.outside.proofs.Moments.{weaker}
 use Rattle.journal_entries.specs.declared.entry.Entry.{Entry}
 use Rattle.journal_entries.specs.declared.standing.Standing.{Standing}
 use Rattle.journal_entries.specs.Bodies.{beginning, behind_all, rises}
@@ -16,19 +14,19 @@ use Rattle.journal_entries.specs.Spelling.{entry_bytes}
 use Rattle.journal_entries.proofs.BodyLaws.{some_bytes}
 use Rattle.commit_journal.specs.declared.journal.Journal as commit
 use Rattle.commit_journal.specs.Layout.{Gives}
-use Rattle.commit_journal.specs.Resting.{AtRest, HasFlushed, IsPastLimit, MidFlush, Rested, gate_behind}
+use Rattle.commit_journal.specs.Resting.{AtRest, HasFlushed, MidFlush, Rested, gate_behind}
 use Rattle.commit_journal.specs.Turning.{HasRenewed, MidRotation}
 use Rattle.commit_journal.proofs.StandingLaws.{rest_standing}
-use Rattle.cache_tier.specs.Journals.{Journal, JournalEntry, body_size, entry_size, flushed_batch, flushed_with, is_full, next_behind, rotated}
+use Rattle.cache_tier.specs.Journals.{Journal, JournalEntry, body_size, flushed_batch, flushed_with, is_full, next_behind, rotated}
 use Rattle.cache_tier.specs.JournalSteps.{name_size}
 use Rattle.tier_journal.specs.declared.batch.Batch.{Batch}
 use Rattle.tier_journal.specs.declared.journal.TierJournal.{TierJournal}
 use Rattle.tier_journal.specs.Batches.{Holds, batch_size}
 use Rattle.tier_journal.specs.Keeping.{IsTooMuch, Keeps, KeepsOn, with_tail}
-use Rattle.tier_journal.specs.Leaving.{GivesEither, GivesEntries, LeftByFlush, LeftByRotation}
+use Rattle.tier_journal.specs.Leaving.{GivesEntries, LeftByFlush, LeftByRotation}
 use Rattle.tier_journal.specs.Writing.{HasTables, written, written_all}
 use Rattle.tier_journal.proofs.Lists.{all_append, all_back, all_front}
-use Rattle.tier_journal.proofs.SizeLaws.{body_is, entry_is}
+use Rattle.tier_journal.proofs.SizeLaws.{body_is}
 use Rattle.tier_journal.proofs.WrittenLaws.{all_grown, all_stay, last_next}
 
 or_is : (a b : Bool) → (a || b) ≡ true → (a ≡ true) ⊎ (b ≡ true)

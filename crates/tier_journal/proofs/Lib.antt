@@ -4,3 +4,4 @@ pub mod WrittenLaws
 pub mod BatchLaws
 pub mod KeepLaws
 pub mod ReadLaws
+pub mod TestLaws

@@ -1,24 +1,21 @@
 -- The sizes of entries are the lengths of their bytes.
-use Rattle.std.proofs.Common.{◌≡◌, ◌⊎◌, ℕ, ◌+◌, Option, Some, None, Bool, true, false, List, [], ◌∷◌, ◌++◌, length, map, refl, sym, ap, ◌∙◌, arith, inl, inr}
+use Rattle.std.proofs.Common.{◌≡◌, ◌⊎◌, ℕ, ◌+◌, Option, Some, None, List, [], ◌∷◌, ◌++◌, length, refl, sym, ap, ◌∙◌, arith, inl, inr}
 use Rattle.std.specs.Prelude.{slice_get, sum_by}
-use Rattle.std.specs.Int.{w16, w32, w64, to_be_bytes}
+use Rattle.std.specs.Int.{w16, to_be_bytes}
 use Rattle.std.specs.List.{flat_map}
-use Rattle.std.proofs.lemmas.List.{length-append, map-append}
+use Rattle.std.proofs.lemmas.List.{length-append}
 use Rattle.std.proofs.lemmas.List.Folds.{flat_map-map}
 use Rattle.std.proofs.lemmas.List.Sums.{sum_by-cons}
-use Rattle.tier_base.specs.declared.number.TableId.{TableId}
 use Rattle.row_types.specs.declared.value.Value.{Value}
 use Rattle.row_types.specs.declared.value.Value.TheVariants.{Null, Number, Text, Time}
 use Rattle.table_defs.specs.declared.definition.TableDef.{TableDef}
 use Rattle.table_state.specs.declared.operation.Op.{Op}
 use Rattle.table_state.specs.declared.operation.Op.TheVariants.{Insert, Update, Delete}
-use Rattle.table_state.specs.declared.history.Sealed.{Sealed}
 use Rattle.table_state.specs.Operations.{table_of}
-use Rattle.journal_entries.specs.declared.entry.Entry.{Entry}
-use Rattle.journal_entries.specs.Spelling.{entry_bytes, flag_byte, name_bytes, op_bytes, row_bytes, signed_bytes, state_byte, value_bytes}
-use Rattle.cache_tier.specs.Journals.{JournalEntry, Commits, Prepares, Numbers, Marks, Defines, Drops, SetsState, SetsLoaded, body_size, entry_size, op_size, row_size, sealed_size, value_size}
+use Rattle.journal_entries.specs.Spelling.{entry_bytes, flag_byte, name_bytes, op_bytes, row_bytes, state_byte, value_bytes}
+use Rattle.cache_tier.specs.Journals.{JournalEntry, Commits, Prepares, Numbers, Marks, Defines, Drops, SetsState, SetsLoaded, body_size, entry_size, op_size, row_size, value_size}
 use Rattle.cache_tier.specs.JournalSteps.{name_size}
-use Rattle.tier_journal.specs.Writing.{name_in, name_of, written, written_all, written_op, written_ops, written_state}
+use Rattle.tier_journal.specs.Writing.{name_in, written, written_all, written_op, written_ops, written_state}
 
 -- the sum of sizes that are lengths
 sums_are : {X : Type 0} (size : X → ℕ) (spell : X → List ℕ) → ((x : X) → size x ≡ length (spell x)) → (xs : List X) → sum_by size xs ≡ length (flat_map spell xs)

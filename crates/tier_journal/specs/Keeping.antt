@@ -1,6 +1,6 @@
 -- The tier's journal over the slots of a disk. (This project's rule.)
 
-use Rattle.std.specs.Prelude.{◌≡◌, ℕ, ◌+◌, ◌-◌, true, List, [], ◌++◌, length}
+use Rattle.std.specs.Prelude.{◌≡◌, ℕ, ◌+◌, ◌-◌, true, List, ◌++◌, length}
 use Rattle.std.specs.List.{AllByRecursion}
 use Rattle.table_defs.specs.declared.definition.TableDef.{TableDef}
 use Rattle.outside.specs.Holding.{Slots, Held}
@@ -15,8 +15,8 @@ use Rattle.tier_journal.specs.declared.journal.TierJournal.{TierJournal}
 use Rattle.tier_journal.specs.Batches.{batch_size}
 use Rattle.tier_journal.specs.Writing.{HasTables, written_all}
 
--- The journal keeps this one of the abstract tier over the slots: at rest, with its flushed entries and its tail as they
--- are written under the schema's names, in a slot of its length and generation.
+-- The journal keeps this one of the abstract tier over the slots: at rest, with its flushed entries and its tail as
+-- they are written under the schema's names, in a slot of its length and generation.
 pub record Keeps (schema : List TableDef) (t : TierJournal) (slots : Slots) (j : Journal) : Type 0 where
   pub kept : j.kept ≡ true
   pub rests : AtRest t.journal slots (written_all schema j.flushed) (written_all schema j.tail)

@@ -79,8 +79,8 @@ abbrev pub Counts : Slots → List Placed → Option (Slot × ℕ) → Slot → 
 Counts now placed None slot = (j : commit.Journal) × AtRest j now (entries_of placed) [] × (j.slot ≡ slot)
 Counts now placed (Some damage) slot = slot ≡ damage.0
 
--- The first damaged place: that of the first entry that stands for none, or the first that doesn't read where each entry
--- before it stands for one.
+-- The first damaged place: that of the first entry that stands for none, or the first that doesn't read where each
+-- entry before it stands for one.
 pub record IsDamagedAt (schema : List TableDef) (slots now : Slots) (slot : Slot) (place : ℕ) : Type 0 where
   pub placed : List Placed
   pub damaged : Option (Slot × ℕ)
@@ -93,8 +93,8 @@ abbrev pub opened_journal : TierJournal → List JournalEntry → Journal
 opened_journal t entries =
     record { kept = true; flushed = entries; tail = []; written = slot_size t; generation = generation_in t }
 
--- Of the slots as they were and as they are now: each entry in the tier's words, and the journal with them; or the first
--- damaged place.
+-- Of the slots as they were and as they are now: each entry in the tier's words, and the journal with them; or the
+-- first damaged place.
 abbrev pub ShowsFound : List TableDef → Slots → Slots → Found → Type 0
 ShowsFound schema slots now (Whole t records) =
     (placed : List Placed) × Reads slots placed None × StandForAll schema (meanings records.items) placed

@@ -15,6 +15,7 @@ use Rattle.journal_entries.specs.declared.entry.GroupState.{GroupState}
 use Rattle.journal_entries.specs.declared.entry.GroupState.TheVariants as state
 use Rattle.journal_entries.specs.declared.entry.Op as by_name
 use Rattle.journal_entries.specs.declared.entry.Op.TheVariants as named
+use Rattle.journal_entries.specs.Spelling.{IsOp}
 use Rattle.cache_tier.specs.Journals.{JournalEntry, Commits, Prepares, Numbers, Marks, Defines, Drops, SetsState, SetsLoaded}
 
 -- the name that a definition gives its table, and none without a definition
@@ -57,6 +58,10 @@ written_all schema entries = map (written schema) entries
 -- the operation's table is one of the schema's
 abbrev pub IsOfSchema : List TableDef → Op → Type 0
 IsOfSchema schema op = (table_of op).0 < length schema
+
+-- the operation's table is one of the schema's, and it has bytes
+abbrev pub CanBeWritten : List TableDef → Op → Type 0
+CanBeWritten schema op = IsOfSchema schema op × IsOp 2 (written_op schema op)
 
 -- the tables that the entry writes are of the schema
 abbrev pub HasTables : List TableDef → JournalEntry → Type 0

@@ -33,8 +33,8 @@ impl TierJournal {
         Ok(())
     }
 
-    /// Puts the tail and the batch's entries on the disk as one batch. Room was made for them. It takes no memory. After
-    /// a fault the journal isn't to be used.
+    /// Puts the tail and the batch's entries on the disk as one batch. Room was made for them. It takes no memory.
+    /// After a fault the journal isn't to be used.
     pub fn flush_with<D: Disk>(&mut self, d: &mut D, batch: &Batch) -> Result<(), DiskFault>
         requires room { HasRoomFor self.old batch.now }
         requires place { IsBehind self.old batch.now }

@@ -12,6 +12,7 @@ mod pushing;
 mod reading;
 pub mod record;
 mod rotating;
+mod testing;
 mod writing;
 
 pub use batch::Batch;

@@ -20,8 +20,8 @@ impl TierJournal {
     pub fn room_for(&mut self, batch: &Batch) -> Result<(), ReserveError>
         ensures room { OnOk result (HasRoomFor self.new batch.now) }
         ensures limit { (result ≡ Err Limit) ↔ IsTooMuch self.old batch.now }
-        ensures full { (schema : List TableDef) (slots : Slots) (j : Journal) (version : ℕ) (entries : List JournalEntry)
-            → Keeps schema self.old slots j → Holds version schema batch.now entries
+        ensures full { (schema : List TableDef) (slots : Slots) (j : Journal) (version : ℕ)
+            (entries : List JournalEntry) → Keeps schema self.old slots j → Holds version schema batch.now entries
             → ((result ≡ Err Limit) ↔ (is_full (name_size schema) j entries ≡ true)) }
         ensures kept { (schema : List TableDef) (slots : Slots) (j : Journal) → Keeps schema self.old slots j
             → Keeps schema self.new slots j }

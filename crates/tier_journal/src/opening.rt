@@ -73,8 +73,8 @@ fn in_words(alloc: Global, schema: &[TableDef], opened: Opened) -> Result<Found,
     }
 }
 
-/// The journal on a disk, with its entries in the tier's words, under this schema. Where no slot is live a new journal is
-/// made in slot 0.
+/// The journal on a disk, with its entries in the tier's words, under this schema. Where no slot is live a new journal
+/// is made in slot 0.
 ///
 /// `Disk` where a disk call failed, `Memory` for want of memory. After either the disk says what it said.
 pub fn open<D: Disk>(alloc: Global, d: &mut D, schema: &[TableDef]) -> Result<Found, OpenError>

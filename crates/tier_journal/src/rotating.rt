@@ -23,7 +23,8 @@ impl TierJournal {
     /// Begins the other slot anew with the batch's entries, in version 2 and with the next generation.
     ///
     /// `Limit` exactly where the entries take more than 2^24 bytes, or no generation is left. `Memory` for want of
-    /// memory. In both the journal and the disk stay. `Disk` where a disk call failed: the journal isn't to be used then.
+    /// memory. In both the journal and the disk stay. `Disk` where a disk call failed; then the journal isn't to be
+    /// used.
     pub fn rotate<D: Disk>(
         &mut self,
         alloc: Global,

@@ -76,7 +76,8 @@ fn push_op(out: &mut Vec<u8>, schema: &[TableDef], op: &Op) -> Result<(), AllocE
 /// Puts operations behind the others, by the names of their tables.
 pub(crate) fn push_ops(out: &mut Vec<u8>, schema: &[TableDef], ops: &[Op]) -> Result<(), AllocError>
     requires { AllByRecursion (λ op. IsOp 2 (written_op schema.now op)) ops.now }
-    ensures { OnOk result (out.new.items ≡ out.old.items ++ flat_map (λ op. op_bytes (written_op schema.now op)) ops.now) }
+    ensures { OnOk result (out.new.items
+        ≡ out.old.items ++ flat_map (λ op. op_bytes (written_op schema.now op)) ops.now) }
 {
     for op in ops {
         push_op(out, schema, op)?;

@@ -1,8 +1,8 @@
-use Rattle.std.proofs.Common.{◌≡◌, ℕ, List, [], None, Option, Some, subst, sym, inl}
+use Rattle.std.proofs.Common.{ℕ, List, None, Option, Some, subst, inl}
 use Rattle.outside.specs.declared.disk.Slot.{Slot}
 use Rattle.commit_journal.specs.Layout.{Placed, Reads}
 use Rattle.tier_journal.specs.Reading.{IsToldBy}
-use Rattle.tier_journal.specs.Opening.{StandForAll, meanings}
+use Rattle.tier_journal.specs.Opening.{meanings}
 use Rattle.tier_journal.proofs.ReadLaws.{counts_of, opened_keeps}
 use Rattle.tier_journal.proofs.opening.in_words.Goals as goal
 

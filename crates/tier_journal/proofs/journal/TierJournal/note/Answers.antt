@@ -1,4 +1,3 @@
-use Rattle.std.proofs.Common.{◌∙◌}
 use Rattle.tier_journal.specs.Writing.{written_all}
 use Rattle.tier_journal.proofs.BatchLaws.{spells_as}
 use Rattle.tier_journal.proofs.KeepLaws.{noted}
