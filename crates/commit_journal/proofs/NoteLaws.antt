@@ -1,12 +1,11 @@
 -- Noting entries that bytes spell.
-use Rattle.std.proofs.Common.{◌≡◌, ℕ, ◌+◌, ◌-◌, ◌≤◌, ◌^◌, true, List, [], ◌∷◌, ◌++◌, length, drop, refl, sym, ap, subst, ◌∙◌, append_assoc, arith}
+use Rattle.std.proofs.Common.{◌≡◌, ℕ, ◌+◌, ◌-◌, ◌≤◌, ◌^◌, List, [], ◌∷◌, ◌++◌, length, drop, refl, sym, ap, subst, ◌∙◌, append_assoc, arith}
 use Rattle.std.specs.List.{AllByRecursion, flat_map}
 use Rattle.std.proofs.lemmas.Grind.{flat_map-append}
 use Rattle.std.proofs.lemmas.List.{append-nil, drop-append-le, length-append, length-drop, map_push}
 use Rattle.outside.specs.Holding.{Slots}
 use Rattle.journal_entries.specs.declared.entry.Entry.{Entry}
 use Rattle.journal_entries.specs.declared.standing.Standing.{Standing}
-use Rattle.journal_entries.specs.declared.standing.Ending.{Ending}
 use Rattle.journal_entries.specs.declared.standing.Ending.TheVariants.{Whole}
 use Rattle.journal_entries.specs.Spelling.{entry_bytes, IsEntry}
 use Rattle.journal_entries.specs.Bodies.{AllFollow, Body, behind, behind_all}

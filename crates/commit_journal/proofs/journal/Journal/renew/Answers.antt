@@ -1,13 +1,10 @@
-use Rattle.std.proofs.Common.{◌≡◌, ◌+◌, ◌≤◌, ◌<◌, ◌^◌, List, [], ℕ, length, ap, sym, subst, ◌∙◌, arith}
-use Rattle.std.specs.List.{flat_map}
+use Rattle.std.proofs.Common.{◌+◌, ◌<◌, List, [], ℕ, sym, subst, ◌∙◌, arith}
 use Rattle.outside.specs.Calls.{Leaves}
 use Rattle.journal_entries.specs.declared.entry.Entry.{Entry}
-use Rattle.journal_entries.specs.declared.standing.Standing.{Standing}
 use Rattle.journal_entries.specs.declared.standing.Ending.TheVariants.{Whole}
 use Rattle.journal_entries.specs.Bodies.{Body, beginning}
-use Rattle.journal_entries.specs.Spelling.{entry_bytes}
 use Rattle.commit_journal.specs.Resting.{Rested}
-use Rattle.commit_journal.specs.Turning.{MidRotation, slot_bytes}
+use Rattle.commit_journal.specs.Turning.{MidRotation}
 use Rattle.commit_journal.proofs.RotateLaws.{quiet_rotation, rotate_reads}
 use Rattle.commit_journal.proofs.journal.Journal.renew.Goals as goal
 
