@@ -44,7 +44,7 @@ use Rattle.cache_tier.specs.declared.group.GroupDef.{GroupDef}
 use Rattle.cache_tier.specs.declared.reply.Last.TheVariants.{Done, No}
 use Rattle.cache_tier.specs.declared.reply.Reply.{Reply}
 use Rattle.cache_tier.specs.Conditions.{overflow_fault, overflows}
-use Rattle.cache_tier.specs.Groups.{Group, covers, definitions_of, is_explicit, is_key, is_synchronous, is_writethrough, with_keys}
+use Rattle.cache_tier.specs.Groups.{Group, covers, definitions_of, is_explicit, is_key, is_writethrough, with_keys}
 use Rattle.cache_tier.specs.JournalSteps.{Flushes, FlushesFitting, FlushesKept, FlushesSome, has_entries, name_sizes}
 use Rattle.cache_tier.specs.Journals.{JournalEntry, is_full}
 use Rattle.cache_tier.specs.LoadSteps.{added_answer}

@@ -19,7 +19,7 @@ use Rattle.group_store.specs.Shown.{AreHoused, shown_by}
 use Rattle.group_store.specs.Keeping.{IsFor}
 use Rattle.group_store.specs.Stores.{Kept}
 use Rattle.order_laws.specs.Commits.{RiseBetween}
-use Rattle.cache_tier.specs.Groups.{Group, is_asynchronous, is_explicit, is_synchronous, is_table_of}
+use Rattle.cache_tier.specs.Groups.{Group, is_asynchronous, is_explicit, is_table_of}
 use Rattle.cache_tier.specs.Routes.{hidden_where}
 use Rattle.cache_tier.specs.Shown.{shown_state}
 use Rattle.cache_tier.specs.TierStates.{Session, SetState, Settings, Tier}
@@ -83,9 +83,9 @@ HaveOwnNames groups =
     (i j : ℕ) (g h : Group) → slice_get groups i ≡ Some g → slice_get groups j ≡ Some h → g.def.name ≡ h.def.name
     → i ≡ j
 
--- a group as the tier does them: it is loaded whole or by statements, nothing ages in it, and it isn't SYNCHRONOUS
+-- a group as the tier does them: it is loaded whole or by statements, and nothing ages in it
 abbrev pub is_plain : Group → Bool
-is_plain g = is_explicit g && is_none g.def.aging && not (is_synchronous g)
+is_plain g = is_explicit g && is_none g.def.aging
 
 -- each operation is on a table of a group with this property
 abbrev pub are_on : (Group → Bool) → List Group → List Op → Bool
