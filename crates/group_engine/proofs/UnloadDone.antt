@@ -329,7 +329,7 @@ group_cut t mid new aim all n seen def columns at defined are cut same then grou
         stale = ap (λ (y : Stored). y.stale) then ∙ ap (λ (y : Stored). y.stale) same;
         sessions = ap (λ (y : Stored). y.sessions) then ∙ ap (λ (y : Stored). y.sessions) same;
         unsettled = ap (λ (y : Stored). y.unsettled) then ∙ ap (λ (y : Stored). y.unsettled) same;
-    writers = ap (λ (y : Stored). y.writers) then ∙ ap (λ (y : Stored). y.writers) same;
+        writers = ap (λ (y : Stored). y.writers) then ∙ ap (λ (y : Stored). y.writers) same;
         next = ap (λ (y : Stored). y.next) then ∙ ap (λ (y : Stored). y.next) same;
         clock = ap (λ (y : Stored). y.clock) then ∙ ap (λ (y : Stored). y.clock) same;
       };
