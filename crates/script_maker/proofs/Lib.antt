@@ -1,0 +1,2 @@
+pub mod GivingLaws
+pub mod MakingLaws
