@@ -1,6 +1,6 @@
 //! The lines of a script, one after the other.
 
-ghost use Rattle.std.specs.Prelude.{◌≡◌, IfOk};
+ghost use Rattle.std.specs.Prelude.{◌≡◌, ◌≤◌, ◌^◌, IfOk, length};
 ghost use Rattle.script_maker.specs.Giving.{Gives};
 ghost use Rattle.script_maker.specs.Script.{script_lines};
 
@@ -36,7 +36,8 @@ impl Model for ScriptLines {
 impl ScriptLines {
     /// All lines of the script of a number.
     pub fn new(number: u32) -> ScriptLines
-        ensures { result ≡ script_lines number }
+        ensures all { result ≡ script_lines number }
+        ensures few { length result ≤ 2 ^ 33 }
     {
         let count = u64::from(number);
         ScriptLines {
