@@ -30,7 +30,8 @@ use Rattle.cache_engine.specs.Beginning.{Begins, BeginsAt, IsBegun, IsFresh, IsN
 use Rattle.stored_tier.specs.Naming.{AreNamed}
 use Rattle.stored_tier.specs.Performing.{KeepsSlots, StandsFor}
 use Rattle.outside.specs.Sites.{SiteState}
-use Rattle.stored_tier.specs.Stored.{AreKept, HaveOwnNames, IsSound, IsStoredAs, KeepsTime, are_later, is_plain, rows_of, without_list}
+use Rattle.pending_writes.specs.Noting.{TellsWriters}
+use Rattle.stored_tier.specs.Stored.{AreKept, HaveOwnNames, IsSound, IsStoredAs, KeepsTime, are_later, first_unsettled, is_plain, rows_of, without_list}
 use Rattle.stored_tier.specs.Moments.{refreshed_in, set_seen}
 use Rattle.stored_tier.proofs.BankLaws.{told_behind}
 use Rattle.session_engine.proofs.OthersLaws.{came_by, schema_told}
@@ -88,6 +89,7 @@ sound_fresh t schema start propagate_ms new sessions named = record {
   visible = named.visible;
   numbered = subst (λ n. RiseBetween 1 t.unsettled.items n) (sym new.next) (subst (λ xs. RiseBetween 1 xs 1) (sym new.unsettled) (let one : 1 ≤ 1 = omega arith in one));
   later = ap (are_later (groups_in t.catalog)) new.unsettled;
+  writers = subst (λ xs. TellsWriters t.schema (first_unsettled xs t.next) xs t.writers) (sym new.unsettled) (new.writers t.schema t.next);
   verified = λ is. let no : false ≡ true = sym new.judged ∙ is in cc;
 }
 

@@ -1,6 +1,5 @@
 -- That the faults that a line tells have their causes, over its parts.
 use Rattle.std.proofs.Common.{◌≡◌, ◌∙◌, ◌≤◌, ◌+◌, ◌-◌, ℕ, Bool, true, false, cond, Option, Some, None, Err, refl, sym, ap, subst, arith, le_refl, count_by}
-use Rattle.std.specs.Option.{IfSome}
 use Rattle.tier_base.specs.declared.code.Code.TheVariants as code
 use Rattle.row_types.specs.declared.rule.Refused.{Refused}
 use Rattle.row_types.specs.declared.rule.Refused.TheVariants as refused
@@ -13,7 +12,7 @@ use Rattle.cache_tier.specs.Steps.{Heeds, Rose, Saying, Step, faults_in, note_te
 use Rattle.cache_tier.specs.Worlds.{World, only}
 use Rattle.tier_statements.specs.Replies.{reply_to}
 use Rattle.cache_engine.specs.declared.due.Due.{Due}
-use Rattle.cache_engine.specs.Due.{IsDueCaused}
+use Rattle.cache_engine.specs.Due.{IsDueCaused, stop_faults}
 use Rattle.stored_tier.specs.Performing.{IsCaused, KeepsSlots, reply_of}
 use Rattle.cache_engine.specs.Requests.{IsLineCaused}
 use Rattle.stored_tier.specs.Sites.{IsAt}
@@ -92,9 +91,12 @@ rose_on : (a b c n : ℕ) (told : Bool) → Rose a n b → b ≤ c → (told ≡
 rose_on a b c n true p later once = let o = once refl in (omega (arith, p.0, later), omega (arith, p.1, o))
 rose_on a b c n false p later once = (omega (arith, p.0, later), omega (arith, p.1, later))
 
+rose_known : (a b n f : ℕ) → f ≡ 0 → Rose a (n + f) b → Rose a n b
+rose_known a b n f e p = (p.0, omega (arith, e, p.1))
+
 -- a reply with no notes of its own, behind the work
-pub worked_caused : (a b c : SiteState) (due : Due) (last reply : Reply) → reply ≡ with_notes due.notes last → IsDueCaused a b due → IsCaused b c last → IsLineCaused a c (Some reply)
-worked_caused a b c due last reply e p q = record {
+pub worked_caused : (a b c : SiteState) (due : Due) (last reply : Reply) → due.stop ≡ None → reply ≡ with_notes due.notes last → IsDueCaused a b due → IsCaused b c last → IsLineCaused a c (Some reply)
+worked_caused a b c due last reply goes e p q = record {
   later = omega (arith, p.later, q.later);
   moment = omega (arith, p.moment, q.moment);
   shares = q.shares ∙ p.shares;
@@ -103,7 +105,8 @@ worked_caused a b c due last reply e p q = record {
       let same : x ≡ with_notes due.notes last = Prim.cc (is, e) in
       subst (λ r. Rose a.bank_faults (faults_in code.BackingFault r) c.bank_faults) (sym same)
       (rose_on a.bank_faults b.bank_faults c.bank_faults (count_by (note_tells code.BackingFault) due.notes)
-      (tells code.BackingFault last.last) p.bank q.later q.bank);
+      (tells code.BackingFault last.last)
+      (rose_known a.bank_faults b.bank_faults (count_by (note_tells code.BackingFault) due.notes) (stop_faults code.BackingFault due.stop) (ap (stop_faults code.BackingFault) goes) p.bank) q.later q.bank);
   disk = λ x is.
       let same : x ≡ with_notes due.notes last = Prim.cc (is, e) in
       ap (faults_in code.JournalFault) same ∙ ap (λ n. n + cond (tells code.JournalFault last.last) 1 0) p.disk
@@ -114,11 +117,8 @@ worked_caused a b c due last reply e p q = record {
 no_more : (own more : ℕ) → own + more ≡ 0 → more ≡ 0
 no_more own more e = omega (arith, e)
 
-told : (due : Due) (stop : Reply) → due.stop ≡ Some stop → IfSome due.stop (λ r. (faults_in code.BackingFault r ≡ 0) × (faults_in code.JournalFault r ≡ 0)) → (faults_in code.BackingFault stop ≡ 0) × (faults_in code.JournalFault stop ≡ 0)
-told due stop is p = subst (λ (o : Option Reply). IfSome o (λ r. (faults_in code.BackingFault r ≡ 0) × (faults_in code.JournalFault r ≡ 0))) is p
-
-rose_same : (a b n more : ℕ) → more ≡ 0 → Rose a n b → Rose a (n + more) b
-rose_same a b n more e p = (p.0, omega (arith, e, p.1))
+rose_fewer : (a b n own last : ℕ) → Rose a (n + (own + last)) b → Rose a (n + last) b
+rose_fewer a b n own last p = (p.0, omega (arith, p.1))
 
 pub stopped_caused : (a b : SiteState) (due : Due) (stop reply : Reply) → due.stop ≡ Some stop → reply ≡ with_notes due.notes stop → IsDueCaused a b due → IsLineCaused a b (Some reply)
 stopped_caused a b due stop reply ends e p = record {
@@ -129,11 +129,11 @@ stopped_caused a b due stop reply ends e p = record {
   bank = λ x is.
       let same : x ≡ with_notes due.notes stop = Prim.cc (is, e) in
       subst (λ r. Rose a.bank_faults (faults_in code.BackingFault r) b.bank_faults) (sym same)
-      (rose_same a.bank_faults b.bank_faults (count_by (note_tells code.BackingFault) due.notes) _
-      (no_more (count_by (note_tells code.BackingFault) stop.notes) (cond (tells code.BackingFault stop.last) 1 0) (told due stop ends p.stop).0) p.bank);
+      (rose_fewer a.bank_faults b.bank_faults (count_by (note_tells code.BackingFault) due.notes) (count_by (note_tells code.BackingFault) stop.notes) (cond (tells code.BackingFault stop.last) 1 0)
+      (subst (λ o. Rose a.bank_faults (count_by (note_tells code.BackingFault) due.notes + stop_faults code.BackingFault o) b.bank_faults) ends p.bank));
   disk = λ x is.
       let same : x ≡ with_notes due.notes stop = Prim.cc (is, e) in
-      let none = no_more (count_by (note_tells code.JournalFault) stop.notes) (cond (tells code.JournalFault stop.last) 1 0) (told due stop ends p.stop).1 in
+      let none = no_more (count_by (note_tells code.JournalFault) stop.notes) (cond (tells code.JournalFault stop.last) 1 0) (ap (stop_faults code.JournalFault) (sym ends) ∙ p.stop) in
       ap (faults_in code.JournalFault) same ∙ ap (λ n. n + cond (tells code.JournalFault stop.last) 1 0) p.disk ∙ ap (λ n. 0 + n) none;
 }
 

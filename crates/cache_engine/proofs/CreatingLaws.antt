@@ -201,6 +201,7 @@ sound_stale t sound = record {
   visible = sound.visible;
   numbered = sound.numbered;
   later = sound.later;
+  writers = sound.writers;
   verified = λ is. let v = sound.verified is in record { rows = v.rows; own = v.own };
 }
 

@@ -18,7 +18,7 @@ use Rattle.cache_tier.specs.declared.reply.Note.{Note}
 use Rattle.cache_tier.specs.declared.reply.Reply.{Reply}
 use Rattle.group_catalog.specs.Catalogs.{groups_in}
 use Rattle.stored_tier.specs.declared.tier.Tier.{Tier as Stored}
-use Rattle.cache_engine.specs.Due.{IsDueCaused}
+use Rattle.cache_engine.specs.Due.{IsDueCaused, stop_faults}
 use Rattle.cache_engine.specs.DueItems.{DoesItem, due_of, note_of, notes_since}
 use Rattle.stored_tier.specs.Performing.{IsCaused, IsStopCaused, KeepsSlots, Performs, StandsFor}
 use Rattle.stored_tier.specs.Refreshing.{has_moment}
@@ -57,8 +57,11 @@ order_both earlier between notes is next =
 count_both : (p : Note → Bool) (a b : List Note) → count_by p (a ++ b) ≡ count_by p a + count_by p b
 count_both p a b = sum_by-append (λ x. cond (p x) 1 0) a b
 
-rose_both : (b n m k a cap : ℕ) → b ≤ m → min (b + n) cap ≤ m → m ≤ a → min (m + k) cap ≤ a → min (b + (n + k)) cap ≤ a
-rose_both b n m k a cap one risen two more = omega (arith, one, risen, two, more)
+rose_both : (b n m k f a cap : ℕ) → b ≤ m → min (b + (n + 0)) cap ≤ m → m ≤ a → min (m + (k + f)) cap ≤ a → min (b + ((n + k) + f)) cap ≤ a
+rose_both b n m k f a cap one risen two more = omega (arith, one, risen, two, more)
+
+pub rose_with : (b f a cap : ℕ) → f ≡ 0 → b ≤ a → min (b + (0 + f)) cap ≤ a
+rose_with b f a cap none le = omega (arith, none, le)
 
 rose_none : (b a cap : ℕ) → b ≤ a → min (b + 0) cap ≤ a
 rose_none b a cap le = omega (arith, le)
@@ -73,7 +76,7 @@ slots_same : (x : Option Held) → KeepsSlots x x
 slots_same None = tt
 slots_same (Some x) = refl
 
-caused_both : (b m a : SiteState) (n k : List Note) (stop : Option Reply) → IsDueCaused b m (due_of n None) → IsDueCaused m a (due_of k stop) → IsDueCaused b a (due_of (n ++ k) stop)
+pub caused_both : (b m a : SiteState) (n k : List Note) (stop : Option Reply) → IsDueCaused b m (due_of n None) → IsDueCaused m a (due_of k stop) → IsDueCaused b a (due_of (n ++ k) stop)
 caused_both b m a n k stop one two =
     let first = one.later in
     let second = two.later in
@@ -85,8 +88,8 @@ caused_both b m a n k stop one two =
       slots = slots_both b.held m.held a.held one.slots two.slots;
       bank = (
         omega (arith, first, second),
-        subst (λ c. min (b.bank_faults + c) (2 ^ 64 - 1) ≤ a.bank_faults) (sym t)
-            (rose_both b.bank_faults (count_by (note_tells code.BackingFault) n) m.bank_faults (count_by (note_tells code.BackingFault) k) a.bank_faults (2 ^ 64 - 1) first one.bank.1 second two.bank.1),
+        subst (λ c. min (b.bank_faults + (c + stop_faults code.BackingFault stop)) (2 ^ 64 - 1) ≤ a.bank_faults) (sym t)
+            (rose_both b.bank_faults (count_by (note_tells code.BackingFault) n) m.bank_faults (count_by (note_tells code.BackingFault) k) (stop_faults code.BackingFault stop) a.bank_faults (2 ^ 64 - 1) first one.bank.1 second two.bank.1),
       );
       disk = count_both (note_tells code.JournalFault) n k ∙ (λ i. one.disk i + two.disk i);
       stop = two.stop;
@@ -181,7 +184,7 @@ idle_caused b = record {
   slots = slots_same b.held;
   bank = let le : b.bank_faults ≤ b.bank_faults = omega arith in (le, rose_none b.bank_faults b.bank_faults (2 ^ 64 - 1) le);
   disk = refl;
-  stop = tt;
+  stop = refl;
 }
 
 pub idle_item : (item : Item) (t : Stored) (b : SiteState) (notes : List Note) → ((w : World) → StandsFor t w → item w w [] None) → DoesItem item t t b b notes notes None
@@ -226,9 +229,9 @@ stop_caused b a reply last is c none = record {
   moment = c.moment;
   shares = c.shares;
   slots = c.slots;
-  bank = (c.later, rose_none b.bank_faults a.bank_faults (2 ^ 64 - 1) c.later);
+  bank = (c.later, rose_with b.bank_faults (faults_in code.BackingFault reply) a.bank_faults (2 ^ 64 - 1) (tells_none reply last code.BackingFault is c.bare none) c.later);
   disk = refl;
-  stop = (tells_none reply last code.BackingFault is c.bare none, tells_none reply last code.JournalFault is c.bare (ap (tells code.JournalFault) (sym is) ∙ c.disk));
+  stop = tells_none reply last code.JournalFault is c.bare (ap (tells code.JournalFault) (sym is) ∙ c.disk);
 }
 
 note_caused : (b a : SiteState) (interval : Option ℕ) (c : Code) (reply : Reply) → IsCaused b a reply → (tells code.BackingFault reply.last ≡ nat_eq (number_of c) (number_of code.BackingFault)) → (tells code.JournalFault reply.last ≡ nat_eq (number_of c) (number_of code.JournalFault)) → IsDueCaused b a (due_of (note_of interval c ∷ []) None)
@@ -239,12 +242,12 @@ note_caused b a interval c reply caused bank disk = record {
   slots = caused.slots;
   bank = (caused.later, by (nat_eq (number_of c) (number_of code.BackingFault)) (tells_by interval c code.BackingFault) bank);
   disk = ap (λ t. 0 + cond t 1 0) (tells_by interval c code.JournalFault ∙ sym disk ∙ caused.disk);
-  stop = tt;
+  stop = refl;
 }
   where
-    by : (t : Bool) → note_tells code.BackingFault (note_of interval c) ≡ t → tells code.BackingFault reply.last ≡ t → min (b.bank_faults + count_by (note_tells code.BackingFault) (note_of interval c ∷ [])) (2 ^ 64 - 1) ≤ a.bank_faults
-    by true e told = subst (λ x. min (b.bank_faults + (0 + cond x 1 0)) (2 ^ 64 - 1) ≤ a.bank_faults) (sym e) (caused.bank told)
-    by false e told = subst (λ x. min (b.bank_faults + (0 + cond x 1 0)) (2 ^ 64 - 1) ≤ a.bank_faults) (sym e) (rose_none b.bank_faults a.bank_faults (2 ^ 64 - 1) caused.later)
+    by : (t : Bool) → note_tells code.BackingFault (note_of interval c) ≡ t → tells code.BackingFault reply.last ≡ t → min (b.bank_faults + (count_by (note_tells code.BackingFault) (note_of interval c ∷ []) + 0)) (2 ^ 64 - 1) ≤ a.bank_faults
+    by true e told = subst (λ x. min (b.bank_faults + ((0 + cond x 1 0) + 0)) (2 ^ 64 - 1) ≤ a.bank_faults) (sym e) (caused.bank told)
+    by false e told = subst (λ x. min (b.bank_faults + ((0 + cond x 1 0) + 0)) (2 ^ 64 - 1) ≤ a.bank_faults) (sym e) (rose_none b.bank_faults a.bank_faults (2 ^ 64 - 1) caused.later)
 
 noted_caused : (b a : SiteState) (interval : Option ℕ) (end : Option Reply) → IsStopCaused b a end → IsDueCaused b a (due_of (noted (note_of interval) end) (stopped end))
 noted_caused b a interval None c = record {
@@ -254,7 +257,7 @@ noted_caused b a interval None c = record {
   slots = c.slots;
   bank = (c.later, rose_none b.bank_faults a.bank_faults (2 ^ 64 - 1) c.later);
   disk = refl;
-  stop = tt;
+  stop = refl;
 }
 noted_caused b a interval (Some reply) c = by reply.last refl
   where

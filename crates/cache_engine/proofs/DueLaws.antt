@@ -1,8 +1,11 @@
--- What the work that is due keeps: the open sessions, the definitions of the groups, and which tables others change.
+-- What the work that is due keeps: which sessions are open, the definitions of the groups, and which tables others change.
 use Rattle.std.proofs.Common.{◌≡◌, ◌∙◌, ℕ, suc, Bool, true, false, cond, Option, Some, None, List, [], ◌∷◌, Result, Ok, Err, ◌&&◌, ◌||◌, map, refl, sym, ap, inl, inr}
 use Rattle.tier_base.specs.declared.number.TableId.{TableId}
 use Rattle.table_state.specs.declared.history.Entry.{Entry}
 use Rattle.table_defs.specs.declared.definition.TableDef.{TableDef}
+use Rattle.table_state.specs.declared.history.Sealed.{Sealed}
+use Rattle.table_state.specs.declared.operation.Op.{Op}
+use Rattle.table_state.specs.Tables.{TableState}
 use Rattle.outside.specs.Others.{is_shared}
 use Rattle.outside.specs.declared.fault.BankError.{BankError}
 use Rattle.sql_subset.specs.declared.request.Line.{Line}
@@ -13,7 +16,9 @@ use Rattle.cache_tier.specs.declared.reply.Note.TheVariants.{Refresh}
 use Rattle.cache_tier.specs.declared.reply.Reply.{Reply}
 use Rattle.cache_tier.specs.Aging.{after_aging, aged, aged_rule, is_aging_due}
 use Rattle.cache_tier.specs.ConsoleSteps.{Asked, AsksSchema, asks_schema, told}
-use Rattle.cache_tier.specs.DoubtSteps.{SettlesDoubt}
+use Rattle.cache_tier.specs.DoubtSteps.{SettlesDoubt, settled, settled_committed, settled_rolled_back, stood}
+use Rattle.cache_tier.specs.Recency.{with_commit}
+use Rattle.cache_tier.specs.Shown.{no_rows}
 use Rattle.cache_tier.specs.DueWork.{DueAging, DueRound, DueSets, DueSetsOf, DueWork, Item, ItemFollows, Noted, ThenItem, due_sets, is_round_due}
 use Rattle.cache_tier.specs.Groups.{Group, covers, definitions_of, is_table_of, is_writethrough}
 use Rattle.cache_tier.specs.JournalSteps.{Flushes, FlushesKept}
@@ -21,12 +26,16 @@ use Rattle.cache_tier.specs.Reading.{StageFollowsAt, backing_at}
 use Rattle.cache_tier.specs.Rotations.{Rotates, RotatesIfLong, is_long}
 use Rattle.cache_tier.specs.Rounds.{Applies, AppliesAndRotates, Round}
 use Rattle.cache_tier.specs.Sets.{Choice, RefreshesIfShown, RefreshesSet, at_position, changed_from, of_set, refreshed, shows_something}
-use Rattle.cache_tier.specs.TierStates.{Doubt, Tier, refresh_tried}
+use Rattle.cache_tier.specs.TierStates.{ACommit, APassedWrite, Doubt, Doubted, Session, Tier, at_rest, is_labelled, refresh_tried}
 use Rattle.cache_tier.specs.Worlds.{Becomes, IsUnshared, OnlyWhere, Stage, StageFollows, World}
 
--- the sessions, the definitions of the groups, and the tables that others change stay
+-- the labels of sessions
+abbrev pub labels_of : List Session → List (List ℕ)
+labels_of sessions = map (λ s. s.label) sessions
+
+-- which sessions are open, the definitions of the groups, and the tables that others change stay
 pub record KeepsWho (w w' : World) : Type 0 where
-  pub sessions : w'.tier.sessions ≡ w.tier.sessions
+  pub sessions : labels_of w'.tier.sessions ≡ labels_of w.tier.sessions
   pub groups : definitions_of w'.tier.groups ≡ definitions_of w.tier.groups
   pub shared : w'.shared ≡ w.shared
 
@@ -34,11 +43,11 @@ pub who_on : (a b c : World) → KeepsWho a b → KeepsWho b c → KeepsWho a c
 who_on a b c p q = record { sessions = q.sessions ∙ p.sessions; groups = q.groups ∙ p.groups; shared = q.shared ∙ p.shared }
 
 who_same : (w w' : World) → w' ≡ w → KeepsWho w w'
-who_same w w' e = record { sessions = ap (λ x. x.tier.sessions) e; groups = ap (λ x. definitions_of x.tier.groups) e; shared = ap (λ x. x.shared) e }
+who_same w w' e = record { sessions = ap (λ x. labels_of x.tier.sessions) e; groups = ap (λ x. definitions_of x.tier.groups) e; shared = ap (λ x. x.shared) e }
 
 -- where the tier is changed so
-who_tier : (w w' : World) (t : Tier) → w'.tier ≡ t → w'.shared ≡ w.shared → t.sessions ≡ w.tier.sessions → definitions_of t.groups ≡ definitions_of w.tier.groups → KeepsWho w w'
-who_tier w w' t e shared sessions groups = record { sessions = ap (λ (x : Tier). x.sessions) e ∙ sessions; groups = ap (λ (x : Tier). definitions_of x.groups) e ∙ groups; shared = shared }
+who_tier : (w w' : World) (t : Tier) → w'.tier ≡ t → w'.shared ≡ w.shared → labels_of t.sessions ≡ labels_of w.tier.sessions → definitions_of t.groups ≡ definitions_of w.tier.groups → KeepsWho w w'
+who_tier w w' t e shared sessions groups = record { sessions = ap (λ (x : Tier). labels_of x.sessions) e ∙ sessions; groups = ap (λ (x : Tier). definitions_of x.groups) e ∙ groups; shared = shared }
 
 abbrev StageKeeps : Stage → Type 0
 StageKeeps stage = (w w' : World) (stop : Option Reply) → stage w w' stop → KeepsWho w w'
@@ -109,7 +118,7 @@ round_keeps : StageKeeps Round
 round_keeps w w' stop p = who_on w p.mid w' (flush_keeps w p.mid p.stop p.first) (follows_keep AppliesAndRotates both_keep p.stop p.mid w' stop p.next)
 
 -- a refresh of a set
-becomes_keep : (change : World → Tier) (w w' : World) (stop : Option Reply) → (change w).sessions ≡ w.tier.sessions → definitions_of (change w).groups ≡ definitions_of w.tier.groups → Becomes change w w' stop → KeepsWho w w'
+becomes_keep : (change : World → Tier) (w w' : World) (stop : Option Reply) → labels_of (change w).sessions ≡ labels_of w.tier.sessions → definitions_of (change w).groups ≡ definitions_of w.tier.groups → Becomes change w w' stop → KeepsWho w w'
 becomes_keep change w w' stop sessions groups p =
     who_on w (record w { tier = change w }) w' (record { sessions = sessions; groups = groups; shared = refl }) (who_same _ w' p.0)
 
@@ -152,14 +161,43 @@ rest_keeps =
     then_keeps DueRound (ThenItem DueSets DueAging) due_round_keeps
     (then_keeps DueSets DueAging (λ w w' notes stop p. sets_keep (due_sets w.tier) w w' notes stop p) aging_keeps)
 
-no_doubt : (d : Option Doubt) (w w' : World) (notes : List Note) (stop : Option Reply) → d ≡ None → SettlesDoubt d w w' notes stop → KeepsWho w w'
-no_doubt None w w' notes stop none p = who_same w w' p.0
-no_doubt (Some d) w w' notes stop none p = absurd (Prim.cc none)
+-- a doubt
 
--- all that is due, where no ticket is in doubt
-pub due_keeps : (w w' : World) (notes : List Note) (stop : Option Reply) → w.tier.doubt ≡ None → DueWork w w' notes stop → KeepsWho w w'
-due_keeps w w' notes stop none p =
-    who_on w p.mid w' (no_doubt w.tier.doubt w p.mid p.before p.end none p.first)
+rested_labels : (label : List ℕ) (ss : List Session) → labels_of (map (λ s. cond (is_labelled label s) (at_rest s) s) ss) ≡ labels_of ss
+rested_labels label [] = refl
+rested_labels label (s ∷ ss) = ap (λ l. l ∷ labels_of (map (λ s. cond (is_labelled label s) (at_rest s) s) ss)) (by (is_labelled label s)) ∙ ap (λ ls. s.label ∷ ls) (rested_labels label ss)
+  where
+    by : (b : Bool) → (cond b (at_rest s) s).label ≡ s.label
+    by true = refl
+    by false = refl
+
+commit_def : (rows : TableState) (ops : List Op) (g : Group) → (with_commit rows ops g).def ≡ g.def
+commit_def rows ops g = cond_def (is_writethrough g) g _ _ refl refl
+
+committed_keeps : (of : Doubted) (x : Sealed) (label : List ℕ) (w w' : World) → w'.tier ≡ settled_committed of x label w.tier → w'.shared ≡ w.shared → KeepsWho w w'
+committed_keeps ACommit x label w w' e shared =
+    who_tier w w' (settled_committed ACommit x label w.tier) e shared (rested_labels label w.tier.sessions)
+    (mapped_defs (with_commit (no_rows w.tier) x.ops) (commit_def (no_rows w.tier) x.ops) w.tier.groups)
+committed_keeps APassedWrite x label w w' e shared = who_tier w w' (settled_committed APassedWrite x label w.tier) e shared refl refl
+
+rolled_back_keeps : (of : Doubted) (label : List ℕ) (w w' : World) → w'.tier ≡ settled_rolled_back of label w.tier → w'.shared ≡ w.shared → KeepsWho w w'
+rolled_back_keeps ACommit label w w' e shared =
+    who_tier w w' (settled_rolled_back ACommit label w.tier) e shared (rested_labels label w.tier.sessions) refl
+rolled_back_keeps APassedWrite label w w' e shared = who_tier w w' (settled_rolled_back APassedWrite label w.tier) e shared refl refl
+
+pub doubt_keeps : (d : Option Doubt) (w w' : World) (notes : List Note) (stop : Option Reply) → SettlesDoubt d w w' notes stop → KeepsWho w w'
+doubt_keeps None w w' notes stop p = who_same w w' p.0
+doubt_keeps (Some d) w w' notes stop p = by p.result p.tier
+  where
+    by : (result : Result Bool BankError) → w'.tier ≡ settled d w'.history result w.tier → KeepsWho w w'
+    by (Ok true) tier = committed_keeps d.of (stood d w'.history) d.session w w' tier (p.call).shared
+    by (Ok false) tier = rolled_back_keeps d.of d.session w w' tier (p.call).shared
+    by (Err e) tier = who_tier w w' w.tier tier (p.call).shared refl refl
+
+-- all that is due
+pub due_keeps : (w w' : World) (notes : List Note) (stop : Option Reply) → DueWork w w' notes stop → KeepsWho w w'
+due_keeps w w' notes stop p =
+    who_on w p.mid w' (doubt_keeps w.tier.doubt w p.mid p.before p.end p.first)
     (item_follows (ThenItem DueRound (ThenItem DueSets DueAging)) rest_keeps p.end p.mid w' p.behind stop p.next)
 
 -- the question for the schema

@@ -8,14 +8,17 @@ use Rattle.std.proofs.lemmas.Bool.{eqb-true}
 use Rattle.std.proofs.lemmas.List.{append-nil}
 use Rattle.tier_base.specs.declared.code.Code.TheVariants as code
 use Rattle.outside.specs.declared.fault.BankError.{BankError}
-use Rattle.outside.specs.declared.fault.BankError.TheVariants as bank
+use Rattle.outside.specs.declared.fault.BankError.TheVariants.{Failed}
 use Rattle.order_laws.proofs.TruthLaws.{both_true}
 use Rattle.sql_subset.specs.declared.request.Line.{Line}
+use Rattle.sql_subset.specs.declared.request.Line.TheVariants as says
+use Rattle.table_state.specs.declared.history.Sealed.{Sealed}
 use Rattle.table_state.specs.declared.history.Entry.{Entry}
+use Rattle.cache_tier.specs.CommitSteps.{after_applied, sealed_own}
+use Rattle.cache_tier.specs.PassedSteps.{with_ticket}
 use Rattle.cache_tier.specs.Aging.{aged, is_aged_by, is_aging_due, is_over}
-use Rattle.cache_tier.specs.DoubtSteps.{SettlesDoubt}
-use Rattle.cache_tier.specs.DueWork.{DueAging, DueDoubt, DueRound, DueSets, DueSetsOf, DueWork, Item, Noted, ThenItem, due_sets, intervals, is_round_due, noted, stopped, with_number}
-use Rattle.cache_tier.specs.Groups.{Group, definitions_of, is_explicit, is_on, is_read_only, is_synchronous}
+use Rattle.cache_tier.specs.DueWork.{DueAging, DueRound, DueSets, DueSetsOf, DueWork, Item, Noted, ThenItem, due_sets, intervals, is_round_due, noted, stopped, with_number}
+use Rattle.cache_tier.specs.Groups.{Group, definitions_of, is_explicit, is_on, is_read_only}
 use Rattle.cache_tier.specs.Rounds.{Round}
 use Rattle.cache_tier.specs.Sets.{RefreshesIfShown, RefreshesSet, has_something, holds_some, is_in_set, shows_something}
 use Rattle.cache_tier.specs.Steps.{added_by, at_moment, with_moment}
@@ -28,7 +31,7 @@ use Rattle.cache_tier.specs.Events.{with_tier}
 use Rattle.cache_tier.specs.StandingBetween.{Stands}
 use Rattle.stored_tier.specs.declared.clock.TierClock.{TierClock}
 use Rattle.stored_tier.specs.declared.tier.Tier.{Tier as Stored}
-use Rattle.cache_engine.specs.DueItems.{DoesItem, KeepsSets, due_at, is_due_at, note_of, round_is_due}
+use Rattle.cache_engine.specs.DueItems.{DoesItem, DueRest, KeepsSets, due_at, is_due_at, note_of, round_is_due}
 use Rattle.stored_tier.specs.Performing.{IsStopCaused, Performs, StandsFor}
 use Rattle.stored_tier.specs.Refreshing.{has_moment, moment_in}
 use Rattle.outside.specs.Sites.{SiteState}
@@ -36,6 +39,8 @@ use Rattle.stored_tier.specs.Stored.{IsSound, IsStoredAs, KeepsTime, is_plain, w
 use Rattle.cache_engine.proofs.DueItemLaws.{as_item, idle_item, noted_item, since_none, stopped_item, then_items}
 use Rattle.stored_tier.proofs.QuietLaws.{at_still}
 use Rattle.group_engine.proofs.RefreshedSets.{stands_clocked, stored_clocked}
+use Rattle.session_engine.specs.Doubting.{IsInDoubt, IsLeft, Leads}
+use Rattle.session_engine.specs.declared.doubt.Doubt.{Doubt}
 
 -- which sets are due
 
@@ -61,7 +66,7 @@ no_aging : (history : List Entry) (t : Tier) (gs : List Group) → list_all is_p
 no_aging history t [] all = refl
 no_aging history t (g ∷ gs) all =
     let both = both_true (is_plain (without_list g)) (list_all is_plain (map without_list gs)) all in
-    let none = is_no g.def.aging (both_true (is_explicit g) (is_none g.def.aging) (both_true (is_explicit g && is_none g.def.aging) (not (is_synchronous g)) both.0).0).1 in
+    let none = is_no g.def.aging (both_true (is_explicit g) (is_none g.def.aging) both.0).1 in
     let first : cond (is_aging_due t g) (aged history t g) g ≡ g = ap (λ o. cond (is_aged_by t.settings t.now g o) (aged history t g) g) none in
     let rest = no_aging history t gs both.1 in
     λ i. first i ∷ rest i
@@ -70,9 +75,6 @@ aging_passes : (t : Stored) (w : World) → IsSound t → StandsFor t w → DueA
 aging_passes t w sound is =
     let plain = ap (list_all is_plain) is.stored.groups ∙ sound.plain in
     (ap (λ gs. with_tier (record (w.tier) { groups = gs }) w) (sym (no_aging w.history w.tier w.tier.groups plain)), refl, refl)
-
-doubt_passes : (t : Stored) (w : World) → StandsFor t w → DueDoubt w w [] None
-doubt_passes t w is = subst (λ d. SettlesDoubt d w w [] None) (sym is.stored.doubt) (refl, refl, refl)
 
 -- all that is due
 
@@ -86,24 +88,17 @@ with_aging old new b a earlier notes None sound does =
     then_items DueSets DueAging old new new b a a earlier notes notes None does (idle_item DueAging new a notes (λ w is. aging_passes new w sound is))
 with_aging old new b a earlier notes (Some end) sound does = stopped_item DueSets DueAging old new b a earlier notes end does
 
-with_doubt : (item : Item) (old new : Stored) (b a : SiteState) (earlier notes : List Note) (stop : Option Reply) → DoesItem item old new b a earlier notes stop → DoesItem (ThenItem DueDoubt item) old new b a earlier notes stop
-with_doubt item old new b a earlier notes stop does =
-    then_items DueDoubt item old old new b b a earlier earlier notes stop (idle_item DueDoubt old b earlier (λ w is. doubt_passes old w is)) does
-
-pub due_stopped : (old new : Stored) (b a : SiteState) (earlier notes : List Note) (end : Reply) → DoesItem DueRound old new b a earlier notes (Some end) → DoesItem DueWork old new b a earlier notes (Some end)
-due_stopped old new b a earlier notes end does =
-    with_doubt (ThenItem DueRound (ThenItem DueSets DueAging)) old new b a earlier notes (Some end)
-    (stopped_item DueRound (ThenItem DueSets DueAging) old new b a earlier notes end does)
+pub due_stopped : (old new : Stored) (b a : SiteState) (earlier notes : List Note) (end : Reply) → DoesItem DueRound old new b a earlier notes (Some end) → DoesItem DueRest old new b a earlier notes (Some end)
+due_stopped old new b a earlier notes end does = stopped_item DueRound (ThenItem DueSets DueAging) old new b a earlier notes end does
 
 due_kept : (old mid : Stored) → KeepsSets old mid → due_at old.clock.now old.clock.sets.items (groups_in old.catalog) ≡ due_at mid.clock.now mid.clock.sets.items (groups_in mid.catalog)
 due_kept old mid keeps = sym (λ j. due_at (keeps.now j) ((keeps.sets j).items) (groups_in (keeps.catalog j)))
 
 pub due_done : (intervals : List ℕ) (old mid new : Stored) (b m a : SiteState) (earlier between notes : List Note) (stop : Option Reply) → KeepsSets old mid → IsSound new → intervals ≡ due_at old.clock.now old.clock.sets.items (groups_in old.catalog)
-    → DoesItem DueRound old mid b m earlier between None → DoesItem (DueSetsOf intervals) mid new m a between notes stop → DoesItem DueWork old new b a earlier notes stop
+    → DoesItem DueRound old mid b m earlier between None → DoesItem (DueSetsOf intervals) mid new m a between notes stop → DoesItem DueRest old new b a earlier notes stop
 due_done intervals old mid new b m a earlier between notes stop keeps sound due first second =
-    with_doubt (ThenItem DueRound (ThenItem DueSets DueAging)) old new b a earlier notes stop
-    (then_items DueRound (ThenItem DueSets DueAging) old mid new b m a earlier between notes stop first
-    (with_aging mid new m a between notes stop sound (sets_item intervals mid new m a between notes stop (due ∙ due_kept old mid keeps) second)))
+    then_items DueRound (ThenItem DueSets DueAging) old mid new b m a earlier between notes stop first
+    (with_aging mid new m a between notes stop sound (sets_item intervals mid new m a between notes stop (due ∙ due_kept old mid keeps) second))
 
 -- a round that isn't due
 
@@ -150,34 +145,69 @@ timed t clock base line w is time = record {
   waits = is.waits;
 }
 
--- the moment comes, and then what is due is done
-pub line_begun : (t new : Stored) (clock : TierClock) (base now added : ℕ) (line : Line) (b a : SiteState) (notes : List Note) (stop : Option Reply) → ((x : Tier) → x.added ≡ t.clock.added → added_by line x ≡ added) → now ≡ cut (max t.clock.now (base + added))
-    → clock.now ≡ now → clock.added ≡ added → clock.round ≡ t.clock.round → clock.propagate_ms ≡ t.clock.propagate_ms → ((i : ℕ) → moment_in clock.sets.items i ≡ moment_in t.clock.sets.items i)
-    → DoesItem DueWork (record t { clock = clock }) new b a [] notes stop → Performs t new b a (λ w w'. DueWork (with_moment base line w) w' notes stop)
-line_begun t new clock base now added line b a notes stop adds moment now_is added_is round_is due_is sets_is does w at stands apart =
-    let was = stands.stored.time in
-    let more = adds w.tier was.additions in
-    let time : KeepsTime clock (at_moment base line w.tier).now (added_by line w.tier) w.tier.round w.tier.sets w.tier.settings = record {
-      moment = (λ j. cut (max (was.moment j) (base + more j))) ∙ sym moment ∙ sym now_is;
-      additions = more ∙ sym added_is;
-      tried = was.tried ∙ sym round_is;
-      refreshes = λ i. was.refreshes i ∙ sym (sets_is i);
-      due = was.due ∙ sym due_is;
-    } in
-    let p = does.performs (with_moment base line w) (at_still b w (at_moment base line w.tier) at) (timed t clock base line w stands time) apart in
-    record {
-      world = p.world;
-      at = p.at;
-      stands = p.stands;
-      is = subst (λ l. DueWork (with_moment base line w) p.world l stop) (since_none notes) p.is;
-    }
+-- a commit is in doubt at the new moment
 
-pub line_done : (t mid new : Stored) (clock : TierClock) (base now added : ℕ) (line : Line) (b a : SiteState) (earlier notes told : List Note) (stop : Option Reply) → ((x : Tier) → x.added ≡ t.clock.added → added_by line x ≡ added) → now ≡ cut (max t.clock.now (base + added))
+added_same : (line : Line) (a b : Tier) → a.added ≡ b.added → added_by line a ≡ added_by line b
+added_same (says.Session label request) a b e = e
+added_same (says.Console request) a b e = e
+added_same (says.Clock ms) a b e = ap (λ n. n + ms) e
+
+abbrev Moved : ℕ → Line → Tier → ℕ → Tier
+Moved base line a n = record a { added = n; now = cut (max a.now (base + n)) }
+
+moved_same : (base : ℕ) (line : Line) (a b : Tier) (x : Sealed) (label : List ℕ) → a ≡ after_applied x label (Err Failed) (with_ticket b) → at_moment base line a ≡ after_applied x label (Err Failed) (with_ticket (at_moment base line b))
+moved_same base line a b x label e =
+    ap (at_moment base line) e
+    ∙ ap (Moved base line (after_applied x label (Err Failed) (with_ticket b))) (added_same line (after_applied x label (Err Failed) (with_ticket b)) b refl)
+
+abbrev TimedAt : Stored → TierClock → ℕ → Line → World → Type 0
+TimedAt t clock base line w = KeepsTime clock (at_moment base line w.tier).now (added_by line w.tier) w.tier.round w.tier.sets w.tier.settings
+
+in_doubt_timed : (t : Stored) (clock : TierClock) (base : ℕ) (line : Line) (d : Doubt) (w : World) (x : IsInDoubt t d w) → TimedAt t clock base line x.was → IsInDoubt (record t { clock = clock }) d (with_moment base line w)
+in_doubt_timed t clock base line d w x time = record {
+  was = with_moment base line x.was;
+  stands = timed (record t { next = d.ticket }) clock base line x.was x.stands time;
+  unshared = x.unshared;
+  session = x.session;
+  has = record { seen = x.has.seen; found = x.has.found; number = x.has.number; is = x.has.is };
+  on = x.on;
+  next = x.next;
+  room = x.room;
+  call = record {
+    history = x.call.history;
+    journal = x.call.journal;
+    faults = x.call.faults;
+    disk = x.call.disk;
+    moment = x.call.moment;
+    shared = x.call.shared;
+  };
+  tier = moved_same base line w.tier x.was.tier (sealed_own x.was.tier x.session) x.session.label x.tier;
+  legal = x.legal;
+  read = x.read;
+}
+
+-- the moment comes, and then what is due is done
+module _ (t : Stored) (clock : TierClock) (base now added : ℕ) (line : Line) (adds : (x : Tier) → x.added ≡ t.clock.added → added_by line x ≡ added) (moment : now ≡ cut (max t.clock.now (base + added)))
+    (same : clock ≡ record (t.clock) { now = now; added = added; sets = clock.sets }) (sets_is : (i : ℕ) → moment_in clock.sets.items i ≡ moment_in t.clock.sets.items i) where
+  time_at : (a : Tier) → KeepsTime t.clock a.now a.added a.round a.sets a.settings → KeepsTime clock (at_moment base line a).now (added_by line a) a.round a.sets a.settings
+  time_at a was =
+      let more = adds a was.additions in
+      record {
+        moment = (λ j. cut (max (was.moment j) (base + more j))) ∙ sym moment ∙ sym (ap (λ (c : TierClock). c.now) same);
+        additions = more ∙ sym (ap (λ (c : TierClock). c.added) same);
+        tried = was.tried ∙ sym (ap (λ (c : TierClock). c.round) same);
+        refreshes = λ i. was.refreshes i ∙ sym (sets_is i);
+        due = was.due ∙ sym (ap (λ (c : TierClock). c.propagate_ms) same);
+      }
+
+  pub left_timed : (doubt : Option Doubt) (w : World) → IsLeft t doubt w → IsLeft (record t { clock = clock }) doubt (with_moment base line w)
+  left_timed None w is = timed t clock base line w is (time_at w.tier is.stored.time)
+  left_timed (Some d) w x = in_doubt_timed t clock base line d w x (time_at x.was.tier x.stands.stored.time)
+
+pub line_done : (t mid new : Stored) (was doubt : Option Doubt) (clock : TierClock) (base now added : ℕ) (line : Line) (b a : SiteState) (notes told : List Note) (stop : Option Reply) → ((x : Tier) → x.added ≡ t.clock.added → added_by line x ≡ added) → now ≡ cut (max t.clock.now (base + added))
     → clock ≡ record (t.clock) { now = now; added = added; sets = clock.sets } → ((i : ℕ) → moment_in clock.sets.items i ≡ moment_in t.clock.sets.items i)
-    → mid ≡ record t { clock = clock } → earlier ≡ [] → told ≡ notes → DoesItem DueWork mid new b a earlier notes stop → Performs t new b a (λ w w'. DueWork (with_moment base line w) w' told stop)
-line_done t mid new clock base now added line b a earlier notes told stop adds moment same sets_is mid_is none told_is does =
-    line_begun t new clock base now added line b a told stop adds moment
-    (ap (λ (c : TierClock). c.now) same) (ap (λ (c : TierClock). c.added) same) (ap (λ (c : TierClock). c.round) same) (ap (λ (c : TierClock). c.propagate_ms) same) sets_is
-    (subst (λ l. DoesItem DueWork (record t { clock = clock }) new b a [] l stop) (sym told_is)
-    (subst (λ e. DoesItem DueWork (record t { clock = clock }) new b a e notes stop) none
-    (subst (λ m. DoesItem DueWork m new b a earlier notes stop) mid_is does)))
+    → mid ≡ record t { clock = clock } → told ≡ notes → Leads mid was new doubt b a (λ w w'. DueWork w w' notes stop) → Leads t was new doubt b a (λ w w'. DueWork (with_moment base line w) w' told stop)
+line_done t mid new was doubt clock base now added line b a notes told stop adds moment same sets_is mid_is told_is leads w at left apart =
+    let there = left_timed t clock base now added line adds moment same sets_is was w left in
+    let p = leads (with_moment base line w) (at_still b w (at_moment base line w.tier) at) (subst (λ (z : Stored). IsLeft z was (with_moment base line w)) (sym mid_is) there) apart in
+    record { world = p.world; at = p.at; left = p.left; is = subst (λ l. DueWork (with_moment base line w) p.world l stop) (sym told_is) p.is }

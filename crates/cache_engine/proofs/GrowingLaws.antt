@@ -1,5 +1,5 @@
 -- What a longer schema leaves of the stores and of what they show.
-use Rattle.std.proofs.Common.{◌≡◌, ◌<◌, ◌≤◌, ℕ, zero, suc, ◌+◌, Bool, true, false, cond, not, Option, Some, None, is_some, List, [], ◌∷◌, ◌++◌, length, map, slice_get, unwrap_or, refl, sym, ap, ◌∙◌, subst, arith, append_assoc, inl, inr}
+use Rattle.std.proofs.Common.{◌≡◌, ◌<◌, ◌≤◌, ℕ, zero, suc, ◌+◌, Bool, true, false, cond, not, ◌&&◌, ◌||◌, Option, Some, None, is_some, List, [], ◌∷◌, ◌++◌, length, map, slice_get, unwrap_or, refl, sym, ap, ◌∙◌, subst, arith, append_assoc, inl, inr}
 use Rattle.std.proofs.lemmas.Bool.{cases_lt, eq-eqb, lt-ltb}
 use Rattle.std.proofs.lemmas.List.{append-nil, length-append}
 use Rattle.std.specs.FinMap.{empty}
@@ -10,11 +10,12 @@ use Rattle.table_defs.specs.declared.definition.TableDef.{TableDef}
 use Rattle.table_state.specs.Independence.{with_new}
 use Rattle.table_state.specs.Tables.{TableState}
 use Rattle.indexed_rows.specs.Rows.{Table}
-use Rattle.instances.specs.Trees.{same_table}
+use Rattle.instances.specs.Trees.{place_of, same_table}
 use Rattle.instances.specs.Views.{kept_at}
 use Rattle.instances.specs.declared.tree.Child.{Child}
 use Rattle.instances.specs.declared.tree.Tree.{Tree}
 use Rattle.order_laws.proofs.CountLaws.{get_front}
+use Rattle.order_laws.proofs.TruthLaws.{both_true}
 use Rattle.order_laws.proofs.TableLaws.{get_same}
 use Rattle.own_rows.specs.Knowing.{Knows}
 use Rattle.open_sessions.specs.declared.sessions.Sessions.{Sessions}
@@ -25,12 +26,14 @@ use Rattle.group_store.specs.Shown.{AreHoused, IsOver, foreign_key_of, home_from
 use Rattle.group_store.specs.Stores.{Kept, foreign_columns, place_in}
 use Rattle.group_store.specs.Trees.{Layer}
 use Rattle.group_store.specs.declared.directory.Home.{Home}
-use Rattle.cache_tier.specs.Groups.{Group}
+use Rattle.cache_tier.specs.Groups.{Group, covers, is_asynchronous, is_table_of}
 use Rattle.cache_tier.specs.Defining.{with_tables}
 use Rattle.stored_tier.specs.declared.tier.Tier.{Tier as Stored}
 use Rattle.cache_engine.specs.Growing.{BeginsWith, Learns, MayLearn}
 use Rattle.stored_tier.specs.Naming.{AreNamed, HasNoHome}
-use Rattle.stored_tier.specs.Stored.{AreKept, IsSound, rows_of}
+use Rattle.stored_tier.specs.Stored.{AreKept, IsSound, first_unsettled, rows_of}
+use Rattle.stored_tier.proofs.StoreRows.{place_same}
+use Rattle.stored_tier.proofs.WriterLaws.{writers_grown}
 
 -- tables that no store has
 
@@ -189,6 +192,25 @@ kept_grown schema more (g ∷ groups) (s ∷ stores) old kept = (
   kept_grown schema more groups stores (λ k x u p at has. old (suc k) x u p at has) kept.1,
 )
 
+-- a table of a group stays as it is
+
+some_place : (o : Option ℕ) → is_some o ≡ true → (p : ℕ) × (o ≡ Some p)
+some_place None e = cc
+some_place (Some p) e = (p, refl)
+
+tables_stay : (schema more : List TableDef) (test : Group → Bool) (groups : List Group) (stores : List Kept) → HaveOld schema (schema ++ more) stores → AreKept schema groups stores → (u : TableId) → is_table_of test groups u ≡ true → slice_get (schema ++ more) u.0 ≡ slice_get schema u.0
+tables_stay schema more test [] [] old kept u is = cc
+tables_stay schema more test [] (s ∷ stores) old kept u is = absurd kept
+tables_stay schema more test (g ∷ groups) [] old kept u is = absurd kept
+tables_stay schema more test (g ∷ groups) (s ∷ stores) old kept u is =
+    by (test g && covers u g) refl is (tables_stay schema more test groups stores (λ k x v p at has. old (suc k) x v p at has) kept.1 u)
+  where
+    by : (b : Bool) → (test g && covers u g) ≡ b → (b || is_table_of test groups u) ≡ true → (is_table_of test groups u ≡ true → slice_get (schema ++ more) u.0 ≡ slice_get schema u.0) → slice_get (schema ++ more) u.0 ≡ slice_get schema u.0
+    by true here e rest =
+        let place = some_place (place_of g.def.tree u) (both_true (test g) (covers u g) here).1 in
+        same_def schema more u (old 0 s u place.0 refl (place_same schema g.def.tree s kept.0 u ∙ place.1))
+    by false here e rest = rest e
+
 -- what is shown
 
 tables_more : (rows : TableId → Table) (place : ℕ) (defs : List TableDef) (def : TableDef) → tables_by rows place (defs ++ def ∷ []) ≡ tables_by rows place defs ++ rows (record { 0 = place + length defs }) ∷ []
@@ -254,6 +276,8 @@ sound_learned law t schema names homes sound may =
       visible = named.visible;
       numbered = sound.numbered;
       later = sound.later;
+      writers = writers_grown t.schema more is_asynchronous (groups_in t.catalog) (tables_stay t.schema more is_asynchronous (groups_in t.catalog) t.stores.items old sound.kept)
+          (first_unsettled t.unsettled.items t.next) t.unsettled.items t.writers sound.later sound.writers;
       verified = λ is. cc;
     })
 

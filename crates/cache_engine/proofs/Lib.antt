@@ -10,6 +10,7 @@ pub mod DueLaws
 pub mod DueSteps
 pub mod DueStored
 pub mod EarlyLaws
+pub mod EngineLaws
 pub mod GrowingLaws
 pub mod IdleLaws
 pub mod LineLaws

@@ -1,8 +1,10 @@
 -- How the parts of a line make its step.
-use Rattle.std.proofs.Common.{◌≡◌, ◌∙◌, ◌||◌, ℕ, Bool, true, false, cond, Option, Some, None, Result, Err, List, [], ◌∷◌, length, refl, sym, ap, subst, inl, inr, find}
+use Rattle.std.proofs.Common.{◌≡◌, ◌∙◌, ◌||◌, ℕ, ◌+◌, Bool, true, false, not, cond, Option, Some, None, Result, Err, List, [], ◌∷◌, length, refl, sym, ap, subst, inl, inr, find}
 use Rattle.std.specs.Bool.{MatchBool}
 use Rattle.std.specs.List.{list_any}
-use Rattle.std.specs.Option.{option_or}
+use Rattle.std.specs.Option.{is_none, option_or}
+use Rattle.std.proofs.lemmas.List.{length-map}
+use Rattle.table_defs.specs.Names.{same_name}
 use Rattle.tier_base.specs.declared.code.Code.TheVariants as code
 use Rattle.tier_base.specs.declared.limit.Limit.TheVariants as limit
 use Rattle.tier_base.specs.declared.number.SessionId.{SessionId}
@@ -24,7 +26,7 @@ use Rattle.cache_tier.specs.ConsoleSteps.{AsksSchema, DoesConsole}
 use Rattle.cache_tier.specs.DueWork.{DueWork}
 use Rattle.cache_tier.specs.Rules.{at_limit, broken_if, labelled, wrong_at}
 use Rattle.cache_tier.specs.SessionSteps.{close_answer, open_answer, open_fault}
-use Rattle.cache_tier.specs.Steps.{Answered, Does, ForSession, Heeds, Parts, Says, early_fault, session_fault, with_moment, with_notes}
+use Rattle.cache_tier.specs.Steps.{Answered, Does, ForSession, Heeds, Parts, Says, clock_fault, early_fault, session_fault, with_moment, with_notes}
 use Rattle.cache_tier.specs.TierStates.{Session, Tier, is_labelled, session_of}
 use Rattle.cache_tier.specs.Undone.{is_undone}
 use Rattle.cache_tier.specs.Worlds.{Quiet, Refuses, Tries, Unless, World, only}
@@ -35,24 +37,26 @@ use Rattle.stored_tier.specs.Performing.{ClosesSession, Executes, OpensSession, 
 use Rattle.cache_engine.specs.Serving.{AsksAndDoes, DoesAdmitted, IsAdmitted, WorksAndAnswers}
 use Rattle.outside.specs.Sites.{SiteState}
 use Rattle.stored_tier.specs.Stored.{IsStoredAs}
-use Rattle.cache_engine.proofs.DueLaws.{KeepsWho, asked_keeps, due_keeps, still_unshared, who_on}
+use Rattle.cache_engine.proofs.DueLaws.{KeepsWho, asked_keeps, due_keeps, labels_of, still_unshared, who_on}
+use Rattle.cache_engine.proofs.EngineLaws.{ended, led, led_none, left_stored}
+use Rattle.session_engine.specs.Doubting.{Ends, EndsIn, Leads}
+use Rattle.session_engine.specs.declared.doubt.Doubt.{Doubt}
 use Rattle.cache_engine.proofs.WantLaws.{told_as}
 
 -- another part that the same worlds meet
-pub performed : (old new : Stored) (before behind : SiteState) (one other : World → World → Type 0) → ((w w' : World) → StandsFor old w → one w w' → other w w') → Performs old new before behind one → Performs old new before behind other
+performed : (old new : Stored) (before behind : SiteState) (one other : World → World → Type 0) → ((w w' : World) → StandsFor old w → one w w' → other w w') → Performs old new before behind one → Performs old new before behind other
 performed old new before behind one other so p = λ w at stands unshared.
     let d = p w at stands unshared in
     record { world = d.world; at = d.at; stands = d.stands; is = so w d.world stands d.is }
 
--- one after the other
-pub then_performed : (old mid new : Stored) (before between behind : SiteState) (one other both : World → World → Type 0)
-    → ((w w' : World) → StandsFor old w → one w w' → KeepsWho w w')
-    → ((w x w' : World) → StandsFor old w → one w x → other x w' → both w w')
-    → Performs old mid before between one → Performs mid new between behind other → Performs old new before behind both
-then_performed old mid new before between behind one other both keeps joins p q = λ w at stands unshared.
-    let d = p w at stands unshared in
-    let e = q d.world d.at d.stands (still_unshared w d.world (keeps w d.world stands d.is) unshared) in
-    record { world = e.world; at = e.at; stands = e.stands; is = joins w d.world e.world stands d.is e.is }
+-- one after the other, where nothing is in doubt between them
+pub then_led : (old mid new : Stored) (was doubt : Option Doubt) (before between behind : SiteState) (one other both : World → World → Type 0)
+    → ((w w' : World) → one w w' → KeepsWho w w') → ((w x w' : World) → one w x → other x w' → both w w')
+    → Leads old was mid None before between one → Ends mid new doubt between behind other → Leads old was new doubt before behind both
+then_led old mid new was doubt before between behind one other both keeps joins p q w at left unshared =
+    let d = p w at left unshared in
+    let e = q d.world d.at d.left (still_unshared w d.world (keeps w d.world d.is) unshared) in
+    record { world = e.world; at = e.at; left = e.left; is = joins w d.world e.world d.is e.is }
 
 -- SESSIONS
 
@@ -110,13 +114,13 @@ close_performed old new before behind label id result finds p = λ w at stands u
     let d = p o.session o.has w at stands unshared in
     record { world = d.world; at = d.at; stands = d.stands; is = λ free. close_does label o.session w d.world (reply_of result) o.is o.named d.is }
 
-pub statement_performed : (old new : Stored) (before behind : SiteState) (label : List ℕ) (id : SessionId) (st : Stmt) (result : Result Reply Refused) → Finds old label id
-    → PerformsIn old new before behind id (Executes st) result
-    → Performs old new before behind (λ w w'. DoesAdmitted (says.Session label (asks_for.Statement st)) w w' (reply_of result))
-statement_performed old new before behind label id st result finds p = λ w at stands unshared.
+pub statement_led : (old new : Stored) (doubt : Option Doubt) (before behind : SiteState) (label : List ℕ) (id : SessionId) (st : Stmt) (result : Result Reply Refused) → Finds old label id
+    → EndsIn old new doubt before behind id (Executes st) result
+    → Ends old new doubt before behind (λ w w'. DoesAdmitted (says.Session label (asks_for.Statement st)) w w' (reply_of result))
+statement_led old new doubt before behind label id st result finds p w at stands unshared =
     let o = finds w.tier stands.stored in
     let d = p o.session o.has w at stands unshared in
-    record { world = d.world; at = d.at; stands = d.stands; is = λ free. statement_does label st o.session w d.world (reply_of result) o.is d.is }
+    record { world = d.world; at = d.at; left = d.left; is = λ free. statement_does label st o.session w d.world (reply_of result) o.is d.is }
 
 pub console_performed : (old new : Stored) (before behind : SiteState) (request : ConsoleRequest) (reply : Reply)
     → Performs old new before behind (λ w w'. Tries (DoesConsole request) w w' reply) → Performs old new before behind (λ w w'. DoesAdmitted (says.Console request) w w' reply)
@@ -133,13 +137,42 @@ clock_told t site ms reply e = λ w at stands unshared. record {
   is = λ free. inl (refl, e ∙ ap (λ n. only (Done n)) (sym stands.stored.time.additions));
 }
 
--- what refuses a session's request is told by the sessions
-fault_same : (t t' : Tier) (label : List ℕ) (request : Request) → t'.sessions ≡ t.sessions → session_fault t' label request ≡ session_fault t label request
-fault_same t t' label (asks_for.Open options) e = ap (λ ss. open_fault (record t { sessions = ss }) label) e
-fault_same t t' label asks_for.Close e = ap (λ ss. session_fault (record t { sessions = ss }) label asks_for.Close) e
-fault_same t t' label (asks_for.Statement st) e = ap (λ ss. session_fault (record t { sessions = ss }) label (asks_for.Statement st)) e
+-- what refuses a session's request is told by the labels of the sessions
 
-still_admitted : (l : Line) (t t' : Tier) → t'.sessions ≡ t.sessions → IsAdmitted l t → IsAdmitted l t'
+any_labelled : (label : List ℕ) (ss : List Session) → list_any (is_labelled label) ss ≡ list_any (λ l. same_name l label) (labels_of ss)
+any_labelled label [] = refl
+any_labelled label (s ∷ ss) = ap (λ b. same_name s.label label || b) (any_labelled label ss)
+
+none_labelled : (label : List ℕ) (ss : List Session) → is_none (find (is_labelled label) ss) ≡ not (list_any (is_labelled label) ss)
+none_labelled label [] = refl
+none_labelled label (s ∷ ss) = by (is_labelled label s) (none_labelled label ss)
+  where
+    by : (b : Bool) → is_none (find (is_labelled label) ss) ≡ not (list_any (is_labelled label) ss) → is_none (cond b (Some s) (find (is_labelled label) ss)) ≡ not (b || list_any (is_labelled label) ss)
+    by true rest = refl
+    by false rest = rest
+
+any_same : (t t' : Tier) (label : List ℕ) → labels_of t'.sessions ≡ labels_of t.sessions → list_any (is_labelled label) t'.sessions ≡ list_any (is_labelled label) t.sessions
+any_same t t' label e = any_labelled label t'.sessions ∙ ap (list_any (λ l. same_name l label)) e ∙ sym (any_labelled label t.sessions)
+
+open_same : (t t' : Tier) (label : List ℕ) → labels_of t'.sessions ≡ labels_of t.sessions → session_fault t' label asks_for.Close ≡ session_fault t label asks_for.Close
+open_same t t' label e =
+    ap (λ b. broken_if b (labelled code.UnknownSession label)) (none_labelled label t'.sessions ∙ ap not (any_same t t' label e) ∙ sym (none_labelled label t.sessions))
+
+fault_same : (t t' : Tier) (label : List ℕ) (request : Request) → labels_of t'.sessions ≡ labels_of t.sessions → session_fault t' label request ≡ session_fault t label request
+fault_same t t' label (asks_for.Open options) e =
+    let used = any_same t t' label e in
+    let count = sym (length-map t'.sessions (λ (s : Session). s.label)) ∙ ap length e ∙ length-map t.sessions (λ (s : Session). s.label) in
+    λ i. option_or (broken_if (used i) (labelled code.NameInUse label)) (at_limit limit.Sessions (count i))
+fault_same t t' label asks_for.Close e = open_same t t' label e
+fault_same t t' label (asks_for.Statement st) e = open_same t t' label e
+
+-- and what refuses a line at the second place by the additions of the clock, too
+early_same : (base : ℕ) (l : Line) (t t' : Tier) → labels_of t'.sessions ≡ labels_of t.sessions → t'.added ≡ t.added → early_fault base l t' ≡ early_fault base l t
+early_same base (says.Session label request) t t' e f = fault_same t t' label request e
+early_same base (says.Console request) t t' e f = refl
+early_same base (says.Clock ms) t t' e f = ap (λ n. clock_fault base (says.Clock ms) (record t { added = n })) f
+
+still_admitted : (l : Line) (t t' : Tier) → labels_of t'.sessions ≡ labels_of t.sessions → IsAdmitted l t → IsAdmitted l t'
 still_admitted (says.Session label request) t t' e free = fault_same t t' label request e ∙ free
 still_admitted (says.Console request) t t' e free = tt
 still_admitted (says.Clock ms) t t' e free = tt
@@ -151,19 +184,20 @@ early_admits base (says.Clock ms) t e = tt
 
 -- THE QUESTION FOR THE SCHEMA, AND THE STATEMENT
 
-pub asked_end : (old new : Stored) (before behind : SiteState) (l : Line) (reply : Reply)
-    → Performs old new before behind (λ w w'. AsksSchema l w w' (Some reply)) → Performs old new before behind (λ w w'. AsksAndDoes l w w' reply)
-asked_end old new before behind l reply p =
-    performed old new before behind (λ w w'. AsksSchema l w w' (Some reply)) (λ w w'. AsksAndDoes l w w' reply)
-    (λ w w' stands asks free. inl (record { mid = w'; stop = Some reply; first = asks; next = (refl, refl) })) p
+pub asked_end : (old new : Stored) (doubt : Option Doubt) (before behind : SiteState) (l : Line) (reply : Reply) → doubt ≡ None
+    → Performs old new before behind (λ w w'. AsksSchema l w w' (Some reply)) → Ends old new doubt before behind (λ w w'. AsksAndDoes l w w' reply)
+asked_end old new doubt before behind l reply none p =
+    ended old new doubt before behind (λ w w'. AsksAndDoes l w w' reply) none
+    (performed old new before behind (λ w w'. AsksSchema l w w' (Some reply)) (λ w w'. AsksAndDoes l w w' reply)
+    (λ w w' stands asks free. inl (record { mid = w'; stop = Some reply; first = asks; next = (refl, refl) })) p)
 
-pub asked_on : (old mid new : Stored) (before between behind : SiteState) (l : Line) (reply : Reply)
-    → Performs old mid before between (λ w w'. AsksSchema l w w' None) → Performs mid new between behind (λ w w'. DoesAdmitted l w w' reply)
-    → Performs old new before behind (λ w w'. AsksAndDoes l w w' reply)
-asked_on old mid new before between behind l reply p q =
-    then_performed old mid new before between behind (λ w w'. AsksSchema l w w' None) (λ w w'. DoesAdmitted l w w' reply) (λ w w'. AsksAndDoes l w w' reply)
-    (λ w w' stands asks. asked_keeps l w w' None asks)
-    (λ w x w' stands asks does free.
+pub asked_on : (old mid new : Stored) (doubt : Option Doubt) (before between behind : SiteState) (l : Line) (reply : Reply)
+    → Performs old mid before between (λ w w'. AsksSchema l w w' None) → Ends mid new doubt between behind (λ w w'. DoesAdmitted l w w' reply)
+    → Ends old new doubt before behind (λ w w'. AsksAndDoes l w w' reply)
+asked_on old mid new doubt before between behind l reply p q =
+    then_led old mid new None doubt before between behind (λ w w'. AsksSchema l w w' None) (λ w w'. DoesAdmitted l w w' reply) (λ w w'. AsksAndDoes l w w' reply)
+    (λ w w' asks. asked_keeps l w w' None asks)
+    (λ w x w' asks does free.
     inl
     (record {
       mid = x;
@@ -171,27 +205,27 @@ asked_on old mid new before between behind l reply p q =
       first = asks;
       next = does (still_admitted l w.tier x.tier (asked_keeps l w x None asks).sessions free);
     }))
-    p q
+    (ended old mid None before between (λ w w'. AsksSchema l w w' None) refl p) q
 
-pub asked_refused : (old mid new : Stored) (before between behind : SiteState) (l : Line) (r : Refused) (reply : Reply) → reply ≡ reply_to r
-    → Performs old mid before between (λ w w'. AsksSchema l w w' None) → Performs mid new between behind (λ w w'. DoesAdmitted l w w' (reply_of (Err r)))
-    → Performs old new before behind (λ w w'. AsksAndDoes l w w' reply)
-asked_refused old mid new before between behind l r reply e p q =
-    asked_on old mid new before between behind l reply p
-    (subst (λ told. Performs mid new between behind (λ w w'. DoesAdmitted l w w' told)) (told_as r ∙ sym e) q)
+pub asked_refused : (old mid new : Stored) (doubt : Option Doubt) (before between behind : SiteState) (l : Line) (r : Refused) (reply : Reply) → reply ≡ reply_to r
+    → Performs old mid before between (λ w w'. AsksSchema l w w' None) → Ends mid new doubt between behind (λ w w'. DoesAdmitted l w w' (reply_of (Err r)))
+    → Ends old new doubt before behind (λ w w'. AsksAndDoes l w w' reply)
+asked_refused old mid new doubt before between behind l r reply e p q =
+    asked_on old mid new doubt before between behind l reply p
+    (subst (λ told. Ends mid new doubt between behind (λ w w'. DoesAdmitted l w w' told)) (told_as r ∙ sym e) q)
 
 -- THE WORK THAT IS DUE
 
-worked_keeps : (t : Stored) (base : ℕ) (l : Line) (notes : List Note) (stop : Option Reply) (w w' : World) → StandsFor t w → DueWork (with_moment base l w) w' notes stop → KeepsWho w w'
-worked_keeps t base l notes stop w w' stands works =
+worked_keeps : (base : ℕ) (l : Line) (notes : List Note) (stop : Option Reply) (w w' : World) → DueWork (with_moment base l w) w' notes stop → KeepsWho w w'
+worked_keeps base l notes stop w w' works =
     who_on w (with_moment base l w) w' (record { sessions = refl; groups = refl; shared = refl })
-    (due_keeps (with_moment base l w) w' notes stop stands.stored.doubt works)
+    (due_keeps (with_moment base l w) w' notes stop works)
 
-pub worked_end : (old new : Stored) (before behind : SiteState) (base : ℕ) (l : Line) (notes : List Note) (stop : Option Reply) (last reply : Reply) → stop ≡ Some last → reply ≡ with_notes notes last
-    → Performs old new before behind (λ w w'. DueWork (with_moment base l w) w' notes stop) → Performs old new before behind (λ w w'. WorksAndAnswers base l w w' reply)
-worked_end old new before behind base l notes stop last reply is e p =
-    performed old new before behind (λ w w'. DueWork (with_moment base l w) w' notes stop) (λ w w'. WorksAndAnswers base l w w' reply)
-    (λ w w' stands works free.
+pub worked_end : (old new : Stored) (was doubt : Option Doubt) (before behind : SiteState) (base : ℕ) (l : Line) (notes : List Note) (stop : Option Reply) (last reply : Reply) → stop ≡ Some last → reply ≡ with_notes notes last
+    → Leads old was new doubt before behind (λ w w'. DueWork (with_moment base l w) w' notes stop) → Leads old was new doubt before behind (λ w w'. WorksAndAnswers base l w w' reply)
+worked_end old new was doubt before behind base l notes stop last reply is e p =
+    led old new was doubt before behind (λ w w'. DueWork (with_moment base l w) w' notes stop) (λ w w'. WorksAndAnswers base l w w' reply)
+    (λ w w' left works free.
     inl
     (record {
       due = w';
@@ -204,13 +238,13 @@ worked_end old new before behind base l notes stop last reply is e p =
     }))
     p
 
-pub worked_on : (old mid new : Stored) (before between behind : SiteState) (base : ℕ) (l : Line) (notes : List Note) (stop : Option Reply) (last reply : Reply) → stop ≡ None → reply ≡ with_notes notes last
-    → Performs old mid before between (λ w w'. DueWork (with_moment base l w) w' notes stop) → Performs mid new between behind (λ w w'. AsksAndDoes l w w' last)
-    → Performs old new before behind (λ w w'. WorksAndAnswers base l w w' reply)
-worked_on old mid new before between behind base l notes stop last reply is e p q =
-    then_performed old mid new before between behind (λ w w'. DueWork (with_moment base l w) w' notes stop) (λ w w'. AsksAndDoes l w w' last) (λ w w'. WorksAndAnswers base l w w' reply)
-    (λ w w' stands works. worked_keeps old base l notes stop w w' stands works)
-    (λ w x w' stands works answers free.
+pub worked_on : (old mid new : Stored) (was between_doubt doubt : Option Doubt) (before between behind : SiteState) (base : ℕ) (l : Line) (notes : List Note) (stop : Option Reply) (last reply : Reply) → stop ≡ None → between_doubt ≡ None → reply ≡ with_notes notes last
+    → Leads old was mid between_doubt before between (λ w w'. DueWork (with_moment base l w) w' notes stop) → Ends mid new doubt between behind (λ w w'. AsksAndDoes l w w' last)
+    → Leads old was new doubt before behind (λ w w'. WorksAndAnswers base l w w' reply)
+worked_on old mid new was between_doubt doubt before between behind base l notes stop last reply is none e p q =
+    then_led old mid new was doubt before between behind (λ w w'. DueWork (with_moment base l w) w' notes stop) (λ w w'. AsksAndDoes l w w' last) (λ w w'. WorksAndAnswers base l w w' reply)
+    (λ w w' works. worked_keeps base l notes stop w w' works)
+    (λ w x w' works answers free.
     inl
     (record {
       due = x;
@@ -220,19 +254,19 @@ worked_on old mid new before between behind base l notes stop last reply is e p 
       works = subst (λ end. DueWork (with_moment base l w) x notes end) is works;
       does =
           answers
-          (still_admitted l w.tier x.tier (worked_keeps old base l notes stop w x stands works).sessions
+          (still_admitted l w.tier x.tier (worked_keeps base l notes stop w x works).sessions
           (early_admits base l w.tier free));
       answer = e;
     }))
-    p q
+    (led_none old mid was between_doubt before between (λ w w'. DueWork (with_moment base l w) w' notes stop) none p) q
 
 -- LINES THAT ARE READ
 
-pub undone : (t : Stored) (site : SiteState) (base : ℕ) (l : Line) (reply : Reply) → is_undone l ≡ true → reply ≡ only (No (wrong_at 0)) → Performs t t site site (λ w w'. Heeds base (Says l) w w' reply)
-undone t site base l reply is e = λ w at stands unshared. record {
+pub undone : (t : Stored) (was : Option Doubt) (site : SiteState) (base : ℕ) (l : Line) (reply : Reply) → is_undone l ≡ true → reply ≡ only (No (wrong_at 0)) → Leads t was t was site site (λ w w'. Heeds base (Says l) w w' reply)
+undone t was site base l reply is e w at left unshared = record {
   world = w;
   at = at;
-  stands = stands;
+  left = left;
   is = subst (λ b. MatchBool b (Tries (Refuses (wrong_at 0)) w w reply) (Answered base l w w reply)) (sym is) (inl (refl, e));
 }
 
@@ -244,26 +278,30 @@ refused_early : (base : ℕ) (l : Line) (w : World) (r : Refused) (reply : Reply
 refused_early base l w (refused.Rule rule) reply told e = inl (subst (λ f. Unless f (Parts base l) w w reply) (sym told) (refl, e))
 refused_early base l w refused.Memory reply told e = inr (refl, e)
 
-pub early : (t : Stored) (site : SiteState) (base : ℕ) (l : Line) (r : Refused) (reply : Reply) → is_undone l ≡ false
+pub early : (t : Stored) (was : Option Doubt) (site : SiteState) (base : ℕ) (l : Line) (r : Refused) (reply : Reply) → is_undone l ≡ false
     → ((a : Tier) → IsStoredAs t a → IsRefusedBy (early_fault base l a) r) → reply ≡ reply_to r
-    → Performs t t site site (λ w w'. Heeds base (Says l) w w' reply)
-early t site base l r reply is told e = λ w at stands unshared. record {
-  world = w;
-  at = at;
-  stands = stands;
-  is = heeds_done base l w w reply is (refused_early base l w r reply (told w.tier stands.stored) e);
-}
+    → Leads t was t was site site (λ w w'. Heeds base (Says l) w w' reply)
+early t was site base l r reply is told e w at left unshared =
+    let a = left_stored t was w left in
+    let same = early_same base l a.tier w.tier a.sessions a.added in
+    record {
+      world = w;
+      at = at;
+      left = left;
+      is = heeds_done base l w w reply is (refused_early base l w r reply (subst (λ f. IsRefusedBy f r) (sym same) (told a.tier a.stored)) e);
+    }
 
 answered_free : (base : ℕ) (l : Line) (w w' : World) (reply : Reply) → early_fault base l w.tier ≡ None → Tries (Parts base l) w w' reply → Answered base l w w' reply
 answered_free base l w w' reply free (inl q) = inl (subst (λ f. Unless f (Parts base l) w w' reply) (sym free) q)
 answered_free base l w w' reply free (inr q) = inr q
 
-pub heeded : (old new : Stored) (before behind : SiteState) (base : ℕ) (l : Line) (reply : Reply) → is_undone l ≡ false
+pub heeded : (old new : Stored) (was doubt : Option Doubt) (before behind : SiteState) (base : ℕ) (l : Line) (reply : Reply) → is_undone l ≡ false
     → ((a : Tier) → IsStoredAs old a → early_fault base l a ≡ None)
-    → Performs old new before behind (λ w w'. WorksAndAnswers base l w w' reply) → Performs old new before behind (λ w w'. Heeds base (Says l) w w' reply)
-heeded old new before behind base l reply is free p =
-    performed old new before behind (λ w w'. WorksAndAnswers base l w w' reply) (λ w w'. Heeds base (Says l) w w' reply)
-    (λ w w' stands works.
-    let none = free w.tier stands.stored in
+    → Leads old was new doubt before behind (λ w w'. WorksAndAnswers base l w w' reply) → Leads old was new doubt before behind (λ w w'. Heeds base (Says l) w w' reply)
+heeded old new was doubt before behind base l reply is free p =
+    led old new was doubt before behind (λ w w'. WorksAndAnswers base l w w' reply) (λ w w'. Heeds base (Says l) w w' reply)
+    (λ w w' left works.
+    let a = left_stored old was w left in
+    let none = early_same base l a.tier w.tier a.sessions a.added ∙ free a.tier a.stored in
     heeds_done base l w w' reply is (answered_free base l w w' reply none (works none)))
     p

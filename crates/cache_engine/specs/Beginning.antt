@@ -7,6 +7,7 @@ use Rattle.table_defs.specs.declared.definition.TableDef.{TableDef}
 use Rattle.table_state.specs.declared.history.Entry.{Entry}
 use Rattle.table_state.specs.Histories.{state_of}
 use Rattle.table_state.specs.Tables.{TableState}
+use Rattle.pending_writes.specs.Noting.{TellsWriters}
 use Rattle.order_laws.specs.Steps.{MayBegin}
 use Rattle.outside.specs.Holding.{Held}
 use Rattle.outside.specs.Others.{AreOthers}
@@ -87,6 +88,7 @@ pub record IsFresh (t : Stored) (schema : List TableDef) (start propagate_ms : �
   pub stores : t.stores.items ≡ []
   pub sessions : seen_all t.sessions ≡ []
   pub unsettled : t.unsettled.items ≡ []
+  pub writers : (known : List TableDef) (first : ℕ) → TellsWriters known first [] t.writers
   pub next : t.next ≡ 1
   pub clock : IsNewClock t.clock start propagate_ms
   pub judged : t.verified ≡ false

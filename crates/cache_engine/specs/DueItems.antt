@@ -5,7 +5,7 @@ use Rattle.std.specs.Prelude.{◌≡◌, ℕ, nat_lt, List, ◌++◌, Bool, true
 use Rattle.std.specs.List.{filter}
 use Rattle.tier_base.specs.declared.code.Code.{Code}
 use Rattle.cache_tier.specs.Aging.{is_over}
-use Rattle.cache_tier.specs.DueWork.{Item, intervals}
+use Rattle.cache_tier.specs.DueWork.{DueAging, DueRound, DueSets, Item, ThenItem, intervals}
 use Rattle.cache_tier.specs.Groups.{Group, definitions_of}
 use Rattle.cache_tier.specs.declared.reply.Note.{Note}
 use Rattle.cache_tier.specs.declared.reply.Note.TheVariants.{Propagate, Refresh}
@@ -18,6 +18,10 @@ use Rattle.cache_engine.specs.Due.{IsDueCaused}
 use Rattle.stored_tier.specs.Performing.{Performs}
 use Rattle.stored_tier.specs.Refreshing.{has_moment, moment_in}
 use Rattle.outside.specs.Sites.{SiteState}
+
+-- what is due behind the doubt
+abbrev pub DueRest : Item
+DueRest = ThenItem DueRound (ThenItem DueSets DueAging)
 
 -- a set is due at a moment: its interval after its last refresh
 abbrev pub is_due_at : ℕ → List SetMoment → ℕ → Bool

@@ -1,6 +1,7 @@
 pub mod Beginning
 pub mod Due
 pub mod DueItems
+pub mod Engines
 pub mod Growing
 pub mod Requests
 pub mod Serving

@@ -1,14 +1,17 @@
 //! How a tier begins.
 
 ghost use Rattle.std.specs.Prelude.{IfOk};
-ghost use Rattle.cache_engine.specs.Beginning.{IsFresh, IsNewClock, Begins, BeginsAt};
+ghost use Rattle.cache_engine.specs.Beginning.{IsFresh, IsNewClock, BeginsAt};
+ghost use Rattle.cache_engine.specs.Engines.{IsBegunWith, IsInOrder};
 ghost use Rattle.stored_tier.specs.Stored.{IsSound};
 ghost use Rattle.outside.specs.Faults.{BankHasCause};
 
+use crate::engine::Engine;
 use cache_tier::opened_law;
 use group_catalog::Catalog;
 use open_sessions::Sessions;
 use outside::{BankError, Site};
+use pending_writes::PendingWrites;
 use std::alloc::{AllocError, Global};
 use std::collections::VecDeque;
 use stored_tier::clock::TierClock;
@@ -17,7 +20,7 @@ use stored_tier::tier::Tier;
 use table_defs::BackingSchema;
 use tier_base::{Limit, Moment};
 
-/// A tier over a backing database in which no transaction of a tier stands. It asks for the schema; transactions of
+/// An engine over a backing database in which no transaction of a tier stands: nothing is in doubt. It asks for the schema; transactions of
 /// others may come in that call. `start` is its first moment, and `propagate_ms` says after how many milliseconds a
 /// round is due; 0 where none ever is.
 ///
@@ -28,12 +31,12 @@ pub fn begin<P: Site>(
     site: &mut P,
     start: Moment,
     propagate_ms: u64,
-) -> Result<Tier, BankError>
-    ensures begins { Begins start propagate_ms
+) -> Result<Engine, BankError>
+    ensures begins { IsBegunWith start propagate_ms
         (P.Disk.state site.old)
         (P.Disk.state site.new)
         result }
-    ensures sound { IfOk result IsSound }
+    ensures order { IfOk result IsInOrder }
     ensures cause { BankHasCause (P.Disk.state site.old) (P.Disk.state site.new) result }
     ensures later { BeginsAt
         (P.Disk.state site.old)
@@ -44,7 +47,7 @@ pub fn begin<P: Site>(
         Err(error) => Err(error),
         Ok(schema) => match new_tier(alloc, schema, start, propagate_ms) {
             Err(_) => Err(BankError::Memory),
-            Ok(tier) => Ok(tier),
+            Ok(tier) => Ok(Engine { tier, doubt: None }),
         },
     }
 }
@@ -71,6 +74,7 @@ fn new_tier(
         directory,
         sessions: Sessions::new(alloc),
         unsettled: VecDeque::new(alloc),
+        writers: PendingWrites::new(alloc),
         next: 1,
         clock: new_clock(alloc, start, propagate_ms),
         verified: false,

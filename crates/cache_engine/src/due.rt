@@ -1,17 +1,18 @@
 //! What is due before a line.
 
-ghost use Rattle.std.specs.Prelude.{◌≡◌, ◌≤◌, ◌+◌, [], IfOk, IfSome, length, max, vec_capacity, vec_len, OnErr};
+ghost use Rattle.std.specs.Prelude.{◌≡◌, ◌≤◌, ◌+◌, [], IfOk, IfSome, None, length, max, vec_capacity, vec_len, OnErr};
 ghost use Rattle.cache_tier.specs.Steps.{added_by, with_moment};
 ghost use Rattle.cache_tier.specs.TierStates.{Tier as AbstractTier, cut};
 ghost use Rattle.cache_tier.specs.DueWork.{DueWork};
 ghost use Rattle.cache_engine.specs.Due.{IsDueCaused};
-ghost use Rattle.stored_tier.specs.Performing.{Performs};
+ghost use Rattle.session_engine.specs.Doubting.{IsReady, Leads};
 ghost use Rattle.stored_tier.specs.Stored.{IsSound};
 
 use crate::due_sets::{due_intervals, with_entries};
-use crate::due_work::do_due;
+use crate::due_work::settle_and_do;
 use cache_tier::reply::{Note, Reply};
 use outside::Site;
+use session_engine::doubt::Doubt;
 use sql_subset::request::Line;
 use std::alloc::{AllocError, Global};
 use stored_tier::moments::SetMoment;
@@ -28,25 +29,31 @@ pub struct Due {
 }
 
 /// The moment of a line comes, which is the greater of the last one and the base with the console's additions, and what
-/// is due then is done: a round of propagation, then the refreshes of sets by rising interval. A fault of the bank, or
-/// want of memory, becomes a note, and the line goes on; another fault ends it.
+/// is due then is done: a commit in doubt is settled, then a round of propagation, then the refreshes of sets by rising
+/// interval. Where the question for the doubt fails, or memory is wanting for it, the line ends with that, and nothing
+/// else is done. A later fault of the bank, or want of memory, becomes a note, and the line goes on; another fault ends
+/// it.
 ///
 /// It fails for want of memory alone, before anything is done. (TimesTen Cache User's Guide, "Automatically refreshing
 /// a cache group"; the order is this project's rule.)
 pub fn begin_line<P: Site>(
     tier: &mut Tier,
+    doubt: &mut Option<Doubt>,
     alloc: Global,
     site: &mut P,
     base: Moment,
     line: &Line,
 ) -> Result<Due, AllocError>
-    requires { IsSound tier.old }
-    ensures performs { IfOk result (λ due. Performs tier.old tier.new
+    requires sound { IsSound tier.old }
+    requires ready { IsReady tier.old doubt.old }
+    ensures performs { IfOk result (λ due. Leads tier.old doubt.old tier.new doubt.new
         (P.Disk.state site.old)
         (P.Disk.state site.new)
         (λ w w'. DueWork (with_moment base.0 line.now w) w' due.notes due.stop)) }
-    ensures err { OnErr result ((tier.new ≡ tier.old) × (site.new ≡ site.old)) }
+    ensures settled { IfOk result (λ due. due.stop ≡ None → doubt.new ≡ None) }
+    ensures err { OnErr result ((tier.new ≡ tier.old) × (doubt.new ≡ doubt.old) × (site.new ≡ site.old)) }
     ensures sound { IsSound tier.new }
+    ensures ready { IsReady tier.new doubt.new }
     ensures cause { IfOk result (IsDueCaused
         (P.Disk.state site.old)
         (P.Disk.state site.new)) }
@@ -59,7 +66,7 @@ pub fn begin_line<P: Site>(
     let sets = with_entries(alloc, tier.clock.sets.as_slice(), intervals.as_slice())?;
     let mut notes = room_for_notes(alloc, intervals.as_slice())?;
     set_clock(tier, now, added, sets);
-    let stop = do_due(tier, alloc, site, intervals.as_slice(), &mut notes);
+    let stop = settle_and_do(tier, doubt, alloc, site, intervals.as_slice(), &mut notes);
     Ok(Due {
         notes: Seq::from_vec(notes),
         stop,
@@ -100,12 +107,12 @@ fn moment_of(now: u64, base: Moment, added: u64) -> u64
         .min(Limit::Clock.number())
 }
 
-// Room for a note of the round, and for one of each set.
+// Room for a note of the doubt, for one of the round, and for one of each set.
 fn room_for_notes(alloc: Global, intervals: &[u64]) -> Result<Vec<Note>, AllocError>
     ensures items { IfOk result (λ notes. notes.items ≡ []) }
-    ensures room { IfOk result (λ notes. vec_len notes + (length intervals.now + 1) ≤ vec_capacity notes) }
+    ensures room { IfOk result (λ notes. vec_len notes + (length intervals.now + 2) ≤ vec_capacity notes) }
 {
-    let Some(room) = intervals.len().checked_add(1) else {
+    let Some(room) = intervals.len().checked_add(2) else {
         return Err(AllocError);
     };
     Vec::with_capacity(alloc, room)

@@ -1,28 +1,83 @@
 //! The items of due work.
 
-ghost use Rattle.std.specs.Prelude.{◌≡◌, ◌≤◌, ◌<◌, ◌+◌, ◌++◌, ℕ, Some, length, true, vec_capacity, vec_len};
+ghost use Rattle.std.specs.Prelude.{◌≡◌, ◌≤◌, ◌<◌, ◌+◌, ◌++◌, [], ℕ, None, Ok, Some, length, true, vec_capacity, vec_len};
 ghost use Rattle.std.specs.List.{list_all};
 ghost use Rattle.cache_tier.specs.DueWork.{DueRound, DueSetsOf, DueWork, Noted, noted, noted_code, stopped};
 ghost use Rattle.cache_tier.specs.Groups.{definitions_of};
 ghost use Rattle.cache_tier.specs.Sets.{RefreshesIfShown};
 ghost use Rattle.group_catalog.specs.Catalogs.{groups_in};
-ghost use Rattle.cache_engine.specs.DueItems.{DoesItem, due_at, note_of, round_is_due, KeepsSets};
+ghost use Rattle.cache_engine.specs.Due.{IsDueCaused};
+ghost use Rattle.cache_engine.specs.DueItems.{DoesItem, DueRest, due_at, due_of, note_of, round_is_due, KeepsSets};
+ghost use Rattle.session_engine.specs.Doubting.{IsReady, Leads};
 ghost use Rattle.stored_tier.specs.Performing.{stop_of, IsStopCaused, Performs};
 ghost use Rattle.stored_tier.specs.Refreshing.{has_moment};
 ghost use Rattle.stored_tier.specs.Stored.{IsSound};
+ghost use Rattle.session_engine.specs.Settling.{told_of};
 
 use cache_tier::reply::{Last, Note, Reply};
 use group_engine::fresh::refresh_members;
 use outside::Site;
+use session_engine::doubt::Doubt;
+use session_engine::settling::settle_doubt;
 use std::alloc::Global;
 use stored_tier::refreshing::shows_something;
 use stored_tier::tier::Tier;
 use tier_base::Code;
 use tier_statements::bank_fault;
 
+// A commit in doubt is settled, and then what is due is done. All its notes are told, and it is the reply that ends the
+// line.
+pub(crate) fn settle_and_do<P: Site>(
+    tier: &mut Tier,
+    doubt: &mut Option<Doubt>,
+    alloc: Global,
+    site: &mut P,
+    intervals: &[u64],
+    notes: &mut Vec<Note>,
+) -> Option<Reply>
+    requires sound { IsSound tier.old }
+    requires ready { IsReady tier.old doubt.old }
+    requires none { notes.old.items ≡ [] }
+    requires room { vec_len notes.old + (length intervals.now + 2) ≤ vec_capacity notes.old }
+    requires entries { list_all (has_moment tier.old.clock.sets.items) intervals.now ≡ true }
+    requires due { intervals.now
+        ≡ due_at tier.old.clock.now tier.old.clock.sets.items (groups_in tier.old.catalog) }
+    ensures performs { Leads tier.old doubt.old tier.new doubt.new
+        (P.Disk.state site.old)
+        (P.Disk.state site.new)
+        (λ w w'. DueWork w w' notes.new.items result) }
+    ensures settled { result ≡ None → doubt.new ≡ None }
+    ensures sound { IsSound tier.new }
+    ensures ready { IsReady tier.new doubt.new }
+    ensures cause { IsDueCaused
+        (P.Disk.state site.old)
+        (P.Disk.state site.new)
+        (due_of notes.new.items result) }
+{
+    match settle_doubt(tier, site, doubt) {
+        Err(error) => Some(bank_fault(alloc, error)),
+        Ok(told) => {
+            tell(told, notes);
+            do_due(tier, alloc, site, intervals, notes)
+        }
+    }
+}
+
+// What is told of a doubt is noted.
+fn tell(told: Option<Note>, notes: &mut Vec<Note>)
+    requires { vec_len notes.old < vec_capacity notes.old }
+    ensures notes { notes.new.items ≡ notes.old.items ++ told_of (Ok told) }
+    ensures capacity { vec_capacity notes.new ≡ vec_capacity notes.old }
+    ensures few { vec_len notes.new ≤ vec_len notes.old + 1 }
+{
+    if let Some(note) = told {
+        notes.push_reserved(note);
+    }
+}
+
 // What is due is done: the round, and the sets of these intervals. Its notes come behind the others, and it is the reply
 // that ends the line.
-pub(crate) fn do_due<P: Site>(
+fn do_due<P: Site>(
     tier: &mut Tier,
     alloc: Global,
     site: &mut P,
@@ -34,7 +89,7 @@ pub(crate) fn do_due<P: Site>(
     requires entries { list_all (has_moment tier.old.clock.sets.items) intervals.now ≡ true }
     requires due { intervals.now
         ≡ due_at tier.old.clock.now tier.old.clock.sets.items (groups_in tier.old.catalog) }
-    ensures does { DoesItem DueWork tier.old tier.new
+    ensures does { DoesItem DueRest tier.old tier.new
         (P.Disk.state site.old)
         (P.Disk.state site.new)
         notes.old.items notes.new.items result }

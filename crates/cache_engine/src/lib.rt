@@ -9,6 +9,7 @@ pub mod due;
 pub mod due_sets;
 pub mod due_work;
 pub mod early;
+pub mod engine;
 pub mod growing;
 pub mod request;
 pub mod schema;

@@ -6,12 +6,12 @@ ghost use Rattle.row_types.specs.declared.rule.Refused.TheVariants as refused;
 ghost use Rattle.cache_tier.specs.Steps.{Heeds, Says, with_notes};
 ghost use Rattle.cache_tier.specs.Undone.{is_undone};
 ghost use Rattle.cache_engine.specs.Serving.{misread, WorksAndAnswers};
-ghost use Rattle.stored_tier.specs.Performing.{Performs};
+ghost use Rattle.cache_engine.specs.Engines.{Goes, IsInOrder};
 ghost use Rattle.cache_engine.specs.Requests.{IsLineCaused, LineStep};
-ghost use Rattle.stored_tier.specs.Stored.{IsSound};
 
 use crate::due::{Due, begin_line};
 use crate::early::judge_early;
+use crate::engine::Engine;
 use crate::statement::answer_line;
 use crate::undone::is_undone;
 use cache_tier::heeding::heed_law;
@@ -22,31 +22,31 @@ use session_engine::commit::past;
 use sql_subset::line::parse_line;
 use sql_subset::request::{Line, ParseError};
 use std::alloc::Global;
-use stored_tier::tier::Tier;
 use tier_base::{Code, Limit, Moment, Seq};
 use tier_statements::{faulty, refuse};
 
 /// Answers one request line, without its line end. A line that is empty or a comment has no reply. Moments are counted
 /// from `base`.
 ///
-/// The line is a step of the abstract tier, and the reply is that step's. Where memory is wanting the reply says so,
-/// and the tier is as before but for the due work.
+/// The line is a step of the abstract tier, and the reply is that step's. It is so in each world in which the engine was
+/// left so: its tier stands there, or a commit is in doubt. Where memory is wanting the reply says so, and the engine is
+/// as before but for the due work.
 ///
 /// A reply tells a fault of the bank only where the count of bank faults rose in this call, also where the site tells
 /// nothing of what it holds.
 pub fn request<P: Site>(
-    tier: &mut Tier,
+    engine: &mut Engine,
     alloc: Global,
     site: &mut P,
     base: Moment,
     line: &[u8],
 ) -> Option<Reply>
-    requires { IsSound tier.old }
-    ensures performs { Performs tier.old tier.new
+    requires { IsInOrder engine.old }
+    ensures performs { Goes engine.old engine.new
         (P.Disk.state site.old)
         (P.Disk.state site.new)
         (λ w w'. LineStep base.0 w line.now w' result) }
-    ensures sound { IsSound tier.new }
+    ensures order { IsInOrder engine.new }
     ensures cause { IsLineCaused
         (P.Disk.state site.old)
         (P.Disk.state site.new)
@@ -58,19 +58,25 @@ pub fn request<P: Site>(
     }
     match parse_line(alloc, line) {
         Ok(None) => None,
-        Ok(Some(line)) => Some(heed(tier, alloc, site, base, line)),
+        Ok(Some(line)) => Some(heed(engine, alloc, site, base, line)),
         Err(error) => Some(refuse(alloc, misread(error))),
     }
 }
 
 // Answers a line that is read: 101 at byte 0 where it isn't done yet, then what the second place of the order refuses.
-fn heed<P: Site>(tier: &mut Tier, alloc: Global, site: &mut P, base: Moment, line: Line) -> Reply
-    requires { IsSound tier.old }
-    ensures performs { Performs tier.old tier.new
+fn heed<P: Site>(
+    engine: &mut Engine,
+    alloc: Global,
+    site: &mut P,
+    base: Moment,
+    line: Line,
+) -> Reply
+    requires { IsInOrder engine.old }
+    ensures performs { Goes engine.old engine.new
         (P.Disk.state site.old)
         (P.Disk.state site.new)
         (λ w w'. Heeds base.0 (Says line) w w' result) }
-    ensures sound { IsSound tier.new }
+    ensures order { IsInOrder engine.new }
     ensures cause { IsLineCaused
         (P.Disk.state site.old)
         (P.Disk.state site.new)
@@ -79,38 +85,40 @@ fn heed<P: Site>(tier: &mut Tier, alloc: Global, site: &mut P, base: Moment, lin
     if is_undone(&line) {
         return refuse(alloc, wrong_at(0));
     }
-    match judge_early(tier, alloc, base, &line) {
+    match judge_early(&engine.tier, alloc, base, &line) {
         Err(refused) => refuse(alloc, refused),
-        Ok(()) => work_and_answer(tier, alloc, site, base, line),
+        Ok(()) => work_and_answer(engine, alloc, site, base, line),
     }
 }
 
 // The work that is due, and then the line, unless the work ended it. What the work tells stands before the reply.
 fn work_and_answer<P: Site>(
-    tier: &mut Tier,
+    engine: &mut Engine,
     alloc: Global,
     site: &mut P,
     base: Moment,
     line: Line,
 ) -> Reply
-    requires sound { IsSound tier.old }
+    requires order { IsInOrder engine.old }
     requires done { is_undone line ≡ false }
-    ensures performs { Performs tier.old tier.new
+    ensures performs { Goes engine.old engine.new
         (P.Disk.state site.old)
         (P.Disk.state site.new)
         (λ w w'. WorksAndAnswers base.0 line w w' result) }
-    ensures sound { IsSound tier.new }
+    ensures order { IsInOrder engine.new }
     ensures cause { IsLineCaused
         (P.Disk.state site.old)
         (P.Disk.state site.new)
         (Some result) }
 {
-    let Ok(Due { notes, stop }) = begin_line(tier, alloc, site, base, &line) else {
+    let tier = &mut engine.tier;
+    let doubt = &mut engine.doubt;
+    let Ok(Due { notes, stop }) = begin_line(tier, doubt, alloc, site, base, &line) else {
         return faulty(alloc, Code::Memory);
     };
     match stop {
         Some(reply) => with_notes(notes, reply),
-        None => with_notes(notes, answer_line(tier, alloc, site, line)),
+        None => with_notes(notes, answer_line(tier, doubt, alloc, site, line)),
     }
 }
 

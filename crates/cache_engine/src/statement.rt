@@ -1,12 +1,13 @@
 //! What a line does behind the work that is due: the question for the schema, and the statement.
 
-ghost use Rattle.std.specs.Prelude.{◌≡◌, IfErr, IfOk, false};
+ghost use Rattle.std.specs.Prelude.{◌≡◌, IfErr, IfOk, None, false};
 ghost use Rattle.row_types.specs.declared.rule.Refused.TheVariants as refused;
 ghost use Rattle.cache_tier.specs.TierStates.{Tier as AbstractTier};
 ghost use Rattle.cache_tier.specs.Undone.{is_undone, is_undone_request, is_undone_statement};
 ghost use Rattle.sql_subset.specs.declared.request.Line.TheVariants as says;
 ghost use Rattle.stored_tier.specs.Answering.{IsSessionOf};
-ghost use Rattle.stored_tier.specs.Performing.{Executes, IsCaused, Performs, PerformsIn, reply_of};
+ghost use Rattle.stored_tier.specs.Performing.{Executes, IsCaused, reply_of};
+ghost use Rattle.session_engine.specs.Doubting.{Ends, EndsIn, IsReady};
 ghost use Rattle.cache_engine.specs.Serving.{AsksAndDoes, DoesAdmitted};
 ghost use Rattle.stored_tier.specs.Stored.{IsSound, IsStoredAs};
 
@@ -21,9 +22,9 @@ use group_engine::loading::{load_group, refresh_group};
 use group_engine::unloading::unload_group;
 use outside::Site;
 use row_types::Refused;
-use session_engine::resting::{
-    close_session, commit_session, flush_group, open_session, roll_back, run_query,
-};
+use session_engine::at_once::commit_transaction;
+use session_engine::doubt::Doubt;
+use session_engine::resting::{close_session, flush_group, open_session, roll_back, run_query};
 use session_engine::writing::write_rows;
 use sql_subset::request::{Line, Request};
 use sql_subset::stmt::Stmt;
@@ -32,21 +33,24 @@ use stored_tier::tier::Tier;
 use tier_base::{Label, SessionId};
 use tier_statements::{done, refuse};
 
-/// Answers a line that is admitted: the bank is asked for the schema where the line wants it, and the line does what
-/// it says.
+/// Answers a line that is admitted, where nothing is in doubt: the bank is asked for the schema where the line wants it,
+/// and the line does what it says. A COMMIT whose call failed leaves its ticket in doubt.
 pub(crate) fn answer_line<P: Site>(
     tier: &mut Tier,
+    doubt: &mut Option<Doubt>,
     alloc: Global,
     site: &mut P,
     line: Line,
 ) -> Reply
     requires sound { IsSound tier.old }
+    requires free { doubt.old ≡ None }
     requires done { is_undone line ≡ false }
-    ensures performs { Performs tier.old tier.new
+    ensures performs { Ends tier.old tier.new doubt.new
         (P.Disk.state site.old)
         (P.Disk.state site.new)
         (λ w w'. AsksAndDoes line w w' result) }
     ensures sound { IsSound tier.new }
+    ensures ready { IsReady tier.new doubt.new }
     ensures cause { IsCaused
         (P.Disk.state site.old)
         (P.Disk.state site.new)
@@ -54,7 +58,7 @@ pub(crate) fn answer_line<P: Site>(
 {
     match ask_schema(tier, alloc, site, &line) {
         Err(reply) => reply,
-        Ok(()) => match do_line(tier, alloc, site, line) {
+        Ok(()) => match do_line(tier, doubt, alloc, site, line) {
             Ok(reply) => reply,
             Err(refused) => refuse(alloc, refused),
         },
@@ -64,24 +68,27 @@ pub(crate) fn answer_line<P: Site>(
 // A session's request, the console's, or the sum of the clock's additions.
 fn do_line<P: Site>(
     tier: &mut Tier,
+    doubt: &mut Option<Doubt>,
     alloc: Global,
     site: &mut P,
     line: Line,
 ) -> Result<Reply, Refused>
     requires sound { IsSound tier.old }
+    requires free { doubt.old ≡ None }
     requires done { is_undone line ≡ false }
-    ensures performs { Performs tier.old tier.new
+    ensures performs { Ends tier.old tier.new doubt.new
         (P.Disk.state site.old)
         (P.Disk.state site.new)
         (λ w w'. DoesAdmitted line w w' (reply_of result)) }
     ensures sound { IsSound tier.new }
+    ensures ready { IsReady tier.new doubt.new }
     ensures cause { IsCaused
         (P.Disk.state site.old)
         (P.Disk.state site.new)
         (reply_of result) }
 {
     match line {
-        Line::Session(label, request) => do_request(tier, alloc, site, &label, request),
+        Line::Session(label, request) => do_request(tier, doubt, alloc, site, &label, request),
         Line::Console(request) => serve_console(tier, alloc, site, &request),
         Line::Clock(_) => Ok(done(alloc, tier.clock.added)),
     }
@@ -90,18 +97,21 @@ fn do_line<P: Site>(
 // OPEN, CLOSE, or a statement of the session of a label.
 fn do_request<P: Site>(
     tier: &mut Tier,
+    doubt: &mut Option<Doubt>,
     alloc: Global,
     site: &mut P,
     label: &Label,
     request: Request,
 ) -> Result<Reply, Refused>
     requires sound { IsSound tier.old }
+    requires free { doubt.old ≡ None }
     requires done { is_undone_request request ≡ false }
-    ensures performs { Performs tier.old tier.new
+    ensures performs { Ends tier.old tier.new doubt.new
         (P.Disk.state site.old)
         (P.Disk.state site.new)
         (λ w w'. DoesAdmitted (says.Session label.now request) w w' (reply_of result)) }
     ensures sound { IsSound tier.new }
+    ensures ready { IsReady tier.new doubt.new }
     ensures cause { IsCaused
         (P.Disk.state site.old)
         (P.Disk.state site.new)
@@ -115,7 +125,7 @@ fn do_request<P: Site>(
         }
         Request::Statement(statement) => {
             let id = admitted(tier, alloc, label)?;
-            execute(tier, alloc, site, id, statement)
+            execute(tier, doubt, alloc, site, id, statement)
         }
     }
 }
@@ -136,18 +146,21 @@ fn admitted(tier: &Tier, alloc: Global, label: &Label) -> Result<SessionId, Refu
 // What the statement of a session asks for. Indexes aren't done yet.
 fn execute<P: Site>(
     tier: &mut Tier,
+    doubt: &mut Option<Doubt>,
     alloc: Global,
     site: &mut P,
     id: SessionId,
     statement: Stmt,
 ) -> Result<Reply, Refused>
     requires sound { IsSound tier.old }
+    requires free { doubt.old ≡ None }
     requires done { is_undone_statement statement ≡ false }
-    ensures performs { PerformsIn tier.old tier.new
+    ensures performs { EndsIn tier.old tier.new doubt.new
         (P.Disk.state site.old)
         (P.Disk.state site.new)
         id (Executes statement) result }
     ensures sound { IsSound tier.new }
+    ensures ready { IsReady tier.new doubt.new }
     ensures cause { IsCaused
         (P.Disk.state site.old)
         (P.Disk.state site.new)
@@ -164,7 +177,7 @@ fn execute<P: Site>(
         Stmt::Alter(alter) => alter_group(tier, alloc, site, id, &alter),
         Stmt::DropGroup(name) => drop_group(tier, alloc, site, id, &name),
         Stmt::Call(call) => call_procedure(tier, alloc, site, id, &call),
-        Stmt::Commit => commit_session(tier, alloc, id),
+        Stmt::Commit => commit_transaction(tier, alloc, site, id, doubt),
         Stmt::Rollback => roll_back(tier, alloc, id),
         Stmt::CreateIndex(_) => unreachable!(),
         Stmt::DropIndex(_) => unreachable!(),

@@ -2,7 +2,7 @@
 
 ghost use Rattle.std.specs.Prelude.{◌≡◌};
 ghost use Rattle.std.specs.Option.{is_some};
-ghost use Rattle.cache_tier.specs.Undone.{has_aging, is_grouped, is_synchronous_kind, is_undone, is_undone_group, is_undone_open, is_undone_request, is_undone_statement, is_user_managed, passes_on, sets_flag};
+ghost use Rattle.cache_tier.specs.Undone.{has_aging, is_grouped, is_undone, is_undone_group, is_undone_open, is_undone_request, is_undone_statement, is_user_managed, passes_on, sets_flag};
 
 use sql_query::Query;
 use sql_subset::request::{Line, OpenOptions, Request};
@@ -17,18 +17,6 @@ fn is_user_managed(kind: GroupKind) -> bool
         GroupKind::AsynchronousWritethrough => false,
         GroupKind::SynchronousWritethrough => false,
         GroupKind::UserManaged => true,
-    }
-}
-
-// SYNCHRONOUS WRITETHROUGH.
-fn is_synchronous(kind: GroupKind) -> bool
-    ensures { result ≡ is_synchronous_kind kind }
-{
-    match kind {
-        GroupKind::ReadOnly => false,
-        GroupKind::AsynchronousWritethrough => false,
-        GroupKind::SynchronousWritethrough => true,
-        GroupKind::UserManaged => false,
     }
 }
 
@@ -49,7 +37,7 @@ fn has_aging(group: &CreateGroup) -> bool
 fn is_undone_group(group: &CreateGroup) -> bool
     ensures { result ≡ is_undone_group group.now }
 {
-    is_user_managed(group.kind) || is_synchronous(group.kind) || group.dynamic || has_aging(group)
+    is_user_managed(group.kind) || group.dynamic || has_aging(group)
 }
 
 // GROUP BY.

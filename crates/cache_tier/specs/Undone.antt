@@ -1,8 +1,8 @@
--- What is read but isn't done yet. User-managed groups, GROUP BY, indexes, dynamic and synchronous groups, aging, OPEN
--- with a passthrough level or durable commits, and ttOptSetFlag come later. (TimesTen Cache User's Guide, "User managed
--- cache groups", "Dynamic cache groups", "Synchronous writethrough", "Implementing aging on a cache group", "Setting a
--- passthrough level"; TimesTen SQL Reference, "SELECT", "CREATE INDEX", "DROP INDEX"; TimesTen built-in procedures,
--- "ttOptSetFlag"; that such a line is 101 at byte 0, before all but its own 101 and 119, is this project's rule.)
+-- What is read but isn't done yet. User-managed groups, GROUP BY, indexes, dynamic groups, aging, OPEN with a
+-- passthrough level or durable commits, and ttOptSetFlag come later. (TimesTen Cache User's Guide, "User managed cache
+-- groups", "Dynamic cache groups", "Implementing aging on a cache group", "Setting a passthrough level"; TimesTen SQL
+-- Reference, "SELECT", "CREATE INDEX", "DROP INDEX"; TimesTen built-in procedures, "ttOptSetFlag"; that such a line is
+-- 101 at byte 0, before all but its own 101 and 119, is this project's rule.)
 
 use Rattle.std.specs.Prelude.{Bool, true, false, ◌||◌, codes, is_some, length, nat_lt}
 use Rattle.std.specs.List.{list_any}
@@ -29,20 +29,13 @@ is_user_managed kind.AsynchronousWritethrough = false
 is_user_managed kind.SynchronousWritethrough = false
 is_user_managed kind.UserManaged = true
 
--- SYNCHRONOUS WRITETHROUGH
-abbrev pub is_synchronous_kind : GroupKind → Bool
-is_synchronous_kind kind.ReadOnly = false
-is_synchronous_kind kind.AsynchronousWritethrough = false
-is_synchronous_kind kind.SynchronousWritethrough = true
-is_synchronous_kind kind.UserManaged = false
-
 -- one of its tables has an AGING clause
 abbrev pub has_aging : CreateGroup → Bool
 has_aging d = list_any (λ (t : GroupTable). is_some t.aging) d.tables
 
 -- a definition of a group that isn't done yet: DYNAMIC is one, too
 abbrev pub is_undone_group : CreateGroup → Bool
-is_undone_group d = is_user_managed d.kind || is_synchronous_kind d.kind || d.dynamic || has_aging d
+is_undone_group d = is_user_managed d.kind || d.dynamic || has_aging d
 
 -- the query groups its rows
 abbrev pub is_grouped : Query → Bool

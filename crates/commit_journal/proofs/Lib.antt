@@ -14,3 +14,4 @@ pub mod StandingLaws
 pub mod AppendLaws
 pub mod NewLaws
 pub mod LookLaws
+pub mod NoteLaws

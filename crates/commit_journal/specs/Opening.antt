@@ -8,6 +8,7 @@ use Rattle.outside.specs.Sites.{SiteState}
 use Rattle.commit_journal.specs.declared.head.Head.{Head}
 use Rattle.commit_journal.specs.declared.head.Survey.{Survey}
 use Rattle.commit_journal.specs.declared.head.Head.TheVariants.{Dead, Faulty, Live}
+use Rattle.commit_journal.specs.declared.journal.Journal.{Journal}
 use Rattle.commit_journal.specs.declared.opening.Opened.{Opened}
 use Rattle.commit_journal.specs.Layout.{Placed, Reads, entries_of, head_of}
 use Rattle.commit_journal.specs.Resting.{AtRest}
@@ -31,6 +32,12 @@ pub record Opens {D : Type 0} (state : D → SiteState) (possible : D → ℕ �
   pub beside : now.history ≡ o.history
   pub reads : Reads o.slots r.entries.items r.damaged
   pub rests : r.damaged ≡ None → AtRest r.journal now.slots (entries_of r.entries.items) []
+
+-- a new journal: slot 0 is of version 2 and generation 1, and its head stands before a closed gate
+pub record IsNew (j : Journal) : Type 0 where
+  pub version : j.version ≡ 2
+  pub generation : j.generation ≡ 1
+  pub gate : j.gate ≡ 10
 
 -- no slot is without bytes
 pub record HaveBytes (slots : Slots) : Type 0 where

@@ -1,15 +1,15 @@
 -- A journal at rest over its slots.
 
-use Rattle.std.specs.Prelude.{◌≡◌, ◌≢◌, ℕ, ◌+◌, ◌^◌, ◌<◌, ◌≤◌, ◌⊎◌, List, ◌∷◌, ◌++◌, length, drop, vec_capacity}
-use Rattle.std.specs.List.{flat_map}
+use Rattle.std.specs.Prelude.{◌≡◌, ◌≢◌, ℕ, ◌+◌, ◌^◌, ◌<◌, ◌≤◌, ◌⊎◌, ◌==◌, List, ◌∷◌, ◌++◌, length, drop, vec_capacity, if◌then◌else◌}
+use Rattle.std.specs.List.{AllByRecursion, flat_map}
 use Rattle.outside.specs.Holding.{Slots, Held, slot_of, other}
 use Rattle.outside.specs.Calls.{Certain}
 use Rattle.outside.specs.Sites.{SiteState}
 use Rattle.journal_entries.specs.declared.entry.Entry.{Entry}
 use Rattle.journal_entries.specs.declared.standing.Standing.{Standing}
 use Rattle.journal_entries.specs.declared.standing.Ending.TheVariants.{Whole}
-use Rattle.journal_entries.specs.Spelling.{entry_bytes}
-use Rattle.journal_entries.specs.Bodies.{Body, beginning}
+use Rattle.journal_entries.specs.Spelling.{entry_bytes, IsEntry}
+use Rattle.journal_entries.specs.Bodies.{AllFollow, Body, beginning, behind_all}
 use Rattle.commit_journal.specs.declared.head.Head.TheVariants.{Dead, Live}
 use Rattle.commit_journal.specs.declared.journal.Journal.{Journal}
 use Rattle.commit_journal.specs.Layout.{Placed, entries_of, head_of, Outcome, Batches, Gives}
@@ -64,6 +64,26 @@ pub record IsSameSlot (old new : Journal) : Type 0 where
   pub version : new.version ≡ old.version
   pub generation : new.generation ≡ old.generation
   pub gate : new.gate ≡ old.gate
+
+-- The bytes spell the entries, each of which has bytes in this version and may stand behind those before it. The first
+-- stands where one standing is, and behind the last is the other.
+pub record Spells (version : ℕ) (s : Standing) (bytes : List ℕ) (t : Standing) (entries : List Entry) : Type 0 where
+  pub are : bytes ≡ flat_map entry_bytes entries
+  pub each : AllByRecursion (IsEntry version) entries
+  pub order : AllFollow s entries
+  pub behind : t ≡ behind_all s entries
+
+-- where the gate stands once the tail is flushed: where it stood, if the tail is empty; else behind a length, the body
+-- and a gate
+abbrev pub gate_behind : Journal → ℕ
+gate_behind j = if length j.staged.items == 4 then j.gate else j.gate + length j.staged.items + 1
+
+-- the tail was flushed: the gate moved on in the same slot
+pub record HasFlushed (old new : Journal) : Type 0 where
+  pub slot : new.slot ≡ old.slot
+  pub version : new.version ≡ old.version
+  pub generation : new.generation ≡ old.generation
+  pub gate : new.gate ≡ gate_behind old
 
 -- only room came
 pub record HasSameEntries (old new : Journal) : Type 0 where

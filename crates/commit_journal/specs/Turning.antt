@@ -1,6 +1,6 @@
 -- What moving on to the other slot leaves.
 
-use Rattle.std.specs.Prelude.{◌≡◌, ◌≢◌, ℕ, ◌-◌, ◌^◌, ◌<◌, ◌≤◌, ◌⊎◌, List, [], ◌∷◌, ◌++◌, length, slice_index}
+use Rattle.std.specs.Prelude.{◌≡◌, ◌≢◌, ℕ, ◌+◌, ◌-◌, ◌^◌, ◌<◌, ◌≤◌, ◌⊎◌, List, [], ◌∷◌, ◌++◌, length, slice_index}
 use Rattle.std.specs.List.{flat_map}
 use Rattle.std.specs.Int.{w32, w64, to_be_bytes}
 use Rattle.outside.specs.declared.disk.Slot.{Slot}
@@ -70,6 +70,16 @@ pub record MidRotation (o : Held) (entries others : List Entry) (p : Held) : Typ
 -- the entries are too many for one batch, or no generation is left
 abbrev pub IsPastRotation : Journal → List Entry → Type 0
 IsPastRotation j entries = (j.generation ≡ 2 ^ 64 - 1) ⊎ (2 ^ 24 < length (flat_map entry_bytes entries))
+
+-- so many bytes are too many for one batch, or no generation is left
+abbrev pub IsPastRenewal : Journal → ℕ → Type 0
+IsPastRenewal j bytes = (j.generation ≡ 2 ^ 64 - 1) ⊎ (2 ^ 24 < bytes)
+
+-- the journal is in a new slot of version 2 with the next generation, behind one batch of so many bytes
+pub record HasRenewed (old new : Journal) (bytes : ℕ) : Type 0 where
+  pub version : new.version ≡ 2
+  pub generation : new.generation ≡ old.generation + 1
+  pub gate : new.gate ≡ 15 + bytes
 
 -- the slot has a byte and isn't live
 pub record CanBegin (slot : Slot) (o : Held) : Type 0 where

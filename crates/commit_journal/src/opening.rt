@@ -8,7 +8,7 @@ ghost use Rattle.outside.specs.Calls.{Certain, Leaves, Rests};
 ghost use Rattle.outside.specs.Holding.{Held, other, slot_of};
 ghost use Rattle.commit_journal.specs.declared.head.Head.TheVariants.{Dead, Live};
 ghost use Rattle.commit_journal.specs.Layout.{Batches, Beats, entries_of, head_of};
-ghost use Rattle.commit_journal.specs.Opening.{Finds, HaveBytes, HeadFits, Keeps, Opens, Surveyed};
+ghost use Rattle.commit_journal.specs.Opening.{Finds, HaveBytes, HeadFits, IsBlank, IsNew, Keeps, Opens, Surveyed};
 
 use crate::fault::OpenError;
 use crate::head::{Head, Survey};
@@ -93,6 +93,7 @@ fn make<D: Disk>(alloc: Global, d: &mut D) -> Result<Opened, OpenError>
         → head_of o.slots.second ≡ Dead → Leaves D.state D.possible d.old d.new (Keeps o) }
     ensures made { IfOk result (λ r. (o : Held) → Certain D.state D.possible d.old o → HaveBytes o.slots
         → head_of o.slots.first ≡ Dead → head_of o.slots.second ≡ Dead → Opens D.state D.possible d.new o r) }
+    ensures new { IfOk result (λ r. IsNew r.journal) }
     ensures cause { OpenHasCause (D.state d.old) (D.state d.new) result }
 {
     let mut staged = Vec::from_elem(alloc, 0, 4)?;
@@ -193,6 +194,7 @@ fn open_second<D: Disk>(
     ensures opened { IfOk result (λ r. (o : Held) → Certain D.state D.possible d.old o → HaveBytes o.slots
         → length o.slots.second ≡ second_len → head_of o.slots.first ≡ Dead → head_of o.slots.second ≡ second
         → Opens D.state D.possible d.new o r) }
+    ensures new { IfOk result (λ r. second ≡ Dead → IsNew r.journal) }
     ensures cause { OpenHasCause (D.state d.old) (D.state d.new) result }
 {
     match second {
@@ -269,6 +271,7 @@ fn open_by<D: Disk>(
     ensures opened { IfOk result (λ r. (o : Held) → Certain D.state D.possible d.old o → HaveBytes o.slots
         → length o.slots.first ≡ first_len → length o.slots.second ≡ second_len → head_of o.slots.first ≡ first
         → head_of o.slots.second ≡ second → Opens D.state D.possible d.new o r) }
+    ensures new { IfOk result (λ r. first ≡ Dead → second ≡ Dead → IsNew r.journal) }
     ensures cause { OpenHasCause (D.state d.old) (D.state d.new) result }
 {
     match first {
@@ -295,6 +298,7 @@ pub(crate) fn open_surveyed<D: Disk>(
         → Leaves D.state D.possible d.old d.new (Keeps o) }
     ensures opened { IfOk result (λ r. (o : Held) → Surveyed D.state D.possible d.old o found → HaveBytes o.slots
         → Opens D.state D.possible d.new o r) }
+    ensures new { IfOk result (λ r. found.first ≡ Dead → found.second ≡ Dead → IsNew r.journal) }
     ensures cause { OpenHasCause (D.state d.old) (D.state d.new) result }
 {
     let opened = open_by(
@@ -316,6 +320,7 @@ pub fn open<D: Disk>(alloc: Global, d: &mut D) -> Result<Opened, OpenError>
         → Leaves D.state D.possible d.old d.new (Keeps o) }
     ensures opened { IfOk result (λ r. (o : Held) → (D.state d.old).held ≡ Some o → HaveBytes o.slots
         → Opens D.state D.possible d.new o r) }
+    ensures new { IfOk result (λ r. (o : Held) → (D.state d.old).held ≡ Some o → IsBlank o.slots → IsNew r.journal) }
     ensures cause { OpenHasCause (D.state d.old) (D.state d.new) result }
 {
     let found = survey(alloc, d)?;

@@ -1,6 +1,6 @@
 //! Rotation: moving on to the other slot.
 
-ghost use Rattle.std.specs.Prelude.{◌≡◌, ◌↔◌, ◌+◌, ◌^◌, ◌<◌, ◌≤◌, ℕ, List, [], length, Err, IfOk, OnOk};
+ghost use Rattle.std.specs.Prelude.{◌≡◌, ◌↔◌, ◌+◌, ◌^◌, ◌<◌, ◌≤◌, ◌⊎◌, ℕ, List, [], length, Err, IfOk, OnOk};
 ghost use Rattle.std.specs.List.{AllByRecursion, flat_map};
 ghost use Rattle.outside.specs.Calls.{Certain, Leaves};
 ghost use Rattle.outside.specs.Faults.{DiskHasCause};
@@ -10,10 +10,10 @@ ghost use Rattle.journal_entries.specs.declared.standing.Ending.TheVariants.{Who
 ghost use Rattle.journal_entries.specs.Bodies.{AllFollow, Body, beginning};
 ghost use Rattle.journal_entries.specs.Spelling.{entry_bytes, IsEntry};
 ghost use Rattle.commit_journal.specs.Causes.{RotateHasCause};
-ghost use Rattle.commit_journal.specs.declared.fault.RotateError.TheVariants.{Limit};
+ghost use Rattle.commit_journal.specs.declared.fault.RotateError.TheVariants.{Limit, Memory};
 ghost use Rattle.commit_journal.specs.Layout.{Placed, entries_of};
-ghost use Rattle.commit_journal.specs.Resting.{AtRest, Rested};
-ghost use Rattle.commit_journal.specs.Turning.{IsPastRotation, MidRotation, slot_bytes};
+ghost use Rattle.commit_journal.specs.Resting.{AtRest, Rested, Spells};
+ghost use Rattle.commit_journal.specs.Turning.{HasRenewed, IsPastRenewal, IsPastRotation, MidRotation, slot_bytes};
 
 use crate::adopting::slot_image;
 use crate::fault::RotateError;
@@ -71,6 +71,42 @@ impl Journal {
         Ok(())
     }
 
+    /// Moves on to the other slot, with the entries that these bytes spell as its only batch, in version 2 and with the
+    /// next generation. The standing is the one behind them. A mark may be the first of them.
+    ///
+    /// `Limit` exactly where the bytes are more than 2^24, or the generation is 2^64 - 1. `Memory` for want of memory.
+    /// In both the disk isn't called, and the journal stays.
+    pub fn renew<D: Disk>(
+        &mut self,
+        alloc: Global,
+        d: &mut D,
+        bytes: &[u8],
+        standing: Standing,
+    ) -> Result<(), RotateError>
+        ensures crash { (o : Held) (flushed tail entries : List OneEntry) → Certain D.state D.possible d.old o
+            → AtRest self.old o.slots flushed tail → Spells 2 beginning bytes.now standing entries
+            → Leaves D.state D.possible d.old d.new (MidRotation o flushed entries) }
+        ensures moved { OnOk result ((o : Held) (flushed tail entries : List OneEntry)
+            → Certain D.state D.possible d.old o → AtRest self.old o.slots flushed tail
+            → Spells 2 beginning bytes.now standing entries → Rested D.state D.possible d.new self.new o entries []) }
+        ensures place { OnOk result (HasRenewed self.old self.new (length bytes.now)) }
+        ensures standing { OnOk result (self.new.standing ≡ standing) }
+        ensures stays { (result ≡ Err Limit) ⊎ (result ≡ Err Memory) → (self.new ≡ self.old) × (d.new ≡ d.old) }
+        ensures limit { (result ≡ Err Limit) ↔ IsPastRenewal self.old (length bytes.now) }
+        ensures cause { RotateHasCause (D.state d.old) (D.state d.new) result }
+    {
+        if self.generation == u64::MAX {
+            return Err(RotateError::Limit);
+        }
+        if bytes.len() > 16_777_216 {
+            return Err(RotateError::Limit);
+        }
+        let generation = self.generation + 1;
+        let image = slot_image(alloc, generation, bytes)?;
+        self.move_on(d, generation, standing, &image)?;
+        Ok(())
+    }
+
     /// Moves on to the other slot, with these bytes behind its first: a header, a batch and a closed gate. The
     /// standing is that behind the batch.
     pub(crate) fn move_on<D: Disk>(
@@ -91,6 +127,9 @@ impl Journal {
             → Body 2 beginning 15 body placed (Whole standing)
             → Rested D.state D.possible d.new self.new o (entries_of placed) []) }
         ensures generation { OnOk result (self.new.generation ≡ generation) }
+        ensures version { OnOk result (self.new.version ≡ 2) }
+        ensures gate { OnOk result (self.new.gate ≡ length bytes.now) }
+        ensures standing { OnOk result (self.new.standing ≡ standing) }
         ensures cause { DiskHasCause (D.state d.old) (D.state d.new) result }
     {
         let target = other(self.slot);

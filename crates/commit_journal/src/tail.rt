@@ -8,13 +8,13 @@ ghost use Rattle.outside.specs.Holding.{Held, Slots};
 ghost use Rattle.journal_entries.specs.declared.entry.Entry.{Entry as OneEntry};
 ghost use Rattle.journal_entries.specs.Spelling.{entry_bytes, IsEntry};
 ghost use Rattle.journal_entries.specs.Bodies.{behind, follows};
-ghost use Rattle.commit_journal.specs.Resting.{AtRest, HasRoom, HasSameEntries, IsPastLimit, IsSameSlot, MidFlush, Rested};
+ghost use Rattle.commit_journal.specs.Resting.{AtRest, HasFlushed, HasRoom, HasSameEntries, IsPastLimit, IsSameSlot, MidFlush, Rested, Spells};
 
 use crate::fault::ReserveError;
 use crate::journal::Journal;
 use crate::placing::write_batch;
-use journal_entries::Entry;
-use journal_entries::writing::put_entry;
+use journal_entries::writing::{put_bytes, put_entry};
+use journal_entries::{Entry, Standing};
 use outside::{Disk, DiskFault};
 
 /// The bytes of a batch behind its gate: the length in the place for it, the body, and the next gate, closed.
@@ -73,6 +73,20 @@ impl Journal {
         self.standing = self.standing.behind(&entry);
     }
 
+    /// Puts entries behind the tail that these bytes spell. The standing is the one behind them. It takes no memory.
+    pub fn note_spelled(&mut self, bytes: &[u8], standing: Standing)
+        requires room { HasRoom self.old (length bytes.now) }
+        ensures rest { (slots : Slots) (flushed tail entries : List OneEntry)
+            → Spells self.old.version self.old.standing bytes.now standing entries
+            → AtRest self.old slots flushed tail → AtRest self.new slots flushed (tail ++ entries) }
+        ensures room { (more : ℕ) → HasRoom self.old (length bytes.now + more) → HasRoom self.new more }
+        ensures standing { self.new.standing ≡ standing }
+        ensures same { IsSameSlot self.old self.new }
+    {
+        put_bytes(&mut self.staged, bytes);
+        self.standing = standing;
+    }
+
     /// Puts the tail on the disk as one batch; where it is empty nothing is written. It takes no memory.
     pub fn flush<D: Disk>(&mut self, d: &mut D) -> Result<(), DiskFault>
         ensures crash { (o : Held) (flushed tail : List OneEntry) → Certain D.state D.possible d.old o
@@ -80,6 +94,7 @@ impl Journal {
         ensures flushed { OnOk result ((o : Held) (flushed tail : List OneEntry) → Certain D.state D.possible d.old o
             → AtRest self.old o.slots flushed tail → Rested D.state D.possible d.new self.new o (flushed ++ tail) []) }
         ensures standing { self.new.standing ≡ self.old.standing }
+        ensures place { OnOk result (HasFlushed self.old self.new) }
         ensures cause { DiskHasCause (D.state d.old) (D.state d.new) result }
     {
         if self.staged.len() == 4 {
@@ -97,6 +112,10 @@ impl Journal {
         ensures flushed { OnOk result ((o : Held) (flushed tail : List OneEntry) → Certain D.state D.possible d.old o
             → AtRest self.old o.slots flushed tail → Rested D.state D.possible d.new self.new o (flushed ++ tail) []) }
         ensures standing { self.new.standing ≡ self.old.standing }
+        ensures gate { OnOk result (self.new.gate ≡ self.old.gate + length self.old.staged.items + 1) }
+        ensures slot { self.new.slot ≡ self.old.slot }
+        ensures version { self.new.version ≡ self.old.version }
+        ensures generation { self.new.generation ≡ self.old.generation }
         ensures cause { DiskHasCause (D.state d.old) (D.state d.new) result }
     {
         seal(&mut self.staged);

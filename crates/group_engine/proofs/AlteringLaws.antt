@@ -29,7 +29,7 @@ use Rattle.cache_tier.specs.declared.group.GroupDef.{GroupDef}
 use Rattle.cache_tier.specs.declared.reply.Last.TheVariants.{Done}
 use Rattle.cache_tier.specs.declared.reply.Reply.{Reply}
 use Rattle.cache_tier.specs.AlterSteps.{AltersTo, SetsStateAlone, SetsStateRefreshed, altered_entries, joins_something, same_state, with_state}
-use Rattle.cache_tier.specs.Groups.{Group, is_explicit, is_on, is_read_only, is_synchronous, is_writethrough, place_called}
+use Rattle.cache_tier.specs.Groups.{Group, is_explicit, is_on, is_read_only, is_writethrough, place_called}
 use Rattle.cache_tier.specs.Order.{Broken, alter_broken, first_broken, of_group, refusal}
 use Rattle.cache_tier.specs.Reading.{TellsPosition, as_it_was, backing_at}
 use Rattle.cache_tier.specs.Rules.{named}
@@ -329,7 +329,7 @@ seen_there : (t : Stored) (w : World) (place : ℕ) (seen g : Group) → IsSound
 seen_there t w place seen g sound stands at there =
     let is : without_list g ≡ seen = same_there (groups_in t.catalog) place (without_list g) seen (group_stored t w.tier place g stands.stored there) at in
     let plain = all_there is_plain (groups_in t.catalog) place seen sound.plain at in
-    let explicit : is_explicit g ≡ true = ap is_explicit is ∙ (both_true (is_explicit seen) (is_none seen.def.aging) (both_true (is_explicit seen && is_none seen.def.aging) (not (is_synchronous seen)) plain).0).0 in
+    let explicit : is_explicit g ≡ true = ap is_explicit is ∙ (both_true (is_explicit seen) (is_none seen.def.aging) plain).0 in
     record { is = is; something = something_there g explicit ∙ ap (λ (y : Group). y.loaded) is }
 
 joins_stored : (t : Stored) (w : World) (place : ℕ) (seen g : Group) → IsSound t → StandsFor t w → slice_get (groups_in t.catalog) place ≡ Some seen → slice_get w.tier.groups place ≡ Some g

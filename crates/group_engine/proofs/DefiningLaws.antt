@@ -26,7 +26,7 @@ use Rattle.cache_tier.specs.declared.group.GroupDef.{GroupDef}
 use Rattle.cache_tier.specs.declared.reply.Last.TheVariants.{Done}
 use Rattle.cache_tier.specs.Definitions.{IsTreeOf, column_fault, defined_by, definition_broken, definition_fault, definition_names, definition_types, first_fault, first_unknown, is_read_only_kind, new_group, placed_tables, table_names, text_of}
 use Rattle.cache_tier.specs.DefineSteps.{CreatesGroup, define_answer, with_new_group}
-use Rattle.cache_tier.specs.Groups.{Group, defines_name, definitions_of, is_defined_on, is_read_only, is_synchronous, is_writethrough}
+use Rattle.cache_tier.specs.Groups.{Group, defines_name, definitions_of, is_defined_on, is_read_only, is_writethrough}
 use Rattle.cache_tier.specs.Journals.{Defines, JournalEntry, is_full}
 use Rattle.cache_tier.specs.JournalSteps.{Flushes, FlushesKept, journal_fault, name_sizes}
 use Rattle.cache_tier.specs.Order.{refusal}
@@ -40,7 +40,7 @@ use Rattle.cache_tier.specs.Defining.{IsNewGroup}
 use Rattle.cache_tier.specs.Events.{StaysShown, with_tier}
 use Rattle.cache_tier.specs.StandingBetween.{HasNoTableOf, Stands, foreign_key_in, has_no_where}
 use Rattle.stored_tier.specs.declared.tier.Tier.{Tier as Stored}
-use Rattle.group_engine.specs.Defining.{HasNewGroup, IsDefinition, is_done, is_free, is_synchronous_kind}
+use Rattle.group_engine.specs.Defining.{HasNewGroup, IsDefinition, is_done, is_free}
 use Rattle.stored_tier.specs.Grouping.{HasGroups, IsBareStore}
 use Rattle.stored_tier.specs.Performing.{Executes, PerformsIn, StandsFor}
 use Rattle.outside.specs.Sites.{SiteState}
@@ -81,15 +81,6 @@ new_name schema groups writes d e =
 
 -- the group
 
-synchronous_is : (g : Group) → is_synchronous g ≡ is_synchronous_kind g.def.kind
-synchronous_is g = by g.def.kind
-  where
-    by : (k : GroupKind) → is_synchronous (record g { def = record (g.def) { kind = k } }) ≡ is_synchronous_kind k
-    by kind.ReadOnly = refl
-    by kind.AsynchronousWritethrough = refl
-    by kind.SynchronousWritethrough = refl
-    by kind.UserManaged = refl
-
 pub read_only_is : (g : Group) → is_read_only g ≡ is_read_only_kind g.def.kind
 read_only_is g = by g.def.kind
   where
@@ -100,7 +91,7 @@ read_only_is g = by g.def.kind
     by kind.UserManaged = refl
 
 pub plain_new : (g : Group) → is_done g.def ≡ true → is_plain g ≡ true
-plain_new g e = ap (λ b. not g.def.dynamic && is_none g.def.aging && not b) (synchronous_is g) ∙ e
+plain_new g e = e
 
 unfiltered : (tree : Tree) → IsUnfiltered tree → has_no_where tree ≡ true
 unfiltered tree un = (λ i. is_none (un.0 i) && all tree.children un.1 i)

@@ -9,7 +9,7 @@ use Rattle.group_store.specs.Shown.{AreHoused, home_from, home_of, homes_from, h
 use Rattle.group_store.specs.Stores.{Kept, place_in}
 use Rattle.group_store.specs.declared.directory.Home.{Home}
 use Rattle.cache_tier.specs.declared.group.GroupDef.{GroupDef}
-use Rattle.cache_tier.specs.Groups.{Group, covers, definitions_of, is_defined_on, is_synchronous, is_table_of}
+use Rattle.cache_tier.specs.Groups.{Group, covers, definitions_of, is_defined_on, is_table_of}
 use Rattle.cache_tier.specs.Routes.{hidden_where}
 use Rattle.cache_tier.specs.Sets.{Choice, changed_from}
 use Rattle.stored_tier.specs.Refreshing.{exchanged}

@@ -25,7 +25,7 @@ use Rattle.group_store.specs.Stores.{Kept}
 use Rattle.order_laws.specs.Commits.{virtual_state}
 use Rattle.order_laws.proofs.TruthLaws.{both_true, never_both}
 use Rattle.cache_tier.specs.declared.group.AgingRule.{AgingRule}
-use Rattle.cache_tier.specs.Groups.{Group, is_explicit, is_read_only, is_synchronous, is_writethrough}
+use Rattle.cache_tier.specs.Groups.{Group, is_explicit, is_read_only, is_writethrough}
 use Rattle.cache_tier.specs.Sets.{Choice, OnePosition, alone, at_position, changed, changed_from, refreshed}
 use Rattle.cache_tier.specs.Shown.{exceeds, shown, shown_in, shown_state, shown_where, shows_root, state_behind}
 use Rattle.cache_tier.specs.TierStates.{Tier}
@@ -262,7 +262,7 @@ module _ (h : List Entry) (log : List Sealed) (size : ℕ) (n : ℕ) (state : Ta
 
   module _ (k : ℕ) (g : Group) (plain : is_plain g ≡ true) (reads : chosen k g ≡ true → is_read_only g ≡ true) where
     parts : (is_explicit g ≡ true) × (is_none g.def.aging ≡ true)
-    parts = let one = both_true (is_explicit g && is_none g.def.aging) (not (is_synchronous g)) plain in both_true (is_explicit g) (is_none g.def.aging) one.0
+    parts = both_true (is_explicit g) (is_none g.def.aging) plain
 
     -- one that is chosen
     module _ (c : chosen k g ≡ true) where
@@ -351,6 +351,7 @@ pub record IsBeside (t t' : Stored) : Type 0 where
   pub stale : t'.stale ≡ t.stale
   pub sessions : t'.sessions ≡ t.sessions
   pub unsettled : t'.unsettled ≡ t.unsettled
+  pub writers : t'.writers ≡ t.writers
   pub next : t'.next ≡ t.next
   pub clock : t'.clock ≡ t.clock
 

@@ -24,6 +24,7 @@ use Rattle.cache_tier.specs.TierStates.{Tier}
 use Rattle.cache_tier.specs.Worlds.{World}
 use Rattle.cache_tier.specs.StandingBetween.{HasNoTableOf}
 use Rattle.tier_statements.specs.Seen.{session_seen}
+use Rattle.stored_tier.proofs.WriterLaws.{writers_same}
 use Rattle.stored_tier.specs.declared.tier.Tier.{Tier as Stored}
 use Rattle.stored_tier.specs.Grouping.{HasGroups, IsBareStore, KeepsGroups}
 use Rattle.stored_tier.specs.Performing.{StandsFor}
@@ -121,6 +122,7 @@ sound_grouped t new groups stores sound has are plain named whole later unverifi
       visible = has.visible ∙ (λ i. named_where_cached (sym has.groups i) (sym schema i));
       numbered = subst (λ us. RiseBetween 1 us new.next) (sym (ap (λ u. u.items) has.beside.unsettled)) (subst (RiseBetween 1 t.unsettled.items) (sym has.beside.next) sound.numbered);
       later = (λ i. are_later (has.groups i) (has.beside.unsettled i).items) ∙ later;
+      writers = writers_same t new schema (ap (λ u. u.items) has.beside.unsettled) has.beside.next has.beside.writers sound;
       verified = λ e. absurd (never_both new.verified e unverified);
     }
 
@@ -143,6 +145,7 @@ sound_kept t new sound keeps = record {
   visible = keeps.visible ∙ sound.visible ∙ (λ i. named_where_cached (sym keeps.groups i) (sym keeps.beside.schema i));
   numbered = subst (λ us. RiseBetween 1 us new.next) (sym (ap (λ u. u.items) keeps.beside.unsettled)) (subst (RiseBetween 1 t.unsettled.items) (sym keeps.beside.next) sound.numbered);
   later = (λ i. are_later (keeps.groups i) (keeps.beside.unsettled i).items) ∙ sound.later;
+  writers = writers_same t new keeps.beside.schema (ap (λ u. u.items) keeps.beside.unsettled) keeps.beside.next keeps.beside.writers sound;
   verified = λ e. (
       let old = sound.verified (sym keeps.verified ∙ e) in
       record {

@@ -15,7 +15,7 @@ use Rattle.table_state.specs.declared.history.Entry.{Entry}
 use Rattle.cache_tier.specs.Aging.{aged, is_aged_by, is_aging_due, is_over}
 use Rattle.cache_tier.specs.DoubtSteps.{SettlesDoubt}
 use Rattle.cache_tier.specs.DueWork.{DueAging, DueDoubt, DueRound, DueSets, DueSetsOf, DueWork, Item, Noted, ThenItem, due_sets, intervals, is_round_due, noted, stopped, with_number}
-use Rattle.cache_tier.specs.Groups.{Group, definitions_of, is_explicit, is_on, is_read_only, is_synchronous}
+use Rattle.cache_tier.specs.Groups.{Group, definitions_of, is_explicit, is_on, is_read_only}
 use Rattle.cache_tier.specs.Rounds.{Round}
 use Rattle.cache_tier.specs.Sets.{RefreshesIfShown, RefreshesSet, has_something, holds_some, is_in_set, shows_something}
 use Rattle.cache_tier.specs.Steps.{added_by, at_moment, with_moment}
@@ -49,6 +49,7 @@ sound_clocked t clock sound = record {
   visible = sound.visible;
   numbered = sound.numbered;
   later = sound.later;
+  writers = sound.writers;
   verified = λ is. let v = sound.verified is in record { rows = v.rows; own = v.own };
 }
 
@@ -149,7 +150,7 @@ pub plain_explicit : (gs : List Group) → list_all is_plain gs ≡ true → lis
 plain_explicit [] all = refl
 plain_explicit (g ∷ gs) all =
     let both = both_true (is_plain g) (list_all is_plain gs) all in
-    let first = (both_true (is_explicit g) (is_none g.def.aging) (both_true (is_explicit g && is_none g.def.aging) (not (is_synchronous g)) both.0).0).0 in
+    let first = (both_true (is_explicit g) (is_none g.def.aging) both.0).0 in
     let rest = plain_explicit gs both.1 in
     λ i. first i && rest i
 
@@ -157,7 +158,7 @@ pub shows_bare : (interval : ℕ) (gs : List Group) → list_all is_plain (map w
 shows_bare interval [] all = refl
 shows_bare interval (g ∷ gs) all =
     let both = both_true (is_plain (without_list g)) (list_all is_plain (map without_list gs)) all in
-    let explicit = (both_true (is_explicit g) (is_none g.def.aging) (both_true (is_explicit g && is_none g.def.aging) (not (is_synchronous g)) both.0).0).0 in
+    let explicit = (both_true (is_explicit g) (is_none g.def.aging) both.0).0 in
     let first : has_something g ≡ has_something (without_list g) = ap (λ b. cond b g.loaded (holds_some g.keys)) explicit ∙ sym (ap (λ b. cond b g.loaded (holds_some [])) explicit) in
     let rest = shows_bare interval gs both.1 in
     λ i. (is_in_set interval g && first i) || rest i

@@ -62,7 +62,7 @@ place_for t place which refreshes s g sound at store kept =
 -- nothing was changed
 
 same_all : (t : Stored) → IsSameElsewhere t t
-same_all t = record { schema = refl; visible = refl; stale = refl; directory = refl; sessions = refl; unsettled = refl; next = refl; clock = refl }
+same_all t = record { schema = refl; visible = refl; stale = refl; directory = refl; sessions = refl; unsettled = refl; writers = refl; next = refl; clock = refl }
 
 pub room_alone : (old new : Stored) → IsSameElsewhere old new → Pairs SameButSpare old.stores.items new.stores.items → new.catalog ≡ old.catalog → new.verified ≡ old.verified → IsSameButRoom old new
 room_alone old new rest stores catalog verified = record { rest = rest; stores = stores; catalog = catalog; verified = verified }

@@ -44,7 +44,7 @@ use Rattle.cache_tier.specs.declared.group.GroupDef.{GroupDef}
 use Rattle.cache_tier.specs.declared.reply.Last.TheVariants.{Done, No}
 use Rattle.cache_tier.specs.declared.reply.Reply.{Reply}
 use Rattle.cache_tier.specs.Conditions.{overflow_fault, overflows}
-use Rattle.cache_tier.specs.Groups.{Group, covers, is_explicit, is_key, is_synchronous, is_writethrough, with_keys}
+use Rattle.cache_tier.specs.Groups.{Group, covers, is_explicit, is_key, is_writethrough, with_keys}
 use Rattle.cache_tier.specs.JournalSteps.{Flushes, FlushesFitting, FlushesKept, FlushesSome, has_entries, name_sizes}
 use Rattle.cache_tier.specs.Journals.{JournalEntry, is_full}
 use Rattle.cache_tier.specs.LoadSteps.{added_answer}
@@ -240,7 +240,7 @@ module _ (old : Stored) (before after : SiteState) (place : ℕ) (which : Resolv
       let same = seen_at_place old w.tier place x.group asks.group stands.stored here.there asks.there in
       let all : is_plain asks.group ≡ true = all_at is_plain (groups_in old.catalog) place asks.group sound.plain asks.there in
       let one : is_plain x.group ≡ true = ap is_plain (sym same) ∙ all in
-      (both_true (is_explicit x.group) (is_none x.group.def.aging) (both_true (is_explicit x.group && is_none x.group.def.aging) (not (is_synchronous x.group)) one).0).0
+      (both_true (is_explicit x.group) (is_none x.group.def.aging) one).0
 
   judged_is : overflow_fault x.filter (judged_roots (backing_at mid n) x) ≡ broken_if (overflows_in c tree which) (plain_rule code.Overflow)
   judged_is = ap (λ b. overflow_fault x.filter (cond b (backing_roots (backing_at mid n) x) (held_roots x (backing_roots (backing_at mid n) x)))) explicit ∙ overflow_is

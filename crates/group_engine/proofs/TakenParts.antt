@@ -44,7 +44,7 @@ use Rattle.cache_tier.specs.declared.group.GroupDef.{GroupDef}
 use Rattle.cache_tier.specs.declared.reply.Last.TheVariants.{Done, No}
 use Rattle.cache_tier.specs.declared.reply.Reply.{Reply}
 use Rattle.cache_tier.specs.Conditions.{overflow_fault, overflows}
-use Rattle.cache_tier.specs.Groups.{Group, covers, definitions_of, is_explicit, is_key, is_synchronous, is_writethrough, with_keys}
+use Rattle.cache_tier.specs.Groups.{Group, covers, definitions_of, is_explicit, is_key, is_writethrough, with_keys}
 use Rattle.cache_tier.specs.JournalSteps.{Flushes, FlushesFitting, FlushesKept, FlushesSome, has_entries, name_sizes}
 use Rattle.cache_tier.specs.Journals.{JournalEntry, is_full}
 use Rattle.cache_tier.specs.LoadSteps.{added_answer}
@@ -62,6 +62,7 @@ use Rattle.cache_tier.specs.StandingBetween.{Stands}
 use Rattle.cache_tier.specs.Statements.{IsLoadable}
 use Rattle.cache_tier.proofs.HistoryKeeps.{around_goes_on, root_covers}
 use Rattle.cache_tier.proofs.LoadStatements.{load_shows}
+use Rattle.stored_tier.proofs.WriterLaws.{writers_same}
 use Rattle.stored_tier.specs.declared.clock.TierClock.{TierClock}
 use Rattle.stored_tier.specs.declared.tier.Tier.{Tier as Stored}
 use Rattle.stored_tier.specs.Choosing.{chosen, comes, counted, matches_at}
@@ -115,6 +116,7 @@ module _ (old new : Stored) (same : IsSameButRoom old new) where
     visible = same.rest.visible ∙ sound.visible ∙ (λ i. named_where_cached (groups_in (sym same.catalog i)) (sym same.rest.schema i));
     numbered = subst (λ u. RiseBetween 1 u.items new.next) (sym same.rest.unsettled) (subst (λ m. RiseBetween 1 old.unsettled.items m) (sym same.rest.next) sound.numbered);
     later = ap (λ c. are_later (groups_in c) new.unsettled.items) same.catalog ∙ ap (λ u. are_later (groups_in old.catalog) u.items) same.rest.unsettled ∙ sound.later;
+    writers = writers_same old new same.rest.schema (ap (λ u. u.items) same.rest.unsettled) same.rest.next same.rest.writers sound;
     verified = λ noted. let v = sound.verified (sym same.verified ∙ noted) in record {
       rows = subst (AreShown []) (sym rows_room) v.rows;
       own = subst (λ s. All (λ x. AreShown x.ops (rows_of new)) (seen_all s)) (sym same.rest.sessions) (subst (λ r. All (λ x. AreShown x.ops r) (seen_all old.sessions)) (sym rows_room) v.own);
@@ -147,6 +149,7 @@ taken_sound old new place which refreshes s reply sound k =
       later =
           ap (λ u. are_later (groups_in new.catalog) u.items) k.rest.unsettled
           ∙ later_by (groups_in old.catalog) (groups_in new.catalog) old.unsettled.items (ap definitions_of k.groups ∙ changed_defs (alone place) as_loaded 0 (groups_in old.catalog) (λ g. refl)) sound.later;
+      writers = writers_same old new k.rest.schema (ap (λ u. u.items) k.rest.unsettled) k.rest.next k.rest.writers sound;
       verified = λ noted. let no : false ≡ true = sym k.unverified ∙ noted in cc;
     }
 

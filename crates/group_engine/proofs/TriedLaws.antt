@@ -121,6 +121,7 @@ sound_noted t c s = record {
   visible = s.visible;
   numbered = s.numbered;
   later = s.later;
+  writers = s.writers;
   verified = λ e. record { rows = (s.verified e).rows; own = (s.verified e).own };
 }
 

@@ -41,6 +41,7 @@ use Rattle.cache_tier.specs.Loading.{ShowsKeys}
 use Rattle.cache_tier.specs.StandingBetween.{Stands}
 use Rattle.cache_tier.specs.Statements.{IsUnloadable}
 use Rattle.group_engine.specs.declared.aiming.Aim.{Aim}
+use Rattle.stored_tier.proofs.WriterLaws.{writers_same}
 use Rattle.stored_tier.specs.declared.tier.Tier.{Tier as Stored}
 use Rattle.stored_tier.specs.Grouping.{SameTree}
 use Rattle.stored_tier.specs.Performing.{Executes, PerformsIn, StandsFor, reply_of}
@@ -136,6 +137,7 @@ sound_left t new place all does sound c tree long =
       visible = c.visible ∙ sound.visible ∙ sym (visible_by (groups_in t.catalog) (groups_in new.catalog) t.schema defs) ∙ ap (named_where_cached (groups_in new.catalog)) (sym schema);
       numbered = subst (λ us. RiseBetween 1 us new.next) (sym (ap (λ u. u.items) c.beside.unsettled)) (subst (RiseBetween 1 t.unsettled.items) (sym c.beside.next) sound.numbered);
       later = ap (λ u. are_later (groups_in new.catalog) u.items) c.beside.unsettled ∙ later_by (groups_in t.catalog) (groups_in new.catalog) t.unsettled.items defs sound.later;
+      writers = writers_same t new schema (ap (λ u. u.items) c.beside.unsettled) c.beside.next c.beside.writers sound;
       verified = λ e. absurd (never_both new.verified e c.unverified);
     }
   where
@@ -300,6 +302,7 @@ group_cleared t mid new place n seen at cleared same then groups = record {
     stale = ap (λ (y : Stored). y.stale) then ∙ ap (λ (y : Stored). y.stale) same;
     sessions = ap (λ (y : Stored). y.sessions) then ∙ ap (λ (y : Stored). y.sessions) same;
     unsettled = ap (λ (y : Stored). y.unsettled) then ∙ ap (λ (y : Stored). y.unsettled) same;
+    writers = ap (λ (y : Stored). y.writers) then ∙ ap (λ (y : Stored). y.writers) same;
     next = ap (λ (y : Stored). y.next) then ∙ ap (λ (y : Stored). y.next) same;
     clock = ap (λ (y : Stored). y.clock) then ∙ ap (λ (y : Stored). y.clock) same;
   };
@@ -326,6 +329,7 @@ group_cut t mid new aim all n seen def columns at defined are cut same then grou
         stale = ap (λ (y : Stored). y.stale) then ∙ ap (λ (y : Stored). y.stale) same;
         sessions = ap (λ (y : Stored). y.sessions) then ∙ ap (λ (y : Stored). y.sessions) same;
         unsettled = ap (λ (y : Stored). y.unsettled) then ∙ ap (λ (y : Stored). y.unsettled) same;
+        writers = ap (λ (y : Stored). y.writers) then ∙ ap (λ (y : Stored). y.writers) same;
         next = ap (λ (y : Stored). y.next) then ∙ ap (λ (y : Stored). y.next) same;
         clock = ap (λ (y : Stored). y.clock) then ∙ ap (λ (y : Stored). y.clock) same;
       };

@@ -91,7 +91,7 @@ module _ (t new : Stored) (id : SessionId) (aim : Aim) (n : ℕ) (sound : IsSoun
   explicit : is_explicit x.group ≡ true
   explicit =
       let plain = all_there is_plain (groups_in t.catalog) aim.place (without_list x.group) sound.plain (group_stored t w.tier aim.place x.group stands.stored at) in
-      (both_true (is_explicit x.group) (is_none x.group.def.aging) (both_true (is_explicit x.group && is_none x.group.def.aging) _ plain).0).0
+      (both_true (is_explicit x.group) (is_none x.group.def.aging) plain).0
 
   roots : kept_at cleared.store.tables 0 ≡ shown_roots w.history w.tier.log x.group
   roots =
@@ -175,7 +175,7 @@ pub cleared_here : (t new : Stored) (site : SiteState) (id : SessionId) (aim : A
 cleared_here t new site id aim all n sound kind cleared = λ s w x has rests asks at stands here kinds of. (
     let reads : is_read_only x.group ≡ true = kinds ∙ kind in
     let plain = all_there is_plain (groups_in t.catalog) aim.place (without_list x.group) sound.plain (group_stored t w.tier aim.place x.group stands.stored here) in
-    let explicit : is_explicit x.group ≡ true = (both_true (is_explicit x.group) (is_none x.group.def.aging) (both_true (is_explicit x.group && is_none x.group.def.aging) _ plain).0).0 in
+    let explicit : is_explicit x.group ≡ true = (both_true (is_explicit x.group) (is_none x.group.def.aging) plain).0 in
     let whole = asks reads explicit in
     record {
       world = with_tier (unload_answer x true w).0 w;

@@ -18,7 +18,7 @@ use Rattle.cache_tier.specs.declared.reply.Reply.{Reply}
 use Rattle.cache_tier.specs.declared.reply.Last.TheVariants.{Done, No}
 use Rattle.cache_tier.specs.Rules.{past}
 use Rattle.tier_base.specs.declared.limit.Limit.TheVariants as limit
-use Rattle.cache_tier.specs.Groups.{Group, is_explicit, is_on, is_read_only, is_synchronous, is_writethrough}
+use Rattle.cache_tier.specs.Groups.{Group, is_explicit, is_on, is_read_only, is_writethrough}
 use Rattle.cache_tier.specs.DynamicLoads.{state_loaded}
 use Rattle.cache_tier.specs.JournalSteps.{FlushesFitting, FlushesSome, has_entries}
 use Rattle.cache_tier.specs.Journals.{JournalEntry, is_full}
@@ -160,7 +160,7 @@ loaded_once groups place n chosen st plain state = alone_two place (λ h. record
     by h (Some g) e at =
         let both : Some (cond (chosen place g) (positioned n g) g) ≡ Some h = ap (option_map (λ x. cond (chosen place x) (positioned n x) x)) (sym e) ∙ at in
         let is : cond (chosen place g) (positioned n g) g ≡ h = cc in
-        let explicit : is_explicit g ≡ true = (both_true (is_explicit g) (is_none g.def.aging) (both_true (is_explicit g && is_none g.def.aging) (not (is_synchronous g)) (all_there is_plain groups place g plain e)).0).0 in
+        let explicit : is_explicit g ≡ true = (both_true (is_explicit g) (is_none g.def.aging) (all_there is_plain groups place g plain e)).0 in
         sym (loads_is h (ap is_explicit (sym is) ∙ kept (chosen place g) g ∙ explicit) ∙ ap (λ x. record h { state = x; loaded = true }) (ap (λ (y : Group). loaded_state y.state) (sym is) ∙ same (chosen place g) g ∙ sym (state g e)))
       where
         kept : (b : Bool) (x : Group) → is_explicit (cond b (positioned n x) x) ≡ is_explicit x
@@ -303,7 +303,7 @@ group_at t w place seen sound stands at =
       group = h;
       there = h_at;
       is = same;
-      explicit = ap is_explicit same ∙ (both_true (is_explicit seen) (is_none seen.def.aging) (both_true (is_explicit seen && is_none seen.def.aging) (not (is_synchronous seen)) (all_there is_plain (groups_in t.catalog) place seen sound.plain at)).0).0;
+      explicit = ap is_explicit same ∙ (both_true (is_explicit seen) (is_none seen.def.aging) (all_there is_plain (groups_in t.catalog) place seen sound.plain at)).0;
     }
 
 -- it is loaded alone, or with its set

@@ -2,8 +2,6 @@
 
 use Rattle.std.specs.Prelude.{◌≡◌, List, [], ◌∷◌, ◌++◌, None, Bool, true, false, ◌&&◌, ◌||◌, not, is_none}
 use Rattle.table_defs.specs.declared.definition.TableDef.{TableDef}
-use Rattle.sql_subset.specs.declared.stmt.GroupKind.{GroupKind}
-use Rattle.sql_subset.specs.declared.stmt.GroupKind.TheVariants as kind
 use Rattle.sql_subset.specs.declared.stmt.CreateGroup.{CreateGroup}
 use Rattle.instances.specs.Trees.{is_sound}
 use Rattle.group_catalog.specs.Catalogs.{groups_in}
@@ -15,15 +13,9 @@ use Rattle.cache_tier.specs.StandingBetween.{foreign_key_in}
 use Rattle.stored_tier.specs.declared.tier.Tier.{Tier as Stored}
 use Rattle.stored_tier.specs.Grouping.{HasGroups, IsBareStore}
 
-abbrev pub is_synchronous_kind : GroupKind → Bool
-is_synchronous_kind kind.ReadOnly = false
-is_synchronous_kind kind.AsynchronousWritethrough = false
-is_synchronous_kind kind.SynchronousWritethrough = true
-is_synchronous_kind kind.UserManaged = false
-
--- the tier does groups of this definition: they are loaded whole or by statements, don't age, and aren't SYNCHRONOUS
+-- the tier does groups of this definition: they are loaded whole or by statements, and don't age
 abbrev pub is_done : GroupDef → Bool
-is_done def = not def.dynamic && is_none def.aging && not (is_synchronous_kind def.kind)
+is_done def = not def.dynamic && is_none def.aging
 
 -- where it is a writethrough group its root refers to no table
 abbrev pub is_free : List TableDef → GroupDef → Bool

@@ -82,5 +82,6 @@ pub record IsExchanged (old new : Stored) (chosen : Choice) (n : ℕ) (made : Li
   pub directory : new.directory ≡ old.directory
   pub sessions : new.sessions ≡ old.sessions
   pub unsettled : new.unsettled ≡ old.unsettled
+  pub writers : new.writers ≡ old.writers
   pub next : new.next ≡ old.next
   pub clock : new.clock ≡ old.clock

@@ -41,6 +41,7 @@ pub record IsSameElsewhere (old new : Stored) : Type 0 where
   pub directory : new.directory ≡ old.directory
   pub sessions : new.sessions ≡ old.sessions
   pub unsettled : new.unsettled ≡ old.unsettled
+  pub writers : new.writers ≡ old.writers
   pub next : new.next ≡ old.next
   pub clock : new.clock ≡ old.clock
 

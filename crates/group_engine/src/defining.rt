@@ -30,9 +30,9 @@ use tier_statements::done;
 /// CREATE CACHE GROUP: the group is there, without rows.
 ///
 /// The refusal is the first broken rule, as `group_catalog::define` tells it: 102, 103, 113; 122; 104, 105; 114 by
-/// letter; 119 of the groups; or memory was wanting. All then stays. Groups that are DYNAMIC, SYNCHRONOUS or age
-/// are refused before by the reader's lines that aren't done yet; here memory is said to be wanting for one. (TimesTen
-/// SQL Reference, "CREATE CACHE GROUP".)
+/// letter; 119 of the groups; or memory was wanting. All then stays. Groups that are DYNAMIC or age are refused
+/// before by the reader's lines that aren't done yet; here memory is said to be wanting for one. (TimesTen SQL
+/// Reference, "CREATE CACHE GROUP".)
 pub fn create_group(
     tier: &mut Tier,
     alloc: Global,
@@ -97,11 +97,7 @@ fn add_group(tier: &mut Tier, alloc: Global, def: GroupDef) -> Result<(), AllocE
 fn is_done(def: &GroupDef) -> bool
     ensures { result ≡ is_done def.now }
 {
-    let is_synchronous = match def.kind {
-        GroupKind::SynchronousWritethrough => true,
-        GroupKind::ReadOnly | GroupKind::AsynchronousWritethrough | GroupKind::UserManaged => false,
-    };
-    !def.dynamic && def.aging.is_none() && !is_synchronous
+    !def.dynamic && def.aging.is_none()
 }
 
 // Whether the root table of a writethrough group refers to no table. The letters of 114 see to it.

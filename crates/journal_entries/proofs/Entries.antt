@@ -1,19 +1,19 @@
 -- Operations and entries are read as they are spelled.
-use Rattle.std.proofs.Common.{◌≡◌, ℕ, ◌-◌, zero, suc, ◌+◌, ◌^◌, ◌<◌, ◌≤◌, ◌⊎◌, Bool, true, false, cond, ltb, leb, eqb, ◌&&◌, List, [], ◌∷◌, ◌++◌, length, Option, Some, None, refl, sym, ap, subst, ◌∙◌, append_assoc, arith, inl, inr}
+use Rattle.std.proofs.Common.{◌≡◌, ℕ, ◌^◌, ◌<◌, ◌≤◌, Bool, true, false, ltb, leb, eqb, List, [], ◌∷◌, ◌++◌, length, Some, refl, sym, ap, subst, ◌∙◌, arith, inl, inr}
 use Rattle.std.specs.List.{flat_map, AllByRecursion}
-use Rattle.std.specs.Int.{Width, w16, w32, w64, to_be_bytes}
-use Rattle.std.proofs.lemmas.Bool.{ltb-true, eqb-true, ne_eqb, lt-ltb, le-leb, leb-true}
-use Rattle.std.proofs.lemmas.Option.{cond_some, same_Some}
+use Rattle.std.specs.Int.{w16, w32, w64, to_be_bytes}
+use Rattle.std.proofs.lemmas.Bool.{ltb-true, eqb-true, lt-ltb, le-leb, leb-true}
+use Rattle.std.proofs.lemmas.Option.{same_Some}
 use Rattle.tier_base.specs.declared.number.Ticket.{Ticket}
-use Rattle.journal_entries.specs.declared.value.Value.{Value}
+use Rattle.row_types.specs.declared.value.Value.{Value}
 use Rattle.journal_entries.specs.declared.entry.Op.{Op}
 use Rattle.journal_entries.specs.declared.entry.Op.TheVariants.{Insert, Update, Delete}
 use Rattle.journal_entries.specs.declared.entry.GroupState.{GroupState}
 use Rattle.journal_entries.specs.declared.entry.GroupState.TheVariants.{Off, Paused, On}
 use Rattle.journal_entries.specs.declared.entry.Entry.{Entry}
 use Rattle.journal_entries.specs.declared.entry.Entry.TheVariants.{Commit, Prepare, Passed, Mark, Defined, Dropped, Turned, Loaded}
-use Rattle.journal_entries.specs.Spelling.{IsBytes, name_bytes, row_bytes, op_bytes, transaction_bytes, state_byte, flag_byte, entry_bytes, IsRow, IsName, IsOp, IsTransaction, IsEntry}
-use Rattle.journal_entries.specs.Reading.{◌>>=◌, as_at, both_at, then_at, test_at, code_at, many_at, byte_at, number_at, bytes_at, name_at, row_at, insert_at, update_at, delete_at, tagged_op_at, op_at, is_op_count, ops_at, transaction_at, commit_at, prepare_at, passed_at, mark_at, defined_at, dropped_at, state_of, turned_at, flag_of, loaded_at, tagged_entry_at, entry_at}
+use Rattle.journal_entries.specs.Spelling.{IsBytes, name_bytes, row_bytes, op_bytes, transaction_bytes, state_byte, flag_byte, entry_bytes, IsRow, IsOp, IsTransaction, IsEntry}
+use Rattle.journal_entries.specs.Reading.{both_at, then_at, test_at, code_at, many_at, byte_at, number_at, bytes_at, name_at, row_at, insert_at, update_at, delete_at, tagged_op_at, op_at, is_op_count, ops_at, transaction_at, commit_at, prepare_at, passed_at, mark_at, defined_at, dropped_at, state_of, turned_at, flag_of, loaded_at, tagged_entry_at, entry_at}
 use Rattle.journal_entries.proofs.Exact.{Takes, Takes-then, Exact, bind_some, exact_both, exact_then, exact_test, exact_code, exact_many, as_takes, as_again, wide16, wide32, wide64, exact_number, exact_byte, exact_bytes, exact_name}
 use Rattle.journal_entries.proofs.Values.{chosen, and_true, none_is, exact_row}
 

@@ -1,21 +1,21 @@
 -- Values and rows are read as they are spelled.
-use Rattle.std.proofs.Common.{◌≡◌, ℕ, ℤ, pos, negsuc, ◌-◌, zero, suc, ◌+◌, ◌^◌, ◌<◌, ◌≤◌, ◌⊎◌, not, ◌≤ℤ◌, ◌<ℤ◌, Bool, true, false, cond, ltb, leb, eqb, ◌&&◌, List, [], ◌∷◌, ◌++◌, length, Option, Some, None, refl, sym, ap, subst, ◌∙◌, append_assoc, arith, inl, inr}
+use Rattle.std.proofs.Common.{◌≡◌, ℕ, ℤ, pos, negsuc, zero, suc, ◌^◌, ◌<◌, ◌≤◌, ◌⊎◌, not, ◌≤ℤ◌, ◌<ℤ◌, Bool, true, false, cond, ltb, leb, eqb, ◌&&◌, List, [], ◌∷◌, ◌++◌, length, Option, Some, None, refl, sym, subst, arith, inl, inr}
 use Rattle.std.specs.List.{flat_map, AllByRecursion}
-use Rattle.std.specs.Int.{Width, w16, w32, w64, byte_len, from_be_bytes, to_be_bytes, cast_signed, cast_unsigned}
+use Rattle.std.specs.Int.{w16, w64, to_be_bytes}
 use Rattle.std.specs.Prelude.{FitsSigned}
 use Rattle.std.specs.Str.{is_utf8}
-use Rattle.std.proofs.lemmas.Bool.{cases_lt, ltb-true, ltb-false, le-ltb, eqb-true, ne_eqb, lt-ltb, le-leb, leb-true}
-use Rattle.std.proofs.lemmas.Option.{cond_some, same_Some}
+use Rattle.std.proofs.lemmas.Bool.{ltb-true, eqb-true, ne_eqb, lt-ltb, le-leb, leb-true}
+use Rattle.std.proofs.lemmas.Option.{same_Some}
 use Rattle.std.specs.Int.Signed.{lt_z, lt_z_no, lt_z_yes}
 use Rattle.std.proofs.lemmas.Float.{T_from_true}
 use Rattle.std.proofs.lemmas.Int.{ints}
 use Rattle.row_types.specs.Times.{IsTime}
-use Rattle.journal_entries.specs.declared.value.Number.{Number as OneNumber}
-use Rattle.journal_entries.specs.declared.value.Value.{Value}
-use Rattle.journal_entries.specs.declared.value.Value.TheVariants.{Null, Number, Text, Time}
+use Rattle.numbers.specs.Decimals.{Decimal as OneNumber}
+use Rattle.row_types.specs.declared.value.Value.{Value}
+use Rattle.row_types.specs.declared.value.Value.TheVariants.{Null, Number, Text, Time}
 use Rattle.journal_entries.specs.Spelling.{IsBytes, signed_bytes, value_bytes, row_bytes, IsScale, IsValue, IsRow}
-use Rattle.journal_entries.specs.Reading.{◌>>=◌, as_at, both_at, then_at, test_at, code_at, many_at, byte_at, number_at, bytes_at, signed_at, name_at, integer_at, string_at, is_text, text_at, is_time, time_at, is_scale, scaled_at, tagged_value_at, value_at, row_at}
-use Rattle.journal_entries.proofs.Exact.{Takes, Takes-then, Exact, bind_some, exact_both, exact_then, exact_test, exact_code, exact_many, as_takes, as_again, wide16, exact_number, exact_byte, exact_bytes, exact_signed, IsBytes-rest}
+use Rattle.journal_entries.specs.Reading.{both_at, test_at, many_at, byte_at, number_at, bytes_at, signed_at, integer_at, string_at, is_text, text_at, is_time, time_at, is_scale, scaled_at, tagged_value_at, value_at, row_at}
+use Rattle.journal_entries.proofs.Exact.{Takes, Takes-then, Exact, bind_some, exact_both, exact_then, exact_test, exact_many, as_takes, as_again, wide16, exact_number, exact_byte, exact_bytes, exact_signed}
 
 abbrev numbered : ℤ → ℕ → OneNumber
 numbered z n = record { units = z; scale = n }

@@ -1,13 +1,12 @@
 -- Reading from left to right: a value and the bytes behind it, or none.
 
-use Rattle.std.specs.Prelude.{◌≡◌, ℕ, zero, suc, ◌^◌, ◌<◌, ◌≤◌, ℤ, pos, negsuc, Bool, true, false, not, ◌&&◌, List, [], ◌∷◌, ◌++◌, length, take, drop, nat_lt, nat_le, int_lt, ◌==◌, if◌then◌else◌, Option, Some, None, Result, Ok, Err}
+use Rattle.std.specs.Prelude.{◌≡◌, ℕ, zero, suc, ℤ, pos, negsuc, Bool, true, false, not, ◌&&◌, List, [], ◌∷◌, length, take, drop, nat_lt, nat_le, int_lt, ◌==◌, if◌then◌else◌, Option, Some, None, Result, Ok, Err}
 use Rattle.std.specs.Int.{Width, w16, w32, w64, byte_len, from_be_bytes, cast_signed}
 use Rattle.std.specs.Str.{is_utf8}
-use Rattle.tier_base.specs.declared.number.Ticket.{Ticket}
 use Rattle.journal_entries.specs.declared.fault.ReadError.{ReadError}
 use Rattle.journal_entries.specs.declared.fault.ReadError.TheVariants.{Bad, Memory}
-use Rattle.journal_entries.specs.declared.value.Value.{Value}
-use Rattle.journal_entries.specs.declared.value.Value.TheVariants.{Null, Number, Text, Time}
+use Rattle.row_types.specs.declared.value.Value.{Value}
+use Rattle.row_types.specs.declared.value.Value.TheVariants.{Null, Number, Text, Time}
 use Rattle.journal_entries.specs.declared.entry.Op.{Op}
 use Rattle.journal_entries.specs.declared.entry.Op.TheVariants.{Insert, Update, Delete}
 use Rattle.journal_entries.specs.declared.entry.GroupState.{GroupState}

@@ -1,13 +1,13 @@
 -- The bytes of the journal's entries, and which entries have bytes. (This project's rule.) Numbers are big-endian.
 
-use Rattle.std.specs.Prelude.{◌≡◌, ℕ, ◌+◌, ◌^◌, ◌<◌, ◌≤◌, ◌⊎◌, ℤ, Bool, true, false, ◌&&◌, List, [], ◌∷◌, ◌++◌, length, slice_index, nat_lt, nat_le, ◌==◌, if◌then◌else◌, FitsSigned}
+use Rattle.std.specs.Prelude.{◌≡◌, ℕ, ◌^◌, ◌<◌, ◌≤◌, ◌⊎◌, ℤ, Bool, true, false, List, [], ◌∷◌, ◌++◌, length, slice_index, ◌==◌, if◌then◌else◌, FitsSigned}
 use Rattle.std.specs.List.{flat_map, AllByRecursion}
 use Rattle.std.specs.Int.{w16, w32, w64, to_be_bytes, cast_unsigned}
 use Rattle.std.specs.Str.{is_utf8}
 use Rattle.tier_base.specs.declared.number.Ticket.{Ticket}
 use Rattle.row_types.specs.Times.{IsTime}
-use Rattle.journal_entries.specs.declared.value.Value.{Value}
-use Rattle.journal_entries.specs.declared.value.Value.TheVariants.{Null, Number, Text, Time}
+use Rattle.row_types.specs.declared.value.Value.{Value}
+use Rattle.row_types.specs.declared.value.Value.TheVariants.{Null, Number, Text, Time}
 use Rattle.journal_entries.specs.declared.entry.Op.{Op}
 use Rattle.journal_entries.specs.declared.entry.Op.TheVariants.{Insert, Update, Delete}
 use Rattle.journal_entries.specs.declared.entry.GroupState.{GroupState}

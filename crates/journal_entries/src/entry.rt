@@ -1,10 +1,7 @@
 //! What the journal keeps.
 
-use crate::value::Value;
+use row_types::Row;
 use tier_base::{Seq, Ticket};
-
-/// The values of a row, in the order of its table's columns.
-pub type Row = Seq<Value>;
 
 /// The bytes of a name of a table or a group, or of the statement that defines a group. The journal knows no schema:
 /// whether they name or define something is told by what opens it.

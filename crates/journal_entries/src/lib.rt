@@ -8,13 +8,11 @@ mod fields;
 mod reading;
 pub mod size;
 pub mod standing;
-pub mod value;
 pub mod vectors;
 pub mod writing;
 
 pub use bodies::{read_body, read_entry};
-pub use entry::{Bytes, Entry, GroupState, Op, Row};
+pub use entry::{Bytes, Entry, GroupState, Op};
 pub use fault::ReadError;
 pub use size::{entries_size, entry_size};
 pub use standing::{Ending, Standing};
-pub use value::{Number, Value};

@@ -1,13 +1,13 @@
 //! Reading entries.
 
-ghost use Rattle.std.specs.Prelude.{◌≡◌, Ok};
+ghost use Rattle.std.specs.Prelude.{◌≡◌, ◌≤◌, Ok};
 ghost use Rattle.journal_entries.specs.Reading.{Gives, integer_at, string_at, text_at, time_at, scaled_at, value_at, many_at, row_at, insert_at, update_at, delete_at, op_at, ops_at, transaction_at, commit_at, prepare_at, passed_at, mark_at, defined_at, dropped_at, turned_at, loaded_at, entry_at, state_of, flag_of};
 
-use crate::entry::{Entry, GroupState, Op, Row};
+use crate::entry::{Entry, GroupState, Op};
 use crate::fault::ReadError;
 use crate::fields::{byte_at, bytes_at, copy_at, i64_at, is_text, name_at, u16_at, u32_at, u64_at};
-use crate::value::{Number, Value};
-use row_types::{Text, Time};
+use numbers::Number;
+use row_types::{Row, Text, Time, Value};
 use std::alloc::Global;
 use tier_base::{Seq, Ticket};
 
@@ -22,7 +22,7 @@ fn integer_of(bytes: &[u8]) -> Result<(Value, &[u8]), ReadError>
     ensures { Gives (λ x. (x.0, x.1.now)) result (integer_at bytes.now) }
 {
     let (units, rest) = i64_at(bytes)?;
-    Ok((Value::Number(Number { units, scale: 0 }), rest))
+    Ok((Value::integer(units), rest))
 }
 
 #[tactic(auto, unfolding(crate::specs::Reading::string_at))]
@@ -56,6 +56,17 @@ fn time_of(bytes: &[u8]) -> Result<(Value, &[u8]), ReadError>
     Ok((Value::Time(Time::from_seconds(seconds)), rest))
 }
 
+/// The number of these units at a scale of at most 18.
+fn scaled(units: i64, scale: u8) -> Number
+    requires { scale ≤ 18 }
+    ensures { result ≡ record { units = units; scale = scale } }
+{
+    match Number::new(units, scale) {
+        Some(number) => number,
+        None => unreachable!(),
+    }
+}
+
 #[tactic(auto, unfolding(crate::specs::Reading::scaled_at))]
 fn scaled_of(bytes: &[u8]) -> Result<(Value, &[u8]), ReadError>
     ensures { Gives (λ x. (x.0, x.1.now)) result (scaled_at bytes.now) }
@@ -65,7 +76,7 @@ fn scaled_of(bytes: &[u8]) -> Result<(Value, &[u8]), ReadError>
         return Err(ReadError::Bad);
     }
     let (units, rest) = i64_at(rest)?;
-    Ok((Value::Number(Number { units, scale }), rest))
+    Ok((Value::Number(scaled(units, scale)), rest))
 }
 
 #[tactic(auto, unfolding(crate::specs::Reading::value_at))]
@@ -93,7 +104,7 @@ fn values_of(alloc: Global, version: u8, count: u8, bytes: &[u8]) -> Result<(Row
         values.push(value)?;
         rest = after;
     }
-    Ok((Seq::from_vec(values), rest))
+    Ok((Row::from_vec(values), rest))
 }
 
 #[tactic(auto, unfolding(crate::specs::Reading::row_at))]

@@ -6,14 +6,14 @@ ghost use Rattle.journal_entries.specs.Sizes.{capped};
 ghost use Rattle.journal_entries.specs.Spelling.{entry_bytes, op_bytes, row_bytes, transaction_bytes, value_bytes};
 
 use crate::entry::{Entry, Op};
-use crate::value::Value;
+use row_types::Value;
 
 fn value_size(value: &Value) -> u64
     ensures { result ≡ capped (length (value_bytes value.now)) }
 {
     match value {
         Value::Null => 1,
-        Value::Number(number) => { if number.scale == 0 { 9 } else { 10 } }
+        Value::Number(number) => { if number.scale() == 0 { 9 } else { 10 } }
         Value::Text(text) => (text.as_bytes().len() as u64).saturating_add(3),
         Value::Time(_) => 9,
     }
@@ -29,7 +29,8 @@ fn values_size(values: &[Value]) -> u64
     size
 }
 
-fn row_size(row: &[Value]) -> u64
+/// How many bytes the row takes; 2^64 - 1 where they are more.
+pub fn row_size(row: &[Value]) -> u64
     ensures { result ≡ capped (length (row_bytes row.now)) }
 {
     values_size(row).saturating_add(1)
@@ -39,12 +40,12 @@ fn op_size(op: &Op) -> u64
     ensures { result ≡ capped (length (op_bytes op.now)) }
 {
     match op {
-        Op::Insert(table, row) => named_size(table.as_slice(), row_size(row.as_slice())),
+        Op::Insert(table, row) => named_size(table.as_slice(), row_size(row.values())),
         Op::Update(table, old, new) => {
-            let rows = row_size(old.as_slice()).saturating_add(row_size(new.as_slice()));
+            let rows = row_size(old.values()).saturating_add(row_size(new.values()));
             named_size(table.as_slice(), rows)
         }
-        Op::Delete(table, row) => named_size(table.as_slice(), row_size(row.as_slice())),
+        Op::Delete(table, row) => named_size(table.as_slice(), row_size(row.values())),
     }
 }
 

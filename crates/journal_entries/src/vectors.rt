@@ -3,7 +3,7 @@
 ghost use Rattle.std.specs.Prelude.{◌≡◌, [], ◌∷◌, pos};
 ghost use Rattle.journal_entries.specs.declared.entry.Entry.TheVariants.{Commit, Mark};
 ghost use Rattle.journal_entries.specs.declared.entry.Op.TheVariants.{Insert};
-ghost use Rattle.journal_entries.specs.declared.value.Value.TheVariants.{Number};
+ghost use Rattle.row_types.specs.declared.value.Value.TheVariants.{Number};
 ghost use Rattle.journal_entries.specs.Spelling.{entry_bytes, value_bytes};
 
 /// A commit with ticket 1 that inserts (3, 30) into A, a mark of 1, and the number 12.35.

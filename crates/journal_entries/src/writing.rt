@@ -7,7 +7,7 @@ ghost use Rattle.journal_entries.specs.Spelling.{signed_bytes, value_bytes, row_
 ghost use Rattle.journal_entries.specs.Writing.{Writes};
 
 use crate::entry::{Entry, GroupState, Op};
-use crate::value::Value;
+use row_types::Value;
 use tier_base::Ticket;
 
 /// Puts bytes behind the others.
@@ -21,7 +21,8 @@ pub fn put_bytes(out: &mut Vec<u8>, bytes: &[u8])
     }
 }
 
-fn put_byte(out: &mut Vec<u8>, byte: u8)
+/// Puts a byte behind the others.
+pub fn put_byte(out: &mut Vec<u8>, byte: u8)
     requires { vec_len out.old + 1 ≤ vec_capacity out.old }
     ensures { Writes out.old out.new (byte ∷ []) }
 {
@@ -43,13 +44,13 @@ fn put_value(out: &mut Vec<u8>, value: &Value)
     match value {
         Value::Null => put_byte(out, 0),
         Value::Number(number) => {
-            if number.scale == 0 {
+            if number.scale() == 0 {
                 put_byte(out, 1);
             } else {
                 put_byte(out, 4);
-                put_byte(out, number.scale);
+                put_byte(out, number.scale());
             }
-            put_signed(out, number.units);
+            put_signed(out, number.units());
         }
         Value::Text(text) => {
             let bytes = text.as_bytes();
@@ -74,7 +75,8 @@ fn put_values(out: &mut Vec<u8>, values: &[Value])
     }
 }
 
-fn put_row(out: &mut Vec<u8>, row: &[Value])
+/// Puts a row behind the others.
+pub fn put_row(out: &mut Vec<u8>, row: &[Value])
     requires room { vec_len out.old + length (row_bytes row.now) ≤ vec_capacity out.old }
     requires row { IsRow 2 row.now }
     ensures { Writes out.old out.new (row_bytes row.now) }
@@ -83,7 +85,8 @@ fn put_row(out: &mut Vec<u8>, row: &[Value])
     put_values(out, row);
 }
 
-fn put_name(out: &mut Vec<u8>, name: &[u8])
+/// Puts a name behind the others.
+pub fn put_name(out: &mut Vec<u8>, name: &[u8])
     requires room { vec_len out.old + length (name_bytes name.now) ≤ vec_capacity out.old }
     requires name { IsName name.now }
     ensures { Writes out.old out.new (name_bytes name.now) }
@@ -101,18 +104,18 @@ fn put_op(out: &mut Vec<u8>, op: &Op)
         Op::Insert(table, row) => {
             put_byte(out, 1);
             put_name(out, table.as_slice());
-            put_row(out, row.as_slice());
+            put_row(out, row.values());
         }
         Op::Update(table, old, new) => {
             put_byte(out, 2);
             put_name(out, table.as_slice());
-            put_row(out, old.as_slice());
-            put_row(out, new.as_slice());
+            put_row(out, old.values());
+            put_row(out, new.values());
         }
         Op::Delete(table, row) => {
             put_byte(out, 3);
             put_name(out, table.as_slice());
-            put_row(out, row.as_slice());
+            put_row(out, row.values());
         }
     }
 }

@@ -4,6 +4,7 @@ ghost use Rattle.std.specs.Prelude.{◌≡◌, ◌≤◌, ◌<◌, ◌++◌, ◌
 ghost use Rattle.std.specs.List.{list_any};
 ghost use Rattle.std.specs.Option.{option_copied, option_map};
 ghost use Rattle.table_defs.specs.declared.definition.TableDef.{TableDef as Def};
+ghost use Rattle.table_state.specs.Footprints.{footprint_of, is_among};
 ghost use Rattle.table_state.specs.Operations.{applied_all};
 ghost use Rattle.own_rows.specs.OwnTables.{AreShown};
 ghost use Rattle.session_state.specs.Kept.{IsKept, are_defined, seen_of};
@@ -206,6 +207,18 @@ impl Sessions {
         match self.get(id) {
             None => &[],
             Some(session) => session.ops.as_slice(),
+        }
+    }
+
+    /// Whether an open operation of a session writes a key. It takes no memory.
+    pub fn writes(&self, id: SessionId, table: TableId, key: &Key) -> bool
+        ensures { (schema : List Def) → AreSessions schema self.now
+            → result ≡ is_among (footprint_of schema (open_ops id (seen_all self.now))).written (record { table = table; key = key.now }) }
+    {
+        let session = self.first_of_number(id);
+        match session {
+            None => false,
+            Some(session) => session.writes(table, key),
         }
     }
 

@@ -1,2 +1,2 @@
-pub mod KeepLaws
-pub mod ReadyLaws
+mod MapLaws
+mod NoteLaws

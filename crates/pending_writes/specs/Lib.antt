@@ -1,2 +1,3 @@
-pub mod LastWrites
-pub mod Writing
+pub mod LastWriters
+pub mod Noting
+pub mod Places

@@ -1,9 +1,9 @@
-//! What pending transactions left at the keys that they wrote.
+//! Who wrote a key last, of the transactions that wait for their receipt.
 #![tactic(auto)]
 
 mod pending;
-mod ready;
-mod table_writes;
+mod writers;
+mod writes;
 
-pub use pending::{LastWrite, PendingWrites};
-pub use table_writes::TableWrites;
+pub use pending::PendingWrites;
+pub use writers::{Writer, Writers};

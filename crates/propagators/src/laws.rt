@@ -17,7 +17,7 @@ pub fn left_law()
 {}
 
 /// The events of a round are events of a pipeline, where others change no table of a live writethrough group, and the
-/// history leaves a state. So what stood before the round stands behind it (`commit_flow`, `flow_round_law`).
+/// history leaves a state. So what stood before the round stands behind it (`order_laws`, `flow_round_law`).
 pub fn follow_law()
     ensures { (shared live : List TableId) (schema : List TableDef) (events : List Event) (history later : List Entry)
         (old new : List Sealed) (s : TableState) → AreUnshared live shared → state_of history ≡ Some s

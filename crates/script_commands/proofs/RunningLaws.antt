@@ -5,8 +5,9 @@ use Rattle.outside.specs.Others.{is_shared}
 use Rattle.outside.specs.Sites.{SiteState}
 use Rattle.cache_tier.specs.declared.reply.Reply.{Reply}
 use Rattle.cache_tier.specs.Worlds.{IsUnshared, World}
-use Rattle.stored_tier.specs.declared.tier.Tier.{Tier}
-use Rattle.stored_tier.specs.Performing.{IsPerformed, StandsFor}
+use Rattle.cache_engine.specs.declared.engine.Engine.{Engine}
+use Rattle.session_engine.specs.Doubting.{IsEnded}
+use Rattle.cache_engine.specs.Engines.{IsLeftIn}
 use Rattle.stored_tier.specs.Sites.{IsAt}
 use Rattle.cache_engine.specs.Requests.{Given, LineRun, LineStep}
 use Rattle.script_maker.specs.Giving.{Gives}
@@ -25,8 +26,8 @@ from_push : (lines : List (List ℕ)) (line : List ℕ) → map from_zero lines 
 from_push [] line = refl
 from_push (x ∷ lines) line = ap (λ l. from_zero x ∷ l) (from_push lines line)
 
-ran_push : (w : World) (lines : List (List ℕ)) (line : List ℕ) (c c' : Counts) (w' : World) (tier : Tier) (site : SiteState) → Ran w lines c w' → (a : Answered w' line c c' tier site) → Ran w (lines ++ line ∷ []) c' a.world
-ran_push w lines line c c' w' tier site r a = record {
+ran_push : (w : World) (lines : List (List ℕ)) (line : List ℕ) (c c' : Counts) (w' : World) (engine : Engine) (site : SiteState) → Ran w lines c w' → (a : Answered w' line c c' engine site) → Ran w (lines ++ line ∷ []) c' a.world
+ran_push w lines line c c' w' engine site r a = record {
   replies = r.replies ++ a.reply ∷ [];
   run = subst (λ (gs : List Given). LineRun w gs (r.replies ++ a.reply ∷ []) a.world) (from_push lines line)
       (run_push w (map from_zero lines) r.replies w' (from_zero line) a.reply a.world r.run a.step);
@@ -34,16 +35,16 @@ ran_push w lines line c c' w' tier site r a = record {
 }
 
 -- these lines are answered, and those are left
-pub record GoesOn (w : World) (lines left : List (List ℕ)) (counts : Counts) (site : SiteState) (tier : Tier) : Type 0 where
+pub record GoesOn (w : World) (lines left : List (List ℕ)) (counts : Counts) (site : SiteState) (engine : Engine) : Type 0 where
   pub given : List (List ℕ)
   pub parts : given ++ left ≡ lines
   pub world : World
   pub ran : Ran w given counts world
   pub at : IsAt site world
-  pub stands : StandsFor tier world
+  pub stands : IsLeftIn engine world
 
-pub goes_new : (w : World) (lines left : List (List ℕ)) (counts : Counts) (site : SiteState) (tier : Tier) → left ≡ lines → counts ≡ record { requests = 0; done = 0; refused = 0; faults = 0 } → IsAt site w → StandsFor tier w → GoesOn w lines left counts site tier
-goes_new w lines left counts site tier is none at stands = record {
+pub goes_new : (w : World) (lines left : List (List ℕ)) (counts : Counts) (site : SiteState) (engine : Engine) → left ≡ lines → counts ≡ record { requests = 0; done = 0; refused = 0; faults = 0 } → IsAt site w → IsLeftIn engine w → GoesOn w lines left counts site engine
+goes_new w lines left counts site engine is none at stands = record {
   given = [];
   parts = is;
   world = w;
@@ -52,41 +53,41 @@ goes_new w lines left counts site tier is none at stands = record {
   stands = stands;
 }
 
-pub goes_next : (w : World) (lines left left' : List (List ℕ)) (c c' : Counts) (site site' : SiteState) (tier tier' : Tier) (g : GoesOn w lines left c site tier) → Answers g.world left left' c c' tier' site' true → GoesOn w lines left' c' site' tier'
-goes_next w lines [] left' c c' site site' tier tier' g (more, rest) = cc
-goes_next w lines (line ∷ left) left' c c' site site' tier tier' g (more, is, a) = record {
+pub goes_next : (w : World) (lines left left' : List (List ℕ)) (c c' : Counts) (site site' : SiteState) (engine engine' : Engine) (g : GoesOn w lines left c site engine) → Answers g.world left left' c c' engine' site' true → GoesOn w lines left' c' site' engine'
+goes_next w lines [] left' c c' site site' engine engine' g (more, rest) = cc
+goes_next w lines (line ∷ left) left' c c' site site' engine engine' g (more, is, a) = record {
   given = g.given ++ line ∷ [];
   parts = ap (λ l. (g.given ++ line ∷ []) ++ l) is ∙ append_assoc g.given (line ∷ []) left ∙ g.parts;
   world = a.world;
-  ran = ran_push w g.given line c c' g.world tier' site' g.ran a;
+  ran = ran_push w g.given line c c' g.world engine' site' g.ran a;
   at = a.at;
   stands = a.stands;
 }
 
-pub goes_out : (w : World) (lines left left' : List (List ℕ)) (c c' : Counts) (site site' : SiteState) (tier tier' : Tier) (g : GoesOn w lines left c site tier) → Answers g.world left left' c c' tier' site' false → Ends w lines c' site'
-goes_out w lines (line ∷ left) left' c c' site site' tier tier' g (more, rest) = cc
-goes_out w lines [] left' c c' site site' tier tier' g (more, is, count, at, stands) = record {
+pub goes_out : (w : World) (lines left left' : List (List ℕ)) (c c' : Counts) (site site' : SiteState) (engine engine' : Engine) (g : GoesOn w lines left c site engine) → Answers g.world left left' c c' engine' site' false → Ends w lines c' site'
+goes_out w lines (line ∷ left) left' c c' site site' engine engine' g (more, rest) = cc
+goes_out w lines [] left' c c' site site' engine engine' g (more, is, count, at, stands) = record {
   last = g.world;
   ran = subst (λ (x : Counts). Ran w lines x g.world) (sym count) (subst (λ (l : List (List ℕ)). Ran w l c g.world) (sym (append-nil g.given) ∙ g.parts) g.ran);
   at = at;
 }
 
 -- a line was put, or none
-pub answers_none : (w : World) (lines left : List (List ℕ)) (old new : List ℕ) (c : Counts) (tier : Tier) (site : SiteState) → Gives lines left old new false → IsAt site w → StandsFor tier w → Answers w lines left c c tier site false
-answers_none w [] left old new c tier site g at stands = (refl, g.1, refl, at, stands)
-answers_none w (line ∷ lines) left old new c tier site g at stands = let bad = g.0 in cc
+pub answers_none : (w : World) (lines left : List (List ℕ)) (old new : List ℕ) (c : Counts) (engine : Engine) (site : SiteState) → Gives lines left old new false → IsAt site w → IsLeftIn engine w → Answers w lines left c c engine site false
+answers_none w [] left old new c engine site g at stands = (refl, g.1, refl, at, stands)
+answers_none w (line ∷ lines) left old new c engine site g at stands = let bad = g.0 in cc
 
-pub answers_one : (w : World) (lines left : List (List ℕ)) (old new : List ℕ) (c c' : Counts) (reply : Option Reply) (tier : Tier) (site : SiteState) → Gives lines left old new true → old ≡ [] → c' ≡ counted reply c
-    → IsPerformed tier site (λ w'. LineStep 0 w new w' reply) → Answers w lines left c c' tier site true
-answers_one w [] left old new c c' reply tier site g clear count p = let bad = g.0 in cc
-answers_one w (line ∷ lines) left old new c c' reply tier site g clear count p =
+pub answers_one : (w : World) (lines left : List (List ℕ)) (old new : List ℕ) (c c' : Counts) (reply : Option Reply) (engine : Engine) (site : SiteState) → Gives lines left old new true → old ≡ [] → c' ≡ counted reply c
+    → IsEnded engine.tier engine.doubt site (λ w'. LineStep 0 w new w' reply) → Answers w lines left c c' engine site true
+answers_one w [] left old new c c' reply engine site g clear count p = let bad = g.0 in cc
+answers_one w (line ∷ lines) left old new c c' reply engine site g clear count p =
     let is : new ≡ line = g.2 ∙ ap (λ l. l ++ line) clear in
     (refl, g.1, record {
       reply = reply;
       world = p.world;
       step = subst (λ (l : List ℕ). LineStep 0 w l p.world reply) is p.is;
       at = p.at;
-      stands = p.stands;
+      stands = p.left;
       count = count;
     })
 

@@ -10,8 +10,8 @@ use Rattle.outside.specs.Sites.{SiteState}
 use Rattle.cache_tier.specs.declared.reply.Reply.{Reply}
 use Rattle.cache_tier.specs.TierStates.{Settings}
 use Rattle.cache_tier.specs.Worlds.{World}
-use Rattle.stored_tier.specs.declared.tier.Tier.{Tier}
-use Rattle.stored_tier.specs.Performing.{StandsFor}
+use Rattle.cache_engine.specs.declared.engine.Engine.{Engine}
+use Rattle.cache_engine.specs.Engines.{IsLeftIn}
 use Rattle.stored_tier.specs.Sites.{IsAt}
 use Rattle.cache_engine.specs.Beginning.{opened_world}
 use Rattle.cache_engine.specs.Requests.{Given, LineRun, LineStep}
@@ -70,17 +70,17 @@ pub record IsSummaryOf (number : ℕ) (s : Summary) : Type 0 where
   pub entries : s.entries ≡ length last.history
 
 -- the next line is answered and counted
-pub record Answered (w : World) (line : List ℕ) (counts counts' : Counts) (tier : Tier) (site : SiteState) : Type 0 where
+pub record Answered (w : World) (line : List ℕ) (counts counts' : Counts) (engine : Engine) (site : SiteState) : Type 0 where
   pub reply : Option Reply
   pub world : World
   pub step : LineStep 0 w line world reply
   pub at : IsAt site world
-  pub stands : StandsFor tier world
+  pub stands : IsLeftIn engine world
   pub count : counts' ≡ counted reply counts
 
 -- so it is, unless no line is left
-abbrev pub Answers : World → List (List ℕ) → List (List ℕ) → Counts → Counts → Tier → SiteState → Bool → Type 0
-Answers w [] left counts counts' tier site more =
-    (more ≡ false) × (left ≡ []) × (counts' ≡ counts) × IsAt site w × StandsFor tier w
-Answers w (line ∷ lines) left counts counts' tier site more =
-    (more ≡ true) × (left ≡ lines) × Answered w line counts counts' tier site
+abbrev pub Answers : World → List (List ℕ) → List (List ℕ) → Counts → Counts → Engine → SiteState → Bool → Type 0
+Answers w [] left counts counts' engine site more =
+    (more ≡ false) × (left ≡ []) × (counts' ≡ counts) × IsAt site w × IsLeftIn engine w
+Answers w (line ∷ lines) left counts counts' engine site more =
+    (more ≡ true) × (left ≡ lines) × Answered w line counts counts' engine site

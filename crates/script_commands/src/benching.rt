@@ -18,10 +18,10 @@ pub fn bench(alloc: Global, number: u32) -> Result<Summary, AllocError>
     ensures { IfOk result (IsSummaryOf number) }
 {
     let mut site = MemorySite::new(alloc)?;
-    let Ok(mut tier) = begin(alloc, &mut site, Moment(0), 0) else {
+    let Ok(mut engine) = begin(alloc, &mut site, Moment(0), 0) else {
         return Err(AllocError);
     };
-    let counts = run_script(alloc, &mut tier, &mut site, number)?;
+    let counts = run_script(alloc, &mut engine, &mut site, number)?;
     let history = site.history().as_slice();
     Ok(Summary {
         counts,

@@ -2,64 +2,63 @@
 
 ghost use Rattle.std.specs.Prelude.{◌≡◌, ◌<◌, [], IfOk, length, true};
 ghost use Rattle.cache_tier.specs.Worlds.{World};
-ghost use Rattle.stored_tier.specs.Performing.{StandsFor};
+ghost use Rattle.cache_engine.specs.Engines.{IsInOrder, IsLeftIn};
 ghost use Rattle.stored_tier.specs.Sites.{IsAt};
-ghost use Rattle.stored_tier.specs.Stored.{IsSound};
 ghost use Rattle.script_maker.specs.Script.{script_lines};
 ghost use Rattle.script_commands.specs.Running.{Answers, Ends};
 ghost use Rattle.script_commands.specs.Summaries.{HasRoom};
 
 use crate::counts::Counts;
+use cache_engine::engine::Engine;
 use cache_engine::request::request;
 use outside::Site;
 use script_maker::ScriptLines;
 use std::alloc::{AllocError, Global};
-use stored_tier::tier::Tier;
 use tier_base::Moment;
 
-/// Lets the tier answer each line of the script of a number, with moments that are counted from 0, and counts the
+/// Lets the engine answer each line of the script of a number, with moments that are counted from 0, and counts the
 /// replies. Others change no table.
 ///
 /// The error is want of memory for a line of the script.
 pub(crate) fn run_script<P: Site>(
     alloc: Global,
-    tier: &mut Tier,
+    engine: &mut Engine,
     site: &mut P,
     number: u32,
 ) -> Result<Counts, AllocError>
-    requires sound { IsSound tier.old }
+    requires order { IsInOrder engine.old }
     requires unshared { (P.Disk.state site.old).shared ≡ [] }
-    ensures { IfOk result (λ counts. (w : World) → IsAt (P.Disk.state site.old) w → StandsFor tier.old w
+    ensures { IfOk result (λ counts. (w : World) → IsAt (P.Disk.state site.old) w → IsLeftIn engine.old w
         → Ends w (script_lines number) counts (P.Disk.state site.new)) }
 {
     let mut lines = ScriptLines::new(number);
     let mut line = Vec::new(alloc);
     let mut counts = Counts::none();
     'lines: loop {
-        let more = answer_next(alloc, tier, site, &mut lines, &mut line, &mut counts)?;
+        let more = answer_next(alloc, engine, site, &mut lines, &mut line, &mut counts)?;
         if !more {
             return Ok(counts);
         }
     }
 }
 
-// Lets the tier answer the next line, and counts its reply. False where no line is left.
+// Lets the engine answer the next line, and counts its reply. False where no line is left.
 fn answer_next<P: Site>(
     alloc: Global,
-    tier: &mut Tier,
+    engine: &mut Engine,
     site: &mut P,
     lines: &mut ScriptLines,
     line: &mut Vec<u8>,
     counts: &mut Counts,
 ) -> Result<bool, AllocError>
-    requires sound { IsSound tier.old }
+    requires order { IsInOrder engine.old }
     requires unshared { (P.Disk.state site.old).shared ≡ [] }
     requires clear { line.old.items ≡ [] }
     requires room { HasRoom counts.old (length lines.old) }
-    ensures answers { IfOk result (λ more. (w : World) → IsAt (P.Disk.state site.old) w → StandsFor tier.old w
-        → Answers w lines.old lines.new counts.old counts.new tier.new (P.Disk.state site.new) more) }
+    ensures answers { IfOk result (λ more. (w : World) → IsAt (P.Disk.state site.old) w → IsLeftIn engine.old w
+        → Answers w lines.old lines.new counts.old counts.new engine.new (P.Disk.state site.new) more) }
     ensures fewer { IfOk result (λ more. more ≡ true → length lines.new < length lines.old) }
-    ensures sound { IfOk result (λ more. IsSound tier.new) }
+    ensures order { IfOk result (λ more. IsInOrder engine.new) }
     ensures unshared { IfOk result (λ more. (P.Disk.state site.new).shared ≡ []) }
     ensures clear { IfOk result (λ more. line.new.items ≡ []) }
     ensures room { IfOk result (λ more. HasRoom counts.new (length lines.new)) }
@@ -68,7 +67,7 @@ fn answer_next<P: Site>(
     if !more {
         return Ok(false);
     }
-    let reply = request(tier, alloc, site, Moment(0), line.as_slice());
+    let reply = request(engine, alloc, site, Moment(0), line.as_slice());
     *counts = counts.with(&reply);
     line.clear();
     Ok(true)

@@ -13,8 +13,10 @@ use Rattle.outside.specs.Others.{AreOthers}
 use Rattle.order_laws.specs.Commits.{Once}
 use Rattle.order_laws.specs.Steps.{MayBegin}
 use Rattle.cache_tier.specs.TierStates.{Settings as TierSettings}
-use Rattle.stored_tier.specs.declared.tier.Tier.{Tier}
-use Rattle.cache_engine.specs.Beginning.{Begins, BeginsAt}
+use Rattle.cache_engine.specs.Beginning.{BeginsAt}
+use Rattle.cache_engine.specs.Engines.{IsBegunWith}
+use Rattle.cache_engine.specs.declared.engine.Engine.{Engine}
+use Rattle.cache_engine.proofs.EngineLaws.{left_in}
 use Rattle.stored_tier.specs.Performing.{KeepsSlots}
 use Rattle.outside.specs.Sites.{SiteState}
 use Rattle.session_cli.specs.declared.session.Session.{Session}
@@ -75,10 +77,10 @@ may_begin h none = record {
 }
 
 -- the tier was begun, and its session has been given nothing
-pub opens_begun : (before behind : SiteState) (bases left : Coming) (propagate_ms : ℕ) (start : Moment) (tier : Tier) (session : Session) → session.tier ≡ tier → IsNext (bases 0) start.0 → AreLeft bases 1 left
-    → Begins start propagate_ms before behind (Ok tier) → BeginsAt before behind → Opens propagate_ms before behind bases left session
-opens_begun before behind bases left propagate_ms start tier session is first more begins later = λ there settings told none ms.
-    let b = begins there told in
+pub opens_begun : (before behind : SiteState) (bases left : Coming) (propagate_ms : ℕ) (start : Moment) (engine : Engine) (session : Session) → session.engine ≡ engine → IsNext (bases 0) start.0 → AreLeft bases 1 left
+    → IsBegunWith start propagate_ms before behind (Ok engine) → BeginsAt before behind → Opens propagate_ms before behind bases left session
+opens_begun before behind bases left propagate_ms start engine session is first more begun later = λ there settings told none ms.
+    let b = begun.0 there told in
     let no : HasNoTickets b.held.history = subst HasNoTickets (sym b.is) (others_leave before.shared there.history b.others b.came none) in
     record {
       opened = record {
@@ -93,7 +95,7 @@ opens_begun before behind bases left propagate_ms start tier session is first mo
         state = no.state;
         leaves = no.leaves;
       };
-      stands = rw is (b.opened settings no.state ms no.leaves (may_begin b.held.history no));
+      stands = rw is (left_in engine _ begun.1 (b.opened settings no.state ms no.leaves (may_begin b.held.history no)));
       left = more;
     }
 

@@ -2,16 +2,15 @@
 use Rattle.std.proofs.Common.{◌≡◌, ◌≢◌, ℕ, zero, suc, ◌+◌, ◌<◌, length, get_or, List, [], ◌∷◌, ◌++◌, take, drop, Option, Some, None, Result, Ok, Err, refl, sym, ◌∙◌, ap, subst, append-nil, append_assoc, lit≤, take-append-drop}
 use Rattle.std.specs.Io.KnownBytes.{Appends}
 use Rattle.std.specs.Result.{IsErr, OnOk}
-use Rattle.table_state.specs.Tables.{TableState}
 use Rattle.outside.specs.Holding.{Held}
-use Rattle.order_laws.specs.Commits.{IsLegal, KeepsCommitOrder, conflicting}
 use Rattle.cache_tier.specs.declared.reply.Reply.{Reply}
 use Rattle.cache_tier.specs.Replying.{reply_bytes, replies_bytes}
 use Rattle.cache_tier.specs.Worlds.{IsUnshared, World}
-use Rattle.cache_tier.specs.StandingBetween.{Stands}
-use Rattle.stored_tier.specs.declared.tier.Tier.{Tier}
-use Rattle.stored_tier.specs.Performing.{KeepsSlots, StandsFor}
+use Rattle.stored_tier.specs.Performing.{KeepsSlots}
+use Rattle.cache_engine.specs.Engines.{IsLeftIn}
 use Rattle.cache_engine.specs.Requests.{Given}
+use Rattle.cache_engine.specs.declared.engine.Engine.{Engine}
+use Rattle.cache_engine.proofs.EngineLaws.{left_known}
 use Rattle.stored_tier.specs.Sites.{IsAt}
 use Rattle.outside.specs.Sites.{SiteState}
 use Rattle.session_cli.specs.declared.session.Session.{Session}
@@ -32,26 +31,20 @@ pub told_after : (a : List ℕ) (b : Option (List ℕ)) (xs : List ℕ) → Appe
 told_after a None xs p = absurd p
 told_after a (Some b) xs p = ap (λ l. Some l) p
 
--- a tier that stands does so over a legal history
-legal_of : (w : World) → Stands w → KeepsCommitOrder w.history w.tier.log
-legal_of w x s is =
-    let over = x.flow.stand.over in
-    let told : Some over.backing ≡ Some s = sym over.leaves ∙ is in
-    let same : over.backing ≡ s = cc in
-    subst (λ (state : TableState). IsLegal (conflicting state.schema) w.history w.tier.log) same over.legal
-
--- a run has led to a world for which the tier stands
-pub answered_by : (o : Origin) (lines : List (List ℕ)) (replies : List (Option Reply)) (site : SiteState) (tier : Tier) (w : World) → Comes o lines replies w → (at : IsAt site w) → at.there.slots ≡ o.slots → StandsFor tier w
+-- a run has led to a world in which the engine is left so
+pub answered_by : (o : Origin) (lines : List (List ℕ)) (replies : List (Option Reply)) (site : SiteState) (engine : Engine) (w : World) → Comes o lines replies w → (at : IsAt site w) → at.there.slots ≡ o.slots → IsLeftIn engine w
     → Answered o lines replies site
-answered_by o lines replies site tier w comes at slots stands = record {
-  last = w;
-  comes = comes;
-  at = at;
-  slots = slots;
-  legal = legal_of w stands.stands;
-  drained = drained_of w stands.stands;
-  read = stands.stands.read;
-}
+answered_by o lines replies site engine w comes at slots left =
+    let known = left_known engine w left in
+    record {
+      last = w;
+      comes = comes;
+      at = at;
+      slots = slots;
+      legal = known.legal;
+      drained = λ none. drained_of w (known.stands none);
+      read = known.read;
+    }
 
 -- the slots of a site that tells what it holds
 pub kept_slots : (a b : Option Held) (x y : Held) → a ≡ Some x → b ≡ Some y → KeepsSlots a b → y.slots ≡ x.slots
@@ -63,20 +56,20 @@ kept_slots (Some a) (Some b) x y is is' kept =
     sym (ap (λ (h : Held). h.slots) behind) ∙ kept ∙ ap (λ (h : Held). h.slots) before
 
 -- the run goes on by a line that was answered
-came_line : {E : Type 0} (res : Result (Unit {0}) E) (o : Origin) (given : List ℕ) (lines : List (List ℕ)) (before behind : Outside) (session : Session) (tier' : Tier) (waiting' line : List ℕ) → ended_lines given ++ line ∷ [] ≡ lines
-    → (s : Serving o given before session) → (r : Responds res before behind session.output waiting' tier' s.world line)
+came_line : {E : Type 0} (res : Result (Unit {0}) E) (o : Origin) (given : List ℕ) (lines : List (List ℕ)) (before behind : Outside) (session : Session) (engine' : Engine) (waiting' line : List ℕ) → ended_lines given ++ line ∷ [] ≡ lines
+    → (s : Serving o given before session) → (r : Responds res before behind session.output waiting' engine' s.world line)
     → CameOn o lines (s.replies ++ r.reply ∷ []) r.world behind.coming
-came_line res o given lines before behind session tier' waiting' line is s r =
+came_line res o given lines before behind session engine' waiting' line is s r =
     let g : Given = record { base = r.base; bytes = line } in
     comes_on o (ended_lines given) lines s.replies s.world s.comes before.coming behind.coming g r.reply r.world is s.left r.took r.step
 
 -- the ended lines and one more are answered
-pub answered_line : {E : Type 0} (res : Result (Unit {0}) E) (o : Origin) (given : List ℕ) (lines : List (List ℕ)) (before behind : Outside) (session : Session) (tier' : Tier) (waiting' line : List ℕ) → ended_lines given ++ line ∷ [] ≡ lines
-    → (s : Serving o given before session) → KeepsSlots before.site.held behind.site.held → (r : Responds res before behind session.output waiting' tier' s.world line)
+pub answered_line : {E : Type 0} (res : Result (Unit {0}) E) (o : Origin) (given : List ℕ) (lines : List (List ℕ)) (before behind : Outside) (session : Session) (engine' : Engine) (waiting' line : List ℕ) → ended_lines given ++ line ∷ [] ≡ lines
+    → (s : Serving o given before session) → KeepsSlots before.site.held behind.site.held → (r : Responds res before behind session.output waiting' engine' s.world line)
     → Answered o lines (s.replies ++ r.reply ∷ []) behind.site
-answered_line res o given lines before behind session tier' waiting' line is s kept r =
-    answered_by o lines (s.replies ++ r.reply ∷ []) behind.site tier' r.world
-    (came_line res o given lines before behind session tier' waiting' line is s r).comes r.at
+answered_line res o given lines before behind session engine' waiting' line is s kept r =
+    answered_by o lines (s.replies ++ r.reply ∷ []) behind.site engine' r.world
+    (came_line res o given lines before behind session engine' waiting' line is s r).comes r.at
     (kept_slots before.site.held behind.site.held s.at.there r.at.there s.at.told r.at.told kept ∙ s.slots) r.stands
 
 -- a front of the replies is written
@@ -92,11 +85,11 @@ ended_by given line session is front =
 -- a line feed came, and the reply was passed on
 pub serving_line : {E : Type 0} (o : Origin) (given : List ℕ) (before behind : Outside) (session session' : Session) (line : List ℕ)
     → line ≡ text_of session.line → session'.line ≡ [] → KeepsSlots before.site.held behind.site.held → (s : Serving o given before session)
-    → Responds {E = E} (Ok tt) before behind session.output session'.output session'.tier s.world line
+    → Responds {E = E} (Ok tt) before behind session.output session'.output session'.engine s.world line
     → Serving o (given ++ 10 ∷ []) behind session'
 serving_line o given before behind session session' line is empty kept s r =
     let lines = ended_by given line session is s.line in
-    let came = came_line _ o given (ended_lines (given ++ 10 ∷ [])) before behind session session'.tier session'.output line lines s r in
+    let came = came_line _ o given (ended_lines (given ++ 10 ∷ [])) before behind session session'.engine session'.output line lines s r in
     record {
       world = r.world;
       replies = s.replies ++ r.reply ∷ [];
@@ -110,13 +103,13 @@ serving_line o given before behind session session' line is empty kept s r =
     }
 
 -- a line feed came, and the sink failed
-pub cut_short_line : {E : Type 0} (e : E) (o : Origin) (given : List ℕ) (before behind : Outside) (session : Session) (tier' : Tier) (waiting' line : List ℕ)
+pub cut_short_line : {E : Type 0} (e : E) (o : Origin) (given : List ℕ) (before behind : Outside) (session : Session) (engine' : Engine) (waiting' line : List ℕ)
     → line ≡ text_of session.line → KeepsSlots before.site.held behind.site.held → (s : Serving o given before session)
-    → Responds (Err e) before behind session.output waiting' tier' s.world line
+    → Responds (Err e) before behind session.output waiting' engine' s.world line
     → CutShort o (ended_lines (given ++ 10 ∷ [])) behind
-cut_short_line e o given before behind session tier' waiting' line is kept s r =
+cut_short_line e o given before behind session engine' waiting' line is kept s r =
     let lines = ended_by given line session is s.line in
-    let a = answered_line _ o given (ended_lines (given ++ 10 ∷ [])) before behind session tier' waiting' line lines s kept r in
+    let a = answered_line _ o given (ended_lines (given ++ 10 ∷ [])) before behind session engine' waiting' line lines s kept r in
     cut_short o (ended_lines (given ++ 10 ∷ [])) (s.replies ++ r.reply ∷ []) behind a
     (rw (replies_push s.replies r.reply) (breaks_then (Some o.written) before.written behind.written (replies_bytes s.replies) session.output (reply_bytes r.reply) s.passed r.passed))
 
@@ -126,7 +119,7 @@ comes_same o lines lines' replies w is c = record { given = c.given; are = c.are
 
 -- another byte came
 pub serving_byte : (o : Origin) (given : List ℕ) (b : ℕ) (now : Outside) (session session' : Session)
-    → b ≢ 10 → session'.tier ≡ session.tier → session'.line ≡ front_of (session.line ++ b ∷ []) → session'.output ≡ session.output
+    → b ≢ 10 → session'.engine ≡ session.engine → session'.line ≡ front_of (session.line ++ b ∷ []) → session'.output ≡ session.output
     → Serving o given now session → Serving o (given ++ b ∷ []) now session'
 unfolding comes_same
 serving_byte o given b now session session' differs tier line output s = record {
@@ -168,7 +161,7 @@ serving_more o given bytes i now session lt s =
 
 -- the ended lines are answered
 pub answered_here : (o : Origin) (given : List ℕ) (now : Outside) (session : Session) → (s : Serving o given now session) → Answered o (ended_lines given) s.replies now.site
-answered_here o given now session s = answered_by o (ended_lines given) s.replies now.site session.tier s.world s.comes s.at s.slots s.stands
+answered_here o given now session s = answered_by o (ended_lines given) s.replies now.site session.engine s.world s.comes s.at s.slots s.stands
 
 pub take_whole : (xs : List ℕ) → take (length xs) xs ≡ xs
 take_whole [] = refl
@@ -176,7 +169,7 @@ take_whole (x ∷ xs) = ap (λ l. x ∷ l) (take_whole xs)
 
 -- what waited is written
 pub serving_flushed : {E : Type 0} (r : Result (Unit {0}) E) (o : Origin) (given bytes : List ℕ) (before behind : Outside) (session session' : Session)
-    → behind.coming ≡ before.coming → behind.site ≡ before.site → session'.tier ≡ session.tier → session'.line ≡ session.line
+    → behind.coming ≡ before.coming → behind.site ≡ before.site → session'.engine ≡ session.engine → session'.line ≡ session.line
     → Serving o (given ++ bytes) before session → Passes r before.written behind.written session.output session'.output []
     → Feeds r o given bytes behind session'
 serving_flushed (Ok done) o given bytes before behind session session' coming site tier line s p =
@@ -215,20 +208,20 @@ closes_ended o given now session none s = record {
 }
 
 -- the last line is answered
-pub closes_line : {E : Type 0} (r : Result (Unit {0}) E) (o : Origin) (given : List ℕ) (before behind : Outside) (session : Session) (tier' : Tier) (waiting' line : List ℕ)
+pub closes_line : {E : Type 0} (r : Result (Unit {0}) E) (o : Origin) (given : List ℕ) (before behind : Outside) (session : Session) (engine' : Engine) (waiting' line : List ℕ)
     → line ≡ session.line → session.line ≢ [] → KeepsSlots before.site.held behind.site.held → (s : Serving o given before session)
-    → Responds r before behind session.output waiting' tier' s.world line
+    → Responds r before behind session.output waiting' engine' s.world line
     → Closes r o given behind waiting'
-closes_line (Ok done) o given before behind session tier' waiting' line is some kept s p =
+closes_line (Ok done) o given before behind session engine' waiting' line is some kept s p =
     let lines = sym (all_more given line (is ∙ s.line) (λ none. some (sym is ∙ none))) in
     record {
       replies = s.replies ++ p.reply ∷ [];
-      answered = answered_line _ o given (all_lines given) before behind session tier' waiting' line lines s kept p;
+      answered = answered_line _ o given (all_lines given) before behind session engine' waiting' line lines s kept p;
       passed = rw (replies_push s.replies p.reply) (splits_then (Some o.written) before.written behind.written (replies_bytes s.replies) session.output (reply_bytes p.reply) waiting' s.passed p.passed);
     }
-closes_line (Err e) o given before behind session tier' waiting' line is some kept s p =
+closes_line (Err e) o given before behind session engine' waiting' line is some kept s p =
     let lines = sym (all_more given line (is ∙ s.line) (λ none. some (sym is ∙ none))) in
-    cut_short o (all_lines given) (s.replies ++ p.reply ∷ []) behind (answered_line _ o given (all_lines given) before behind session tier' waiting' line lines s kept p)
+    cut_short o (all_lines given) (s.replies ++ p.reply ∷ []) behind (answered_line _ o given (all_lines given) before behind session engine' waiting' line lines s kept p)
     (rw (replies_push s.replies p.reply) (breaks_then (Some o.written) before.written behind.written (replies_bytes s.replies) session.output (reply_bytes p.reply) s.passed p.passed))
 
 pub closes_failed : {E F : Type 0} (e : E) (r : Result (Unit {0}) F) (o : Origin) (given : List ℕ) (now : Outside) (waiting : List ℕ) → IsErr r

@@ -9,8 +9,8 @@ use Rattle.outside.specs.Others.{AreOthers}
 use Rattle.command_line.specs.declared.settings.Settings.{Settings}
 use Rattle.cache_tier.specs.TierStates.{Settings as TierSettings}
 use Rattle.cache_engine.specs.Beginning.{opened_world}
+use Rattle.cache_engine.specs.Engines.{IsLeftIn}
 use Rattle.cache_tier.specs.Worlds.{World}
-use Rattle.stored_tier.specs.Performing.{StandsFor}
 use Rattle.outside.specs.Sites.{SiteState}
 use Rattle.session_cli.specs.declared.session.Session.{Session}
 use Rattle.session_cli.specs.Serving.{Origin}
@@ -62,11 +62,11 @@ begins {bases = bases} settings written x = record {
   bases = bases;
 }
 
--- the tier of a session stands for the opened one, and of the bases one is taken
+-- the engine of a session is left in the world of the opened tier, and of the bases one is taken
 pub record IsNew (there : Held) (before behind : SiteState) (bases coming : Coming) (settings : TierSettings)
     (session : Session) : Type 0 where
   pub opened : Opened there before behind bases
-  pub stands : StandsFor session.tier (world_at settings opened)
+  pub stands : IsLeftIn session.engine (world_at settings opened)
   pub left : AreLeft bases 1 coming
 
 -- so it is where the site tells a history without tickets, and the settings have this span between rounds

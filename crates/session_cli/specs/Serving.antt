@@ -1,6 +1,6 @@
 -- A run in the middle and at its end.
 
-use Rattle.std.specs.Prelude.{◌≡◌, ℕ, List, [], ◌++◌, Option, Some, Result, Ok, Err, length, map, take}
+use Rattle.std.specs.Prelude.{◌≡◌, ℕ, List, [], ◌++◌, Option, Some, None, Result, Ok, Err, length, map, take}
 use Rattle.outside.specs.Holding.{Slots}
 use Rattle.order_laws.specs.Commits.{KeepsCommitOrder}
 use Rattle.cache_tier.specs.declared.reply.Reply.{Reply}
@@ -8,9 +8,9 @@ use Rattle.cache_tier.specs.Replying.{reply_bytes, replies_bytes}
 use Rattle.cache_tier.specs.Rounds.{IsDrained}
 use Rattle.cache_tier.specs.Worlds.{IsUnshared, World}
 use Rattle.cache_tier.specs.StandingBetween.{AreReadAt}
-use Rattle.stored_tier.specs.declared.tier.Tier.{Tier}
-use Rattle.stored_tier.specs.Performing.{StandsFor}
+use Rattle.cache_engine.specs.Engines.{IsLeftIn}
 use Rattle.cache_engine.specs.Requests.{Given, LineRun, LineStep}
+use Rattle.cache_engine.specs.declared.engine.Engine.{Engine}
 use Rattle.stored_tier.specs.Sites.{IsAt}
 use Rattle.outside.specs.Sites.{SiteState}
 use Rattle.session_cli.specs.declared.session.Session.{Session}
@@ -48,33 +48,33 @@ IsLeftAlone o input =
 
 -- One line was answered in this world: its base was taken, the request was served, and its reply passed on to the sink.
 pub record Responds {E : Type 0} (result : Result (Unit {0}) E) (before behind : Outside) (waiting waiting' : List ℕ)
-    (tier' : Tier) (w : World) (line : List ℕ) : Type 0 where
+    (engine' : Engine) (w : World) (line : List ℕ) : Type 0 where
   pub base : ℕ
   pub took : TakesBase line before.coming behind.coming base
   pub reply : Option Reply
   pub world : World
   pub at : IsAt behind.site world
-  pub stands : StandsFor tier' world
+  pub stands : IsLeftIn engine' world
   pub step : LineStep base w line world reply
   pub passed : Passes result before.written behind.written waiting waiting' (reply_bytes reply)
 
 -- After the bytes given: each line that ended is answered, a front of the replies is written and the others wait, and
--- of the line that hasn't ended the session keeps the front. The tier stands for the one of the world to which the run
--- has led.
+-- of the line that hasn't ended the session keeps the front. The engine is left so in the world to which the run has
+-- led: its tier stands there, or a commit is in doubt.
 pub record Serving (o : Origin) (given : List ℕ) (now : Outside) (session : Session) : Type 0 where
   pub world : World
   pub replies : List (Option Reply)
   pub comes : Comes o (ended_lines given) replies world
   pub at : IsAt now.site world
   pub slots : at.there.slots ≡ o.slots
-  pub stands : StandsFor session.tier world
+  pub stands : IsLeftIn session.engine world
   pub left : AreLeft o.bases comes.asked now.coming
   pub line : session.line ≡ front_of (cut given).1
   pub passed : Splits (Some o.written) now.written (replies_bytes replies) session.output
 
 -- These are the replies of a run over the lines, and at its end the site is as the run's last world says. There each
--- committed transaction stands once at most, and conflicting ones in commit order; where nothing is unsettled, as
--- behind a ttDrain that succeeded, each stands once, and the tables of each writethrough group are what all of its
+-- committed transaction stands once at most, and conflicting ones in commit order; where nothing is in doubt and nothing
+-- unsettled, as behind a ttDrain that succeeded, each stands once, and the tables of each writethrough group are what all of its
 -- transactions make in commit order; and the READONLY groups of one set that have something to show have one position.
 pub record Answered (o : Origin) (lines : List (List ℕ)) (replies : List (Option Reply)) (site : SiteState)
     : Type 0 where
@@ -83,7 +83,7 @@ pub record Answered (o : Origin) (lines : List (List ℕ)) (replies : List (Opti
   pub at : IsAt site last
   pub slots : at.there.slots ≡ o.slots
   pub legal : KeepsCommitOrder last.history last.tier.log
-  pub drained : last.tier.unsettled ≡ [] → IsDrained last
+  pub drained : last.tier.doubt ≡ None → last.tier.unsettled ≡ [] → IsDrained last
   pub read : AreReadAt (length last.history) last.tier.groups
 
 -- The lines are answered, and all replies written.

@@ -3,7 +3,7 @@
 ghost use Rattle.std.specs.Prelude.{◌≡◌, ◌<◌, ◌⊎◌, [], length};
 ghost use Rattle.outside.specs.Faults.{Rose};
 ghost use Rattle.cache_tier.specs.TierStates.{Settings as TierSettings};
-ghost use Rattle.stored_tier.specs.Stored.{IsSound};
+ghost use Rattle.cache_engine.specs.Engines.{IsInOrder};
 ghost use Rattle.session_cli.specs.Ends.{Runs, Serves, Takes};
 ghost use Rattle.session_cli.specs.Outside.{seen};
 
@@ -106,7 +106,7 @@ fn serve_pieces<S: Source, K: Sink, P: Site, C: Clock>(
 ) -> Status
     requires empty { session.old.output ≡ [] }
     requires room { 0 < length piece.old }
-    requires sound { IsSound session.old.tier }
+    requires order { IsInOrder session.old.engine }
     ensures serves { Serves session.old result (S.left source.old)
         (seen (K.written sink.old) (C.coming clock.old) (P.Disk.state site.old)) (S.left source.new)
         (seen (K.written sink.new) (C.coming clock.new) (P.Disk.state site.new)) }

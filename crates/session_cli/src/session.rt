@@ -4,14 +4,14 @@ use crate::answering::respond;
 use crate::line::LineBuffer;
 use crate::output::Output;
 use cache_engine::beginning::begin;
+use cache_engine::engine::Engine;
 use outside::{BankError, Clock, Failed, Sink, Site};
 use std::alloc::Global;
-use stored_tier::tier::Tier;
 
 /// What is kept between the pieces of the input.
 pub struct Session {
-    /// The tier.
-    pub tier: Tier,
+    /// The tier, and the commit that is in doubt.
+    pub engine: Engine,
     /// The line that hasn't ended.
     pub line: LineBuffer,
     /// The reply bytes that aren't written.
@@ -21,7 +21,7 @@ pub struct Session {
 impl Drop for Session {
     fn drop(self) {
         let Self {
-            tier: _,
+            engine: _,
             line: _,
             output: _,
         } = self;
@@ -32,7 +32,7 @@ impl Session {
     ghost use Rattle.std.specs.Prelude.{◌≡◌, ◌++◌, ◌∷◌, [], List, ℕ, OnOk, IfOk};
     ghost use Rattle.outside.specs.Faults.{BankHasCause, HasCause};
     ghost use Rattle.cache_engine.specs.Beginning.{BeginsAt};
-    ghost use Rattle.stored_tier.specs.Stored.{IsSound};
+    ghost use Rattle.cache_engine.specs.Engines.{IsInOrder};
     ghost use Rattle.session_cli.specs.Opening.{Opens};
     ghost use Rattle.session_cli.specs.Outside.{seen};
     ghost use Rattle.session_cli.specs.Serving.{Closes, Feeds, Finishes, IsLeftAlone, Origin, Serving};
@@ -53,7 +53,7 @@ impl Session {
             (C.coming clock.old) (C.coming clock.new)) }
         ensures line { IfOk result (λ session. session.line ≡ []) }
         ensures output { IfOk result (λ session. session.output ≡ []) }
-        ensures sound { IfOk result (λ session. IsSound session.tier) }
+        ensures order { IfOk result (λ session. IsInOrder session.engine) }
         ensures cause { BankHasCause (P.Disk.state site.old) (P.Disk.state site.new) result }
         ensures later { BeginsAt
             (P.Disk.state site.old)
@@ -67,7 +67,11 @@ impl Session {
         };
         let start = clock.now();
         match begin(alloc, site, start, propagate_ms) {
-            Ok(tier) => Ok(Session { tier, line, output }),
+            Ok(engine) => Ok(Session {
+                engine,
+                line,
+                output,
+            }),
             Err(error) => Err(error),
         }
     }
@@ -84,13 +88,13 @@ impl Session {
         clock: &mut C,
         bytes: &[u8],
     ) -> Result<(), Failed>
-        requires { IsSound self.old.tier }
+        requires { IsInOrder self.old.engine }
         ensures serves { (o : Origin) (given : List ℕ) → IsLeftAlone o (given ++ bytes.now) → Serving o given
             (seen (K.written sink.old) (C.coming clock.old) (P.Disk.state site.old)) self.old
             → Feeds result o given bytes.now
             (seen (K.written sink.new) (C.coming clock.new) (P.Disk.state site.new)) self.new }
         ensures empty { OnOk result (self.new.output ≡ []) }
-        ensures sound { IsSound self.new.tier }
+        ensures order { IsInOrder self.new.engine }
         ensures cause { HasCause (K.faults sink.old) (K.faults sink.new) result }
     {
         self.take_in(alloc, sink, site, clock, bytes)?;
@@ -108,12 +112,12 @@ impl Session {
         site: &mut P,
         clock: &mut C,
     ) -> Result<(), Failed>
-        requires { IsSound self.old.tier }
+        requires { IsInOrder self.old.engine }
         ensures serves { (o : Origin) (given : List ℕ) → IsLeftAlone o given → Serving o given
             (seen (K.written sink.old) (C.coming clock.old) (P.Disk.state site.old)) self.old
             → Finishes result o given
             (seen (K.written sink.new) (C.coming clock.new) (P.Disk.state site.new)) }
-        ensures sound { IsSound self.new.tier }
+        ensures order { IsInOrder self.new.engine }
         ensures cause { HasCause (K.faults sink.old) (K.faults sink.new) result }
     {
         self.end_input(alloc, sink, site, clock)?;
@@ -128,12 +132,12 @@ impl Session {
         site: &mut P,
         clock: &mut C,
     ) -> Result<(), Failed>
-        requires { IsSound self.old.tier }
+        requires { IsInOrder self.old.engine }
         ensures serves { (o : Origin) (given : List ℕ) → IsLeftAlone o given → Serving o given
             (seen (K.written sink.old) (C.coming clock.old) (P.Disk.state site.old)) self.old
             → Closes result o given
             (seen (K.written sink.new) (C.coming clock.new) (P.Disk.state site.new)) self.new.output }
-        ensures sound { IsSound self.new.tier }
+        ensures order { IsInOrder self.new.engine }
         ensures cause { HasCause (K.faults sink.old) (K.faults sink.new) result }
     {
         if self.line.is_empty() {
@@ -141,7 +145,7 @@ impl Session {
         }
         respond(
             alloc,
-            &mut self.tier,
+            &mut self.engine,
             &mut self.output,
             sink,
             site,
@@ -159,12 +163,12 @@ impl Session {
         clock: &mut C,
         bytes: &[u8],
     ) -> Result<(), Failed>
-        requires { IsSound self.old.tier }
+        requires { IsInOrder self.old.engine }
         ensures serves { (o : Origin) (given : List ℕ) → IsLeftAlone o (given ++ bytes.now) → Serving o given
             (seen (K.written sink.old) (C.coming clock.old) (P.Disk.state site.old)) self.old
             → Feeds result o given bytes.now
             (seen (K.written sink.new) (C.coming clock.new) (P.Disk.state site.new)) self.new }
-        ensures sound { IsSound self.new.tier }
+        ensures order { IsInOrder self.new.engine }
         ensures cause { HasCause (K.faults sink.old) (K.faults sink.new) result }
     {
         for byte in bytes {
@@ -181,12 +185,12 @@ impl Session {
         clock: &mut C,
         byte: u8,
     ) -> Result<(), Failed>
-        requires { IsSound self.old.tier }
+        requires { IsInOrder self.old.engine }
         ensures serves { (o : Origin) (given : List ℕ) → IsLeftAlone o given → Serving o given
             (seen (K.written sink.old) (C.coming clock.old) (P.Disk.state site.old)) self.old
             → Feeds result o given (byte ∷ [])
             (seen (K.written sink.new) (C.coming clock.new) (P.Disk.state site.new)) self.new }
-        ensures sound { IsSound self.new.tier }
+        ensures order { IsInOrder self.new.engine }
         ensures cause { HasCause (K.faults sink.old) (K.faults sink.new) result }
     {
         if byte == b'\n' {
@@ -204,17 +208,17 @@ impl Session {
         site: &mut P,
         clock: &mut C,
     ) -> Result<(), Failed>
-        requires { IsSound self.old.tier }
+        requires { IsInOrder self.old.engine }
         ensures serves { (o : Origin) (given : List ℕ) → IsLeftAlone o given → Serving o given
             (seen (K.written sink.old) (C.coming clock.old) (P.Disk.state site.old)) self.old
             → Feeds result o given (10 ∷ [])
             (seen (K.written sink.new) (C.coming clock.new) (P.Disk.state site.new)) self.new }
-        ensures sound { IsSound self.new.tier }
+        ensures order { IsInOrder self.new.engine }
         ensures cause { HasCause (K.faults sink.old) (K.faults sink.new) result }
     {
         respond(
             alloc,
-            &mut self.tier,
+            &mut self.engine,
             &mut self.output,
             sink,
             site,

@@ -59,6 +59,7 @@ use Rattle.stored_tier.proofs.OwnSeen.{NumberLaw, own_found}
 use Rattle.stored_tier.proofs.QuietLaws.{its_session, stands_still}
 use Rattle.stored_tier.proofs.SessionLaws.{ChangeLaw, session_changed}
 use Rattle.stored_tier.proofs.SettlingLaws.{name_of_table}
+use Rattle.stored_tier.proofs.WriterLaws.{writers_drawn}
 use Rattle.stored_tier.proofs.StandingLaws.{last_at_once, performed_behind, slots_kept}
 use Rattle.session_engine.specs.declared.at_once.Ready.{Ready}
 use Rattle.session_engine.specs.declared.doubt.Doubt.{Doubt}
@@ -69,6 +70,7 @@ use Rattle.session_engine.proofs.AtOnceLaws.{AreLaws, came_leads, came_stands, c
 use Rattle.session_engine.proofs.CommitLaws.{groups_kept, sealed_same}
 use Rattle.session_engine.proofs.CommitPerformed.{or_none, rows_then, same_shown}
 use Rattle.session_engine.proofs.KindLaws.{bare_later, bare_on, none_met}
+use Rattle.session_engine.proofs.LegalLaws.{in_doubt_stands}
 
 any_of_all : {X : Type 0} (p : X → Bool) (xs : List X) → (xs ≡ [] → ⊥) → list_all p xs ≡ true → list_any p xs ≡ true
 any_of_all p [] some all = absurd (some refl)
@@ -91,6 +93,7 @@ sound_drawn t sound = record {
   visible = sound.visible;
   numbered = rise_more 1 t.next t.unsettled.items sound.numbered;
   later = sound.later;
+  writers = writers_drawn t.schema t.writers t.next t.unsettled.items sound.writers;
   verified = λ e. let v = sound.verified e in record { rows = v.rows; own = v.own };
 }
 
@@ -314,18 +317,19 @@ module _ (laws : AreLaws) (numbers : NumberLaw) (changes : ChangeLaw) (t mid new
             }
 
     -- nobody knows
-    unknown : (doubt : Option Doubt) (reply : Reply) → CalledOnce (sealed_own w.tier s) before after (Err Failed) → new ≡ mid → doubt ≡ Some (record { ticket = t.next; session = id }) → reply ≡ faulty code.BackingFault
+    unknown : (doubt : Option Doubt) (reply : Reply) → CalledOnce (sealed_own w.tier s) before after (Err Failed) → new ≡ mid → doubt ≡ Some (record { ticket = t.next; session = id; ops = open_ops id (seen_all mid.sessions) }) → reply ≡ faulty code.BackingFault
         → IsEnded new doubt after (λ w'. Executes statement.Commit s w w' reply)
     unknown doubt reply called new_is some_doubt answer =
         let now = told_behind at.there before.held after.held (site.BankCall before.shared (AppliesOnce (sealed_own w.tier s) [] (Err Failed))) at.told called.told in
         let a = after_applied (sealed_own w.tier s) s.label (Err Failed) (with_ticket w.tier) in
         let w' = behind w a now.there after in
         let call = call_behind w a before after now.there (AppliesOnce (sealed_own w.tier s) [] (Err Failed)) at now.is called.later called.moment in
+        let in_doubt = in_doubt_stands laws w s is.stands unshared there room later on_own now.there.history call.history in
         subst (λ d. IsEnded new d after (λ z. Executes statement.Commit s w z reply)) (sym some_doubt)
         (record {
           world = w';
           at = behind_at w a before after now.there at now.told called.shares;
-          left = subst (λ z. IsInDoubt z (record { ticket = t.next; session = id }) w') (sym new_is) (record {
+          left = subst (λ z. IsInDoubt z (record { ticket = t.next; session = id; ops = open_ops id (seen_all mid.sessions) }) w') (sym new_is) (record {
             was = w;
             stands = stands_still t (record mid { next = t.next }) w is (stored_before t mid id ready draws w.tier is.stored) (rows_drawn t mid id ready draws);
             unshared = unshared;
@@ -336,6 +340,8 @@ module _ (laws : AreLaws) (numbers : NumberLaw) (changes : ChangeLaw) (t mid new
             room = let le = draws.fits in omega (arith, le);
             call = call;
             tier = refl;
+            legal = in_doubt.legal;
+            read = in_doubt.read;
           });
           is = executes w' reply (Err Failed) call refl answer;
         })

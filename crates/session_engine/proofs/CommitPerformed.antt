@@ -50,6 +50,9 @@ use Rattle.outside.specs.Sites.{SiteState}
 use Rattle.stored_tier.specs.Stored.{AreKept, AreWhole, HasSession, IsSound, IsStoredAs, IsVerified, are_later, is_plain, named_where_cached, rows_of}
 use Rattle.session_engine.proofs.KindLaws.{bare_deferred, deferred_not}
 use Rattle.session_engine.proofs.OpStores.{kept_ops, ops_shown, whole_ops}
+use Rattle.pending_writes.specs.Noting.{TellsWriters}
+use Rattle.stored_tier.specs.Stored.{first_unsettled}
+use Rattle.stored_tier.proofs.WriterLaws.{writers_told}
 use Rattle.stored_tier.proofs.QuietLaws.{at_still, its_session, stands_still}
 use Rattle.stored_tier.proofs.OwnSeen.{NumberLaw, own_found}
 use Rattle.stored_tier.proofs.SoundParts.{housed_exchanged}
@@ -108,8 +111,8 @@ pub record KeepsParts (t new : Stored) : Type 0 where
   pub directory : new.directory ≡ t.directory
   pub visible : new.visible ≡ t.visible
 
-sound_parts : (t new : Stored) → IsSound t → KeepsParts t new → AreSessions t.schema new.sessions → AreKept t.schema (groups_in t.catalog) new.stores.items → AreWhole new.stores.items → RiseBetween 1 new.unsettled.items new.next → are_later (groups_in t.catalog) new.unsettled.items ≡ true → (new.verified ≡ true → IsVerified new) → IsSound new
-sound_parts t new sound same sessions kept whole numbered later verified =
+sound_parts : (t new : Stored) → IsSound t → KeepsParts t new → AreSessions t.schema new.sessions → AreKept t.schema (groups_in t.catalog) new.stores.items → AreWhole new.stores.items → RiseBetween 1 new.unsettled.items new.next → are_later (groups_in t.catalog) new.unsettled.items ≡ true → TellsWriters new.schema (first_unsettled new.unsettled.items new.next) new.unsettled.items new.writers → (new.verified ≡ true → IsVerified new) → IsSound new
+sound_parts t new sound same sessions kept whole numbered later writers verified =
     let housed = housed_exchanged t.schema (groups_in t.catalog) t.stores.items new.stores.items t.directory sound.stores sound.kept kept in
     let groups = ap groups_in same.catalog in
     record {
@@ -122,17 +125,19 @@ sound_parts t new sound same sessions kept whole numbered later verified =
       visible = same.visible ∙ sound.visible ∙ sym (λ i. named_where_cached (groups i) (same.schema i));
       numbered = numbered;
       later = ap (λ gs. are_later gs new.unsettled.items) groups ∙ later;
+      writers = writers;
       verified = verified;
     }
 
 -- the stores have other room
-pub sound_roomed : (t new : Stored) → IsSound t → KeepsParts t new → bare_all new.stores.items ≡ bare_all t.stores.items → new.sessions ≡ t.sessions → new.unsettled.items ≡ t.unsettled.items → new.next ≡ t.next → new.verified ≡ t.verified → IsSound new
-sound_roomed t new sound same bares sessions unsettled next noted =
+pub sound_roomed : (t new : Stored) → IsSound t → KeepsParts t new → bare_all new.stores.items ≡ bare_all t.stores.items → new.sessions ≡ t.sessions → new.unsettled.items ≡ t.unsettled.items → new.next ≡ t.next → TellsWriters t.schema (first_unsettled t.unsettled.items t.next) t.unsettled.items new.writers → new.verified ≡ t.verified → IsSound new
+sound_roomed t new sound same bares sessions unsettled next told noted =
     sound_parts t new sound same (subst (AreSessions t.schema) (sym sessions) sound.sessions)
     (bare_kept t.schema (groups_in t.catalog) new.stores.items (subst (AreKept t.schema (groups_in t.catalog)) (sym bares) (kept_bare t.schema (groups_in t.catalog) t.stores.items sound.kept)))
     (bare_whole new.stores.items (subst AreWhole (sym bares) (whole_bare t.stores.items sound.whole)))
     (subst (RiseBetween 1 new.unsettled.items) (sym next) (subst (λ xs. RiseBetween 1 xs t.next) (sym unsettled) sound.numbered))
     (ap (are_later (groups_in t.catalog)) unsettled ∙ sound.later)
+    (writers_told t new same.schema unsettled next told)
     (λ is. verified (sound.verified (sym noted ∙ is)))
   where
     rows : rows_of new ≡ rows_of t
@@ -145,12 +150,12 @@ sound_roomed t new sound same bares sessions unsettled next noted =
     }
 
 -- the stores have done operations
-pub sound_written : (t new : Stored) (ops : List Op) → IsSound t → KeepsParts t new → bare_all new.stores.items ≡ ops_at t.directory ops (bare_all t.stores.items) → AreSessions t.schema new.sessions → RiseBetween 1 new.unsettled.items new.next → are_later (groups_in t.catalog) new.unsettled.items ≡ true → new.verified ≡ false → IsSound new
-sound_written t new ops sound same bares sessions numbered later noted =
+pub sound_written : (t new : Stored) (ops : List Op) → IsSound t → KeepsParts t new → bare_all new.stores.items ≡ ops_at t.directory ops (bare_all t.stores.items) → AreSessions t.schema new.sessions → RiseBetween 1 new.unsettled.items new.next → are_later (groups_in t.catalog) new.unsettled.items ≡ true → TellsWriters new.schema (first_unsettled new.unsettled.items new.next) new.unsettled.items new.writers → new.verified ≡ false → IsSound new
+sound_written t new ops sound same bares sessions numbered later writers noted =
     sound_parts t new sound same sessions
     (bare_kept t.schema (groups_in t.catalog) new.stores.items (subst (AreKept t.schema (groups_in t.catalog)) (sym bares) (kept_ops t.schema t.directory ops (groups_in t.catalog) (bare_all t.stores.items) (kept_bare t.schema (groups_in t.catalog) t.stores.items sound.kept))))
     (bare_whole new.stores.items (subst AreWhole (sym bares) (whole_ops t.directory ops (bare_all t.stores.items) (whole_bare t.stores.items sound.whole))))
-    numbered later (λ is. absurd (Rattle.order_laws.proofs.TruthLaws.never_both new.verified is noted))
+    numbered later writers (λ is. absurd (Rattle.order_laws.proofs.TruthLaws.never_both new.verified is noted))
 
 -- the new ticket is the next one
 pub rise_sealed : (old new : List Sealed) (x : Sealed) (next : ℕ) (ops : List Op) → RiseBetween 1 old next → new ≡ old ++ x ∷ [] → x ≡ record { ticket = record { 0 = next }; ops = ops } → RiseBetween 1 new (next + 1)

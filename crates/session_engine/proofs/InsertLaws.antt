@@ -1,15 +1,12 @@
 -- The key of an INSERT in the virtual state, by the bank's row and what is pending.
-use Rattle.std.proofs.Common.{◌≡◌, ◌<◌, ◌≤◌, ◌+◌, ◌-◌, ℕ, drop, take, inl, inr, not, zero, suc, Bool, true, false, cond, nat_eq, ◌&&◌, ◌||◌, Option, Some, None, is_some, Result, Ok, Err, List, [], ◌∷◌, ◌++◌, All, length, filter, map, get_or, slice_get, unwrap_or, refl, sym, ap, subst, ◌∙◌, arith, append_assoc, eqb-true}
-use Rattle.std.specs.List.{flat_map, list_all, list_any}
+use Rattle.std.proofs.Common.{◌≡◌, Bool, true, false, cond, nat_eq, ◌&&◌, ◌||◌, Option, Some, None, is_some, List, [], ◌∷◌, ◌++◌, slice_get, unwrap_or, refl, sym, ap, ◌∙◌, append_assoc, eqb-true}
+use Rattle.std.specs.List.{flat_map, list_any}
 use Rattle.std.specs.Option.{option_and_then}
-use Rattle.std.proofs.lemmas.Bool.{cases_lt}
 use Rattle.std.proofs.lemmas.List.{append-nil}
-use Rattle.std.proofs.lemmas.List.Folds.{list_any_none, list_any-append}
-use Rattle.std.specs.FinMap.{contains_key, get}
+use Rattle.std.proofs.lemmas.List.Folds.{list_any-append}
 use Rattle.tier_base.specs.declared.number.TableId.{TableId}
 use Rattle.row_types.specs.declared.value.Value.{Value}
 use Rattle.table_defs.specs.declared.definition.TableDef.{TableDef}
-use Rattle.indexed_rows.proofs.EntryLaws.{read, there}
 use Rattle.indexed_rows.specs.Rows.{is_same, key_of}
 use Rattle.table_state.specs.declared.footprint.RowKey.{RowKey}
 use Rattle.table_state.specs.declared.history.Entry.{Entry}
@@ -20,78 +17,26 @@ use Rattle.table_state.specs.declared.operation.Op.TheVariants.{Delete, Insert, 
 use Rattle.table_state.specs.Footprints.{footprint_of, is_among, rows_of, same_row_key, written_by, written_key}
 use Rattle.table_state.specs.Histories.{no_tables, state_from, state_of}
 use Rattle.table_state.specs.Operations.{applied_all, table_of}
-use Rattle.table_state.specs.Tables.{TableState, table_at}
+use Rattle.table_state.specs.Tables.{TableState}
 use Rattle.table_state.proofs.HistoryLaws.{state_of-append}
 use Rattle.order_laws.specs.Commits.{is_pending, pending, virtual_state}
 use Rattle.order_laws.specs.Effects.{row_at, row_left_by}
-use Rattle.order_laws.proofs.TruthLaws.{never_both}
 use Rattle.outside.specs.Others.{AreOthers, are_on_shared, is_shared}
 use Rattle.evaluator.specs.Cascades.{key_in}
 use Rattle.cache_tier.specs.Groups.{is_table_of, is_writethrough}
 use Rattle.cache_tier.specs.InsertSteps.{has_key_in}
 use Rattle.cache_tier.specs.Shown.{all_over, over, shown_state, written_on}
-use Rattle.cache_tier.specs.TierStates.{Session, Tier, session_of}
+use Rattle.cache_tier.specs.TierStates.{Session, Tier}
 use Rattle.cache_tier.specs.Worlds.{World}
-use Rattle.cache_tier.specs.Pending.{last_written, pending_ops}
+use Rattle.cache_tier.specs.Pending.{last_written}
 use Rattle.cache_tier.specs.StandingBetween.{Stands}
 use Rattle.cache_tier.proofs.GroupTables.{live_table}
 use Rattle.cache_tier.proofs.PendingRows.{all_written}
 use Rattle.cache_tier.proofs.SessionLaws.{known}
-use Rattle.session_engine.specs.Inserting.{HasWriter, leaves_row, writes_key}
+use Rattle.session_engine.specs.Inserting.{writes_key}
 
-abbrev at_key : TableId → List Value → RowKey
+abbrev pub at_key : TableId → List Value → RowKey
 at_key t key = record { table = t; key = key }
-
--- none of several transactions writes a key
-
-pub none_writes : (p : Sealed → Bool) (xs : List Sealed) (n : ℕ) → length xs ≤ n → ((k : ℕ) (x : Sealed) → k < n → slice_get xs k ≡ Some x → p x ≡ false) → list_any p xs ≡ false
-none_writes p xs n long each = list_any_none p xs one
-  where
-    one : All (λ x. p x ≡ false) xs
-    one k d lt =
-        let x = there xs k lt in
-        let at = read xs k x.0 d x.1 in
-        subst (λ y. p y ≡ false) (sym at.1) (each k x.0 (omega (arith, lt, long)) x.1)
-
-none_from : (p : Sealed → Bool) (xs : List Sealed) → ((k : ℕ) (x : Sealed) → slice_get xs k ≡ Some x → p x ≡ false) → list_any p xs ≡ false
-none_from p [] each = refl
-none_from p (x ∷ xs) each = ap (λ b. b || list_any p xs) (each 0 x refl) ∙ none_from p xs (λ k y at. each (suc k) y at)
-
-pub none_all : (p : Sealed → Bool) (xs : List Sealed) → ((k : ℕ) (x : Sealed) → 0 ≤ k → slice_get xs k ≡ Some x → p x ≡ false) → list_any p xs ≡ false
-none_all p xs each = none_from p xs (λ k x at. each k x (omega arith) at)
-
--- the last that does, by its place
-record LastAt (p : Sealed → Bool) (xs : List Sealed) (u : Sealed) : Type 0 where
-  before : List Sealed
-  behind : List Sealed
-  is : xs ≡ before ++ u ∷ behind
-  none : list_any p behind ≡ false
-
-last_at : (p : Sealed → Bool) (xs : List Sealed) (n : ℕ) (u : Sealed) → slice_get xs n ≡ Some u → ((k : ℕ) (x : Sealed) → n < k → slice_get xs k ≡ Some x → p x ≡ false) → LastAt p xs u
-last_at p [] n u at each = cc
-last_at p (x ∷ xs) zero u at each =
-    let same : x ≡ u = cc in
-    record { before = []; behind = xs; is = ap (λ y. y ∷ xs) same; none = none_from p xs (λ k y there. each (suc k) y (omega arith) there) }
-last_at p (x ∷ xs) (suc n) u at each =
-    let r = last_at p xs n u at (λ k y lt there. each (suc k) y (omega (arith, lt)) there) in
-    record { before = x ∷ r.before; behind = r.behind; is = ap (λ l. x ∷ l) r.is; none = r.none }
-
-pub writer_at : (schema : List TableDef) (xs : List Sealed) (t : TableId) (key : List Value) (n : ℕ) (u : Sealed) → slice_get xs n ≡ Some u → writes_key schema u.ops t key ≡ true → ((k : ℕ) (x : Sealed) → n + 1 ≤ k → slice_get xs k ≡ Some x → writes_key schema x.ops t key ≡ false) → HasWriter schema xs t key u
-writer_at schema xs t key n u at writes each =
-    let r = last_at (λ x. writes_key schema x.ops t key) xs n u at (λ k x lt there. each k x (omega (arith, lt)) there) in
-    record { before = r.before; behind = r.behind; is = r.is; writes = writes; none = r.none }
-
-pub one_less : (p : Sealed → Bool) (xs : List Sealed) (n : ℕ) (u : Sealed) → slice_get xs n ≡ Some u → p u ≡ false → ((k : ℕ) (x : Sealed) → n + 1 ≤ k → slice_get xs k ≡ Some x → p x ≡ false) → (k : ℕ) (x : Sealed) → n ≤ k → slice_get xs k ≡ Some x → p x ≡ false
-one_less p xs n u at isnt each k x le there_k = elim (cases_lt n k) [
-  | inl less ↦ each k x (omega (arith, less)) there_k
-  | inr more ↦ here (omega (arith, more, le))
-]
-  where
-    here : k ≡ n → p x ≡ false
-    here same =
-        let both : Some u ≡ Some x = sym at ∙ ap (slice_get xs) (sym same) ∙ there_k in
-        let one : u ≡ x = cc in
-        ap p (sym one) ∙ isnt
 
 -- what was written last, where nothing writes the key, and where something does
 
@@ -123,56 +68,6 @@ some_written schema t key (op ∷ ops) one other some = by (is_among (written_by
 pub last_behind : (schema : List TableDef) (t : TableId) (key : List Value) (a b : List Op) (found : Option (List Value)) → last_written schema t key (a ++ b) found ≡ last_written schema t key b (last_written schema t key a found)
 last_behind schema t key [] b found = refl
 last_behind schema t key (op ∷ a) b found = last_behind schema t key a b (cond (is_among (written_by schema op) (at_key t key)) (row_left_by op) found)
-
--- one operation more
-
-or_false : (b : Bool) → (b || false) ≡ b
-or_false true = refl
-or_false false = refl
-
-left_more : (schema : List TableDef) (t : TableId) (key : List Value) (ops : List Op) (i : ℕ) (op : Op) → slice_get ops i ≡ Some op → (found : Option (List Value)) → last_written schema t key (take (suc i) ops) found ≡ cond (is_among (written_by schema op) (at_key t key)) (row_left_by op) (last_written schema t key (take i ops) found)
-left_more schema t key [] i op at found = cc
-left_more schema t key (x ∷ ops) zero op at found =
-    let same : x ≡ op = cc in
-    ap (λ y. cond (is_among (written_by schema y) (at_key t key)) (row_left_by y) found) same
-left_more schema t key (x ∷ ops) (suc i) op at found = left_more schema t key ops i op at (cond (is_among (written_by schema x) (at_key t key)) (row_left_by x) found)
-
-op_writes : (schema : List TableDef) (t : TableId) (key : List Value) (op : Op) → writes_key schema (op ∷ []) t key ≡ is_among (written_by schema op) (at_key t key)
-op_writes schema t key op = split_written schema op [] (at_key t key) ∙ or_false (is_among (written_by schema op) (at_key t key))
-
-pub left_then : (schema : List TableDef) (t : TableId) (key : List Value) (ops : List Op) (i : ℕ) (op : Op) (one : List Op) (was now : Bool) → slice_get ops i ≡ Some op → one ≡ op ∷ [] → (writes : Bool) → writes ≡ writes_key schema one t key → was ≡ leaves_row schema (take i ops) t key → (writes ≡ true → now ≡ is_some (row_left_by op)) → (writes ≡ false → now ≡ was) → now ≡ leaves_row schema (take (suc i) ops) t key
-left_then schema t key ops i op one was now at is true writes before put left =
-    let so : is_among (written_by schema op) (at_key t key) ≡ true = sym (writes ∙ ap (λ l. writes_key schema l t key) is ∙ op_writes schema t key op) in
-    put refl ∙ sym (ap is_some (left_more schema t key ops i op at None ∙ ap (λ b. cond b (row_left_by op) (last_written schema t key (take i ops) None)) so))
-left_then schema t key ops i op one was now at is false writes before put left =
-    let so : is_among (written_by schema op) (at_key t key) ≡ false = sym (writes ∙ ap (λ l. writes_key schema l t key) is ∙ op_writes schema t key op) in
-    left refl ∙ before ∙ sym (ap is_some (left_more schema t key ops i op at None ∙ ap (λ b. cond b (row_left_by op) (last_written schema t key (take i ops) None)) so))
-
--- the piece of one operation
-slice_one : (ops : List Op) (i : ℕ) (op : Op) → slice_get ops i ≡ Some op → take 1 (drop i ops) ≡ op ∷ []
-slice_one [] i op at = cc
-slice_one (x ∷ ops) zero op at = let same : x ≡ op = cc in ap (λ y. y ∷ []) same
-slice_one (x ∷ ops) (suc i) op at = slice_one ops i op at
-
-piece_one : (ops : List Op) (i : ℕ) (op : Op) → slice_get ops i ≡ Some op → take ((i + 1) - i) (drop i ops) ≡ op ∷ []
-piece_one ops i op at = let one : (i + 1) - i ≡ 1 = omega arith in ap (λ n. take n (drop i ops)) one ∙ slice_one ops i op at
-
-pub left_put : (schema : List TableDef) (t : TableId) (key : List Value) (ops : List Op) (i : ℕ) (now writes : Bool) (op : Op) → i < length ops → op ≡ get_or ops i op → writes ≡ writes_key schema (take ((i + 1) - i) (drop i ops)) t key → writes ≡ true → now ≡ is_some (row_left_by op) → now ≡ leaves_row schema (take (i + 1) ops) t key
-left_put schema t key ops i now writes op lt is so its put =
-    let x = there ops i lt in
-    let same : op ≡ x.0 = is ∙ (read ops i x.0 op x.1).1 in
-    let one : suc i ≡ i + 1 = omega arith in
-    subst (λ n. now ≡ leaves_row schema (take n ops) t key) one
-    (left_then schema t key ops i x.0 (take ((i + 1) - i) (drop i ops)) (leaves_row schema (take i ops) t key) now x.1 (piece_one ops i x.0 x.1) writes so refl
-    (λ e. put ∙ ap (λ o. is_some (row_left_by o)) same) (λ e. absurd (never_both writes its e)))
-
-pub left_kept : (schema : List TableDef) (t : TableId) (key : List Value) (ops : List Op) (i : ℕ) (was now writes : Bool) → i < length ops → writes ≡ writes_key schema (take ((i + 1) - i) (drop i ops)) t key → writes ≡ false → was ≡ leaves_row schema (take i ops) t key → now ≡ was → now ≡ leaves_row schema (take (i + 1) ops) t key
-left_kept schema t key ops i was now writes lt so its before same =
-    let x = there ops i lt in
-    let one : suc i ≡ i + 1 = omega arith in
-    subst (λ n. now ≡ leaves_row schema (take n ops) t key) one
-    (left_then schema t key ops i x.0 (take ((i + 1) - i) (drop i ops)) was now x.1 (piece_one ops i x.0 x.1) writes so before
-    (λ e. absurd (never_both writes e its)) (λ e. same))
 
 -- what is pending writes the key only where something unsettled does
 

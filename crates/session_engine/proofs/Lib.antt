@@ -4,11 +4,13 @@ pub mod AtOnceLaws
 pub mod ChangedLaws
 pub mod CommitLaws
 pub mod CommitPerformed
+pub mod DoubtLaws
 pub mod HeldLaws
 pub mod InsertDone
 pub mod InsertLaws
 pub mod InsertedLaws
 pub mod KindLaws
+pub mod LegalLaws
 pub mod NamedLaws
 pub mod OpStores
 pub mod OrderedRows
@@ -17,3 +19,4 @@ pub mod QueryLaws
 pub mod SelectLaws
 pub mod WaitingLaws
 pub mod WriteLaws
+pub mod WriterLaws

@@ -15,7 +15,7 @@ use Rattle.sql_subset.specs.declared.stmt.Stmt.TheVariants as statement
 use Rattle.group_catalog.specs.Catalogs.{groups_in}
 use Rattle.cache_tier.specs.declared.reply.Last.TheVariants.{No}
 use Rattle.cache_tier.specs.declared.reply.Reply.{Reply}
-use Rattle.cache_tier.specs.Groups.{Group, is_explicit, is_synchronous}
+use Rattle.cache_tier.specs.Groups.{Group, is_explicit}
 use Rattle.cache_tier.specs.Order.{broken_by_name, first_broken, refusal}
 use Rattle.cache_tier.specs.Recency.{after_use, row_key, selected_rows}
 use Rattle.cache_tier.specs.Routes.{visible}
@@ -62,8 +62,7 @@ none_dynamic : (gs : List Group) → list_all is_plain (map without_list gs) ≡
 none_dynamic [] plain = refl
 none_dynamic (g ∷ gs) plain =
     by g.def.dynamic
-    (first_of (not g.def.dynamic) (is_none g.def.aging)
-    (first_of (not g.def.dynamic && is_none g.def.aging) (not (is_synchronous g)) (first_of (is_plain g) (list_all is_plain (map without_list gs)) plain)))
+    (first_of (not g.def.dynamic) (is_none g.def.aging) (first_of (is_plain g) (list_all is_plain (map without_list gs)) plain))
     (none_dynamic gs (second_of (is_plain g) (list_all is_plain (map without_list gs)) plain))
   where
     by : (b : Bool) → not b ≡ true → list_any (λ g. g.def.dynamic) gs ≡ false → (b || list_any (λ g. g.def.dynamic) gs) ≡ false

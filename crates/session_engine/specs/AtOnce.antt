@@ -53,4 +53,6 @@ Concludes old new doubt id ticket (Ok (Differs table key row)) reply =
 Concludes old new doubt id ticket (Err Memory) reply =
     (new ≡ old) × (doubt ≡ None) × (reply ≡ faulty code.Memory)
 Concludes old new doubt id ticket (Err Failed) reply =
-    (new ≡ old) × (doubt ≡ Some (record { ticket = ticket; session = id })) × (reply ≡ faulty code.BackingFault)
+    (new ≡ old)
+    × (doubt ≡ Some (record { ticket = ticket; session = id; ops = open_ops id (seen_all old.sessions) }))
+    × (reply ≡ faulty code.BackingFault)

@@ -1,15 +1,17 @@
 -- A transaction of which nobody knows whether it came. (TimesTen Cache User's Guide, "Synchronous writethrough"; that
 -- its ticket is in doubt until the backing database has told is this project's rule.)
 
-use Rattle.std.specs.Prelude.{◌≡◌, ◌+◌, ◌≤◌, ◌^◌, [], Option, Some, None, true, Result, Err}
+use Rattle.std.specs.Prelude.{◌≡◌, ◌+◌, ◌≤◌, ◌^◌, [], Option, Some, None, true, Result, Err, length}
 use Rattle.tier_base.specs.declared.number.SessionId.{SessionId}
 use Rattle.row_types.specs.declared.rule.Refused.{Refused}
 use Rattle.outside.specs.Bank.{AppliesOnce}
 use Rattle.outside.specs.Sites.{SiteState}
 use Rattle.outside.specs.declared.fault.BankError.TheVariants.{Failed}
+use Rattle.order_laws.specs.Commits.{KeepsCommitOrder}
 use Rattle.cache_tier.specs.CommitSteps.{after_applied, sealed_own}
 use Rattle.cache_tier.specs.Groups.{is_synchronous}
 use Rattle.cache_tier.specs.PassedSteps.{with_ticket}
+use Rattle.cache_tier.specs.StandingBetween.{AreReadAt}
 use Rattle.cache_tier.specs.TierStates.{Session}
 use Rattle.cache_tier.specs.Worlds.{BankCall, IsUnshared, Part, World}
 use Rattle.cache_tier.specs.declared.reply.Reply.{Reply}
@@ -17,10 +19,14 @@ use Rattle.stored_tier.specs.declared.tier.Tier.{Tier as Stored}
 use Rattle.stored_tier.specs.Performing.{StandsFor, reply_of}
 use Rattle.stored_tier.specs.Sites.{IsAt}
 use Rattle.stored_tier.specs.Stored.{HasSession, are_on}
+use Rattle.open_sessions.specs.Lookups.{open_ops}
+use Rattle.open_sessions.specs.Opening.{seen_all}
+use Rattle.session_engine.specs.Committing.{HaveRoomFor}
 use Rattle.session_engine.specs.declared.doubt.Doubt.{Doubt}
 
 -- The commit of a session is in doubt in this world: it came of one for which the tier stood, but for the ticket, by a
--- call that failed. The session's writes are on tables of synchronous groups.
+-- call that failed. The session's writes are on tables of synchronous groups. What has committed in the cache stands in
+-- commit order all the same, and groups are read at lengths that the history had.
 pub record IsInDoubt (t : Stored) (d : Doubt) (w : World) : Type 0 where
   pub was : World
   pub stands : StandsFor (record t { next = d.ticket }) was
@@ -32,11 +38,18 @@ pub record IsInDoubt (t : Stored) (d : Doubt) (w : World) : Type 0 where
   pub room : d.ticket + 1 ≤ 2 ^ 63
   pub call : BankCall (AppliesOnce (sealed_own was.tier session) [] (Err Failed)) was w
   pub tier : w.tier ≡ after_applied (sealed_own was.tier session) session.label (Err Failed) (with_ticket was.tier)
+  pub legal : KeepsCommitOrder w.history w.tier.log
+  pub read : AreReadAt (length w.history) w.tier.groups
 
 -- the tier stands for the world's, or a commit is in doubt there
 abbrev pub IsLeft : Stored → Option Doubt → World → Type 0
 IsLeft t None w = StandsFor t w
 IsLeft t (Some d) w = IsInDoubt t d w
+
+-- What the session has written is kept with its ticket, and the stores have room for it.
+abbrev pub IsReady : Stored → Option Doubt → Type 0
+IsReady t None = Unit {0}
+IsReady t (Some d) = (d.ops ≡ open_ops d.session (seen_all t.sessions)) × HaveRoomFor (length d.ops) t.stores.items
 
 -- a world at the site behind, in which the new tier is left so, and which comes so
 pub record IsEnded (new : Stored) (doubt : Option Doubt) (site : SiteState) (does : World → Type 0) : Type 0 where
@@ -45,11 +58,16 @@ pub record IsEnded (new : Stored) (doubt : Option Doubt) (site : SiteState) (doe
   pub left : IsLeft new doubt world
   pub is : does world
 
--- For each world at the site before, for which the old tier stands, and in which others leave the tables of writethrough
--- groups alone.
+-- For each world at the site before, in which the old tier is left so, and in which others leave the tables of
+-- writethrough groups alone.
+abbrev pub Leads : Stored → Option Doubt → Stored → Option Doubt → SiteState → SiteState → (World → World → Type 0)
+    → Type 0
+Leads old was new doubt before behind does =
+    (w : World) → IsAt before w → IsLeft old was w → IsUnshared w → IsEnded new doubt behind (does w)
+
+-- from a tier that stands
 abbrev pub Ends : Stored → Stored → Option Doubt → SiteState → SiteState → (World → World → Type 0) → Type 0
-Ends old new doubt before behind does =
-    (w : World) → IsAt before w → StandsFor old w → IsUnshared w → IsEnded new doubt behind (does w)
+Ends old new doubt before behind does = Leads old None new doubt before behind does
 
 -- so it is of a part of a session's line, where the session has this number
 abbrev pub EndsIn : Stored → Stored → Option Doubt → SiteState → SiteState → SessionId → (Session → Part)

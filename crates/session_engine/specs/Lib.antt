@@ -4,3 +4,4 @@ pub mod Committing
 pub mod Doubting
 pub mod Inserting
 pub mod Selecting
+pub mod Settling

@@ -16,7 +16,7 @@ ghost use Rattle.stored_tier.specs.Performing.{Executes, IsCaused, reply_of};
 ghost use Rattle.stored_tier.specs.Stored.{IsSound, IsStoredAs, are_on};
 ghost use Rattle.session_engine.specs.AtOnce.{Concludes, Draws, Finishes, Rooms};
 ghost use Rattle.session_engine.specs.Committing.{HaveRoomFor};
-ghost use Rattle.session_engine.specs.Doubting.{EndsIn};
+ghost use Rattle.session_engine.specs.Doubting.{EndsIn, IsReady};
 
 use crate::commit::{past, reserve_all, store_ops};
 use crate::doubt::Doubt;
@@ -60,6 +60,7 @@ pub fn commit_transaction<P: Site>(
         (P.Disk.state site.new)
         id (Executes statement.Commit) result }
     ensures sound { IsSound tier.new }
+    ensures ready { IsReady tier.new doubt.new }
     ensures cause { IsCaused
         (P.Disk.state site.old)
         (P.Disk.state site.new)
@@ -90,7 +91,7 @@ fn are_at_once(catalog: &Catalog, ops: &[Op]) -> bool
 ///
 /// The refusal is 119 where no ticket is left. The reply is 210 with the table and the key of a row that isn't as the
 /// transaction says, and 299 where memory was wanting; the transaction then stays open. It is 201 where the call failed:
-/// the ticket is in doubt then, and all else stays. A ticket that was drawn isn't used again. (TimesTen Cache User's
+/// the ticket is in doubt then, with what the session has written, and all else stays. A ticket that was drawn isn't used again. (TimesTen Cache User's
 /// Guide, "Synchronous writethrough"; tickets are this project's.)
 pub(crate) fn commit_at_once<P: Site>(
     tier: &mut Tier,
@@ -109,6 +110,7 @@ pub(crate) fn commit_at_once<P: Site>(
         (P.Disk.state site.new)
         id (Executes statement.Commit) result }
     ensures sound { IsSound tier.new }
+    ensures ready { IsReady tier.new doubt.new }
     ensures cause { IsCaused
         (P.Disk.state site.old)
         (P.Disk.state site.new)
@@ -181,6 +183,7 @@ fn conclude(
     requires room { HaveRoomFor (length ready.ops) tier.old.stores.items }
     ensures concludes { Concludes tier.old tier.new doubt.new id ready.sealed.ticket.0 applied result }
     ensures sound { IsSound tier.new }
+    ensures ready { IsReady tier.new doubt.new }
 {
     let ticket = ready.sealed.ticket.0;
     match applied {
@@ -193,6 +196,7 @@ fn conclude(
             *doubt = Some(Doubt {
                 ticket,
                 session: id,
+                ops: ready.ops,
             });
             faulty(alloc, Code::BackingFault)
         }

@@ -3,6 +3,7 @@
 ghost use Rattle.std.specs.Prelude.{◌≡◌, ◌≤◌, ◌++◌, ◌∷◌, [], OnErr, OnOk, length, true};
 ghost use Rattle.row_types.specs.declared.rule.Refused.TheVariants as refused;
 ghost use Rattle.table_defs.specs.Declarations.{Tells};
+ghost use Rattle.pending_writes.specs.Noting.{TellsWriters};
 ghost use Rattle.cache_tier.specs.Rules.{past};
 ghost use Rattle.group_catalog.specs.Catalogs.{groups_in};
 ghost use Rattle.open_sessions.specs.Lookups.{open_ops};
@@ -18,10 +19,12 @@ use cache_tier::reply::Reply;
 use group_catalog::Catalog;
 use group_store::{Directory, Home, Store};
 use open_sessions::laws::label_law;
+use pending_writes::PendingWrites;
 use row_types::{Detail, Refused, Rule};
 use std::alloc::{AllocError, Global};
 use std::collections::VecDeque;
 use stored_tier::tier::Tier;
+use table_defs::BackingSchema;
 use table_state::{Op, Ops, Sealed, copied_ops};
 use tier_base::{Code, Limit, SessionId, TableId, Ticket};
 use tier_statements::done;
@@ -45,7 +48,15 @@ pub fn commit_writes(tier: &mut Tier, alloc: Global, id: SessionId) -> Result<Re
     let sealed = tier.sessions.seal(alloc, id, Ticket(tier.next))?;
     let ops = copied_ops(alloc, tier.sessions.ops(id))?;
     reserve_all(alloc, &mut tier.stores, ops.len())?;
-    let_wait(&mut tier.unsettled, sealed)?;
+    let first = tier.first_unsettled();
+    let_wait(
+        alloc,
+        &mut tier.unsettled,
+        &mut tier.writers,
+        &tier.schema,
+        first,
+        sealed,
+    )?;
     let known = is_verified_for(tier, ops.as_slice());
     tier.verified = false;
     store_ops(&mut tier.stores, &tier.directory, ops);
@@ -101,12 +112,28 @@ pub fn past(limit: Limit) -> Refused
     })
 }
 
-// The transaction waits behind the others. It fails for want of memory alone.
-fn let_wait(unsettled: &mut VecDeque<Sealed>, sealed: Sealed) -> Result<(), AllocError>
+// The transaction waits behind the others, of which the first has this ticket, and is noted as the last writer of its
+// keys. It fails for want of memory alone.
+fn let_wait(
+    alloc: Global,
+    unsettled: &mut VecDeque<Sealed>,
+    writers: &mut PendingWrites,
+    schema: &BackingSchema,
+    first: Ticket,
+    sealed: Sealed,
+) -> Result<(), AllocError>
     ensures ok { OnOk result (unsettled.new.items ≡ unsettled.old.items ++ sealed ∷ []) }
     ensures err { OnErr result (unsettled.new.items ≡ unsettled.old.items) }
+    ensures noted { first.0 ≤ sealed.ticket.0
+        → TellsWriters schema.now first.0 unsettled.old.items writers.old
+        → OnOk result (TellsWriters schema.now first.0 (unsettled.old.items ++ sealed ∷ []) writers.new) }
+    ensures kept { TellsWriters schema.now first.0 unsettled.old.items writers.old
+        → OnErr result (TellsWriters schema.now first.0 unsettled.old.items writers.new) }
 {
-    unsettled.push_back(sealed)?;
+    unsettled.reserve(1)?;
+    writers.sweep(first, sealed.ops.as_slice());
+    writers.add(alloc, schema, &sealed)?;
+    unsettled.push_back_reserved(sealed);
     Ok(())
 }
 

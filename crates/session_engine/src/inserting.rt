@@ -1,9 +1,7 @@
 //! INSERT of a row whose key isn't shown.
 
-ghost use Rattle.std.specs.Prelude.{◌≡◌, IfOk, IsTrue, MatchOption, false, is_some, true};
-ghost use Rattle.table_state.specs.Footprints.{is_among, same_row_key};
-ghost use Rattle.order_laws.specs.Effects.{row_left_by};
-ghost use Rattle.session_engine.specs.Inserting.{HasWriter, has_row, leaves_row, some_writes_key, writes_key, InsertsAt, IsJudged, IsSince, IsWeighed, IsWeighedRow, KnowsKey, TakenIn};
+ghost use Rattle.std.specs.Prelude.{◌≡◌, IfOk, IsTrue, true};
+ghost use Rattle.session_engine.specs.Inserting.{has_row, InsertsAt, IsJudged, IsSince, IsWeighed, IsWeighedRow, KnowsKey, TakenIn};
 ghost use Rattle.group_catalog.specs.Catalogs.{groups_in};
 ghost use Rattle.stored_tier.specs.Performing.{IsCalm, IsCaused, reply_of};
 ghost use Rattle.stored_tier.specs.Stored.{IsSound};
@@ -14,16 +12,13 @@ use cache_tier::laws::tier_law;
 use cache_tier::reply::Reply;
 use cache_tier::{others_shown_law, pending_row_law, use_shown_law};
 use group_store::Shown;
-use indexed_rows::is_same_values;
 use open_sessions::laws::label_law;
 use outside::Site;
 use row_types::{Key, Refused, Row, Rule};
 use std::alloc::{AllocError, Global};
-use std::collections::VecDeque;
 use stored_tier::tier::Tier;
-use table_defs::BackingSchema;
 use table_state::scan_laws::keyed_law;
-use table_state::{ApplyError, Footprint, Op, RowKey, Sealed, key_of_row};
+use table_state::{ApplyError, Op, key_of_row};
 use tier_base::{SessionId, TableId, Ticket};
 use tier_statements::{bank_fault, judge_ops, taken};
 
@@ -169,7 +164,7 @@ fn weigh_row(
         Some(def) => {
             let key = key_of_row(alloc, def, row)?;
             let taken = taken(alloc, def, row)?;
-            let known = know_key(tier, alloc, id, table, &key)?;
+            let known = know_key(tier, id, table, &key)?;
             let fault = judge(tier, alloc, id, ops)?;
             Ok(Weighed {
                 table,
@@ -183,28 +178,22 @@ fn weigh_row(
 }
 
 // What is known of a key: its own operations come first, then the last unsettled transaction that writes it. It
-// fails for want of memory, and where that transaction is older than the table's group. No run should come to that, as
-// a group that is dropped leaves nothing unsettled; no clause says so.
-fn know_key(
-    tier: &Tier,
-    alloc: Global,
-    id: SessionId,
-    table: TableId,
-    key: &Key,
-) -> Result<Known, AllocError>
+// fails where that transaction is older than the table's group. No run should come to that, as a group that is dropped
+// leaves nothing unsettled; no clause says so. It takes no memory.
+fn know_key(tier: &Tier, id: SessionId, table: TableId, key: &Key) -> Result<Known, AllocError>
+    requires sound { IsSound tier.now }
     ensures { IfOk result (KnowsKey tier.now id table key.now) }
 {
-    if writes_key(alloc, &tier.schema, tier.sessions.ops(id), table, key)? {
+    if tier.sessions.writes(id, table, key) {
         return Ok(Known::Own);
     }
-    match last_writer(alloc, &tier.schema, &tier.unsettled, table, key)? {
+    match tier.writers.last(tier.first_unsettled(), table, key) {
         None => Ok(Known::Free),
-        Some(sealed) => {
-            if !is_since(tier, table, sealed.ticket) {
+        Some(writer) => {
+            if !is_since(tier, table, writer.ticket) {
                 return Err(AllocError);
             }
-            let leaves = leaves_row(alloc, &tier.schema, sealed.ops.as_slice(), table, key)?;
-            Ok(Known::Left(leaves))
+            Ok(Known::Left(writer.leaves))
         }
     }
 }
@@ -247,89 +236,4 @@ fn has_row(known: Known, found: &Option<Row>) -> bool
         Known::Left(leaves) => leaves,
         Known::Free => found.is_some(),
     }
-}
-
-// Whether operations write a key.
-fn writes_key(
-    alloc: Global,
-    schema: &BackingSchema,
-    ops: &[Op],
-    table: TableId,
-    key: &Key,
-) -> Result<bool, AllocError>
-    ensures { IfOk result (λ writes. writes ≡ writes_key schema.now ops.now table key.now) }
-{
-    let footprint = Footprint::of(alloc, schema, ops)?;
-    let (written, _) = footprint.into_parts();
-    Ok(is_among(written.as_slice(), table, key))
-}
-
-// The last of several transactions that writes a key.
-fn last_writer<'a>(
-    alloc: Global,
-    schema: &BackingSchema,
-    unsettled: &'a VecDeque<Sealed>,
-    table: TableId,
-    key: &Key,
-) -> Result<Option<&'a Sealed>, AllocError>
-    ensures { IfOk result (λ found. MatchOption found
-        (some_writes_key schema.now unsettled.now.items table key.now ≡ false)
-        (λ one. HasWriter schema.now unsettled.now.items table key.now one.now)) }
-{
-    let mut place = unsettled.len();
-    'back: while place > 0 {
-        place -= 1;
-        match unsettled.get(place) {
-            None => return Err(AllocError),
-            Some(sealed) => {
-                if writes_key(alloc, schema, sealed.ops.as_slice(), table, key)? {
-                    return Ok(Some(sealed));
-                }
-            }
-        }
-    }
-    Ok(None)
-}
-
-// Whether operations leave a row at a key, where they write it.
-fn leaves_row(
-    alloc: Global,
-    schema: &BackingSchema,
-    ops: &[Op],
-    table: TableId,
-    key: &Key,
-) -> Result<bool, AllocError>
-    ensures { IfOk result (λ leaves. leaves ≡ leaves_row schema.now ops.now table key.now) }
-{
-    let mut leaves = false;
-    for place in 0..ops.len() {
-        if writes_key(alloc, schema, &ops[place..place + 1], table, key)? {
-            leaves = is_put(&ops[place]);
-        }
-    }
-    Ok(leaves)
-}
-
-// Whether an operation leaves its row.
-fn is_put(op: &Op) -> bool
-    ensures { result ≡ is_some (row_left_by op.now) }
-{
-    match op {
-        Op::Insert(_, _) => true,
-        Op::Update(_, _, _) => true,
-        Op::Delete(_, _) => false,
-    }
-}
-
-// Whether the key is one of these.
-fn is_among(keys: &[RowKey], table: TableId, key: &Key) -> bool
-    ensures { result ≡ is_among keys.now (record { table = table; key = key.now }) }
-{
-    keys.iter().any(|other| is_same(table, key, other))
-}
-
-fn is_same(table: TableId, key: &Key, other: &RowKey) -> bool
-    ensures { result ≡ same_row_key (record { table = table; key = key.now }) other.now }
-{
-    table.0 == other.table.0 && is_same_values(key.values(), other.key.values())
 }

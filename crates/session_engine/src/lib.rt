@@ -10,4 +10,5 @@ pub mod noting;
 pub mod preparing;
 pub mod query;
 pub mod resting;
+pub mod settling;
 pub mod writing;

@@ -87,7 +87,7 @@ impl HeldKeys {
         }
     }
 
-    /// Whether a key is held.
+    /// Whether a key is held. It takes no memory.
     pub(crate) fn has_key(&self, table: TableId, key: &Key) -> bool
         ensures { result ≡ is_held self.now (record { table = table; key = key.now }) }
     {

@@ -5,7 +5,7 @@ ghost use Rattle.table_defs.specs.declared.definition.TableDef.{TableDef as Def}
 ghost use Rattle.tier_base.specs.declared.limit.Limit.{Limit as OneLimit};
 ghost use Rattle.tier_base.specs.declared.limit.Limit.TheVariants.{Operations};
 ghost use Rattle.tier_base.specs.Limits.{greatest};
-ghost use Rattle.table_state.specs.Footprints.{footprint_of};
+ghost use Rattle.table_state.specs.Footprints.{footprint_of, is_among};
 ghost use Rattle.own_rows.specs.Laying.{AreStepsOf};
 ghost use Rattle.session_state.specs.Holding.{key_of_mark};
 ghost use Rattle.session_state.specs.Kept.{are_defined};
@@ -13,10 +13,11 @@ ghost use Rattle.session_state.specs.Kept.{are_defined};
 use crate::held::HeldKeys;
 use crate::mark::{Mark, marks};
 use own_rows::{Overlay, OwnTables, Steps, steps_of};
+use row_types::Key;
 use std::alloc::{AllocError, Global};
 use table_defs::BackingSchema;
 use table_state::{Footprint, Op, Ops, Scan};
-use tier_base::{Label, SessionId};
+use tier_base::{Label, SessionId, TableId};
 
 /// An open session.
 pub struct Session {
@@ -103,6 +104,14 @@ impl Session {
             ≡ Some (⟦<Overlay<'a, S> as Scan>⟧.state result) }
     {
         self.own.over(under)
+    }
+
+    /// Whether an open operation writes a key. It takes no memory.
+    pub fn writes(&self, table: TableId, key: &Key) -> bool
+        ensures { (schema : List Def) → IsKept schema self.now
+            → result ≡ is_among (footprint_of schema (seen_of self.now).ops).written (record { table = table; key = key.now }) }
+    {
+        self.written.has_key(table, key)
     }
 
     /// The operations go behind the open ones, and their keys are held.

@@ -1,4 +1,4 @@
-//! `store_bench`: what calls of `slot_rows` and `group_store` cost beside those of `key_rows` and `indexed_rows`, in one run.
+//! `store_bench`: what calls of `slot_rows` and `group_store` cost beside those of `indexed_rows`, in one run.
 //!
 //! Its first word is a number of rows, 1,000 to 10,000,000. Standard output has what the calls found, and standard error the
 //! nanoseconds of a call. A second word `keys` or `slots` measures those rows alone, so that the memory of the process is

@@ -14,6 +14,7 @@ pub mod StoreChanges
 pub mod StoreLists
 pub mod StoreRows
 pub mod VerifyLaws
+pub mod WriterLaws
 pub mod FillSteps
 pub mod GatherLaws
 pub mod PutLaws

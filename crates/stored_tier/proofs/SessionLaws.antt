@@ -52,6 +52,7 @@ sound_behind t s is sessions own = record {
   visible = is.visible;
   numbered = is.numbered;
   later = is.later;
+  writers = is.writers;
   verified = λ noted. record { rows = (is.verified noted).rows; own = own (is.verified noted) };
 }
 

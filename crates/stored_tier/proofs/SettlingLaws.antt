@@ -43,9 +43,11 @@ use Rattle.stored_tier.specs.Refusing.{TellsDifference, TellsRoundEnd}
 use Rattle.stored_tier.specs.Sites.{IsAt}
 use Rattle.outside.specs.Sites.{SiteState}
 use Rattle.stored_tier.proofs.LaterLaws.{later_rest}
-use Rattle.stored_tier.specs.Stored.{IsSound, IsStoredAs, are_later, rows_of}
+use Rattle.pending_writes.specs.Noting.{TellsWriters}
+use Rattle.stored_tier.specs.Stored.{IsSound, IsStoredAs, are_later, first_unsettled, rows_of}
 use Rattle.stored_tier.proofs.BankLaws.{behind, told_behind}
 use Rattle.stored_tier.proofs.RoundLaws.{LeftLaw, is_left, round_seen, unsure_at}
+use Rattle.stored_tier.proofs.WriterLaws.{writers_rest}
 use Rattle.stored_tier.proofs.StandingLaws.{last_rest, performed_behind, performed_here, slots_kept}
 
 -- the laws of a round
@@ -143,6 +145,8 @@ sound_settled t new sound tried rest = subst IsSound (sym tried) (record {
   visible = sound.visible;
   numbered = rise_rest 1 t.next rest.0 new.unsettled.items (subst (λ xs. RiseBetween 1 xs t.next) rest.1 sound.numbered);
   later = later_rest (groups_in t.catalog) rest.0 new.unsettled.items (subst (λ xs. are_later (groups_in t.catalog) xs ≡ true) rest.1 sound.later);
+  writers = writers_rest t.schema t.writers 1 t.next rest.0 new.unsettled.items (subst (λ xs. RiseBetween 1 xs t.next) rest.1 sound.numbered)
+      (subst (λ xs. TellsWriters t.schema (first_unsettled xs t.next) xs t.writers) rest.1 sound.writers);
   verified = λ is. let v = sound.verified is in record { rows = v.rows; own = v.own };
 })
 

@@ -122,5 +122,6 @@ sound_regrouped t catalog s defs = record {
   visible = s.visible ∙ sym (visible_by (groups_in t.catalog) (groups_in catalog) t.schema defs);
   numbered = s.numbered;
   later = later_by (groups_in t.catalog) (groups_in catalog) t.unsettled.items defs s.later;
+  writers = s.writers;
   verified = λ e. record { rows = (s.verified e).rows; own = (s.verified e).own };
 }

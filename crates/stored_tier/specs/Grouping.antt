@@ -26,6 +26,7 @@ pub record KeepsBesideGroups (t new : Stored) : Type 0 where
   pub stale : new.stale ≡ t.stale
   pub sessions : new.sessions ≡ t.sessions
   pub unsettled : new.unsettled ≡ t.unsettled
+  pub writers : new.writers ≡ t.writers
   pub next : new.next ≡ t.next
   pub clock : new.clock ≡ t.clock
 

@@ -9,6 +9,7 @@ use Rattle.table_state.specs.declared.operation.Op.{Op}
 use Rattle.table_state.specs.Operations.{applied_all, table_of}
 use Rattle.table_state.specs.Tables.{TableState}
 use Rattle.table_state.specs.Keyed.{IsKeyed}
+use Rattle.pending_writes.specs.Noting.{TellsWriters}
 use Rattle.own_rows.specs.OwnTables.{AreShown}
 use Rattle.session_state.specs.Sessions.{OpenSession}
 use Rattle.open_sessions.specs.Lookups.{of_label}
@@ -18,7 +19,7 @@ use Rattle.group_store.specs.Shown.{AreHoused, shown_by}
 use Rattle.group_store.specs.Keeping.{IsFor}
 use Rattle.group_store.specs.Stores.{Kept}
 use Rattle.order_laws.specs.Commits.{RiseBetween}
-use Rattle.cache_tier.specs.Groups.{Group, is_asynchronous, is_explicit, is_synchronous, is_table_of}
+use Rattle.cache_tier.specs.Groups.{Group, is_asynchronous, is_explicit, is_table_of}
 use Rattle.cache_tier.specs.Routes.{hidden_where}
 use Rattle.cache_tier.specs.Shown.{shown_state}
 use Rattle.cache_tier.specs.TierStates.{Session, SetState, Settings, Tier}
@@ -82,9 +83,9 @@ HaveOwnNames groups =
     (i j : ℕ) (g h : Group) → slice_get groups i ≡ Some g → slice_get groups j ≡ Some h → g.def.name ≡ h.def.name
     → i ≡ j
 
--- a group as the tier does them: it is loaded whole or by statements, nothing ages in it, and it isn't SYNCHRONOUS
+-- a group as the tier does them: it is loaded whole or by statements, and nothing ages in it
 abbrev pub is_plain : Group → Bool
-is_plain g = is_explicit g && is_none g.def.aging && not (is_synchronous g)
+is_plain g = is_explicit g && is_none g.def.aging
 
 -- each operation is on a table of a group with this property
 abbrev pub are_on : (Group → Bool) → List Group → List Op → Bool
@@ -105,6 +106,11 @@ pub record AreApplied (t : Stored) : Type 0 where
   pub keyed : IsKeyed (rows_of t)
   pub own : All (λ s. is_some (applied_all s.ops (rows_of t)) ≡ true) (seen_all t.sessions)
 
+-- the ticket of the first of the unsettled transactions, or the next ticket where there is none
+abbrev pub first_unsettled : List Sealed → ℕ → ℕ
+first_unsettled [] next = next
+first_unsettled (x ∷ unsettled) next = x.ticket.0
+
 -- What the parts ask of one another:
 --   sessions  each keeps what its operations leave and hold, and no two conflict
 --   stores    the tables of the groups are found by the directory, and their foreign keys are the schema's
@@ -115,6 +121,7 @@ pub record AreApplied (t : Stored) : Type 0 where
 --   visible   the names that a session finds at level 0
 --   numbered  the tickets of the unsettled transactions rise below the next one
 --   later     they write tables of ASYNCHRONOUS WRITETHROUGH groups alone
+--   writers   which of them wrote each key last is known
 --   verified  where that is noted, sessions may read and write
 pub record IsSound (t : Stored) : Type 0 where
   pub sessions : AreSessions t.schema t.sessions
@@ -126,6 +133,7 @@ pub record IsSound (t : Stored) : Type 0 where
   pub visible : t.visible ≡ named_where_cached (groups_in t.catalog) t.schema
   pub numbered : RiseBetween 1 t.unsettled.items t.next
   pub later : are_later (groups_in t.catalog) t.unsettled.items ≡ true
+  pub writers : TellsWriters t.schema (first_unsettled t.unsettled.items t.next) t.unsettled.items t.writers
   pub verified : t.verified ≡ true → IsVerified t
 
 -- the session of this number, as the abstract tier has it

@@ -1,12 +1,17 @@
 //! The tier.
 
+ghost use Rattle.std.specs.Prelude.{◌≡◌};
+ghost use Rattle.stored_tier.specs.Stored.{first_unsettled};
+
 use crate::clock::TierClock;
 use group_catalog::Catalog;
 use group_store::{Directory, Store};
 use open_sessions::Sessions;
+use pending_writes::PendingWrites;
 use std::collections::VecDeque;
 use table_defs::BackingSchema;
 use table_state::Sealed;
+use tier_base::Ticket;
 
 /// The tier: what it keeps between request lines. Clauses say of which abstract tiers it keeps what can change their
 /// answers, and which rows it shows.
@@ -27,6 +32,8 @@ pub struct Tier {
     pub sessions: Sessions,
     /// The committed transactions whose receipt the tier hasn't seen, in ticket order.
     pub unsettled: VecDeque<Sealed>,
+    /// Which of them wrote each key last.
+    pub writers: PendingWrites,
     /// The next ticket.
     pub next: u64,
     /// The clock, and when what is due was done last.
@@ -46,9 +53,22 @@ impl Drop for Tier {
             directory: _,
             sessions: _,
             unsettled: _,
+            writers: _,
             next: _,
             clock: _,
             verified: _,
         } = self;
+    }
+}
+
+impl Tier {
+    /// The ticket of the first of the unsettled transactions, or the next ticket where there is none.
+    pub fn first_unsettled(&self) -> Ticket
+        ensures { result.0 ≡ first_unsettled self.now.unsettled.items self.now.next }
+    {
+        match self.unsettled.front() {
+            None => Ticket(self.next),
+            Some(first) => first.ticket,
+        }
     }
 }

@@ -1,3 +1,4 @@
+use Rattle.std.proofs.Common.{refl}
 use Rattle.std.specs.Prelude.{Err, Ok}
 use Rattle.outside.specs.Bank.{TellsSchema}
 use Rattle.cache_engine.proofs.BeginningLaws.{began_at, begun}
@@ -20,6 +21,11 @@ returns-in-Ok-new_tier-clause-later g c =
     c.in-Ok.ensures.cause.later c.in-Ok.ensures.crash.later c.in-Ok.ensures.cause.shared
 
 pub returns-in-Ok-new_tier-clause-begins : goal.returns-in-Ok-new_tier-clause-begins
-returns-in-Ok-new_tier-clause-begins g c =
-    begun c.opened_law.ensures c.in-Ok-new_tier.tier c.in-Ok.schema c.args.start c.args.propagate_ms _ _
-    c.in-Ok.ensures.told c.in-Ok-new_tier.ensures.fresh
+returns-in-Ok-new_tier-clause-begins g c = (
+  begun c.opened_law.ensures c.in-Ok-new_tier.tier c.in-Ok.schema c.args.start c.args.propagate_ms _ _
+      c.in-Ok.ensures.told c.in-Ok-new_tier.ensures.fresh,
+  refl,
+)
+
+pub returns-in-Ok-new_tier-clause-order : goal.returns-in-Ok-new_tier-clause-order
+returns-in-Ok-new_tier-clause-order g c = record { sound = c.in-Ok-new_tier.ensures.sound; ready = tt }

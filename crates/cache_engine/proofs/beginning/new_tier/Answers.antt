@@ -14,6 +14,7 @@ returns-clause-sound c =
       stores = c.new-stores.ensures.items;
       sessions = c.new.ensures.seen;
       unsettled = c.new-2.ensures.items;
+      writers = c.new-3.ensures;
       next = refl;
       clock = c.new_clock.ensures;
       judged = refl;

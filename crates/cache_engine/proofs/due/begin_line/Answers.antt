@@ -5,9 +5,9 @@ use Rattle.cache_engine.proofs.due.begin_line.Goals as goal
 
 pub returns-clause-performs : goal.returns-clause-performs
 returns-clause-performs g c =
-    line_done c.args.tier.now c.set_clock.new.tier c.do_due-stop.new.tier
+    line_done c.args.tier.now c.set_clock.new.tier c.settle_and_do-stop.new.tier c.args.doubt.now c.settle_and_do-stop.new.doubt
     (record (c.args.tier.now.clock) { now = c.moment_of-now.result; added = c.in-Some.added; sets = c.in_ok-sets.sets })
-    c.args.base.0 c.moment_of-now.result c.in-Some.added c.args.line.now _ _ c.in_ok-notes.notes.items
-    c.do_due-stop.new.notes.items c.from_vec.result c.do_due-stop.result c.in-Some.ensures c.moment_of-now.ensures refl
+    c.args.base.0 c.moment_of-now.result c.in-Some.added c.args.line.now _ _
+    c.settle_and_do-stop.new.notes.items c.from_vec.result c.settle_and_do-stop.result c.in-Some.ensures c.moment_of-now.ensures refl
     (λ i. c.in_ok-sets.ensures.same i ∙ ap (λ s. moment_in s i) c.as_slice-2.ensures.value)
-    c.set_clock.ensures.set c.in_ok-notes.ensures.items c.from_vec.ensures c.do_due-stop.ensures.does
+    c.set_clock.ensures.set c.from_vec.ensures c.settle_and_do-stop.ensures.performs

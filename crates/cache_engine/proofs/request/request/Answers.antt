@@ -10,7 +10,8 @@ use Rattle.cache_engine.proofs.request.request.Goals as goal
 pub returns-in-Ok-Some-clause-performs : goal.returns-in-Ok-Some-clause-performs
 returns-in-Ok-Some-clause-performs g c =
     let few : length c.args.line.now ≤ 65536 = omega (arith, c.number.ensures, c.if-number-line.false) in
-    read_line c.heed_law.ensures c.args.tier.now c.heed.new.tier _ _ c.args.base.0 c.args.line.now c.in-Ok-Some.line c.heed.result
+    read_line c.heed_law.ensures c.args.engine.now.tier c.heed.new.engine.tier c.args.engine.now.doubt c.heed.new.engine.doubt _ _
+    c.args.base.0 c.args.line.now c.in-Ok-Some.line c.heed.result
     (le-ltb 65536 (length c.args.line.now) few)
     (subst (λ (o : Option Line). line.Answers c.args.line.now (Ok o)) c.in-Ok-Some.field-0-is c.in-Ok-Some.ensures)
     c.heed.ensures.cause c.heed.ensures.performs
@@ -18,7 +19,8 @@ returns-in-Ok-Some-clause-performs g c =
 pub returns-in-Err-clause-performs : goal.returns-in-Err-clause-performs
 returns-in-Err-clause-performs g c =
     let few : length c.args.line.now ≤ 65536 = omega (arith, c.number.ensures, c.if-number-line.false) in
-    misread_line c.heed_law.ensures c.args.tier.now _ c.args.base.0 c.args.line.now c.in-Err.error c.refuse-in-Err.result
+    misread_line c.heed_law.ensures c.args.engine.now.tier c.args.engine.now.doubt _ c.args.base.0 c.args.line.now c.in-Err.error
+    c.refuse-in-Err.result
     (le-ltb 65536 (length c.args.line.now) few) c.in-Err.ensures (c.refuse-in-Err.ensures ∙ ap reply_to c.misread.ensures)
 
 pub returns-in-Err-clause-cause : goal.returns-in-Err-clause-cause
@@ -27,7 +29,7 @@ returns-in-Err-clause-cause g c = refusal_caused _ c.misread.result c.refuse-in-
 pub returns-in-Ok-None-clause-performs : goal.returns-in-Ok-None-clause-performs
 returns-in-Ok-None-clause-performs g c =
     let few : length c.args.line.now ≤ 65536 = omega (arith, c.number.ensures, c.if-number-line.false) in
-    silent_line c.args.tier.now _ c.args.base.0 c.args.line.now (le-ltb 65536 (length c.args.line.now) few)
+    silent_line c.args.engine.now.tier c.args.engine.now.doubt _ c.args.base.0 c.args.line.now (le-ltb 65536 (length c.args.line.now) few)
     (subst (λ (o : Option Line). line.Answers c.args.line.now (Ok o)) c.in-Ok-None.field-0-is c.in-Ok-None.ensures)
 
 pub returns-in-Ok-None-clause-cause : goal.returns-in-Ok-None-clause-cause
@@ -36,7 +38,7 @@ returns-in-Ok-None-clause-cause g c = silence_caused _
 pub returns-then-number-line-clause-performs : goal.returns-then-number-line-clause-performs
 returns-then-number-line-clause-performs g c =
     let many : 65536 < length c.args.line.now = omega (arith, c.number.ensures, c.if-number-line.true) in
-    long_line c.heed_law.ensures c.args.tier.now _ c.args.base.0 c.args.line.now c.refuse.result
+    long_line c.heed_law.ensures c.args.engine.now.tier c.args.engine.now.doubt _ c.args.base.0 c.args.line.now c.refuse.result
     (lt-ltb 65536 (length c.args.line.now) many) (c.refuse.ensures ∙ ap reply_to c.past.ensures)
 
 pub returns-then-number-line-clause-cause : goal.returns-then-number-line-clause-cause

@@ -4,14 +4,16 @@ use Rattle.cache_engine.proofs.request.work_and_answer.Goals as goal
 
 pub returns-in-Some-clause-performs : goal.returns-in-Some-clause-performs
 returns-in-Some-clause-performs g c =
-    worked_end c.args.tier.now c.begin_line.new.tier _ _ c.args.base.0 c.args.line c.in-Ok.field-0.notes c.in-Ok.field-0.stop
+    worked_end c.args.engine.now.tier c.begin_line.new.tier c.args.engine.now.doubt c.begin_line.new.doubt _ _ c.args.base.0
+    c.args.line c.in-Ok.field-0.notes c.in-Ok.field-0.stop
     c.in-Some.reply c.with_notes.result c.in-Some.is c.with_notes.ensures c.in-Ok.ensures.performs
 
 pub returns-in-None-clause-performs : goal.returns-in-None-clause-performs
 returns-in-None-clause-performs g c =
-    worked_on c.args.tier.now c.begin_line.new.tier c.answer_line.new.tier _ _ _ c.args.base.0 c.args.line c.in-Ok.field-0.notes
-    c.in-Ok.field-0.stop c.answer_line.result c.with_notes-in-None.result c.in-None.is c.with_notes-in-None.ensures
-    c.in-Ok.ensures.performs c.answer_line.ensures.performs
+    worked_on c.args.engine.now.tier c.begin_line.new.tier c.answer_line.new.tier c.args.engine.now.doubt c.begin_line.new.doubt
+    c.answer_line.new.doubt _ _ _ c.args.base.0 c.args.line c.in-Ok.field-0.notes
+    c.in-Ok.field-0.stop c.answer_line.result c.with_notes-in-None.result c.in-None.is (c.in-Ok.ensures.settled c.in-None.is)
+    c.with_notes-in-None.ensures c.in-Ok.ensures.performs c.answer_line.ensures.performs
 
 pub returns-in-Some-clause-cause : goal.returns-in-Some-clause-cause
 returns-in-Some-clause-cause g c =
@@ -19,5 +21,5 @@ returns-in-Some-clause-cause g c =
 
 pub returns-in-None-clause-cause : goal.returns-in-None-clause-cause
 returns-in-None-clause-cause g c =
-    worked_caused _ _ _ c.in-Ok.field-0 c.answer_line.result c.with_notes-in-None.result c.with_notes-in-None.ensures
+    worked_caused _ _ _ c.in-Ok.field-0 c.answer_line.result c.with_notes-in-None.result c.in-None.is c.with_notes-in-None.ensures
     c.in-Ok.ensures.cause c.answer_line.ensures.cause

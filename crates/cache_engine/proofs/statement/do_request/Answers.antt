@@ -1,11 +1,14 @@
-use Rattle.cache_engine.proofs.LineLaws.{close_performed, open_performed, statement_performed}
+use Rattle.session_engine.proofs.DoubtLaws.{ready_none}
+use Rattle.cache_engine.proofs.LineLaws.{close_performed, open_performed, statement_led}
+use Rattle.cache_engine.proofs.EngineLaws.{ended}
 use Rattle.cache_engine.proofs.statement.do_request.Goals as goal
 
 pub returns-in-Open-clause-performs : goal.returns-in-Open-clause-performs
 returns-in-Open-clause-performs g c =
     rw c.in-Open.is
+    (ended c.args.tier.now c.open_session.new.tier c.args.doubt.now _ _ _ c.requires.free
     (open_performed c.args.tier.now c.open_session.new.tier _ c.args.label.now c.in-Open.options c.open_session.result
-    c.open_session.ensures.performs)
+    c.open_session.ensures.performs))
 
 pub returns-in-Open-clause-cause : goal.returns-in-Open-clause-cause
 returns-in-Open-clause-cause g c = c.open_session.ensures.calm _
@@ -13,8 +16,9 @@ returns-in-Open-clause-cause g c = c.open_session.ensures.calm _
 pub returns-in_ok-id-in-Close-clause-performs : goal.returns-in_ok-id-in-Close-clause-performs
 returns-in_ok-id-in-Close-clause-performs g c =
     rw c.in-Close.is
+    (ended c.args.tier.now c.close_session.new.tier c.args.doubt.now _ _ _ c.requires.free
     (close_performed c.args.tier.now c.close_session.new.tier _ _ c.args.label.now c.in_ok-id-in-Close.id c.close_session.result
-    c.in_ok-id-in-Close.ensures.found (c.close_session.ensures.performs _))
+    c.in_ok-id-in-Close.ensures.found (c.close_session.ensures.performs _)))
 
 pub returns-in_ok-id-in-Close-clause-cause : goal.returns-in_ok-id-in-Close-clause-cause
 returns-in_ok-id-in-Close-clause-cause g c = c.close_session.ensures.calm _
@@ -22,5 +26,11 @@ returns-in_ok-id-in-Close-clause-cause g c = c.close_session.ensures.calm _
 pub returns-in_ok-id-in-Statement-clause-performs : goal.returns-in_ok-id-in-Statement-clause-performs
 returns-in_ok-id-in-Statement-clause-performs g c =
     rw c.in-Statement.is
-    (statement_performed c.args.tier.now c.execute.new.tier _ _ c.args.label.now c.in_ok-id-in-Statement.id
+    (statement_led c.args.tier.now c.execute.new.tier c.execute.new.doubt _ _ c.args.label.now c.in_ok-id-in-Statement.id
     c.in-Statement.statement c.execute.result c.in_ok-id-in-Statement.ensures.found c.execute.ensures.performs)
+
+pub returns-in-Open-clause-ready : goal.returns-in-Open-clause-ready
+returns-in-Open-clause-ready g c = ready_none c.open_session.new.tier c.args.doubt.now c.requires.free
+
+pub returns-in_ok-id-in-Close-clause-ready : goal.returns-in_ok-id-in-Close-clause-ready
+returns-in_ok-id-in-Close-clause-ready g c = ready_none c.close_session.new.tier c.args.doubt.now c.requires.free

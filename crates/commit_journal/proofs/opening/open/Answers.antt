@@ -1,3 +1,4 @@
+use Rattle.std.proofs.Common.{sym, ◌∙◌}
 use Rattle.outside.proofs.Moments.{and_then}
 use Rattle.commit_journal.specs.Opening.{Keeps}
 use Rattle.commit_journal.proofs.opening.open.Goals as goal
@@ -12,3 +13,8 @@ returns-clause-crash g c = λ o h have.
 
 pub returns-clause-opened : goal.returns-clause-opened
 returns-clause-opened g c = λ o told have. c.in_ok-opened.ensures.opened o (c.in_ok-found.ensures.found o told) have
+
+pub returns-clause-new : goal.returns-clause-new
+returns-clause-new g c = λ o told blank.
+    let s = c.in_ok-found.ensures.found o told in
+    c.in_ok-opened.ensures.new (sym s.first ∙ blank.first) (sym s.second ∙ blank.second)

@@ -8,3 +8,6 @@ returns-clause-crash g c = λ o s have. c.open_by.ensures.crash o s.certain have
 
 pub returns-clause-opened : goal.returns-clause-opened
 returns-clause-opened g c = λ o s have. c.in_ok-opened.ensures.opened o s.certain have s.first_len s.second_len s.first s.second
+
+pub returns-clause-new : goal.returns-clause-new
+returns-clause-new g c = c.in_ok-opened.ensures.new

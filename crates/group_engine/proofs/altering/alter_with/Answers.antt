@@ -30,7 +30,7 @@ returns-in-Ok-clause-alters g c = λ w x at stands apart there reads chosen_is.
     let sound = returns-in-Ok-clause-sound g c in
     refreshed_with c.args.tier.now _ _ w c.args.place c.in-Ok.fresh.position.0 x c.args.state (choice_of c.args.chosen) c.in-Ok.fresh.made.items c.done.result there reads chosen_is read.0 read.1
     (record {
-      beside = record { schema = shown.schema; stale = shown.stale; sessions = shown.sessions; unsettled = shown.unsettled; next = shown.next; clock = shown.clock };
+      beside = record { schema = shown.schema; stale = shown.stale; sessions = shown.sessions; unsettled = shown.unsettled; writers = shown.writers; next = shown.next; clock = shown.clock };
       groups = c.with_state.ensures ∙ ap (changed_from (alone c.args.place) _ 0) shown.groups;
       stores = shown.stores;
       was = c.requires.sound.kept;

@@ -17,7 +17,7 @@ returns-clause-alters c = λ site w x at stands there none.
     let sound = returns-clause-sound c in
     set_alone c.args.tier.now _ w c.args.place c.args.state stands
     (record {
-      beside = record { schema = refl; stale = refl; sessions = refl; unsettled = refl; next = refl; clock = refl };
+      beside = record { schema = refl; stale = refl; sessions = refl; unsettled = refl; writers = refl; next = refl; clock = refl };
       groups = c.with_state.ensures;
       stores = refl;
       was = c.requires.sound.kept;

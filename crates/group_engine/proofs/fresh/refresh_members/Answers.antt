@@ -21,7 +21,7 @@ returns-in-Ok-clause-performs g c =
     (λ w x. stands_noted c.args.tier.now (record c.args.tier.now.clock { sets = c.note_moment.new.sets }) w c.args.interval (record { now = refl; added = refl; round = refl; due = refl }) c.note_moment.ensures c.requires.entry x)
     c.in-Ok.ensures.reads
     (record {
-      beside = record { schema = shown.schema; stale = shown.stale; sessions = shown.sessions; unsettled = shown.unsettled; next = shown.next; clock = shown.clock };
+      beside = record { schema = shown.schema; stale = shown.stale; sessions = shown.sessions; unsettled = shown.unsettled; writers = shown.writers; next = shown.next; clock = shown.clock };
       groups = shown.groups ∙ set_groups c.args.interval c.in-Ok.fresh.position.0 (groups_in c.args.tier.now.catalog);
       stores = shown.stores;
       was = c.requires.sound.kept;

@@ -31,5 +31,6 @@ returns-clause-sound c =
       visible = sound.visible ∙ sym (visible_by was then schema defs);
       numbered = sound.numbered;
       later = later_by was then c.args.tier.now.unsettled.items defs sound.later;
+      writers = sound.writers;
       verified = λ e. absurd (Rattle.std.proofs.lemmas.Bool.false≢true e);
     }

@@ -36,7 +36,7 @@ returns-in-Ok-clause-loads g c = λ w x at stands apart there reads chosen_is.
     let sound = returns-in-Ok-clause-sound g c in
     whole_read c.args.tier.now _ _ w c.args.place c.in-Ok.fresh.position.0 x (choice_of c.args.chosen) c.in-Ok.fresh.made.items there reads chosen_is read.0 read.1
     (record {
-      beside = record { schema = shown.schema; stale = shown.stale; sessions = shown.sessions; unsettled = shown.unsettled; next = shown.next; clock = shown.clock };
+      beside = record { schema = shown.schema; stale = shown.stale; sessions = shown.sessions; unsettled = shown.unsettled; writers = shown.writers; next = shown.next; clock = shown.clock };
       groups = c.with_state.ensures ∙ ap (changed_from (alone c.args.place) _ 0) (c.with_loaded.ensures ∙ ap (changed_from (alone c.args.place) _ 0) shown.groups)
           ∙ loaded_once (groups_in c.args.tier.now.catalog) c.args.place c.in-Ok.fresh.position.0 (choice_of c.args.chosen) c.args.state c.requires.sound.plain c.requires.state;
       stores = shown.stores;

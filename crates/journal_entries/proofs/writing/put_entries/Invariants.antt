@@ -1,4 +1,4 @@
-use Rattle.std.proofs.Common.{◌≡◌, ◌+◌, ◌≤◌, ◌++◌, length, take, drop, vec_len, vec_capacity}
+use Rattle.std.proofs.Common.{◌≡◌, ◌+◌, ◌≤◌, ◌++◌, length, take, drop, vec_capacity}
 use Rattle.std.specs.List.{flat_map}
 use Rattle.journal_entries.specs.Spelling.{entry_bytes}
 use Rattle.journal_entries.proofs.writing.put_entries.Given as goal

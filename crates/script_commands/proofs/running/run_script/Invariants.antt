@@ -1,9 +1,8 @@
 -- Some lines are answered, and the others are left.
 use Rattle.std.proofs.Common.{◌≡◌, [], length}
 use Rattle.cache_tier.specs.Worlds.{World}
-use Rattle.stored_tier.specs.Performing.{StandsFor}
+use Rattle.cache_engine.specs.Engines.{IsInOrder, IsLeftIn}
 use Rattle.stored_tier.specs.Sites.{IsAt}
-use Rattle.stored_tier.specs.Stored.{IsSound}
 use Rattle.script_maker.specs.Script.{script_lines}
 use Rattle.script_commands.specs.Summaries.{HasRoom}
 use Rattle.script_commands.proofs.RunningLaws.{GoesOn}
@@ -11,9 +10,9 @@ use Rattle.script_commands.proofs.running.run_script.Given as goal
 
 abbrev pub invariant-lines : goal.invariant-lines
 invariant-lines g l = record {
-  going : (w : World) → IsAt (g.P.Disk.state l.fn.site) w → StandsFor l.fn.tier w
-      → GoesOn w (script_lines l.fn.number) l.lines l.counts (g.P.Disk.state l.site) l.tier;
-  sound : IsSound l.tier;
+  going : (w : World) → IsAt (g.P.Disk.state l.fn.site) w → IsLeftIn l.fn.engine w
+      → GoesOn w (script_lines l.fn.number) l.lines l.counts (g.P.Disk.state l.site) l.engine;
+  order : IsInOrder l.engine;
   unshared : (g.P.Disk.state l.site).shared ≡ [];
   clear : l.line.items ≡ [];
   room : HasRoom l.counts (length l.lines);

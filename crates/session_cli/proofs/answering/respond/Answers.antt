@@ -4,9 +4,9 @@ use Rattle.session_cli.proofs.answering.respond.Goals as goal
 pub returns-in-Some-clause-serves : goal.returns-in-Some-clause-serves
 returns-in-Some-clause-serves g c = λ w at stands unshared.
     let served = c.in-Some.ensures.performs w at stands unshared in
-    record { base = c.line_base-base.result.0; took = c.line_base-base.ensures; reply = Some c.in-Some.reply; world = served.world; at = served.at; stands = served.stands; step = served.is; passed = c.write_reply.ensures.bytes }
+    record { base = c.line_base-base.result.0; took = c.line_base-base.ensures; reply = Some c.in-Some.reply; world = served.world; at = served.at; stands = served.left; step = served.is; passed = c.write_reply.ensures.bytes }
 
 pub returns-in-None-clause-serves : goal.returns-in-None-clause-serves
 returns-in-None-clause-serves g c = λ w at stands unshared.
     let served = c.in-None.ensures.performs w at stands unshared in
-    record { base = c.line_base-base.result.0; took = c.line_base-base.ensures; reply = None; world = served.world; at = served.at; stands = served.stands; step = served.is; passed = search rules }
+    record { base = c.line_base-base.result.0; took = c.line_base-base.ensures; reply = None; world = served.world; at = served.at; stands = served.left; step = served.is; passed = search rules }

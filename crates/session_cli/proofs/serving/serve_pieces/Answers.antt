@@ -8,7 +8,7 @@ loop-room-init g c = record {
   going = λ o input source new alone. going_new o c.args.session.now input _ _ source new;
   taking = λ input source. taking_new input _ source;
   empty = c.requires.empty;
-  sound = c.requires.sound;
+  order = c.requires.order;
   within = lit≤ tt;
   space = c.requires.room;
   read = search rules;
@@ -74,7 +74,7 @@ loop-room-preserved g c =
           taking_on input c.loop-room.room _ _ _ c.take.new.buf bytes c.in-Ok.count are (ap length are ∙ length-take-le c.in-Ok.count c.take.new.buf c.in-Ok.ensures.bound)
           within refl c.in-Ok.ensures.bytes (c.loop-room.invariant.taking input source);
       empty = c.in-Ok-feed.ensures.empty;
-      sound = c.in-Ok-feed.ensures.sound;
+      order = c.in-Ok-feed.ensures.order;
       within = omega arith;
       space = omega (arith, keeps_length c.take.new.buf c.loop-room.piece c.min-want.result c.take.auto.buf, c.loop-room.invariant.space);
       read = search rules;

@@ -1,6 +1,6 @@
 -- Between two pieces.
 use Rattle.std.proofs.Common.{◌≡◌, ℕ, List, [], ◌≤◌, ◌<◌, length, Some}
-use Rattle.stored_tier.specs.Stored.{IsSound}
+use Rattle.cache_engine.specs.Engines.{IsInOrder}
 use Rattle.session_cli.specs.Outside.{seen}
 use Rattle.session_cli.specs.Serving.{IsLeftAlone, Origin, Serving}
 use Rattle.session_cli.proofs.EndsLaws.{Going, Taking}
@@ -14,7 +14,7 @@ invariant-loop-room g l = record {
       → Going o input l.room (g.S.Source.left l.source) (seen (g.K.Sink.written l.sink) (g.C.Clock.coming l.clock) (g.P.Disk.state l.site)) l.session;
   taking : (input : List ℕ) → g.S.Source.left l.fn.source ≡ Some input → Taking input l.room (g.S.Source.left l.source);
   empty : l.session.output ≡ [];
-  sound : IsSound l.session.tier;
+  order : IsInOrder l.session.engine;
   within : l.room ≤ 4294967296;
   space : 0 < length l.piece;
   read : g.S.Source.faults l.fn.source ≤ g.S.Source.faults l.source;

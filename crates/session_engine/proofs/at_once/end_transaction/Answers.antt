@@ -12,7 +12,7 @@ pub note_verified-requires-clause-sound : goal.note_verified-requires-clause-sou
 note_verified-requires-clause-sound c =
     sound_written c.args.tier.now _ (open_ops c.args.id (seen_all c.args.tier.now.sessions)) c.requires.sound (record { schema = refl; catalog = refl; directory = refl; visible = refl })
     (c.store_ops.ensures ∙ ap (λ ops. ops_at c.args.tier.now.directory ops (bare_all c.args.tier.now.stores.items)) c.requires.ops)
-    (c.rest.ensures.sound c.args.tier.now.schema c.requires.sound.sessions) c.requires.sound.numbered c.requires.sound.later refl
+    (c.rest.ensures.sound c.args.tier.now.schema c.requires.sound.sessions) c.requires.sound.numbered c.requires.sound.later c.requires.sound.writers refl
 
 pub note_verified-requires-clause-known : goal.note_verified-requires-clause-known
 note_verified-requires-clause-known c = λ yes.

@@ -1,4 +1,4 @@
-use Rattle.std.proofs.Common.{◌≡◌, ◌∙◌, ◌++◌, ◌∷◌, [], Err, ap, refl, rules, subst, sym}
+use Rattle.std.proofs.Common.{◌≡◌, ◌≤◌, ◌∙◌, ◌++◌, ◌∷◌, [], Err, ap, refl, rules, subst, sym}
 use Rattle.cache_tier.specs.declared.reply.Last.TheVariants.{Done}
 use Rattle.cache_tier.specs.Worlds.{only}
 use Rattle.stored_tier.specs.Answering.{Replies}
@@ -13,6 +13,8 @@ use Rattle.session_engine.proofs.AppliedLaws.{applied_behind}
 use Rattle.session_engine.proofs.CommitPerformed.{rise_sealed, sound_roomed, sound_written}
 use Rattle.stored_tier.proofs.QuietLaws.{calm_done}
 use Rattle.session_engine.proofs.CommitLaws.{refused_stays, stored_behind_commit}
+use Rattle.pending_writes.specs.Noting.{TellsWriters}
+use Rattle.stored_tier.proofs.WriterLaws.{first_sealed, writers_more}
 use Rattle.session_engine.proofs.commit.commit_writes.Goals as goal
 
 pub returns-in_err-judge_commit-clause-answers : goal.returns-in_err-judge_commit-clause-answers
@@ -49,12 +51,14 @@ returns-clause-calm c = calm_done c.args.tier.now.next c.done.result c.done.ensu
 pub returns-in_err-reserve_all-clause-sound : goal.returns-in_err-reserve_all-clause-sound
 returns-in_err-reserve_all-clause-sound c =
     sound_roomed c.args.tier.now _ c.requires.sound (record { schema = refl; catalog = refl; directory = refl; visible = refl })
-    c.in_err-reserve_all.ensures.same refl refl refl refl
+    c.in_err-reserve_all.ensures.same refl refl refl c.requires.sound.writers refl
 
 pub returns-in_err-let_wait-clause-sound : goal.returns-in_err-let_wait-clause-sound
 returns-in_err-let_wait-clause-sound c =
     sound_roomed c.args.tier.now _ c.requires.sound (record { schema = refl; catalog = refl; directory = refl; visible = refl })
-    c.in_ok-reserve_all.ensures.same refl c.in_err-let_wait.ensures.err refl refl
+    c.in_ok-reserve_all.ensures.same refl c.in_err-let_wait.ensures.err refl
+    (subst (λ n. TellsWriters c.args.tier.now.schema n c.args.tier.now.unsettled.items c.let_wait.new.writers) c.first_unsettled-first.ensures
+    (c.in_err-let_wait.ensures.kept (subst (λ n. TellsWriters c.args.tier.now.schema n c.args.tier.now.unsettled.items c.args.tier.now.writers) (sym c.first_unsettled-first.ensures) c.requires.sound.writers))) refl
 
 pub note_verified-requires-clause-sound : goal.note_verified-requires-clause-sound
 note_verified-requires-clause-sound c =
@@ -69,6 +73,11 @@ note_verified-requires-clause-sound c =
     (later_sealed (groups_in c.args.tier.now.catalog) c.args.tier.now.unsettled.items _ _ c.requires.sound.later c.in_ok-let_wait.ensures.ok
     (ap (λ (x : Sealed). are_deferred (groups_in c.args.tier.now.catalog) x.ops) c.in_ok-sealed.ensures
     ∙ c.requires.deferred))
+    (writers_more c.args.tier.now c.let_wait.new.unsettled.items c.let_wait.new.writers c.in_ok-sealed.sealed (ap (λ (x : Sealed). x.ticket.0) c.in_ok-sealed.ensures) c.in_ok-let_wait.ensures.ok
+    (subst (λ n. TellsWriters c.args.tier.now.schema n (c.args.tier.now.unsettled.items ++ c.in_ok-sealed.sealed ∷ []) c.let_wait.new.writers) c.first_unsettled-first.ensures
+    (c.in_ok-let_wait.ensures.noted
+    (subst (λ n. n ≤ c.in_ok-sealed.sealed.ticket.0) (sym c.first_unsettled-first.ensures) (first_sealed c.args.tier.now _ _ c.requires.sound c.in_ok-sealed.ensures))
+    (subst (λ n. TellsWriters c.args.tier.now.schema n c.args.tier.now.unsettled.items c.args.tier.now.writers) (sym c.first_unsettled-first.ensures) c.requires.sound.writers))))
     refl
 
 pub note_verified-requires-clause-known : goal.note_verified-requires-clause-known

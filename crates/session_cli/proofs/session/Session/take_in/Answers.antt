@@ -13,6 +13,6 @@ loop-byte-preserved g c = record {
   serves = λ o given alone s.
       let i = c.loop-byte.byte-index in
       serving_more o given c.args.bytes.now i _ _ c.loop-byte-test.true (c.in_ok-take_byte.ensures.serves o (given ++ take i c.args.bytes.now) (alone_at o given c.args.bytes.now i alone) (c.loop-byte.invariant.serves o given alone s));
-  sound = c.in_ok-take_byte.ensures.sound;
+  order = c.in_ok-take_byte.ensures.order;
   later = search rules;
 }

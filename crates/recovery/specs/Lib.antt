@@ -1,0 +1,2 @@
+pub mod Journalled
+pub mod Recalling

@@ -1,0 +1,523 @@
+-- A doubt that is settled: what is shown where the transaction came, and where it didn't.
+use Rattle.std.proofs.Common.{◌≡◌, ◌⊎◌, ◌≤◌, ◌^◌, ◌+◌, ℕ, Bool, true, false, ◌||◌, nat_eq, cond, Option, Some, None, Result, Ok, Err, List, [], ◌∷◌, ◌++◌, map, inl, inr, refl, sym, ap, subst, ◌∙◌, append_assoc, arith, count_by, length}
+use Rattle.std.proofs.lemmas.Bool.{eq-eqb}
+use Rattle.std.proofs.lemmas.List.{append-nil}
+use Rattle.tier_base.specs.declared.code.Code.{Code}
+use Rattle.tier_base.specs.declared.number.SessionId.{SessionId}
+use Rattle.tier_base.specs.declared.number.TableId.{TableId}
+use Rattle.table_state.specs.declared.history.Entry.{Entry}
+use Rattle.table_state.specs.declared.history.Entry.TheVariants.{Definition, Foreign, Own}
+use Rattle.table_state.specs.declared.history.Sealed.{Sealed}
+use Rattle.table_state.specs.declared.operation.Op.{Op}
+use Rattle.table_state.specs.Histories.{entry_of, has_ticket, is_of}
+use Rattle.table_state.specs.Operations.{applied_all}
+use Rattle.table_state.specs.Tables.{TableState}
+use Rattle.table_state.proofs.HistoryLaws.{has_ticket-append}
+use Rattle.outside.specs.Bank.{AppliesOnce, Comes, Grows, TellsRecorded}
+use Rattle.outside.specs.Calls as site
+use Rattle.outside.specs.Faults.{BankHasCause}
+use Rattle.outside.specs.Holding.{Held}
+use Rattle.outside.specs.Others.{AreOthers, Around}
+use Rattle.outside.specs.Sites.{SiteState}
+use Rattle.outside.specs.declared.fault.BankError.{BankError}
+use Rattle.outside.specs.declared.fault.BankError.TheVariants.{Failed}
+use Rattle.order_laws.proofs.TruthLaws.{never_both}
+use Rattle.session_state.specs.Sessions.{at_rest as rested}
+use Rattle.open_sessions.specs.Lookups.{open_ops}
+use Rattle.open_sessions.specs.Opening.{seen_all}
+use Rattle.group_catalog.specs.Catalogs.{groups_in}
+use Rattle.cache_tier.specs.CommitSteps.{after_applied, committed, ends, sealed_own}
+use Rattle.cache_tier.specs.DoubtSteps.{AsksRecorded, SettlesDoubt, ops_of, settled, settled_notes, settled_stop, stood}
+use Rattle.cache_tier.specs.DueWork.{DueDoubt}
+use Rattle.cache_tier.specs.Groups.{is_synchronous}
+use Rattle.cache_tier.specs.Journals.{Journal}
+use Rattle.cache_tier.specs.PassedSteps.{with_ticket}
+use Rattle.cache_tier.specs.Shown.{no_rows, shown_state}
+use Rattle.cache_tier.specs.Steps.{note_tells}
+use Rattle.cache_tier.specs.TierStates.{ACommit, Doubt as Doubtful, Session, Tier, at_rest, session_of, with_session}
+use Rattle.cache_tier.specs.Worlds.{BankCall, IsUnshared, World}
+use Rattle.cache_tier.specs.declared.reply.Note.{Note}
+use Rattle.cache_tier.specs.declared.reply.Reply.{Reply}
+use Rattle.cache_tier.specs.Events.{StaysShown, at_history, with_tier}
+use Rattle.cache_tier.specs.StandingBetween.{AreReadAt, Stands}
+use Rattle.order_laws.specs.Commits.{KeepsCommitOrder}
+use Rattle.tier_statements.specs.Seen.{session_seen}
+use Rattle.stored_tier.specs.declared.tier.Tier.{Tier as Stored}
+use Rattle.stored_tier.specs.Performing.{KeepsSlots, StandsFor}
+use Rattle.stored_tier.specs.Sites.{IsAt}
+use Rattle.stored_tier.specs.Stored.{HasSession, IsSound, IsStoredAs, KeepsTime, are_later, are_on, rows_of}
+use Rattle.stored_tier.proofs.BankLaws.{behind, behind_at, call_behind, told_behind}
+use Rattle.stored_tier.proofs.OwnSeen.{NumberLaw, own_found}
+use Rattle.stored_tier.proofs.QuietLaws.{its_session}
+use Rattle.stored_tier.proofs.SessionLaws.{ChangeLaw, session_changed}
+use Rattle.stored_tier.proofs.StandingLaws.{last_at_once, slots_kept}
+use Rattle.session_engine.specs.AtOnce.{Finishes}
+use Rattle.session_engine.specs.Committing.{bare_all, ops_at}
+use Rattle.session_engine.specs.Doubting.{IsEnded, IsInDoubt, IsReady, Leads}
+use Rattle.session_engine.specs.Settling.{Forgets, IsAsked, KeepsRest, Settles, end_of, note_of}
+use Rattle.session_engine.specs.declared.doubt.Doubt.{Doubt}
+use Rattle.session_engine.proofs.AtOnceLaws.{AreLaws, came_leads, came_stands, came_to, drawn, none_came, stands_last, unused}
+use Rattle.session_engine.proofs.CommitLaws.{groups_kept}
+use Rattle.session_engine.proofs.CommitPerformed.{rows_then}
+use Rattle.session_engine.proofs.KindLaws.{bare_later, none_met}
+use Rattle.session_engine.proofs.LegalLaws.{StandsInDoubt, in_doubt_stands}
+use Rattle.session_engine.proofs.OthersLaws.{CameBy, came_by, others_more}
+
+-- the law of a session's rollback
+abbrev pub EndsLaw : Type 0
+EndsLaw =
+    (w : World) (s : Session) → Stands w → session_of w.tier s.label ≡ Some s
+    → StaysShown w (with_tier (ends s w.tier) w)
+
+-- others come behind a call that failed
+
+abbrev FailedStep : Sealed → List Entry → List Entry → Type 0
+FailedStep x = AppliesOnce x [] (Err Failed)
+
+abbrev pub joined : (shared : List TableId) (x : Sealed) (a b c : List Entry) → Around shared (FailedStep x) a b → CameBy shared b c → Around shared (FailedStep x) a c
+joined shared x a b c first came = record {
+  before = first.before;
+  middle = first.middle;
+  behind = first.behind ++ came.entries;
+  came_before = first.came_before;
+  own = first.own;
+  came_behind = others_more shared first.middle first.behind came.entries first.came_behind (subst (λ h. AreOthers shared h came.entries) first.is came.others);
+  is = came.is ∙ ap (λ h. h ++ came.entries) first.is ∙ append_assoc first.middle first.behind came.entries;
+}
+
+-- the operations with which the ticket stands there
+
+or_none : (a b : Bool) → (a || b) ≡ false → (a ≡ false) × (b ≡ false)
+or_none true b e = cc
+or_none false b e = (refl, e)
+
+ops_past : (n : ℕ) (h rest : List Entry) → has_ticket n h ≡ false → ops_of n (h ++ rest) ≡ ops_of n rest
+ops_past n [] rest none = refl
+ops_past n (Definition def ∷ h) rest none = ops_past n h rest none
+ops_past n (Foreign ops ∷ h) rest none = ops_past n h rest none
+ops_past n (Own ticket ops ∷ h) rest none =
+    let both = or_none (nat_eq ticket.0 n) (has_ticket n h) none in
+    ap (λ b. cond b ops (ops_of n (h ++ rest))) both.0 ∙ ops_past n h rest both.1
+
+ops_there : (h rest : List Entry) (x : Sealed) → has_ticket x.ticket.0 h ≡ false → ops_of x.ticket.0 ((h ++ entry_of x ∷ []) ++ rest) ≡ x.ops
+ops_there h rest x none =
+    ap (ops_of x.ticket.0) (append_assoc h (entry_of x ∷ []) rest)
+    ∙ ops_past x.ticket.0 h (entry_of x ∷ rest) none
+    ∙ ap (λ b. cond b x.ops (ops_of x.ticket.0 rest)) (eq-eqb x.ticket.0 x.ticket.0 refl)
+
+left_true : (a b : Bool) → a ≡ true → (a || b) ≡ true
+left_true true b e = refl
+left_true false b e = cc
+
+stands_within : (h rest : List Entry) (x : Sealed) → has_ticket x.ticket.0 ((h ++ entry_of x ∷ []) ++ rest) ≡ true
+stands_within h rest x =
+    has_ticket-append x.ticket.0 (h ++ entry_of x ∷ []) rest
+    ∙ left_true (has_ticket x.ticket.0 (h ++ entry_of x ∷ [])) (has_ticket x.ticket.0 rest) (stands_last h x)
+
+-- a tier of which nothing is in doubt
+undoubted : (b : Tier) → b.doubt ≡ None → record b { doubt = None } ≡ b
+undoubted b e = λ i. record b { doubt = sym e i }
+
+-- that a tier stands asks for no more than the tier and the history
+pub stands_with : (a : Tier) (h : List Entry) (w v : World) → Stands (with_tier a (at_history h w)) → Stands (with_tier a (at_history h v))
+stands_with a h w v x = record {
+  flow = x.flow;
+  schema = record { front = x.schema.front; whole = x.schema.whole };
+  catalog = record { each = x.catalog.each; apart = x.catalog.apart };
+  keys = x.keys;
+  read = x.read;
+  sessions = x.sessions;
+}
+
+-- what is stored with the ticket drawn
+pub stored_drawn : (t : Stored) (d : Doubt) (w : World) → (x : IsInDoubt t d w) → IsStoredAs t (with_ticket x.was.tier)
+stored_drawn t d w x = record {
+  schema = x.stands.stored.schema;
+  stale = x.stands.stored.stale;
+  groups = x.stands.stored.groups;
+  sessions = x.stands.stored.sessions;
+  unsettled = x.stands.stored.unsettled;
+  next = ap (λ n. n + 1) x.stands.stored.next ∙ sym x.next;
+  doubt = x.stands.stored.doubt;
+  time = x.stands.stored.time;
+}
+
+-- what a doubt came of
+module _ (laws : AreLaws) (numbers : NumberLaw) (changes : ChangeLaw) (t : Stored) (d : Doubt) (w : World) (sound : IsSound t) (x : IsInDoubt t d w) where
+  abbrev pub was : World
+  was = x.was
+
+  abbrev pub s : Session
+  s = x.session
+
+  abbrev pub own_sealed : Sealed
+  own_sealed = sealed_own was.tier s
+
+  own : open_ops d.session (seen_all t.sessions) ≡ s.own
+  own = own_found numbers t d.session s sound x.has
+
+  there : session_of was.tier s.label ≡ Some s
+  there =
+      its_session (record t { next = d.ticket }) was.tier d.session s x.stands.stored
+      (record { seen = x.has.seen; found = x.has.found; number = x.has.number; is = x.has.is })
+
+  ticket_is : was.tier.next ≡ d.ticket
+  ticket_is = x.stands.stored.next
+
+  room : was.tier.next + 1 ≤ 2 ^ 63
+  room = let le = x.room in let same = ticket_is in omega (arith, le, same)
+
+  later : are_later was.tier.groups was.tier.unsettled ≡ true
+  later =
+      sym (bare_later was.tier.groups was.tier.unsettled) ∙ ap (λ gs. are_later gs was.tier.unsettled) x.stands.stored.groups
+      ∙ ap (are_later (groups_in t.catalog)) x.stands.stored.unsettled ∙ sound.later
+
+  stored : IsStoredAs t (with_ticket was.tier)
+  stored = stored_drawn t d w x
+
+  took : StaysShown was (with_tier (with_ticket was.tier) was)
+  took = drawn laws.skip was x.stands.stands room
+
+  stands_drawn : StandsFor t (with_tier (with_ticket was.tier) was)
+  stands_drawn = record {
+    stored = stored;
+    shows = x.stands.shows ∙ sym took.same;
+    stands = took.stands;
+    unkept = x.stands.unkept;
+    waits = x.stands.waits;
+  }
+
+  abbrev pub in_doubt : Doubtful
+  in_doubt = record { ticket = was.tier.next; session = s.label; of = ACommit }
+
+  pub doubt_is : w.tier.doubt ≡ Some in_doubt
+  doubt_is = ap (λ (a : Tier). a.doubt) x.tier
+
+  pub shared_is : w.shared ≡ was.shared
+  shared_is = x.call.shared
+
+  unkept : w.journal.kept ≡ false
+  unkept = ap (λ (j : Journal). j.kept) x.call.journal ∙ x.stands.unkept
+
+  -- what came since, with others behind it
+  module _ (h : List Entry) (more : CameBy w.shared w.history h) where
+    abbrev pub around : Around was.shared (FailedStep own_sealed) was.history h
+    around = joined was.shared own_sealed was.history w.history h x.call.history (subst (λ tables. CameBy tables w.history h) shared_is more)
+
+    pub stands_still_in : StandsInDoubt was h
+    stands_still_in = in_doubt_stands laws was s x.stands.stands x.unshared there room later x.on h around
+
+    -- it didn't come
+    module _ (grows : Grows [] (was.history ++ around.before) around.middle) where
+      only_others : Around was.shared (Grows []) was.history h
+      only_others = record {
+        before = around.before;
+        middle = around.middle;
+        behind = around.behind;
+        came_before = around.came_before;
+        own = grows;
+        came_behind = around.came_behind;
+        is = around.is;
+      }
+
+      pub stays_out : StaysShown was (with_tier (with_ticket was.tier) (at_history h was))
+      stays_out = none_came laws was s x.stands.stands x.unshared there room (Grows []) h (λ o n g. g) only_others
+
+      pub no_ticket : has_ticket was.tier.next h ≡ false
+      no_ticket =
+          let came = came_by was.shared (Grows []) was.history h (λ o n g. g) only_others in
+          ap (has_ticket was.tier.next) came.is ∙ unused laws was s x.stands.stands x.unshared there room came.entries came.others
+
+    -- it came
+    module _ (comes : Comes own_sealed [] (was.history ++ around.before) around.middle) where
+      abbrev pub front : List Entry
+      front = was.history ++ around.before
+
+      pub long : h ≡ (front ++ entry_of own_sealed ∷ []) ++ around.behind
+      long = around.is ∙ ap (λ m. m ++ around.behind) comes.grows
+
+      came_behind : AreOthers was.shared (front ++ entry_of own_sealed ∷ []) around.behind
+      came_behind = subst (λ m. AreOthers was.shared m around.behind) comes.grows around.came_behind
+
+      pub stands_in : Stands (came_to was s h)
+      stands_in =
+          subst (λ m. Stands (came_to was s m)) (sym long)
+          (came_stands laws was s x.stands.stands x.unshared there room later x.on around.before around.behind around.came_before came_behind)
+
+      pub leads_in : applied_all s.own (shown_state was.history was.tier) ≡ Some (shown_state h (committed own_sealed s.label (with_ticket was.tier)))
+      leads_in =
+          came_leads laws was s x.stands.stands x.unshared there room later x.on around.before around.behind around.came_before came_behind
+          ∙ ap (λ m. Some (shown_state m (committed own_sealed s.label (with_ticket was.tier)))) (sym long)
+
+      pub has_it : has_ticket was.tier.next h ≡ true
+      has_it = ap (has_ticket was.tier.next) long ∙ stands_within front around.behind own_sealed
+
+      pub stood_is : stood in_doubt h ≡ own_sealed
+      stood_is =
+          let ops = ap (ops_of was.tier.next) long ∙ ops_there front around.behind own_sealed comes.can.fresh in
+          λ i. record { ticket = record { 0 = was.tier.next }; ops = ops i }
+
+  -- the tier of the world, settled
+
+  came_is : (h : List Entry) → stood in_doubt h ≡ own_sealed → settled in_doubt h (Ok true) w.tier ≡ committed own_sealed s.label (with_ticket was.tier)
+  came_is h same =
+      ap (λ (y : Sealed). record (committed y s.label w.tier) { doubt = None }) same
+      ∙ ap (λ (a : Tier). record (committed own_sealed s.label a) { doubt = None }) x.tier
+      ∙ undoubted (committed own_sealed s.label (with_ticket was.tier)) x.stands.stored.doubt
+
+  gone_is : (h : List Entry) → settled in_doubt h (Ok false) w.tier ≡ ends s (with_ticket was.tier)
+  gone_is h =
+      ap (λ (a : Tier). record (with_session s.label at_rest a) { doubt = None }) x.tier
+      ∙ undoubted (ends s (with_ticket was.tier)) x.stands.stored.doubt
+
+  -- the stored tier behind it
+
+  module _ (new : Stored) (h : List Entry) where
+    stored_finished : Finishes t new d.session → IsStoredAs new (committed own_sealed s.label (with_ticket was.tier))
+    stored_finished fin =
+        let rest = session_changed changes t new.sessions (with_ticket was.tier) s d.session rested at_rest (λ y. refl) sound stored x.has fin.seen in
+        record {
+          schema = stored.schema ∙ ap (λ (z : Stored). z.schema) (sym fin.rest);
+          stale = stored.stale ∙ ap (λ (z : Stored). z.stale) (sym fin.rest);
+          groups = groups_kept (no_rows (with_ticket was.tier)) s.own was.tier.groups ∙ stored.groups ∙ ap (λ (z : Stored). groups_in z.catalog) (sym fin.rest);
+          sessions = rest.sessions;
+          unsettled = stored.unsettled ∙ ap (λ (z : Stored). z.unsettled.items) (sym fin.rest);
+          next = stored.next ∙ ap (λ (z : Stored). z.next) (sym fin.rest);
+          doubt = stored.doubt;
+          time = subst (λ (z : Stored). KeepsTime z.clock was.tier.now was.tier.added was.tier.round was.tier.sets was.tier.settings) (sym fin.rest) stored.time;
+        }
+
+    stored_forgot : Forgets t new d.session → IsStoredAs new (ends s (with_ticket was.tier))
+    stored_forgot f =
+        subst (λ z. IsStoredAs z (ends s (with_ticket was.tier))) (sym f.rest)
+        (session_changed changes t new.sessions (with_ticket was.tier) s d.session rested at_rest (λ y. refl) sound stored x.has f.seen)
+
+    -- it came
+    pub came_for : (more : CameBy w.shared w.history h) (comes : Comes own_sealed [] (was.history ++ (around h more).before) (around h more).middle) → Finishes t new d.session
+        → (v : World) → v.journal.kept ≡ false → StandsFor new (with_tier (committed own_sealed s.label (with_ticket was.tier)) (at_history h v))
+    came_for more comes fin v kept = record {
+      stored = stored_finished fin;
+      shows = rows_then laws.commit numbers t new (with_tier (with_ticket was.tier) was) d.session s sound stands_drawn x.has (shown_state h (committed own_sealed s.label (with_ticket was.tier)))
+          (ap (λ (z : Stored). z.schema) fin.rest) fin.stores (ap (applied_all s.own) took.same ∙ leads_in h more comes);
+      stands = stands_with (committed own_sealed s.label (with_ticket was.tier)) h was v (stands_in h more comes);
+      unkept = kept;
+      waits = last_at_once was.tier.log was.tier.unsettled own_sealed (none_met was.tier.groups s.own was.tier.unsettled x.stands.stands.catalog.apart x.on later) x.stands.waits;
+    }
+
+    -- it didn't
+    pub gone_for : EndsLaw → (more : CameBy w.shared w.history h) → Grows [] (was.history ++ (around h more).before) (around h more).middle → Forgets t new d.session
+        → (v : World) → v.journal.kept ≡ false → StandsFor new (with_tier (ends s (with_ticket was.tier)) (at_history h v))
+    gone_for law more grows f v kept =
+        let out = stays_out h more grows in
+        let rest = law (with_tier (with_ticket was.tier) (at_history h was)) s out.stands there in
+        record {
+          stored = stored_forgot f;
+          shows = ap (λ (z : Stored). rows_of z) f.rest ∙ x.stands.shows ∙ sym (rest.same ∙ out.same);
+          stands = stands_with (ends s (with_ticket was.tier)) h was v rest.stands;
+          unkept = kept;
+          waits = x.stands.waits;
+        }
+
+-- the call of the bank, as it is told
+
+pub record AskedOnce (ticket : ℕ) (before after : SiteState) (result : Result Bool BankError) : Type 0 where
+  pub told : site.Told before.held after.held (site.BankCall before.shared (TellsRecorded ticket result))
+  pub later : before.bank_faults ≤ after.bank_faults
+  pub moment : before.moment ≤ after.moment
+  pub shares : after.shared ≡ before.shared
+
+reads : (ticket : ℕ) (result : Result Bool BankError) (o n : List Entry) → TellsRecorded ticket result o n → Grows [] o n
+reads ticket (Ok stands) o n step = step.0
+reads ticket (Err e) o n step = step
+
+module _ (laws : AreLaws) (numbers : NumberLaw) (changes : ChangeLaw) (law : EndsLaw) (t : Stored) (d : Doubt) (w : World) (sound : IsSound t) (x : IsInDoubt t d w) (before after : SiteState) (at : IsAt before w) where
+  abbrev doubtful : Doubtful
+  doubtful = in_doubt laws numbers changes t d w sound x
+
+  same_ticket : d.ticket ≡ doubtful.ticket
+  same_ticket = sym (ticket_is laws numbers changes t d w sound x)
+
+  module _ (result : Result Bool BankError) (asked : AskedOnce d.ticket before after result) where
+    now : Rattle.stored_tier.proofs.BankLaws.TellsBehind at.there after.held (site.BankCall before.shared (TellsRecorded d.ticket result))
+    now = told_behind at.there before.held after.held (site.BankCall before.shared (TellsRecorded d.ticket result)) at.told asked.told
+
+    abbrev tier_then : Tier
+    tier_then = settled doubtful now.there.history result w.tier
+
+    abbrev world_then : World
+    world_then = behind w tier_then now.there after
+
+    call : BankCall (TellsRecorded d.ticket result) w world_then
+    call = call_behind w tier_then before after now.there (TellsRecorded d.ticket result) at now.is asked.later asked.moment
+
+    at_then : IsAt after world_then
+    at_then = behind_at w tier_then before after now.there at now.told asked.shares
+
+    more : CameBy w.shared w.history now.there.history
+    more = came_by w.shared (TellsRecorded d.ticket result) w.history now.there.history (reads d.ticket result) call.history
+
+    settles : (notes : List Note) (stop : Option Reply) → notes ≡ settled_notes doubtful result → stop ≡ settled_stop result → DueDoubt w world_then notes stop
+    settles notes stop told ends =
+        subst (λ o. SettlesDoubt o w world_then notes stop) (sym (doubt_is laws numbers changes t d w sound x))
+        (record {
+          result = result;
+          call = subst (λ n. BankCall (TellsRecorded n result) w world_then) same_ticket call;
+          tier = refl;
+          told = told;
+          end = ends;
+        })
+
+  by_ticket : (h : List Entry) (b : Bool) → has_ticket x.was.tier.next h ≡ b → has_ticket d.ticket h ≡ b
+  by_ticket h b e = ap (λ n. has_ticket n h) same_ticket ∙ e
+
+  -- an answer, and what stands at the end of the question's own step
+  module _ (stands : Bool) (asked : AskedOnce d.ticket before after (Ok stands)) where
+    abbrev late : List Entry
+    late = (now (Ok stands) asked).there.history
+
+    abbrev mid : List Entry
+    mid = (call (Ok stands) asked).history.middle
+
+    tells : stands ≡ has_ticket d.ticket mid
+    tells = (call (Ok stands) asked).history.own.1
+
+    up_to : CameBy w.shared w.history mid
+    up_to =
+        let q = (call (Ok stands) asked).history in
+        record { entries = q.before; others = q.came_before; is = q.own.0 ∙ append-nil (w.history ++ q.before) }
+
+    abbrev whole : Around x.was.shared (FailedStep (sealed_own x.was.tier x.session)) x.was.history late
+    whole = around laws numbers changes t d w sound x late (more (Ok stands) asked)
+
+  abbrev Out : (stands : Bool) → AskedOnce d.ticket before after (Ok stands) → Type 0
+  Out stands asked = Grows [] (x.was.history ++ (whole stands asked).before) (whole stands asked).middle
+
+  abbrev In : (stands : Bool) → AskedOnce d.ticket before after (Ok stands) → Type 0
+  In stands asked = Comes (sealed_own x.was.tier x.session) [] (x.was.history ++ (whole stands asked).before) (whole stands asked).middle
+
+  -- it stands there
+  came_true : (new : Stored) (asked : AskedOnce d.ticket before after (Ok true)) → Finishes t new d.session → Out true asked ⊎ In true asked → IsEnded new None after (λ w'. DueDoubt w w' (note_of d true ∷ []) None)
+  came_true new asked fin (inl grows) =
+      let none = no_ticket laws numbers changes t d w sound x (mid true asked) (up_to true asked) grows in
+      absurd (never_both (has_ticket d.ticket (mid true asked)) (sym (tells true asked)) (by_ticket (mid true asked) false none))
+  came_true new asked fin (inr comes) =
+      let same = stood_is laws numbers changes t d w sound x (late true asked) (more (Ok true) asked) comes in
+      record {
+        world = world_then (Ok true) asked;
+        at = at_then (Ok true) asked;
+        left = subst (λ a. StandsFor new (behind w a (now (Ok true) asked).there after)) (sym (came_is laws numbers changes t d w sound x (late true asked) same))
+            (came_for laws numbers changes t d w sound x new (late true asked) (more (Ok true) asked) comes fin (behind w w.tier (now (Ok true) asked).there after) (unkept laws numbers changes t d w sound x));
+        is = settles (Ok true) asked (note_of d true ∷ []) None (ap (λ n. note_of (record d { ticket = n }) true ∷ []) same_ticket) refl;
+      }
+
+  pub settled_true : (new : Stored) (asked : AskedOnce d.ticket before after (Ok true)) → Finishes t new d.session → IsEnded new None after (λ w'. DueDoubt w w' (note_of d true ∷ []) None)
+  settled_true new asked fin = came_true new asked fin (whole true asked).own
+
+  -- it doesn't
+  came_false : (new : Stored) (asked : AskedOnce d.ticket before after (Ok false)) → Forgets t new d.session → Out false asked ⊎ In false asked → IsEnded new None after (λ w'. DueDoubt w w' (note_of d false ∷ []) None)
+  came_false new asked f (inr comes) =
+      let some = has_it laws numbers changes t d w sound x (mid false asked) (up_to false asked) comes in
+      absurd (never_both (has_ticket d.ticket (mid false asked)) (by_ticket (mid false asked) true some) (sym (tells false asked)))
+  came_false new asked f (inl grows) = record {
+    world = world_then (Ok false) asked;
+    at = at_then (Ok false) asked;
+    left = subst (λ a. StandsFor new (behind w a (now (Ok false) asked).there after)) (sym (gone_is laws numbers changes t d w sound x (late false asked)))
+        (gone_for laws numbers changes t d w sound x new (late false asked) law (more (Ok false) asked) grows f (behind w w.tier (now (Ok false) asked).there after) (unkept laws numbers changes t d w sound x));
+    is = settles (Ok false) asked (note_of d false ∷ []) None (ap (λ n. note_of (record d { ticket = n }) false ∷ []) same_ticket) refl;
+  }
+
+  pub settled_false : (new : Stored) (asked : AskedOnce d.ticket before after (Ok false)) → Forgets t new d.session → IsEnded new None after (λ w'. DueDoubt w w' (note_of d false ∷ []) None)
+  settled_false new asked f = came_false new asked f (whole false asked).own
+
+  -- nobody knows still
+  pub unsettled : (e : BankError) → AskedOnce d.ticket before after (Err e) → IsEnded t (Some d) after (λ w'. DueDoubt w w' [] (end_of (Err e)))
+  unsettled e asked = let still = stands_still_in laws numbers changes t d w sound x (now (Err e) asked).there.history (more (Err e) asked) in record {
+    world = world_then (Err e) asked;
+    at = at_then (Err e) asked;
+    left = record {
+      was = x.was;
+      stands = x.stands;
+      unshared = x.unshared;
+      session = x.session;
+      has = x.has;
+      on = x.on;
+      next = x.next;
+      room = x.room;
+      call = record {
+        history = around laws numbers changes t d w sound x (now (Err e) asked).there.history (more (Err e) asked);
+        journal = x.call.journal;
+        faults = let one = x.call.faults in let two = (call (Err e) asked).faults in omega (arith, one, two);
+        disk = x.call.disk;
+        moment = let one = x.call.moment in let two = (call (Err e) asked).moment in omega (arith, one, two);
+        shared = x.call.shared;
+      };
+      tier = x.tier;
+      legal = subst (λ (a : Tier). KeepsCommitOrder (now (Err e) asked).there.history a.log) (sym x.tier) still.legal;
+      read = subst (λ (a : Tier). AreReadAt (length (now (Err e) asked).there.history) a.groups) (sym x.tier) still.read;
+    };
+    is = settles (Err e) asked [] (end_of (Err e)) refl refl;
+  }
+
+-- by the answer
+settled_by : AreLaws → NumberLaw → ChangeLaw → EndsLaw → (t new : Stored) (d : Doubt) (before after : SiteState) (stands : Bool) → IsSound t → AskedOnce d.ticket before after (Ok stands) → Settles t new d.session stands
+    → Leads t (Some d) new None before after (λ w w'. DueDoubt w w' (note_of d stands ∷ []) None)
+settled_by laws numbers changes law t new d before after true sound asked did w at x apart = settled_true laws numbers changes law t d w sound x before after at new asked did
+settled_by laws numbers changes law t new d before after false sound asked did w at x apart = settled_false laws numbers changes law t d w sound x before after at new asked did
+
+pub leads_settled : AreLaws → NumberLaw → ChangeLaw → EndsLaw → (t new : Stored) (left doubt : Option Doubt) (d : Doubt) (before after : SiteState) (stands : Bool) (note : Note) → IsSound t → left ≡ Some d → doubt ≡ None → note ≡ note_of d stands
+    → AskedOnce d.ticket before after (Ok stands) → Settles t new d.session stands → Leads t left new doubt before after (λ w w'. DueDoubt w w' (note ∷ []) None)
+leads_settled laws numbers changes law t new left doubt d before after stands note sound is none told asked did =
+    subst (λ o. Leads t o new doubt before after (λ w w'. DueDoubt w w' (note ∷ []) None)) (sym is)
+    (subst (λ o. Leads t (Some d) new o before after (λ w w'. DueDoubt w w' (note ∷ []) None)) (sym none)
+    (subst (λ n. Leads t (Some d) new None before after (λ w w'. DueDoubt w w' (n ∷ []) None)) (sym told)
+    (settled_by laws numbers changes law t new d before after stands sound asked did)))
+
+pub leads_unsettled : AreLaws → NumberLaw → ChangeLaw → EndsLaw → (t : Stored) (left : Option Doubt) (d : Doubt) (before after : SiteState) (e : BankError) → IsSound t → left ≡ Some d → AskedOnce d.ticket before after (Err e)
+    → Leads t left t (Some d) before after (λ w w'. DueDoubt w w' [] (end_of (Err e)))
+leads_unsettled laws numbers changes law t left d before after e sound is asked =
+    subst (λ o. Leads t o t (Some d) before after (λ w w'. DueDoubt w w' [] (end_of (Err e)))) (sym is)
+    (λ w at x apart. unsettled laws numbers changes law t d w sound x before after at e asked)
+
+pub ready_none : (t : Stored) (doubt : Option Doubt) → doubt ≡ None → IsReady t doubt
+ready_none t doubt none = subst (IsReady t) (sym none) tt
+
+pub ready_some : (t : Stored) (left : Option Doubt) (d : Doubt) → left ≡ Some d → IsReady t left → IsReady t (Some d)
+ready_some t left d is ready = subst (IsReady t) is ready
+
+-- what is as it was
+pub rest_kept : (t new : Stored) (id : SessionId) (stands : Bool) → Settles t new id stands → KeepsRest t new
+rest_kept t new id true fin = record {
+  schema = ap (λ (z : Stored). z.schema) fin.rest;
+  catalog = ap (λ (z : Stored). z.catalog) fin.rest;
+  clock = ap (λ (z : Stored). z.clock) fin.rest;
+}
+rest_kept t new id false f = record {
+  schema = ap (λ (z : Stored). z.schema) f.rest;
+  catalog = ap (λ (z : Stored). z.catalog) f.rest;
+  clock = ap (λ (z : Stored). z.clock) f.rest;
+}
+
+-- the cause of a question that failed
+
+quiet_note : (d : Doubt) (stands : Bool) (c : Code) → count_by (note_tells c) (note_of d stands ∷ []) ≡ 0
+quiet_note d true c = refl
+quiet_note d false c = refl
+
+slots_asked : (ticket : ℕ) (before after : SiteState) (result : Result Bool BankError) → AskedOnce ticket before after result → KeepsSlots before.held after.held
+slots_asked ticket before after result asked = slots_kept before.held after.held (site.BankCall before.shared (TellsRecorded ticket result)) (λ o n step. step.slots) asked.told
+
+pub asked_known : (d : Doubt) (before after : SiteState) (stands : Bool) (note : Note) → note ≡ note_of d stands → AskedOnce d.ticket before after (Ok stands) → BankHasCause before after (Ok stands) → IsAsked before after (Ok (Some note))
+asked_known d before after stands note told asked c = record {
+  cause = record { later = c.later; failed = λ none. cc; disk = c.disk; shared = c.shared };
+  moment = asked.moment;
+  slots = slots_asked d.ticket before after (Ok stands) asked;
+  quiet = λ code. ap (λ n. count_by (note_tells code) (n ∷ [])) told ∙ quiet_note d stands code;
+}
+
+pub asked_failed : (d : Doubt) (before after : SiteState) (e : BankError) → AskedOnce d.ticket before after (Err e) → BankHasCause {T = Bool} before after (Err e) → IsAsked before after (Err e)
+asked_failed d before after e asked c = record {
+  cause = record { later = c.later; failed = λ is. let same : e ≡ Failed = cc in c.failed (ap (λ z. Err z) same); disk = c.disk; shared = c.shared };
+  moment = asked.moment;
+  slots = slots_asked d.ticket before after (Err e) asked;
+  quiet = λ code. refl;
+}

@@ -1,0 +1,93 @@
+//! A ticket in doubt: the backing database is asked whether it stands there.
+
+ghost use Rattle.std.specs.Prelude.{◌≡◌, None, OnOk, Some};
+ghost use Rattle.cache_tier.specs.DueWork.{DueDoubt};
+ghost use Rattle.stored_tier.specs.Stored.{IsSound};
+ghost use Rattle.session_engine.specs.Doubting.{IsReady, Leads};
+ghost use Rattle.session_engine.specs.Settling.{Forgets, IsAsked, KeepsRest, Settles, end_of, note_of, told_of};
+
+use crate::at_once::end_transaction;
+use crate::doubt::Doubt;
+use cache_tier::reply::Note;
+use cache_tier::{commit_shown_law, others_shown_law, round_shown_law, session_law};
+use open_sessions::laws::label_law;
+use order_laws::flow_skip_law;
+use outside::{BankError, Site};
+use stored_tier::tier::Tier;
+use tier_base::{SessionId, Ticket};
+
+/// Settles a doubt, where there is one. Where its transaction stands at the backing database (131) the stores do it,
+/// and where it doesn't (132) what the session has written is forgotten; its transaction ends in both cases. A question
+/// that failed, or for which memory was wanting at the backing database, changes nothing, and the doubt stays.
+///
+/// It takes no memory of its own: the room was made when the ticket was drawn. (TimesTen Cache User's Guide,
+/// "Synchronous writethrough"; the question is this project's rule.)
+pub fn settle_doubt<P: Site>(
+    tier: &mut Tier,
+    site: &mut P,
+    doubt: &mut Option<Doubt>,
+) -> Result<Option<Note>, BankError>
+    requires sound { IsSound tier.old }
+    requires ready { IsReady tier.old doubt.old }
+    ensures performs { Leads tier.old doubt.old tier.new doubt.new
+        (P.Disk.state site.old)
+        (P.Disk.state site.new)
+        (λ w w'. DueDoubt w w' (told_of result) (end_of result)) }
+    ensures settled { OnOk result (doubt.new ≡ None) }
+    ensures keeps { KeepsRest tier.old tier.new }
+    ensures sound { IsSound tier.new }
+    ensures ready { IsReady tier.new doubt.new }
+    ensures cause { IsAsked
+        (P.Disk.state site.old)
+        (P.Disk.state site.new)
+        result }
+{
+    label_law();
+    session_law();
+    commit_shown_law();
+    others_shown_law();
+    round_shown_law();
+    flow_skip_law();
+    let Some(asked) = doubt.take() else {
+        return Ok(None);
+    };
+    match site.recorded(Ticket(asked.ticket)) {
+        Err(error) => {
+            *doubt = Some(asked);
+            Err(error)
+        }
+        Ok(stands) => Ok(Some(settle(tier, asked, stands))),
+    }
+}
+
+// The transaction is done in the cache, too, or is forgotten, and it is told which.
+fn settle(tier: &mut Tier, asked: Doubt, stands: bool) -> Note
+    requires sound { IsSound tier.old }
+    requires ready { IsReady tier.old (Some asked) }
+    ensures settles { Settles tier.old tier.new asked.session stands }
+    ensures told { result ≡ note_of asked stands }
+    ensures sound { IsSound tier.new }
+{
+    let Doubt {
+        ticket,
+        session,
+        ops,
+    } = asked;
+    if stands {
+        end_transaction(tier, session, ops);
+        Note::Committed(Ticket(ticket))
+    } else {
+        forget(tier, session);
+        Note::RolledBack(Ticket(ticket))
+    }
+}
+
+// A session's transaction ends, and what it has written is forgotten. It takes no memory.
+fn forget(tier: &mut Tier, id: SessionId)
+    requires { IsSound tier.old }
+    ensures forgets { Forgets tier.old tier.new id }
+    ensures sound { IsSound tier.new }
+{
+    label_law();
+    tier.sessions.rest(id);
+}

@@ -1,0 +1,6 @@
+use Rattle.std.proofs.Common.{take}
+use Rattle.tier_journal.specs.Opening.{StandForAll, meanings}
+use Rattle.tier_journal.proofs.reading.read_entries.Given as goal
+
+abbrev pub invariant-loop-place : goal.invariant-loop-place
+invariant-loop-place l = StandForAll l.schema (meanings l.records.items) (take l.place-index l.entries)

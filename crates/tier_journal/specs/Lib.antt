@@ -1,0 +1,6 @@
+pub mod Writing
+pub mod Batches
+pub mod Keeping
+pub mod Leaving
+pub mod Opening
+pub mod Reading
