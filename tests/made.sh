@@ -30,6 +30,64 @@ printf '\n\r\n# a comment\r\n\n#' >silent
 : >empty
 drill no_input '! note Nothing comes.' empty 0 "$nothing"
 
+# The generated script of a number, by the shell's own numbers of 64 bits. The upper 31 bits of a state are drawn from.
+generated() {
+  local x=$1 kind key i
+  draw() { x=$((x * 6364136223846793005 + 1442695040888963407)); drawn=$((((x >> 33) & 0x7fffffff) % $1)); }
+  printf 'backing: CREATE TABLE %s, PRIMARY KEY (ID))\n' 'C (ID TT_INTEGER, NAME VARCHAR2(20)' 'R (ID TT_INTEGER, V TT_BIGINT'
+  printf 's1: %s\n' OPEN \
+    'CREATE ASYNCHRONOUS WRITETHROUGH CACHE GROUP GC FROM C (ID TT_INTEGER, NAME VARCHAR2(20), PRIMARY KEY (ID))' \
+    'CREATE READONLY CACHE GROUP GR AUTOREFRESH INTERVAL 5 SECONDS FROM R (ID TT_INTEGER, V TT_BIGINT, PRIMARY KEY (ID))' \
+    'LOAD CACHE GROUP GR'
+  for ((i = 1; i <= $1; i++)); do
+    draw 8; kind=$drawn
+    draw 100; key=$drawn
+    case $kind in
+      0) echo "s1: INSERT INTO C VALUES ($key, 'n$i')" ;;
+      1) echo "s1: UPDATE C SET NAME = 'u$i' WHERE ID = $key" ;;
+      2) echo "s1: DELETE FROM C WHERE ID = $key" ;;
+      3) echo "s1: SELECT * FROM C WHERE ID = $key" ;;
+      4) echo 's1: COMMIT' ;;
+      5) echo "backing: INSERT INTO R VALUES ($key, $i)" ;;
+      6) echo 'clock: +1000' ;;
+      7) echo 's1: CALL ttDrain' ;;
+    esac
+  done
+  printf 's1: COMMIT\ns1: CALL ttDrain\n'
+}
+
+# What its run comes to, against the keys that awk keeps: an INSERT of a key that is there is refused, a COMMIT of writes has a
+# ticket, and all that is committed comes to the backing database behind the two tables and the rows of R.
+summed() {
+  generated "$1" | awk -F'[(, ]+|= ' '
+  function key() { return $NF + 0 }
+  { requests++ }
+  /INSERT INTO C/ { if ($6 in c) { no++; next } c[$6]; writes++ }
+  /UPDATE C/ { if (key() in c) writes++ }
+  /DELETE FROM C/ { if (key() in c) { delete c[key()]; writes++ } }
+  /INSERT INTO R/ { if ($6 in r) { no++; next } r[$6]; rows++ }
+  /COMMIT/ { if (writes) tickets++; writes = 0 }
+  END { printf "requests %d\nok %d no %d fault 0\ntickets %d entries %d\n", requests, requests - no, no, tickets, 2 + rows + tickets }'
+}
+for number in 0 1 7 100; do
+  : >"make_$number.ttc"
+  echo "make $number" >"make_$number.words"
+  generated "$number" >"make_$number.expected"
+done
+for number in 0 1 100 1000; do
+  : >"bench_$number.ttc"
+  echo "bench $number" >"bench_$number.words"
+  summed "$number" >"bench_$number.expected"
+done
+
+# The script in pieces, with a sink that fails at the third, and without an input: no command of scripts reads one.
+generated 7 >script
+drill make_in_pieces $'! words make 7\n! pieces 100\n! source 1' empty 0 "$(cat script)"$'\n'"$nothing"
+drill make_with_a_broken_sink $'! words make 7\n! pieces 100\n! sink 3' empty 4 "$(head -c 200 script)"$'<cut>\n'"$nothing"
+drill bench_in_pieces $'! words bench 1\n! pieces 1\n! source 1' empty 0 \
+  $'requests 9\nok 9 no 0 fault 0\ntickets 0 entries 2\n'"$nothing"
+drill bench_with_a_broken_sink $'! words bench 0\n! pieces 1\n! sink 12' empty 4 $'requests 8\n<cut>\n'"$nothing"
+
 # A line of each kind, checked: taken, wrong at a byte, without a label, silent. The last has no line feed.
 printf '%s\n' 's1: OPEN' 's9: COMMIT' 's1: SELEC * FROM A' 's1: SELECT * FROM' '' '# SELEC' 's1 COMMIT' 's1:' COMMIT \
   $'backing: INSERT INTO A VALUES (1, 2);\r' 'backing: COMMIT' >lines

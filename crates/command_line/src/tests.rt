@@ -7,8 +7,8 @@ use std::process::Abort;
 use std::test::Fail;
 
 #[test]
-fn the_two_commands_are_taken_and_all_else_is_refused(rt: HostRuntime) -> Result<(), Fail> {
-    let rows: [(&[&str], Result<Command, CommandError>); 20] = [
+fn the_commands_are_taken_and_all_else_is_refused(rt: HostRuntime) -> Result<(), Fail> {
+    let rows: [(&[&str], Result<Command, CommandError>); 28] = [
         (&["ttcache", "run"], Ok(Command::Run)),
         (&["ttcache", "check"], Ok(Command::Check)),
         (&["other", "run"], Ok(Command::Run)),
@@ -28,7 +28,18 @@ fn the_two_commands_are_taken_and_all_else_is_refused(rt: HostRuntime) -> Result
         (&["ttcache", "--"], Err(CommandError::Refused)),
         (&["ttcache", "--", "run"], Err(CommandError::Refused)),
         (&["ttcache", "import", "A"], Err(CommandError::Refused)),
-        (&["ttcache", "make", "1"], Err(CommandError::Refused)),
+        (&["ttcache", "make", "0"], Ok(Command::Make(0))),
+        (
+            &["ttcache", "bench", "1000000"],
+            Ok(Command::Bench(1_000_000)),
+        ),
+        (&["ttcache", "make", "+5"], Ok(Command::Make(5))),
+        (&["ttcache", "bench", "005"], Ok(Command::Bench(5))),
+        (&["ttcache", "make"], Err(CommandError::Refused)),
+        (&["ttcache", "make", "-1"], Err(CommandError::Refused)),
+        (&["ttcache", "make", "1000001"], Err(CommandError::Refused)),
+        (&["ttcache", "bench", "x"], Err(CommandError::Refused)),
+        (&["ttcache", "bench", "5", "6"], Err(CommandError::Refused)),
     ];
     for (words, expected) in rows {
         assert_eq!(&rt; read_command(rt.alloc(), words), expected);

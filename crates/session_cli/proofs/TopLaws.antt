@@ -1,6 +1,7 @@
 -- A run that doesn't begin.
 use Rattle.std.proofs.Common.{◌≡◌, ◌⊎◌, ℕ, List, refl, sym, ◌∙◌, inl, inr, arith}
 use Rattle.command_line.specs.declared.command.Command.{Command}
+use Rattle.command_line.specs.declared.command.Command.TheVariants.{Run, Check}
 use Rattle.command_line.specs.declared.settings.Settings.{Settings}
 use Rattle.command_line.specs.Keys.{AreBad, IsSetBy}
 use Rattle.command_line.specs.Words.{Asks, Refuses}
@@ -32,6 +33,10 @@ pub none_left : (words : List (List ℕ)) (settings : List ℕ) (status : ℕ) �
 none_left words settings status (inl (one, refuses)) command asks s set = absurd (refuses asks.0)
 none_left words settings status (inr (inl (two, asked, bad))) command asks s set = absurd (bad s set)
 none_left words settings status (inr (inr seven)) command asks s set = seven
+
+pub none_left_of : (words : List (List ℕ)) (settings : List ℕ) (status : ℕ) → Unstarted words settings status → Asks words Run ⊎ Asks words Check → (s : Settings) → IsSetBy settings s → status ≡ 7
+none_left_of words settings status is (inl asks) s set = none_left words settings status is Run asks s set
+none_left_of words settings status is (inr asks) s set = none_left words settings status is Check asks s set
 
 pub no_other : (words : List (List ℕ)) (settings : List ℕ) (status n : ℕ) → Unstarted words settings status → (n ≡ 3) ⊎ (n ≡ 4) → status ≡ n → ⊥
 no_other words settings status n (inl (one, refuses)) (inl three) is = absurd (omega arith)

@@ -11,6 +11,8 @@ ghost use Rattle.command_line.specs.declared.settings.ClockSource.TheVariants.{S
 ghost use Rattle.command_line.specs.declared.settings.Settings.{Settings as Set};
 ghost use Rattle.command_line.specs.Keys.{AreBad, IsSetBy};
 ghost use Rattle.command_line.specs.Words.{Asks, Refuses, texts};
+ghost use Rattle.script_commands.specs.Commands.{Benches, Makes, number_of as number_of_end};
+ghost use Rattle.script_commands.specs.declared.commands.End.{End};
 ghost use Rattle.session_cli.specs.Checking.{AreChecked, CheckRuns};
 ghost use Rattle.session_cli.specs.Ends.{Runs, Takes, Unstarted, number_of};
 ghost use Rattle.session_cli.specs.Opening.{tier_settings};
@@ -27,6 +29,7 @@ use command_line::{
     settings_law,
 };
 use outside::{Clock, Sink, Site, Source};
+use script_commands::{make, tell_bench};
 use std::alloc::Global;
 use tier_base::Moment;
 
@@ -41,7 +44,7 @@ const NO_MEMORY: u8 = 7;
 
 /// The program, over its words, its settings and the world outside. The answer is its status:
 ///
-/// - 0: the input was read to its end.
+/// - 0: the input was read to its end; of `make` and `bench` all was written.
 /// - 1: exactly where `clap` refuses the words for another cause than memory. Nothing else is looked at.
 /// - 2: exactly where the words are taken and the settings are refused for another cause than memory: they are no TOML
 ///   table, or a key isn't known, or a value is of the wrong type or out of its range. Nothing else is looked at.
@@ -50,12 +53,14 @@ const NO_MEMORY: u8 = 7;
 /// - 6: in `run`, the site failed in this call as the tier asked it for its schema at the opening. No line is answered,
 ///   and neither source nor sink is touched.
 /// - 7: want of memory before the first request, the words', the settings' and the opening's included; no line is
-///   answered then. In `check` also want of memory for a line. A front of the replies is then written.
+///   answered then. In `check` also want of memory for a line. A front of the replies is then written. In `make` and
+///   `bench` want of memory anywhere outside a request; of the script a front is then written, of the summary nothing.
 /// - 10: exactly where 2^32 bytes were taken from the source without an end, and the sink took all replies. All lines
 ///   that ended in them are answered.
 ///
 /// `run` opens a tier over the site and lets it answer each line, and `check` says of each line whether it is spelt
-/// right. `check` calls neither site nor clock.
+/// right. `check` calls neither site nor clock. `make` writes the generated script of a number, and `bench` runs that
+/// script on a new site in memory and writes what its run comes to; both touch nothing but the sink.
 ///
 /// Of the settings three act in `run`. The moments of the opening and of each line that isn't empty or a comment are
 /// counted from `start_ms` where `clock` is `"script"`, and the clock isn't asked; where it is `"system"`, each from an
@@ -88,8 +93,17 @@ pub fn top<'a, S: Source, K: Sink, P: Site, C: Clock>(
     ensures checks { Asks (texts words.entry.now) Task.Check → (s : Set) → IsSetBy settings.now s
         → ((status : Status) × (result ≡ number_of status)
         × CheckRuns status (S.left source.old) (K.written sink.old) (S.left source.new) (K.written sink.new)) }
-    ensures takes { (task : Task) → Asks (texts words.entry.now) task → (s : Set) → IsSetBy settings.now s
-        → ((status : Status) × (result ≡ number_of status) × Takes status (S.left source.old) (S.left source.new)) }
+    // The number is the one that the words give.
+    ensures makes { (m : ℕ) → Asks (texts words.entry.now) (Task.Make m) → (s : Set) → IsSetBy settings.now s
+        → ((n : ℕ) × Asks (texts words.entry.now) (Task.Make n) × (end : End) × (result ≡ number_of_end end)
+        × Makes end n (K.written sink.old) (K.written sink.new)) }
+    ensures benches { (m : ℕ) → Asks (texts words.entry.now) (Task.Bench m) → (s : Set) → IsSetBy settings.now s
+        → ((n : ℕ) × Asks (texts words.entry.now) (Task.Bench n) × (end : End) × (result ≡ number_of_end end)
+        × Benches end n (K.written sink.old) (K.written sink.new)) }
+    ensures alone { (m : ℕ) → Asks (texts words.entry.now) (Task.Make m) ⊎ Asks (texts words.entry.now) (Task.Bench m)
+        → (source.new ≡ source.old) × (site.new ≡ site.old) × (clock.new ≡ clock.old) }
+    ensures takes { Asks (texts words.entry.now) Task.Run ⊎ Asks (texts words.entry.now) Task.Check
+        → (s : Set) → IsSetBy settings.now s → ((status : Status) × (result ≡ number_of status) × Takes status (S.left source.old) (S.left source.new)) }
     ensures read { result ≡ 3 → Rose (S.faults source.old) (S.faults source.new) }
     ensures write { result ≡ 4 → Rose (K.faults sink.old) (K.faults sink.new) }
     ensures unopened { result ≡ 6 → (source.new ≡ source.old) × (sink.new ≡ sink.old) }
@@ -113,6 +127,8 @@ pub fn top<'a, S: Source, K: Sink, P: Site, C: Clock>(
     match asked.command {
         Command::Run => run(alloc, &asked.settings, source, sink, site, clock).number(),
         Command::Check => check(alloc, source, sink).number(),
+        Command::Make(number) => make(alloc, sink, number).number(),
+        Command::Bench(number) => tell_bench(alloc, sink, number).number(),
     }
 }
 

@@ -1,7 +1,8 @@
 //! `ttcache`: a relational cache in front of a backing database.
 //!
 //! `ttcache run` reads request lines from standard input and writes replies to standard output; `ttcache check` says of
-//! each line whether it is spelt right. It ends with the status that `session_cli::top` answers, or with 11 where the
+//! each line whether it is spelt right. `ttcache make N` writes the generated script of a number, and `ttcache bench N`
+//! runs that script on a new site in memory and writes what its run comes to. It ends with the status that `session_cli::top` answers, or with 11 where the
 //! settings can't be read. Of each status other than 0 it says on standard error in one line what happened.
 #![tactic(auto)]
 
@@ -48,7 +49,7 @@ fn status(rt: &HostRuntime) -> u8 {
 fn meaning(status: u8) -> Option<&'static str> {
     match status {
         0 => None,
-        WRONG_WORDS => Some("usage: ttcache run | check"),
+        WRONG_WORDS => Some("usage: ttcache run | check | make N | bench N"),
         2 => Some("ttcache: ttcache.toml has an unknown key, a wrong type or a value out of range"),
         3 => Some("ttcache: standard input failed"),
         4 => Some("ttcache: standard output failed"),

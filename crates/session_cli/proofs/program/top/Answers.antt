@@ -2,11 +2,13 @@ use Rattle.std.proofs.Common.{refl, inl, inr, sym, ◌∙◌, ap}
 use Rattle.command_line.specs.declared.command.Command.TheVariants as command
 use Rattle.command_line.specs.declared.settings.Settings.{Settings}
 use Rattle.command_line.specs.Words.{texts}
+use Rattle.script_commands.specs.declared.commands.End.TheVariants as end
+use Rattle.std.proofs.KnownBytes.{Appends-nil}
 use Rattle.session_cli.specs.declared.serving.Status.TheVariants.{NoMemory}
 use Rattle.session_cli.specs.Opening.{tier_settings}
 use Rattle.session_cli.proofs.EndsLaws.{runs_unopened, taken_unstarted}
 use Rattle.session_cli.proofs.CheckLaws.{check_unstarted}
-use Rattle.session_cli.proofs.TopLaws.{words_of, refused_of, settings_of, bad_of, is_schema, none_left, no_other}
+use Rattle.session_cli.proofs.TopLaws.{words_of, refused_of, settings_of, bad_of, is_schema, none_left, none_left_of, no_other}
 use Rattle.session_cli.proofs.program.top.Goals as goal
 
 pub returns-in-Err-clause-words : goal.returns-in-Err-clause-words
@@ -28,7 +30,13 @@ pub returns-in-Err-clause-checks : goal.returns-in-Err-clause-checks
 returns-in-Err-clause-checks g c = λ asks s set. (NoMemory, none_left (texts c.args.words.now) c.args.settings.now c.in-Err.status c.in-Err.ensures command.Check asks s set, λ input start source sink. check_unstarted input start _ _ source sink)
 
 pub returns-in-Err-clause-takes : goal.returns-in-Err-clause-takes
-returns-in-Err-clause-takes g c = λ task asks s set. (NoMemory, none_left (texts c.args.words.now) c.args.settings.now c.in-Err.status c.in-Err.ensures task asks s set, λ input source. taken_unstarted input _ source)
+returns-in-Err-clause-takes g c = λ asks s set. (NoMemory, none_left_of (texts c.args.words.now) c.args.settings.now c.in-Err.status c.in-Err.ensures asks s set, λ input source. taken_unstarted input _ source)
+
+pub returns-in-Err-clause-makes : goal.returns-in-Err-clause-makes
+returns-in-Err-clause-makes g c = λ m asks s set. (m, asks, (end.NoMemory, none_left (texts c.args.words.now) c.args.settings.now c.in-Err.status c.in-Err.ensures (command.Make m) asks s set, (0, Appends-nil _)))
+
+pub returns-in-Err-clause-benches : goal.returns-in-Err-clause-benches
+returns-in-Err-clause-benches g c = λ m asks s set. (m, asks, (end.NoMemory, none_left (texts c.args.words.now) c.args.settings.now c.in-Err.status c.in-Err.ensures (command.Bench m) asks s set, refl))
 
 pub returns-in-Err-clause-read : goal.returns-in-Err-clause-read
 returns-in-Err-clause-read g c = λ three. absurd (no_other (texts c.args.words.now) c.args.settings.now c.in-Err.status 3 c.in-Err.ensures (inl refl) three)
@@ -69,3 +77,21 @@ returns-in-Check-clause-unopened g c = λ six. absurd (c.check.ensures.schema (i
 
 pub returns-in-Check-clause-schema : goal.returns-in-Check-clause-schema
 returns-in-Check-clause-schema g c = λ six. absurd (c.check.ensures.schema (is_schema c.check.result (sym c.number-in-Check.ensures ∙ six)))
+
+pub returns-in-Make-clause-bad : goal.returns-in-Make-clause-bad
+returns-in-Make-clause-bad g c = λ task asks bad. absurd (bad c.in-Ok.asked.settings c.in-Ok.ensures.1)
+
+pub returns-in-Bench-clause-bad : goal.returns-in-Bench-clause-bad
+returns-in-Bench-clause-bad g c = λ task asks bad. absurd (bad c.in-Ok.asked.settings c.in-Ok.ensures.1)
+
+pub returns-in-Make-clause-unread : goal.returns-in-Make-clause-unread
+returns-in-Make-clause-unread g c = λ auto. elim auto [
+  | inl refuses ↦ absurd (refuses c.in-Ok.ensures.0.0)
+  | inr bad ↦ absurd (bad c.in-Ok.asked.settings c.in-Ok.ensures.1)
+]
+
+pub returns-in-Bench-clause-unread : goal.returns-in-Bench-clause-unread
+returns-in-Bench-clause-unread g c = λ auto. elim auto [
+  | inl refuses ↦ absurd (refuses c.in-Ok.ensures.0.0)
+  | inr bad ↦ absurd (bad c.in-Ok.asked.settings c.in-Ok.ensures.1)
+]

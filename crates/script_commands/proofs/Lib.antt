@@ -1,0 +1,4 @@
+pub mod CountLaws
+pub mod RunningLaws
+pub mod BeginLaws
+pub mod BenchLaws

@@ -1,0 +1,8 @@
+use Rattle.std.proofs.Common.{◌*◌, ◌^◌}
+use Rattle.std.proofs.Math.Nat.{mod-add-mod}
+use Rattle.script_maker.specs.Script.{drawn}
+use Rattle.script_maker.proofs.drawing.drawn.Goals as goal
+
+pub returns : goal.returns
+unfolding drawn
+returns c = mod-add-mod (c.args.state * 6364136223846793005) (2 ^ 64) 1442695040888963407

@@ -1,0 +1,3 @@
+pub mod Script
+pub mod Giving
+pub mod Making
