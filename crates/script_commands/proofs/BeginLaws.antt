@@ -14,12 +14,12 @@ use Rattle.order_laws.specs.Steps.{MayBegin}
 -- transactions of others leave a state, and are no tickets
 others_leave : (shared : List TableId) (h others : List Entry) → AreOthers shared h others → (s : TableState) → state_of h ≡ Some s → ((t : ℕ) → has_ticket t h ≡ false) → Once h → MayBegin (h ++ others) 1
 others_leave shared h [] o s leaves none once = subst (λ (x : List Entry). MayBegin x 1) (sym (append-nil h)) (record {
-    state = s;
-    leaves = leaves;
-    once = once;
-    first = lit≤ tt;
-    below = λ t le. none t;
-  })
+  state = s;
+  leaves = leaves;
+  once = once;
+  first = lit≤ tt;
+  below = λ t le. none t;
+})
 others_leave shared h (Definition def ∷ others) o s leaves none once = absurd o
 others_leave shared h (Own ticket ops ∷ others) o s leaves none once = absurd o
 others_leave shared h (Foreign ops ∷ others) o s leaves none once =

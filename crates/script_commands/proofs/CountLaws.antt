@@ -18,32 +18,32 @@ same n m is = omega (arith, is)
 
 pub counts_push : (rs : List (Option Reply)) (r : Option Reply) (c c' : Counts) → c' ≡ counted r c → AreCounts rs c → AreCounts (rs ++ r ∷ []) c'
 counts_push rs None c c' is a = rw is (record {
-    requests = same _ _ (count_push is_some rs None c.requests 0 a.requests refl);
-    done = same _ _ (count_push (ends_in is_done) rs None c.done 0 a.done refl);
-    refused = same _ _ (count_push (ends_in is_no) rs None c.refused 0 a.refused refl);
-    faults = same _ _ (count_push (ends_in is_fault) rs None c.faults 0 a.faults refl);
-  })
+  requests = same _ _ (count_push is_some rs None c.requests 0 a.requests refl);
+  done = same _ _ (count_push (ends_in is_done) rs None c.done 0 a.done refl);
+  refused = same _ _ (count_push (ends_in is_no) rs None c.refused 0 a.refused refl);
+  faults = same _ _ (count_push (ends_in is_fault) rs None c.faults 0 a.faults refl);
+})
 counts_push rs (Some reply) c c' is a = by reply.last refl
   where
     by : (l : Last) → reply.last ≡ l → AreCounts (rs ++ Some reply ∷ []) c'
     by (Done n) last = rw (is, last) (record {
-        requests = count_push is_some rs (Some reply) c.requests 1 a.requests refl;
-        done = count_push (ends_in is_done) rs (Some reply) c.done 1 a.done (rw last refl);
-        refused = same _ _ (count_push (ends_in is_no) rs (Some reply) c.refused 0 a.refused (rw last refl));
-        faults = same _ _ (count_push (ends_in is_fault) rs (Some reply) c.faults 0 a.faults (rw last refl));
-      })
+      requests = count_push is_some rs (Some reply) c.requests 1 a.requests refl;
+      done = count_push (ends_in is_done) rs (Some reply) c.done 1 a.done (rw last refl);
+      refused = same _ _ (count_push (ends_in is_no) rs (Some reply) c.refused 0 a.refused (rw last refl));
+      faults = same _ _ (count_push (ends_in is_fault) rs (Some reply) c.faults 0 a.faults (rw last refl));
+    })
     by (No rule) last = rw (is, last) (record {
-        requests = count_push is_some rs (Some reply) c.requests 1 a.requests refl;
-        done = same _ _ (count_push (ends_in is_done) rs (Some reply) c.done 0 a.done (rw last refl));
-        refused = count_push (ends_in is_no) rs (Some reply) c.refused 1 a.refused (rw last refl);
-        faults = same _ _ (count_push (ends_in is_fault) rs (Some reply) c.faults 0 a.faults (rw last refl));
-      })
+      requests = count_push is_some rs (Some reply) c.requests 1 a.requests refl;
+      done = same _ _ (count_push (ends_in is_done) rs (Some reply) c.done 0 a.done (rw last refl));
+      refused = count_push (ends_in is_no) rs (Some reply) c.refused 1 a.refused (rw last refl);
+      faults = same _ _ (count_push (ends_in is_fault) rs (Some reply) c.faults 0 a.faults (rw last refl));
+    })
     by (Fault rule) last = rw (is, last) (record {
-        requests = count_push is_some rs (Some reply) c.requests 1 a.requests refl;
-        done = same _ _ (count_push (ends_in is_done) rs (Some reply) c.done 0 a.done (rw last refl));
-        refused = same _ _ (count_push (ends_in is_no) rs (Some reply) c.refused 0 a.refused (rw last refl));
-        faults = count_push (ends_in is_fault) rs (Some reply) c.faults 1 a.faults (rw last refl);
-      })
+      requests = count_push is_some rs (Some reply) c.requests 1 a.requests refl;
+      done = same _ _ (count_push (ends_in is_done) rs (Some reply) c.done 0 a.done (rw last refl));
+      refused = same _ _ (count_push (ends_in is_no) rs (Some reply) c.refused 0 a.refused (rw last refl));
+      faults = count_push (ends_in is_fault) rs (Some reply) c.faults 1 a.faults (rw last refl);
+    })
 
 -- and takes the room of a line
 pub room_push : (r : Option Reply) (c c' : Counts) (n : ℕ) → c' ≡ counted r c → HasRoom c (suc n) → HasRoom c' n

@@ -81,15 +81,18 @@ pub answers_one : (w : World) (lines left : List (List ℕ)) (old new : List ℕ
     → IsEnded engine.tier engine.doubt site (λ w'. LineStep 0 w new w' reply) → Answers w lines left c c' engine site true
 answers_one w [] left old new c c' reply engine site g clear count p = let bad = g.0 in cc
 answers_one w (line ∷ lines) left old new c c' reply engine site g clear count p =
-    let is : new ≡ line = g.2 ∙ ap (λ l. l ++ line) clear in
-    (refl, g.1, record {
-      reply = reply;
-      world = p.world;
-      step = subst (λ (l : List ℕ). LineStep 0 w l p.world reply) is p.is;
-      at = p.at;
-      stands = p.left;
-      count = count;
-    })
+    let is : new ≡ line = g.2 ∙ ap (λ l. l ++ line) clear in (
+      refl,
+      g.1,
+      record {
+        reply = reply;
+        world = p.world;
+        step = subst (λ (l : List ℕ). LineStep 0 w l p.world reply) is p.is;
+        at = p.at;
+        stands = p.left;
+        count = count;
+      },
+    )
 
 pub room_for : (lines left : List (List ℕ)) (old new : List ℕ) (c : Counts) → Gives lines left old new true → HasRoom c (length lines) → HasRoom c 1
 room_for [] left old new c g h = let bad = g.0 in cc
