@@ -24,27 +24,28 @@ others_leave shared h (Definition def ∷ others) o s leaves none once = absurd 
 others_leave shared h (Own ticket ops ∷ others) o s leaves none once = absurd o
 others_leave shared h (Foreign ops ∷ others) o s leaves none once =
     subst (λ (x : List Entry). MayBegin x 1) (append_assoc h (Foreign ops ∷ []) others)
-    (with_one (state_of (h ++ Foreign ops ∷ [])) refl (o.1 s leaves))
+    (with_one (λ state is. others_leave shared (h ++ Foreign ops ∷ []) others o.2 state is without (none_twice (h ++ Foreign ops ∷ []) without)) (state_of (h ++ Foreign ops ∷ [])) refl (o.1 s leaves))
   where
     without : (t : ℕ) → has_ticket t (h ++ Foreign ops ∷ []) ≡ false
     without t = has_ticket-append t h (Foreign ops ∷ []) ∙ ap (λ b. b || has_ticket t (Foreign ops ∷ [])) (none t)
 
     none_twice : (x : List Entry) → ((t : ℕ) → has_ticket t x ≡ false) → Once x
-    none_twice [] no = tt
-    none_twice (Definition def ∷ x) no = none_twice x no
-    none_twice (Foreign ops ∷ x) no = none_twice x no
-    none_twice (Own ticket ops ∷ x) no = (behind ticket.0, none_twice x behind)
+    none_twice [] free = tt
+    none_twice (Definition def ∷ x) free = none_twice x free
+    none_twice (Foreign ops ∷ x) free = none_twice x free
+    none_twice (Own ticket ops ∷ x) free = (behind ticket.0, none_twice x behind)
       where
         or_none : (a b : Bool) → (a || b) ≡ false → b ≡ false
         or_none true b is = cc
         or_none false b is = is
 
         behind : (t : ℕ) → has_ticket t x ≡ false
-        behind t = or_none (is_of t (Own ticket ops)) (has_ticket t x) (no t)
+        behind t = or_none (is_of t (Own ticket ops)) (has_ticket t x) (free t)
 
-    with_one : (x : Option TableState) → state_of (h ++ Foreign ops ∷ []) ≡ x → IsSome x → MayBegin ((h ++ Foreign ops ∷ []) ++ others) 1
-    with_one None is some = cc
-    with_one (Some state) is some = others_leave shared (h ++ Foreign ops ∷ []) others o.2 state is without (none_twice (h ++ Foreign ops ∷ []) without)
+    with_one : ((state : TableState) → state_of (h ++ Foreign ops ∷ []) ≡ Some state → MayBegin ((h ++ Foreign ops ∷ []) ++ others) 1)
+        → (x : Option TableState) → state_of (h ++ Foreign ops ∷ []) ≡ x → IsSome x → MayBegin ((h ++ Foreign ops ∷ []) ++ others) 1
+    with_one rest None is some = cc
+    with_one rest (Some state) is some = rest state is
 
 -- a new site's history is of others alone
 pub may_begin : (shared : List TableId) (others : List Entry) → AreOthers shared [] others → MayBegin others 1

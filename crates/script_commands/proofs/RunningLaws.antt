@@ -13,8 +13,8 @@ use Rattle.cache_engine.specs.Requests.{Given, LineRun, LineStep}
 use Rattle.script_maker.specs.Giving.{Gives}
 use Rattle.script_commands.specs.declared.counts.Counts.{Counts}
 use Rattle.script_commands.specs.Running.{Answered, Answers, Ends, Ran, from_zero}
-use Rattle.script_commands.specs.Summaries.{HasRoom, counted}
-use Rattle.script_commands.proofs.CountLaws.{counts_push, room_one, room_push}
+use Rattle.script_commands.specs.Summaries.{counted}
+use Rattle.script_commands.proofs.CountLaws.{counts_push}
 
 run_push : (w : World) (gs : List Given) (rs : List (Option Reply)) (w1 : World) (g : Given) (r : Option Reply) (w2 : World) → LineRun w gs rs w1 → LineStep g.base w1 g.bytes w2 r → LineRun w (gs ++ g ∷ []) (rs ++ r ∷ []) w2
 run_push w [] [] w1 g r w2 run step = (w2, subst (λ (x : World). LineStep g.base x g.bytes w2 r) run step, refl)
@@ -54,7 +54,7 @@ goes_new w lines left counts site engine is none at stands = record {
 }
 
 pub goes_next : (w : World) (lines left left' : List (List ℕ)) (c c' : Counts) (site site' : SiteState) (engine engine' : Engine) (g : GoesOn w lines left c site engine) → Answers g.world left left' c c' engine' site' true → GoesOn w lines left' c' site' engine'
-goes_next w lines [] left' c c' site site' engine engine' g (more, rest) = cc
+goes_next w lines [] left' c c' site site' engine engine' g a = let bad = a.0 in cc
 goes_next w lines (line ∷ left) left' c c' site site' engine engine' g (more, is, a) = record {
   given = g.given ++ line ∷ [];
   parts = ap (λ l. (g.given ++ line ∷ []) ++ l) is ∙ append_assoc g.given (line ∷ []) left ∙ g.parts;
@@ -65,18 +65,14 @@ goes_next w lines (line ∷ left) left' c c' site site' engine engine' g (more, 
 }
 
 pub goes_out : (w : World) (lines left left' : List (List ℕ)) (c c' : Counts) (site site' : SiteState) (engine engine' : Engine) (g : GoesOn w lines left c site engine) → Answers g.world left left' c c' engine' site' false → Ends w lines c' site'
-goes_out w lines (line ∷ left) left' c c' site site' engine engine' g (more, rest) = cc
+goes_out w lines (line ∷ left) left' c c' site site' engine engine' g a = let bad = a.0 in cc
 goes_out w lines [] left' c c' site site' engine engine' g (more, is, count, at, stands) = record {
   last = g.world;
   ran = subst (λ (x : Counts). Ran w lines x g.world) (sym count) (subst (λ (l : List (List ℕ)). Ran w l c g.world) (sym (append-nil g.given) ∙ g.parts) g.ran);
   at = at;
 }
 
--- a line was put, or none
-pub answers_none : (w : World) (lines left : List (List ℕ)) (old new : List ℕ) (c : Counts) (engine : Engine) (site : SiteState) → Gives lines left old new false → IsAt site w → IsLeftIn engine w → Answers w lines left c c engine site false
-answers_none w [] left old new c engine site g at stands = (refl, g.1, refl, at, stands)
-answers_none w (line ∷ lines) left old new c engine site g at stands = let bad = g.0 in cc
-
+-- a line was put
 pub answers_one : (w : World) (lines left : List (List ℕ)) (old new : List ℕ) (c c' : Counts) (reply : Option Reply) (engine : Engine) (site : SiteState) → Gives lines left old new true → old ≡ [] → c' ≡ counted reply c
     → IsEnded engine.tier engine.doubt site (λ w'. LineStep 0 w new w' reply) → Answers w lines left c c' engine site true
 answers_one w [] left old new c c' reply engine site g clear count p = let bad = g.0 in cc
@@ -93,26 +89,6 @@ answers_one w (line ∷ lines) left old new c c' reply engine site g clear count
         count = count;
       },
     )
-
-pub room_for : (lines left : List (List ℕ)) (old new : List ℕ) (c : Counts) → Gives lines left old new true → HasRoom c (length lines) → HasRoom c 1
-room_for [] left old new c g h = let bad = g.0 in cc
-room_for (line ∷ lines) left old new c g h = room_one c (length lines) h
-
-pub room_left : (lines left : List (List ℕ)) (old new : List ℕ) (c c' : Counts) (reply : Option Reply) → Gives lines left old new true → c' ≡ counted reply c → HasRoom c (length lines) → HasRoom c' (length left)
-room_left [] left old new c c' reply g is h = let bad = g.0 in cc
-room_left (line ∷ lines) left old new c c' reply g is h = rw g.1 (room_push reply c c' (length lines) is h)
-
-pub room_still : (lines left : List (List ℕ)) (old new : List ℕ) (c : Counts) → Gives lines left old new false → HasRoom c (length lines) → HasRoom c (length left)
-room_still [] left old new c g h = rw g.1 h
-room_still (line ∷ lines) left old new c g h = let bad = g.0 in cc
-
-pub clear_still : (lines left : List (List ℕ)) (old new : List ℕ) → Gives lines left old new false → old ≡ [] → new ≡ []
-clear_still [] left old new g clear = g.2 ∙ clear
-clear_still (line ∷ lines) left old new g clear = let bad = g.0 in cc
-
-pub fewer_left : (lines left : List (List ℕ)) (old new : List ℕ) → Gives lines left old new true → length left < length lines
-fewer_left [] left old new g = let bad = g.0 in cc
-fewer_left (line ∷ lines) left old new g = rw g.1 (omega arith)
 
 -- others change nothing
 pub unshared_at : (w : World) (site : SiteState) → IsAt site w → site.shared ≡ [] → IsUnshared w
