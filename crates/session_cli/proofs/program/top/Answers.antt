@@ -33,10 +33,10 @@ pub returns-in-Err-clause-takes : goal.returns-in-Err-clause-takes
 returns-in-Err-clause-takes g c = λ asks s set. (NoMemory, none_left_of (texts c.args.words.now) c.args.settings.now c.in-Err.status c.in-Err.ensures asks s set, λ input source. taken_unstarted input _ source)
 
 pub returns-in-Err-clause-makes : goal.returns-in-Err-clause-makes
-returns-in-Err-clause-makes g c = λ m asks s set. (m, asks, (end.NoMemory, none_left (texts c.args.words.now) c.args.settings.now c.in-Err.status c.in-Err.ensures (command.Make m) asks s set, (0, Appends-nil _)))
+returns-in-Err-clause-makes g c = λ m asks s set. (m, asks, end.NoMemory, none_left (texts c.args.words.now) c.args.settings.now c.in-Err.status c.in-Err.ensures (command.Make m) asks s set, (0, Appends-nil _))
 
 pub returns-in-Err-clause-benches : goal.returns-in-Err-clause-benches
-returns-in-Err-clause-benches g c = λ m asks s set. (m, asks, (end.NoMemory, none_left (texts c.args.words.now) c.args.settings.now c.in-Err.status c.in-Err.ensures (command.Bench m) asks s set, refl))
+returns-in-Err-clause-benches g c = λ m asks s set. (m, asks, end.NoMemory, none_left (texts c.args.words.now) c.args.settings.now c.in-Err.status c.in-Err.ensures (command.Bench m) asks s set, refl)
 
 pub returns-in-Err-clause-read : goal.returns-in-Err-clause-read
 returns-in-Err-clause-read g c = λ three. absurd (no_other (texts c.args.words.now) c.args.settings.now c.in-Err.status 3 c.in-Err.ensures (inl refl) three)
