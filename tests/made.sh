@@ -86,7 +86,7 @@ drill make_in_pieces $'! words make 7\n! pieces 100\n! source 1' empty 0 "$(cat 
 drill make_with_a_broken_sink $'! words make 7\n! pieces 100\n! sink 3' empty 4 "$(head -c 200 script)"$'<cut>\n'"$nothing"
 drill bench_in_pieces $'! words bench 1\n! pieces 1\n! source 1' empty 0 \
   $'requests 9\nok 9 no 0 fault 0\ntickets 0 entries 2\n'"$nothing"
-drill bench_with_a_broken_sink $'! words bench 0\n! pieces 1\n! sink 12' empty 4 $'requests 8\n<cut>\n'"$nothing"
+drill bench_with_a_broken_sink $'! words bench 0\n! pieces 1\n! sink 11' empty 4 $'requests 8<cut>\n'"$nothing"
 
 # A line of each kind, checked: taken, wrong at a byte, without a label, silent. The last has no line feed.
 printf '%s\n' 's1: OPEN' 's9: COMMIT' 's1: SELEC * FROM A' 's1: SELECT * FROM' '' '# SELEC' 's1 COMMIT' 's1:' COMMIT \
