@@ -40,16 +40,17 @@ use Rattle.sql_subset.specs.declared.stmt.GroupKind.TheVariants.{ReadOnly, Async
 use Rattle.sql_subset.specs.declared.stmt.GroupTable.{GroupTable}
 use Rattle.sql_subset.specs.declared.stmt.RefreshMode.TheVariants as mode
 use Rattle.sql_subset.specs.declared.stmt.RefreshState.TheVariants as state
+use Rattle.sql_subset.specs.declared.stmt.Stmt.TheVariants as statements
+use Rattle.sql_print.specs.Printed.{printed}
 use Rattle.cache_tier.specs.declared.group.AgingRule.{AgingRule}
 use Rattle.cache_tier.specs.declared.group.AgingRule.TheVariants.{ByTime, LastUse}
 use Rattle.cache_tier.specs.declared.group.GroupDef.{GroupDef}
 use Rattle.cache_tier.specs.Groups.{Group, defines_name, is_defined_on}
 use Rattle.cache_tier.specs.Rules.{at_limit, broken_if, lettered, named, no_type, plain, rule_in}
 
--- the text of the definition that the journal keeps, which reads back as the definition: here its name stands for it,
--- in the product the printed statement
+-- the text of the definition that the journal keeps, which reads back as the definition's normal form
 abbrev pub text_of : CreateGroup → List ℕ
-text_of d = d.name
+text_of d = printed (statements.CreateGroup d)
 
 abbrev pub is_read_only_kind : GroupKind → Bool
 is_read_only_kind ReadOnly = true

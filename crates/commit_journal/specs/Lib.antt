@@ -1,4 +1,5 @@
 pub mod Causes
+pub mod Telling
 pub mod Layout
 pub mod Resting
 pub mod Batching

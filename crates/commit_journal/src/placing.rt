@@ -2,6 +2,7 @@
 
 ghost use Rattle.std.specs.Prelude.{◌≡◌, ◌≤◌, ◌<◌, ◌+◌, ◌^◌, ℕ, List, ◌∷◌, ◌++◌, length, OnOk, ◌⊎◌};
 ghost use Rattle.commit_journal.specs.Batching.{HasBatch, MidBatch};
+ghost use Rattle.commit_journal.specs.Telling.{StillTells};
 ghost use Rattle.outside.specs.Calls.{Certain, Changes, Leaves, Torn, patched};
 ghost use Rattle.outside.specs.Faults.{DiskHasCause};
 ghost use Rattle.outside.specs.Holding.{Held, other, slot_of, with_bytes};
@@ -16,6 +17,7 @@ pub(crate) fn put<D: Disk>(d: &mut D, slot: Slot, at: u64, bytes: &[u8]) -> Resu
     ensures certain { OnOk result ((o : Held) → Certain D.state D.possible d.old o
         → at ≤ length (slot_of slot o.slots)
         → Certain D.state D.possible d.new (with_bytes slot (patched at bytes.now (slot_of slot o.slots)) o)) }
+    ensures tells { StillTells (D.state d.old) (D.state d.new) }
     ensures cause { DiskHasCause (D.state d.old) (D.state d.new) result }
 {
     d.write_at(slot, at, bytes)?;
@@ -37,6 +39,7 @@ pub(crate) fn write_batch<D: Disk>(
     ensures batch { OnOk result ((o : Held) (front junk : List ℕ) (g : ℕ) → Certain D.state D.possible d.old o
         → slot_of slot o.slots ≡ front ++ g ∷ junk → gate ≡ length front
         → HasBatch D.state D.possible d.new slot front bytes.now o) }
+    ensures tells { StillTells (D.state d.old) (D.state d.new) }
     ensures cause { DiskHasCause (D.state d.old) (D.state d.new) result }
 {
     put(d, slot, gate + 1, bytes)?;

@@ -8,6 +8,7 @@ ghost use Rattle.outside.specs.Holding.{Held, Slots};
 ghost use Rattle.journal_entries.specs.declared.entry.Entry.{Entry as OneEntry};
 ghost use Rattle.journal_entries.specs.Spelling.{entry_bytes, IsEntry};
 ghost use Rattle.journal_entries.specs.Bodies.{behind, follows};
+ghost use Rattle.commit_journal.specs.Telling.{StillTells};
 ghost use Rattle.commit_journal.specs.Resting.{AtRest, HasFlushed, HasRoom, HasSameEntries, IsPastLimit, IsSameSlot, MidFlush, Rested, Spells};
 
 use crate::fault::ReserveError;
@@ -95,6 +96,7 @@ impl Journal {
             → AtRest self.old o.slots flushed tail → Rested D.state D.possible d.new self.new o (flushed ++ tail) []) }
         ensures standing { self.new.standing ≡ self.old.standing }
         ensures place { OnOk result (HasFlushed self.old self.new) }
+        ensures tells { StillTells (D.state d.old) (D.state d.new) }
         ensures cause { DiskHasCause (D.state d.old) (D.state d.new) result }
     {
         if self.staged.len() == 4 {
@@ -116,6 +118,7 @@ impl Journal {
         ensures slot { self.new.slot ≡ self.old.slot }
         ensures version { self.new.version ≡ self.old.version }
         ensures generation { self.new.generation ≡ self.old.generation }
+        ensures tells { StillTells (D.state d.old) (D.state d.new) }
         ensures cause { DiskHasCause (D.state d.old) (D.state d.new) result }
     {
         seal(&mut self.staged);

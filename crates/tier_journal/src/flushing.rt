@@ -5,6 +5,7 @@ ghost use Rattle.table_defs.specs.declared.definition.TableDef.{TableDef};
 ghost use Rattle.outside.specs.Calls.{Certain, Leaves};
 ghost use Rattle.outside.specs.Faults.{DiskHasCause};
 ghost use Rattle.outside.specs.Holding.{Held};
+ghost use Rattle.commit_journal.specs.Telling.{StillTells};
 ghost use Rattle.cache_tier.specs.Journals.{Journal, JournalEntry, flushed_with};
 ghost use Rattle.cache_tier.specs.JournalSteps.{name_size};
 ghost use Rattle.tier_journal.specs.Batches.{Holds};
@@ -27,6 +28,7 @@ impl TierJournal {
             → KeepsOn D.state D.possible d.new schema self.new o (flushed_with (name_size schema) [] j)) }
         ensures standing { standing_in self.new ≡ standing_in self.old }
         ensures version { OnOk result (version_in self.new ≡ version_in self.old) }
+        ensures tells { StillTells (D.state d.old) (D.state d.new) }
         ensures cause { DiskHasCause (D.state d.old) (D.state d.new) result }
     {
         self.journal.flush(d)?;
@@ -48,6 +50,7 @@ impl TierJournal {
             → KeepsOn D.state D.possible d.new schema self.new o (flushed_with (name_size schema) entries j)) }
         ensures standing { standing_in self.new ≡ batch.now.standing }
         ensures version { OnOk result (version_in self.new ≡ version_in self.old) }
+        ensures tells { StillTells (D.state d.old) (D.state d.new) }
         ensures cause { DiskHasCause (D.state d.old) (D.state d.new) result }
     {
         self.note(batch);
