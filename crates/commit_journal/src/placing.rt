@@ -18,6 +18,7 @@ pub(crate) fn put<D: Disk>(d: &mut D, slot: Slot, at: u64, bytes: &[u8]) -> Resu
         → at ≤ length (slot_of slot o.slots)
         → Certain D.state D.possible d.new (with_bytes slot (patched at bytes.now (slot_of slot o.slots)) o)) }
     ensures tells { StillTells (D.state d.old) (D.state d.new) }
+    ensures moment { (D.state d.old).moment ≤ (D.state d.new).moment }
     ensures cause { DiskHasCause (D.state d.old) (D.state d.new) result }
 {
     d.write_at(slot, at, bytes)?;
@@ -40,6 +41,7 @@ pub(crate) fn write_batch<D: Disk>(
         → slot_of slot o.slots ≡ front ++ g ∷ junk → gate ≡ length front
         → HasBatch D.state D.possible d.new slot front bytes.now o) }
     ensures tells { StillTells (D.state d.old) (D.state d.new) }
+    ensures moment { (D.state d.old).moment ≤ (D.state d.new).moment }
     ensures cause { DiskHasCause (D.state d.old) (D.state d.new) result }
 {
     put(d, slot, gate + 1, bytes)?;

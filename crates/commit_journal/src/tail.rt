@@ -97,6 +97,7 @@ impl Journal {
         ensures standing { self.new.standing ≡ self.old.standing }
         ensures place { OnOk result (HasFlushed self.old self.new) }
         ensures tells { StillTells (D.state d.old) (D.state d.new) }
+        ensures moment { (D.state d.old).moment ≤ (D.state d.new).moment }
         ensures cause { DiskHasCause (D.state d.old) (D.state d.new) result }
     {
         if self.staged.len() == 4 {
@@ -119,6 +120,7 @@ impl Journal {
         ensures version { self.new.version ≡ self.old.version }
         ensures generation { self.new.generation ≡ self.old.generation }
         ensures tells { StillTells (D.state d.old) (D.state d.new) }
+        ensures moment { (D.state d.old).moment ≤ (D.state d.new).moment }
         ensures cause { DiskHasCause (D.state d.old) (D.state d.new) result }
     {
         seal(&mut self.staged);

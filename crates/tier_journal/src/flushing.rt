@@ -1,6 +1,6 @@
 //! Flushing the tail.
 
-ghost use Rattle.std.specs.Prelude.{◌≡◌, List, [], OnOk};
+ghost use Rattle.std.specs.Prelude.{◌≡◌, ◌≤◌, List, [], OnOk};
 ghost use Rattle.table_defs.specs.declared.definition.TableDef.{TableDef};
 ghost use Rattle.outside.specs.Calls.{Certain, Leaves};
 ghost use Rattle.outside.specs.Faults.{DiskHasCause};
@@ -29,6 +29,7 @@ impl TierJournal {
         ensures standing { standing_in self.new ≡ standing_in self.old }
         ensures version { OnOk result (version_in self.new ≡ version_in self.old) }
         ensures tells { StillTells (D.state d.old) (D.state d.new) }
+        ensures moment { (D.state d.old).moment ≤ (D.state d.new).moment }
         ensures cause { DiskHasCause (D.state d.old) (D.state d.new) result }
     {
         self.journal.flush(d)?;
@@ -51,6 +52,7 @@ impl TierJournal {
         ensures standing { standing_in self.new ≡ batch.now.standing }
         ensures version { OnOk result (version_in self.new ≡ version_in self.old) }
         ensures tells { StillTells (D.state d.old) (D.state d.new) }
+        ensures moment { (D.state d.old).moment ≤ (D.state d.new).moment }
         ensures cause { DiskHasCause (D.state d.old) (D.state d.new) result }
     {
         self.note(batch);
