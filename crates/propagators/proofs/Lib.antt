@@ -1,3 +1,4 @@
 mod RoundSteps
 mod LeftLaws
 mod FollowLaws
+pub mod CertainLaws

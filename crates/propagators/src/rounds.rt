@@ -5,6 +5,7 @@ ghost use Rattle.std.specs.Result.{OnOk};
 ghost use Rattle.outside.specs.Calls.{BankTold};
 ghost use Rattle.outside.specs.Holding.{Held};
 ghost use Rattle.row_types.specs.declared.value.Value.{Value};
+ghost use Rattle.propagators.specs.Certainty.{KeepsCertain};
 ghost use Rattle.propagators.specs.Rounds.{DifferedAt, IsRestOf, RoundHasCause, RoundTold, Settles, doubts};
 ghost use Rattle.propagators.specs.declared.rounds.RoundFault.TheVariants as stop;
 
@@ -53,6 +54,7 @@ pub fn round<P: Site>(site: &mut P, unsettled: &mut VecDeque<Sealed>) -> Result<
         → IsSome (P.Disk.state site.old).held → (held : Held) → (P.Disk.state site.new).held ≡ Some held
         → DifferedAt (P.Disk.state site.old).shared table key unsettled.new.items held.history }
     ensures moment { (P.Disk.state site.old).moment ≤ (P.Disk.state site.new).moment }
+    ensures certain { KeepsCertain P.Disk.state P.Disk.possible site.old site.new }
     ensures cause { RoundHasCause (P.Disk.state site.old) (P.Disk.state site.new) result }
 {
     let mut receipts = 0;
@@ -68,6 +70,7 @@ pub fn round<P: Site>(site: &mut P, unsettled: &mut VecDeque<Sealed>) -> Result<
 fn settle<P: Site>(site: &mut P, sealed: &Sealed) -> Result<(), RoundFault>
     ensures told { BankTold (P.Disk.state site.old) (P.Disk.state site.new) (Settles sealed.now result) }
     ensures moment { (P.Disk.state site.old).moment ≤ (P.Disk.state site.new).moment }
+    ensures certain { KeepsCertain P.Disk.state P.Disk.possible site.old site.new }
     ensures cause { RoundHasCause (P.Disk.state site.old) (P.Disk.state site.new) result }
 {
     match site.apply_once(sealed, &[]) {

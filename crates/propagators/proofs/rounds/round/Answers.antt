@@ -3,6 +3,7 @@ use Rattle.std.specs.Prelude.{Result}
 use Rattle.std.proofs.lemmas.List.{length-drop}
 use Rattle.propagators.specs.Rounds.{TellsRound, doubts, doubts_at}
 use Rattle.propagators.specs.declared.rounds.RoundFault.{RoundFault}
+use Rattle.propagators.proofs.CertainLaws.{certain_then, same_certain}
 use Rattle.propagators.proofs.RoundSteps.{first_differs, first_leaves, goes_on, goes_same, settled_goes, shared_call, stopped_goes, told_stays}
 use Rattle.propagators.proofs.rounds.round.Goals as goal
 
@@ -16,6 +17,7 @@ loop-sealed-init g c = record {
   disk = refl;
   shared = refl;
   moment = Prim.omega arith;
+  certain = same_certain g.P.Disk.state g.P.Disk.possible c.args.site.now;
 }
 
 pub returns-in_err-settle-clause-goes : goal.returns-in_err-settle-clause-goes
@@ -55,6 +57,7 @@ loop-sealed-preserved g c =
       disk = c.settle.ensures.cause.disk ∙ c.loop-sealed.invariant.disk;
       shared = c.settle.ensures.cause.shared ∙ c.loop-sealed.invariant.shared;
       moment = Prim.omega (arith, c.loop-sealed.invariant.moment, c.settle.ensures.moment);
+      certain = certain_then g.P.Disk.state g.P.Disk.possible c.args.site.now c.loop-sealed.site c.settle.new.site c.loop-sealed.invariant.certain c.settle.ensures.certain;
     }
 
 pub returns-in_err-settle-clause-differs : goal.returns-in_err-settle-clause-differs
@@ -63,3 +66,7 @@ returns-in_err-settle-clause-differs g c = λ table key is some held tells.
     let s = c.in-Some.sealed.now in
     let e : items ≡ s ∷ drop 1 items = first_leaves items s c.in-Some.ensures.item.3.0 c.in-Some.ensures.lookup in
     first_differs (g.P.Disk.state c.args.site.now).shared (g.P.Disk.state c.loop-sealed.site).held (g.P.Disk.state c.settle.new.site).held items (drop 1 items) s c.in_err-settle.field-0.0 table key e (shared_call _ _ _ _ _ c.loop-sealed.invariant.shared c.in_err-settle.ensures.told) (Prim.search rules) (c.loop-sealed.invariant.tells some) held tells
+
+pub returns-in_err-settle-clause-certain : goal.returns-in_err-settle-clause-certain
+returns-in_err-settle-clause-certain g c =
+    certain_then g.P.Disk.state g.P.Disk.possible c.args.site.now c.loop-sealed.site c.settle.new.site c.loop-sealed.invariant.certain c.settle.ensures.certain

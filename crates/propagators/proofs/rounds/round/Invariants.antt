@@ -1,6 +1,7 @@
 -- A round goes on, and what left and what is left are as many as there were.
 use Rattle.std.proofs.Common.{◌≡◌, ◌≤◌, ◌+◌, length}
 use Rattle.std.specs.Option.{IsSome}
+use Rattle.propagators.specs.Certainty.{KeepsCertain}
 use Rattle.propagators.specs.Rounds.{IsRestOf, TellsRound}
 use Rattle.propagators.proofs.rounds.round.Given as goal
 
@@ -14,6 +15,7 @@ invariant-loop-sealed g l = record {
   disk : (g.P.Disk.state l.site).disk_faults ≡ (g.P.Disk.state l.fn.site).disk_faults;
   shared : (g.P.Disk.state l.site).shared ≡ (g.P.Disk.state l.fn.site).shared;
   moment : (g.P.Disk.state l.fn.site).moment ≤ (g.P.Disk.state l.site).moment;
+  certain : KeepsCertain g.P.Disk.state g.P.Disk.possible l.fn.site l.site;
 }
 
 abbrev pub decreases-loop-sealed : goal.decreases-loop-sealed
