@@ -2,6 +2,7 @@ pub mod BankLaws
 pub mod DrainLaws
 pub mod LaterLaws
 pub mod NamingLaws
+pub mod OverLaws
 pub mod OwnSeen
 pub mod QuietLaws
 pub mod RoundLaws

@@ -68,12 +68,11 @@ stands_behind old new w a is waits stored rows stays = record {
   stored = stored;
   shows = rows ∙ is.shows ∙ sym stays.same;
   stands = stays.stands;
-  unkept = is.unkept;
   waits = waits;
 }
 
 pub stands_still : (old new : Stored) (w : World) → StandsFor old w → IsStoredAs new w.tier → rows_of new ≡ rows_of old → StandsFor new w
-stands_still old new w is stored rows = record { stored = stored; shows = rows ∙ is.shows; stands = is.stands; unkept = is.unkept; waits = is.waits }
+stands_still old new w is stored rows = record { stored = stored; shows = rows ∙ is.shows; stands = is.stands; waits = is.waits }
 
 -- the same with another note of what is verified
 pub stored_noted : (t : Stored) (b : Bool) (a : Tier) → IsStoredAs t a → IsStoredAs (record t { verified = b }) a

@@ -22,9 +22,9 @@ use Rattle.outside.specs.Holding.{Held}
 use Rattle.propagators.specs.declared.rounds.RoundFault.{RoundFault}
 use Rattle.propagators.specs.declared.rounds.RoundFault.TheVariants as stop
 use Rattle.propagators.specs.Rounds.{AreUnshared, HoldsRound, IsRestOf, Leads, Round as BankRound, TellsRound, doubts_at, left_in}
-use Rattle.cache_tier.specs.JournalSteps.{FlushesKept}
-use Rattle.cache_tier.specs.Rotations.{Rotates}
-use Rattle.cache_tier.specs.Rounds.{AllLeft, Applies, Differing, Drained, Drains, Failing, Round, RoundEnd, RoundIfUnsettled, Wanting, is_unsettled, round_stop}
+use Rattle.cache_tier.specs.JournalSteps.{Flushes}
+use Rattle.cache_tier.specs.Rotations.{Kept as Unturned, Rotates, RotatesIfLong, is_long}
+use Rattle.cache_tier.specs.Rounds.{AllLeft, Applies, AppliesAndRotates, Differing, Drained, Drains, Failing, Round, RoundEnd, RoundIfUnsettled, Wanting, is_unsettled, round_stop}
 use Rattle.cache_tier.specs.Routes.{table_name}
 use Rattle.cache_tier.specs.Shown.{shown_state}
 use Rattle.cache_tier.specs.Steps.{tells}
@@ -37,8 +37,11 @@ use Rattle.cache_tier.specs.StandingBetween.{Stands, live_groups_of}
 use Rattle.cache_tier.proofs.GroupTables.{live_table}
 use Rattle.group_catalog.specs.Catalogs.{groups_in}
 use Rattle.stored_tier.specs.declared.tier.Tier.{Tier as Stored}
-use Rattle.stored_tier.specs.Draining.{SettlesAll, settled_reply}
-use Rattle.stored_tier.specs.Performing.{IsCaused, IsPerformed, KeepsSlots, Performs, StandsFor, stop_of}
+use Rattle.propagators.specs.Certainty.{KeepsCertain}
+use Rattle.tier_journal.specs.declared.journal.TierJournal.{TierJournal}
+use Rattle.kept_journal.specs.Keeping.{DiskIsCaused, WritesOver, is_broken, over_disk}
+use Rattle.stored_tier.specs.Draining.{SettlesAll, settled_reply, settled_stop}
+use Rattle.stored_tier.specs.Performing.{IsCaused, IsPerformed, KeepsSlots, Performs, PerformsOver, StandsFor, stop_of}
 use Rattle.stored_tier.specs.Refusing.{TellsDifference, TellsRoundEnd}
 use Rattle.stored_tier.specs.Sites.{IsAt}
 use Rattle.outside.specs.Sites.{SiteState}
@@ -46,6 +49,7 @@ use Rattle.stored_tier.proofs.LaterLaws.{later_rest}
 use Rattle.pending_writes.specs.Noting.{TellsWriters}
 use Rattle.stored_tier.specs.Stored.{IsSound, IsStoredAs, are_later, first_unsettled, rows_of}
 use Rattle.stored_tier.proofs.BankLaws.{behind, told_behind}
+use Rattle.stored_tier.proofs.OverLaws.{at_written, flush_breaks, keeps_called, never_both, stands_written, unsettled_kept}
 use Rattle.stored_tier.proofs.RoundLaws.{LeftLaw, is_left, round_seen, unsure_at}
 use Rattle.stored_tier.proofs.WriterLaws.{writers_rest}
 use Rattle.stored_tier.proofs.StandingLaws.{last_rest, performed_behind, performed_here, slots_kept}
@@ -74,25 +78,39 @@ pub record AreLaws : Type 0 where
 pub unshared_live : (w : World) → IsUnshared w → AreUnshared (live_tables (live_groups_of w.tier.groups)) w.shared
 unshared_live w apart t is = live_table w.tier.groups t ∙ apart t is
 
--- where no journal is kept, what applies at the bank is a round
-pub round_of_applies : (w w' : World) (end : Option Reply) → w.journal.kept ≡ false → Applies w w' end → Round w w' end
-round_of_applies w w' end unkept applies = record {
-  mid = w;
-  stop = None;
-  first = subst (λ b. MatchBool b (FlushesKept [] w w None) (Passes w w None)) (sym unkept) (refl, refl);
-  next = record {
-    mid = w';
-    applied = end;
-    turned = None;
-    applies = applies;
-    rotates =
-        subst (λ b. MatchBool b (Rotates w' w' None) (Passes w' w' None))
-        (sym (ap (λ j. j.kept && nat_lt w'.tier.settings.rotate_bytes j.written) applies.journal
-        ∙ ap (λ b. b && nat_lt w'.tier.settings.rotate_bytes w.journal.written) unkept))
-        (refl, refl);
-    end = refl;
-  };
+-- what is applied at the bank, and a journal that isn't begun anew, are what follows a flush
+goes_unturned : (w : World) → RotatesIfLong w w None
+goes_unturned w = by (is_long w)
+  where
+    by : (long : Bool) → MatchBool long (Rotates w w None) (Passes w w None)
+    by true = record {
+      result = Unturned;
+      tier = refl;
+      history = refl;
+      journal = refl;
+      bank = refl;
+      disk = omega arith;
+      moment = omega arith;
+      shared = refl;
+      end = refl;
+    }
+    by false = (refl, refl)
+
+applies_alone : (w w' : World) (end : Option Reply) → Applies w w' end → AppliesAndRotates w w' end
+applies_alone w w' end applies = record {
+  mid = w';
+  applied = end;
+  turned = None;
+  applies = applies;
+  rotates = goes_unturned w';
+  end = refl;
 }
+
+-- a round behind the flush: journal and schema stay
+pub record IsApplied (w w' : World) (end : Option Reply) : Type 0 where
+  pub does : AppliesAndRotates w w' end
+  pub journal : w'.journal ≡ w.journal
+  pub schema : w'.tier.schema ≡ w.tier.schema
 
 -- what is stored behind a round
 
@@ -167,7 +185,7 @@ round_of w t new before few was now shared history unsettled held =
 
 -- the world behind a round with this end
 applied : AreLaws → (t new : Stored) (before after : SiteState) (few : ℕ) (end : RoundEnd) → IsTried t new → RoundAt t.unsettled.items new.unsettled.items before after few → AllLeft end new.unsettled.items → IsSound t
-    → Performs t new before after (λ w w'. Round w w' (round_stop w.tier end))
+    → Performs t new before after (λ w w'. IsApplied w w' (round_stop w.tier end))
 applied laws t new before after few end tried round all sound w at stands apart =
     let left = new.unsettled.items in
     let a = settled_tier w.tier left in
@@ -197,26 +215,31 @@ applied laws t new before after few end tried round all sound w at stands apart 
       shared = refl;
       end = refl;
     } in
-    performed_behind new before after w a now.there (λ w'. Round w w' (round_stop w.tier end)) at now.told round.shares stands.unkept
+    performed_behind new before after w a now.there (λ w'. IsApplied w w' (round_stop w.tier end)) at now.told round.shares
     (last_rest w.tier.log w.tier.unsettled (left_in bank.events) left (laws.left w.shared few w.tier.unsettled left w.history now.there.history bank) stands.waits)
     (stored_settled t new w.tier stands.stored tried)
     (rows_settled t new tried ∙ stands.shows ∙ sym stays.same)
     stays.stands
-    (round_of_applies w (behind w a now.there after) (round_stop w.tier end) stands.unkept applies)
+    (record { does = applies_alone w (behind w a now.there after) (round_stop w.tier end) applies; journal = refl; schema = refl })
 
-pub settled_all : AreLaws → (t new : Stored) (before after : SiteState) (receipts : ℕ) → IsTried t new → RoundAt t.unsettled.items new.unsettled.items before after 0 → new.unsettled.items ≡ [] → receipts ≡ length t.unsettled.items → IsSound t → Performs t new before after (λ w w'. SettlesAll w w' (Ok receipts))
+-- the same with what is answered
+abbrev pub AppliesAll : World → World → Result ℕ Reply → Type 0
+AppliesAll w w' (Ok receipts) = IsApplied w w' None × (receipts ≡ length w.tier.unsettled)
+AppliesAll w w' (Err reply) = IsApplied w w' (Some reply)
+
+pub settled_all : AreLaws → (t new : Stored) (before after : SiteState) (receipts : ℕ) → IsTried t new → RoundAt t.unsettled.items new.unsettled.items before after 0 → new.unsettled.items ≡ [] → receipts ≡ length t.unsettled.items → IsSound t → Performs t new before after (λ w w'. AppliesAll w w' (Ok receipts))
 settled_all laws t new before after receipts tried round all count sound w at stands apart =
     let it = applied laws t new before after 0 Drained tried round all sound w at stands apart in
     record { world = it.world; at = it.at; stands = it.stands; is = (it.is, count ∙ ap length (sym stands.stored.unsettled)) }
 
-ended : AreLaws → (t new : Stored) (before after : SiteState) (few : ℕ) (end : RoundEnd) (reply : Reply) → IsTried t new → RoundAt t.unsettled.items new.unsettled.items before after few → AllLeft end new.unsettled.items → ((a : Tier) → IsStoredAs t a → round_stop a end ≡ Some reply) → IsSound t → Performs t new before after (λ w w'. SettlesAll w w' (Err reply))
+ended : AreLaws → (t new : Stored) (before after : SiteState) (few : ℕ) (end : RoundEnd) (reply : Reply) → IsTried t new → RoundAt t.unsettled.items new.unsettled.items before after few → AllLeft end new.unsettled.items → ((a : Tier) → IsStoredAs t a → round_stop a end ≡ Some reply) → IsSound t → Performs t new before after (λ w w'. AppliesAll w w' (Err reply))
 ended laws t new before after few end reply tried round all is sound w at stands apart =
     let it = applied laws t new before after few end tried round all sound w at stands apart in
     record {
       world = it.world;
       at = it.at;
       stands = it.stands;
-      is = subst (λ stop. Round w it.world stop) (is w.tier stands.stored) it.is;
+      is = subst (λ stop. IsApplied w it.world stop) (is w.tier stands.stored) it.is;
     }
 
 pub name_of_table : (a : Tier) (table : TableId) (def : TableDef) → slice_get a.schema table.0 ≡ Some def → table_name a table ≡ def.name
@@ -236,7 +259,7 @@ still_told t new (stop.Differs table key) reply same told = elim told [
   | inr other ↦ inr other
 ]
 
-pub settled_so_far : AreLaws → (t new : Stored) (before after : SiteState) (fault : RoundFault) (reply : Reply) → IsTried t new → RoundAt t.unsettled.items new.unsettled.items before after (doubts_at fault) → TellsRoundEnd t fault reply → IsSound t → Performs t new before after (λ w w'. SettlesAll w w' (Err reply))
+pub settled_so_far : AreLaws → (t new : Stored) (before after : SiteState) (fault : RoundFault) (reply : Reply) → IsTried t new → RoundAt t.unsettled.items new.unsettled.items before after (doubts_at fault) → TellsRoundEnd t fault reply → IsSound t → Performs t new before after (λ w w'. AppliesAll w w' (Err reply))
 settled_so_far laws t new before after stop.Failed reply tried round told sound = ended laws t new before after 1 Failing reply tried round tt (λ a is. ap Some (sym told)) sound
 settled_so_far laws t new before after stop.Memory reply tried round told sound = ended laws t new before after 0 Wanting reply tried round tt (λ a is. ap Some (sym told)) sound
 settled_so_far laws t new before after (stop.Differs table key) reply tried round told sound = elim told [
@@ -289,33 +312,60 @@ end_caused t old left before after (stop.Differs table key) reply round told = e
   | inr other ↦ memory_caused old left before after 0 reply round other
 ]
 
+-- a flush, and then what is applied
+
+record StaysSo (w w' : World) : Type 0 where
+  journal : w'.journal ≡ w.journal
+  schema : w'.tier.schema ≡ w.tier.schema
+
+module _ {D : Type 0} (state : D → SiteState) (possible : D → ℕ → Held → Type 0) where
+  -- the flush failed, and nothing is applied
+  pub flush_ended : (t new : Stored) (k k' : Option TierJournal) (d d' : D) (reply : Reply) → WritesOver state possible k k' d d' (Some reply) (Flushes []) → DiskIsCaused k (state d) (state d') (Some reply)
+      → PerformsOver state possible t new k k' d d' (Some reply) (λ w w'. SettlesAll w w' (Err reply))
+  flush_ended t new k k' d d' reply flushes cause w at stands apart keeps =
+      let x = flushes w at.moment keeps in
+      let w' : World = over_disk x.journal x.faults (state d').moment w in
+      let broken : is_broken (Some reply) ≡ true = flush_breaks [] w w' reply x.is in
+      record {
+        world = w';
+        at = at_written state possible k' d d' w (Some reply) (Flushes []) at x cause.bank cause.shared;
+        is = record { mid = w'; stop = Some reply; first = x.is; next = (refl, refl) };
+        stands = λ whole. absurd (never_both (is_broken (Some reply)) broken whole);
+        keeps = λ whole. absurd (never_both (is_broken (Some reply)) broken whole);
+      }
+
+  -- the flush, and the round behind it
+  pub flush_then : (t new : Stored) (k k' : Option TierJournal) (d mid d' : D) (result : Result ℕ Reply) → WritesOver state possible k k' d mid None (Flushes []) → DiskIsCaused k (state d) (state mid) None → KeepsCertain state possible mid d'
+      → Performs t new (state mid) (state d') (λ w w'. AppliesAll w w' result) → PerformsOver state possible t new k k' d d' (settled_stop result) (λ w w'. SettlesAll w w' result)
+  flush_then t new k k' d mid d' result flushes cause certain performs w at stands apart keeps =
+      let x = flushes w at.moment keeps in
+      let w1 : World = over_disk x.journal x.faults (state mid).moment w in
+      let it = performs w1 (at_written state possible k' d mid w None (Flushes []) at x cause.bank cause.shared) (stands_written t w x.journal x.faults (state mid).moment stands) apart in
+      let did = applied_of result w1 it.world it.is in
+      record {
+        world = it.world;
+        at = it.at;
+        is = round_of result w w1 it.world x.is it.is;
+        stands = λ whole. it.stands;
+        keeps = λ whole. keeps_called state possible k' mid d' w1 it.world (x.keeps refl) certain did.journal did.schema;
+      }
+    where
+      applied_of : (result : Result ℕ Reply) (w w' : World) → AppliesAll w w' result → StaysSo w w'
+      applied_of (Ok receipts) w w' did = record { journal = did.0.journal; schema = did.0.schema }
+      applied_of (Err reply) w w' did = record { journal = did.journal; schema = did.schema }
+
+      round_of : (result : Result ℕ Reply) (w mid w' : World) → Flushes [] w mid None → AppliesAll mid w' result → SettlesAll w w' result
+      round_of (Ok receipts) w mid w' flushed did = (record { mid = mid; stop = None; first = flushed; next = did.0.does }, did.1 ∙ ap length (unsettled_kept w mid flushed))
+      round_of (Err reply) w mid w' flushed did = record { mid = mid; stop = None; first = flushed; next = did.does }
+
 -- the calls
 
 -- ttDrain
-pub drained : (t new : Stored) (before after : SiteState) (receipts : ℕ) (reply : Reply) → reply ≡ only (Done receipts) → Performs t new before after (λ w w'. SettlesAll w w' (Ok receipts)) → Performs t new before after (λ w w'. Tries Drains w w' reply)
-drained t new before after receipts reply is performs w at stands apart =
-    let it = performs w at stands apart in
-    record {
-      world = it.world;
-      at = it.at;
-      stands = it.stands;
-      is = inl (record { mid = it.world; stop = None; first = it.is.0; next = (refl, is ∙ ap (λ n. only (Done n)) it.is.1) });
-    }
+pub drains : (receipts : ℕ) (reply : Reply) → reply ≡ only (Done receipts) → (w w' : World) → SettlesAll w w' (Ok receipts) → Tries Drains w w' reply
+drains receipts reply is w w' did = inl (record { mid = w'; stop = None; first = did.0; next = (refl, is ∙ ap (λ n. only (Done n)) did.1) })
 
-pub drain_ended : (t new : Stored) (before after : SiteState) (reply : Reply) → Performs t new before after (λ w w'. SettlesAll w w' (Err reply)) → Performs t new before after (λ w w'. Tries Drains w w' reply)
-drain_ended t new before after reply performs w at stands apart =
-    let it = performs w at stands apart in
-    record {
-      world = it.world;
-      at = it.at;
-      stands = it.stands;
-      is = inl (record { mid = it.world; stop = Some reply; first = it.is; next = (refl, refl) });
-    }
-
--- a round alone
-pub round_done : (t new : Stored) (before after : SiteState) (receipts : ℕ) → Performs t new before after (λ w w'. SettlesAll w w' (Ok receipts)) → Performs t new before after (λ w w'. Round w w' None)
-round_done t new before after receipts performs w at stands apart =
-    let it = performs w at stands apart in record { world = it.world; at = it.at; stands = it.stands; is = it.is.0 }
+pub drain_ended : (reply : Reply) (w w' : World) → SettlesAll w w' (Err reply) → Tries Drains w w' reply
+drain_ended reply w w' did = inl (record { mid = w'; stop = Some reply; first = did; next = (refl, refl) })
 
 -- where nothing is unsettled, nothing is called
 none_of_length : (xs : List Sealed) (n : ℕ) → n ≡ length xs → nat_eq n 0 ≡ true → nat_lt 0 (length xs) ≡ false
@@ -328,18 +378,10 @@ some_unsettled t n b long is some = ap (nat_lt 0) (sym long) ∙ by n (sym is �
     by zero e = cc
     by (suc k) e = lt-ltb 0 (suc k) (omega arith)
 
-pub nothing_unsettled : (t : Stored) (seen : SiteState) (n : ℕ) (b : Bool) → n ≡ length t.unsettled.items → b ≡ nat_eq n 0 → b ≡ true → Performs t t seen seen (λ w w'. RoundIfUnsettled w w' None)
-nothing_unsettled t seen n b long is none w at stands apart =
-    performed_here t seen w (λ w'. RoundIfUnsettled w w' None) at stands
+pub nothing_unsettled : (t : Stored) (n : ℕ) (b : Bool) → n ≡ length t.unsettled.items → b ≡ nat_eq n 0 → b ≡ true → (w : World) → StandsFor t w → RoundIfUnsettled w w None
+nothing_unsettled t n b long is none w stands =
     (subst (λ b. MatchBool b (Round w w None) (Passes w w None)) (sym (ap (λ (xs : List Sealed). nat_lt 0 (length xs)) stands.stored.unsettled ∙ none_of_length t.unsettled.items n long (sym is ∙ none))) (refl, refl))
 
-pub pending_settled : (t new : Stored) (before after : SiteState) (end : Option Reply) → nat_lt 0 (length t.unsettled.items) ≡ true → Performs t new before after (λ w w'. Round w w' end) → Performs t new before after (λ w w'. RoundIfUnsettled w w' end)
-pending_settled t new before after end some performs w at stands apart =
-    let it = performs w at stands apart in
-    record {
-      world = it.world;
-      at = it.at;
-      stands = it.stands;
-      is = subst (λ b. MatchBool b (Round w it.world end) (Passes w it.world end))
-          (sym (ap (λ (xs : List Sealed). nat_lt 0 (length xs)) stands.stored.unsettled ∙ some)) it.is;
-    }
+pub pending_settled : (t : Stored) (end : Option Reply) → nat_lt 0 (length t.unsettled.items) ≡ true → (w w' : World) → StandsFor t w → Round w w' end → RoundIfUnsettled w w' end
+pending_settled t end some w w' stands did =
+    subst (λ b. MatchBool b (Round w w' end) (Passes w w' end)) (sym (ap (λ (xs : List Sealed). nat_lt 0 (length xs)) stands.stored.unsettled ∙ some)) did

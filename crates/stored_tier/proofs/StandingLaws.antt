@@ -111,12 +111,12 @@ pub stands_behind : (w : World) (a : Tier) (held : Held) (seen : SiteState) → 
 stands_behind w a held seen x = stands_counted (with_tier a (at_history held.history w)) seen.bank_faults seen.moment x
 
 -- the world behind a call, with this tier
-pub performed_behind : (new : Stored) (before after : SiteState) (w : World) (a : Tier) (held : Held) (does : World → Type 0) → IsAt before w → after.held ≡ Some held → after.shared ≡ before.shared → w.journal.kept ≡ false → AreLast a.log a.unsettled
+pub performed_behind : (new : Stored) (before after : SiteState) (w : World) (a : Tier) (held : Held) (does : World → Type 0) → IsAt before w → after.held ≡ Some held → after.shared ≡ before.shared → AreLast a.log a.unsettled
     → IsStoredAs new a → rows_of new ≡ shown_state held.history a → Stands (with_tier a (at_history held.history w)) → does (behind w a held after) → IsPerformed new after does
-performed_behind new before after w a held does at told shares unkept waits stored shows stands is = record {
+performed_behind new before after w a held does at told shares waits stored shows stands is = record {
   world = behind w a held after;
   at = behind_at w a before after held at told shares;
-  stands = record { stored = stored; shows = shows; stands = stands_behind w a held after stands; unkept = unkept; waits = waits };
+  stands = record { stored = stored; shows = shows; stands = stands_behind w a held after stands; waits = waits };
   is = is;
 }
 

@@ -16,3 +16,8 @@ SettlesAll w w' (Err reply) = Round w w' (Some reply)
 abbrev pub settled_reply : Result ℕ Reply → Reply
 settled_reply (Ok receipts) = only (Done receipts)
 settled_reply (Err reply) = reply
+
+-- with what it ended early, where it did
+abbrev pub settled_stop : Result ℕ Reply → Option Reply
+settled_stop (Ok receipts) = None
+settled_stop (Err reply) = Some reply

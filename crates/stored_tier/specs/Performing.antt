@@ -26,6 +26,8 @@ use Rattle.cache_tier.specs.StandingBetween.{Stands}
 use Rattle.stored_tier.specs.declared.tier.Tier.{Tier as Stored}
 use Rattle.stored_tier.specs.Sites.{IsAt}
 use Rattle.outside.specs.Sites.{SiteState}
+use Rattle.tier_journal.specs.declared.journal.TierJournal.{TierJournal}
+use Rattle.kept_journal.specs.Keeping.{KeepsOver, is_broken}
 use Rattle.stored_tier.specs.Stored.{HasSession, IsStoredAs, ShowsRows}
 
 -- an operation of these is on the table
@@ -52,13 +54,11 @@ pub record AreLast (log unsettled : List Sealed) : Type 0 where
   pub waits : Waits [] behind unsettled
 
 -- The stored tier stands for the one of a world: what is stored is its own, the stored rows are what is shown, and the
--- abstract tier stands in its world. There is no journal, and what is unsettled committed last, but for what was settled
--- at once.
+-- abstract tier stands in its world. What is unsettled committed last, but for what was settled at once.
 pub record StandsFor (t : Stored) (w : World) : Type 0 where
   pub stored : IsStoredAs t w.tier
   pub shows : ShowsRows t w
   pub stands : Stands w
-  pub unkept : w.journal.kept ≡ false
   pub waits : AreLast w.tier.log w.tier.unsettled
 
 -- a world at the site behind, for which the new tier stands, and which comes so
@@ -73,6 +73,23 @@ pub record IsPerformed (new : Stored) (site : SiteState) (does : World → Type 
 abbrev pub Performs : Stored → Stored → SiteState → SiteState → (World → World → Type 0) → Type 0
 Performs old new before behind does =
     (w : World) → IsAt before w → StandsFor old w → IsUnshared w → IsPerformed new behind (does w)
+
+-- The same of what may write to the journal: a world at the site behind, that comes so. Unless a call of the disk failed
+-- in it, after which the run ends, the new tier stands for it, and the journal is kept over the disk.
+pub record IsPerformedOver {D : Type 0} (state : D → SiteState) (possible : D → ℕ → Held → Type 0) (new : Stored)
+    (k : Option TierJournal) (d : D) (stop : Option Reply) (does : World → Type 0) : Type 0 where
+  pub world : World
+  pub at : IsAt (state d) world
+  pub is : does world
+  pub stands : is_broken stop ≡ false → StandsFor new world
+  pub keeps : is_broken stop ≡ false → KeepsOver state possible d k world
+
+-- for each world at the site before, for which the old tier stands, and over whose disk the old journal is kept
+abbrev pub PerformsOver : {D : Type 0} → (D → SiteState) → (D → ℕ → Held → Type 0) → Stored → Stored
+    → Option TierJournal → Option TierJournal → D → D → Option Reply → (World → World → Type 0) → Type 0
+PerformsOver state possible old new k k' d d' stop does =
+    (w : World) → IsAt (state d) w → StandsFor old w → IsUnshared w → KeepsOver state possible d k w
+    → IsPerformedOver state possible new k' d' stop (does w)
 
 -- the reply to a line that was done, or wasn't
 abbrev pub reply_of : Result Reply Refused → Reply
@@ -107,6 +124,18 @@ pub record IsCaused (before behind : SiteState) (reply : Reply) : Type 0 where
   pub bank : tells code.BackingFault reply.last ≡ true → Rose before.bank_faults behind.bank_faults
   pub disk : tells code.JournalFault reply.last ≡ false
 
+-- The same where the journal may be written to: slots stay where none is kept, and a fault of the journal is told only
+-- where the count of the disk's faults rose, which doesn't fall.
+pub record IsCausedOver (k : Option TierJournal) (before behind : SiteState) (reply : Reply) : Type 0 where
+  pub later : before.bank_faults ≤ behind.bank_faults
+  pub moment : before.moment ≤ behind.moment
+  pub shares : behind.shared ≡ before.shared
+  pub slots : k ≡ None → KeepsSlots before.held behind.held
+  pub bare : reply.notes ≡ []
+  pub bank : tells code.BackingFault reply.last ≡ true → Rose before.bank_faults behind.bank_faults
+  pub disk_later : before.disk_faults ≤ behind.disk_faults
+  pub disk : tells code.JournalFault reply.last ≡ true → Rose before.disk_faults behind.disk_faults
+
 -- so it is at each site that isn't called
 abbrev pub IsCalm : Reply → Type 0
 IsCalm reply = (site : SiteState) → IsCaused site site reply
@@ -120,6 +149,10 @@ stop_of (Err reply) = Some reply
 abbrev pub IsStopCaused : SiteState → SiteState → Option Reply → Type 0
 IsStopCaused before behind None = IsCaused before behind (only (Done 0))
 IsStopCaused before behind (Some reply) = IsCaused before behind reply
+
+abbrev pub IsStopCausedOver : Option TierJournal → SiteState → SiteState → Option Reply → Type 0
+IsStopCausedOver k before behind None = IsCausedOver k before behind (only (Done 0))
+IsStopCausedOver k before behind (Some reply) = IsCausedOver k before behind reply
 
 -- OPEN: 113 or 119, or a session more
 abbrev pub OpensSession : List ℕ → OpenOptions → Part

@@ -1,6 +1,6 @@
 //! Rounds of propagation, and ttDrain.
 
-ghost use Rattle.std.specs.Prelude.{◌≡◌, [], IfOk, OnOk};
+ghost use Rattle.std.specs.Prelude.{◌≡◌, [], IfOk, OnOk, Some};
 ghost use Rattle.row_types.specs.declared.rule.Detail.TheVariants as detail;
 ghost use Rattle.cache_tier.specs.Rounds.{Drains, Round, RoundIfUnsettled};
 ghost use Rattle.cache_tier.specs.Worlds.{Tries};
@@ -9,61 +9,69 @@ ghost use Rattle.tier_base.specs.declared.code.Code.TheVariants as code;
 use crate::tier::Tier;
 use cache_tier::reply::{Last, Reply};
 use cache_tier::round_shown_law;
+use kept_journal::flush_tail;
 use outside::Site;
 use propagators::laws::{follow_law, left_law};
 use propagators::{RoundFault, round};
 use row_types::{Detail, Key, Rule};
 use std::alloc::{AllocError, Global};
 use tier_base::{Code, Name, TableId};
+use tier_journal::TierJournal;
 use tier_statements::{done, faulty, only};
 
 impl Tier {
-    ghost use Rattle.stored_tier.specs.Draining.{SettlesAll, settled_reply};
-    ghost use Rattle.stored_tier.specs.Performing.{IsCaused, IsStopCaused, Performs, stop_of};
+    ghost use Rattle.stored_tier.specs.Draining.{SettlesAll, settled_reply, settled_stop};
+    ghost use Rattle.stored_tier.specs.Performing.{IsCausedOver, IsStopCausedOver, PerformsOver, stop_of};
     ghost use Rattle.stored_tier.specs.Refusing.{TellsRoundEnd};
     ghost use Rattle.stored_tier.specs.Stored.{IsSound};
 
     /// CALL ttDrain: the unsettled transactions are applied at the bank, in ticket order. The reply tells how many got
     /// their receipt; nothing is unsettled then.
     ///
-    /// It is 201 where a call of the bank failed, 210 with the table and the key of a row that isn't as the transaction
+    /// It is 202 where a call of the journal's disk failed; the run is to end then. It is 201 where a call of the bank failed, 210 with the table and the key of a row that isn't as the transaction
     /// says, and 299 where memory was wanting; then those stay unsettled that have no receipt. (TimesTen Cache User's
     /// Guide, asynchronous writethrough; the call and its codes are this project's rule.)
-    pub fn drain<P: Site>(&mut self, alloc: Global, site: &mut P) -> Reply
+    pub fn drain<P: Site>(
+        &mut self,
+        alloc: Global,
+        site: &mut P,
+        journal: &mut Option<TierJournal>,
+    ) -> Reply
         requires { IsSound self.old }
-        ensures performs { Performs self.old self.new
-            (P.Disk.state site.old)
-            (P.Disk.state site.new)
-            (λ w w'. Tries Drains w w' result) }
+        ensures performs { PerformsOver P.Disk.state P.Disk.possible self.old self.new journal.old journal.new
+            site.old site.new (Some result) (λ w w'. Tries Drains w w' result) }
         ensures sound { IsSound self.new }
-        ensures cause { IsCaused
+        ensures cause { IsCausedOver journal.old
             (P.Disk.state site.old)
             (P.Disk.state site.new)
             result }
     {
-        match self.settle(alloc, site) {
+        match self.settle(alloc, site, journal) {
             Ok(receipts) => done(alloc, receipts),
             Err(reply) => reply,
         }
     }
 
     /// A round. The reply is the one with which it ended early; else nothing is unsettled.
-    pub fn settle_all<P: Site>(&mut self, alloc: Global, site: &mut P) -> Result<(), Reply>
+    pub fn settle_all<P: Site>(
+        &mut self,
+        alloc: Global,
+        site: &mut P,
+        journal: &mut Option<TierJournal>,
+    ) -> Result<(), Reply>
         requires { IsSound self.old }
-        ensures performs { Performs self.old self.new
-            (P.Disk.state site.old)
-            (P.Disk.state site.new)
-            (λ w w'. Round w w' (stop_of result)) }
+        ensures performs { PerformsOver P.Disk.state P.Disk.possible self.old self.new journal.old journal.new
+            site.old site.new (stop_of result) (λ w w'. Round w w' (stop_of result)) }
         ensures all { OnOk result (self.new.unsettled.items ≡ []) }
         ensures same { self.new ≡ record self.old { unsettled = self.new.unsettled; clock = self.new.clock } }
         ensures clock { self.new.clock ≡ record self.old.clock { round = self.old.clock.now } }
         ensures sound { IsSound self.new }
-        ensures cause { IsStopCaused
+        ensures cause { IsStopCausedOver journal.old
             (P.Disk.state site.old)
             (P.Disk.state site.new)
             (stop_of result) }
     {
-        match self.settle(alloc, site) {
+        match self.settle(alloc, site, journal) {
             Ok(_) => Ok(()),
             Err(reply) => Err(reply),
         }
@@ -71,16 +79,19 @@ impl Tier {
 
     /// A round, where a transaction is unsettled. The reply is the one with which it ended early; else nothing is
     /// unsettled.
-    pub fn settle_pending<P: Site>(&mut self, alloc: Global, site: &mut P) -> Result<(), Reply>
+    pub fn settle_pending<P: Site>(
+        &mut self,
+        alloc: Global,
+        site: &mut P,
+        journal: &mut Option<TierJournal>,
+    ) -> Result<(), Reply>
         requires { IsSound self.old }
-        ensures performs { Performs self.old self.new
-            (P.Disk.state site.old)
-            (P.Disk.state site.new)
-            (λ w w'. RoundIfUnsettled w w' (stop_of result)) }
+        ensures performs { PerformsOver P.Disk.state P.Disk.possible self.old self.new journal.old journal.new
+            site.old site.new (stop_of result) (λ w w'. RoundIfUnsettled w w' (stop_of result)) }
         ensures all { OnOk result (self.new.unsettled.items ≡ []) }
         ensures same { self.new ≡ record self.old { unsettled = self.new.unsettled; clock = self.new.clock } }
         ensures sound { IsSound self.new }
-        ensures cause { IsStopCaused
+        ensures cause { IsStopCausedOver journal.old
             (P.Disk.state site.old)
             (P.Disk.state site.new)
             (stop_of result) }
@@ -88,21 +99,24 @@ impl Tier {
         if self.unsettled.is_empty() {
             return Ok(());
         }
-        self.settle_all(alloc, site)
+        self.settle_all(alloc, site, journal)
     }
 
     // A round, and how many got their receipt, or the reply with which it ended early.
-    fn settle<P: Site>(&mut self, alloc: Global, site: &mut P) -> Result<u64, Reply>
+    fn settle<P: Site>(
+        &mut self,
+        alloc: Global,
+        site: &mut P,
+        journal: &mut Option<TierJournal>,
+    ) -> Result<u64, Reply>
         requires { IsSound self.old }
-        ensures performs { Performs self.old self.new
-            (P.Disk.state site.old)
-            (P.Disk.state site.new)
-            (λ w w'. SettlesAll w w' result) }
+        ensures performs { PerformsOver P.Disk.state P.Disk.possible self.old self.new journal.old journal.new
+            site.old site.new (settled_stop result) (λ w w'. SettlesAll w w' result) }
         ensures all { OnOk result (self.new.unsettled.items ≡ []) }
         ensures same { self.new ≡ record self.old { unsettled = self.new.unsettled; clock = self.new.clock } }
         ensures clock { self.new.clock ≡ record self.old.clock { round = self.old.clock.now } }
         ensures sound { IsSound self.new }
-        ensures cause { IsCaused
+        ensures cause { IsCausedOver journal.old
             (P.Disk.state site.old)
             (P.Disk.state site.new)
             (settled_reply result) }
@@ -111,9 +125,12 @@ impl Tier {
         follow_law();
         round_shown_law();
         self.clock.round = self.clock.now;
-        match round(site, &mut self.unsettled) {
-            Ok(receipts) => Ok(receipts),
-            Err(fault) => Err(self.reply_to_round(alloc, &fault)),
+        match flush_tail(alloc, site, journal) {
+            Err(reply) => Err(reply),
+            Ok(()) => match round(site, &mut self.unsettled) {
+                Ok(receipts) => Ok(receipts),
+                Err(fault) => Err(self.reply_to_round(alloc, &fault)),
+            },
         }
     }
 

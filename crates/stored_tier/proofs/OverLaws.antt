@@ -1,0 +1,150 @@
+-- What may write to the journal: worlds behind it, and what it keeps of a site.
+use Rattle.std.proofs.Common.{◌≡◌, ◌≤◌, ℕ, ◌+◌, ◌-◌, ◌^◌, min, Bool, true, false, Option, Some, None, List, [], refl, sym, ap, subst, ◌∙◌, arith}
+use Rattle.std.specs.Bool.{MatchBool}
+use Rattle.std.proofs.lemmas.Option.{same_Some}
+use Rattle.tier_base.specs.declared.code.Code.TheVariants as code
+use Rattle.table_state.specs.declared.history.Sealed.{Sealed}
+use Rattle.outside.specs.Faults.{Rose}
+use Rattle.outside.specs.Holding.{Held, Slots}
+use Rattle.outside.specs.Sites.{SiteState}
+use Rattle.propagators.specs.Certainty.{KeepsCertain}
+use Rattle.tier_journal.specs.declared.journal.TierJournal.{TierJournal}
+use Rattle.tier_journal.specs.Keeping.{Keeps}
+use Rattle.kept_journal.specs.Keeping.{DiskIsCaused, IsOver, IsWrittenOver, KeepsOver, is_broken, over_disk}
+use Rattle.cache_tier.specs.declared.reply.Reply.{Reply}
+use Rattle.cache_tier.specs.Journals.{Journal, JournalEntry}
+use Rattle.cache_tier.specs.JournalSteps.{Failing, Flushed, Flushes, FlushesKept, Whole}
+use Rattle.cache_tier.specs.Steps.{tells}
+use Rattle.cache_tier.specs.Worlds.{Passes, Stage, World, faulty}
+use Rattle.cache_tier.specs.StandingBetween.{Stands}
+use Rattle.stored_tier.specs.declared.tier.Tier.{Tier as Stored}
+use Rattle.stored_tier.specs.Performing.{IsCaused, IsCausedOver, IsPerformedOver, KeepsSlots, Performs, PerformsOver, StandsFor}
+use Rattle.stored_tier.specs.Sites.{IsAt}
+
+pub never_both : (b : Bool) → b ≡ true → b ≡ false → ⊥
+never_both true p q = cc
+never_both false p q = cc
+
+-- that a tier stands asks for no journal and no count
+pub stands_over_disk : (w : World) (j : Journal) (faults moment : ℕ) → Stands w → Stands (over_disk j faults moment w)
+stands_over_disk w j faults moment x = record {
+  flow = x.flow;
+  schema = record { front = x.schema.front; whole = x.schema.whole };
+  catalog = x.catalog;
+  keys = x.keys;
+  read = x.read;
+  sessions = x.sessions;
+}
+
+pub stands_written : (t : Stored) (w : World) (j : Journal) (faults moment : ℕ) → StandsFor t w → StandsFor t (over_disk j faults moment w)
+stands_written t w j faults moment is = record {
+  stored = is.stored;
+  shows = is.shows;
+  stands = stands_over_disk w j faults moment is.stands;
+  waits = is.waits;
+}
+
+-- a flush that ends a line tells the disk's fault
+flush_ends : (result : Flushed) (stop : Option Reply) (entries : List JournalEntry) (w w' : World) (is : FlushesKept entries w w' stop) → is.result ≡ result → (reply : Reply) → stop ≡ Some reply → is_broken (Some reply) ≡ true
+flush_ends Whole stop entries w w' is result reply told = let none : None ≡ Some reply = cc in absurd (no_stop none)
+  where
+    no_stop : (None ≡ Some reply) → ⊥
+    no_stop e = cc
+flush_ends Failing stop entries w w' is result reply told =
+    let same : reply ≡ faulty code.JournalFault = cc in
+    ap (λ (r : Reply). is_broken (Some r)) same
+
+pub flush_breaks : (entries : List JournalEntry) (w w' : World) (reply : Reply) → Flushes entries w w' (Some reply) → is_broken (Some reply) ≡ true
+flush_breaks entries w w' reply flushed = by w.journal.kept flushed
+  where
+    by : (kept : Bool) → MatchBool kept (FlushesKept entries w w' (Some reply)) (Passes w w' (Some reply)) → is_broken (Some reply) ≡ true
+    by true is = flush_ends is.result (Some reply) entries w w' is refl reply refl
+    by false is = let none : Some reply ≡ None = is.1 in absurd (no_pass none)
+      where
+        no_pass : (Some reply ≡ None) → ⊥
+        no_pass e = cc
+
+-- a flush leaves the tier
+pub unsettled_kept : (w w' : World) → Flushes [] w w' None → w'.tier.unsettled ≡ w.tier.unsettled
+unsettled_kept w w' flushed = by w.journal.kept flushed
+  where
+    by : (kept : Bool) → MatchBool kept (FlushesKept [] w w' None) (Passes w w' None) → w'.tier.unsettled ≡ w.tier.unsettled
+    by true is = ap (λ t. t.unsettled) is.tier
+    by false is = ap (λ (x : World). x.tier.unsettled) is.0
+
+module _ {D : Type 0} (state : D → SiteState) (possible : D → ℕ → Held → Type 0) where
+  -- the world behind what was written is at the site
+  pub at_written : (k : Option TierJournal) (d d' : D) (w : World) (stop : Option Reply) (stage : Stage) → IsAt (state d) w → (x : IsWrittenOver state possible k d d' stop stage w)
+      → (state d').bank_faults ≡ (state d).bank_faults → (state d').shared ≡ (state d).shared → IsAt (state d') (over_disk x.journal x.faults (state d').moment w)
+  at_written k d d' w stop stage at x bank shared =
+      let t = x.told at.there at.told in
+      record { there = t.there; told = t.told; history = at.history ∙ sym t.same; faults = at.faults ∙ sym bank; moment = refl; shared = at.shared ∙ sym shared }
+
+  -- a journal is kept over calls of the bank
+  pub keeps_called : (k : Option TierJournal) (d d' : D) (w w' : World) → KeepsOver state possible d k w → KeepsCertain state possible d d' → w'.journal ≡ w.journal → w'.tier.schema ≡ w.tier.schema → KeepsOver state possible d' k w'
+  keeps_called None d d' w w' keeps certain journal schema = ap (λ (j : Journal). j.kept) journal ∙ keeps
+  keeps_called (Some t) d d' w w' keeps certain journal schema =
+      let c = certain keeps.there keeps.certain in
+      record {
+        there = c.now;
+        certain = c.certain;
+        keeps = subst (λ s. Keeps s t c.now.slots w'.journal) (sym schema)
+            (subst (λ j. Keeps w.tier.schema t c.now.slots j) (sym journal)
+            (subst (λ s. Keeps w.tier.schema t s w.journal) (sym c.slots) keeps.keeps));
+        version = keeps.version;
+      }
+
+  -- what a function does besides
+  pub over_so : (old new : Stored) (k k' : Option TierJournal) (d d' : D) (stop : Option Reply) (does other : World → World → Type 0) → ((w w' : World) → StandsFor old w → does w w' → other w w') → PerformsOver state possible old new k k' d d' stop does
+      → PerformsOver state possible old new k k' d d' stop other
+  over_so old new k k' d d' stop does other so performs w at stands apart keeps =
+      let it = performs w at stands apart keeps in
+      record { world = it.world; at = it.at; is = so w it.world stands it.is; stands = it.stands; keeps = it.keeps }
+
+  -- what doesn't break may be answered otherwise
+  pub over_told : (old new : Stored) (k k' : Option TierJournal) (d d' : D) (stop told : Option Reply) (does : World → World → Type 0) → (is_broken told ≡ false → is_broken stop ≡ false) → PerformsOver state possible old new k k' d d' stop does
+      → PerformsOver state possible old new k k' d d' told does
+  over_told old new k k' d d' stop told does so performs w at stands apart keeps =
+      let it = performs w at stands apart keeps in
+      record { world = it.world; at = it.at; is = it.is; stands = λ whole. it.stands (so whole); keeps = λ whole. it.keeps (so whole) }
+
+  -- nothing is done
+  pub over_here : (t : Stored) (k : Option TierJournal) (d : D) (stop : Option Reply) (does : World → World → Type 0) → ((w : World) → StandsFor t w → does w w) → PerformsOver state possible t t k k d d stop does
+  over_here t k d stop does so w at stands apart keeps =
+      record { world = w; at = at; is = so w stands; stands = λ whole. stands; keeps = λ whole. keeps }
+
+-- of a call of the journal's disk, and then of the bank
+pub caused_then : (k : Option TierJournal) (before mid behind : SiteState) (reply : Reply) → DiskIsCaused k before mid None → behind.disk_faults ≡ mid.disk_faults → IsCaused mid behind reply → IsCausedOver k before behind reply
+caused_then k before mid behind reply one disk two =
+    let a = one.moment in
+    let b = two.moment in
+    let c = one.later in
+    record {
+      later = subst (λ (n : ℕ). n ≤ behind.bank_faults) one.bank two.later;
+      moment = omega (arith, a, b);
+      shares = two.shares ∙ one.shared;
+      slots = λ none. subst (λ (s : SiteState). KeepsSlots s.held behind.held) (one.uncalled none) two.slots;
+      bare = two.bare;
+      bank = λ told. subst (λ (n : ℕ). Rose n behind.bank_faults) one.bank (two.bank told);
+      disk_later = omega (arith, c, disk);
+      disk = λ told. absurd (never_both (tells code.JournalFault reply.last) told two.disk);
+    }
+
+held_same : (o : Option Held) → KeepsSlots o o
+held_same None = tt
+held_same (Some there) = refl
+
+-- of a call of the journal's disk that ends the line
+pub caused_stopped : (k : Option TierJournal) (before after : SiteState) (reply : Reply) → DiskIsCaused k before after (Some reply) → IsCausedOver k before after reply
+caused_stopped k before after reply one =
+    let bank = one.bank in
+    record {
+      later = omega (arith, bank);
+      moment = one.moment;
+      shares = one.shared;
+      slots = λ none. subst (λ (s : SiteState). KeepsSlots before.held s.held) (sym (one.uncalled none)) (held_same before.held);
+      bare = one.told.0;
+      bank = λ told. absurd (never_both (tells code.BackingFault reply.last) told one.told.1);
+      disk_later = one.later;
+      disk = one.failed;
+    }
