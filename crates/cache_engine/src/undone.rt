@@ -2,7 +2,7 @@
 
 ghost use Rattle.std.specs.Prelude.{◌≡◌};
 ghost use Rattle.std.specs.Option.{is_some};
-ghost use Rattle.cache_tier.specs.Undone.{has_aging, is_grouped, is_undone, is_undone_group, is_undone_open, is_undone_request, is_undone_statement, is_user_managed, passes_on, sets_flag};
+ghost use Rattle.cache_tier.specs.Undone.{has_aging, is_grouped, is_undone, is_undone_group, is_undone_open, is_undone_request, is_undone_statement, is_user_managed, sets_flag};
 
 use sql_query::Query;
 use sql_subset::request::{Line, OpenOptions, Request};
@@ -75,15 +75,9 @@ fn is_undone_statement(statement: &Stmt) -> bool
     }
 }
 
-// A passthrough level above 0, or durable commits.
+// A passthrough level above 0.
 fn is_undone_open(options: OpenOptions) -> bool
     ensures { result ≡ is_undone_open options }
-{
-    passes_on(options) || options.durable
-}
-
-fn passes_on(options: OpenOptions) -> bool
-    ensures { result ≡ passes_on options }
 {
     0 < options.passthrough
 }

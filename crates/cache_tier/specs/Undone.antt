@@ -62,12 +62,8 @@ is_undone_statement says.Commit = false
 is_undone_statement says.Rollback = false
 
 -- OPEN with a passthrough level above 0
-abbrev pub passes_on : OpenOptions → Bool
-passes_on options = nat_lt 0 options.passthrough
-
--- or with durable commits
 abbrev pub is_undone_open : OpenOptions → Bool
-is_undone_open options = passes_on options || options.durable
+is_undone_open options = nat_lt 0 options.passthrough
 
 abbrev pub is_undone_request : Request → Bool
 is_undone_request (asks_for.Open options) = is_undone_open options

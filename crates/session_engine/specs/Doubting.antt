@@ -1,11 +1,14 @@
 -- A transaction of which nobody knows whether it came. (TimesTen Cache User's Guide, "Synchronous writethrough"; that
 -- its ticket is in doubt until the backing database has told is this project's rule.)
 
-use Rattle.std.specs.Prelude.{◌≡◌, ◌+◌, ◌≤◌, ◌^◌, [], Option, Some, None, true, Result, Err, length}
+use Rattle.std.specs.Prelude.{◌≡◌, ℕ, ◌+◌, ◌≤◌, ◌^◌, [], Option, Some, None, false, true, Result, Err, length}
 use Rattle.tier_base.specs.declared.number.SessionId.{SessionId}
 use Rattle.row_types.specs.declared.rule.Refused.{Refused}
 use Rattle.outside.specs.Bank.{AppliesOnce}
+use Rattle.outside.specs.Holding.{Held}
 use Rattle.outside.specs.Sites.{SiteState}
+use Rattle.tier_journal.specs.declared.journal.TierJournal.{TierJournal}
+use Rattle.kept_journal.specs.Keeping.{KeepsOver, is_broken}
 use Rattle.outside.specs.declared.fault.BankError.TheVariants.{Failed}
 use Rattle.order_laws.specs.Commits.{KeepsCommitOrder}
 use Rattle.cache_tier.specs.CommitSteps.{after_applied, sealed_own}
@@ -74,3 +77,37 @@ abbrev pub EndsIn : Stored → Stored → Option Doubt → SiteState → SiteSta
     → Result Reply Refused → Type 0
 EndsIn old new doubt before behind id part result =
     (s : Session) → HasSession old id s → Ends old new doubt before behind (λ w w'. part s w w' (reply_of result))
+
+-- ---- where the journal may be written to
+
+-- A world at the site behind, which comes so. Unless a call of the disk failed in it, the new tier is left so, and the
+-- journal is kept over the disk.
+pub record IsEndedOver {D : Type 0} (state : D → SiteState) (possible : D → ℕ → Held → Type 0) (new : Stored)
+    (doubt : Option Doubt) (k : Option TierJournal) (d : D) (stop : Option Reply) (does : World → Type 0) : Type 0
+    where
+  pub world : World
+  pub at : IsAt (state d) world
+  pub is : does world
+  pub left : is_broken stop ≡ false → IsLeft new doubt world
+  pub keeps : is_broken stop ≡ false → KeepsOver state possible d k world
+
+-- for each world at the site before, in which the old tier is left so, and over whose disk the old journal is kept
+abbrev pub LeadsOver : {D : Type 0} → (D → SiteState) → (D → ℕ → Held → Type 0) → Stored → Option Doubt → Stored
+    → Option Doubt → Option TierJournal → Option TierJournal → D → D → Option Reply → (World → World → Type 0) → Type 0
+LeadsOver state possible old was new doubt k k' d d' stop does =
+    (w : World) → IsAt (state d) w → IsLeft old was w → IsUnshared w → KeepsOver state possible d k w
+    → IsEndedOver state possible new doubt k' d' stop (does w)
+
+-- from a tier that stands
+abbrev pub EndsOver : {D : Type 0} → (D → SiteState) → (D → ℕ → Held → Type 0) → Stored → Stored → Option Doubt
+    → Option TierJournal → Option TierJournal → D → D → Option Reply → (World → World → Type 0) → Type 0
+EndsOver state possible old new doubt k k' d d' stop does =
+    LeadsOver state possible old None new doubt k k' d d' stop does
+
+-- so it is of a part of a session's line, where the session has this number
+abbrev pub EndsInOver : {D : Type 0} → (D → SiteState) → (D → ℕ → Held → Type 0) → Stored → Stored → Option Doubt
+    → Option TierJournal → Option TierJournal → D → D → SessionId → (Session → Part) → Result Reply Refused → Type 0
+EndsInOver state possible old new doubt k k' d d' id part result =
+    (s : Session) → HasSession old id s
+    → EndsOver state possible old new doubt k k' d d' (Some (reply_of result))
+    (λ w w'. part s w w' (reply_of result))

@@ -1,5 +1,5 @@
 -- What may write to the journal: worlds behind it, and what it keeps of a site.
-use Rattle.std.proofs.Common.{◌≡◌, ◌≤◌, ℕ, ◌+◌, ◌-◌, ◌^◌, min, Bool, true, false, Option, Some, None, List, [], refl, sym, ap, subst, ◌∙◌, arith}
+use Rattle.std.proofs.Common.{◌≡◌, ◌≤◌, ℕ, ◌+◌, ◌-◌, ◌^◌, min, Bool, true, false, Option, Some, None, List, [], ◌∷◌, refl, sym, ap, subst, ◌∙◌, arith}
 use Rattle.std.specs.Bool.{MatchBool}
 use Rattle.std.proofs.lemmas.Option.{same_Some}
 use Rattle.tier_base.specs.declared.code.Code.TheVariants as code
@@ -13,9 +13,18 @@ use Rattle.tier_journal.specs.Keeping.{Keeps}
 use Rattle.kept_journal.specs.Keeping.{DiskIsCaused, IsOver, IsWrittenOver, KeepsOver, is_broken, over_disk}
 use Rattle.cache_tier.specs.declared.reply.Reply.{Reply}
 use Rattle.cache_tier.specs.Journals.{Journal, JournalEntry}
-use Rattle.cache_tier.specs.JournalSteps.{Failing, Flushed, Flushes, FlushesKept, Whole}
+use Rattle.tier_base.specs.declared.limit.Limit.TheVariants as limit
+use Rattle.cache_tier.specs.Events.{with_tier}
+use Rattle.cache_tier.specs.JournalSteps.{Failing, Flushed, Flushes, FlushesKept, FlushesSome, Whole}
+use Rattle.cache_tier.specs.Reading.{Answers}
+use Rattle.cache_tier.specs.Rules.{past}
+use Rattle.cache_tier.specs.TierStates.{Tier}
+use Rattle.cache_tier.specs.declared.reply.Last.TheVariants.{No}
 use Rattle.cache_tier.specs.Steps.{tells}
-use Rattle.cache_tier.specs.Worlds.{Passes, Stage, World, faulty}
+use Rattle.cache_tier.specs.Worlds.{Answer, Part, Passes, Stage, Then, World, faulty, only}
+use Rattle.kept_journal.specs.declared.draft.Draft.{Draft}
+use Rattle.kept_journal.specs.Drafts.{IsDraftOf, StaysKept, is_full_draft}
+use Rattle.kept_journal.proofs.DraftLaws.{full_so}
 use Rattle.cache_tier.specs.StandingBetween.{Stands}
 use Rattle.stored_tier.specs.declared.tier.Tier.{Tier as Stored}
 use Rattle.stored_tier.specs.Performing.{IsCaused, IsCausedOver, IsPerformedOver, KeepsSlots, Performs, PerformsOver, StandsFor}
@@ -72,6 +81,11 @@ unsettled_kept w w' flushed = by w.journal.kept flushed
     by true is = ap (λ t. t.unsettled) is.tier
     by false is = ap (λ (x : World). x.tier.unsettled) is.0
 
+-- the world's journal and the tier's schema stay
+pub record StaysWritten (w w' : World) : Type 0 where
+  pub journal : w'.journal ≡ w.journal
+  pub schema : w'.tier.schema ≡ w.tier.schema
+
 module _ {D : Type 0} (state : D → SiteState) (possible : D → ℕ → Held → Type 0) where
   -- the world behind what was written is at the site
   pub at_written : (k : Option TierJournal) (d d' : D) (w : World) (stop : Option Reply) (stage : Stage) → IsAt (state d) w → (x : IsWrittenOver state possible k d d' stop stage w)
@@ -112,6 +126,85 @@ module _ {D : Type 0} (state : D → SiteState) (possible : D → ℕ → Held �
   pub over_here : (t : Stored) (k : Option TierJournal) (d : D) (stop : Option Reply) (does : World → World → Type 0) → ((w : World) → StandsFor t w → does w w) → PerformsOver state possible t t k k d d stop does
   over_here t k d stop does so w at stands apart keeps =
       record { world = w; at = at; is = so w stands; stands = λ whole. stands; keeps = λ whole. keeps }
+
+-- with another tier, whose schema is the same
+pub keeps_tier : {D : Type 0} (state : D → SiteState) (possible : D → ℕ → Held → Type 0) (d : D) (k : Option TierJournal) (w : World) (a : Tier) → a.schema ≡ w.tier.schema → KeepsOver state possible d k w → KeepsOver state possible d k (with_tier a w)
+keeps_tier state possible d None w a schema keeps = keeps
+keeps_tier state possible d (Some t) w a schema keeps = record {
+  there = keeps.there;
+  certain = keeps.certain;
+  keeps = subst (λ s. Keeps s t keeps.there.slots w.journal) (sym schema) keeps.keeps;
+  version = keeps.version;
+}
+
+-- only room came to the journal
+pub keeps_stays : {D : Type 0} (state : D → SiteState) (possible : D → ℕ → Held → Type 0) (d : D) (k k' : Option TierJournal) (w : World) → StaysKept k k' → KeepsOver state possible d k w → KeepsOver state possible d k' w
+keeps_stays state possible d None None w stays keeps = keeps
+keeps_stays state possible d None (Some t) w stays keeps = absurd stays
+keeps_stays state possible d (Some t) None w stays keeps = absurd stays
+keeps_stays state possible d (Some t) (Some new) w stays keeps = record {
+  there = keeps.there;
+  certain = keeps.certain;
+  keeps = stays.keeps w.tier.schema keeps.there.slots w.journal keeps.keeps;
+  version = stays.same.version ∙ keeps.version;
+}
+
+module _ {D : Type 0} (state : D → SiteState) (possible : D → ℕ → Held → Type 0) where
+  -- a statement that writes nothing to the journal
+  pub over_quiet : (old new : Stored) (k k' : Option TierJournal) (d d' : D) (stop : Option Reply) (does : World → World → Type 0) → StaysKept k k' → KeepsCertain state possible d d' → ((w w' : World) → does w w' → StaysWritten w w') → Performs old new (state d) (state d') does
+      → PerformsOver state possible old new k k' d d' stop does
+  over_quiet old new k k' d d' stop does stays certain still performs w at stands apart keeps =
+      let it = performs w at stands apart in
+      let same = still w it.world it.is in
+      record {
+        world = it.world;
+        at = it.at;
+        is = it.is;
+        stands = λ whole. it.stands;
+        keeps = λ whole. keeps_called state possible k' d d' w it.world (keeps_stays state possible d k k' w stays keeps) certain same.journal same.schema;
+      }
+
+  -- what is written, and then a quiet answer of the tier
+  pub answered_over : (new : Stored) (k : Option TierJournal) (d d' : D) (w : World) (stage : Stage) (answer : World → Answer) (reply : Reply) → IsAt (state d) w → (x : IsWrittenOver state possible k d d' None stage w)
+      → (state d').bank_faults ≡ (state d).bank_faults → (state d').shared ≡ (state d).shared → StandsFor new (with_tier (answer w).0 w) → (answer w).0.schema ≡ w.tier.schema
+      → answer (over_disk x.journal x.faults (state d').moment w) ≡ answer w → reply ≡ (answer w).1 → IsPerformedOver state possible new k d' (Some reply) (λ w'. Then stage (Answers answer) w w' reply)
+  answered_over new k d d' w stage answer reply at x bank shared stands schema same is =
+      let w1 : World = over_disk x.journal x.faults (state d').moment w in
+      let at1 = at_written state possible k d d' w None stage at x bank shared in
+      record {
+        world = with_tier (answer w).0 w1;
+        at = record { there = at1.there; told = at1.told; history = at1.history; faults = at1.faults; moment = at1.moment; shared = at1.shared };
+        is = record { mid = w1; stop = None; first = x.is; next = (ap (λ (a : Answer). record w1 { tier = a.0 }) (sym same), is ∙ ap (λ (a : Answer). a.1) (sym same)) };
+        stands = λ whole. stands_written new (with_tier (answer w).0 w) x.journal x.faults (state d').moment stands;
+        keeps = λ whole. keeps_tier state possible d' k w1 (answer w).0 schema (x.keeps refl);
+      }
+
+  -- what is written ends the line, and the run
+  pub ended_over : (new : Stored) (k : Option TierJournal) (d d' : D) (w : World) (stage : Stage) (part : Part) (reply : Reply) → IsAt (state d) w → IsWrittenOver state possible k d d' (Some reply) stage w
+      → (state d').bank_faults ≡ (state d).bank_faults → (state d').shared ≡ (state d).shared → is_broken (Some reply) ≡ true → IsPerformedOver state possible new k d' (Some reply) (λ w'. Then stage part w w' reply)
+  ended_over new k d d' w stage part reply at x bank shared broken = record {
+    world = over_disk x.journal x.faults (state d').moment w;
+    at = at_written state possible k d d' w (Some reply) stage at x bank shared;
+    is = record { mid = over_disk x.journal x.faults (state d').moment w; stop = Some reply; first = x.is; next = (refl, refl) };
+    stands = λ whole. absurd (never_both (is_broken (Some reply)) broken whole);
+    keeps = λ whole. absurd (never_both (is_broken (Some reply)) broken whole);
+  }
+
+  -- the journal has no room for the entry: 119, and all stays
+  pub full_over : (t : Stored) (k : Option TierJournal) (d : D) (w : World) (draft : Draft) (e : JournalEntry) (part : Part) (reply : Reply) → IsAt (state d) w → StandsFor t w → KeepsOver state possible d k w → IsDraftOf w.tier.schema k draft e → is_full_draft draft ≡ true
+      → reply ≡ only (No (past limit.JournalSlot)) → IsPerformedOver state possible t k d (Some reply) (λ w'. Then (FlushesSome (e ∷ [])) part w w' reply)
+  full_over t k d w draft e part reply at stands keeps of full is = record {
+    world = w;
+    at = at;
+    is = record {
+      mid = w;
+      stop = Some (only (No (past limit.JournalSlot)));
+      first = subst (λ b. MatchBool b ((w ≡ w) × (Some (only (No (past limit.JournalSlot))) ≡ Some (only (No (past limit.JournalSlot))))) (Flushes (e ∷ []) w w (Some (only (No (past limit.JournalSlot)))))) (sym (full_so state possible d k w draft e keeps of ∙ full)) (refl, refl);
+      next = (refl, is);
+    };
+    stands = λ whole. stands;
+    keeps = λ whole. keeps;
+  }
 
 -- of a call of the journal's disk, and then of the bank
 pub caused_then : (k : Option TierJournal) (before mid behind : SiteState) (reply : Reply) → DiskIsCaused k before mid None → behind.disk_faults ≡ mid.disk_faults → IsCaused mid behind reply → IsCausedOver k before behind reply

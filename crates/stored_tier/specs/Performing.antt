@@ -103,6 +103,12 @@ abbrev pub PerformsIn : Stored → Stored → SiteState → SiteState → Sessio
 PerformsIn old new before behind id part result =
     (s : Session) → HasSession old id s → Performs old new before behind (λ w w'. part s w w' (reply_of result))
 
+abbrev pub PerformsInOver : {D : Type 0} → (D → SiteState) → (D → ℕ → Held → Type 0) → Stored → Stored
+    → Option TierJournal → Option TierJournal → D → D → SessionId → (Session → Part) → Result Reply Refused → Type 0
+PerformsInOver state possible old new k k' d d' id part result =
+    (s : Session) → HasSession old id s
+    → PerformsOver state possible old new k k' d d' (Some (reply_of result)) (λ w w'. part s w w' (reply_of result))
+
 -- a session's statement: the first rule that refuses it, or what it does; memory may be wanting
 abbrev pub Executes : Stmt → Session → Part
 Executes st s = Tries (λ w w' reply. Unless (refusal w.tier s st) (DoesStatement s st) w w' reply)
