@@ -85,6 +85,7 @@ IsOfDisk (Some reply) = (reply.notes ≡ []) × (tells code.BackingFault reply.l
 -- fault is told; the bank's stays, and so does what others change.
 pub record DiskIsCaused (k : Option TierJournal) (old new : SiteState) (stop : Option Reply) : Type 0 where
   pub uncalled : k ≡ None → new ≡ old
+  pub whole : k ≡ None → is_broken stop ≡ false
   pub moment : old.moment ≤ new.moment
   pub later : old.disk_faults ≤ new.disk_faults
   pub told : IsOfDisk stop

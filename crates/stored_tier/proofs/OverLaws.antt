@@ -221,6 +221,7 @@ caused_then k before mid behind reply one disk two =
       bank = λ told. subst (λ (n : ℕ). Rose n behind.bank_faults) one.bank (two.bank told);
       disk_later = omega (arith, c, disk);
       disk = λ told. absurd (never_both (tells code.JournalFault reply.last) told two.disk);
+      whole = λ none. two.disk;
     }
 
 held_same : (o : Option Held) → KeepsSlots o o
@@ -240,4 +241,19 @@ caused_stopped k before after reply one =
       bank = λ told. absurd (never_both (tells code.BackingFault reply.last) told one.told.1);
       disk_later = one.later;
       disk = one.failed;
+      whole = one.whole;
     }
+
+-- of a call of the bank alone
+pub caused_quiet : (k : Option TierJournal) (before behind : SiteState) (reply : Reply) → before.disk_faults ≤ behind.disk_faults → IsCaused before behind reply → IsCausedOver k before behind reply
+caused_quiet k before behind reply later one = record {
+  later = one.later;
+  moment = one.moment;
+  shares = one.shares;
+  slots = λ none. one.slots;
+  bare = one.bare;
+  bank = one.bank;
+  disk_later = later;
+  disk = λ told. absurd (never_both (tells code.JournalFault reply.last) told one.disk);
+  whole = λ none. one.disk;
+}

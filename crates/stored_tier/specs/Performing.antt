@@ -131,7 +131,7 @@ pub record IsCaused (before behind : SiteState) (reply : Reply) : Type 0 where
   pub disk : tells code.JournalFault reply.last ≡ false
 
 -- The same where the journal may be written to: slots stay where none is kept, and a fault of the journal is told only
--- where the count of the disk's faults rose, which doesn't fall.
+-- where one is, and the count of the disk's faults rose, which doesn't fall.
 pub record IsCausedOver (k : Option TierJournal) (before behind : SiteState) (reply : Reply) : Type 0 where
   pub later : before.bank_faults ≤ behind.bank_faults
   pub moment : before.moment ≤ behind.moment
@@ -141,6 +141,7 @@ pub record IsCausedOver (k : Option TierJournal) (before behind : SiteState) (re
   pub bank : tells code.BackingFault reply.last ≡ true → Rose before.bank_faults behind.bank_faults
   pub disk_later : before.disk_faults ≤ behind.disk_faults
   pub disk : tells code.JournalFault reply.last ≡ true → Rose before.disk_faults behind.disk_faults
+  pub whole : k ≡ None → tells code.JournalFault reply.last ≡ false
 
 -- so it is at each site that isn't called
 abbrev pub IsCalm : Reply → Type 0
