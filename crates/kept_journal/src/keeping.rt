@@ -1,6 +1,6 @@
 //! Noting and flushing, where a tier keeps a journal.
 
-ghost use Rattle.std.specs.Prelude.{◌≡◌, ◌∷◌, [], false};
+ghost use Rattle.std.specs.Prelude.{◌≡◌, ◌∷◌, [], None, false};
 ghost use Rattle.tier_base.specs.declared.limit.Limit.TheVariants as limit;
 ghost use Rattle.cache_tier.specs.declared.reply.Last.TheVariants.{No};
 ghost use Rattle.cache_tier.specs.Rules.{past};
@@ -26,6 +26,7 @@ pub fn flush_tail<D: Disk>(
     journal: &mut Option<TierJournal>,
 ) -> Result<(), Reply>
     ensures flushes { WritesOver D.state D.possible journal.old journal.new disk.old disk.new (stop_of result) (Flushes []) }
+    ensures none { journal.old ≡ None → journal.new ≡ None }
     ensures cause { DiskIsCaused journal.old (D.state disk.old) (D.state disk.new) (stop_of result) }
 {
     match journal {

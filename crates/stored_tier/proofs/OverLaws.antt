@@ -27,7 +27,7 @@ use Rattle.kept_journal.specs.Drafts.{IsDraftOf, StaysKept, is_full_draft}
 use Rattle.kept_journal.proofs.DraftLaws.{full_so}
 use Rattle.cache_tier.specs.StandingBetween.{Stands}
 use Rattle.stored_tier.specs.declared.tier.Tier.{Tier as Stored}
-use Rattle.stored_tier.specs.Performing.{IsCaused, IsCausedOver, IsPerformedOver, KeepsSlots, Performs, PerformsOver, StandsFor}
+use Rattle.stored_tier.specs.Performing.{IsCaused, IsCausedOver, IsPerformedOver, KeepsSlots, Performs, PerformsOver, StandsFor, StaysWritten}
 use Rattle.stored_tier.specs.Sites.{IsAt}
 
 pub never_both : (b : Bool) → b ≡ true → b ≡ false → ⊥
@@ -80,11 +80,6 @@ unsettled_kept w w' flushed = by w.journal.kept flushed
     by : (kept : Bool) → MatchBool kept (FlushesKept [] w w' None) (Passes w w' None) → w'.tier.unsettled ≡ w.tier.unsettled
     by true is = ap (λ t. t.unsettled) is.tier
     by false is = ap (λ (x : World). x.tier.unsettled) is.0
-
--- the world's journal and the tier's schema stay
-pub record StaysWritten (w w' : World) : Type 0 where
-  pub journal : w'.journal ≡ w.journal
-  pub schema : w'.tier.schema ≡ w.tier.schema
 
 module _ {D : Type 0} (state : D → SiteState) (possible : D → ℕ → Held → Type 0) where
   -- the world behind what was written is at the site

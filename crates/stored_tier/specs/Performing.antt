@@ -113,6 +113,15 @@ PerformsInOver state possible old new k k' d d' id part result =
 abbrev pub Executes : Stmt → Session → Part
 Executes st s = Tries (λ w w' reply. Unless (refusal w.tier s st) (DoesStatement s st) w w' reply)
 
+-- the world's journal and the tier's schema stay
+pub record StaysWritten (w w' : World) : Type 0 where
+  pub journal : w'.journal ≡ w.journal
+  pub schema : w'.tier.schema ≡ w.tier.schema
+
+-- a session's statement that writes nothing to the journal
+abbrev pub ExecutesUnwritten : Stmt → Session → Part
+ExecutesUnwritten st s w w' reply = Executes st s w w' reply × StaysWritten w w'
+
 -- the slots of the disk stay, where they are told
 abbrev pub KeepsSlots : Option Held → Option Held → Type 0
 KeepsSlots None behind = Unit {0}

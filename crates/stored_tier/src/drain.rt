@@ -1,6 +1,6 @@
 //! Rounds of propagation, and ttDrain.
 
-ghost use Rattle.std.specs.Prelude.{◌≡◌, [], IfOk, OnOk, Some};
+ghost use Rattle.std.specs.Prelude.{◌≡◌, [], IfOk, None, OnOk, Some};
 ghost use Rattle.row_types.specs.declared.rule.Detail.TheVariants as detail;
 ghost use Rattle.cache_tier.specs.Rounds.{Drains, Round, RoundIfUnsettled};
 ghost use Rattle.cache_tier.specs.Worlds.{Tries};
@@ -40,6 +40,7 @@ impl Tier {
         requires { IsSound self.old }
         ensures performs { PerformsOver P.Disk.state P.Disk.possible self.old self.new journal.old journal.new
             site.old site.new (Some result) (λ w w'. Tries Drains w w' result) }
+        ensures none { journal.old ≡ None → journal.new ≡ None }
         ensures sound { IsSound self.new }
         ensures cause { IsCausedOver journal.old
             (P.Disk.state site.old)
@@ -65,6 +66,7 @@ impl Tier {
         ensures all { OnOk result (self.new.unsettled.items ≡ []) }
         ensures same { self.new ≡ record self.old { unsettled = self.new.unsettled; clock = self.new.clock } }
         ensures clock { self.new.clock ≡ record self.old.clock { round = self.old.clock.now } }
+        ensures none { journal.old ≡ None → journal.new ≡ None }
         ensures sound { IsSound self.new }
         ensures cause { IsStopCausedOver journal.old
             (P.Disk.state site.old)
@@ -90,6 +92,7 @@ impl Tier {
             site.old site.new (stop_of result) (λ w w'. RoundIfUnsettled w w' (stop_of result)) }
         ensures all { OnOk result (self.new.unsettled.items ≡ []) }
         ensures same { self.new ≡ record self.old { unsettled = self.new.unsettled; clock = self.new.clock } }
+        ensures none { journal.old ≡ None → journal.new ≡ None }
         ensures sound { IsSound self.new }
         ensures cause { IsStopCausedOver journal.old
             (P.Disk.state site.old)
@@ -115,6 +118,7 @@ impl Tier {
         ensures all { OnOk result (self.new.unsettled.items ≡ []) }
         ensures same { self.new ≡ record self.old { unsettled = self.new.unsettled; clock = self.new.clock } }
         ensures clock { self.new.clock ≡ record self.old.clock { round = self.old.clock.now } }
+        ensures none { journal.old ≡ None → journal.new ≡ None }
         ensures sound { IsSound self.new }
         ensures cause { IsCausedOver journal.old
             (P.Disk.state site.old)
