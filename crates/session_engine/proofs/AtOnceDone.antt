@@ -1,5 +1,5 @@
 -- COMMIT of a synchronous transaction by the stored tier: what the bank's answer makes of the tier.
-use Rattle.std.proofs.Common.{◌≡◌, ◌⊎◌, ◌≤◌, ◌^◌, ◌+◌, ℕ, Bool, true, false, not, ◌&&◌, ◌||◌, slice_get, Option, Some, None, Result, Ok, Err, List, [], ◌∷◌, ◌++◌, map, inl, inr, refl, sym, ap, subst, ◌∙◌, arith}
+use Rattle.std.proofs.Common.{◌≡◌, ◌⊎◌, ◌≤◌, ◌^◌, ◌+◌, ℕ, Bool, true, false, not, ◌||◌, slice_get, Option, Some, None, Result, Ok, Err, List, [], ◌∷◌, ◌++◌, map, inl, inr, refl, sym, ap, subst, ◌∙◌, arith}
 use Rattle.std.specs.Bool.{MatchBool}
 use Rattle.std.specs.List.{list_all, list_any}
 use Rattle.std.specs.Option.{option_or}
@@ -36,21 +36,21 @@ use Rattle.group_catalog.specs.Catalogs.{groups_in}
 use Rattle.sql_subset.specs.declared.stmt.Stmt.TheVariants as statement
 use Rattle.cache_tier.specs.CommitSteps.{AppliesNow, CommitsLater, CommitsNow, CommitsOwn, after_applied, applied_reply, committed, is_synchronous_own, sealed_own}
 use Rattle.cache_tier.specs.Groups.{is_synchronous, is_table_of}
-use Rattle.cache_tier.specs.JournalSteps.{Flushes, FlushesKept, journal_fault, name_sizes}
-use Rattle.cache_tier.specs.Journals.{JournalEntry, Prepares, is_full}
+use Rattle.cache_tier.specs.JournalSteps.{Flushes, journal_fault}
+use Rattle.cache_tier.specs.Journals.{Prepares}
 use Rattle.cache_tier.specs.PassedSteps.{ticket_fault, with_ticket}
 use Rattle.cache_tier.specs.Rules.{broken_if, past}
 use Rattle.cache_tier.specs.Shown.{no_rows, shown_state}
 use Rattle.cache_tier.specs.Steps.{tells}
 use Rattle.cache_tier.specs.TierStates.{Session, Tier, at_rest, session_of}
-use Rattle.cache_tier.specs.Worlds.{BankCall, Becomes, IsUnshared, Part, Passes, Then, ThenStage, Unless, World, faulty, only}
+use Rattle.cache_tier.specs.Worlds.{BankCall, Becomes, IsUnshared, Part, Then, ThenStage, Unless, World, faulty, only}
 use Rattle.cache_tier.specs.declared.reply.Last.TheVariants.{Done, Fault, No}
 use Rattle.cache_tier.specs.declared.reply.Reply.{Reply}
 use Rattle.cache_tier.specs.Events.{with_tier}
 use Rattle.cache_tier.specs.StandingBetween.{Stands}
 use Rattle.tier_statements.specs.Seen.{session_seen}
 use Rattle.stored_tier.specs.declared.tier.Tier.{Tier as Stored}
-use Rattle.stored_tier.specs.Performing.{Executes, IsCaused, IsPerformed, PerformsIn, StandsFor, reply_of}
+use Rattle.stored_tier.specs.Performing.{Executes, IsCaused, IsPerformed, StandsFor, reply_of}
 use Rattle.stored_tier.specs.Refusing.{TellsDifference}
 use Rattle.stored_tier.specs.Sites.{IsAt}
 use Rattle.stored_tier.specs.Stored.{HasSession, IsSound, IsStoredAs, KeepsTime, are_later, are_on, rows_of}
@@ -68,7 +68,7 @@ use Rattle.session_engine.specs.Committing.{bare_all, ops_at}
 use Rattle.session_engine.specs.Doubting.{EndsIn, IsEnded, IsInDoubt}
 use Rattle.session_engine.proofs.AtOnceLaws.{AreLaws, came_leads, came_stands, came_to, none_came, unused}
 use Rattle.session_engine.proofs.CommitLaws.{groups_kept, sealed_same}
-use Rattle.session_engine.proofs.CommitPerformed.{or_none, rows_then, same_shown}
+use Rattle.session_engine.proofs.CommitPerformed.{rows_then, same_shown}
 use Rattle.session_engine.proofs.KindLaws.{bare_later, bare_on, none_met}
 use Rattle.session_engine.proofs.LegalLaws.{in_doubt_stands}
 
@@ -111,37 +111,42 @@ own_now : (s : Session) (own : List Op) (w w' : World) (reply : Reply) → (own 
 own_now s [] w w' reply some on now = absurd (some refl)
 own_now s (op ∷ ops) w w' reply some on now = subst (λ b. MatchBool b (CommitsNow s w w' reply) (CommitsLater s w w' reply)) (sym on) now
 
-now_fault : (w : World) (x : Sealed) → w.journal.kept ≡ false → option_or (ticket_fault w.tier) (journal_fault w (Prepares x ∷ [])) ≡ ticket_fault w.tier
-now_fault w x kept =
-    ap (λ k. option_or (ticket_fault w.tier) (broken_if (k && is_full (name_sizes w) w.journal (Prepares x ∷ [])) (past limit.JournalSlot))) kept
-    ∙ or_none (ticket_fault w.tier)
+-- what a synchronous commit may be refused with
+abbrev pub now_fault : Session → World → Option Rule
+now_fault s w = option_or (ticket_fault w.tier) (journal_fault w (Prepares (sealed_own w.tier s) ∷ []))
 
-flushes_none : (w : World) (entries : List JournalEntry) → w.journal.kept ≡ false → Flushes entries w w None
-flushes_none w entries kept = subst (λ k. MatchBool k (FlushesKept entries w w None) (Passes w w None)) (sym kept) (refl, refl)
-
-abbrev Applying : Session → World → Part
+abbrev pub Applying : Session → World → Part
 Applying s w = Then (ThenStage (Flushes (Prepares (sealed_own w.tier s) ∷ [])) (Becomes (λ mid. with_ticket mid.tier))) (AppliesNow (sealed_own w.tier s) s.label)
+
+-- the call, once the ticket is drawn
+abbrev pub AppliesDrawn : Session → Part
+AppliesDrawn s w w' reply = AppliesNow (sealed_own w.tier s) s.label (with_tier (with_ticket w.tier) w) w' reply
 
 recalled : (step : List Entry → List Entry → Type 0) (w w' : World) (a : Tier) → BankCall step w w' → BankCall step (with_tier a w) w'
 recalled step w w' a c = record { history = c.history; journal = c.journal; faults = c.faults; disk = c.disk; moment = c.moment; shared = c.shared }
 
-commits_now : (s : Session) (w w' : World) (reply : Reply) (result : Result Applied BankError) → w.journal.kept ≡ false → ticket_fault w.tier ≡ None → BankCall (AppliesOnce (sealed_own w.tier s) [] result) w w'
-    → w'.tier ≡ after_applied (sealed_own w.tier s) s.label result (with_ticket w.tier) → reply ≡ applied_reply (sealed_own w.tier s) result (with_ticket w.tier) → CommitsNow s w w' reply
-commits_now s w w' reply result kept free call tier answer =
-    subst (λ f. Unless f (Applying s w) w w' reply) (sym (now_fault w (sealed_own w.tier s) kept ∙ free)) applies
-  where
-    applies : Applying s w w w' reply
-    applies = record {
-      mid = with_tier (with_ticket w.tier) w;
-      stop = None;
-      first = record { mid = w; stop = None; first = flushes_none w (Prepares (sealed_own w.tier s) ∷ []) kept; next = (refl, refl) };
-      next = record { result = result; call = recalled (AppliesOnce (sealed_own w.tier s) [] result) w w' (with_ticket w.tier) call; tier = tier; answer = answer };
-    }
+pub commits_now : (s : Session) (w w' : World) (reply : Reply) → now_fault s w ≡ None → Applying s w w w' reply → CommitsNow s w w' reply
+commits_now s w w' reply free applies = subst (λ f. Unless f (Applying s w) w w' reply) (sym free) applies
 
-refuses_now : (s : Session) (w : World) (rule : Rule) → w.journal.kept ≡ false → ticket_fault w.tier ≡ Some rule → CommitsNow s w w (only (No rule))
-refuses_now s w rule kept broken = subst (λ f. Unless f (Applying s w) w w (only (No rule))) (sym (now_fault w (sealed_own w.tier s) kept ∙ broken)) (refl, refl)
+refuses_now : (s : Session) (w : World) (rule : Rule) → now_fault s w ≡ Some rule → CommitsNow s w w (only (No rule))
+refuses_now s w rule broken = subst (λ f. Unless f (Applying s w) w w (only (No rule))) (sym broken) (refl, refl)
 
-ticket_free : (a : Tier) → a.next ≤ 9223372036854775807 → ticket_fault a ≡ None
+-- the journal comes behind the tickets
+broken_first : (a b : Option Rule) (r : Rule) → a ≡ Some r → option_or a b ≡ Some r
+broken_first None b r e = cc
+broken_first (Some x) b r e = e
+
+none_first : (a b : Option Rule) → a ≡ None → option_or a b ≡ b
+none_first None b e = refl
+none_first (Some x) b e = cc
+
+pub broken_now : (s : Session) (w : World) (rule : Rule) → ticket_fault w.tier ≡ Some rule → now_fault s w ≡ Some rule
+broken_now s w rule e = broken_first (ticket_fault w.tier) (journal_fault w (Prepares (sealed_own w.tier s) ∷ [])) rule e
+
+pub journal_now : (s : Session) (w : World) → ticket_fault w.tier ≡ None → now_fault s w ≡ journal_fault w (Prepares (sealed_own w.tier s) ∷ [])
+journal_now s w e = none_first (ticket_fault w.tier) (journal_fault w (Prepares (sealed_own w.tier s) ∷ [])) e
+
+pub ticket_free : (a : Tier) → a.next ≤ 9223372036854775807 → ticket_fault a ≡ None
 ticket_free a fits = ap (λ b. broken_if (not b) (past limit.Tickets)) (le-leb a.next 9223372036854775807 fits)
 
 -- a call with its answer, at a site
@@ -179,11 +184,6 @@ weaker_call one other w w' weaker c = record {
 
 ended_none : (new : Stored) (doubt : Option Doubt) (seen : SiteState) (does : World → Type 0) → doubt ≡ None → IsPerformed new seen does → IsEnded new doubt seen does
 ended_none new doubt seen does none p = subst (λ d. IsEnded new d seen does) (sym none) (record { world = p.world; at = p.at; left = p.stands; is = p.is })
-
-pub ended_in_none : (t new : Stored) (doubt : Option Doubt) (before behind : SiteState) (id : SessionId) (result : Result Reply Refused) → doubt ≡ None → PerformsIn t new before behind id (Executes statement.Commit) result
-    → EndsIn t new doubt before behind id (Executes statement.Commit) result
-ended_in_none t new doubt before behind id result none p = λ s has w at is unshared.
-    ended_none new doubt behind (λ w'. Executes statement.Commit s w w' (reply_of result)) none (p s has w at is unshared)
 
 -- what is stored with a ticket drawn
 
@@ -234,9 +234,6 @@ module _ (laws : AreLaws) (numbers : NumberLaw) (changes : ChangeLaw) (t mid new
   room : w.tier.next + 1 ≤ 2 ^ 63
   room = let le = fits in omega (arith, le)
 
-  some_own : s.own ≡ [] → ⊥
-  some_own e = some (own ∙ e)
-
   on_own : are_on is_synchronous w.tier.groups s.own ≡ true
   on_own =
       sym (bare_on is_synchronous (λ g. refl) w.tier.groups s.own) ∙ ap (λ gs. are_on is_synchronous gs s.own) is.stored.groups
@@ -251,22 +248,22 @@ module _ (laws : AreLaws) (numbers : NumberLaw) (changes : ChangeLaw) (t mid new
   sealed_is = draws.sealed ∙ sealed_same numbers t w.tier id s sound is.stored has
 
   executes : (w' : World) (reply : Reply) (result : Result Applied BankError) → BankCall (AppliesOnce (sealed_own w.tier s) [] result) w w' → w'.tier ≡ after_applied (sealed_own w.tier s) s.label result (with_ticket w.tier)
-      → reply ≡ applied_reply (sealed_own w.tier s) result (with_ticket w.tier) → Executes statement.Commit s w w' reply
+      → reply ≡ applied_reply (sealed_own w.tier s) result (with_ticket w.tier) → AppliesDrawn s w w' reply
   executes w' reply result call tier answer =
-      inl (own_now s s.own w w' reply some_own (any_of_all (λ op. is_table_of is_synchronous w.tier.groups (table_of op)) s.own some_own on_own) (commits_now s w w' reply result is.unkept (ticket_free w.tier fits) call tier answer))
+      record { result = result; call = recalled (AppliesOnce (sealed_own w.tier s) [] result) w w' (with_ticket w.tier) call; tier = tier; answer = answer }
 
   module _ (before after : SiteState) (at : IsAt before w) where
     -- the ticket alone is drawn
     not_come : (result told : Result Applied BankError) (doubt : Option Doubt) (reply : Reply) → CalledOnce (sealed_own w.tier s) before after result → Reads (sealed_own w.tier s) result
         → ((o n : List Entry) → AppliesOnce (sealed_own w.tier s) [] result o n → AppliesOnce (sealed_own w.tier s) [] told o n) → with_ticket w.tier ≡ after_applied (sealed_own w.tier s) s.label told (with_ticket w.tier)
-        → new ≡ mid → doubt ≡ None → reply ≡ applied_reply (sealed_own w.tier s) told (with_ticket w.tier) → IsEnded new doubt after (λ w'. Executes statement.Commit s w w' reply)
+        → new ≡ mid → doubt ≡ None → reply ≡ applied_reply (sealed_own w.tier s) told (with_ticket w.tier) → IsEnded new doubt after (λ w'. AppliesDrawn s w w' reply)
     not_come result told doubt reply called reads same tier new_is none answer =
         let now = told_behind at.there before.held after.held (site.BankCall before.shared (AppliesOnce (sealed_own w.tier s) [] result)) at.told called.told in
         let call = call_behind w (with_ticket w.tier) before after now.there (AppliesOnce (sealed_own w.tier s) [] result) at now.is called.later called.moment in
         let stays = none_came laws w s is.stands unshared there room (AppliesOnce (sealed_own w.tier s) [] result) now.there.history reads call.history in
-        ended_none new doubt after (λ w'. Executes statement.Commit s w w' reply) none
-        (subst (λ z. IsPerformed z after (λ w'. Executes statement.Commit s w w' reply)) (sym new_is)
-        (performed_behind mid before after w (with_ticket w.tier) now.there (λ w'. Executes statement.Commit s w w' reply) at now.told called.shares is.unkept is.waits
+        ended_none new doubt after (λ w'. AppliesDrawn s w w' reply) none
+        (subst (λ z. IsPerformed z after (λ w'. AppliesDrawn s w w' reply)) (sym new_is)
+        (performed_behind mid before after w (with_ticket w.tier) now.there (λ w'. AppliesDrawn s w w' reply) at now.told called.shares is.waits
         (stored_drawn t mid id ready draws w.tier is.stored)
         (rows_drawn t mid id ready draws ∙ is.shows ∙ sym stays.same) stays.stands
         (executes (behind w (with_ticket w.tier) now.there after) reply told
@@ -276,7 +273,7 @@ module _ (laws : AreLaws) (numbers : NumberLaw) (changes : ChangeLaw) (t mid new
     finished : (result : Result Applied BankError) (doubt : Option Doubt) (reply : Reply) → CalledOnce (sealed_own w.tier s) before after result
         → ((o n : List Entry) → AppliesOnce (sealed_own w.tier s) [] result o n → Comes (sealed_own w.tier s) [] o n)
         → committed (sealed_own w.tier s) s.label (with_ticket w.tier) ≡ after_applied (sealed_own w.tier s) s.label result (with_ticket w.tier)
-        → Finishes mid new id → doubt ≡ None → reply ≡ applied_reply (sealed_own w.tier s) result (with_ticket w.tier) → IsEnded new doubt after (λ w'. Executes statement.Commit s w w' reply)
+        → Finishes mid new id → doubt ≡ None → reply ≡ applied_reply (sealed_own w.tier s) result (with_ticket w.tier) → IsEnded new doubt after (λ w'. AppliesDrawn s w w' reply)
     finished result doubt reply called comes tier fin none answer =
         let now = told_behind at.there before.held after.held (site.BankCall before.shared (AppliesOnce (sealed_own w.tier s) [] result)) at.told called.told in
         let a = committed (sealed_own w.tier s) s.label (with_ticket w.tier) in
@@ -287,8 +284,8 @@ module _ (laws : AreLaws) (numbers : NumberLaw) (changes : ChangeLaw) (t mid new
         let long : now.there.history ≡ ((w.history ++ around.before) ++ entry_of (sealed_own w.tier s) ∷ []) ++ around.behind = around.is ∙ ap (λ h. h ++ around.behind) grew in
         let stands = subst (λ h. Stands (came_to w s h)) (sym long) (came_stands laws w s is.stands unshared there room later on_own around.before around.behind around.came_before behind_it) in
         let leads = came_leads laws w s is.stands unshared there room later on_own around.before around.behind around.came_before behind_it ∙ ap (λ h. Some (shown_state h a)) (sym long) in
-        ended_none new doubt after (λ w'. Executes statement.Commit s w w' reply) none
-        (performed_behind new before after w a now.there (λ w'. Executes statement.Commit s w w' reply) at now.told called.shares is.unkept
+        ended_none new doubt after (λ w'. AppliesDrawn s w w' reply) none
+        (performed_behind new before after w a now.there (λ w'. AppliesDrawn s w w' reply) at now.told called.shares
         (last_at_once w.tier.log w.tier.unsettled (sealed_own w.tier s) (none_met w.tier.groups s.own w.tier.unsettled is.stands.catalog.apart on_own later) is.waits)
         (stored_finished fin)
         (rows_then laws.commit numbers t new w id s sound is has (shown_state now.there.history a) (ap (λ (z : Stored). z.schema) fin.rest ∙ ap (λ (z : Stored). z.schema) draws.rest) (stores_finished fin) leads)
@@ -318,14 +315,14 @@ module _ (laws : AreLaws) (numbers : NumberLaw) (changes : ChangeLaw) (t mid new
 
     -- nobody knows
     unknown : (doubt : Option Doubt) (reply : Reply) → CalledOnce (sealed_own w.tier s) before after (Err Failed) → new ≡ mid → doubt ≡ Some (record { ticket = t.next; session = id; ops = open_ops id (seen_all mid.sessions) }) → reply ≡ faulty code.BackingFault
-        → IsEnded new doubt after (λ w'. Executes statement.Commit s w w' reply)
+        → IsEnded new doubt after (λ w'. AppliesDrawn s w w' reply)
     unknown doubt reply called new_is some_doubt answer =
         let now = told_behind at.there before.held after.held (site.BankCall before.shared (AppliesOnce (sealed_own w.tier s) [] (Err Failed))) at.told called.told in
         let a = after_applied (sealed_own w.tier s) s.label (Err Failed) (with_ticket w.tier) in
         let w' = behind w a now.there after in
         let call = call_behind w a before after now.there (AppliesOnce (sealed_own w.tier s) [] (Err Failed)) at now.is called.later called.moment in
         let in_doubt = in_doubt_stands laws w s is.stands unshared there room later on_own now.there.history call.history in
-        subst (λ d. IsEnded new d after (λ z. Executes statement.Commit s w z reply)) (sym some_doubt)
+        subst (λ d. IsEnded new d after (λ z. AppliesDrawn s w z reply)) (sym some_doubt)
         (record {
           world = w';
           at = behind_at w a before after now.there at now.told called.shares;
@@ -347,7 +344,7 @@ module _ (laws : AreLaws) (numbers : NumberLaw) (changes : ChangeLaw) (t mid new
         })
 
     -- by the bank's answer
-    by_answer : (result : Result Applied BankError) (doubt : Option Doubt) (reply : Reply) → CalledOnce (sealed_own w.tier s) before after result → Concludes mid new doubt id t.next result reply → IsEnded new doubt after (λ w'. Executes statement.Commit s w w' reply)
+    by_answer : (result : Result Applied BankError) (doubt : Option Doubt) (reply : Reply) → CalledOnce (sealed_own w.tier s) before after result → Concludes mid new doubt id t.next result reply → IsEnded new doubt after (λ w'. AppliesDrawn s w w' reply)
     by_answer (Ok (Now receipt)) doubt reply called did =
         finished (Ok (Now receipt)) doubt reply called (λ o n step. step.0) refl did.0 did.1 (did.2 ∙ ap (λ n. only (Done n)) (sym is.stored.next))
     by_answer (Ok (Before receipt)) doubt reply called did =
@@ -360,7 +357,7 @@ module _ (laws : AreLaws) (numbers : NumberLaw) (changes : ChangeLaw) (t mid new
         schema_there : (x : TellsDifference mid table key reply) → slice_get w.tier.schema table.0 ≡ Some x.def
         schema_there x = ap (λ defs. slice_get defs table.0) ((stored_drawn t mid id ready draws w.tier is.stored).schema) ∙ x.there
 
-        by : TellsDifference mid table key reply ⊎ (reply ≡ faulty code.Memory) → IsEnded new doubt after (λ w'. Executes statement.Commit s w w' reply)
+        by : TellsDifference mid table key reply ⊎ (reply ≡ faulty code.Memory) → IsEnded new doubt after (λ w'. AppliesDrawn s w w' reply)
         by (inl tells_it) =
             not_come (Ok (Differs table key row)) (Ok (Differs table key row)) doubt reply called (λ o n step. step.3) (λ o n step. step) refl did.0 did.1
             (tells_it.is ∙ sym (ap (λ name. only (Fault (record { code = code.RowDiffers; detail = detail.Row name key }))) (name_of_table (with_ticket w.tier) table tells_it.def (schema_there tells_it))))
@@ -372,23 +369,30 @@ module _ (laws : AreLaws) (numbers : NumberLaw) (changes : ChangeLaw) (t mid new
 -- COMMIT of a session that has written tables of synchronous groups alone
 pub concluded : AreLaws → NumberLaw → ChangeLaw → (t mid new : Stored) (id : SessionId) (ready : Ready) → IsSound t → IsSound mid → Draws t mid id ready → (open_ops id (seen_all t.sessions) ≡ [] → ⊥)
     → are_on is_synchronous (groups_in t.catalog) (open_ops id (seen_all t.sessions)) ≡ true → (before after : SiteState) (result : Result Applied BankError) (doubt : Option Doubt) (reply : Reply)
-    → CalledOnce ready.sealed before after result → Concludes mid new doubt id ready.sealed.ticket.0 result reply → EndsIn t new doubt before after id (Executes statement.Commit) (Ok reply)
+    → CalledOnce ready.sealed before after result → Concludes mid new doubt id ready.sealed.ticket.0 result reply → EndsIn t new doubt before after id AppliesDrawn (Ok reply)
 concluded laws numbers changes t mid new id ready sound drawn draws some on before after result doubt reply called did = λ s has w at is unshared.
     by_answer laws numbers changes t mid new id ready sound drawn draws some on w s is unshared has before after at result doubt reply
     (subst (λ x. CalledOnce x before after result) (sealed_is laws numbers changes t mid new id ready sound drawn draws some on w s is unshared has) called)
     (subst (λ n. Concludes mid new doubt id n result reply) (ap (λ (x : Sealed). x.ticket.0) draws.sealed) did)
 
+-- the session's writes are on tables of synchronous groups
+pub does_now : NumberLaw → (t : Stored) (id : SessionId) → IsSound t → (open_ops id (seen_all t.sessions) ≡ [] → ⊥) → are_on is_synchronous (groups_in t.catalog) (open_ops id (seen_all t.sessions)) ≡ true
+    → (s : Session) → HasSession t id s → (w w' : World) (reply : Reply) → StandsFor t w → CommitsNow s w w' reply → Executes statement.Commit s w w' reply
+does_now numbers t id sound some on s has w w' reply is now =
+    let own = own_found numbers t id s sound has in
+    let some_own : s.own ≡ [] → ⊥ = λ e. some (own ∙ e) in
+    let on_own : are_on is_synchronous w.tier.groups s.own ≡ true =
+    sym (bare_on is_synchronous (λ g. refl) w.tier.groups s.own) ∙ ap (λ gs. are_on is_synchronous gs s.own) is.stored.groups ∙ ap (are_on is_synchronous (groups_in t.catalog)) (sym own) ∙ on in
+    inl (own_now s s.own w w' reply some_own (any_of_all (λ op. is_table_of is_synchronous w.tier.groups (table_of op)) s.own some_own on_own) now)
+
+pub refused_by : NumberLaw → (t : Stored) (id : SessionId) → IsSound t → (open_ops id (seen_all t.sessions) ≡ [] → ⊥) → are_on is_synchronous (groups_in t.catalog) (open_ops id (seen_all t.sessions)) ≡ true
+    → (s : Session) → HasSession t id s → (w : World) → StandsFor t w → (why : Refused) → IsRefusedBy (now_fault s w) why → Executes statement.Commit s w w (reply_of (Err why))
+refused_by numbers t id sound some on s has w is (refused.Rule rule) broken = does_now numbers t id sound some on s has w w (only (No rule)) is (refuses_now s w rule broken)
+refused_by numbers t id sound some on s has w is refused.Memory broken = inr (refl, refl)
+
 -- no ticket is left, or memory was wanting
-pub undrawn : NumberLaw → (t new : Stored) (id : SessionId) → IsSound t → Rooms t new → (open_ops id (seen_all t.sessions) ≡ [] → ⊥) → are_on is_synchronous (groups_in t.catalog) (open_ops id (seen_all t.sessions)) ≡ true
-    → (refused_by : Refused) → ((a : Tier) → IsStoredAs t a → IsRefusedBy (ticket_fault a) refused_by) → (seen : SiteState) (doubt : Option Doubt) → doubt ≡ None → EndsIn t new doubt seen seen id (Executes statement.Commit) (Err refused_by)
-undrawn numbers t new id sound rooms some on why told seen doubt none = λ s has w at is unshared.
-    ended_none new doubt seen (λ w'. Executes statement.Commit s w w' (reply_of (Err why))) none
-    (record {
-      world = w;
-      at = at;
-      stands = stands_still t new w is (stored_same w.tier is.stored) rows_same;
-      is = by s has w is why (told w.tier is.stored);
-    })
+pub undrawn : (t new : Stored) → Rooms t new → (w : World) → StandsFor t w → StandsFor new w
+undrawn t new rooms w is = stands_still t new w is (stored_same w.tier is.stored) rows_same
   where
     rows_same : rows_of new ≡ rows_of t
     rows_same = ap (λ (z : Stored). Rattle.group_store.specs.Shown.shown_by z.schema new.stores.items) rooms.rest ∙ same_shown t.schema t.stores.items new.stores.items rooms.stores
@@ -405,14 +409,9 @@ undrawn numbers t new id sound rooms some on why told seen doubt none = λ s has
       time = is.time;
     })
 
-    by : (s : Session) → HasSession t id s → (w : World) → StandsFor t w → (r : Refused) → IsRefusedBy (ticket_fault w.tier) r → Executes statement.Commit s w w (reply_of (Err r))
-    by s has w is refused.Memory free = inr (refl, refl)
-    by s has w is (refused.Rule rule) broken =
-        let own = own_found numbers t id s sound has in
-        let some_own : s.own ≡ [] → ⊥ = λ e. some (own ∙ e) in
-        let on_own : are_on is_synchronous w.tier.groups s.own ≡ true =
-        sym (bare_on is_synchronous (λ g. refl) w.tier.groups s.own) ∙ ap (λ gs. are_on is_synchronous gs s.own) is.stored.groups ∙ ap (are_on is_synchronous (groups_in t.catalog)) (sym own) ∙ on in
-        inl (own_now s s.own w w (only (No rule)) some_own (any_of_all (λ op. is_table_of is_synchronous w.tier.groups (table_of op)) s.own some_own on_own) (refuses_now s w rule is.unkept broken))
+-- there was a ticket
+pub drawn_free : (t mid : Stored) (id : SessionId) (ready : Ready) → Draws t mid id ready → (a : Tier) → IsStoredAs t a → ticket_fault a ≡ None
+drawn_free t mid id ready draws a is = ticket_free a (let le = draws.fits in let same = is.next in omega (arith, le, same))
 
 -- why the call's fault is told
 

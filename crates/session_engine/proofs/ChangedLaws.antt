@@ -1,45 +1,36 @@
 -- What UPDATE and DELETE leave of the worlds.
-use Rattle.std.proofs.Common.{◌≡◌, Bool, true, false, cond, ◌&&◌, Option, Some, None, Result, Ok, Err, List, [], ◌∷◌, ◌++◌, map, filter, fold, inl, inr, refl, sym, ap, subst, ◌∙◌}
-use Rattle.std.specs.List.{list_all, list_any}
-use Rattle.std.specs.Option.{option_and_then, option_map, option_or}
+use Rattle.std.proofs.Common.{◌≡◌, Bool, true, false, cond, ◌&&◌, None, Result, Ok, Err, List, [], ◌∷◌, map, refl, sym, ap, subst, ◌∙◌}
+use Rattle.std.specs.List.{list_all}
 use Rattle.tier_base.specs.declared.number.SessionId.{SessionId}
 use Rattle.tier_base.specs.declared.number.TableId.{TableId}
 use Rattle.row_types.specs.declared.rule.Refused.{Refused}
 use Rattle.row_types.specs.declared.rule.Refused.TheVariants as refused
-use Rattle.row_types.specs.declared.value.Value.{Value}
 use Rattle.table_state.specs.declared.footprint.RowKey.{RowKey}
 use Rattle.table_state.specs.declared.operation.Op.{Op}
 use Rattle.table_state.specs.declared.operation.Op.TheVariants.{Delete, Insert, Update}
 use Rattle.table_state.specs.Operations.{table_of}
 use Rattle.table_state.specs.Refusals.{broken_by_all}
 use Rattle.table_state.specs.Tables.{TableState}
-use Rattle.session_state.specs.Sessions.{OpenSession, with_ops}
-use Rattle.open_sessions.specs.declared.sessions.Sessions.{Sessions}
-use Rattle.open_sessions.specs.Lookups.{open_ops}
-use Rattle.open_sessions.specs.Opening.{on_session, seen_all}
-use Rattle.transactions.specs.Transactions.{rows_in}
+use Rattle.session_state.specs.Sessions.{with_ops}
 use Rattle.group_catalog.specs.Catalogs.{groups_in}
 use Rattle.sql_query.specs.declared.write.Write.{Write}
 use Rattle.sql_subset.specs.declared.stmt.Stmt.TheVariants as statement
-use Rattle.cache_tier.specs.declared.reply.Last.TheVariants.{Done, No}
 use Rattle.cache_tier.specs.declared.reply.Reply.{Reply}
 use Rattle.cache_tier.specs.ChangeSteps.{Changes}
 use Rattle.cache_tier.specs.Facts.{OverIsApplied}
 use Rattle.cache_tier.specs.Groups.{Group, covers, is_table_of, is_writethrough}
 use Rattle.cache_tier.specs.Locks.{lock_fault}
 use Rattle.cache_tier.specs.Order.{refusal}
-use Rattle.cache_tier.specs.OwnWrites.{apply_fault, written}
+use Rattle.cache_tier.specs.OwnWrites.{written}
 use Rattle.cache_tier.specs.Recency.{after_writes, op_key, used_by_ops, used_row}
 use Rattle.cache_tier.specs.Rules.{rule_of_apply}
 use Rattle.cache_tier.specs.Shown.{instance_key, over, seen_by, written_on}
 use Rattle.cache_tier.specs.Steps.{DoesStatement}
-use Rattle.cache_tier.specs.TierStates.{Session, Tier, is_labelled, session_of, with_session, with_writes}
-use Rattle.cache_tier.specs.WriteSteps.{WritesOps}
-use Rattle.cache_tier.specs.Worlds.{Unless, World, only, unless}
-use Rattle.cache_tier.specs.Events.{HasNewKey, HaveNewKeys, MayWriteMore, StaysShown, with_tier}
+use Rattle.cache_tier.specs.TierStates.{Session, Tier, with_session, with_writes}
+use Rattle.cache_tier.specs.Worlds.{Unless, World, unless}
+use Rattle.cache_tier.specs.Events.{HaveNewKeys, MayWriteMore, StaysShown, with_tier}
 use Rattle.cache_tier.specs.StandingBetween.{Stands, are_written_through}
 use Rattle.tier_statements.specs.Preparing.{inserted_row}
-use Rattle.tier_statements.specs.Seen.{session_seen}
 use Rattle.session_engine.specs.declared.preparing.Prepared.{Prepared}
 use Rattle.stored_tier.specs.declared.tier.Tier.{Tier as Stored}
 use Rattle.session_engine.specs.Changing.{Changed, Holds, HoldsNothing, IsPrepared, IsUnbroken, Prepares, is_change}

@@ -1,5 +1,5 @@
 -- COMMIT by the stored tier: the tier stands for the abstract one behind it.
-use Rattle.std.proofs.Common.{◌≡◌, ◌≤◌, ◌^◌, ◌+◌, ℕ, zero, suc, Bool, true, false, cond, not, ◌&&◌, nat_le, Option, Some, None, Result, Ok, Err, List, [], ◌∷◌, ◌++◌, length, find, unwrap_or, inl, inr, refl, sym, ap, subst, ◌∙◌, arith}
+use Rattle.std.proofs.Common.{◌≡◌, ◌≤◌, ◌^◌, ◌+◌, ℕ, zero, suc, Bool, true, false, cond, not, nat_le, Option, Some, None, List, [], ◌∷◌, ◌++◌, length, find, unwrap_or, inl, inr, refl, sym, ap, subst, ◌∙◌, arith}
 use Rattle.std.specs.Bool.{MatchBool}
 use Rattle.std.specs.FinMap.{empty}
 use Rattle.std.specs.List.{list_all}
@@ -8,8 +8,6 @@ use Rattle.std.proofs.lemmas.Bool.{leb-true}
 use Rattle.tier_base.specs.declared.limit.Limit.TheVariants as limit
 use Rattle.tier_base.specs.declared.number.SessionId.{SessionId}
 use Rattle.tier_base.specs.declared.number.TableId.{TableId}
-use Rattle.row_types.specs.declared.rule.Refused.{Refused}
-use Rattle.row_types.specs.declared.rule.Refused.TheVariants as refused
 use Rattle.row_types.specs.declared.rule.Rule.{Rule}
 use Rattle.table_defs.specs.declared.definition.TableDef.{TableDef}
 use Rattle.table_state.specs.declared.history.Sealed.{Sealed}
@@ -29,31 +27,28 @@ use Rattle.order_laws.proofs.CommittingLaws.{rise_last}
 use Rattle.order_laws.proofs.TruthLaws.{both_true}
 use Rattle.cache_tier.specs.CommitSteps.{CommitsLater, CommitsNow, CommitsOwn, committed_unsettled, is_synchronous_own, sealed_own}
 use Rattle.cache_tier.specs.Groups.{Group}
-use Rattle.cache_tier.specs.JournalSteps.{FlushesKept, NotesKept, Records, journal_fault, name_sizes}
-use Rattle.cache_tier.specs.Journals.{Commits, JournalEntry, is_full}
+use Rattle.cache_tier.specs.JournalSteps.{Records, journal_fault}
+use Rattle.cache_tier.specs.Journals.{Commits}
 use Rattle.cache_tier.specs.PassedSteps.{ticket_fault}
 use Rattle.cache_tier.specs.Reading.{Answers as Quietly}
 use Rattle.cache_tier.specs.Rules.{at_limit, broken_if, past}
 use Rattle.cache_tier.specs.Shown.{shown_state}
 use Rattle.cache_tier.specs.TierStates.{Session, Tier, is_labelled, session_of}
-use Rattle.cache_tier.specs.Worlds.{Part, Passes, Then, Unless, World, only}
+use Rattle.cache_tier.specs.Worlds.{Answer, Part, Then, Unless, World, only}
 use Rattle.cache_tier.specs.declared.reply.Last.TheVariants.{Done, No}
 use Rattle.cache_tier.specs.declared.reply.Reply.{Reply}
 use Rattle.cache_tier.specs.Events.{TakesOwn, with_tier}
 use Rattle.cache_tier.specs.StandingBetween.{Stands, are_written_through, own_writes}
 use Rattle.stored_tier.specs.declared.tier.Tier.{Tier as Stored}
-use Rattle.stored_tier.specs.Answering.{AnswersIn, Replies}
-use Rattle.session_engine.specs.Committing.{StoresOps, are_deferred, bare, bare_all, commit_answer, commit_fault, ops_at}
-use Rattle.stored_tier.specs.Performing.{Executes, IsPerformed, StandsFor, reply_of}
-use Rattle.stored_tier.specs.Sites.{IsAt}
-use Rattle.outside.specs.Sites.{SiteState}
+use Rattle.session_engine.specs.Committing.{are_deferred, bare, bare_all, commit_answer, commit_fault, ops_at}
+use Rattle.stored_tier.specs.Performing.{Executes, StandsFor}
 use Rattle.stored_tier.specs.Stored.{AreKept, AreWhole, HasSession, IsSound, IsStoredAs, IsVerified, are_later, is_plain, named_where_cached, rows_of}
 use Rattle.session_engine.proofs.KindLaws.{bare_deferred, deferred_not}
 use Rattle.session_engine.proofs.OpStores.{kept_ops, ops_shown, whole_ops}
 use Rattle.pending_writes.specs.Noting.{TellsWriters}
 use Rattle.stored_tier.specs.Stored.{first_unsettled}
 use Rattle.stored_tier.proofs.WriterLaws.{writers_told}
-use Rattle.stored_tier.proofs.QuietLaws.{at_still, its_session, stands_still}
+use Rattle.stored_tier.proofs.QuietLaws.{its_session, stands_still}
 use Rattle.stored_tier.proofs.OwnSeen.{NumberLaw, own_found}
 use Rattle.stored_tier.proofs.SoundParts.{housed_exchanged}
 use Rattle.stored_tier.proofs.StandingLaws.{last_more}
@@ -183,38 +178,43 @@ pub or_none : (o : Option Rule) → option_or o None ≡ o
 or_none None = refl
 or_none (Some r) = refl
 
-unkept_fault : (w : World) (s : Session) → w.journal.kept ≡ false
-    → option_or (at_limit limit.Pending (length w.tier.unsettled)) (option_or (ticket_fault w.tier) (journal_fault w (Commits (sealed_own w.tier s) ∷ []))) ≡ commit_fault s w.tier
-unkept_fault w s kept =
-    ap (λ k. option_or (at_limit limit.Pending (length w.tier.unsettled)) (option_or (ticket_fault w.tier) (broken_if (k && is_full (name_sizes w) w.journal (Commits (sealed_own w.tier s) ∷ [])) (past limit.JournalSlot)))) kept
-    ∙ ap (option_or (at_limit limit.Pending (length w.tier.unsettled))) (or_none (ticket_fault w.tier))
+-- what an asynchronous commit may be refused with
+abbrev pub later_fault : Session → World → Option Rule
+later_fault s w = option_or (at_limit limit.Pending (length w.tier.unsettled)) (option_or (ticket_fault w.tier) (journal_fault w (Commits (sealed_own w.tier s) ∷ [])))
 
-records_none : (durable : Bool) (e : JournalEntry) (w : World) → w.journal.kept ≡ false → Records durable e w w None
-records_none true e w kept = subst (λ k. MatchBool k (FlushesKept (e ∷ []) w w None) (Passes w w None)) (sym kept) (refl, refl)
-records_none false e w kept = subst (λ k. MatchBool k (NotesKept e w w None) (Passes w w None)) (sym kept) (refl, refl)
+broken_more : (a b c : Option Rule) (r : Rule) → option_or a b ≡ Some r → option_or a (option_or b c) ≡ Some r
+broken_more None None c r e = cc
+broken_more None (Some x) c r e = e
+broken_more (Some x) b c r e = e
+
+none_more : (a b c : Option Rule) → option_or a b ≡ None → option_or a (option_or b c) ≡ c
+none_more None None c e = refl
+none_more None (Some x) c e = cc
+none_more (Some x) b c e = cc
+
+-- the journal comes last
+pub broken_later : (s : Session) (w : World) (rule : Rule) → commit_fault s w.tier ≡ Some rule → later_fault s w ≡ Some rule
+broken_later s w rule e = broken_more (at_limit limit.Pending (length w.tier.unsettled)) (ticket_fault w.tier) (journal_fault w (Commits (sealed_own w.tier s) ∷ [])) rule e
+
+pub journal_later : (s : Session) (w : World) → commit_fault s w.tier ≡ None → later_fault s w ≡ journal_fault w (Commits (sealed_own w.tier s) ∷ [])
+journal_later s w e = none_more (at_limit limit.Pending (length w.tier.unsettled)) (ticket_fault w.tier) (journal_fault w (Commits (sealed_own w.tier s) ∷ [])) e
 
 own_commits : (s : Session) (own : List Op) (w w' : World) (reply : Reply) → (own ≡ [] → ⊥) → is_synchronous_own w.tier s ≡ false → CommitsLater s w w' reply → CommitsOwn s own w w' reply
 own_commits s [] w w' reply some apart later = absurd (some refl)
 own_commits s (op ∷ ops) w w' reply some apart later = subst (λ b. MatchBool b (CommitsNow s w w' reply) (CommitsLater s w w' reply)) (sym apart) later
 
 -- what follows where nothing is broken
-abbrev Behind : Session → World → Part
-Behind s w = Then (Records s.durable (Commits (sealed_own w.tier s))) (Quietly (λ mid. (committed_unsettled (sealed_own w.tier s) s.label mid.tier, only (Done w.tier.next))))
+abbrev pub later_answer : Session → World → World → Answer
+later_answer s w mid = (committed_unsettled (sealed_own w.tier s) s.label mid.tier, only (Done w.tier.next))
 
-refuses_later : (s : Session) (w : World) (rule : Rule) → w.journal.kept ≡ false → commit_fault s w.tier ≡ Some rule → CommitsLater s w w (only (No rule))
-refuses_later s w rule kept broken = later (sym (unkept_fault w s kept ∙ broken))
-  where
-    later : Some rule ≡ option_or (at_limit limit.Pending (length w.tier.unsettled)) (option_or (ticket_fault w.tier) (journal_fault w (Commits (sealed_own w.tier s) ∷ []))) → CommitsLater s w w (only (No rule))
-    later is = subst (λ f. Unless f (Behind s w) w w (only (No rule))) is (refl, refl)
+abbrev pub Behind : Session → World → Part
+Behind s w = Then (Records s.durable (Commits (sealed_own w.tier s))) (Quietly (later_answer s w))
 
-commits_later : (s : Session) (w : World) (reply : Reply) → w.journal.kept ≡ false → commit_fault s w.tier ≡ None → reply ≡ only (Done w.tier.next) → CommitsLater s w (with_tier (commit_answer s w.tier).0 w) reply
-commits_later s w reply kept none is = later (sym (unkept_fault w s kept ∙ none))
-  where
-    behind : Behind s w w (with_tier (commit_answer s w.tier).0 w) reply
-    behind = record { mid = w; stop = None; first = records_none s.durable (Commits (sealed_own w.tier s)) w kept; next = (refl, is) }
+refuses_later : (s : Session) (w : World) (rule : Rule) → later_fault s w ≡ Some rule → CommitsLater s w w (only (No rule))
+refuses_later s w rule broken = subst (λ f. Unless f (Behind s w) w w (only (No rule))) (sym broken) (refl, refl)
 
-    later : None ≡ option_or (at_limit limit.Pending (length w.tier.unsettled)) (option_or (ticket_fault w.tier) (journal_fault w (Commits (sealed_own w.tier s) ∷ []))) → CommitsLater s w (with_tier (commit_answer s w.tier).0 w) reply
-    later e = subst (λ f. Unless f (Behind s w) w (with_tier (commit_answer s w.tier).0 w) reply) e behind
+commits_later : (s : Session) (w w' : World) (reply : Reply) → later_fault s w ≡ None → Behind s w w w' reply → CommitsLater s w w' reply
+commits_later s w w' reply none behind = subst (λ f. Unless f (Behind s w) w w' reply) (sym none) behind
 
 -- there is a ticket
 
@@ -233,7 +233,7 @@ ticket_left s a none =
     omega (arith, le)
 
 -- the law of a commit
-abbrev CommitLaw : Type 0
+abbrev pub CommitLaw : Type 0
 CommitLaw =
     (w : World) (s : Session) → Stands w → session_of w.tier s.label ≡ Some s → w.tier.next + 1 ≤ 2 ^ 63
     → TakesOwn s.own w (with_tier (committed_unsettled (sealed_own w.tier s) s.label w.tier) w)
@@ -268,18 +268,17 @@ module _ (law : CommitLaw) (numbers : NumberLaw) (t new : Stored) (w : World) (i
       ∙ ops_shown t.schema w.tier.groups t.directory s.own (bare_all t.stores.items) n bare_housed bare_are (whole_bare t.stores.items sound.whole) through
       (ap (applied_all s.own) (shown_bare t.schema t.stores.items ∙ is.shows) ∙ leads)
 
-  stands_then : commit_fault s w.tier ≡ None → IsStoredAs new (commit_answer s w.tier).0 → bare_all new.stores.items ≡ ops_at t.directory (open_ops id (seen_all t.sessions)) (bare_all t.stores.items) → StandsFor new (with_tier (commit_answer s w.tier).0 w)
+  pub stands_then : commit_fault s w.tier ≡ None → IsStoredAs new (commit_answer s w.tier).0 → bare_all new.stores.items ≡ ops_at t.directory (open_ops id (seen_all t.sessions)) (bare_all t.stores.items) → StandsFor new (with_tier (commit_answer s w.tier).0 w)
   stands_then none stored bares =
       let own = takes none in
       record {
         stored = stored;
         shows = rows_then (shown_state w.history (commit_answer s w.tier).0) (sym stored.schema ∙ is.stored.schema) bares own.leads;
         stands = own.stands;
-        unkept = is.unkept;
         waits = last_more w.tier.log w.tier.unsettled (sealed_own w.tier s) is.waits;
       }
 
-  stays : IsStoredAs new w.tier → bare_all new.stores.items ≡ bare_all t.stores.items → StandsFor new w
+  pub stays : IsStoredAs new w.tier → bare_all new.stores.items ≡ bare_all t.stores.items → StandsFor new w
   stays stored bares =
       stands_still t new w is stored
       (ap (λ defs. shown_by defs new.stores.items) (sym stored.schema ∙ is.stored.schema) ∙ same_shown t.schema t.stores.items new.stores.items bares)
@@ -292,42 +291,22 @@ module _ (law : CommitLaw) (numbers : NumberLaw) (t new : Stored) (w : World) (i
       deferred_not w.tier.groups s.own
       (sym (bare_deferred w.tier.groups s.own) ∙ ap (λ gs. are_deferred gs s.own) is.stored.groups ∙ ap (are_deferred (groups_in t.catalog)) (sym own_is) ∙ deferred)
 
-  by_result : (site : SiteState) (result : Result Reply Refused) → (open_ops id (seen_all t.sessions) ≡ [] → ⊥) → are_deferred (groups_in t.catalog) (open_ops id (seen_all t.sessions)) ≡ true → IsAt site w → Replies new w.tier (commit_fault s w.tier) (commit_answer s w.tier) result → StoresOps t new id result
-      → IsPerformed new site (λ w'. Executes statement.Commit s w w' (reply_of result))
-  by_result site (Ok reply) some deferred at answers bares = record {
-    world = with_tier (commit_answer s w.tier).0 w;
-    at = at_still site w (commit_answer s w.tier).0 at;
-    stands = stands_then answers.0 answers.1 bares;
-    is = inl (own_commits s s.own w (with_tier (commit_answer s w.tier).0 w) reply (some_own some) (apart deferred) (commits_later s w reply is.unkept answers.0 answers.2));
-  }
-  by_result site (Err (refused.Rule rule)) some deferred at answers bares = record {
-    world = w;
-    at = at;
-    stands = stays answers.1 bares;
-    is = inl (own_commits s s.own w w (only (No rule)) (some_own some) (apart deferred) (refuses_later s w rule is.unkept answers.0));
-  }
-  by_result site (Err refused.Memory) some deferred at answers bares = record { world = w; at = at; stands = stays answers bares; is = inr (refl, refl) }
+  -- the abstract tier refuses it
+  pub refused_by : (open_ops id (seen_all t.sessions) ≡ [] → ⊥) → are_deferred (groups_in t.catalog) (open_ops id (seen_all t.sessions)) ≡ true → (rule : Rule) → later_fault s w ≡ Some rule → Executes statement.Commit s w w (only (No rule))
+  refused_by some deferred rule broken = inl (own_commits s s.own w w (only (No rule)) (some_own some) (apart deferred) (refuses_later s w rule broken))
 
--- COMMIT of a session with writes
-pub commits : CommitLaw → NumberLaw → (t new : Stored) (id : SessionId) (result : Result Reply Refused) → IsSound t → (open_ops id (seen_all t.sessions) ≡ [] → ⊥) → are_deferred (groups_in t.catalog) (open_ops id (seen_all t.sessions)) ≡ true → AnswersIn t new id commit_fault commit_answer result → StoresOps t new id result → (site : SiteState)
-    → Rattle.stored_tier.specs.Performing.PerformsIn t new site site id (Executes statement.Commit) result
-commits law numbers t new id result sound some deferred answers bares = λ site s has w at is unshared.
-    by_result law numbers t new w id s sound is has site result some deferred at (answers w.tier s is.stored has) bares
+  -- it does it
+  pub done_so : (open_ops id (seen_all t.sessions) ≡ [] → ⊥) → are_deferred (groups_in t.catalog) (open_ops id (seen_all t.sessions)) ≡ true → (w' : World) (reply : Reply) → later_fault s w ≡ None → Behind s w w w' reply → Executes statement.Commit s w w' reply
+  done_so some deferred w' reply none behind = inl (own_commits s s.own w w' reply (some_own some) (apart deferred) (commits_later s w w' reply none behind))
 
 -- and without writes
 ends_own : (s : Session) (own : List Op) (w w' : World) (reply : Reply) → own ≡ [] → Rattle.cache_tier.specs.CommitSteps.RollsBack s w w' reply → CommitsOwn s own w w' reply
 ends_own s [] w w' reply none does = does
 ends_own s (op ∷ ops) w w' reply none does = cc
 
-pub commits_none : NumberLaw → (t new : Stored) (id : SessionId) (result : Result Reply Refused) (site : SiteState) → IsSound t → open_ops id (seen_all t.sessions) ≡ [] → Rattle.stored_tier.specs.Performing.PerformsIn t new site site id (Executes statement.Rollback) result
-    → Rattle.stored_tier.specs.Performing.PerformsIn t new site site id (Executes statement.Commit) result
-commits_none numbers t new id result site sound none rolls = λ s has w at is unshared.
-    let r = rolls s has w at is unshared in
-    record { world = r.world; at = r.at; stands = r.stands; is = by s (sym (own_found numbers t id s sound has) ∙ none) w r.world r.is }
-  where
-    by : (s : Session) → s.own ≡ [] → (w w' : World) → Executes statement.Rollback s w w' (reply_of result) → Executes statement.Commit s w w' (reply_of result)
-    by s bare_own w w' (inl does) = inl (ends_own s s.own w w' (reply_of result) bare_own does)
-    by s bare_own w w' (inr wants) = inr wants
+pub ends_commit : (s : Session) (reply : Reply) → s.own ≡ [] → (w w' : World) → Executes statement.Rollback s w w' reply → Executes statement.Commit s w w' reply
+ends_commit s reply bare_own w w' (inl does) = inl (ends_own s s.own w w' reply bare_own does)
+ends_commit s reply bare_own w w' (inr wants) = inr wants
 
 pub none_long : (ops : List Op) → length ops ≡ 0 → ops ≡ []
 none_long [] e = refl

@@ -1,5 +1,5 @@
 -- A doubt that is settled: what is shown where the transaction came, and where it didn't.
-use Rattle.std.proofs.Common.{◌≡◌, ◌⊎◌, ◌≤◌, ◌^◌, ◌+◌, ℕ, Bool, true, false, ◌||◌, nat_eq, cond, Option, Some, None, Result, Ok, Err, List, [], ◌∷◌, ◌++◌, map, inl, inr, refl, sym, ap, subst, ◌∙◌, append_assoc, arith, count_by, length}
+use Rattle.std.proofs.Common.{◌≡◌, ◌⊎◌, ◌≤◌, ◌^◌, ◌+◌, ℕ, Bool, true, false, ◌||◌, nat_eq, cond, Option, Some, None, Result, Ok, Err, List, [], ◌∷◌, ◌++◌, inl, inr, refl, sym, ap, subst, ◌∙◌, append_assoc, arith, count_by, length}
 use Rattle.std.proofs.lemmas.Bool.{eq-eqb}
 use Rattle.std.proofs.lemmas.List.{append-nil}
 use Rattle.tier_base.specs.declared.code.Code.{Code}
@@ -8,15 +8,12 @@ use Rattle.tier_base.specs.declared.number.TableId.{TableId}
 use Rattle.table_state.specs.declared.history.Entry.{Entry}
 use Rattle.table_state.specs.declared.history.Entry.TheVariants.{Definition, Foreign, Own}
 use Rattle.table_state.specs.declared.history.Sealed.{Sealed}
-use Rattle.table_state.specs.declared.operation.Op.{Op}
-use Rattle.table_state.specs.Histories.{entry_of, has_ticket, is_of}
+use Rattle.table_state.specs.Histories.{entry_of, has_ticket}
 use Rattle.table_state.specs.Operations.{applied_all}
-use Rattle.table_state.specs.Tables.{TableState}
 use Rattle.table_state.proofs.HistoryLaws.{has_ticket-append}
 use Rattle.outside.specs.Bank.{AppliesOnce, Comes, Grows, TellsRecorded}
 use Rattle.outside.specs.Calls as site
 use Rattle.outside.specs.Faults.{BankHasCause}
-use Rattle.outside.specs.Holding.{Held}
 use Rattle.outside.specs.Others.{AreOthers, Around}
 use Rattle.outside.specs.Sites.{SiteState}
 use Rattle.outside.specs.declared.fault.BankError.{BankError}
@@ -26,33 +23,29 @@ use Rattle.session_state.specs.Sessions.{at_rest as rested}
 use Rattle.open_sessions.specs.Lookups.{open_ops}
 use Rattle.open_sessions.specs.Opening.{seen_all}
 use Rattle.group_catalog.specs.Catalogs.{groups_in}
-use Rattle.cache_tier.specs.CommitSteps.{after_applied, committed, ends, sealed_own}
-use Rattle.cache_tier.specs.DoubtSteps.{AsksRecorded, SettlesDoubt, ops_of, settled, settled_notes, settled_stop, stood}
+use Rattle.cache_tier.specs.CommitSteps.{committed, ends, sealed_own}
+use Rattle.cache_tier.specs.DoubtSteps.{SettlesDoubt, ops_of, settled, settled_notes, settled_stop, stood}
 use Rattle.cache_tier.specs.DueWork.{DueDoubt}
-use Rattle.cache_tier.specs.Groups.{is_synchronous}
-use Rattle.cache_tier.specs.Journals.{Journal}
 use Rattle.cache_tier.specs.PassedSteps.{with_ticket}
 use Rattle.cache_tier.specs.Shown.{no_rows, shown_state}
 use Rattle.cache_tier.specs.Steps.{note_tells}
 use Rattle.cache_tier.specs.TierStates.{ACommit, Doubt as Doubtful, Session, Tier, at_rest, session_of, with_session}
-use Rattle.cache_tier.specs.Worlds.{BankCall, IsUnshared, World}
+use Rattle.cache_tier.specs.Worlds.{BankCall, World}
 use Rattle.cache_tier.specs.declared.reply.Note.{Note}
 use Rattle.cache_tier.specs.declared.reply.Reply.{Reply}
 use Rattle.cache_tier.specs.Events.{StaysShown, at_history, with_tier}
 use Rattle.cache_tier.specs.StandingBetween.{AreReadAt, Stands}
 use Rattle.order_laws.specs.Commits.{KeepsCommitOrder}
-use Rattle.tier_statements.specs.Seen.{session_seen}
 use Rattle.stored_tier.specs.declared.tier.Tier.{Tier as Stored}
 use Rattle.stored_tier.specs.Performing.{KeepsSlots, StandsFor}
 use Rattle.stored_tier.specs.Sites.{IsAt}
-use Rattle.stored_tier.specs.Stored.{HasSession, IsSound, IsStoredAs, KeepsTime, are_later, are_on, rows_of}
+use Rattle.stored_tier.specs.Stored.{IsSound, IsStoredAs, KeepsTime, are_later, rows_of}
 use Rattle.stored_tier.proofs.BankLaws.{behind, behind_at, call_behind, told_behind}
 use Rattle.stored_tier.proofs.OwnSeen.{NumberLaw, own_found}
 use Rattle.stored_tier.proofs.QuietLaws.{its_session}
 use Rattle.stored_tier.proofs.SessionLaws.{ChangeLaw, session_changed}
 use Rattle.stored_tier.proofs.StandingLaws.{last_at_once, slots_kept}
 use Rattle.session_engine.specs.AtOnce.{Finishes}
-use Rattle.session_engine.specs.Committing.{bare_all, ops_at}
 use Rattle.session_engine.specs.Doubting.{IsEnded, IsInDoubt, IsReady, Leads}
 use Rattle.session_engine.specs.Settling.{Forgets, IsAsked, KeepsRest, Settles, end_of, note_of}
 use Rattle.session_engine.specs.declared.doubt.Doubt.{Doubt}
@@ -183,7 +176,6 @@ module _ (laws : AreLaws) (numbers : NumberLaw) (changes : ChangeLaw) (t : Store
     stored = stored;
     shows = x.stands.shows ∙ sym took.same;
     stands = took.stands;
-    unkept = x.stands.unkept;
     waits = x.stands.waits;
   }
 
@@ -195,9 +187,6 @@ module _ (laws : AreLaws) (numbers : NumberLaw) (changes : ChangeLaw) (t : Store
 
   pub shared_is : w.shared ≡ was.shared
   shared_is = x.call.shared
-
-  unkept : w.journal.kept ≡ false
-  unkept = ap (λ (j : Journal). j.kept) x.call.journal ∙ x.stands.unkept
 
   -- what came since, with others behind it
   module _ (h : List Entry) (more : CameBy w.shared w.history h) where
@@ -294,27 +283,25 @@ module _ (laws : AreLaws) (numbers : NumberLaw) (changes : ChangeLaw) (t : Store
 
     -- it came
     pub came_for : (more : CameBy w.shared w.history h) (comes : Comes own_sealed [] (was.history ++ (around h more).before) (around h more).middle) → Finishes t new d.session
-        → (v : World) → v.journal.kept ≡ false → StandsFor new (with_tier (committed own_sealed s.label (with_ticket was.tier)) (at_history h v))
-    came_for more comes fin v kept = record {
+        → (v : World) → StandsFor new (with_tier (committed own_sealed s.label (with_ticket was.tier)) (at_history h v))
+    came_for more comes fin v = record {
       stored = stored_finished fin;
       shows = rows_then laws.commit numbers t new (with_tier (with_ticket was.tier) was) d.session s sound stands_drawn x.has (shown_state h (committed own_sealed s.label (with_ticket was.tier)))
           (ap (λ (z : Stored). z.schema) fin.rest) fin.stores (ap (applied_all s.own) took.same ∙ leads_in h more comes);
       stands = stands_with (committed own_sealed s.label (with_ticket was.tier)) h was v (stands_in h more comes);
-      unkept = kept;
       waits = last_at_once was.tier.log was.tier.unsettled own_sealed (none_met was.tier.groups s.own was.tier.unsettled x.stands.stands.catalog.apart x.on later) x.stands.waits;
     }
 
     -- it didn't
     pub gone_for : EndsLaw → (more : CameBy w.shared w.history h) → Grows [] (was.history ++ (around h more).before) (around h more).middle → Forgets t new d.session
-        → (v : World) → v.journal.kept ≡ false → StandsFor new (with_tier (ends s (with_ticket was.tier)) (at_history h v))
-    gone_for law more grows f v kept =
+        → (v : World) → StandsFor new (with_tier (ends s (with_ticket was.tier)) (at_history h v))
+    gone_for law more grows f v =
         let out = stays_out h more grows in
         let rest = law (with_tier (with_ticket was.tier) (at_history h was)) s out.stands there in
         record {
           stored = stored_forgot f;
           shows = ap (λ (z : Stored). rows_of z) f.rest ∙ x.stands.shows ∙ sym (rest.same ∙ out.same);
           stands = stands_with (ends s (with_ticket was.tier)) h was v rest.stands;
-          unkept = kept;
           waits = x.stands.waits;
         }
 
@@ -406,7 +393,7 @@ module _ (laws : AreLaws) (numbers : NumberLaw) (changes : ChangeLaw) (law : End
         world = world_then (Ok true) asked;
         at = at_then (Ok true) asked;
         left = subst (λ a. StandsFor new (behind w a (now (Ok true) asked).there after)) (sym (came_is laws numbers changes t d w sound x (late true asked) same))
-            (came_for laws numbers changes t d w sound x new (late true asked) (more (Ok true) asked) comes fin (behind w w.tier (now (Ok true) asked).there after) (unkept laws numbers changes t d w sound x));
+            (came_for laws numbers changes t d w sound x new (late true asked) (more (Ok true) asked) comes fin (behind w w.tier (now (Ok true) asked).there after));
         is = settles (Ok true) asked (note_of d true ∷ []) None (ap (λ n. note_of (record d { ticket = n }) true ∷ []) same_ticket) refl;
       }
 
@@ -422,7 +409,7 @@ module _ (laws : AreLaws) (numbers : NumberLaw) (changes : ChangeLaw) (law : End
     world = world_then (Ok false) asked;
     at = at_then (Ok false) asked;
     left = subst (λ a. StandsFor new (behind w a (now (Ok false) asked).there after)) (sym (gone_is laws numbers changes t d w sound x (late false asked)))
-        (gone_for laws numbers changes t d w sound x new (late false asked) law (more (Ok false) asked) grows f (behind w w.tier (now (Ok false) asked).there after) (unkept laws numbers changes t d w sound x));
+        (gone_for laws numbers changes t d w sound x new (late false asked) law (more (Ok false) asked) grows f (behind w w.tier (now (Ok false) asked).there after));
     is = settles (Ok false) asked (note_of d false ∷ []) None (ap (λ n. note_of (record d { ticket = n }) false ∷ []) same_ticket) refl;
   }
 

@@ -1,5 +1,5 @@
 -- Operations that go behind a session's own, over the stored rows.
-use Rattle.std.proofs.Common.{◌≡◌, ◌<◌, ℕ, Bool, true, false, cond, Option, Some, None, is_some, List, [], ◌∷◌, ◌++◌, All, length, map, get_or, slice_get, unwrap_or, refl, sym, ap, subst, ◌∙◌, arith, eqb-true}
+use Rattle.std.proofs.Common.{◌≡◌, ◌<◌, ℕ, Bool, true, false, cond, Option, Some, None, is_some, List, [], ◌++◌, All, length, map, slice_get, unwrap_or, refl, sym, ap, subst, ◌∙◌, arith, eqb-true}
 use Rattle.std.specs.List.{AllPairs}
 use Rattle.std.specs.Option.{option_and_then, option_map}
 use Rattle.std.proofs.lemmas.List.{length-map}
@@ -13,7 +13,7 @@ use Rattle.table_state.proofs.HistoryLaws.{applied_all-append}
 use Rattle.own_rows.specs.OwnTables.{AreShown}
 use Rattle.session_state.specs.Sessions.{OpenSession, has_id, with_ops}
 use Rattle.open_sessions.specs.declared.sessions.Sessions.{Sessions}
-use Rattle.open_sessions.specs.Lookups.{of_number, open_ops}
+use Rattle.open_sessions.specs.Lookups.{open_ops}
 use Rattle.open_sessions.specs.Opening.{DifferInNumber, on_session, seen_all}
 use Rattle.open_sessions.proofs.LookupLaws.{number_found as at_number}
 use Rattle.stored_tier.specs.declared.tier.Tier.{Tier as Stored}

@@ -1,7 +1,6 @@
 -- An INSERT that asked the bank, in the worlds.
-use Rattle.std.proofs.Common.{◌≡◌, ◌≤◌, ℕ, Bool, true, false, not, cond, ◌&&◌, Option, Some, None, is_some, Result, Ok, Err, List, [], ◌∷◌, ◌++◌, inl, inr, append_assoc, find, map, slice_get, refl, sym, ap, subst, ◌∙◌, arith}
+use Rattle.std.proofs.Common.{◌≡◌, ◌≤◌, Bool, true, false, cond, ◌&&◌, Option, Some, None, is_some, Result, Ok, Err, List, [], ◌∷◌, ◌++◌, append_assoc, find, map, slice_get, refl, sym, ap, subst, ◌∙◌, arith}
 use Rattle.std.specs.Bool.{MatchBool}
-use Rattle.std.specs.List.{list_any}
 use Rattle.tier_base.specs.declared.code.Code.TheVariants as code
 use Rattle.tier_base.specs.declared.number.SessionId.{SessionId}
 use Rattle.tier_base.specs.declared.number.TableId.{TableId}
@@ -9,14 +8,11 @@ use Rattle.row_types.specs.declared.rule.Refused.{Refused}
 use Rattle.row_types.specs.declared.rule.Refused.TheVariants as refused
 use Rattle.row_types.specs.declared.rule.Rule.{Rule}
 use Rattle.row_types.specs.declared.value.Value.{Value}
-use Rattle.table_defs.specs.declared.definition.TableDef.{TableDef}
-use Rattle.indexed_rows.specs.Rows.{key_of}
 use Rattle.table_state.specs.declared.history.Entry.{Entry}
 use Rattle.table_state.specs.declared.operation.Op.{Op}
 use Rattle.table_state.specs.declared.operation.Op.TheVariants.{Insert}
 use Rattle.table_state.specs.Operations.{applied_all}
 use Rattle.table_state.specs.Refusals.{broken_by_all}
-use Rattle.table_state.specs.Tables.{TableState, table_at}
 use Rattle.order_laws.specs.Effects.{row_at}
 use Rattle.outside.specs.Bank.{Grows, TellsRow}
 use Rattle.outside.specs.Calls as site
@@ -36,7 +32,7 @@ use Rattle.cache_tier.specs.declared.reply.Last.TheVariants.{Done, No}
 use Rattle.cache_tier.specs.declared.reply.Reply.{Reply}
 use Rattle.cache_tier.specs.Facts.{OverIsApplied}
 use Rattle.cache_tier.specs.Groups.{Group, covers, is_table_of, is_writethrough}
-use Rattle.cache_tier.specs.InsertSteps.{Finds, Inserts, has_key_in, taken}
+use Rattle.cache_tier.specs.InsertSteps.{Finds, has_key_in, taken}
 use Rattle.cache_tier.specs.Locks.{lock_fault}
 use Rattle.cache_tier.specs.OwnWrites.{apply_fault, written}
 use Rattle.cache_tier.specs.Recency.{after_writes}
@@ -64,7 +60,7 @@ use Rattle.stored_tier.specs.Sites.{IsAt}
 use Rattle.outside.specs.Sites.{SiteState}
 use Rattle.stored_tier.specs.Stored.{HasSession, IsSound, IsStoredAs, IsVerified, rows_of, without_list}
 use Rattle.stored_tier.proofs.BankLaws.{behind, call_behind, told_behind}
-use Rattle.session_engine.proofs.ChangedLaws.{WrittenLaw, may_write, rows_same, stored_written, through_seen, unheld}
+use Rattle.session_engine.proofs.ChangedLaws.{WrittenLaw, rows_same, stored_written, through_seen, unheld}
 use Rattle.session_engine.proofs.InsertLaws.{seen_schema}
 use Rattle.session_engine.proofs.InsertedLaws.{EntriesLaw, IsLeftIn, KnowsIn, PendingLaw, asked, behind_call}
 use Rattle.session_engine.proofs.OthersLaws.{only_reads}
@@ -122,7 +118,7 @@ stays_behind : AroundLaw → (new : Stored) (before after : SiteState) (w : Worl
     → does (behind w w.tier c.held after) → IsPerformed new after does
 stays_behind law new before after w t key result does at is apart c done =
     let stays = law w c.held.history is.stands apart (only_reads w.shared (TellsRow t key result) w.history c.held.history (row_reads t key result) (c.call w.tier).history) in
-    performed_behind new before after w w.tier c.held does at c.told c.shares is.unkept is.waits is.stored (is.shows ∙ sym stays.same) stays.stands done
+    performed_behind new before after w w.tier c.held does at c.told c.shares is.waits is.stored (is.shows ∙ sym stays.same) stays.stands done
 
 -- the part of the line
 inserts_by : (s : Session) (write : Write) (w w' : World) (p : Prepared) (t : TableId) (row : List Value) (reply : Reply) → IsPrepared s write w p → p.ops ≡ Insert t row ∷ [] → has_key_in (seen_by s w.history w.tier) t row ≡ false → Finds s t row w w' reply → Executes (statement.Write write) s w w' reply
@@ -156,20 +152,20 @@ answer_refused law new before after w s write p t row found has rule at is apart
     }))
 
 -- the row is the session's
-pub answer_taken : AroundLaw → WrittenLaw → (new : Stored) (before after : SiteState) (w : World) (s : Session) (write : Write) (p : Prepared) (t : TableId) (row : List Value) (found : Option (List Value)) → IsAt before w → IsUnshared w → Stands w → w.journal.kept ≡ false → AreLast w.tier.log w.tier.unsettled → rows_of new ≡ shown_state w.history w.tier → IsPrepared s write w p → p.ops ≡ Insert t row ∷ [] → has_key_in (seen_by s w.history w.tier) t row ≡ false
+pub answer_taken : AroundLaw → WrittenLaw → (new : Stored) (before after : SiteState) (w : World) (s : Session) (write : Write) (p : Prepared) (t : TableId) (row : List Value) (found : Option (List Value)) → IsAt before w → IsUnshared w → Stands w → AreLast w.tier.log w.tier.unsettled → rows_of new ≡ shown_state w.history w.tier → IsPrepared s write w p → p.ops ≡ Insert t row ∷ [] → has_key_in (seen_by s w.history w.tier) t row ≡ false
     → (c : Called before after w t (key_in (slice_get w.tier.schema t.0) row) (Ok found)) → has_key_in (written_on s (w.history ++ (c.call (written s t (Insert t row ∷ []) w).0).history.before) w.tier) t row ≡ false
     → apply_fault s w (Insert t row ∷ []) ≡ None
     → IsStoredAs new (written s t (Insert t row ∷ []) w).0
     → (Stands (at_history c.held.history w) → MayWriteMore (at_history c.held.history w) s (Insert t row ∷ []))
     → IsPerformed new after (λ w'. Executes (statement.Write write) s w w' (only (Done (rows_in t (Insert t row ∷ [])))))
-answer_taken around law new before after w s write p t row found at apart stands unkept waits shows prepared ops hidden c asked fault stored may =
+answer_taken around law new before after w s write p t row found at apart stands waits shows prepared ops hidden c asked fault stored may =
     let ins = Insert t row ∷ [] in
     let done = written s t ins w in
     let stays = around w c.held.history stands apart (only_reads w.shared (TellsRow t (key_in (slice_get w.tier.schema t.0) row) (Ok found)) w.history c.held.history (row_reads t (key_in (slice_get w.tier.schema t.0) row) (Ok found)) (c.call w.tier).history) in
     let later = at_history c.held.history w in
     let after_law = law later s t ins stays.stands (may stays.stands) in
     let tiers : (written s t ins later).0 ≡ done.0 = ap (λ st. with_session s.label (with_writes ins) (after_writes over ins (all_over s.own st) w.tier)) stays.same in
-    performed_behind new before after w done.0 c.held (λ w'. Executes (statement.Write write) s w w' (only (Done (rows_in t (Insert t row ∷ []))))) at c.told c.shares unkept waits stored
+    performed_behind new before after w done.0 c.held (λ w'. Executes (statement.Write write) s w w' (only (Done (rows_in t (Insert t row ∷ []))))) at c.told c.shares waits stored
     (shows ∙ sym stays.same ∙ sym after_law.same ∙ ap (shown_state c.held.history) tiers)
     (subst (λ a. Stands (with_tier a later)) tiers after_law.stands)
     (inserts_by s write w (behind w done.0 c.held after) p t row (only (Done (rows_in t (Insert t row ∷ [])))) prepared ops hidden
@@ -310,7 +306,7 @@ module _ (over_law : OverIsApplied) (numbers : NumberLaw) (changes : ChangeLaw) 
           fresh = (behind_call pending entries w s weighed.table weighed.row x.known is.stands apart there through knows shown gone found c.held.history (c.call w.tier).history stands ∙ e, tt);
         } in
         subst (λ r. IsPerformed new after (λ w'. Executes (statement.Write write) s w w' r)) (sym says)
-        (answer_taken around law new before after w s write p weighed.table weighed.row found at apart is.stands is.unkept is.waits (rows_same t new holds.rest ∙ is.shows) prepared weighed.is hidden c
+        (answer_taken around law new before after w s write p weighed.table weighed.row found at apart is.stands is.waits (rows_same t new holds.rest ∙ is.shows) prepared weighed.is hidden c
         (told (written s weighed.table ins w).0 ∙ e) (ap rule_of_apply unbroken)
         (stored_written changes t new w.tier s id ins (seen_by s w.history w.tier) sound is.stored has holds) may)
 

@@ -1,76 +1,32 @@
 -- What an INSERT leaves of the worlds.
-use Rattle.std.proofs.Common.{◌≡◌, ◌≤◌, ℕ, Bool, true, false, not, cond, ◌&&◌, Option, Some, None, is_some, Result, Ok, Err, List, [], ◌∷◌, ◌++◌, inl, inr, find, length, slice_get, refl, sym, ap, subst, ◌∙◌}
-use Rattle.std.specs.Bool.{MatchBool}
-use Rattle.std.specs.List.{list_any}
+use Rattle.std.proofs.Common.{◌≡◌, ◌≤◌, Bool, true, false, Option, Some, None, is_some, Ok, List, ◌∷◌, ◌++◌, find, slice_get, refl, sym, ap, subst, ◌∙◌}
 use Rattle.std.proofs.lemmas.List.{append-nil}
-use Rattle.tier_base.specs.declared.number.SessionId.{SessionId}
 use Rattle.tier_base.specs.declared.number.TableId.{TableId}
-use Rattle.row_types.specs.declared.rule.Refused.{Refused}
-use Rattle.row_types.specs.declared.rule.Refused.TheVariants as refused
-use Rattle.row_types.specs.declared.rule.Rule.{Rule}
 use Rattle.row_types.specs.declared.value.Value.{Value}
-use Rattle.table_defs.specs.declared.definition.TableDef.{TableDef}
-use Rattle.indexed_rows.specs.Rows.{key_of}
 use Rattle.table_state.specs.declared.history.Entry.{Entry}
 use Rattle.table_state.specs.declared.history.Sealed.{Sealed}
 use Rattle.table_state.specs.declared.operation.Op.{Op}
-use Rattle.table_state.specs.declared.operation.Op.TheVariants.{Insert}
 use Rattle.table_state.specs.Histories.{state_of}
-use Rattle.table_state.specs.Operations.{applied_all}
-use Rattle.table_state.specs.Refusals.{broken_by_all}
-use Rattle.table_state.specs.Tables.{TableState, table_at}
+use Rattle.table_state.specs.Tables.{TableState}
 use Rattle.order_laws.specs.Effects.{row_at}
-use Rattle.outside.specs.Bank.{Grows, TellsRow}
-use Rattle.outside.specs.Calls as site
-use Rattle.outside.specs.declared.fault.BankError.{BankError}
-use Rattle.outside.specs.declared.fault.BankError.TheVariants as bank
-use Rattle.outside.specs.Holding.{Held}
+use Rattle.outside.specs.Bank.{TellsRow}
 use Rattle.outside.specs.Others.{AreOthers, Around, is_shared}
 use Rattle.evaluator.specs.Cascades.{key_in}
-use Rattle.open_sessions.specs.Lookups.{open_ops}
-use Rattle.open_sessions.specs.Opening.{seen_all}
-use Rattle.sql_query.specs.declared.write.Write.{Write}
-use Rattle.sql_subset.specs.declared.stmt.Stmt.TheVariants as statement
-use Rattle.transactions.specs.Transactions.{rows_in}
-use Rattle.group_catalog.specs.Catalogs.{groups_in}
-use Rattle.cache_tier.specs.declared.reply.Last.TheVariants.{Done, No}
-use Rattle.cache_tier.specs.declared.reply.Reply.{Reply}
-use Rattle.cache_tier.specs.Facts.{OverIsApplied}
 use Rattle.cache_tier.specs.Groups.{Group, covers, is_table_of, is_writethrough}
-use Rattle.cache_tier.specs.InsertSteps.{Finds, Inserts, has_key_in, insert_answer, insert_fault, taken}
-use Rattle.cache_tier.specs.OwnWrites.{apply_fault, written}
-use Rattle.cache_tier.specs.Recency.{after_writes}
-use Rattle.cache_tier.specs.Rules.{rule_of_apply}
-use Rattle.cache_tier.specs.Shown.{all_over, over, seen_by, shown_state, written_on}
-use Rattle.cache_tier.specs.TierStates.{Session, Tier, session_of, with_session, with_writes}
-use Rattle.cache_tier.specs.WriteSteps.{WritesOps}
-use Rattle.cache_tier.specs.Worlds.{Answer, BankCall, IsUnshared, Refuses, World, bank_fault, faulty, only, unless}
-use Rattle.tier_base.specs.declared.code.Code.TheVariants as code
-use Rattle.cache_tier.specs.Events.{HaveNewKeys, MayWriteMore, StaysShown, at_history, with_tier}
+use Rattle.cache_tier.specs.InsertSteps.{has_key_in}
+use Rattle.cache_tier.specs.Shown.{written_on}
+use Rattle.cache_tier.specs.TierStates.{Session, Tier, session_of}
+use Rattle.cache_tier.specs.Worlds.{IsUnshared, World}
+use Rattle.cache_tier.specs.Events.{StaysShown, at_history}
 use Rattle.cache_tier.specs.Pending.{last_written, pending_ops}
 use Rattle.cache_tier.specs.StandingBetween.{Stands}
 use Rattle.cache_tier.proofs.GroupTables.{live_at}
-use Rattle.cache_tier.proofs.PendingRows.{all_written, virtual_row}
-use Rattle.session_engine.specs.declared.inserting.Weighed.{Weighed}
-use Rattle.session_engine.specs.declared.preparing.Prepared.{Prepared}
-use Rattle.stored_tier.specs.declared.tier.Tier.{Tier as Stored}
-use Rattle.session_engine.specs.Changing.{Changed, Holds, HoldsNothing, IsPrepared, IsUnbroken}
+use Rattle.cache_tier.proofs.PendingRows.{virtual_row}
 use Rattle.session_engine.specs.declared.inserting.Known.{Known}
 use Rattle.session_engine.specs.declared.inserting.Known.TheVariants as kind
-use Rattle.session_engine.specs.Inserting.{IsWeighed, KnowsKey, TakenFree, TakenIn, TellsRule, has_row, leaves_row, some_writes_key, writes_key}
-use Rattle.stored_tier.specs.Performing.{Executes, IsPerformed, StandsFor, reply_of}
-use Rattle.stored_tier.specs.Sites.{IsAt}
-use Rattle.stored_tier.specs.Stored.{HasSession, IsSound, IsStoredAs, IsVerified, rows_of, without_list}
-use Rattle.stored_tier.proofs.BankLaws.{TellsBehind, behind, call_behind, told_behind}
-use Rattle.session_engine.proofs.ChangedLaws.{WrittenLaw, may_write, rows_same, stored_written, unheld}
-use Rattle.session_engine.proofs.InsertLaws.{key_there, last_behind, none_written, of_pending, others_keep_row, seen_schema, some_written}
+use Rattle.session_engine.specs.Inserting.{has_row, leaves_row, some_writes_key, writes_key}
+use Rattle.session_engine.proofs.InsertLaws.{key_there, last_behind, none_written, of_pending, others_keep_row, some_written}
 use Rattle.session_engine.proofs.OrderedRows.{row_left}
-use Rattle.session_engine.proofs.OthersLaws.{only_reads}
-use Rattle.stored_tier.proofs.QuietLaws.{its_session}
-use Rattle.stored_tier.proofs.OwnSeen.{NumberLaw, any_map, own_found}
-use Rattle.stored_tier.proofs.SessionLaws.{ChangeLaw}
-use Rattle.stored_tier.proofs.StandingLaws.{performed_behind}
-use Rattle.session_engine.proofs.WriteLaws.{sees}
 
 abbrev pub PendingLaw : Type 0
 PendingLaw =

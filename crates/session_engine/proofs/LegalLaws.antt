@@ -1,13 +1,13 @@
 -- A synchronous transaction of which nobody knows whether it came: the history keeps commit order, and no position is
 -- past its end.
-use Rattle.std.proofs.Common.{◌≡◌, ◌⊎◌, ◌≤◌, ◌<◌, ◌^◌, ◌+◌, ℕ, Bool, true, false, ◌||◌, Some, None, Err, List, [], ◌∷◌, ◌++◌, length, map, inl, inr, refl, sym, ap, subst, ◌∙◌, arith}
+use Rattle.std.proofs.Common.{◌≡◌, ◌⊎◌, ◌≤◌, ◌^◌, ◌+◌, ℕ, Bool, true, false, ◌||◌, Some, Err, List, [], ◌∷◌, ◌++◌, length, map, inl, inr, refl, sym, ap, subst, ◌∙◌, arith}
 use Rattle.std.proofs.lemmas.List.{length-append, map-append}
 use Rattle.tier_base.specs.declared.number.Ticket.{Ticket}
 use Rattle.table_state.specs.declared.history.Entry.{Entry}
 use Rattle.table_state.specs.declared.history.Entry.TheVariants.{Definition, Foreign, Own}
 use Rattle.table_state.specs.declared.history.Sealed.{Sealed}
 use Rattle.table_state.specs.declared.operation.Op.{Op}
-use Rattle.table_state.specs.Histories.{entry_of, has_ticket, state_of}
+use Rattle.table_state.specs.Histories.{entry_of, has_ticket}
 use Rattle.table_state.specs.Tables.{TableState}
 use Rattle.table_state.proofs.HistoryLaws.{has_ticket-append}
 use Rattle.outside.specs.Bank.{AppliesOnce, Comes, Grows}

@@ -9,9 +9,12 @@ pub mod HeldLaws
 pub mod InsertDone
 pub mod InsertLaws
 pub mod InsertedLaws
+pub mod KeptLaws
 pub mod KindLaws
+pub mod LaterKept
 pub mod LegalLaws
 pub mod NamedLaws
+pub mod NowKept
 pub mod OpStores
 pub mod OrderedRows
 pub mod OthersLaws

@@ -1,10 +1,9 @@
 -- Groups by their names, as the catalog and the tier's reader have them.
-use Rattle.std.proofs.Common.{◌≡◌, ℕ, zero, suc, ◌+◌, Bool, true, false, not, cond, nat_lt, Option, Some, None, List, [], ◌∷◌, length, map, slice_get, refl, sym, ap, subst, ◌∙◌}
+use Rattle.std.proofs.Common.{◌≡◌, ℕ, zero, suc, ◌+◌, Bool, not, cond, nat_lt, Option, Some, None, List, [], ◌∷◌, map, slice_get, refl, sym, ap, subst, ◌∙◌}
 use Rattle.std.specs.List.{position, prefix_len}
 use Rattle.std.specs.Option.{option_and_then, option_map, option_or}
 use Rattle.std.proofs.lemmas.List.{length-map}
 use Rattle.row_types.specs.declared.rule.Refused.{Refused}
-use Rattle.row_types.specs.declared.rule.Refused.TheVariants as refused
 use Rattle.row_types.specs.declared.rule.Rule.{Rule}
 use Rattle.tier_base.specs.declared.code.Code.TheVariants as code
 use Rattle.table_defs.specs.Declarations.{IsRefusedBy}
@@ -13,7 +12,7 @@ use Rattle.sql_subset.specs.declared.stmt.OfGroup.{OfGroup}
 use Rattle.sql_subset.specs.declared.stmt.Stmt.TheVariants as statement
 use Rattle.sql_subset.specs.declared.stmt.Which.{Which}
 use Rattle.group_catalog.specs.Catalogs.{groups_in}
-use Rattle.cache_tier.specs.Conditions.{root_def, which_names, which_types}
+use Rattle.cache_tier.specs.Conditions.{root_def, which_names}
 use Rattle.cache_tier.specs.Groups.{Group, group_at, is_called, place_called}
 use Rattle.cache_tier.specs.Order.{Broken, broken_by_name, first_broken, flush_broken, of_group, refusal}
 use Rattle.cache_tier.specs.Rules.{named}

@@ -1,7 +1,7 @@
 -- What a query leaves of the tier that answers it.
-use Rattle.std.proofs.Common.{◌≡◌, ℕ, Bool, true, false, not, cond, ◌&&◌, ◌||◌, Option, Some, None, Result, Ok, Err, List, [], ◌∷◌, IfErr, IfOk, map, inl, inr, refl, sym, ap, subst, ◌∙◌}
+use Rattle.std.proofs.Common.{◌≡◌, Bool, true, false, not, ◌&&◌, ◌||◌, Result, Ok, Err, List, [], ◌∷◌, IfErr, IfOk, map, inl, refl, sym, ap, subst, ◌∙◌}
 use Rattle.std.specs.List.{list_all, list_any}
-use Rattle.std.specs.Option.{is_none, option_or}
+use Rattle.std.specs.Option.{is_none}
 use Rattle.tier_base.specs.declared.number.SessionId.{SessionId}
 use Rattle.row_types.specs.declared.rule.Refused.{Refused}
 use Rattle.row_types.specs.declared.rule.Refused.TheVariants as refused
@@ -12,10 +12,9 @@ use Rattle.resolution.specs.declared.resolved.ResolvedQuery.{ResolvedQuery}
 use Rattle.resolution.specs.Queries.{PlacedQuery, resolved_query}
 use Rattle.sql_query.specs.declared.query.Query.{Query}
 use Rattle.sql_subset.specs.declared.stmt.Stmt.TheVariants as statement
-use Rattle.group_catalog.specs.Catalogs.{groups_in}
 use Rattle.cache_tier.specs.declared.reply.Last.TheVariants.{No}
 use Rattle.cache_tier.specs.declared.reply.Reply.{Reply}
-use Rattle.cache_tier.specs.Groups.{Group, is_explicit}
+use Rattle.cache_tier.specs.Groups.{Group}
 use Rattle.cache_tier.specs.Order.{broken_by_name, first_broken, refusal}
 use Rattle.cache_tier.specs.Recency.{after_use, row_key, selected_rows}
 use Rattle.cache_tier.specs.Routes.{visible}
@@ -27,12 +26,12 @@ use Rattle.cache_tier.specs.TierStates.{Session, Tier, level_of}
 use Rattle.cache_tier.specs.Worlds.{Unless, World, only}
 use Rattle.cache_tier.specs.Events.{StaysShown, with_tier}
 use Rattle.cache_tier.specs.StandingBetween.{Stands}
-use Rattle.tier_statements.specs.Answering.{IsAnswerTo, IsAnswered}
+use Rattle.tier_statements.specs.Answering.{IsAnswerTo}
 use Rattle.session_engine.specs.declared.query.Selected.{Selected}
 use Rattle.session_engine.specs.declared.query.Selected.TheVariants.{Answered, PassedOn}
 use Rattle.stored_tier.specs.declared.tier.Tier.{Tier as Stored}
 use Rattle.stored_tier.specs.Performing.{Executes, IsCalm, IsPerformed, PerformsIn, StandsFor, reply_of}
-use Rattle.session_engine.specs.Selecting.{HasNoDynamic, IsSelected, SelectsHere, query_reply}
+use Rattle.session_engine.specs.Selecting.{HasNoDynamic, SelectsHere, query_reply}
 use Rattle.stored_tier.specs.Sites.{IsAt}
 use Rattle.outside.specs.Sites.{SiteState}
 use Rattle.stored_tier.specs.Stored.{HasSession, IsSound, IsStoredAs, ShowsRows, is_plain, without_list}

@@ -1,33 +1,27 @@
 -- A session's write, as the parts of the tier make it.
-use Rattle.std.proofs.Common.{◌≡◌, ◌<◌, ℕ, zero, suc, Bool, true, false, not, cond, ◌&&◌, ◌||◌, Option, Some, None, is_some, Result, Ok, Err, List, [], ◌∷◌, ◌++◌, All, IfOk, length, map, get_or, slice_get, unwrap_or, inl, inr, refl, sym, ap, subst, ◌∙◌, arith, eqb-true}
+use Rattle.std.proofs.Common.{◌≡◌, ℕ, suc, Bool, true, false, cond, ◌&&◌, Option, Some, None, is_some, Result, Ok, Err, List, [], ◌∷◌, All, IfOk, map, inl, refl, sym, ap, subst, ◌∙◌, arith}
 use Rattle.std.specs.Bool.{MatchBool}
-use Rattle.std.specs.List.{AllPairs, list_all, list_any}
-use Rattle.std.specs.Option.{option_and_then, option_map, option_or}
-use Rattle.std.proofs.lemmas.List.{length-map}
+use Rattle.std.specs.List.{list_any}
+use Rattle.std.specs.Option.{option_or}
 use Rattle.std.proofs.lemmas.List.Elements.{All-cons}
 use Rattle.tier_base.specs.declared.number.SessionId.{SessionId}
 use Rattle.tier_base.specs.declared.number.TableId.{TableId}
 use Rattle.row_types.specs.declared.rule.Refused.{Refused}
 use Rattle.row_types.specs.declared.rule.Refused.TheVariants as refused
 use Rattle.row_types.specs.declared.rule.Rule.{Rule}
-use Rattle.table_defs.specs.declared.definition.TableDef.{TableDef}
 use Rattle.table_state.specs.declared.operation.Op.{Op}
 use Rattle.table_state.specs.declared.operation.Op.TheVariants.{Delete, Insert, Update}
-use Rattle.table_state.specs.declared.refusal.ApplyError.{ApplyError}
 use Rattle.table_state.specs.Operations.{applied_all}
 use Rattle.table_state.specs.Refusals.{broken_by_all}
 use Rattle.table_state.specs.Tables.{TableState}
-use Rattle.own_rows.specs.OwnTables.{AreShown}
-use Rattle.session_state.specs.Sessions.{OpenSession, has_id, with_ops}
-use Rattle.open_sessions.specs.declared.sessions.Sessions.{Sessions}
-use Rattle.open_sessions.specs.Lookups.{has_label, of_label, of_number, open_ops}
-use Rattle.open_sessions.specs.Opening.{AreSessions, DifferInNumber, on_session, seen_all}
-use Rattle.open_sessions.proofs.LookupLaws.{number_found as at_number}
+use Rattle.session_state.specs.Sessions.{OpenSession, has_id}
+use Rattle.open_sessions.specs.Lookups.{has_label, of_number, open_ops}
+use Rattle.open_sessions.specs.Opening.{on_session, seen_all}
 use Rattle.group_catalog.specs.Catalogs.{groups_in}
 use Rattle.evaluator.specs.declared.change.Change.{Change}
 use Rattle.evaluator.specs.Rules.{Gives, then_do}
 use Rattle.evaluator.specs.Writes.{effects_of}
-use Rattle.resolution.specs.Writes.{change_seen, named_write, resolved_write}
+use Rattle.resolution.specs.Writes.{change_seen, resolved_write}
 use Rattle.sql_query.specs.declared.write.Write.{Write}
 use Rattle.sql_subset.specs.declared.stmt.Stmt.TheVariants as statement
 use Rattle.cache_tier.specs.declared.reply.Last.TheVariants.{No}
@@ -38,14 +32,13 @@ use Rattle.cache_tier.specs.Facts.{OverIsApplied}
 use Rattle.cache_tier.specs.Groups.{Group, covers, is_read_only, is_synchronous, is_table_of, is_writethrough}
 use Rattle.cache_tier.specs.InsertSteps.{Finds, Inserts, has_key_in, taken}
 use Rattle.cache_tier.specs.Locks.{lock_fault}
-use Rattle.cache_tier.specs.Order.{refusal}
 use Rattle.cache_tier.specs.OwnWrites.{apply_fault, room_of, written}
 use Rattle.cache_tier.specs.Routes as route
 use Rattle.cache_tier.specs.Routes.{visible, write_route}
-use Rattle.cache_tier.specs.Rules.{broken_if, rule_of_apply}
+use Rattle.cache_tier.specs.Rules.{broken_if}
 use Rattle.cache_tier.specs.Shown.{seen_by}
 use Rattle.cache_tier.specs.Steps.{DoesStatement}
-use Rattle.cache_tier.specs.TierStates.{Session, Tier, is_labelled, level_of}
+use Rattle.cache_tier.specs.TierStates.{Session, Tier, level_of}
 use Rattle.cache_tier.specs.Wants.{wanted_by_write}
 use Rattle.cache_tier.specs.WriteSteps.{Writes, WritesBy, WritesEffects, WritesOps, WritesPlaced, WritesShown}
 use Rattle.cache_tier.specs.Worlds.{Refuses, Unless, World, only, unless}
@@ -54,16 +47,14 @@ use Rattle.tier_statements.specs.Routing.{IsRouted, Routes, route_seen, write_re
 use Rattle.tier_statements.specs.Seen.{HasGroups, HasSessions, IsNumberOf, session_seen}
 use Rattle.tier_statements.specs.declared.routing.Route.TheVariants.{Cached}
 use Rattle.tier_statements.specs.declared.routing.RoutedWrite.{RoutedWrite}
-use Rattle.session_engine.specs.declared.preparing.Prepared.{Prepared}
 use Rattle.stored_tier.specs.declared.tier.Tier.{Tier as Stored}
-use Rattle.session_engine.specs.Changing.{IsPrepared, IsUnbroken, Prepares}
+use Rattle.session_engine.specs.Changing.{IsPrepared, Prepares}
 use Rattle.stored_tier.specs.Performing.{Executes}
 use Rattle.stored_tier.specs.Stored.{HasSession, IsSound, IsStoredAs, IsVerified, ShowsRows, rows_of, without_list}
 use Rattle.session_engine.proofs.QueryLaws.{has_no_dynamic}
 use Rattle.session_engine.proofs.SelectLaws.{nothing_wanted}
 use Rattle.stored_tier.proofs.OwnSeen.{NumberLaw, any_map, number_found, own_found, own_lies, seen_is}
 use Rattle.stored_tier.proofs.SessionLaws.{ChangeLaw}
-use Rattle.stored_tier.proofs.VerifyLaws.{all_apply}
 
 -- the groups by their tables
 

@@ -1,7 +1,7 @@
 -- INSERT, UPDATE and DELETE over the stored tier. (TimesTen SQL Reference, "INSERT", "UPDATE", "DELETE"; locks are this
 -- project's rule.)
 
-use Rattle.std.specs.Prelude.{◌≡◌, List, Option, Some, None, Bool, true, false, Result, Ok, Err}
+use Rattle.std.specs.Prelude.{◌≡◌, List, Some, None, Bool, true, false, Result, Ok, Err}
 use Rattle.tier_base.specs.declared.number.SessionId.{SessionId}
 use Rattle.row_types.specs.declared.rule.Refused.{Refused}
 use Rattle.row_types.specs.declared.rule.Refused.TheVariants as refused

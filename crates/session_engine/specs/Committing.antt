@@ -1,7 +1,7 @@
 -- COMMIT over the stored tier. (TimesTen Cache User's Guide: asynchronous writethrough cache groups; tickets are this
 -- project's.)
 
-use Rattle.std.specs.Prelude.{◌≡◌, ℕ, zero, suc, ◌≤◌, List, [], ◌∷◌, Option, Some, None, All, Bool, ◌&&◌, not, Result, Ok, Err, is_some, length, map, slice_get}
+use Rattle.std.specs.Prelude.{◌≡◌, ℕ, zero, suc, ◌≤◌, List, [], ◌∷◌, Option, Some, None, Bool, ◌&&◌, not, Result, Ok, Err, is_some, length, map, slice_get}
 use Rattle.std.specs.List.{list_all}
 use Rattle.std.specs.Option.{option_and_then, option_or}
 use Rattle.tier_base.specs.declared.limit.Limit.TheVariants as limit
@@ -9,12 +9,11 @@ use Rattle.tier_base.specs.declared.number.SessionId.{SessionId}
 use Rattle.tier_base.specs.declared.number.TableId.{TableId}
 use Rattle.row_types.specs.declared.rule.Refused.{Refused}
 use Rattle.row_types.specs.declared.rule.Rule.{Rule}
+use Rattle.table_state.specs.declared.history.Sealed.{Sealed}
 use Rattle.table_state.specs.declared.operation.Op.{Op}
 use Rattle.table_state.specs.Operations.{table_of}
-use Rattle.own_rows.specs.OwnTables.{AreShown}
 use Rattle.open_sessions.specs.Lookups.{open_ops}
 use Rattle.open_sessions.specs.Opening.{seen_all}
-use Rattle.group_store.specs.Shown.{AreHoused}
 use Rattle.group_store.specs.Stores.{Kept, op_done}
 use Rattle.group_store.specs.declared.directory.Home.{Home}
 use Rattle.cache_tier.specs.declared.reply.Last.TheVariants.{Done}
@@ -26,7 +25,10 @@ use Rattle.cache_tier.specs.Rules.{at_limit}
 use Rattle.cache_tier.specs.TierStates.{Session, Tier}
 use Rattle.cache_tier.specs.Worlds.{Answer, only}
 use Rattle.stored_tier.specs.declared.tier.Tier.{Tier as Stored}
-use Rattle.stored_tier.specs.Stored.{rows_of}
+
+-- the session's writes under the next ticket
+abbrev pub sealed_next : Stored → SessionId → Sealed
+sealed_next t id = record { ticket = record { 0 = t.next }; ops = open_ops id (seen_all t.sessions) }
 
 -- 119 of the pending transactions, then of the tickets
 abbrev pub commit_fault : Session → Tier → Option Rule

@@ -84,12 +84,12 @@ EndsIn old new doubt before behind id part result =
 -- journal is kept over the disk.
 pub record IsEndedOver {D : Type 0} (state : D → SiteState) (possible : D → ℕ → Held → Type 0) (new : Stored)
     (doubt : Option Doubt) (k : Option TierJournal) (d : D) (stop : Option Reply) (does : World → Type 0) : Type 0
-    where
-  pub world : World
-  pub at : IsAt (state d) world
-  pub is : does world
-  pub left : is_broken stop ≡ false → IsLeft new doubt world
-  pub keeps : is_broken stop ≡ false → KeepsOver state possible d k world
+  where
+    pub world : World
+    pub at : IsAt (state d) world
+    pub is : does world
+    pub left : is_broken stop ≡ false → IsLeft new doubt world
+    pub keeps : is_broken stop ≡ false → KeepsOver state possible d k world
 
 -- for each world at the site before, in which the old tier is left so, and over whose disk the old journal is kept
 abbrev pub LeadsOver : {D : Type 0} → (D → SiteState) → (D → ℕ → Held → Type 0) → Stored → Option Doubt → Stored

@@ -1,7 +1,7 @@
 -- INSERT of a row whose key isn't shown, over the stored tier. (TimesTen SQL Reference, "INSERT"; that its key is checked
 -- at once against backing rows and what is pending is this project's rule.)
 
-use Rattle.std.specs.Prelude.{◌≡◌, ◌≤◌, ℕ, List, [], ◌∷◌, ◌++◌, Option, Some, None, Bool, true, false, is_some, Result, Ok, Err, slice_get}
+use Rattle.std.specs.Prelude.{◌≡◌, ◌≤◌, ℕ, List, [], ◌∷◌, ◌++◌, Option, Some, None, Bool, true, false, is_some, Result, Err, slice_get}
 use Rattle.std.specs.Bool.{MatchBool}
 use Rattle.std.specs.List.{list_any}
 use Rattle.row_types.specs.declared.rule.Refused.{Refused}

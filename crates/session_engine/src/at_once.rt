@@ -1,6 +1,6 @@
-//! COMMIT of a transaction whose groups are SYNCHRONOUS WRITETHROUGH, where there is no journal.
+//! COMMIT of a transaction whose groups are SYNCHRONOUS WRITETHROUGH.
 
-ghost use Rattle.std.specs.Prelude.{◌≡◌, [], IfErr, IfOk, IsTrue, None, OnErr, length, true};
+ghost use Rattle.std.specs.Prelude.{◌≡◌, [], IfErr, IfOk, IsTrue, None, OnErr, false, length, true};
 ghost use Rattle.sql_subset.specs.declared.stmt.Stmt.TheVariants as statement;
 ghost use Rattle.table_defs.specs.Declarations.{IsRefusedBy};
 ghost use Rattle.outside.specs.Bank.{WaitsForOne};
@@ -12,19 +12,23 @@ ghost use Rattle.cache_tier.specs.PassedSteps.{ticket_fault};
 ghost use Rattle.cache_tier.specs.Worlds.{only};
 ghost use Rattle.cache_tier.specs.declared.reply.Last.TheVariants.{Done};
 ghost use Rattle.cache_tier.specs.TierStates.{Tier as AbstractTier};
-ghost use Rattle.stored_tier.specs.Performing.{Executes, IsCaused, reply_of};
+ghost use Rattle.cache_tier.specs.Journals.{Prepares};
+ghost use Rattle.kept_journal.specs.Drafts.{IsDraftOf, is_full_draft};
+ghost use Rattle.stored_tier.specs.Performing.{Executes, IsCausedOver, reply_of};
 ghost use Rattle.stored_tier.specs.Stored.{IsSound, IsStoredAs, are_on};
 ghost use Rattle.session_engine.specs.AtOnce.{Concludes, Draws, Finishes, Rooms};
-ghost use Rattle.session_engine.specs.Committing.{HaveRoomFor};
-ghost use Rattle.session_engine.specs.Doubting.{EndsIn, IsReady};
+ghost use Rattle.session_engine.specs.Committing.{HaveRoomFor, sealed_next};
+ghost use Rattle.session_engine.specs.Doubting.{EndsInOver, IsReady};
 
 use crate::commit::{past, reserve_all, store_ops};
 use crate::doubt::Doubt;
+use crate::drafting::draft_prepare;
 use crate::noting::{is_verified_for, note_verified};
 use crate::resting::commit_session;
 use cache_tier::reply::Reply;
 use cache_tier::{commit_shown_law, others_shown_law, round_shown_law};
 use group_catalog::Catalog;
+use kept_journal::{Draft, flush_draft};
 use open_sessions::laws::label_law;
 use order_laws::flow_skip_law;
 use outside::{Applied, BankError, Site};
@@ -33,6 +37,7 @@ use std::alloc::{AllocError, Global};
 use stored_tier::tier::Tier;
 use table_state::{Op, Ops, Sealed, copied_ops};
 use tier_base::{Code, Limit, SessionId, Ticket};
+use tier_journal::TierJournal;
 use tier_statements::{done, faulty};
 
 /// A transaction that is ready for the backing database, and its operations for the stores.
@@ -50,26 +55,25 @@ pub fn commit_transaction<P: Site>(
     tier: &mut Tier,
     alloc: Global,
     site: &mut P,
+    journal: &mut Option<TierJournal>,
     id: SessionId,
     doubt: &mut Option<Doubt>,
 ) -> Result<Reply, Refused>
     requires sound { IsSound tier.old }
     requires free { doubt.old ≡ None }
-    ensures performs { EndsIn tier.old tier.new doubt.new
-        (P.Disk.state site.old)
-        (P.Disk.state site.new)
-        id (Executes statement.Commit) result }
+    ensures performs { EndsInOver P.Disk.state P.Disk.possible tier.old tier.new doubt.new journal.old journal.new
+        site.old site.new id (Executes statement.Commit) result }
     ensures sound { IsSound tier.new }
     ensures ready { IsReady tier.new doubt.new }
-    ensures cause { IsCaused
+    ensures cause { IsCausedOver journal.old
         (P.Disk.state site.old)
         (P.Disk.state site.new)
         (reply_of result) }
 {
     if has_written(tier, id) && are_at_once(&tier.catalog, tier.sessions.ops(id)) {
-        return commit_at_once(tier, alloc, site, id, doubt);
+        return commit_at_once(tier, alloc, site, journal, id, doubt);
     }
-    commit_session(tier, alloc, id)
+    commit_session(tier, alloc, site, journal, id)
 }
 
 // Whether a session has written.
@@ -86,17 +90,21 @@ fn are_at_once(catalog: &Catalog, ops: &[Op]) -> bool
     ops.iter().all(|op| catalog.is_synchronous(op.table()))
 }
 
-/// COMMIT of an open session that has written tables of SYNCHRONOUS WRITETHROUGH groups: the transaction is applied at
-/// the backing database, with the next ticket, and then the stores do it, and it ends.
+/// COMMIT of an open session that has written tables of SYNCHRONOUS WRITETHROUGH groups: its entry is flushed to the
+/// journal, where the tier keeps one; then the transaction is applied at the backing database, with the next ticket;
+/// and then the stores do it, and it ends. All memory is taken before the flush.
 ///
-/// The refusal is 119 where no ticket is left. The reply is 210 with the table and the key of a row that isn't as the
-/// transaction says, and 299 where memory was wanting; the transaction then stays open. It is 201 where the call failed:
-/// the ticket is in doubt then, with what the session has written, and all else stays. A ticket that was drawn isn't used again. (TimesTen Cache User's
-/// Guide, "Synchronous writethrough"; tickets are this project's.)
+/// The refusal is 119 where no ticket is left, then where the journal has no room; or memory was wanting. All then
+/// stays. The reply is 202 where a call of the journal's disk failed, and the run is to end. It is 210 with the table
+/// and the key of a row that isn't as the transaction says, and 299 where memory was wanting; the transaction then stays
+/// open. It is 201 where the call of the bank failed: the ticket is in doubt then, with what the session has written,
+/// and all else stays. A ticket that was drawn isn't used again. (TimesTen Cache User's Guide, "Synchronous
+/// writethrough"; tickets and the journal are this project's.)
 pub(crate) fn commit_at_once<P: Site>(
     tier: &mut Tier,
     alloc: Global,
     site: &mut P,
+    journal: &mut Option<TierJournal>,
     id: SessionId,
     doubt: &mut Option<Doubt>,
 ) -> Result<Reply, Refused>
@@ -105,13 +113,49 @@ pub(crate) fn commit_at_once<P: Site>(
     requires some { open_ops id (seen_all tier.old.sessions) ≡ [] → ⊥ }
     requires on { are_on is_synchronous (groups_in tier.old.catalog) (open_ops id (seen_all tier.old.sessions))
         ≡ true }
-    ensures performs { EndsIn tier.old tier.new doubt.new
-        (P.Disk.state site.old)
-        (P.Disk.state site.new)
-        id (Executes statement.Commit) result }
+    ensures performs { EndsInOver P.Disk.state P.Disk.possible tier.old tier.new doubt.new journal.old journal.new
+        site.old site.new id (Executes statement.Commit) result }
     ensures sound { IsSound tier.new }
     ensures ready { IsReady tier.new doubt.new }
-    ensures cause { IsCaused
+    ensures cause { IsCausedOver journal.old
+        (P.Disk.state site.old)
+        (P.Disk.state site.new)
+        (reply_of result) }
+{
+    label_law();
+    match draft_prepare(tier, alloc, journal, id) {
+        Err(refused) => Err(refused),
+        Ok(draft) => {
+            if draft.is_full() {
+                return Err(past(Limit::JournalSlot));
+            }
+            apply_prepared(tier, alloc, site, journal, id, doubt, &draft)
+        }
+    }
+}
+
+// The same with the entry that is made ready, and for which the journal has room.
+fn apply_prepared<P: Site>(
+    tier: &mut Tier,
+    alloc: Global,
+    site: &mut P,
+    journal: &mut Option<TierJournal>,
+    id: SessionId,
+    doubt: &mut Option<Doubt>,
+    draft: &Draft,
+) -> Result<Reply, Refused>
+    requires sound { IsSound tier.old }
+    requires free { doubt.old ≡ None }
+    requires some { open_ops id (seen_all tier.old.sessions) ≡ [] → ⊥ }
+    requires on { are_on is_synchronous (groups_in tier.old.catalog) (open_ops id (seen_all tier.old.sessions))
+        ≡ true }
+    requires draft { IsDraftOf tier.old.schema journal.old draft.now (Prepares (sealed_next tier.old id)) }
+    requires fits { is_full_draft draft.now ≡ false }
+    ensures performs { EndsInOver P.Disk.state P.Disk.possible tier.old tier.new doubt.new journal.old journal.new
+        site.old site.new id (Executes statement.Commit) result }
+    ensures sound { IsSound tier.new }
+    ensures ready { IsReady tier.new doubt.new }
+    ensures cause { IsCausedOver journal.old
         (P.Disk.state site.old)
         (P.Disk.state site.new)
         (reply_of result) }
@@ -123,10 +167,13 @@ pub(crate) fn commit_at_once<P: Site>(
     flow_skip_law();
     match draw(tier, alloc, id) {
         Err(refused) => Err(refused),
-        Ok(ready) => {
-            let applied = site.apply_once(&ready.sealed, &[]);
-            Ok(conclude(tier, alloc, id, ready, applied, doubt))
-        }
+        Ok(ready) => match flush_draft(alloc, site, journal, draft) {
+            Err(fault) => Ok(fault),
+            Ok(()) => {
+                let applied = site.apply_once(&ready.sealed, &[]);
+                Ok(conclude(tier, alloc, id, ready, applied, doubt))
+            }
+        },
     }
 }
 

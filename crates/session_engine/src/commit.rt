@@ -1,4 +1,4 @@
-//! COMMIT of a transaction whose groups are ASYNCHRONOUS WRITETHROUGH, where there is no journal.
+//! COMMIT of a transaction whose groups are ASYNCHRONOUS WRITETHROUGH.
 
 ghost use Rattle.std.specs.Prelude.{◌≡◌, ◌≤◌, ◌++◌, ◌∷◌, [], OnErr, OnOk, length, true};
 ghost use Rattle.row_types.specs.declared.rule.Refused.TheVariants as refused;
@@ -67,8 +67,8 @@ pub fn commit_writes(tier: &mut Tier, alloc: Global, id: SessionId) -> Result<Re
     Ok(done(alloc, ticket))
 }
 
-// 119 of the transactions that wait, then of the tickets.
-fn judge_commit(tier: &Tier) -> Result<(), Refused>
+/// 119 of the transactions that wait, then of the tickets.
+pub(crate) fn judge_commit(tier: &Tier) -> Result<(), Refused>
     ensures told { (a : AbstractTier) (s : OneSession) → IsStoredAs tier.now a
         → Tells result (commit_fault s a) }
     ensures fits { OnOk result (tier.now.next ≤ 9223372036854775807) }

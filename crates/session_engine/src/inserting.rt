@@ -2,6 +2,7 @@
 
 ghost use Rattle.std.specs.Prelude.{◌≡◌, IfOk, IsTrue, true};
 ghost use Rattle.session_engine.specs.Inserting.{has_row, InsertsAt, IsJudged, IsSince, IsWeighed, IsWeighedRow, KnowsKey, TakenIn};
+ghost use Rattle.propagators.specs.Certainty.{KeepsCertain};
 ghost use Rattle.group_catalog.specs.Catalogs.{groups_in};
 ghost use Rattle.stored_tier.specs.Performing.{IsCalm, IsCaused, reply_of};
 ghost use Rattle.stored_tier.specs.Stored.{IsSound};
@@ -73,6 +74,7 @@ pub(crate) fn insert_rows<P: Site>(
         (P.Disk.state site.old)
         (P.Disk.state site.new)
         (reply_of result) }
+    ensures certain { KeepsCertain P.Disk.state P.Disk.possible site.old site.new }
 {
     tier_law();
     label_law();

@@ -4,11 +4,13 @@
 pub mod at_once;
 pub mod commit;
 pub mod doubt;
+mod drafting;
 pub mod holding;
 pub mod inserting;
 pub mod noting;
 pub mod preparing;
 pub mod query;
+mod recording;
 pub mod resting;
 pub mod settling;
 pub mod writing;

@@ -8,16 +8,18 @@ ghost use Rattle.sql_subset.specs.declared.stmt.Stmt.TheVariants as statement;
 ghost use Rattle.cache_tier.specs.Conditions.{which_names};
 ghost use Rattle.cache_tier.specs.Rules.{named};
 ghost use Rattle.cache_tier.specs.Worlds.{Tries};
-ghost use Rattle.stored_tier.specs.Performing.{ClosesSession, Executes, IsCalm, OpensSession, Performs, PerformsIn, reply_of};
+ghost use Rattle.stored_tier.specs.Performing.{ClosesSession, Executes, IsCalm, OpensSession, IsCausedOver, Performs, PerformsIn, PerformsInOver, reply_of};
 ghost use Rattle.outside.specs.Sites.{SiteState};
 ghost use Rattle.stored_tier.specs.Stored.{IsSound};
 
-use crate::commit::{commit_writes, may_wait};
+use crate::commit::may_wait;
 use crate::query::{reply_to_query, select_rows};
+use crate::recording::commit_recorded;
 use cache_tier::reply::Reply;
-use cache_tier::{commit_shown_law, session_law, use_shown_law};
+use cache_tier::{session_law, use_shown_law};
 use group_catalog::{KeptGroup, resolve_which};
 use open_sessions::laws::label_law;
+use outside::Site;
 use row_types::{Detail, Refused, Rule};
 use sql_query::Query;
 use sql_subset::request::OpenOptions;
@@ -26,6 +28,7 @@ use std::alloc::Global;
 use stored_tier::naming::refuse_name;
 use stored_tier::tier::Tier;
 use tier_base::{Code, Label, Name, SessionId};
+use tier_journal::TierJournal;
 
 /// OPEN, as `open`.
 pub fn open_session(
@@ -57,16 +60,24 @@ pub fn close_session(tier: &mut Tier, alloc: Global, id: SessionId) -> Result<Re
 }
 
 /// COMMIT of a session that has written tables of ASYNCHRONOUS WRITETHROUGH groups alone: without writes as `rollback`,
-/// else as `commit_writes`. Where it has written another table memory is said to be wanting.
-pub fn commit_session(tier: &mut Tier, alloc: Global, id: SessionId) -> Result<Reply, Refused>
+/// else as `commit_recorded`. Where it has written another table memory is said to be wanting.
+pub fn commit_session<P: Site>(
+    tier: &mut Tier,
+    alloc: Global,
+    site: &mut P,
+    journal: &mut Option<TierJournal>,
+    id: SessionId,
+) -> Result<Reply, Refused>
     requires { IsSound tier.old }
-    ensures performs { (site : SiteState) → PerformsIn tier.old tier.new site site id
-        (Executes statement.Commit) result }
+    ensures performs { PerformsInOver P.Disk.state P.Disk.possible tier.old tier.new journal.old journal.new
+        site.old site.new id (Executes statement.Commit) result }
     ensures sound { IsSound tier.new }
-    ensures calm { IsCalm (reply_of result) }
+    ensures cause { IsCausedOver journal.old
+        (P.Disk.state site.old)
+        (P.Disk.state site.new)
+        (reply_of result) }
 {
     session_law();
-    commit_shown_law();
     label_law();
     if tier.sessions.ops(id).len() == 0 {
         return Ok(tier.rollback(alloc, id));
@@ -74,7 +85,7 @@ pub fn commit_session(tier: &mut Tier, alloc: Global, id: SessionId) -> Result<R
     if !may_wait(tier, id) {
         return Err(Refused::Memory);
     }
-    commit_writes(tier, alloc, id)
+    commit_recorded(tier, alloc, site, journal, id)
 }
 
 /// ROLLBACK, as `rollback`.

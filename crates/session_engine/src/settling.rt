@@ -2,6 +2,7 @@
 
 ghost use Rattle.std.specs.Prelude.{◌≡◌, None, OnOk, Some};
 ghost use Rattle.cache_tier.specs.DueWork.{DueDoubt};
+ghost use Rattle.propagators.specs.Certainty.{KeepsCertain};
 ghost use Rattle.stored_tier.specs.Stored.{IsSound};
 ghost use Rattle.session_engine.specs.Doubting.{IsReady, Leads};
 ghost use Rattle.session_engine.specs.Settling.{Forgets, IsAsked, KeepsRest, Settles, end_of, note_of, told_of};
@@ -41,6 +42,7 @@ pub fn settle_doubt<P: Site>(
         (P.Disk.state site.old)
         (P.Disk.state site.new)
         result }
+    ensures certain { KeepsCertain P.Disk.state P.Disk.possible site.old site.new }
 {
     label_law();
     session_law();

@@ -5,6 +5,7 @@ ghost use Rattle.std.specs.List.{list_all};
 ghost use Rattle.sql_subset.specs.declared.stmt.Stmt.TheVariants as statement;
 ghost use Rattle.transactions.specs.Transactions.{rows_in};
 ghost use Rattle.session_engine.specs.Changing.{is_change, Changed, IsUnbroken};
+ghost use Rattle.propagators.specs.Certainty.{KeepsCertain};
 ghost use Rattle.stored_tier.specs.Performing.{Executes, IsCalm, IsCaused, PerformsIn, reply_of};
 ghost use Rattle.stored_tier.specs.Stored.{IsSound};
 
@@ -49,6 +50,7 @@ pub fn write_rows<P: Site>(
         (P.Disk.state site.old)
         (P.Disk.state site.new)
         (reply_of result) }
+    ensures certain { KeepsCertain P.Disk.state P.Disk.possible site.old site.new }
 {
     tier_law();
     label_law();

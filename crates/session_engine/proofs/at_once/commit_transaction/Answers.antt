@@ -1,10 +1,7 @@
-use Rattle.session_engine.proofs.AtOnceDone.{ended_in_none}
+use Rattle.session_engine.proofs.KeptLaws.{settled_over}
 use Rattle.session_engine.proofs.at_once.commit_transaction.Goals as goal
 
 pub returns-clause-performs : goal.returns-clause-performs
 returns-clause-performs g c =
-    ended_in_none c.args.tier.now c.commit_session.new.tier c.args.doubt.now _ _ c.args.id c.commit_session.result c.requires.free
-    (c.commit_session.ensures.performs _)
-
-pub returns-clause-cause : goal.returns-clause-cause
-returns-clause-cause g c = c.commit_session.ensures.calm _
+    settled_over g.P.Disk.state g.P.Disk.possible c.args.tier.now c.commit_session.new.tier c.args.doubt.now c.args.journal.now c.commit_session.new.journal c.args.site.now c.commit_session.new.site c.args.id c.commit_session.result c.requires.free
+    c.commit_session.ensures.performs

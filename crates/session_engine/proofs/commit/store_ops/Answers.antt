@@ -1,4 +1,4 @@
-use Rattle.std.proofs.Common.{◌<◌, ◌≤◌, ◌∙◌, arith, length, rules, subst, sym}
+use Rattle.std.proofs.Common.{◌<◌, ◌≤◌, ◌∙◌, length, rules, subst, sym}
 use Rattle.group_store.specs.Stores.{op_done}
 use Rattle.session_engine.specs.Committing.{HaveRoomFor, bare_all}
 use Rattle.session_engine.proofs.CommitLaws.{end_passed, home_found, room_less, room_same, step_done, store_does}

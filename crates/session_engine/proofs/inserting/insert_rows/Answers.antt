@@ -1,6 +1,7 @@
 use Rattle.std.proofs.Common.{Err, Ok, subst, sym}
 use Rattle.sql_subset.specs.declared.stmt.Stmt.TheVariants as statement
 use Rattle.stored_tier.specs.Performing.{Executes, IsCaused, IsPerformed}
+use Rattle.propagators.proofs.CertainLaws.{bank_certain}
 use Rattle.session_engine.proofs.InsertDone.{Called, called, called_cause, failed, failed_cause, taken_in}
 use Rattle.session_engine.proofs.inserting.insert_rows.Goals as goal
 
@@ -46,3 +47,9 @@ returns-in-Ok-find-clause-cause g c =
     let after = (g.P.Disk.state c.find.new.self) in
     called_cause before after c.in-Ok.weighed.table c.in-Ok.weighed.key (Ok c.in-Ok-find.found) _ c.in-Ok-find.ensures.told
     c.in-Ok-find.ensures.cause.later c.in-Ok-find.ensures.crash.later c.in-Ok-find.ensures.cause.shared c.take_in.ensures.calm
+
+pub returns-in-Err-find-clause-certain : goal.returns-in-Err-find-clause-certain
+returns-in-Err-find-clause-certain g c = bank_certain g.P.Disk.state g.P.Disk.possible g.met.P.Disk.certain c.args.site.now c.find.new.self _ c.in-Err-find.ensures.told c.in-Err-find.ensures.crash
+
+pub returns-in-Ok-find-clause-certain : goal.returns-in-Ok-find-clause-certain
+returns-in-Ok-find-clause-certain g c = bank_certain g.P.Disk.state g.P.Disk.possible g.met.P.Disk.certain c.args.site.now c.find.new.self _ c.in-Ok-find.ensures.told c.in-Ok-find.ensures.crash

@@ -1,7 +1,6 @@
-use Rattle.std.proofs.Common.{◌≡◌, ◌∙◌, Some, ap, subst, sym}
+use Rattle.std.proofs.Common.{◌∙◌, ap, subst, sym}
 use Rattle.table_state.specs.Keyed.{IsKeyed}
 use Rattle.table_state.specs.Independence.{IsWhole}
-use Rattle.table_state.specs.Operations.{applied_all}
 use Rattle.table_state.specs.Tables.{TableState}
 use Rattle.table_state.proofs.IndependenceLaws.{all_whole}
 use Rattle.order_laws.proofs.NextLaws.{all_defined}

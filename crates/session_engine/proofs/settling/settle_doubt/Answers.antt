@@ -1,5 +1,6 @@
 use Rattle.std.proofs.Common.{◌∙◌, sym}
 use Rattle.session_engine.proofs.DoubtLaws.{asked_failed, asked_known, leads_settled, leads_unsettled, ready_some, rest_kept}
+use Rattle.propagators.proofs.CertainLaws.{bank_certain}
 use Rattle.session_engine.proofs.settling.settle_doubt.Goals as goal
 
 pub settle-requires-clause-ready : goal.settle-requires-clause-ready
@@ -73,3 +74,9 @@ returns-in-Ok-clause-cause g c =
       shares = c.in-Ok.ensures.cause.shared;
     })
     c.in-Ok.ensures.cause
+
+pub returns-in-Err-clause-certain : goal.returns-in-Err-clause-certain
+returns-in-Err-clause-certain g c = bank_certain g.P.Disk.state g.P.Disk.possible g.met.P.Disk.certain c.args.site.now c.recorded.new.self _ c.in-Err.ensures.told c.in-Err.ensures.crash
+
+pub returns-in-Ok-clause-certain : goal.returns-in-Ok-clause-certain
+returns-in-Ok-clause-certain g c = bank_certain g.P.Disk.state g.P.Disk.possible g.met.P.Disk.certain c.args.site.now c.recorded.new.self _ c.in-Ok.ensures.told c.in-Ok.ensures.crash
