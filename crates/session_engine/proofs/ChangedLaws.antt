@@ -20,25 +20,24 @@ use Rattle.cache_tier.specs.ChangeSteps.{Changes}
 use Rattle.cache_tier.specs.Facts.{OverIsApplied}
 use Rattle.cache_tier.specs.Groups.{Group, covers, is_table_of, is_writethrough}
 use Rattle.cache_tier.specs.Locks.{lock_fault}
-use Rattle.cache_tier.specs.Order.{refusal}
 use Rattle.cache_tier.specs.OwnWrites.{written}
 use Rattle.cache_tier.specs.Recency.{after_writes, op_key, used_by_ops, used_row}
 use Rattle.cache_tier.specs.Rules.{rule_of_apply}
 use Rattle.cache_tier.specs.Shown.{instance_key, over, seen_by, written_on}
-use Rattle.cache_tier.specs.Steps.{DoesStatement}
 use Rattle.cache_tier.specs.TierStates.{Session, Tier, with_session, with_writes}
-use Rattle.cache_tier.specs.Worlds.{Unless, World, unless}
+use Rattle.cache_tier.specs.Worlds.{World, unless}
 use Rattle.cache_tier.specs.Events.{HaveNewKeys, MayWriteMore, StaysShown, with_tier}
 use Rattle.cache_tier.specs.StandingBetween.{Stands, are_written_through}
 use Rattle.tier_statements.specs.Preparing.{inserted_row}
 use Rattle.session_engine.specs.declared.preparing.Prepared.{Prepared}
 use Rattle.stored_tier.specs.declared.tier.Tier.{Tier as Stored}
 use Rattle.session_engine.specs.Changing.{Changed, Holds, HoldsNothing, IsPrepared, IsUnbroken, Prepares, is_change}
-use Rattle.stored_tier.specs.Performing.{Executes, IsPerformed, StandsFor, reply_of}
+use Rattle.stored_tier.specs.Performing.{ExecutesUnwritten, IsPerformed, StandsFor, reply_of}
 use Rattle.stored_tier.specs.Sites.{IsAt}
 use Rattle.outside.specs.Sites.{SiteState}
 use Rattle.stored_tier.specs.Stored.{HasSession, IsSound, IsStoredAs, IsVerified, rows_of, without_list}
-use Rattle.stored_tier.proofs.QuietLaws.{at_still, its_session, stands_behind, stands_still, wanting}
+use Rattle.stored_tier.proofs.QuietLaws.{at_still, its_session, stands_behind, stands_still}
+use Rattle.session_engine.proofs.QueryLaws.{wanting_still}
 use Rattle.session_engine.proofs.SelectLaws.{used_kept}
 use Rattle.stored_tier.proofs.OwnSeen.{NumberLaw, any_map}
 use Rattle.stored_tier.proofs.SessionLaws.{ChangeLaw, open_unheld, session_changed}
@@ -132,7 +131,7 @@ abbrev pub WrittenLaw : Type 0
 WrittenLaw = (w : World) (s : Session) (table : TableId) (ops : List Op) → Stands w → MayWriteMore w s ops → StaysShown w (with_tier (written s table ops w).0 w)
 
 pub changed_done : OverIsApplied → NumberLaw → ChangeLaw → WrittenLaw → (t new : Stored) (site : SiteState) (w : World) (s : Session) (id : SessionId) (write : Write) (p : Prepared) (result : Result Reply Refused) → IsSound t → IsVerified t → IsAt site w → StandsFor t w → HasSession t id s
-    → list_all is_change p.ops ≡ true → IsUnbroken t id p.ops → IsPrepared s write w p → Changed t new id p result → IsPerformed new site (λ w'. Executes (statement.Write write) s w w' (reply_of result))
+    → list_all is_change p.ops ≡ true → IsUnbroken t id p.ops → IsPrepared s write w p → Changed t new id p result → IsPerformed new site (λ w'. ExecutesUnwritten (statement.Write write) s w w' (reply_of result))
 changed_done over_law number_law change_law law t new site w s id write p (Ok reply) sound verified at is has changes unbroken prepared changed =
     let holds = changed.0 in
     let may = may_write over_law number_law t new w s id p.ops sound verified is has unbroken holds prepared.free (new_keys p.ops (written_on s w.history w.tier) changes) in
@@ -147,14 +146,14 @@ changed_done over_law number_law change_law law t new site w s id write p (Ok re
       stands = stands_behind t new w after is is.waits
           (stored_written change_law t new w.tier s id p.ops (seen_by s w.history w.tier) sound is.stored has holds)
           (rows_same t new holds.rest) stays;
-      is = prepared.leads (with_tier after w) reply (changes_done s p.table p.ops w (with_tier after w) reply (no_insert p.ops changes) quiet);
+      is = (prepared.leads (with_tier after w) reply (changes_done s p.table p.ops w (with_tier after w) reply (no_insert p.ops changes) quiet), record { journal = refl; schema = refl });
     }
 changed_done over_law number_law change_law law t new site w s id write p (Err (refused.Rule rule)) sound verified at is has changes unbroken prepared changed = absurd changed
 changed_done over_law number_law change_law law t new site w s id write p (Err refused.Memory) sound verified at is has changes unbroken prepared changed =
-    wanting new site (λ w w' reply. Unless (refusal w.tier s (statement.Write write)) (DoesStatement s (statement.Write write)) w w' reply) w at (unheld t new w changed is)
+    wanting_still new site (statement.Write write) s w at (unheld t new w changed is)
 
 -- it is refused before the bank is asked
-pub refused_before : (t : Stored) (site : SiteState) (w : World) (s : Session) (write : Write) (e : Refused) → IsAt site w → StandsFor t w → Prepares s write w (Err e) → IsPerformed t site (λ w'. Executes (statement.Write write) s w w' (reply_of (Err e)))
-refused_before t site w s write (refused.Rule rule) at is does = record { world = w; at = at; stands = is; is = does }
+pub refused_before : (t : Stored) (site : SiteState) (w : World) (s : Session) (write : Write) (e : Refused) → IsAt site w → StandsFor t w → Prepares s write w (Err e) → IsPerformed t site (λ w'. ExecutesUnwritten (statement.Write write) s w w' (reply_of (Err e)))
+refused_before t site w s write (refused.Rule rule) at is does = record { world = w; at = at; stands = is; is = (does, record { journal = refl; schema = refl }) }
 refused_before t site w s write refused.Memory at is does =
-    wanting t site (λ w w' reply. Unless (refusal w.tier s (statement.Write write)) (DoesStatement s (statement.Write write)) w w' reply) w at is
+    wanting_still t site (statement.Write write) s w at is

@@ -54,7 +54,7 @@ use Rattle.session_engine.specs.Changing.{Changed, Holds, IsPrepared, IsUnbroken
 use Rattle.session_engine.specs.declared.inserting.Known.{Known}
 use Rattle.session_engine.specs.declared.inserting.Known.TheVariants as kind
 use Rattle.session_engine.specs.Inserting.{IsLeft, IsWeighed, KnowsKey, TakenFree, TakenIn, TellsRule, has_row, leaves_row, some_writes_key, writes_key}
-use Rattle.stored_tier.specs.Performing.{AreLast, Executes, IsCalm, IsCaused, IsPerformed, StandsFor, Waits, reply_of}
+use Rattle.stored_tier.specs.Performing.{AreLast, ExecutesUnwritten, IsCalm, IsCaused, IsPerformed, StandsFor, StaysWritten, Waits, reply_of}
 use Rattle.session_engine.proofs.WaitingLaws.{waits_split}
 use Rattle.stored_tier.specs.Sites.{IsAt}
 use Rattle.outside.specs.Sites.{SiteState}
@@ -121,28 +121,30 @@ stays_behind law new before after w t key result does at is apart c done =
     performed_behind new before after w w.tier c.held does at c.told c.shares is.waits is.stored (is.shows ∙ sym stays.same) stays.stands done
 
 -- the part of the line
-inserts_by : (s : Session) (write : Write) (w w' : World) (p : Prepared) (t : TableId) (row : List Value) (reply : Reply) → IsPrepared s write w p → p.ops ≡ Insert t row ∷ [] → has_key_in (seen_by s w.history w.tier) t row ≡ false → Finds s t row w w' reply → Executes (statement.Write write) s w w' reply
-inserts_by s write w w' p t row reply prepared is hidden finds =
-    prepared.leads w' reply
-    (subst (λ ops. WritesOps s p.table ops w w' reply) (sym is)
-    (subst (λ b. MatchBool b (Refuses (taken w.tier t row) w w' reply) (Finds s t row w w' reply)) (sym hidden) finds))
+inserts_by : (s : Session) (write : Write) (w w' : World) (p : Prepared) (t : TableId) (row : List Value) (reply : Reply) → IsPrepared s write w p → p.ops ≡ Insert t row ∷ [] → has_key_in (seen_by s w.history w.tier) t row ≡ false → StaysWritten w w' → Finds s t row w w' reply → ExecutesUnwritten (statement.Write write) s w w' reply
+inserts_by s write w w' p t row reply prepared is hidden still finds = (
+  prepared.leads w' reply
+      (subst (λ ops. WritesOps s p.table ops w w' reply) (sym is)
+      (subst (λ b. MatchBool b (Refuses (taken w.tier t row) w w' reply) (Finds s t row w w' reply)) (sym hidden) finds)),
+  still,
+)
 
 -- the bank's call failed, or memory was wanting
 pub call_failed : AroundLaw → (new : Stored) (before after : SiteState) (w : World) (s : Session) (write : Write) (p : Prepared) (t : TableId) (row : List Value) (e : BankError) → IsAt before w → StandsFor new w → IsUnshared w → IsPrepared s write w p → p.ops ≡ Insert t row ∷ [] → has_key_in (seen_by s w.history w.tier) t row ≡ false
-    → Called before after w t (key_in (slice_get w.tier.schema t.0) row) (Err e) → IsPerformed new after (λ w'. Executes (statement.Write write) s w w' (bank_fault e))
+    → Called before after w t (key_in (slice_get w.tier.schema t.0) row) (Err e) → IsPerformed new after (λ w'. ExecutesUnwritten (statement.Write write) s w w' (bank_fault e))
 call_failed law new before after w s write p t row e at is apart prepared ops hidden c =
-    stays_behind law new before after w t (key_in (slice_get w.tier.schema t.0) row) (Err e) (λ w'. Executes (statement.Write write) s w w' (bank_fault e)) at is apart c
-    (inserts_by s write w (behind w w.tier c.held after) p t row (bank_fault e) prepared ops hidden
+    stays_behind law new before after w t (key_in (slice_get w.tier.schema t.0) row) (Err e) (λ w'. ExecutesUnwritten (statement.Write write) s w w' (bank_fault e)) at is apart c
+    (inserts_by s write w (behind w w.tier c.held after) p t row (bank_fault e) prepared ops hidden (record { journal = refl; schema = refl })
     (record { result = Err e; call = c.call w.tier; answer = refl }))
 
 -- the key has a row, or the row breaks a rule
 pub answer_refused : AroundLaw → (new : Stored) (before after : SiteState) (w : World) (s : Session) (write : Write) (p : Prepared) (t : TableId) (row : List Value) (found : Option (List Value)) (has : Bool) (rule : Rule) → IsAt before w → StandsFor new w → IsUnshared w → IsPrepared s write w p → p.ops ≡ Insert t row ∷ [] → has_key_in (seen_by s w.history w.tier) t row ≡ false
     → (c : Called before after w t (key_in (slice_get w.tier.schema t.0) row) (Ok found)) → has_key_in (written_on s (w.history ++ (c.call w.tier).history.before) w.tier) t row ≡ has
     → cond has (Some (taken w.tier t row)) (apply_fault s w (Insert t row ∷ [])) ≡ Some rule
-    → IsPerformed new after (λ w'. Executes (statement.Write write) s w w' (only (No rule)))
+    → IsPerformed new after (λ w'. ExecutesUnwritten (statement.Write write) s w w' (only (No rule)))
 answer_refused law new before after w s write p t row found has rule at is apart prepared ops hidden c asked fault =
-    stays_behind law new before after w t (key_in (slice_get w.tier.schema t.0) row) (Ok found) (λ w'. Executes (statement.Write write) s w w' (only (No rule))) at is apart c
-    (inserts_by s write w (behind w w.tier c.held after) p t row (only (No rule)) prepared ops hidden
+    stays_behind law new before after w t (key_in (slice_get w.tier.schema t.0) row) (Ok found) (λ w'. ExecutesUnwritten (statement.Write write) s w w' (only (No rule))) at is apart c
+    (inserts_by s write w (behind w w.tier c.held after) p t row (only (No rule)) prepared ops hidden (record { journal = refl; schema = refl })
     (record {
       result = Ok found;
       call = c.call w.tier;
@@ -157,7 +159,7 @@ pub answer_taken : AroundLaw → WrittenLaw → (new : Stored) (before after : S
     → apply_fault s w (Insert t row ∷ []) ≡ None
     → IsStoredAs new (written s t (Insert t row ∷ []) w).0
     → (Stands (at_history c.held.history w) → MayWriteMore (at_history c.held.history w) s (Insert t row ∷ []))
-    → IsPerformed new after (λ w'. Executes (statement.Write write) s w w' (only (Done (rows_in t (Insert t row ∷ [])))))
+    → IsPerformed new after (λ w'. ExecutesUnwritten (statement.Write write) s w w' (only (Done (rows_in t (Insert t row ∷ [])))))
 answer_taken around law new before after w s write p t row found at apart stands waits shows prepared ops hidden c asked fault stored may =
     let ins = Insert t row ∷ [] in
     let done = written s t ins w in
@@ -165,10 +167,10 @@ answer_taken around law new before after w s write p t row found at apart stands
     let later = at_history c.held.history w in
     let after_law = law later s t ins stays.stands (may stays.stands) in
     let tiers : (written s t ins later).0 ≡ done.0 = ap (λ st. with_session s.label (with_writes ins) (after_writes over ins (all_over s.own st) w.tier)) stays.same in
-    performed_behind new before after w done.0 c.held (λ w'. Executes (statement.Write write) s w w' (only (Done (rows_in t (Insert t row ∷ []))))) at c.told c.shares waits stored
+    performed_behind new before after w done.0 c.held (λ w'. ExecutesUnwritten (statement.Write write) s w w' (only (Done (rows_in t (Insert t row ∷ []))))) at c.told c.shares waits stored
     (shows ∙ sym stays.same ∙ sym after_law.same ∙ ap (shown_state c.held.history) tiers)
     (subst (λ a. Stands (with_tier a later)) tiers after_law.stands)
-    (inserts_by s write w (behind w done.0 c.held after) p t row (only (Done (rows_in t (Insert t row ∷ [])))) prepared ops hidden
+    (inserts_by s write w (behind w done.0 c.held after) p t row (only (Done (rows_in t (Insert t row ∷ [])))) prepared ops hidden (record { journal = refl; schema = refl })
     (record {
       result = Ok found;
       call = c.call done.0;
@@ -278,7 +280,7 @@ module _ (over_law : OverIsApplied) (numbers : NumberLaw) (changes : ChangeLaw) 
       (subst (λ ops. TellsRule x.fault (broken_by_all ops sight.state)) weighed.is (weighed.weighed.judged sight.state sight.applied))
 
   -- the call failed
-  pub failed : (e : BankError) → Called before after w weighed.table x.key (Err e) → IsPerformed t after (λ w'. Executes (statement.Write write) s w w' (bank_fault e))
+  pub failed : (e : BankError) → Called before after w weighed.table x.key (Err e) → IsPerformed t after (λ w'. ExecutesUnwritten (statement.Write write) s w w' (bank_fault e))
   failed e c = call_failed around t before after w s write p weighed.table weighed.row e at is apart prepared weighed.is hidden (subst (λ k. Called before after w weighed.table k (Err e)) key_same c)
 
   module _ (new : Stored) (found : Option (List Value)) (call : Called before after w weighed.table x.key (Ok found)) where
@@ -288,11 +290,11 @@ module _ (over_law : OverIsApplied) (numbers : NumberLaw) (changes : ChangeLaw) 
     told : (a : Tier) → has_key_in (written_on s (w.history ++ (c.call a).history.before) w.tier) weighed.table weighed.row ≡ has_row x.known found
     told a = asked pending entries w s weighed.table weighed.row x.known is.stands apart there through knows shown gone found c.held.history (c.call a).history
 
-    refusal_by : (rule : Rule) (b : Bool) → has_row x.known found ≡ b → cond b (Some (taken w.tier weighed.table weighed.row)) (apply_fault s w ins) ≡ Some rule → IsPerformed t after (λ w'. Executes (statement.Write write) s w w' (only (No rule)))
+    refusal_by : (rule : Rule) (b : Bool) → has_row x.known found ≡ b → cond b (Some (taken w.tier weighed.table weighed.row)) (apply_fault s w ins) ≡ Some rule → IsPerformed t after (λ w'. ExecutesUnwritten (statement.Write write) s w w' (only (No rule)))
     refusal_by rule b e fault =
         answer_refused around t before after w s write p weighed.table weighed.row found b rule at is apart prepared weighed.is hidden c (told w.tier ∙ e) fault
 
-    held_by : (reply : Reply) → has_row x.known found ≡ false → broken_by_all ins (seen_by s w.history w.tier) ≡ None → Changed t new id p (Ok reply) → IsPerformed new after (λ w'. Executes (statement.Write write) s w w' reply)
+    held_by : (reply : Reply) → has_row x.known found ≡ false → broken_by_all ins (seen_by s w.history w.tier) ≡ None → Changed t new id p (Ok reply) → IsPerformed new after (λ w'. ExecutesUnwritten (statement.Write write) s w w' reply)
     held_by reply e unbroken changed =
         let holds = subst (λ ops. Holds t new id ops) weighed.is changed.0 in
         let says : reply ≡ only (Done (rows_in weighed.table ins)) = changed.1 ∙ ap (λ n. only (Done n)) (ap (rows_in p.table) weighed.is ∙ ap (λ u. rows_in u ins) weighed.named) in
@@ -305,15 +307,15 @@ module _ (over_law : OverIsApplied) (numbers : NumberLaw) (changes : ChangeLaw) 
           unlocked = subst (λ ops. lock_fault s.label w.tier ops ≡ None) weighed.is prepared.free;
           fresh = (behind_call pending entries w s weighed.table weighed.row x.known is.stands apart there through knows shown gone found c.held.history (c.call w.tier).history stands ∙ e, tt);
         } in
-        subst (λ r. IsPerformed new after (λ w'. Executes (statement.Write write) s w w' r)) (sym says)
+        subst (λ r. IsPerformed new after (λ w'. ExecutesUnwritten (statement.Write write) s w w' r)) (sym says)
         (answer_taken around law new before after w s write p weighed.table weighed.row found at apart is.stands is.waits (rows_same t new holds.rest ∙ is.shows) prepared weighed.is hidden c
         (told (written s weighed.table ins w).0 ∙ e) (ap rule_of_apply unbroken)
         (stored_written changes t new w.tier s id ins (seen_by s w.history w.tier) sound is.stored has holds) may)
 
-    free : (result : Result Reply Refused) (fault : Option Rule) → has_row x.known found ≡ false → TellsRule fault (broken_by_all ins (seen_by s w.history w.tier)) → TakenFree t new id p fault result → IsPerformed new after (λ w'. Executes (statement.Write write) s w w' (reply_of result))
+    free : (result : Result Reply Refused) (fault : Option Rule) → has_row x.known found ≡ false → TellsRule fault (broken_by_all ins (seen_by s w.history w.tier)) → TakenFree t new id p fault result → IsPerformed new after (λ w'. ExecutesUnwritten (statement.Write write) s w w' (reply_of result))
     free result (Some rule) e tells taken_in =
-        subst (λ r. IsPerformed new after (λ w'. Executes (statement.Write write) s w w' (reply_of r))) (sym taken_in.0)
-        (subst (λ y. IsPerformed y after (λ w'. Executes (statement.Write write) s w w' (only (No rule)))) (sym taken_in.1)
+        subst (λ r. IsPerformed new after (λ w'. ExecutesUnwritten (statement.Write write) s w w' (reply_of r))) (sym taken_in.0)
+        (subst (λ y. IsPerformed y after (λ w'. ExecutesUnwritten (statement.Write write) s w w' (only (No rule)))) (sym taken_in.1)
         (refusal_by rule false e (ap rule_of_apply tells)))
     free (Ok reply) None e tells taken_in = held_by reply e tells taken_in
     free (Err (refused.Rule rule)) None e tells taken_in = absurd taken_in
@@ -321,13 +323,13 @@ module _ (over_law : OverIsApplied) (numbers : NumberLaw) (changes : ChangeLaw) 
         call_failed around new before after w s write p weighed.table weighed.row bank.Memory at (unheld t new w taken_in is) apart prepared weighed.is hidden
         (wanted before after w weighed.table its_key (Ok found) c)
 
-    pub taken_in : (result : Result Reply Refused) → TakenIn t new id p x found result → IsPerformed new after (λ w'. Executes (statement.Write write) s w w' (reply_of result))
+    pub taken_in : (result : Result Reply Refused) → TakenIn t new id p x found result → IsPerformed new after (λ w'. ExecutesUnwritten (statement.Write write) s w w' (reply_of result))
     taken_in result done = by (has_row x.known found) refl done
       where
-        by : (b : Bool) → has_row x.known found ≡ b → MatchBool b ((result ≡ Err (refused.Rule x.taken)) × (new ≡ t)) (TakenFree t new id p x.fault result) → IsPerformed new after (λ w'. Executes (statement.Write write) s w w' (reply_of result))
+        by : (b : Bool) → has_row x.known found ≡ b → MatchBool b ((result ≡ Err (refused.Rule x.taken)) × (new ≡ t)) (TakenFree t new id p x.fault result) → IsPerformed new after (λ w'. ExecutesUnwritten (statement.Write write) s w w' (reply_of result))
         by true e all =
-            subst (λ r. IsPerformed new after (λ w'. Executes (statement.Write write) s w w' (reply_of r))) (sym all.0)
-            (subst (λ y. IsPerformed y after (λ w'. Executes (statement.Write write) s w w' (only (No x.taken)))) (sym all.1)
+            subst (λ r. IsPerformed new after (λ w'. ExecutesUnwritten (statement.Write write) s w w' (reply_of r))) (sym all.0)
+            (subst (λ y. IsPerformed y after (λ w'. ExecutesUnwritten (statement.Write write) s w w' (only (No x.taken)))) (sym all.1)
             (refusal_by x.taken true e (ap Some (sym (weighed.weighed.taken w.tier is.stored.schema)))))
         by false e all = free result x.fault e judged all
 

@@ -1,5 +1,5 @@
 -- What a query leaves of the tier that answers it.
-use Rattle.std.proofs.Common.{◌≡◌, Bool, true, false, not, ◌&&◌, ◌||◌, Result, Ok, Err, List, [], ◌∷◌, IfErr, IfOk, map, inl, refl, sym, ap, subst, ◌∙◌}
+use Rattle.std.proofs.Common.{◌≡◌, Bool, true, false, not, ◌&&◌, ◌||◌, Result, Ok, Err, List, [], ◌∷◌, IfErr, IfOk, map, inl, inr, refl, sym, ap, subst, ◌∙◌}
 use Rattle.std.specs.List.{list_all, list_any}
 use Rattle.std.specs.Option.{is_none}
 use Rattle.tier_base.specs.declared.number.SessionId.{SessionId}
@@ -11,6 +11,8 @@ use Rattle.table_state.specs.Tables.{TableState}
 use Rattle.resolution.specs.declared.resolved.ResolvedQuery.{ResolvedQuery}
 use Rattle.resolution.specs.Queries.{PlacedQuery, resolved_query}
 use Rattle.sql_query.specs.declared.query.Query.{Query}
+use Rattle.tier_base.specs.declared.code.Code.TheVariants as code
+use Rattle.sql_subset.specs.declared.stmt.Stmt.{Stmt}
 use Rattle.sql_subset.specs.declared.stmt.Stmt.TheVariants as statement
 use Rattle.cache_tier.specs.declared.reply.Last.TheVariants.{No}
 use Rattle.cache_tier.specs.declared.reply.Reply.{Reply}
@@ -23,19 +25,19 @@ use Rattle.cache_tier.specs.SelectSteps.{Selects, SelectsPlaced, rows_reply}
 use Rattle.cache_tier.specs.Shown.{seen_by}
 use Rattle.cache_tier.specs.Steps.{DoesStatement}
 use Rattle.cache_tier.specs.TierStates.{Session, Tier, level_of}
-use Rattle.cache_tier.specs.Worlds.{Unless, World, only}
+use Rattle.cache_tier.specs.Worlds.{Unless, World, faulty, only}
 use Rattle.cache_tier.specs.Events.{StaysShown, with_tier}
 use Rattle.cache_tier.specs.StandingBetween.{Stands}
 use Rattle.tier_statements.specs.Answering.{IsAnswerTo}
 use Rattle.session_engine.specs.declared.query.Selected.{Selected}
 use Rattle.session_engine.specs.declared.query.Selected.TheVariants.{Answered, PassedOn}
 use Rattle.stored_tier.specs.declared.tier.Tier.{Tier as Stored}
-use Rattle.stored_tier.specs.Performing.{Executes, IsCalm, IsPerformed, PerformsIn, StandsFor, reply_of}
+use Rattle.stored_tier.specs.Performing.{Executes, ExecutesUnwritten, IsCalm, IsPerformed, PerformsIn, StandsFor, reply_of}
 use Rattle.session_engine.specs.Selecting.{HasNoDynamic, SelectsHere, query_reply}
 use Rattle.stored_tier.specs.Sites.{IsAt}
 use Rattle.outside.specs.Sites.{SiteState}
 use Rattle.stored_tier.specs.Stored.{HasSession, IsSound, IsStoredAs, ShowsRows, is_plain, without_list}
-use Rattle.stored_tier.proofs.QuietLaws.{at_still, calm_by, calm_refused, session_noted, stands_behind, stands_noted, wanting}
+use Rattle.stored_tier.proofs.QuietLaws.{at_still, calm_by, calm_refused, session_noted, stands_behind, stands_noted, stands_over}
 
 -- its reply tells no fault
 
@@ -92,7 +94,20 @@ abbrev pub SelectsOver : Stored → SessionId → Query → Result Selected Refu
 SelectsOver t id q r =
     (w : World) (s : Session) → IsStoredAs t w.tier → ShowsRows t w → HasNoDynamic w.tier → HasSession t id s → SelectsHere t s q w r
 
-query_done : UseLaw → (t : Stored) (site : SiteState) (s : Session) (q : Query) (w : World) (r : Result Selected Refused) → IsAt site w → StandsFor t w → SelectsHere t s q w r → IsPerformed t site (λ w'. Executes (statement.Select q) s w w' (reply_of (query_reply r)))
+-- memory is wanting
+pub wanting_still : (new : Stored) (site : SiteState) (st : Stmt) (s : Session) (w : World) → IsAt site w → StandsFor new w → IsPerformed new site (λ w'. ExecutesUnwritten st s w w' (faulty code.Memory))
+wanting_still new site st s w at is = record { world = w; at = at; stands = is; is = (inr (refl, refl), record { journal = refl; schema = refl }) }
+
+pub unverified_still : (old new : Stored) (site : SiteState) (id : SessionId) (st : Stmt) → new ≡ record old { verified = new.verified } → PerformsIn old new site site id (ExecutesUnwritten st) (Err refused.Memory)
+unverified_still old new site id st same = λ s has w at is unshared. wanting_still new site st s w at (stands_over old new w same is)
+
+-- what it does, and that it writes nothing to the journal
+pub performs_so : (old new : Stored) (before behind : SiteState) (id : SessionId) (st : Stmt) (result : Result Reply Refused) → PerformsIn old new before behind id (ExecutesUnwritten st) result → PerformsIn old new before behind id (Executes st) result
+performs_so old new before behind id st result performs = λ s has w at is unshared.
+    let it = performs s has w at is unshared in
+    record { world = it.world; at = it.at; stands = it.stands; is = it.is.0 }
+
+query_done : UseLaw → (t : Stored) (site : SiteState) (s : Session) (q : Query) (w : World) (r : Result Selected Refused) → IsAt site w → StandsFor t w → SelectsHere t s q w r → IsPerformed t site (λ w'. ExecutesUnwritten (statement.Select q) s w w' (reply_of (query_reply r)))
 query_done law t site s q w (Ok (Answered reply)) at is here =
     let seen = seen_by s w.history w.tier in
     let after = after_use seen (map (row_key seen) (selected_rows here.plan seen)) w.tier in
@@ -100,19 +115,19 @@ query_done law t site s q w (Ok (Answered reply)) at is here =
       world = with_tier after w;
       at = at_still site w after at;
       stands = stands_behind t t w after is is.waits here.stored refl (law w seen (map (row_key seen) (selected_rows here.plan seen)) is.stands);
-      is = inl (selects_unless s q w (with_tier after w) reply here.selects);
+      is = (inl (selects_unless s q w (with_tier after w) reply here.selects), record { journal = refl; schema = refl });
     }
 query_done law t site s q w (Ok (PassedOn resolved)) at is here =
-    wanting t site (λ w w' reply. Unless (refusal w.tier s (statement.Select q)) (DoesStatement s (statement.Select q)) w w' reply) w at is
+    wanting_still t site (statement.Select q) s w at is
 query_done law t site s q w (Err (refused.Rule rule)) at is here =
-    record { world = w; at = at; stands = is; is = inl (selects_unless s q w w (only (No rule)) here) }
+    record { world = w; at = at; stands = is; is = (inl (selects_unless s q w w (only (No rule)) here), record { journal = refl; schema = refl }) }
 query_done law t site s q w (Err refused.Memory) at is here =
-    wanting t site (λ w w' reply. Unless (refusal w.tier s (statement.Select q)) (DoesStatement s (statement.Select q)) w w' reply) w at is
+    wanting_still t site (statement.Select q) s w at is
 
-pub queried : UseLaw → (old new : Stored) (site : SiteState) (id : SessionId) (q : Query) (r : Result Selected Refused) (result : Result Reply Refused) → new ≡ record old { verified = new.verified } → IsSound new → SelectsOver new id q r → result ≡ query_reply r → PerformsIn old new site site id (Executes (statement.Select q)) result
+pub queried : UseLaw → (old new : Stored) (site : SiteState) (id : SessionId) (q : Query) (r : Result Selected Refused) (result : Result Reply Refused) → new ≡ record old { verified = new.verified } → IsSound new → SelectsOver new id q r → result ≡ query_reply r → PerformsIn old new site site id (ExecutesUnwritten (statement.Select q)) result
 queried law old new site id q r result same sound selects is = λ s has w at stands unshared.
     let there = subst (λ t. StandsFor t w) (sym same) (stands_noted old new.verified w stands) in
     let here = selects w s there.stored there.shows (has_no_dynamic new w.tier sound there.stored)
     (subst (λ t. HasSession t id s) (sym same) (session_noted old new.verified id s has)) in
-    subst (λ out. IsPerformed new site (λ w'. Executes (statement.Select q) s w w' (reply_of out))) (sym is)
+    subst (λ out. IsPerformed new site (λ w'. ExecutesUnwritten (statement.Select q) s w w' (reply_of out))) (sym is)
     (query_done law new site s q w r at there here)

@@ -33,7 +33,7 @@ use Rattle.cache_tier.specs.Pending.{last_written}
 use Rattle.sql_query.specs.declared.write.Write.{Write}
 use Rattle.sql_subset.specs.declared.stmt.Stmt.TheVariants as statement
 use Rattle.session_engine.specs.Changing.{Changed, IsPrepared}
-use Rattle.stored_tier.specs.Performing.{Executes, IsPerformed, StandsFor, reply_of}
+use Rattle.stored_tier.specs.Performing.{ExecutesUnwritten, IsPerformed, StandsFor, reply_of}
 use Rattle.stored_tier.specs.Sites.{IsAt}
 use Rattle.outside.specs.Sites.{SiteState}
 use Rattle.session_engine.specs.declared.preparing.Prepared.{Prepared}
@@ -137,4 +137,4 @@ abbrev pub InsertsAt : Stored → Stored → SiteState → SiteState → Session
 InsertsAt old new before behind id p result =
     (w : World) (s : Session) (write : Write) → HasSession old id s → IsAt before w → StandsFor old w → IsUnshared w
     → IsPrepared s write w p
-    → IsPerformed new behind (λ w'. Executes (statement.Write write) s w w' (reply_of result))
+    → IsPerformed new behind (λ w'. ExecutesUnwritten (statement.Write write) s w w' (reply_of result))

@@ -8,7 +8,7 @@ ghost use Rattle.sql_subset.specs.declared.stmt.Stmt.TheVariants as statement;
 ghost use Rattle.cache_tier.specs.Conditions.{which_names};
 ghost use Rattle.cache_tier.specs.Rules.{named};
 ghost use Rattle.cache_tier.specs.Worlds.{Tries};
-ghost use Rattle.stored_tier.specs.Performing.{ClosesSession, Executes, IsCalm, OpensSession, IsCausedOver, Performs, PerformsIn, PerformsInOver, reply_of};
+ghost use Rattle.stored_tier.specs.Performing.{ClosesSession, Executes, ExecutesUnwritten, IsCalm, OpensSession, IsCausedOver, Performs, PerformsIn, PerformsInOver, reply_of};
 ghost use Rattle.outside.specs.Sites.{SiteState};
 ghost use Rattle.stored_tier.specs.Stored.{IsSound};
 
@@ -120,7 +120,7 @@ pub fn flush_group(
     }
 }
 
-/// SELECT without GROUP BY, as `select` answers it in the cache.
+/// SELECT without GROUP BY, as `select` answers it in the cache. It writes nothing to the journal.
 pub fn run_query(
     tier: &mut Tier,
     alloc: Global,
@@ -131,6 +131,8 @@ pub fn run_query(
     requires simple { query.now.groups ≡ [] }
     ensures performs { (site : SiteState) → PerformsIn tier.old tier.new site site id
         (Executes (statement.Select query.now)) result }
+    ensures unwritten { (site : SiteState) → PerformsIn tier.old tier.new site site id
+        (ExecutesUnwritten (statement.Select query.now)) result }
     ensures sound { IsSound tier.new }
     ensures calm { IsCalm (reply_of result) }
 {

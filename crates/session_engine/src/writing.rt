@@ -6,7 +6,7 @@ ghost use Rattle.sql_subset.specs.declared.stmt.Stmt.TheVariants as statement;
 ghost use Rattle.transactions.specs.Transactions.{rows_in};
 ghost use Rattle.session_engine.specs.Changing.{is_change, Changed, IsUnbroken};
 ghost use Rattle.propagators.specs.Certainty.{KeepsCertain};
-ghost use Rattle.stored_tier.specs.Performing.{Executes, IsCalm, IsCaused, PerformsIn, reply_of};
+ghost use Rattle.stored_tier.specs.Performing.{Executes, ExecutesUnwritten, IsCalm, IsCaused, PerformsIn, reply_of};
 ghost use Rattle.stored_tier.specs.Stored.{IsSound};
 
 use crate::holding::hold;
@@ -27,7 +27,8 @@ use tier_statements::done;
 
 /// INSERT, UPDATE and DELETE of an open session, in the cache: its operations stand behind the session's own, and hold
 /// the keys that they write and the parents that they name, until the transaction ends. The reply tells how many rows
-/// of the named table they write. The bank is asked for the key of an INSERT that isn't shown.
+/// of the named table they write. The bank is asked for the key of an INSERT that isn't shown. Nothing is written to the
+/// journal.
 ///
 /// The refusal is the first broken rule: 102, 103; 118, 104, 105; 121, 110, 117; row by row 120, 105, 106; 119 of the
 /// operations; 111 with the holder of a key; 107, 108, 109. It is 201 where the bank's call failed; or memory was
@@ -45,6 +46,10 @@ pub fn write_rows<P: Site>(
         (P.Disk.state site.old)
         (P.Disk.state site.new)
         id (Executes (statement.Write write.now)) result }
+    ensures unwritten { PerformsIn tier.old tier.new
+        (P.Disk.state site.old)
+        (P.Disk.state site.new)
+        id (ExecutesUnwritten (statement.Write write.now)) result }
     ensures sound { IsSound tier.new }
     ensures cause { IsCaused
         (P.Disk.state site.old)

@@ -1,6 +1,6 @@
 use Rattle.std.proofs.Common.{Err, Ok, subst, sym}
 use Rattle.sql_subset.specs.declared.stmt.Stmt.TheVariants as statement
-use Rattle.stored_tier.specs.Performing.{Executes, IsCaused, IsPerformed}
+use Rattle.stored_tier.specs.Performing.{ExecutesUnwritten, IsCaused, IsPerformed}
 use Rattle.propagators.proofs.CertainLaws.{bank_certain}
 use Rattle.session_engine.proofs.InsertDone.{Called, called, called_cause, failed, failed_cause, taken_in}
 use Rattle.session_engine.proofs.inserting.insert_rows.Goals as goal
@@ -9,7 +9,7 @@ pub returns-in-Err-find-clause-performs : goal.returns-in-Err-find-clause-perfor
 returns-in-Err-find-clause-performs g c = λ w s write has at is apart prepared.
     let before = (g.P.Disk.state c.args.site.now) in
     let after = (g.P.Disk.state c.find.new.self) in
-    subst (λ r. IsPerformed c.args.tier.now after (λ w'. Executes (statement.Write write) s w w' r)) (sym c.bank_fault.ensures)
+    subst (λ r. IsPerformed c.args.tier.now after (λ w'. ExecutesUnwritten (statement.Write write) s w w' r)) (sym c.bank_fault.ensures)
     (failed c.tier_law.ensures.over_is_applied c.label_law.ensures.number c.label_law.ensures.change
     c.pending_row_law.ensures.own c.others_shown_law.ensures.entries c.others_shown_law.ensures.around
     c.use_shown_law.ensures.written c.args.tier.now before after c.args.id w s write c.args.prepared c.in-Ok.weighed

@@ -1,19 +1,21 @@
-use Rattle.std.proofs.Common.{ap, sym, ◌∙◌}
+use Rattle.std.proofs.Common.{Err, ap, sym, ◌∙◌}
 use Rattle.std.specs.List.{list_all}
 use Rattle.session_engine.specs.Changing.{is_change}
 use Rattle.session_engine.proofs.ChangedLaws.{changed_done, no_insert, refused_before}
 use Rattle.stored_tier.proofs.QuietLaws.{session_over, stands_over}
+use Rattle.sql_subset.specs.declared.stmt.Stmt.TheVariants as statement
+use Rattle.session_engine.proofs.QueryLaws.{performs_so, unverified_still}
 use Rattle.session_engine.proofs.writing.write_rows.Goals as goal
 
-pub returns-in-Err-prepare-clause-performs : goal.returns-in-Err-prepare-clause-performs
-returns-in-Err-prepare-clause-performs g c = λ s has w at is unshared.
+pub returns-in-Err-prepare-clause-unwritten : goal.returns-in-Err-prepare-clause-unwritten
+returns-in-Err-prepare-clause-unwritten g c = λ s has w at is unshared.
     let there = stands_over c.args.tier.now c.verify.new.self w c.in-Ok.ensures.same is in
     refused_before c.verify.new.self _ w s c.args.write.now c.in-Err-prepare.refused at there
     (c.in-Err-prepare.ensures.prepared w s there.stored there.shows
     (session_over c.args.tier.now c.verify.new.self c.args.id s c.in-Ok.ensures.same has))
 
-pub returns-then-are_changes-clause-performs : goal.returns-then-are_changes-clause-performs
-returns-then-are_changes-clause-performs g c = λ s has w at is unshared.
+pub returns-then-are_changes-clause-unwritten : goal.returns-then-are_changes-clause-unwritten
+returns-then-are_changes-clause-unwritten g c = λ s has w at is unshared.
     let there = stands_over c.args.tier.now c.verify.new.self w c.in-Ok.ensures.same is in
     let known = session_over c.args.tier.now c.verify.new.self c.args.id s c.in-Ok.ensures.same has in
     let changes = sym (c.are_changes.ensures ∙ ap (list_all is_change) c.as_slice.ensures) ∙ c.if-are_changes.true in
@@ -24,9 +26,22 @@ returns-then-are_changes-clause-performs g c = λ s has w at is unshared.
     (c.in-Ok-prepare.ensures.unbroken (no_insert c.in-Ok-prepare.prepared.ops changes))
     (c.in-Ok-prepare.ensures.prepared w s there.stored there.shows known) c.change.ensures.changed
 
-pub returns-else-are_changes-clause-performs : goal.returns-else-are_changes-clause-performs
-returns-else-are_changes-clause-performs g c = λ s has w at is unshared.
+pub returns-else-are_changes-clause-unwritten : goal.returns-else-are_changes-clause-unwritten
+returns-else-are_changes-clause-unwritten g c = λ s has w at is unshared.
     let there = stands_over c.args.tier.now c.verify.new.self w c.in-Ok.ensures.same is in
     let known = session_over c.args.tier.now c.verify.new.self c.args.id s c.in-Ok.ensures.same has in
     c.insert_rows.ensures.performs w s c.args.write.now known at there unshared
     (c.in-Ok-prepare.ensures.prepared w s there.stored there.shows known)
+
+pub returns-in-Err-clause-unwritten : goal.returns-in-Err-clause-unwritten
+returns-in-Err-clause-unwritten g c =
+    unverified_still c.args.tier.now c.verify.new.self (g.P.Disk.state c.args.site.now) c.args.id (statement.Write c.args.write.now) c.in-Err.ensures.same
+
+pub returns-in-Err-prepare-clause-performs : goal.returns-in-Err-prepare-clause-performs
+returns-in-Err-prepare-clause-performs g c = performs_so c.args.tier.now c.verify.new.self _ _ c.args.id (statement.Write c.args.write.now) (Err c.in-Err-prepare.refused) (returns-in-Err-prepare-clause-unwritten g c)
+
+pub returns-then-are_changes-clause-performs : goal.returns-then-are_changes-clause-performs
+returns-then-are_changes-clause-performs g c = performs_so c.args.tier.now c.change.new.tier _ _ c.args.id (statement.Write c.args.write.now) c.change.result (returns-then-are_changes-clause-unwritten g c)
+
+pub returns-else-are_changes-clause-performs : goal.returns-else-are_changes-clause-performs
+returns-else-are_changes-clause-performs g c = performs_so c.args.tier.now c.insert_rows.new.tier _ _ c.args.id (statement.Write c.args.write.now) c.insert_rows.result (returns-else-are_changes-clause-unwritten g c)
