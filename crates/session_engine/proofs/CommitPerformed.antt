@@ -174,10 +174,6 @@ own_passes q p (y ∷ xs) x found all = by (p y) found (own_passes q p xs x)
 
 -- what the tier of a world does
 
-pub or_none : (o : Option Rule) → option_or o None ≡ o
-or_none None = refl
-or_none (Some r) = refl
-
 -- what an asynchronous commit may be refused with
 abbrev pub later_fault : Session → World → Option Rule
 later_fault s w = option_or (at_limit limit.Pending (length w.tier.unsettled)) (option_or (ticket_fault w.tier) (journal_fault w (Commits (sealed_own w.tier s) ∷ [])))

@@ -1,8 +1,7 @@
 -- A doubt that is settled: what is shown where the transaction came, and where it didn't.
-use Rattle.std.proofs.Common.{◌≡◌, ◌⊎◌, ◌≤◌, ◌^◌, ◌+◌, ℕ, Bool, true, false, ◌||◌, nat_eq, cond, Option, Some, None, Result, Ok, Err, List, [], ◌∷◌, ◌++◌, inl, inr, refl, sym, ap, subst, ◌∙◌, append_assoc, arith, count_by, length}
+use Rattle.std.proofs.Common.{◌≡◌, ◌⊎◌, ◌≤◌, ◌^◌, ◌+◌, ℕ, Bool, true, false, ◌||◌, nat_eq, cond, Option, Some, None, Result, Ok, Err, List, [], ◌∷◌, ◌++◌, inl, inr, refl, sym, ap, subst, ◌∙◌, append_assoc, arith, length}
 use Rattle.std.proofs.lemmas.Bool.{eq-eqb}
 use Rattle.std.proofs.lemmas.List.{append-nil}
-use Rattle.tier_base.specs.declared.code.Code.{Code}
 use Rattle.tier_base.specs.declared.number.SessionId.{SessionId}
 use Rattle.tier_base.specs.declared.number.TableId.{TableId}
 use Rattle.table_state.specs.declared.history.Entry.{Entry}
@@ -13,7 +12,6 @@ use Rattle.table_state.specs.Operations.{applied_all}
 use Rattle.table_state.proofs.HistoryLaws.{has_ticket-append}
 use Rattle.outside.specs.Bank.{AppliesOnce, Comes, Grows, TellsRecorded}
 use Rattle.outside.specs.Calls as site
-use Rattle.outside.specs.Faults.{BankHasCause}
 use Rattle.outside.specs.Others.{AreOthers, Around}
 use Rattle.outside.specs.Sites.{SiteState}
 use Rattle.outside.specs.declared.fault.BankError.{BankError}
@@ -28,7 +26,6 @@ use Rattle.cache_tier.specs.DoubtSteps.{SettlesDoubt, ops_of, settled, settled_n
 use Rattle.cache_tier.specs.DueWork.{DueDoubt}
 use Rattle.cache_tier.specs.PassedSteps.{with_ticket}
 use Rattle.cache_tier.specs.Shown.{no_rows, shown_state}
-use Rattle.cache_tier.specs.Steps.{note_tells}
 use Rattle.cache_tier.specs.TierStates.{ACommit, Doubt as Doubtful, Session, Tier, at_rest, session_of, with_session}
 use Rattle.cache_tier.specs.Worlds.{BankCall, World}
 use Rattle.cache_tier.specs.declared.reply.Note.{Note}
@@ -37,17 +34,17 @@ use Rattle.cache_tier.specs.Events.{StaysShown, at_history, with_tier}
 use Rattle.cache_tier.specs.StandingBetween.{AreReadAt, Stands}
 use Rattle.order_laws.specs.Commits.{KeepsCommitOrder}
 use Rattle.stored_tier.specs.declared.tier.Tier.{Tier as Stored}
-use Rattle.stored_tier.specs.Performing.{KeepsSlots, StandsFor}
+use Rattle.stored_tier.specs.Performing.{StandsFor}
 use Rattle.stored_tier.specs.Sites.{IsAt}
 use Rattle.stored_tier.specs.Stored.{IsSound, IsStoredAs, KeepsTime, are_later, rows_of}
 use Rattle.stored_tier.proofs.BankLaws.{behind, behind_at, call_behind, told_behind}
 use Rattle.stored_tier.proofs.OwnSeen.{NumberLaw, own_found}
 use Rattle.stored_tier.proofs.QuietLaws.{its_session}
 use Rattle.stored_tier.proofs.SessionLaws.{ChangeLaw, session_changed}
-use Rattle.stored_tier.proofs.StandingLaws.{last_at_once, slots_kept}
+use Rattle.stored_tier.proofs.StandingLaws.{last_at_once}
 use Rattle.session_engine.specs.AtOnce.{Finishes}
 use Rattle.session_engine.specs.Doubting.{IsEnded, IsInDoubt, IsReady, Leads}
-use Rattle.session_engine.specs.Settling.{Forgets, IsAsked, KeepsRest, Settles, end_of, note_of}
+use Rattle.session_engine.specs.Settling.{Forgets, KeepsRest, Settles, end_of, note_of}
 use Rattle.session_engine.specs.declared.doubt.Doubt.{Doubt}
 use Rattle.session_engine.proofs.AtOnceLaws.{AreLaws, came_leads, came_stands, came_to, drawn, none_came, stands_last, unused}
 use Rattle.session_engine.proofs.CommitLaws.{groups_kept}
@@ -482,29 +479,4 @@ rest_kept t new id false f = record {
   schema = ap (λ (z : Stored). z.schema) f.rest;
   catalog = ap (λ (z : Stored). z.catalog) f.rest;
   clock = ap (λ (z : Stored). z.clock) f.rest;
-}
-
--- the cause of a question that failed
-
-quiet_note : (d : Doubt) (stands : Bool) (c : Code) → count_by (note_tells c) (note_of d stands ∷ []) ≡ 0
-quiet_note d true c = refl
-quiet_note d false c = refl
-
-slots_asked : (ticket : ℕ) (before after : SiteState) (result : Result Bool BankError) → AskedOnce ticket before after result → KeepsSlots before.held after.held
-slots_asked ticket before after result asked = slots_kept before.held after.held (site.BankCall before.shared (TellsRecorded ticket result)) (λ o n step. step.slots) asked.told
-
-pub asked_known : (d : Doubt) (before after : SiteState) (stands : Bool) (note : Note) → note ≡ note_of d stands → AskedOnce d.ticket before after (Ok stands) → BankHasCause before after (Ok stands) → IsAsked before after (Ok (Some note))
-asked_known d before after stands note told asked c = record {
-  cause = record { later = c.later; failed = λ none. cc; disk = c.disk; shared = c.shared };
-  moment = asked.moment;
-  slots = slots_asked d.ticket before after (Ok stands) asked;
-  quiet = λ code. ap (λ n. count_by (note_tells code) (n ∷ [])) told ∙ quiet_note d stands code;
-}
-
-pub asked_failed : (d : Doubt) (before after : SiteState) (e : BankError) → AskedOnce d.ticket before after (Err e) → BankHasCause {T = Bool} before after (Err e) → IsAsked before after (Err e)
-asked_failed d before after e asked c = record {
-  cause = record { later = c.later; failed = λ is. let same : e ≡ Failed = cc in c.failed (ap (λ z. Err z) same); disk = c.disk; shared = c.shared };
-  moment = asked.moment;
-  slots = slots_asked d.ticket before after (Err e) asked;
-  quiet = λ code. refl;
 }

@@ -1,4 +1,5 @@
 pub mod AppliedLaws
+pub mod AskedLaws
 pub mod AtOnceDone
 pub mod AtOnceLaws
 pub mod ChangedLaws

@@ -96,9 +96,9 @@ fn are_at_once(catalog: &Catalog, ops: &[Op]) -> bool
 ///
 /// The refusal is 119 where no ticket is left, then where the journal has no room; or memory was wanting. All then
 /// stays. The reply is 202 where a call of the journal's disk failed, and the run is to end. It is 210 with the table
-/// and the key of a row that isn't as the transaction says, and 299 where memory was wanting; the transaction then stays
-/// open. It is 201 where the call of the bank failed: the ticket is in doubt then, with what the session has written,
-/// and all else stays. A ticket that was drawn isn't used again. (TimesTen Cache User's Guide, "Synchronous
+/// and the key of a row that isn't as the transaction says, and 299 where memory was wanting; the transaction then
+/// stays open. It is 201 where the call of the bank failed: the ticket is in doubt then, with what the session has
+/// written, and all else stays. A ticket that was drawn isn't used again. (TimesTen Cache User's Guide, "Synchronous
 /// writethrough"; tickets and the journal are this project's.)
 pub(crate) fn commit_at_once<P: Site>(
     tier: &mut Tier,

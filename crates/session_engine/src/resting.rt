@@ -8,7 +8,7 @@ ghost use Rattle.sql_subset.specs.declared.stmt.Stmt.TheVariants as statement;
 ghost use Rattle.cache_tier.specs.Conditions.{which_names};
 ghost use Rattle.cache_tier.specs.Rules.{named};
 ghost use Rattle.cache_tier.specs.Worlds.{Tries};
-ghost use Rattle.stored_tier.specs.Performing.{ClosesSession, Executes, ExecutesUnwritten, IsCalm, OpensSession, IsCausedOver, Performs, PerformsIn, PerformsInOver, reply_of};
+ghost use Rattle.stored_tier.specs.Performing.{ClosesSession, Executes, ExecutesUnwritten, IsCalm, IsCausedOver, OpensSession, Performs, PerformsIn, PerformsInOver, reply_of};
 ghost use Rattle.outside.specs.Sites.{SiteState};
 ghost use Rattle.stored_tier.specs.Stored.{IsSound};
 

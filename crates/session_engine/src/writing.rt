@@ -27,8 +27,8 @@ use tier_statements::done;
 
 /// INSERT, UPDATE and DELETE of an open session, in the cache: its operations stand behind the session's own, and hold
 /// the keys that they write and the parents that they name, until the transaction ends. The reply tells how many rows
-/// of the named table they write. The bank is asked for the key of an INSERT that isn't shown. Nothing is written to the
-/// journal.
+/// of the named table they write. The bank is asked for the key of an INSERT that isn't shown. The journal isn't
+/// written to.
 ///
 /// The refusal is the first broken rule: 102, 103; 118, 104, 105; 121, 110, 117; row by row 120, 105, 106; 119 of the
 /// operations; 111 with the holder of a key; 107, 108, 109. It is 201 where the bank's call failed; or memory was

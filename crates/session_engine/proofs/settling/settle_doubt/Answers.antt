@@ -1,5 +1,6 @@
 use Rattle.std.proofs.Common.{◌∙◌, sym}
-use Rattle.session_engine.proofs.DoubtLaws.{asked_failed, asked_known, leads_settled, leads_unsettled, ready_some, rest_kept}
+use Rattle.session_engine.proofs.AskedLaws.{asked_failed, asked_known}
+use Rattle.session_engine.proofs.DoubtLaws.{leads_settled, leads_unsettled, ready_some, rest_kept}
 use Rattle.propagators.proofs.CertainLaws.{bank_certain}
 use Rattle.session_engine.proofs.settling.settle_doubt.Goals as goal
 
