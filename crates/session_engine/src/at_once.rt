@@ -92,7 +92,7 @@ fn are_at_once(catalog: &Catalog, ops: &[Op]) -> bool
 
 /// COMMIT of an open session that has written tables of SYNCHRONOUS WRITETHROUGH groups: its entry is flushed to the
 /// journal, where the tier keeps one; then the transaction is applied at the backing database, with the next ticket;
-/// and then the stores do it, and it ends. All memory is taken before the flush.
+/// and then the stores do it, and it ends. The memory for that is taken before the flush.
 ///
 /// The refusal is 119 where no ticket is left, then where the journal has no room; or memory was wanting. All then
 /// stays. The reply is 202 where a call of the journal's disk failed, and the run is to end. It is 210 with the table
