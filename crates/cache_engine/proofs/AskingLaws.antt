@@ -123,7 +123,7 @@ asked_in_vain law t before after line result e reply is asks called reads w at s
       tier = refl;
       end = ap Some is;
     } in
-    performed_behind t before after w w.tier now.there (λ w'. AsksSchema line w w' (Some reply)) at now.told called.shares stands.unkept stands.waits
+    performed_behind t before after w w.tier now.there (λ w'. AsksSchema line w w' (Some reply)) at now.told called.shares stands.waits
     stands.stored (stands.shows ∙ sym stays.same) stays.stands
     (subst (λ b. MatchBool b (Asked w w' (Some reply)) (Passes w w' (Some reply))) (sym (asks_seen t w.tier line stands.stored ∙ asks)) asked)
 
@@ -157,7 +157,7 @@ asked_and_told others tables t new before after line schema asks called learns w
     (tables w1 more backing stays.stands stays.stands.flow.stand.over.leaves longer) in
     let w' = behind w a now.there after in
     let asked : Asked w w' None = record { result = Ok schema; call = call; tier = refl; end = refl } in
-    performed_behind new before after w a now.there (λ w'. AsksSchema line w w' None) at now.told called.shares stands.unkept stands.waits
+    performed_behind new before after w a now.there (λ w'. AsksSchema line w w' None) at now.told called.shares stands.waits
     (stored_learned t new w.tier schema stands.stored learns)
     (learns.rows ∙ ap (with_tables more) (stands.shows ∙ sym stays.same) ∙ sym shows.same)
     shows.stands

@@ -104,7 +104,6 @@ opened_there law t schema start propagate_ms history seen told new settings s du
   stored = stored_fresh t schema start.0 propagate_ms settings s due (told s is) new;
   shows = shows_fresh t schema start.0 propagate_ms settings s history (told s is) new;
   stands = law (opened_world settings start.0 s history seen) settings start.0 s is may;
-  unkept = refl;
   waits = record { settled = []; behind = []; is = refl; waits = refl };
 }
 

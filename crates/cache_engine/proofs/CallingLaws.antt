@@ -17,7 +17,7 @@ use Rattle.resolution.specs.Results.{Gives}
 use Rattle.group_catalog.specs.Catalogs.{groups_in}
 use Rattle.cache_tier.specs.Called.{called, called_drain, called_flag, called_refresh, refreshed_group, spelt_group}
 use Rattle.cache_tier.specs.declared.called.Called.{Called}
-use Rattle.cache_tier.specs.declared.reply.Last.TheVariants.{Done}
+use Rattle.cache_tier.specs.declared.reply.Last.TheVariants.{Done, No}
 use Rattle.cache_tier.specs.declared.reply.Reply.{Reply}
 use Rattle.cache_tier.specs.Groups.{Group}
 use Rattle.cache_tier.specs.Order.{broken_by_name, first_broken, refusal}
@@ -27,7 +27,16 @@ use Rattle.cache_tier.specs.Steps.{DoesCalled, DoesStatement, RefreshesCalled}
 use Rattle.cache_tier.specs.TierStates.{Session, Tier}
 use Rattle.cache_tier.specs.Worlds.{Tries, Unless, World, only}
 use Rattle.stored_tier.specs.declared.tier.Tier.{Tier as Stored}
-use Rattle.stored_tier.specs.Performing.{Executes, Performs, PerformsIn}
+use Rattle.outside.specs.Holding.{Held}
+use Rattle.propagators.specs.Certainty.{KeepsCertain}
+use Rattle.propagators.proofs.CertainLaws.{same_certain}
+use Rattle.tier_journal.specs.declared.journal.TierJournal.{TierJournal}
+use Rattle.cache_tier.specs.Reading.{Answers}
+use Rattle.cache_tier.specs.SessionSteps.{flag_answer}
+use Rattle.cache_tier.specs.Worlds.{Follows, Quiet}
+use Rattle.stored_tier.specs.Performing.{Executes, Performs, PerformsIn, PerformsInOver, PerformsOver, StaysWritten, reply_of}
+use Rattle.stored_tier.proofs.OverLaws.{over_here, over_so}
+use Rattle.cache_engine.proofs.StillLaws.{over_still, quiet_still, refresh_still, still_on, still_same}
 use Rattle.outside.specs.Sites.{SiteState}
 use Rattle.stored_tier.specs.Stored.{HasSession, IsStoredAs, without_list}
 use Rattle.group_engine.proofs.CalmLaws.{refused_by}
@@ -64,29 +73,49 @@ refusal_is t a s call is =
     ∙ ap (λ r. rule_in r) (sym (called_seen t a call.procedure call.arguments is))
 
 -- it is refused, or memory was wanting
-pub not_called : (t : Stored) (site : SiteState) (id : SessionId) (call : Call) (e : Refused) → Gives (λ (c : Called). c) (called (groups_in t.catalog) call.procedure call.arguments) (Err e) → PerformsIn t t site site id (Executes (statement.Call call)) (Err e)
-not_called t site id call (refused.Rule rule) gives =
-    refused_by t site id (statement.Call call) rule (λ s w has is. refusal_is t w.tier s call is ∙ ap (λ r. rule_in r) gives)
-not_called t site id call refused.Memory gives = executes_wanting t site id (statement.Call call)
+pub not_called : {D : Type 0} (state : D → SiteState) (possible : D → ℕ → Held → Type 0) (t : Stored) (k : Option TierJournal) (d : D) (id : SessionId) (call : Call) (e : Refused) → Gives (λ (c : Called). c) (called (groups_in t.catalog) call.procedure call.arguments) (Err e) → PerformsInOver state possible t t k k d d id (Executes (statement.Call call)) (Err e)
+not_called state possible t k d id call (refused.Rule rule) gives = λ s has.
+    over_here state possible t k d (Some (reply_of (Err (refused.Rule rule)))) (λ w w'. Executes (statement.Call call) s w w' (reply_of (Err (refused.Rule rule))))
+    (λ w stands.
+    inl (subst (λ f. Unless f (DoesStatement s (statement.Call call)) w w (only (No rule))) (sym (refusal_is t w.tier s call stands.stored ∙ ap (λ r. rule_in r) gives)) (refl, refl)))
+not_called state possible t k d id call refused.Memory gives = λ s has.
+    over_here state possible t k d (Some (reply_of (Err refused.Memory))) (λ w w'. Executes (statement.Call call) s w w' (reply_of (Err refused.Memory))) (λ w stands. inr (refl, refl))
 
 -- what it asks for is done
-pub called_done : (t new : Stored) (before behind : SiteState) (id : SessionId) (call : Call) (c : Called) (reply : Reply) → called (groups_in t.catalog) call.procedure call.arguments ≡ Ok c
-    → ((s : Session) → HasSession t id s → Performs t new before behind (λ w w'. Tries (DoesCalled s (Ok c)) w w' reply)) → PerformsIn t new before behind id (Executes (statement.Call call)) (Ok reply)
-called_done t new before behind id call c reply gives performs = λ s has w at stands unshared.
-    let it = performs s has w at stands unshared in
+pub called_done : {D : Type 0} (state : D → SiteState) (possible : D → ℕ → Held → Type 0) (t new : Stored) (k k' : Option TierJournal) (d d' : D) (id : SessionId) (call : Call) (c : Called) (reply : Reply) → called (groups_in t.catalog) call.procedure call.arguments ≡ Ok c
+    → ((s : Session) → HasSession t id s → PerformsOver state possible t new k k' d d' (Some reply) (λ w w'. Tries (DoesCalled s (Ok c)) w w' reply)) → PerformsInOver state possible t new k k' d d' id (Executes (statement.Call call)) (Ok reply)
+called_done state possible t new k k' d d' id call c reply gives performs = λ s has.
+    over_so state possible t new k k' d d' (Some reply) (λ w w'. Tries (DoesCalled s (Ok c)) w w' reply) (λ w w'. Executes (statement.Call call) s w w' reply)
+    (λ w w' stands did.
     let free : refusal w.tier s (statement.Call call) ≡ None = refusal_is t w.tier s call stands.stored ∙ ap (λ r. rule_in r) gives in
     let asks : called w.tier.groups call.procedure call.arguments ≡ Ok c = sym (called_seen t w.tier call.procedure call.arguments stands.stored) ∙ gives in
-    record {
-      world = it.world;
-      at = it.at;
-      stands = it.stands;
-      is = done w it.world s free asks it.is;
-    }
+    done w w' s free asks did)
+    (performs s has)
   where
     done : (w w' : World) (s : Session) → refusal w.tier s (statement.Call call) ≡ None → called w.tier.groups call.procedure call.arguments ≡ Ok c → Tries (DoesCalled s (Ok c)) w w' reply → Executes (statement.Call call) s w w' reply
     done w w' s free asks (inl does) =
         inl (subst (λ o. Unless o (DoesStatement s (statement.Call call)) w w' reply) (sym free) (subst (λ r. DoesCalled s r w w' reply) (sym asks) does))
     done w w' s free asks (inr wants) = inr wants
+
+-- calls that write nothing to the journal
+refreshes_still : (interval : ℕ) (w w' : World) (reply : Reply) → Tries (RefreshesCalled interval) w w' reply → StaysWritten w w'
+refreshes_still interval w w' reply (inl p) = still_on w p.mid w' (refresh_still interval w p.mid p.stop p.first) (by p.stop p.next)
+  where
+    by : (stop : Option Reply) → Follows stop (Answers (λ mid. (mid.tier, only (Done (set_size interval mid.tier))))) p.mid w' reply → StaysWritten p.mid w'
+    by None q = still_on p.mid (record p.mid { tier = p.mid.tier }) w' (record { journal = refl; schema = refl }) (still_same (record p.mid { tier = p.mid.tier }) w' q.0)
+    by (Some stop) q = still_same p.mid w' q.0
+refreshes_still interval w w' reply (inr p) = still_same w w' p.0
+
+pub refresh_over : {D : Type 0} (state : D → SiteState) (possible : D → ℕ → Held → Type 0) (t new : Stored) (k : Option TierJournal) (d d' : D) (interval : ℕ) (reply : Reply) → KeepsCertain state possible d d'
+    → Performs t new (state d) (state d') (λ w w'. Tries (RefreshesCalled interval) w w' reply) → PerformsOver state possible t new k k d d' (Some reply) (λ w w'. Tries (RefreshesCalled interval) w w' reply)
+refresh_over state possible t new k d d' interval reply certain performs =
+    over_still state possible t new k d d' (Some reply) (λ w w'. Tries (RefreshesCalled interval) w w' reply) certain (λ w w' did. refreshes_still interval w w' reply did) performs
+
+pub level_over : {D : Type 0} (state : D → SiteState) (possible : D → ℕ → Held → Type 0) (t new : Stored) (k : Option TierJournal) (d : D) (s : Session) (level : ℕ) (reply : Reply)
+    → Performs t new (state d) (state d) (λ w w'. Tries (Quiet (flag_answer w.tier s.label level)) w w' reply) → PerformsOver state possible t new k k d d (Some reply) (λ w w'. Tries (Quiet (flag_answer w.tier s.label level)) w w' reply)
+level_over state possible t new k d s level reply performs =
+    over_still state possible t new k d d (Some reply) (λ w w'. Tries (Quiet (flag_answer w.tier s.label level)) w w' reply) (same_certain state possible d)
+    (λ w w' did. quiet_still None (flag_answer w.tier s.label level) w w' reply refl did) performs
 
 -- ttCacheAutorefresh
 

@@ -123,11 +123,10 @@ stands_as w w' same x = subst (λ (a : Tier). Stands (record w' { tier = a })) (
 record StandsStill (t : Stored) (w' : World) : Type 0 where
   shows : rows_of t ≡ shown_state w'.history w'.tier
   stands : Stands w'
-  unkept : w'.journal.kept ≡ false
   waits : AreLast w'.tier.log w'.tier.unsettled
 
 still : (t : Stored) (w w' : World) → StandsFor t w → w' ≡ w → StandsStill t w'
-still t w w' stands same = subst (StandsStill t) (sym same) (record { shows = stands.shows; stands = stands.stands; unkept = stands.unkept; waits = stands.waits })
+still t w w' stands same = subst (StandsStill t) (sym same) (record { shows = stands.shows; stands = stands.stands; waits = stands.waits })
 
 written_still : EntriesLaw → ShownLaw → (t : Stored) (w w' : World) (writes : List Write) (reply : Reply) → StandsFor t w → IsUnshared w → writes_fault w.tier writes ≡ None → WritesAll writes w w' reply → StandsStill t w'
 written_still others law t w w' writes reply stands unshared free did =
@@ -135,7 +134,6 @@ written_still others law t w w' writes reply stands unshared free did =
     record {
       shows = stands.shows ∙ sym stays.same ∙ ap (shown_state w'.history) (sym did.tier);
       stands = stands_as w w' did.tier stays.stands;
-      unkept = ap (λ j. j.kept) did.call.journal ∙ stands.unkept;
       waits = subst (λ (a : Tier). AreLast a.log a.unsettled) (sym did.tier) stands.waits;
     }
 
@@ -155,7 +153,7 @@ writes_served others law t before after request writes given reply is same serve
     record {
       world = it.world;
       at = it.at;
-      stands = record { stored = it.stored; shows = behind.shows; stands = behind.stands; unkept = behind.unkept; waits = behind.waits };
+      stands = record { stored = it.stored; shows = behind.shows; stands = behind.stands; waits = behind.waits };
       is = subst (λ r. Tries (DoesConsole r) w it.world reply) (sym is) (subst (λ ws. Tries (DoesConsole (console.Writes ws)) w it.world reply) same it.is);
     }
 

@@ -132,7 +132,7 @@ table_made others tables t new before after d def done reply answer fit known ca
     let more = same_more t.schema def learns.front.more learns.front.is in
     let w' = behind w a now.there after in
     let does : Creates def w w' reply = record { result = Ok done; call = call; tier = refl; answer = answer } in
-    performed_behind new before after w a now.there (λ z. Tries (CreatesTable d) w z reply) at now.told called.shares stands.unkept stands.waits
+    performed_behind new before after w a now.there (λ z. Tries (CreatesTable d) w z reply) at now.told called.shares stands.waits
     (stored_defined t new w.tier def stands.stored known learns)
     (learns.rows ∙ ap (λ defs. with_tables defs (rows_of t)) more
     ∙ ap (with_tables (def ∷ [])) (stands.shows ∙ sym one.same) ∙ sym middle.same ∙ sym three.same)
@@ -184,7 +184,7 @@ table_unsure others tables t before after d def reply answer fit called w at sta
     let three = others_behind others (with_tier a w) c.middle c.behind now.there.history middle.stands apart c.came_behind c.is in
     let w' = behind w a now.there after in
     let does : Creates def w w' reply = record { result = Err Failed; call = call; tier = refl; answer = answer } in
-    performed_behind (record t { stale = true }) before after w a now.there (λ z. Tries (CreatesTable d) w z reply) at now.told called.shares stands.unkept stands.waits
+    performed_behind (record t { stale = true }) before after w a now.there (λ z. Tries (CreatesTable d) w z reply) at now.told called.shares stands.waits
     (stored_stale t w.tier stands.stored)
     (stands.shows ∙ sym one.same ∙ sym middle.same ∙ sym three.same)
     three.stands
@@ -223,7 +223,7 @@ table_unmade law t before after d def fit called w at stands apart =
     }) in
     let w' = behind w w.tier now.there after in
     let does : Creates def w w' (reply_of (Err refused.Memory)) = record { result = Err Memory; call = call; tier = refl; answer = refl } in
-    performed_behind t before after w w.tier now.there (λ z. Tries (CreatesTable d) w z (reply_of (Err refused.Memory))) at now.told called.shares stands.unkept stands.waits
+    performed_behind t before after w w.tier now.there (λ z. Tries (CreatesTable d) w z (reply_of (Err refused.Memory))) at now.told called.shares stands.waits
     stands.stored (stands.shows ∙ sym stays.same) stays.stands
     (created w w' d def (reply_of (Err refused.Memory)) (fit.free w.tier stands.stored) (fit.made w.tier stands.stored) does)
 

@@ -31,15 +31,18 @@ use Rattle.cache_tier.specs.Events.{with_tier}
 use Rattle.cache_tier.specs.StandingBetween.{Stands}
 use Rattle.stored_tier.specs.declared.clock.TierClock.{TierClock}
 use Rattle.stored_tier.specs.declared.tier.Tier.{Tier as Stored}
-use Rattle.cache_engine.specs.DueItems.{DoesItem, DueRest, KeepsSets, due_at, is_due_at, note_of, round_is_due}
-use Rattle.stored_tier.specs.Performing.{IsStopCaused, Performs, StandsFor}
+use Rattle.cache_engine.specs.DueItems.{DoesItem, DueRest, Footing, KeepsSets, due_at, is_due_at, note_of, round_is_due}
+use Rattle.outside.specs.Holding.{Held}
+use Rattle.tier_journal.specs.declared.journal.TierJournal.{TierJournal}
+use Rattle.stored_tier.specs.Performing.{IsStopCausedOver, PerformsOver, StandsFor}
 use Rattle.stored_tier.specs.Refreshing.{has_moment, moment_in}
 use Rattle.outside.specs.Sites.{SiteState}
 use Rattle.stored_tier.specs.Stored.{IsSound, IsStoredAs, KeepsTime, is_plain, without_list}
 use Rattle.cache_engine.proofs.DueItemLaws.{as_item, idle_item, noted_item, since_none, stopped_item, then_items}
+use Rattle.stored_tier.proofs.OverLaws.{keeps_tier}
 use Rattle.stored_tier.proofs.QuietLaws.{at_still}
 use Rattle.group_engine.proofs.RefreshedSets.{stands_clocked, stored_clocked}
-use Rattle.session_engine.specs.Doubting.{IsInDoubt, IsLeft, Leads}
+use Rattle.session_engine.specs.Doubting.{IsInDoubt, IsLeft, LeadsOver}
 use Rattle.session_engine.specs.declared.doubt.Doubt.{Doubt}
 
 -- which sets are due
@@ -78,62 +81,65 @@ aging_passes t w sound is =
 
 -- all that is due
 
-sets_item : (intervals : List ℕ) (old new : Stored) (b a : SiteState) (earlier notes : List Note) (stop : Option Reply) → intervals ≡ due_at old.clock.now old.clock.sets.items (groups_in old.catalog) → DoesItem (DueSetsOf intervals) old new b a earlier notes stop → DoesItem DueSets old new b a earlier notes stop
-sets_item intervals old new b a earlier notes stop due does =
-    as_item (DueSetsOf intervals) DueSets old new b a earlier notes stop
-    (λ w w' stands is. subst (λ l. DueSetsOf l w w' (Rattle.cache_engine.specs.DueItems.notes_since earlier notes) stop) (due ∙ sym (due_stored old w.tier stands.stored)) is) does
+module _ {D : Type 0} (state : D → SiteState) (possible : D → ℕ → Held → Type 0) where
+  sets_item : (intervals : List ℕ) (old new : Stored) (b a : Footing D) (earlier notes : List Note) (stop : Option Reply) → intervals ≡ due_at old.clock.now old.clock.sets.items (groups_in old.catalog) → DoesItem state possible (DueSetsOf intervals) old new b a earlier notes stop → DoesItem state possible DueSets old new b a earlier notes stop
+  sets_item intervals old new b a earlier notes stop due does =
+      as_item state possible (DueSetsOf intervals) DueSets old new b a earlier notes stop
+      (λ w w' stands is. subst (λ l. DueSetsOf l w w' (Rattle.cache_engine.specs.DueItems.notes_since earlier notes) stop) (due ∙ sym (due_stored old w.tier stands.stored)) is) does
 
-with_aging : (old new : Stored) (b a : SiteState) (earlier notes : List Note) (stop : Option Reply) → IsSound new → DoesItem DueSets old new b a earlier notes stop → DoesItem (ThenItem DueSets DueAging) old new b a earlier notes stop
-with_aging old new b a earlier notes None sound does =
-    then_items DueSets DueAging old new new b a a earlier notes notes None does (idle_item DueAging new a notes (λ w is. aging_passes new w sound is))
-with_aging old new b a earlier notes (Some end) sound does = stopped_item DueSets DueAging old new b a earlier notes end does
+  with_aging : (old new : Stored) (b a : Footing D) (earlier notes : List Note) (stop : Option Reply) → IsSound new → DoesItem state possible DueSets old new b a earlier notes stop → DoesItem state possible (ThenItem DueSets DueAging) old new b a earlier notes stop
+  with_aging old new b a earlier notes None sound does =
+      then_items state possible DueSets DueAging old new new b a a earlier notes notes None does (idle_item state possible DueAging new a notes (λ w is. aging_passes new w sound is))
+  with_aging old new b a earlier notes (Some end) sound does = stopped_item state possible DueSets DueAging old new b a earlier notes end does
 
-pub due_stopped : (old new : Stored) (b a : SiteState) (earlier notes : List Note) (end : Reply) → DoesItem DueRound old new b a earlier notes (Some end) → DoesItem DueRest old new b a earlier notes (Some end)
-due_stopped old new b a earlier notes end does = stopped_item DueRound (ThenItem DueSets DueAging) old new b a earlier notes end does
+  pub due_stopped : (old new : Stored) (b a : Footing D) (earlier notes : List Note) (end : Reply) → DoesItem state possible DueRound old new b a earlier notes (Some end) → DoesItem state possible DueRest old new b a earlier notes (Some end)
+  due_stopped old new b a earlier notes end does = stopped_item state possible DueRound (ThenItem DueSets DueAging) old new b a earlier notes end does
 
-due_kept : (old mid : Stored) → KeepsSets old mid → due_at old.clock.now old.clock.sets.items (groups_in old.catalog) ≡ due_at mid.clock.now mid.clock.sets.items (groups_in mid.catalog)
-due_kept old mid keeps = sym (λ j. due_at (keeps.now j) ((keeps.sets j).items) (groups_in (keeps.catalog j)))
+  due_kept : (old mid : Stored) → KeepsSets old mid → due_at old.clock.now old.clock.sets.items (groups_in old.catalog) ≡ due_at mid.clock.now mid.clock.sets.items (groups_in mid.catalog)
+  due_kept old mid keeps = sym (λ j. due_at (keeps.now j) ((keeps.sets j).items) (groups_in (keeps.catalog j)))
 
-pub due_done : (intervals : List ℕ) (old mid new : Stored) (b m a : SiteState) (earlier between notes : List Note) (stop : Option Reply) → KeepsSets old mid → IsSound new → intervals ≡ due_at old.clock.now old.clock.sets.items (groups_in old.catalog)
-    → DoesItem DueRound old mid b m earlier between None → DoesItem (DueSetsOf intervals) mid new m a between notes stop → DoesItem DueRest old new b a earlier notes stop
-due_done intervals old mid new b m a earlier between notes stop keeps sound due first second =
-    then_items DueRound (ThenItem DueSets DueAging) old mid new b m a earlier between notes stop first
-    (with_aging mid new m a between notes stop sound (sets_item intervals mid new m a between notes stop (due ∙ due_kept old mid keeps) second))
+  pub due_done : (intervals : List ℕ) (old mid new : Stored) (b m a : Footing D) (earlier between notes : List Note) (stop : Option Reply) → KeepsSets old mid → IsSound new → intervals ≡ due_at old.clock.now old.clock.sets.items (groups_in old.catalog)
+      → DoesItem state possible DueRound old mid b m earlier between None → DoesItem state possible (DueSetsOf intervals) mid new m a between notes stop → DoesItem state possible DueRest old new b a earlier notes stop
+  due_done intervals old mid new b m a earlier between notes stop keeps sound due first second =
+      then_items state possible DueRound (ThenItem DueSets DueAging) old mid new b m a earlier between notes stop first
+      (with_aging mid new m a between notes stop sound (sets_item intervals mid new m a between notes stop (due ∙ due_kept old mid keeps) second))
 
--- a round that isn't due
+  -- a round that isn't due
 
-pub round_passes : (t : Stored) (b : SiteState) (notes : List Note) → round_is_due t.clock.now t.clock.round t.clock.propagate_ms ≡ false → DoesItem DueRound t t b b notes notes None
-round_passes t b notes not_so = idle_item DueRound t b notes (λ w is. record {
-  end = None;
-  does = subst (λ x. MatchBool x (Round w w None) (Passes w w None)) (sym (round_stored t w.tier is.stored ∙ not_so)) (refl, refl);
-  told = refl;
-  ends = refl;
-})
+  pub round_passes : (t : Stored) (b : Footing D) (notes : List Note) → round_is_due t.clock.now t.clock.round t.clock.propagate_ms ≡ false → DoesItem state possible DueRound t t b b notes notes None
+  round_passes t b notes not_so = idle_item state possible DueRound t b notes (λ w is. record {
+    end = None;
+    does = subst (λ x. MatchBool x (Round w w None) (Passes w w None)) (sym (round_stored t w.tier is.stored ∙ not_so)) (refl, refl);
+    told = refl;
+    ends = refl;
+  })
 
-pub round_wanted : (t new : Stored) (b a : SiteState) (end : Option Reply) → round_is_due t.clock.now t.clock.round t.clock.propagate_ms ≡ true → Performs t new b a (λ w w'. Round w w' end) → Performs t new b a (λ w w'. OnlyWhere (is_round_due w.tier) Round w w' end)
-round_wanted t new b a end so performs w at stands apart =
-    let p = performs w at stands apart in
-    record {
-      world = p.world;
-      at = p.at;
-      stands = p.stands;
-      is = subst (λ x. MatchBool x (Round w p.world end) (Passes w p.world end)) (sym (round_stored t w.tier stands.stored ∙ so)) p.is;
-    }
+  pub round_wanted : (t new : Stored) (b a : Footing D) (end : Option Reply) → round_is_due t.clock.now t.clock.round t.clock.propagate_ms ≡ true → PerformsOver state possible t new b.journal a.journal b.disk a.disk end (λ w w'. Round w w' end)
+      → PerformsOver state possible t new b.journal a.journal b.disk a.disk end (λ w w'. OnlyWhere (is_round_due w.tier) Round w w' end)
+  round_wanted t new b a end so performs w at stands apart keeps =
+      let p = performs w at stands apart keeps in
+      record {
+        world = p.world;
+        at = p.at;
+        is = subst (λ x. MatchBool x (Round w p.world end) (Passes w p.world end)) (sym (round_stored t w.tier stands.stored ∙ so)) p.is;
+        stands = p.stands;
+        keeps = p.keeps;
+      }
 
--- nothing but the unsettled transactions and the moment of the last round is changed
-pub sets_kept : (old new : Stored) → new ≡ record old { unsettled = new.unsettled; clock = new.clock } → new.clock ≡ record (old.clock) { round = old.clock.now } → KeepsSets old new
-sets_kept old new same clock = record { catalog = ap (λ (t : Stored). t.catalog) same; now = ap (λ (c : TierClock). c.now) clock; sets = ap (λ (c : TierClock). c.sets) clock }
+  -- nothing but the unsettled transactions and the moment of the last round is changed
+  pub sets_kept : (old new : Stored) → new ≡ record old { unsettled = new.unsettled; clock = new.clock } → new.clock ≡ record (old.clock) { round = old.clock.now } → KeepsSets old new
+  sets_kept old new same clock = record { catalog = ap (λ (t : Stored). t.catalog) same; now = ap (λ (c : TierClock). c.now) clock; sets = ap (λ (c : TierClock). c.sets) clock }
 
-pub round_item : (old new : Stored) (b a : SiteState) (earlier notes : List Note) (end stop : Option Reply) → round_is_due old.clock.now old.clock.round old.clock.propagate_ms ≡ true → Performs old new b a (λ w w'. Round w w' end) → IsStopCaused b a end
-    → new ≡ record old { unsettled = new.unsettled; clock = new.clock } → new.clock ≡ record (old.clock) { round = old.clock.now } → notes ≡ earlier ++ noted (note_of None) end → stop ≡ stopped end → DoesItem DueRound old new b a earlier notes stop
-round_item old new b a earlier notes end stop so performs caused same clock told ends =
-    as_item (Noted (note_of None) (λ w w' s. OnlyWhere (is_round_due w.tier) Round w w' s)) DueRound old new b a earlier notes stop
-    (λ w w' stands done. record { end = done.end; does = done.does; told = done.told; ends = done.ends })
-    (noted_item None (λ w w' s. OnlyWhere (is_round_due w.tier) Round w w' s) old new b a earlier notes end stop
-    (round_wanted old new b a end so performs) caused
-    (ap (λ (t : Stored). definitions_of (groups_in t.catalog)) same)
-    (λ i there. subst (λ (c : TierClock). has_moment c.sets.items i ≡ true) (sym clock) there)
-    told ends)
+  pub round_item : (old new : Stored) (b a : Footing D) (earlier notes : List Note) (end stop : Option Reply) → round_is_due old.clock.now old.clock.round old.clock.propagate_ms ≡ true → PerformsOver state possible old new b.journal a.journal b.disk a.disk end (λ w w'. Round w w' end) → IsStopCausedOver b.journal (state b.disk) (state a.disk) end → (b.journal ≡ None → a.journal ≡ None)
+      → new ≡ record old { unsettled = new.unsettled; clock = new.clock } → new.clock ≡ record (old.clock) { round = old.clock.now } → notes ≡ earlier ++ noted (note_of None) end → stop ≡ stopped end → DoesItem state possible DueRound old new b a earlier notes stop
+  round_item old new b a earlier notes end stop so performs caused none same clock told ends =
+      as_item state possible (Noted (note_of None) (λ w w' s. OnlyWhere (is_round_due w.tier) Round w w' s)) DueRound old new b a earlier notes stop
+      (λ w w' stands done. record { end = done.end; does = done.does; told = done.told; ends = done.ends })
+      (noted_item state possible None (λ w w' s. OnlyWhere (is_round_due w.tier) Round w w' s) old new b a earlier notes end stop
+      (round_wanted old new b a end so performs) caused none
+      (ap (λ (t : Stored). definitions_of (groups_in t.catalog)) same)
+      (λ i there. subst (λ (c : TierClock). has_moment c.sets.items i ≡ true) (sym clock) there)
+      told ends)
 
 -- the tier stands at the new moment
 timed : (t : Stored) (clock : TierClock) (base : ℕ) (line : Line) (w : World) → StandsFor t w → KeepsTime clock (at_moment base line w.tier).now (added_by line w.tier) w.tier.round w.tier.sets w.tier.settings → StandsFor (record t { clock = clock }) (with_moment base line w)
@@ -141,7 +147,6 @@ timed t clock base line w is time = record {
   stored = stored_clocked t clock w.tier (at_moment base line w.tier).now (added_by line w.tier) w.tier.sets is.stored time;
   shows = is.shows;
   stands = stands_clocked w (at_moment base line w.tier).now (added_by line w.tier) w.tier.sets is.stands;
-  unkept = is.unkept;
   waits = is.waits;
 }
 
@@ -204,10 +209,11 @@ module _ (t : Stored) (clock : TierClock) (base now added : ℕ) (line : Line) (
   left_timed None w is = timed t clock base line w is (time_at w.tier is.stored.time)
   left_timed (Some d) w x = in_doubt_timed t clock base line d w x (time_at x.was.tier x.stands.stored.time)
 
-pub line_done : (t mid new : Stored) (was doubt : Option Doubt) (clock : TierClock) (base now added : ℕ) (line : Line) (b a : SiteState) (notes told : List Note) (stop : Option Reply) → ((x : Tier) → x.added ≡ t.clock.added → added_by line x ≡ added) → now ≡ cut (max t.clock.now (base + added))
-    → clock ≡ record (t.clock) { now = now; added = added; sets = clock.sets } → ((i : ℕ) → moment_in clock.sets.items i ≡ moment_in t.clock.sets.items i)
-    → mid ≡ record t { clock = clock } → told ≡ notes → Leads mid was new doubt b a (λ w w'. DueWork w w' notes stop) → Leads t was new doubt b a (λ w w'. DueWork (with_moment base line w) w' told stop)
-line_done t mid new was doubt clock base now added line b a notes told stop adds moment same sets_is mid_is told_is leads w at left apart =
-    let there = left_timed t clock base now added line adds moment same sets_is was w left in
-    let p = leads (with_moment base line w) (at_still b w (at_moment base line w.tier) at) (subst (λ (z : Stored). IsLeft z was (with_moment base line w)) (sym mid_is) there) apart in
-    record { world = p.world; at = p.at; left = p.left; is = subst (λ l. DueWork (with_moment base line w) p.world l stop) (sym told_is) p.is }
+module _ {D : Type 0} (state : D → SiteState) (possible : D → ℕ → Held → Type 0) where
+  pub line_done : (t mid new : Stored) (was doubt : Option Doubt) (clock : TierClock) (base now added : ℕ) (line : Line) (k k' : Option TierJournal) (b a : D) (notes told : List Note) (stop : Option Reply) → ((x : Tier) → x.added ≡ t.clock.added → added_by line x ≡ added) → now ≡ cut (max t.clock.now (base + added))
+      → clock ≡ record (t.clock) { now = now; added = added; sets = clock.sets } → ((i : ℕ) → moment_in clock.sets.items i ≡ moment_in t.clock.sets.items i)
+      → mid ≡ record t { clock = clock } → told ≡ notes → LeadsOver state possible mid was new doubt k k' b a stop (λ w w'. DueWork w w' notes stop) → LeadsOver state possible t was new doubt k k' b a stop (λ w w'. DueWork (with_moment base line w) w' told stop)
+  line_done t mid new was doubt clock base now added line k k' b a notes told stop adds moment same sets_is mid_is told_is leads w at left apart keeps =
+      let there = left_timed t clock base now added line adds moment same sets_is was w left in
+      let p = leads (with_moment base line w) (at_still (state b) w (at_moment base line w.tier) at) (subst (λ (z : Stored). IsLeft z was (with_moment base line w)) (sym mid_is) there) apart (keeps_tier state possible b k w (at_moment base line w.tier) refl keeps) in
+      record { world = p.world; at = p.at; is = subst (λ l. DueWork (with_moment base line w) p.world l stop) (sym told_is) p.is; left = p.left; keeps = p.keeps }

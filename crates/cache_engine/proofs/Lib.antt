@@ -12,10 +12,11 @@ pub mod DueStored
 pub mod EarlyLaws
 pub mod EngineLaws
 pub mod GrowingLaws
-pub mod IdleLaws
+pub mod JournalKept
 pub mod LineLaws
 pub mod RequestLaws
 pub mod ServingLaws
+pub mod StillLaws
 pub mod TablingLaws
 pub mod WantLaws
 pub mod WritingLaws

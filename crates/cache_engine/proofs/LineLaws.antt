@@ -33,30 +33,33 @@ use Rattle.cache_tier.specs.Worlds.{Quiet, Refuses, Tries, Unless, World, only}
 use Rattle.tier_statements.specs.Replies.{reply_to}
 use Rattle.stored_tier.specs.declared.tier.Tier.{Tier as Stored}
 use Rattle.stored_tier.specs.Answering.{IsSessionOf}
-use Rattle.stored_tier.specs.Performing.{ClosesSession, Executes, OpensSession, Performs, PerformsIn, StandsFor, reply_of}
+use Rattle.outside.specs.Holding.{Held}
+use Rattle.propagators.specs.Certainty.{KeepsCertain}
+use Rattle.propagators.proofs.CertainLaws.{same_certain}
+use Rattle.tier_journal.specs.declared.journal.TierJournal.{TierJournal}
+use Rattle.kept_journal.specs.Keeping.{is_broken}
+use Rattle.stored_tier.proofs.OverLaws.{over_here, over_so}
+use Rattle.stored_tier.specs.Performing.{ClosesSession, Executes, OpensSession, Performs, PerformsIn, PerformsOver, StandsFor, StaysWritten, reply_of}
 use Rattle.cache_engine.specs.Serving.{AsksAndDoes, DoesAdmitted, IsAdmitted, WorksAndAnswers}
 use Rattle.outside.specs.Sites.{SiteState}
 use Rattle.stored_tier.specs.Stored.{IsStoredAs}
 use Rattle.cache_engine.proofs.DueLaws.{KeepsWho, asked_keeps, due_keeps, labels_of, still_unshared, who_on}
 use Rattle.cache_engine.proofs.EngineLaws.{ended, led, led_none, left_stored}
-use Rattle.session_engine.specs.Doubting.{Ends, EndsIn, Leads}
+use Rattle.session_engine.specs.Doubting.{EndsInOver, EndsOver, IsLeft, LeadsOver}
+use Rattle.cache_engine.specs.Growing.{BeginsWith}
+use Rattle.cache_engine.proofs.StillLaws.{asked_journal, console_journal, over_grown, over_still, quiet_still}
 use Rattle.session_engine.specs.declared.doubt.Doubt.{Doubt}
 use Rattle.cache_engine.proofs.WantLaws.{told_as}
 
--- another part that the same worlds meet
-performed : (old new : Stored) (before behind : SiteState) (one other : World → World → Type 0) → ((w w' : World) → StandsFor old w → one w w' → other w w') → Performs old new before behind one → Performs old new before behind other
-performed old new before behind one other so p = λ w at stands unshared.
-    let d = p w at stands unshared in
-    record { world = d.world; at = d.at; stands = d.stands; is = so w d.world stands d.is }
-
 -- one after the other, where nothing is in doubt between them
-pub then_led : (old mid new : Stored) (was doubt : Option Doubt) (before between behind : SiteState) (one other both : World → World → Type 0)
-    → ((w w' : World) → one w w' → KeepsWho w w') → ((w x w' : World) → one w x → other x w' → both w w')
-    → Leads old was mid None before between one → Ends mid new doubt between behind other → Leads old was new doubt before behind both
-then_led old mid new was doubt before between behind one other both keeps joins p q w at left unshared =
-    let d = p w at left unshared in
-    let e = q d.world d.at d.left (still_unshared w d.world (keeps w d.world d.is) unshared) in
-    record { world = e.world; at = e.at; left = e.left; is = joins w d.world e.world d.is e.is }
+module _ {D : Type 0} (state : D → SiteState) (possible : D → ℕ → Held → Type 0) where
+  pub then_led : (old mid new : Stored) (was doubt : Option Doubt) (k n l : Option TierJournal) (before between behind : D) (stop : Option Reply) (one other both : World → World → Type 0)
+      → ((w w' : World) → one w w' → KeepsWho w w') → ((w x w' : World) → one w x → other x w' → both w w')
+      → LeadsOver state possible old was mid None k n before between None one → EndsOver state possible mid new doubt n l between behind stop other → LeadsOver state possible old was new doubt k l before behind stop both
+  then_led old mid new was doubt k n l before between behind stop one other both same joins p q w at left unshared keeps =
+      let d = p w at left unshared keeps in
+      let e = q d.world d.at (d.left refl) (still_unshared w d.world (same w d.world d.is) unshared) (d.keeps refl) in
+      record { world = e.world; at = e.at; is = joins w d.world e.world d.is e.is; left = e.left; keeps = e.keeps }
 
 -- SESSIONS
 
@@ -85,12 +88,14 @@ open_does label options w w' reply (inl q) = λ free.
     (subst (λ f. Unless f (Quiet (open_answer w.tier label options)) w w' reply) free q))
 open_does label options w w' reply (inr q) = λ free. inr q
 
-pub open_performed : (old new : Stored) (site : SiteState) (label : List ℕ) (options : OpenOptions) (result : Result Reply Refused)
+pub open_performed : {D : Type 0} (state : D → SiteState) (possible : D → ℕ → Held → Type 0) (old new : Stored) (k : Option TierJournal) (d : D) (label : List ℕ) (options : OpenOptions) (result : Result Reply Refused)
     → ((there : SiteState) → Performs old new there there (λ w w'. Tries (OpensSession label options) w w' (reply_of result)))
-    → Performs old new site site (λ w w'. DoesAdmitted (says.Session label (asks_for.Open options)) w w' (reply_of result))
-open_performed old new site label options result p = λ w at stands unshared.
-    let d = p site w at stands unshared in
-    record { world = d.world; at = d.at; stands = d.stands; is = open_does label options w d.world (reply_of result) d.is }
+    → PerformsOver state possible old new k k d d (Some (reply_of result)) (λ w w'. DoesAdmitted (says.Session label (asks_for.Open options)) w w' (reply_of result))
+open_performed state possible old new k d label options result p =
+    over_so state possible old new k k d d (Some (reply_of result)) (λ w w'. Tries (OpensSession label options) w w' (reply_of result)) (λ w w'. DoesAdmitted (says.Session label (asks_for.Open options)) w w' (reply_of result))
+    (λ w w' stands did. open_does label options w w' (reply_of result) did)
+    (over_still state possible old new k d d (Some (reply_of result)) (λ w w'. Tries (OpensSession label options) w w' (reply_of result)) (same_certain state possible d)
+    (λ w w' did. quiet_still (open_fault w.tier label) (open_answer w.tier label options) w w' (reply_of result) refl did) (p (state d)))
 
 close_does : (label : List ℕ) (s : Session) (w w' : World) (reply : Reply) → session_of w.tier label ≡ Some s → s.label ≡ label → Tries (ClosesSession s) w w' reply → Tries (Does (says.Session label asks_for.Close)) w w' reply
 close_does label s w w' reply is named (inl q) =
@@ -106,36 +111,38 @@ statement_does label st s w w' reply is (inr q) = inr q
 abbrev pub Finds : Stored → List ℕ → SessionId → Type 0
 Finds t label id = (a : Tier) → IsStoredAs t a → IsSessionOf t a label id
 
-pub close_performed : (old new : Stored) (before behind : SiteState) (label : List ℕ) (id : SessionId) (result : Result Reply Refused) → Finds old label id
-    → PerformsIn old new before behind id (λ s. Tries (ClosesSession s)) result
-    → Performs old new before behind (λ w w'. DoesAdmitted (says.Session label asks_for.Close) w w' (reply_of result))
-close_performed old new before behind label id result finds p = λ w at stands unshared.
-    let o = finds w.tier stands.stored in
-    let d = p o.session o.has w at stands unshared in
-    record { world = d.world; at = d.at; stands = d.stands; is = λ free. close_does label o.session w d.world (reply_of result) o.is o.named d.is }
+close_still : (s : Session) (w w' : World) (reply : Reply) → Tries (ClosesSession s) w w' reply → StaysWritten w w'
+close_still s w w' reply did = quiet_still None (close_answer w.tier s.label) w w' reply refl did
 
-pub statement_led : (old new : Stored) (doubt : Option Doubt) (before behind : SiteState) (label : List ℕ) (id : SessionId) (st : Stmt) (result : Result Reply Refused) → Finds old label id
-    → EndsIn old new doubt before behind id (Executes st) result
-    → Ends old new doubt before behind (λ w w'. DoesAdmitted (says.Session label (asks_for.Statement st)) w w' (reply_of result))
-statement_led old new doubt before behind label id st result finds p w at stands unshared =
-    let o = finds w.tier stands.stored in
-    let d = p o.session o.has w at stands unshared in
-    record { world = d.world; at = d.at; left = d.left; is = λ free. statement_does label st o.session w d.world (reply_of result) o.is d.is }
+module _ {D : Type 0} (state : D → SiteState) (possible : D → ℕ → Held → Type 0) where
+  pub close_performed : (old new : Stored) (k : Option TierJournal) (d : D) (label : List ℕ) (id : SessionId) (result : Result Reply Refused) → Finds old label id
+      → PerformsIn old new (state d) (state d) id (λ s. Tries (ClosesSession s)) result
+      → PerformsOver state possible old new k k d d (Some (reply_of result)) (λ w w'. DoesAdmitted (says.Session label asks_for.Close) w w' (reply_of result))
+  close_performed old new k d label id result finds p w at stands unshared keeps =
+      let o = finds w.tier stands.stored in
+      let it = over_still state possible old new k d d (Some (reply_of result)) (λ w w'. Tries (ClosesSession o.session) w w' (reply_of result)) (same_certain state possible d) (λ x x' did. close_still o.session x x' (reply_of result) did) (p o.session o.has) w at stands unshared keeps in
+      record { world = it.world; at = it.at; is = λ free. close_does label o.session w it.world (reply_of result) o.is o.named it.is; stands = it.stands; keeps = it.keeps }
 
-pub console_performed : (old new : Stored) (before behind : SiteState) (request : ConsoleRequest) (reply : Reply)
-    → Performs old new before behind (λ w w'. Tries (DoesConsole request) w w' reply) → Performs old new before behind (λ w w'. DoesAdmitted (says.Console request) w w' reply)
-console_performed old new before behind request reply p =
-    performed old new before behind (λ w w'. Tries (DoesConsole request) w w' reply) (λ w w'. DoesAdmitted (says.Console request) w w' reply)
-    (λ w w' stands done free. done) p
+  pub statement_led : (old new : Stored) (doubt : Option Doubt) (k k' : Option TierJournal) (d d' : D) (label : List ℕ) (id : SessionId) (st : Stmt) (result : Result Reply Refused) → Finds old label id
+      → EndsInOver state possible old new doubt k k' d d' id (Executes st) result
+      → EndsOver state possible old new doubt k k' d d' (Some (reply_of result)) (λ w w'. DoesAdmitted (says.Session label (asks_for.Statement st)) w w' (reply_of result))
+  statement_led old new doubt k k' d d' label id st result finds p w at stands unshared keeps =
+      let o = finds w.tier stands.stored in
+      let it = p o.session o.has w at stands unshared keeps in
+      record { world = it.world; at = it.at; is = λ free. statement_does label st o.session w it.world (reply_of result) o.is it.is; left = it.left; keeps = it.keeps }
 
--- the sum of the additions
-pub clock_told : (t : Stored) (site : SiteState) (ms : ℕ) (reply : Reply) → reply ≡ only (Done t.clock.added) → Performs t t site site (λ w w'. DoesAdmitted (says.Clock ms) w w' reply)
-clock_told t site ms reply e = λ w at stands unshared. record {
-  world = w;
-  at = at;
-  stands = stands;
-  is = λ free. inl (refl, e ∙ ap (λ n. only (Done n)) (sym stands.stored.time.additions));
-}
+  pub console_performed : (old new : Stored) (k : Option TierJournal) (d d' : D) (request : ConsoleRequest) (reply : Reply) → KeepsCertain state possible d d' → BeginsWith old.schema new.schema
+      → Performs old new (state d) (state d') (λ w w'. Tries (DoesConsole request) w w' reply) → PerformsOver state possible old new k k d d' (Some reply) (λ w w'. DoesAdmitted (says.Console request) w w' reply)
+  console_performed old new k d d' request reply certain grows p =
+      over_so state possible old new k k d d' (Some reply) (λ w w'. Tries (DoesConsole request) w w' reply) (λ w w'. DoesAdmitted (says.Console request) w w' reply)
+      (λ w w' stands done free. done)
+      (over_grown state possible old new k d d' (Some reply) (λ w w'. Tries (DoesConsole request) w w' reply) certain grows (λ w w' did. console_journal request w w' reply did) p)
+
+  -- the sum of the additions
+  pub clock_told : (t : Stored) (k : Option TierJournal) (d : D) (ms : ℕ) (reply : Reply) → reply ≡ only (Done t.clock.added) → PerformsOver state possible t t k k d d (Some reply) (λ w w'. DoesAdmitted (says.Clock ms) w w' reply)
+  clock_told t k d ms reply e =
+      over_here state possible t k d (Some reply) (λ w w'. DoesAdmitted (says.Clock ms) w w' reply)
+      (λ w stands free. inl (refl, e ∙ ap (λ n. only (Done n)) (sym stands.stored.time.additions)))
 
 -- what refuses a session's request is told by the labels of the sessions
 
@@ -184,35 +191,39 @@ early_admits base (says.Clock ms) t e = tt
 
 -- THE QUESTION FOR THE SCHEMA, AND THE STATEMENT
 
-pub asked_end : (old new : Stored) (doubt : Option Doubt) (before behind : SiteState) (l : Line) (reply : Reply) → doubt ≡ None
-    → Performs old new before behind (λ w w'. AsksSchema l w w' (Some reply)) → Ends old new doubt before behind (λ w w'. AsksAndDoes l w w' reply)
-asked_end old new doubt before behind l reply none p =
-    ended old new doubt before behind (λ w w'. AsksAndDoes l w w' reply) none
-    (performed old new before behind (λ w w'. AsksSchema l w w' (Some reply)) (λ w w'. AsksAndDoes l w w' reply)
-    (λ w w' stands asks free. inl (record { mid = w'; stop = Some reply; first = asks; next = (refl, refl) })) p)
+module _ {D : Type 0} (state : D → SiteState) (possible : D → ℕ → Held → Type 0) where
+  pub asked_end : (old new : Stored) (doubt : Option Doubt) (k : Option TierJournal) (d d' : D) (l : Line) (reply : Reply) → doubt ≡ None → KeepsCertain state possible d d' → BeginsWith old.schema new.schema
+      → Performs old new (state d) (state d') (λ w w'. AsksSchema l w w' (Some reply)) → EndsOver state possible old new doubt k k d d' (Some reply) (λ w w'. AsksAndDoes l w w' reply)
+  asked_end old new doubt k d d' l reply none certain grows p =
+      ended state possible old new doubt k k d d' (Some reply) (λ w w'. AsksAndDoes l w w' reply) none
+      (over_so state possible old new k k d d' (Some reply) (λ w w'. AsksSchema l w w' (Some reply)) (λ w w'. AsksAndDoes l w w' reply)
+      (λ w w' stands asks free. inl (record { mid = w'; stop = Some reply; first = asks; next = (refl, refl) }))
+      (over_grown state possible old new k d d' (Some reply) (λ w w'. AsksSchema l w w' (Some reply)) certain grows (λ w w' asks. asked_journal l w w' (Some reply) asks) p))
 
-pub asked_on : (old mid new : Stored) (doubt : Option Doubt) (before between behind : SiteState) (l : Line) (reply : Reply)
-    → Performs old mid before between (λ w w'. AsksSchema l w w' None) → Ends mid new doubt between behind (λ w w'. DoesAdmitted l w w' reply)
-    → Ends old new doubt before behind (λ w w'. AsksAndDoes l w w' reply)
-asked_on old mid new doubt before between behind l reply p q =
-    then_led old mid new None doubt before between behind (λ w w'. AsksSchema l w w' None) (λ w w'. DoesAdmitted l w w' reply) (λ w w'. AsksAndDoes l w w' reply)
-    (λ w w' asks. asked_keeps l w w' None asks)
-    (λ w x w' asks does free.
-    inl
-    (record {
-      mid = x;
-      stop = None;
-      first = asks;
-      next = does (still_admitted l w.tier x.tier (asked_keeps l w x None asks).sessions free);
-    }))
-    (ended old mid None before between (λ w w'. AsksSchema l w w' None) refl p) q
+  pub asked_on : (old mid new : Stored) (doubt : Option Doubt) (k k' : Option TierJournal) (before between behind : D) (l : Line) (reply : Reply) → KeepsCertain state possible before between → BeginsWith old.schema mid.schema
+      → Performs old mid (state before) (state between) (λ w w'. AsksSchema l w w' None) → EndsOver state possible mid new doubt k k' between behind (Some reply) (λ w w'. DoesAdmitted l w w' reply)
+      → EndsOver state possible old new doubt k k' before behind (Some reply) (λ w w'. AsksAndDoes l w w' reply)
+  asked_on old mid new doubt k k' before between behind l reply certain grows p q =
+      then_led state possible old mid new None doubt k k k' before between behind (Some reply) (λ w w'. AsksSchema l w w' None) (λ w w'. DoesAdmitted l w w' reply) (λ w w'. AsksAndDoes l w w' reply)
+      (λ w w' asks. asked_keeps l w w' None asks)
+      (λ w x w' asks does free.
+      inl
+      (record {
+        mid = x;
+        stop = None;
+        first = asks;
+        next = does (still_admitted l w.tier x.tier (asked_keeps l w x None asks).sessions free);
+      }))
+      (ended state possible old mid None k k before between None (λ w w'. AsksSchema l w w' None) refl
+      (over_grown state possible old mid k before between None (λ w w'. AsksSchema l w w' None) certain grows (λ w w' asks. asked_journal l w w' None asks) p))
+      q
 
-pub asked_refused : (old mid new : Stored) (doubt : Option Doubt) (before between behind : SiteState) (l : Line) (r : Refused) (reply : Reply) → reply ≡ reply_to r
-    → Performs old mid before between (λ w w'. AsksSchema l w w' None) → Ends mid new doubt between behind (λ w w'. DoesAdmitted l w w' (reply_of (Err r)))
-    → Ends old new doubt before behind (λ w w'. AsksAndDoes l w w' reply)
-asked_refused old mid new doubt before between behind l r reply e p q =
-    asked_on old mid new doubt before between behind l reply p
-    (subst (λ told. Ends mid new doubt between behind (λ w w'. DoesAdmitted l w w' told)) (told_as r ∙ sym e) q)
+  pub asked_refused : (old mid new : Stored) (doubt : Option Doubt) (k k' : Option TierJournal) (before between behind : D) (l : Line) (r : Refused) (reply : Reply) → reply ≡ reply_to r → KeepsCertain state possible before between → BeginsWith old.schema mid.schema
+      → Performs old mid (state before) (state between) (λ w w'. AsksSchema l w w' None) → EndsOver state possible mid new doubt k k' between behind (Some (reply_of (Err r))) (λ w w'. DoesAdmitted l w w' (reply_of (Err r)))
+      → EndsOver state possible old new doubt k k' before behind (Some reply) (λ w w'. AsksAndDoes l w w' reply)
+  asked_refused old mid new doubt k k' before between behind l r reply e certain grows p q =
+      asked_on old mid new doubt k k' before between behind l reply certain grows p
+      (subst (λ told. EndsOver state possible mid new doubt k k' between behind (Some told) (λ w w'. DoesAdmitted l w w' told)) (told_as r ∙ sym e) q)
 
 -- THE WORK THAT IS DUE
 
@@ -221,54 +232,62 @@ worked_keeps base l notes stop w w' works =
     who_on w (with_moment base l w) w' (record { sessions = refl; groups = refl; shared = refl })
     (due_keeps (with_moment base l w) w' notes stop works)
 
-pub worked_end : (old new : Stored) (was doubt : Option Doubt) (before behind : SiteState) (base : ℕ) (l : Line) (notes : List Note) (stop : Option Reply) (last reply : Reply) → stop ≡ Some last → reply ≡ with_notes notes last
-    → Leads old was new doubt before behind (λ w w'. DueWork (with_moment base l w) w' notes stop) → Leads old was new doubt before behind (λ w w'. WorksAndAnswers base l w w' reply)
-worked_end old new was doubt before behind base l notes stop last reply is e p =
-    led old new was doubt before behind (λ w w'. DueWork (with_moment base l w) w' notes stop) (λ w w'. WorksAndAnswers base l w w' reply)
-    (λ w w' left works free.
-    inl
-    (record {
-      due = w';
-      notes = notes;
-      stop = Some last;
-      last = last;
-      works = subst (λ end. DueWork (with_moment base l w) w' notes end) is works;
-      does = (refl, refl);
-      answer = e;
-    }))
-    p
+module _ {D : Type 0} (state : D → SiteState) (possible : D → ℕ → Held → Type 0) where
+  pub worked_end : (old new : Stored) (was doubt : Option Doubt) (k k' : Option TierJournal) (d d' : D) (base : ℕ) (l : Line) (notes : List Note) (stop : Option Reply) (last reply : Reply) → stop ≡ Some last → reply ≡ with_notes notes last
+      → LeadsOver state possible old was new doubt k k' d d' stop (λ w w'. DueWork (with_moment base l w) w' notes stop) → LeadsOver state possible old was new doubt k k' d d' (Some reply) (λ w w'. WorksAndAnswers base l w w' reply)
+  worked_end old new was doubt k k' d d' base l notes stop last reply is e p =
+      led state possible old new was doubt k k' d d' stop (Some reply) (λ w w'. DueWork (with_moment base l w) w' notes stop) (λ w w'. WorksAndAnswers base l w w' reply)
+      (λ whole. ap is_broken is ∙ ap (λ (r : Reply). is_broken (Some r)) (sym e) ∙ whole)
+      (λ w w' left works free.
+      inl
+      (record {
+        due = w';
+        notes = notes;
+        stop = Some last;
+        last = last;
+        works = subst (λ end. DueWork (with_moment base l w) w' notes end) is works;
+        does = (refl, refl);
+        answer = e;
+      }))
+      p
 
-pub worked_on : (old mid new : Stored) (was between_doubt doubt : Option Doubt) (before between behind : SiteState) (base : ℕ) (l : Line) (notes : List Note) (stop : Option Reply) (last reply : Reply) → stop ≡ None → between_doubt ≡ None → reply ≡ with_notes notes last
-    → Leads old was mid between_doubt before between (λ w w'. DueWork (with_moment base l w) w' notes stop) → Ends mid new doubt between behind (λ w w'. AsksAndDoes l w w' last)
-    → Leads old was new doubt before behind (λ w w'. WorksAndAnswers base l w w' reply)
-worked_on old mid new was between_doubt doubt before between behind base l notes stop last reply is none e p q =
-    then_led old mid new was doubt before between behind (λ w w'. DueWork (with_moment base l w) w' notes stop) (λ w w'. AsksAndDoes l w w' last) (λ w w'. WorksAndAnswers base l w w' reply)
-    (λ w w' works. worked_keeps base l notes stop w w' works)
-    (λ w x w' works answers free.
-    inl
-    (record {
-      due = x;
-      notes = notes;
-      stop = None;
-      last = last;
-      works = subst (λ end. DueWork (with_moment base l w) x notes end) is works;
-      does =
-          answers
-          (still_admitted l w.tier x.tier (worked_keeps base l notes stop w x works).sessions
-          (early_admits base l w.tier free));
-      answer = e;
-    }))
-    (led_none old mid was between_doubt before between (λ w w'. DueWork (with_moment base l w) w' notes stop) none p) q
+  pub worked_on : (old mid new : Stored) (was between_doubt doubt : Option Doubt) (k n k' : Option TierJournal) (before between behind : D) (base : ℕ) (l : Line) (notes : List Note) (stop : Option Reply) (last reply : Reply) → stop ≡ None → between_doubt ≡ None → reply ≡ with_notes notes last
+      → LeadsOver state possible old was mid between_doubt k n before between stop (λ w w'. DueWork (with_moment base l w) w' notes stop) → EndsOver state possible mid new doubt n k' between behind (Some last) (λ w w'. AsksAndDoes l w w' last)
+      → LeadsOver state possible old was new doubt k k' before behind (Some reply) (λ w w'. WorksAndAnswers base l w w' reply)
+  worked_on old mid new was between_doubt doubt k n k' before between behind base l notes stop last reply is none e p q =
+      led state possible old new was doubt k k' before behind (Some last) (Some reply) (λ w w'. WorksAndAnswers base l w w' reply) (λ w w'. WorksAndAnswers base l w w' reply)
+      (λ whole. ap (λ (r : Reply). is_broken (Some r)) (sym e) ∙ whole) (λ w w' left did. did)
+      (then_led state possible old mid new was doubt k n k' before between behind (Some last) (λ w w'. DueWork (with_moment base l w) w' notes stop) (λ w w'. AsksAndDoes l w w' last) (λ w w'. WorksAndAnswers base l w w' reply)
+      (λ w w' works. worked_keeps base l notes stop w w' works)
+      (λ w x w' works answers free.
+      inl
+      (record {
+        due = x;
+        notes = notes;
+        stop = None;
+        last = last;
+        works = subst (λ end. DueWork (with_moment base l w) x notes end) is works;
+        does =
+            answers
+            (still_admitted l w.tier x.tier (worked_keeps base l notes stop w x works).sessions
+            (early_admits base l w.tier free));
+        answer = e;
+      }))
+      (led_none state possible old mid was between_doubt k n before between None (λ w w'. DueWork (with_moment base l w) w' notes stop) none
+      (led state possible old mid was between_doubt k n before between stop None (λ w w'. DueWork (with_moment base l w) w' notes stop) (λ w w'. DueWork (with_moment base l w) w' notes stop) (λ whole. ap is_broken is) (λ w w' left did. did) p))
+      q)
 
 -- LINES THAT ARE READ
 
-pub undone : (t : Stored) (was : Option Doubt) (site : SiteState) (base : ℕ) (l : Line) (reply : Reply) → is_undone l ≡ true → reply ≡ only (No (wrong_at 0)) → Leads t was t was site site (λ w w'. Heeds base (Says l) w w' reply)
-undone t was site base l reply is e w at left unshared = record {
-  world = w;
-  at = at;
-  left = left;
-  is = subst (λ b. MatchBool b (Tries (Refuses (wrong_at 0)) w w reply) (Answered base l w w reply)) (sym is) (inl (refl, e));
-}
+module _ {D : Type 0} (state : D → SiteState) (possible : D → ℕ → Held → Type 0) where
+  -- nothing is done
+  pub left_here : (t : Stored) (was : Option Doubt) (k : Option TierJournal) (d : D) (stop : Option Reply) (does : World → World → Type 0) → ((w : World) → IsLeft t was w → does w w) → LeadsOver state possible t was t was k k d d stop does
+  left_here t was k d stop does so w at left unshared keeps = record { world = w; at = at; is = so w left; left = λ whole. left; keeps = λ whole. keeps }
+
+  pub undone : (t : Stored) (was : Option Doubt) (k : Option TierJournal) (d : D) (base : ℕ) (l : Line) (reply : Reply) → is_undone l ≡ true → reply ≡ only (No (wrong_at 0)) → LeadsOver state possible t was t was k k d d (Some reply) (λ w w'. Heeds base (Says l) w w' reply)
+  undone t was k d base l reply is e =
+      left_here t was k d (Some reply) (λ w w'. Heeds base (Says l) w w' reply)
+      (λ w left. subst (λ b. MatchBool b (Tries (Refuses (wrong_at 0)) w w reply) (Answered base l w w reply)) (sym is) (inl (refl, e)))
 
 heeds_done : (base : ℕ) (l : Line) (w w' : World) (reply : Reply) → is_undone l ≡ false → Answered base l w w' reply → Heeds base (Says l) w w' reply
 heeds_done base l w w' reply is q =
@@ -278,28 +297,25 @@ refused_early : (base : ℕ) (l : Line) (w : World) (r : Refused) (reply : Reply
 refused_early base l w (refused.Rule rule) reply told e = inl (subst (λ f. Unless f (Parts base l) w w reply) (sym told) (refl, e))
 refused_early base l w refused.Memory reply told e = inr (refl, e)
 
-pub early : (t : Stored) (was : Option Doubt) (site : SiteState) (base : ℕ) (l : Line) (r : Refused) (reply : Reply) → is_undone l ≡ false
+pub early : {D : Type 0} (state : D → SiteState) (possible : D → ℕ → Held → Type 0) (t : Stored) (was : Option Doubt) (k : Option TierJournal) (d : D) (base : ℕ) (l : Line) (r : Refused) (reply : Reply) → is_undone l ≡ false
     → ((a : Tier) → IsStoredAs t a → IsRefusedBy (early_fault base l a) r) → reply ≡ reply_to r
-    → Leads t was t was site site (λ w w'. Heeds base (Says l) w w' reply)
-early t was site base l r reply is told e w at left unshared =
+    → LeadsOver state possible t was t was k k d d (Some reply) (λ w w'. Heeds base (Says l) w w' reply)
+early state possible t was k d base l r reply is told e =
+    left_here state possible t was k d (Some reply) (λ w w'. Heeds base (Says l) w w' reply)
+    (λ w left.
     let a = left_stored t was w left in
     let same = early_same base l a.tier w.tier a.sessions a.added in
-    record {
-      world = w;
-      at = at;
-      left = left;
-      is = heeds_done base l w w reply is (refused_early base l w r reply (subst (λ f. IsRefusedBy f r) (sym same) (told a.tier a.stored)) e);
-    }
+    heeds_done base l w w reply is (refused_early base l w r reply (subst (λ f. IsRefusedBy f r) (sym same) (told a.tier a.stored)) e))
 
 answered_free : (base : ℕ) (l : Line) (w w' : World) (reply : Reply) → early_fault base l w.tier ≡ None → Tries (Parts base l) w w' reply → Answered base l w w' reply
 answered_free base l w w' reply free (inl q) = inl (subst (λ f. Unless f (Parts base l) w w' reply) (sym free) q)
 answered_free base l w w' reply free (inr q) = inr q
 
-pub heeded : (old new : Stored) (was doubt : Option Doubt) (before behind : SiteState) (base : ℕ) (l : Line) (reply : Reply) → is_undone l ≡ false
+pub heeded : {D : Type 0} (state : D → SiteState) (possible : D → ℕ → Held → Type 0) (old new : Stored) (was doubt : Option Doubt) (k k' : Option TierJournal) (d d' : D) (base : ℕ) (l : Line) (reply : Reply) → is_undone l ≡ false
     → ((a : Tier) → IsStoredAs old a → early_fault base l a ≡ None)
-    → Leads old was new doubt before behind (λ w w'. WorksAndAnswers base l w w' reply) → Leads old was new doubt before behind (λ w w'. Heeds base (Says l) w w' reply)
-heeded old new was doubt before behind base l reply is free p =
-    led old new was doubt before behind (λ w w'. WorksAndAnswers base l w w' reply) (λ w w'. Heeds base (Says l) w w' reply)
+    → LeadsOver state possible old was new doubt k k' d d' (Some reply) (λ w w'. WorksAndAnswers base l w w' reply) → LeadsOver state possible old was new doubt k k' d d' (Some reply) (λ w w'. Heeds base (Says l) w w' reply)
+heeded state possible old new was doubt k k' d d' base l reply is free p =
+    led state possible old new was doubt k k' d d' (Some reply) (Some reply) (λ w w'. WorksAndAnswers base l w w' reply) (λ w w'. Heeds base (Says l) w w' reply) (λ whole. whole)
     (λ w w' left works.
     let a = left_stored old was w left in
     let none = early_same base l a.tier w.tier a.sessions a.added ∙ free a.tier a.stored in

@@ -15,9 +15,11 @@ use Rattle.stored_tier.specs.declared.moments.SetMoment.{SetMoment}
 use Rattle.cache_engine.specs.declared.due.Due.{Due}
 use Rattle.stored_tier.specs.declared.tier.Tier.{Tier as Stored}
 use Rattle.cache_engine.specs.Due.{IsDueCaused}
-use Rattle.stored_tier.specs.Performing.{Performs}
+use Rattle.stored_tier.specs.Performing.{PerformsOver}
 use Rattle.stored_tier.specs.Refreshing.{has_moment, moment_in}
+use Rattle.outside.specs.Holding.{Held}
 use Rattle.outside.specs.Sites.{SiteState}
+use Rattle.tier_journal.specs.declared.journal.TierJournal.{TierJournal}
 
 -- what is due behind the doubt
 abbrev pub DueRest : Item
@@ -53,13 +55,25 @@ notes_since earlier notes = drop (length earlier) notes
 abbrev pub due_of : List Note → Option Reply → Due
 due_of notes stop = record { notes = notes; stop = stop }
 
+-- A site with the journal beside it, or with none.
+pub record Footing (D : Type 0) : Type 0 where
+  pub journal : Option TierJournal
+  pub disk : D
+
+abbrev pub over : {D : Type 0} → Option TierJournal → D → Footing D
+over k d = record { journal = k; disk = d }
+
 -- The stored tier does an item of due work in each world, and its notes come behind the earlier ones. Each fault that they
 -- tell has its cause, the groups keep their definitions, and no set loses the entry of its last refresh.
-pub record DoesItem (item : Item) (old new : Stored) (before behind : SiteState) (earlier notes : List Note)
-    (stop : Option Reply) : Type 0 where
-  pub performs : Performs old new before behind (λ w w'. item w w' (notes_since earlier notes) stop)
+pub record DoesItem {D : Type 0} (state : D → SiteState) (possible : D → ℕ → Held → Type 0) (item : Item)
+    (old new : Stored) (before behind : Footing D) (earlier notes : List Note) (stop : Option Reply) : Type 0 where
+  pub performs :
+      PerformsOver state possible old new before.journal behind.journal before.disk behind.disk stop
+      (λ w w'. item w w' (notes_since earlier notes) stop)
   pub order : notes ≡ earlier ++ notes_since earlier notes
-  pub cause : IsDueCaused before behind (due_of (notes_since earlier notes) stop)
+  pub cause :
+      IsDueCaused before.journal (state before.disk) (state behind.disk) (due_of (notes_since earlier notes) stop)
+  pub none : before.journal ≡ None → behind.journal ≡ None
   pub groups : definitions_of (groups_in new.catalog) ≡ definitions_of (groups_in old.catalog)
   pub entries : (interval : ℕ) → has_moment old.clock.sets.items interval ≡ true
       → has_moment new.clock.sets.items interval ≡ true

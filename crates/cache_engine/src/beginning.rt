@@ -20,7 +20,7 @@ use stored_tier::tier::Tier;
 use table_defs::BackingSchema;
 use tier_base::{Limit, Moment};
 
-/// An engine over a backing database in which no transaction of a tier stands: nothing is in doubt. It asks for the schema; transactions of
+/// An engine over a backing database in which no transaction of a tier stands: nothing is in doubt, and no journal is kept. It asks for the schema; transactions of
 /// others may come in that call. `start` is its first moment, and `propagate_ms` says after how many milliseconds a
 /// round is due; 0 where none ever is.
 ///
@@ -47,7 +47,11 @@ pub fn begin<P: Site>(
         Err(error) => Err(error),
         Ok(schema) => match new_tier(alloc, schema, start, propagate_ms) {
             Err(_) => Err(BankError::Memory),
-            Ok(tier) => Ok(Engine { tier, doubt: None }),
+            Ok(tier) => Ok(Engine {
+                tier,
+                doubt: None,
+                journal: None,
+            }),
         },
     }
 }

@@ -5,8 +5,10 @@ ghost use Rattle.cache_tier.specs.SessionSteps.{flag_answer};
 ghost use Rattle.cache_tier.specs.Steps.{RefreshesCalled};
 ghost use Rattle.cache_tier.specs.TierStates.{Session};
 ghost use Rattle.cache_tier.specs.Worlds.{Quiet, Tries};
-ghost use Rattle.stored_tier.specs.Performing.{Executes, IsCalm, IsCaused, Performs, PerformsIn, reply_of};
+ghost use Rattle.stored_tier.specs.Performing.{Executes, IsCalm, IsCaused, IsCausedOver, Performs, PerformsInOver, reply_of};
 ghost use Rattle.outside.specs.Sites.{SiteState};
+ghost use Rattle.propagators.specs.Certainty.{KeepsCertain};
+ghost use Rattle.std.specs.Prelude.{◌≡◌};
 ghost use Rattle.stored_tier.specs.Stored.{HasSession, IsSound};
 
 use crate::due_work::refresh_set;
@@ -21,6 +23,7 @@ use std::alloc::Global;
 use stored_tier::refreshing::{make_moment, set_size};
 use stored_tier::tier::Tier;
 use tier_base::{Code, SessionId};
+use tier_journal::TierJournal;
 use tier_statements::{done, faulty};
 
 /// CALL: ttDrain applies what is unsettled at the bank, and tells how many transactions that were; ttCacheAutorefresh
@@ -28,22 +31,21 @@ use tier_statements::{done, faulty};
 /// gives the transaction a level of passthrough.
 ///
 /// The refusal is the first rule that the procedure and its arguments break, as `resolve_call` tells it; a failed call
-/// of the bank is 201, a row that isn't as a transaction says 210; or memory was wanting. (TimesTen Cache User's
+/// of the bank is 201, of the journal's disk 202, after which the run is to end, a row that isn't as a transaction says 210; or memory was wanting. (TimesTen Cache User's
 /// Guide, "ttCacheAutorefresh"; TimesTen built-in procedures, "ttOptSetFlag"; ttDrain is this project's.)
 pub fn call_procedure<P: Site>(
     tier: &mut Tier,
     alloc: Global,
     site: &mut P,
+    journal: &mut Option<TierJournal>,
     id: SessionId,
     call: &Call,
 ) -> Result<Reply, Refused>
     requires { IsSound tier.old }
-    ensures performs { PerformsIn tier.old tier.new
-        (P.Disk.state site.old)
-        (P.Disk.state site.new)
-        id (Executes (statement.Call call.now)) result }
+    ensures performs { PerformsInOver P.Disk.state P.Disk.possible tier.old tier.new journal.old journal.new
+        site.old site.new id (Executes (statement.Call call.now)) result }
     ensures sound { IsSound tier.new }
-    ensures cause { IsCaused
+    ensures cause { IsCausedOver journal.old
         (P.Disk.state site.old)
         (P.Disk.state site.new)
         (reply_of result) }
@@ -51,7 +53,7 @@ pub fn call_procedure<P: Site>(
     match resolve_call(alloc, &tier.catalog, call) {
         Err(refused) => Err(refused),
         Ok(called) => match called {
-            Called::Drain => Ok(tier.drain(alloc, site)),
+            Called::Drain => Ok(tier.drain(alloc, site, journal)),
             Called::RefreshSet(interval) => Ok(refresh_called(tier, alloc, site, interval)),
             Called::SetLevel(level) => Ok(give_level(tier, alloc, id, level)),
         },
@@ -67,10 +69,12 @@ fn refresh_called<P: Site>(tier: &mut Tier, alloc: Global, site: &mut P, interva
         (P.Disk.state site.new)
         (λ w w'. Tries (RefreshesCalled interval) w w' result) }
     ensures sound { IsSound tier.new }
+    ensures certain { KeepsCertain P.Disk.state P.Disk.possible site.old site.new }
     ensures cause { IsCaused
         (P.Disk.state site.old)
         (P.Disk.state site.new)
         result }
+    ensures disk { (P.Disk.state site.new).disk_faults ≡ (P.Disk.state site.old).disk_faults }
 {
     if make_moment(&mut tier.clock.sets, interval).is_err() {
         return faulty(alloc, Code::Memory);

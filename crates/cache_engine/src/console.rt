@@ -11,6 +11,7 @@ ghost use Rattle.cache_tier.specs.Worlds.{Tries};
 ghost use Rattle.tier_base.specs.declared.code.Code.TheVariants as code;
 ghost use Rattle.stored_tier.specs.Performing.{IsCaused};
 ghost use Rattle.stored_tier.specs.Sites.{Serves};
+ghost use Rattle.propagators.specs.Certainty.{KeepsCertain};
 ghost use Rattle.stored_tier.specs.Stored.{IsStoredAs};
 ghost use Rattle.cache_engine.specs.Writing.{JudgesWrites, writes_through};
 
@@ -41,6 +42,8 @@ pub fn write_console<P: Site>(tier: &Tier, alloc: Global, site: &mut P, writes: 
         (P.Disk.state site.old)
         (P.Disk.state site.new)
         (λ w w'. Tries (DoesConsole (console.Writes writes.now)) w w' result) }
+    ensures certain { KeepsCertain P.Disk.state P.Disk.possible site.old site.new }
+    ensures disk { (P.Disk.state site.new).disk_faults ≡ (P.Disk.state site.old).disk_faults }
     ensures cause { IsCaused
         (P.Disk.state site.old)
         (P.Disk.state site.new)

@@ -5,7 +5,7 @@ ghost use Rattle.cache_tier.specs.Steps.{added_by, with_moment};
 ghost use Rattle.cache_tier.specs.TierStates.{Tier as AbstractTier, cut};
 ghost use Rattle.cache_tier.specs.DueWork.{DueWork};
 ghost use Rattle.cache_engine.specs.Due.{IsDueCaused};
-ghost use Rattle.session_engine.specs.Doubting.{IsReady, Leads};
+ghost use Rattle.session_engine.specs.Doubting.{IsReady, LeadsOver};
 ghost use Rattle.stored_tier.specs.Stored.{IsSound};
 
 use crate::due_sets::{due_intervals, with_entries};
@@ -18,6 +18,7 @@ use std::alloc::{AllocError, Global};
 use stored_tier::moments::SetMoment;
 use stored_tier::tier::Tier;
 use tier_base::{Limit, Moment, Seq};
+use tier_journal::TierJournal;
 
 /// What became of the work that was due.
 #[derive(Drop)]
@@ -41,20 +42,22 @@ pub fn begin_line<P: Site>(
     doubt: &mut Option<Doubt>,
     alloc: Global,
     site: &mut P,
+    journal: &mut Option<TierJournal>,
     base: Moment,
     line: &Line,
 ) -> Result<Due, AllocError>
     requires sound { IsSound tier.old }
     requires ready { IsReady tier.old doubt.old }
-    ensures performs { IfOk result (λ due. Leads tier.old doubt.old tier.new doubt.new
-        (P.Disk.state site.old)
-        (P.Disk.state site.new)
+    ensures performs { IfOk result (λ due. LeadsOver P.Disk.state P.Disk.possible tier.old doubt.old tier.new doubt.new
+        journal.old journal.new site.old site.new due.stop
         (λ w w'. DueWork (with_moment base.0 line.now w) w' due.notes due.stop)) }
+    ensures none { journal.old ≡ None → journal.new ≡ None }
     ensures settled { IfOk result (λ due. due.stop ≡ None → doubt.new ≡ None) }
-    ensures err { OnErr result ((tier.new ≡ tier.old) × (doubt.new ≡ doubt.old) × (site.new ≡ site.old)) }
+    ensures err { OnErr result ((tier.new ≡ tier.old) × (doubt.new ≡ doubt.old) × (site.new ≡ site.old)
+        × (journal.new ≡ journal.old)) }
     ensures sound { IsSound tier.new }
     ensures ready { IsReady tier.new doubt.new }
-    ensures cause { IfOk result (IsDueCaused
+    ensures cause { IfOk result (IsDueCaused journal.old
         (P.Disk.state site.old)
         (P.Disk.state site.new)) }
 {
@@ -66,7 +69,15 @@ pub fn begin_line<P: Site>(
     let sets = with_entries(alloc, tier.clock.sets.as_slice(), intervals.as_slice())?;
     let mut notes = room_for_notes(alloc, intervals.as_slice())?;
     set_clock(tier, now, added, sets);
-    let stop = settle_and_do(tier, doubt, alloc, site, intervals.as_slice(), &mut notes);
+    let stop = settle_and_do(
+        tier,
+        doubt,
+        alloc,
+        site,
+        journal,
+        intervals.as_slice(),
+        &mut notes,
+    );
     Ok(Due {
         notes: Seq::from_vec(notes),
         stop,

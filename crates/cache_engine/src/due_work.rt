@@ -1,18 +1,20 @@
 //! The items of due work.
 
-ghost use Rattle.std.specs.Prelude.{◌≡◌, ◌≤◌, ◌<◌, ◌+◌, ◌++◌, [], ℕ, None, Ok, Some, length, true, vec_capacity, vec_len};
+ghost use Rattle.std.specs.Prelude.{◌≡◌, ◌≤◌, ◌<◌, ◌+◌, ◌++◌, [], ℕ, Option, None, Ok, Some, length, true, vec_capacity, vec_len};
 ghost use Rattle.std.specs.List.{list_all};
 ghost use Rattle.cache_tier.specs.DueWork.{DueRound, DueSetsOf, DueWork, Noted, noted, noted_code, stopped};
 ghost use Rattle.cache_tier.specs.Groups.{definitions_of};
 ghost use Rattle.cache_tier.specs.Sets.{RefreshesIfShown};
 ghost use Rattle.group_catalog.specs.Catalogs.{groups_in};
 ghost use Rattle.cache_engine.specs.Due.{IsDueCaused};
-ghost use Rattle.cache_engine.specs.DueItems.{DoesItem, DueRest, due_at, due_of, note_of, round_is_due, KeepsSets};
-ghost use Rattle.session_engine.specs.Doubting.{IsReady, Leads};
+ghost use Rattle.cache_engine.specs.DueItems.{DoesItem, DueRest, KeepsSets, due_at, due_of, note_of, over, round_is_due};
+ghost use Rattle.session_engine.specs.Doubting.{IsReady, LeadsOver};
 ghost use Rattle.stored_tier.specs.Performing.{stop_of, IsStopCaused, Performs};
 ghost use Rattle.stored_tier.specs.Refreshing.{has_moment};
 ghost use Rattle.stored_tier.specs.Stored.{IsSound};
 ghost use Rattle.session_engine.specs.Settling.{told_of};
+ghost use Rattle.propagators.specs.Certainty.{KeepsCertain};
+ghost use Rattle.tier_journal.specs.declared.journal.TierJournal.{TierJournal as Kept};
 
 use cache_tier::reply::{Last, Note, Reply};
 use group_engine::fresh::refresh_members;
@@ -23,6 +25,7 @@ use std::alloc::Global;
 use stored_tier::refreshing::shows_something;
 use stored_tier::tier::Tier;
 use tier_base::Code;
+use tier_journal::TierJournal;
 use tier_statements::bank_fault;
 
 // A commit in doubt is settled, and then what is due is done. All its notes are told, and it is the reply that ends the
@@ -32,6 +35,7 @@ pub(crate) fn settle_and_do<P: Site>(
     doubt: &mut Option<Doubt>,
     alloc: Global,
     site: &mut P,
+    journal: &mut Option<TierJournal>,
     intervals: &[u64],
     notes: &mut Vec<Note>,
 ) -> Option<Reply>
@@ -42,14 +46,13 @@ pub(crate) fn settle_and_do<P: Site>(
     requires entries { list_all (has_moment tier.old.clock.sets.items) intervals.now ≡ true }
     requires due { intervals.now
         ≡ due_at tier.old.clock.now tier.old.clock.sets.items (groups_in tier.old.catalog) }
-    ensures performs { Leads tier.old doubt.old tier.new doubt.new
-        (P.Disk.state site.old)
-        (P.Disk.state site.new)
-        (λ w w'. DueWork w w' notes.new.items result) }
+    ensures performs { LeadsOver P.Disk.state P.Disk.possible tier.old doubt.old tier.new doubt.new
+        journal.old journal.new site.old site.new result (λ w w'. DueWork w w' notes.new.items result) }
+    ensures none { journal.old ≡ None → journal.new ≡ None }
     ensures settled { result ≡ None → doubt.new ≡ None }
     ensures sound { IsSound tier.new }
     ensures ready { IsReady tier.new doubt.new }
-    ensures cause { IsDueCaused
+    ensures cause { IsDueCaused journal.old
         (P.Disk.state site.old)
         (P.Disk.state site.new)
         (due_of notes.new.items result) }
@@ -58,7 +61,7 @@ pub(crate) fn settle_and_do<P: Site>(
         Err(error) => Some(bank_fault(alloc, error)),
         Ok(told) => {
             tell(told, notes);
-            do_due(tier, alloc, site, intervals, notes)
+            do_due(tier, alloc, site, journal, intervals, notes)
         }
     }
 }
@@ -81,6 +84,7 @@ fn do_due<P: Site>(
     tier: &mut Tier,
     alloc: Global,
     site: &mut P,
+    journal: &mut Option<TierJournal>,
     intervals: &[u64],
     notes: &mut Vec<Note>,
 ) -> Option<Reply>
@@ -89,13 +93,12 @@ fn do_due<P: Site>(
     requires entries { list_all (has_moment tier.old.clock.sets.items) intervals.now ≡ true }
     requires due { intervals.now
         ≡ due_at tier.old.clock.now tier.old.clock.sets.items (groups_in tier.old.catalog) }
-    ensures does { DoesItem DueRest tier.old tier.new
-        (P.Disk.state site.old)
-        (P.Disk.state site.new)
+    ensures does { DoesItem P.Disk.state P.Disk.possible DueRest tier.old tier.new
+        (over journal.old site.old) (over journal.new site.new)
         notes.old.items notes.new.items result }
     ensures sound { IsSound tier.new }
 {
-    match settle_due(tier, alloc, site, notes) {
+    match settle_due(tier, alloc, site, journal, notes) {
         Some(stop) => Some(stop),
         None => refresh_sets(tier, alloc, site, intervals, notes),
     }
@@ -106,13 +109,13 @@ fn settle_due<P: Site>(
     tier: &mut Tier,
     alloc: Global,
     site: &mut P,
+    journal: &mut Option<TierJournal>,
     notes: &mut Vec<Note>,
 ) -> Option<Reply>
     requires sound { IsSound tier.old }
     requires room { vec_len notes.old < vec_capacity notes.old }
-    ensures does { DoesItem DueRound tier.old tier.new
-        (P.Disk.state site.old)
-        (P.Disk.state site.new)
+    ensures does { DoesItem P.Disk.state P.Disk.possible DueRound tier.old tier.new
+        (over journal.old site.old) (over journal.new site.new)
         notes.old.items notes.new.items result }
     ensures sound { IsSound tier.new }
     ensures same { KeepsSets tier.old tier.new }
@@ -122,7 +125,7 @@ fn settle_due<P: Site>(
     if !is_round_due(tier.clock.now, tier.clock.round, tier.clock.propagate_ms) {
         return None;
     }
-    let end = tier.settle_all(alloc, site);
+    let end = tier.settle_all(alloc, site, journal);
     note_end(end, None, notes)
 }
 
@@ -137,9 +140,8 @@ fn refresh_sets<P: Site>(
     requires sound { IsSound tier.old }
     requires room { vec_len notes.old + length intervals.now ≤ vec_capacity notes.old }
     requires entries { list_all (has_moment tier.old.clock.sets.items) intervals.now ≡ true }
-    ensures does { DoesItem (DueSetsOf intervals.now) tier.old tier.new
-        (P.Disk.state site.old)
-        (P.Disk.state site.new)
+    ensures does { (k : Option Kept) → DoesItem P.Disk.state P.Disk.possible (DueSetsOf intervals.now) tier.old tier.new
+        (over k site.old) (over k site.new)
         notes.old.items notes.new.items result }
     ensures sound { IsSound tier.new }
 {
@@ -163,9 +165,9 @@ fn refresh_due<P: Site>(
     requires sound { IsSound tier.old }
     requires room { vec_len notes.old < vec_capacity notes.old }
     requires entry { has_moment tier.old.clock.sets.items interval ≡ true }
-    ensures does { DoesItem (Noted (note_of (Some interval)) (RefreshesIfShown interval)) tier.old tier.new
-        (P.Disk.state site.old)
-        (P.Disk.state site.new)
+    ensures does { (k : Option Kept) → DoesItem P.Disk.state P.Disk.possible
+        (Noted (note_of (Some interval)) (RefreshesIfShown interval)) tier.old tier.new
+        (over k site.old) (over k site.new)
         notes.old.items notes.new.items result }
     ensures sound { IsSound tier.new }
     ensures capacity { vec_capacity notes.new ≡ vec_capacity notes.old }
@@ -193,10 +195,12 @@ pub(crate) fn refresh_set<P: Site>(
     ensures entries { (i : ℕ) → has_moment tier.old.clock.sets.items i ≡ true
         → has_moment tier.new.clock.sets.items i ≡ true }
     ensures sound { IsSound tier.new }
+    ensures certain { KeepsCertain P.Disk.state P.Disk.possible site.old site.new }
     ensures cause { IsStopCaused
         (P.Disk.state site.old)
         (P.Disk.state site.new)
         (stop_of result) }
+    ensures disk { (P.Disk.state site.new).disk_faults ≡ (P.Disk.state site.old).disk_faults }
 {
     if !shows_something(&tier.catalog, interval) {
         return Ok(());

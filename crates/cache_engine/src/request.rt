@@ -1,13 +1,13 @@
 //! One request line.
 
-ghost use Rattle.std.specs.Prelude.{◌≡◌, Some, false};
+ghost use Rattle.std.specs.Prelude.{◌≡◌, None, Some, false};
 ghost use Rattle.cache_tier.specs.Rules.{wrong_at};
 ghost use Rattle.row_types.specs.declared.rule.Refused.TheVariants as refused;
 ghost use Rattle.cache_tier.specs.Steps.{Heeds, Says, with_notes};
 ghost use Rattle.cache_tier.specs.Undone.{is_undone};
 ghost use Rattle.cache_engine.specs.Serving.{misread, WorksAndAnswers};
 ghost use Rattle.cache_engine.specs.Engines.{Goes, IsInOrder};
-ghost use Rattle.cache_engine.specs.Requests.{IsLineCaused, LineStep};
+ghost use Rattle.cache_engine.specs.Requests.{IsLineCaused, LineGoes};
 
 use crate::due::{Due, begin_line};
 use crate::early::judge_early;
@@ -32,8 +32,9 @@ use tier_statements::{faulty, refuse};
 /// left so: its tier stands there, or a commit is in doubt. Where memory is wanting the reply says so, and the engine is
 /// as before but for the due work.
 ///
-/// A reply tells a fault of the bank only where the count of bank faults rose in this call, also where the site tells
-/// nothing of what it holds.
+/// A reply tells a fault of the bank only where the count of bank faults rose in this call, and a fault of the journal
+/// (202) only where a journal is kept and the count of the disk's faults rose, also where the site tells nothing of what
+/// it holds. Behind a fault of the journal the run is to end: nothing is said of what the engine is left in.
 pub fn request<P: Site>(
     engine: &mut Engine,
     alloc: Global,
@@ -42,12 +43,11 @@ pub fn request<P: Site>(
     line: &[u8],
 ) -> Option<Reply>
     requires { IsInOrder engine.old }
-    ensures performs { Goes engine.old engine.new
-        (P.Disk.state site.old)
-        (P.Disk.state site.new)
-        (λ w w'. LineStep base.0 w line.now w' result) }
+    ensures performs { Goes P.Disk.state P.Disk.possible engine.old engine.new site.old site.new result
+        (λ w w'. LineGoes base.0 w line.now w' result) }
+    ensures none { engine.old.journal ≡ None → engine.new.journal ≡ None }
     ensures order { IsInOrder engine.new }
-    ensures cause { IsLineCaused
+    ensures cause { IsLineCaused engine.old.journal
         (P.Disk.state site.old)
         (P.Disk.state site.new)
         result }
@@ -58,9 +58,36 @@ pub fn request<P: Site>(
     }
     match parse_line(alloc, line) {
         Ok(None) => None,
-        Ok(Some(line)) => Some(heed(engine, alloc, site, base, line)),
+        Ok(Some(line)) => Some(heed_kept(engine, alloc, site, base, line)),
         Err(error) => Some(refuse(alloc, misread(error))),
     }
+}
+
+// The same as `heed`. Where no journal was kept, none is kept behind it.
+fn heed_kept<P: Site>(
+    engine: &mut Engine,
+    alloc: Global,
+    site: &mut P,
+    base: Moment,
+    line: Line,
+) -> Reply
+    requires { IsInOrder engine.old }
+    ensures performs { Goes P.Disk.state P.Disk.possible engine.old engine.new site.old site.new (Some result)
+        (λ w w'. Heeds base.0 (Says line) w w' result) }
+    ensures none { engine.old.journal ≡ None → engine.new.journal ≡ None }
+    ensures order { IsInOrder engine.new }
+    ensures cause { IsLineCaused engine.old.journal
+        (P.Disk.state site.old)
+        (P.Disk.state site.new)
+        (Some result) }
+{
+    heed_law();
+    let kept = engine.journal.is_some();
+    let reply = heed(engine, alloc, site, base, line);
+    if !kept {
+        engine.journal = None;
+    }
+    reply
 }
 
 // Answers a line that is read: 101 at byte 0 where it isn't done yet, then what the second place of the order refuses.
@@ -72,12 +99,10 @@ fn heed<P: Site>(
     line: Line,
 ) -> Reply
     requires { IsInOrder engine.old }
-    ensures performs { Goes engine.old engine.new
-        (P.Disk.state site.old)
-        (P.Disk.state site.new)
+    ensures performs { Goes P.Disk.state P.Disk.possible engine.old engine.new site.old site.new (Some result)
         (λ w w'. Heeds base.0 (Says line) w w' result) }
     ensures order { IsInOrder engine.new }
-    ensures cause { IsLineCaused
+    ensures cause { IsLineCaused engine.old.journal
         (P.Disk.state site.old)
         (P.Disk.state site.new)
         (Some result) }
@@ -101,24 +126,26 @@ fn work_and_answer<P: Site>(
 ) -> Reply
     requires order { IsInOrder engine.old }
     requires done { is_undone line ≡ false }
-    ensures performs { Goes engine.old engine.new
-        (P.Disk.state site.old)
-        (P.Disk.state site.new)
+    ensures performs { Goes P.Disk.state P.Disk.possible engine.old engine.new site.old site.new (Some result)
         (λ w w'. WorksAndAnswers base.0 line w w' result) }
     ensures order { IsInOrder engine.new }
-    ensures cause { IsLineCaused
+    ensures cause { IsLineCaused engine.old.journal
         (P.Disk.state site.old)
         (P.Disk.state site.new)
         (Some result) }
 {
     let tier = &mut engine.tier;
     let doubt = &mut engine.doubt;
-    let Ok(Due { notes, stop }) = begin_line(tier, doubt, alloc, site, base, &line) else {
+    let journal = &mut engine.journal;
+    let Ok(Due { notes, stop }) = begin_line(tier, doubt, alloc, site, journal, base, &line) else {
         return faulty(alloc, Code::Memory);
     };
     match stop {
         Some(reply) => with_notes(notes, reply),
-        None => with_notes(notes, answer_line(tier, doubt, alloc, site, line)),
+        None => with_notes(
+            notes,
+            answer_line(tier, doubt, alloc, site, journal, line),
+        ),
     }
 }
 

@@ -1,13 +1,13 @@
 //! What a line does behind the work that is due: the question for the schema, and the statement.
 
-ghost use Rattle.std.specs.Prelude.{◌≡◌, IfErr, IfOk, None, false};
+ghost use Rattle.std.specs.Prelude.{◌≡◌, IfErr, IfOk, None, Some, false};
 ghost use Rattle.row_types.specs.declared.rule.Refused.TheVariants as refused;
 ghost use Rattle.cache_tier.specs.TierStates.{Tier as AbstractTier};
 ghost use Rattle.cache_tier.specs.Undone.{is_undone, is_undone_request, is_undone_statement};
 ghost use Rattle.sql_subset.specs.declared.request.Line.TheVariants as says;
 ghost use Rattle.stored_tier.specs.Answering.{IsSessionOf};
-ghost use Rattle.stored_tier.specs.Performing.{Executes, IsCaused, reply_of};
-ghost use Rattle.session_engine.specs.Doubting.{Ends, EndsIn, IsReady};
+ghost use Rattle.stored_tier.specs.Performing.{Executes, IsCausedOver, reply_of};
+ghost use Rattle.session_engine.specs.Doubting.{EndsInOver, EndsOver, IsReady};
 ghost use Rattle.cache_engine.specs.Serving.{AsksAndDoes, DoesAdmitted};
 ghost use Rattle.stored_tier.specs.Stored.{IsSound, IsStoredAs};
 
@@ -31,6 +31,7 @@ use sql_subset::stmt::Stmt;
 use std::alloc::Global;
 use stored_tier::tier::Tier;
 use tier_base::{Label, SessionId};
+use tier_journal::TierJournal;
 use tier_statements::{done, refuse};
 
 /// Answers a line that is admitted, where nothing is in doubt: the bank is asked for the schema where the line wants it,
@@ -40,25 +41,24 @@ pub(crate) fn answer_line<P: Site>(
     doubt: &mut Option<Doubt>,
     alloc: Global,
     site: &mut P,
+    journal: &mut Option<TierJournal>,
     line: Line,
 ) -> Reply
     requires sound { IsSound tier.old }
     requires free { doubt.old ≡ None }
     requires done { is_undone line ≡ false }
-    ensures performs { Ends tier.old tier.new doubt.new
-        (P.Disk.state site.old)
-        (P.Disk.state site.new)
-        (λ w w'. AsksAndDoes line w w' result) }
+    ensures performs { EndsOver P.Disk.state P.Disk.possible tier.old tier.new doubt.new journal.old journal.new
+        site.old site.new (Some result) (λ w w'. AsksAndDoes line w w' result) }
     ensures sound { IsSound tier.new }
     ensures ready { IsReady tier.new doubt.new }
-    ensures cause { IsCaused
+    ensures cause { IsCausedOver journal.old
         (P.Disk.state site.old)
         (P.Disk.state site.new)
         result }
 {
     match ask_schema(tier, alloc, site, &line) {
         Err(reply) => reply,
-        Ok(()) => match do_line(tier, doubt, alloc, site, line) {
+        Ok(()) => match do_line(tier, doubt, alloc, site, journal, line) {
             Ok(reply) => reply,
             Err(refused) => refuse(alloc, refused),
         },
@@ -71,24 +71,25 @@ fn do_line<P: Site>(
     doubt: &mut Option<Doubt>,
     alloc: Global,
     site: &mut P,
+    journal: &mut Option<TierJournal>,
     line: Line,
 ) -> Result<Reply, Refused>
     requires sound { IsSound tier.old }
     requires free { doubt.old ≡ None }
     requires done { is_undone line ≡ false }
-    ensures performs { Ends tier.old tier.new doubt.new
-        (P.Disk.state site.old)
-        (P.Disk.state site.new)
-        (λ w w'. DoesAdmitted line w w' (reply_of result)) }
+    ensures performs { EndsOver P.Disk.state P.Disk.possible tier.old tier.new doubt.new journal.old journal.new
+        site.old site.new (Some (reply_of result)) (λ w w'. DoesAdmitted line w w' (reply_of result)) }
     ensures sound { IsSound tier.new }
     ensures ready { IsReady tier.new doubt.new }
-    ensures cause { IsCaused
+    ensures cause { IsCausedOver journal.old
         (P.Disk.state site.old)
         (P.Disk.state site.new)
         (reply_of result) }
 {
     match line {
-        Line::Session(label, request) => do_request(tier, doubt, alloc, site, &label, request),
+        Line::Session(label, request) => {
+            do_request(tier, doubt, alloc, site, journal, &label, request)
+        },
         Line::Console(request) => serve_console(tier, alloc, site, &request),
         Line::Clock(_) => Ok(done(alloc, tier.clock.added)),
     }
@@ -100,19 +101,18 @@ fn do_request<P: Site>(
     doubt: &mut Option<Doubt>,
     alloc: Global,
     site: &mut P,
+    journal: &mut Option<TierJournal>,
     label: &Label,
     request: Request,
 ) -> Result<Reply, Refused>
     requires sound { IsSound tier.old }
     requires free { doubt.old ≡ None }
     requires done { is_undone_request request ≡ false }
-    ensures performs { Ends tier.old tier.new doubt.new
-        (P.Disk.state site.old)
-        (P.Disk.state site.new)
-        (λ w w'. DoesAdmitted (says.Session label.now request) w w' (reply_of result)) }
+    ensures performs { EndsOver P.Disk.state P.Disk.possible tier.old tier.new doubt.new journal.old journal.new
+        site.old site.new (Some (reply_of result)) (λ w w'. DoesAdmitted (says.Session label.now request) w w' (reply_of result)) }
     ensures sound { IsSound tier.new }
     ensures ready { IsReady tier.new doubt.new }
-    ensures cause { IsCaused
+    ensures cause { IsCausedOver journal.old
         (P.Disk.state site.old)
         (P.Disk.state site.new)
         (reply_of result) }
@@ -125,7 +125,7 @@ fn do_request<P: Site>(
         }
         Request::Statement(statement) => {
             let id = admitted(tier, alloc, label)?;
-            execute(tier, doubt, alloc, site, id, statement)
+            execute(tier, doubt, alloc, site, journal, id, statement)
         }
     }
 }
@@ -149,19 +149,18 @@ fn execute<P: Site>(
     doubt: &mut Option<Doubt>,
     alloc: Global,
     site: &mut P,
+    journal: &mut Option<TierJournal>,
     id: SessionId,
     statement: Stmt,
 ) -> Result<Reply, Refused>
     requires sound { IsSound tier.old }
     requires free { doubt.old ≡ None }
     requires done { is_undone_statement statement ≡ false }
-    ensures performs { EndsIn tier.old tier.new doubt.new
-        (P.Disk.state site.old)
-        (P.Disk.state site.new)
-        id (Executes statement) result }
+    ensures performs { EndsInOver P.Disk.state P.Disk.possible tier.old tier.new doubt.new journal.old journal.new
+        site.old site.new id (Executes statement) result }
     ensures sound { IsSound tier.new }
     ensures ready { IsReady tier.new doubt.new }
-    ensures cause { IsCaused
+    ensures cause { IsCausedOver journal.old
         (P.Disk.state site.old)
         (P.Disk.state site.new)
         (reply_of result) }
@@ -169,15 +168,15 @@ fn execute<P: Site>(
     match statement {
         Stmt::Select(query) => run_query(tier, alloc, id, &query),
         Stmt::Write(write) => write_rows(tier, alloc, site, id, &write),
-        Stmt::CreateGroup(group) => create_group(tier, alloc, id, group),
-        Stmt::Load(load) => load_group(tier, alloc, site, id, &load),
-        Stmt::Refresh(load) => refresh_group(tier, alloc, site, id, &load),
-        Stmt::Unload(unload) => unload_group(tier, alloc, id, &unload),
+        Stmt::CreateGroup(group) => create_group(tier, alloc, site, journal, id, group),
+        Stmt::Load(load) => load_group(tier, alloc, site, journal, id, &load),
+        Stmt::Refresh(load) => refresh_group(tier, alloc, site, journal, id, &load),
+        Stmt::Unload(unload) => unload_group(tier, alloc, site, journal, id, &unload),
         Stmt::Flush(flush) => flush_group(tier, alloc, id, &flush),
-        Stmt::Alter(alter) => alter_group(tier, alloc, site, id, &alter),
-        Stmt::DropGroup(name) => drop_group(tier, alloc, site, id, &name),
-        Stmt::Call(call) => call_procedure(tier, alloc, site, id, &call),
-        Stmt::Commit => commit_transaction(tier, alloc, site, id, doubt),
+        Stmt::Alter(alter) => alter_group(tier, alloc, site, journal, id, &alter),
+        Stmt::DropGroup(name) => drop_group(tier, alloc, site, journal, id, &name),
+        Stmt::Call(call) => call_procedure(tier, alloc, site, journal, id, &call),
+        Stmt::Commit => commit_transaction(tier, alloc, site, journal, id, doubt),
         Stmt::Rollback => roll_back(tier, alloc, id),
         Stmt::CreateIndex(_) => unreachable!(),
         Stmt::DropIndex(_) => unreachable!(),

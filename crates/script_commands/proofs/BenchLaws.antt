@@ -12,6 +12,7 @@ use Rattle.memory_disk.specs.Possible.{unused}
 use Rattle.cache_tier.specs.Worlds.{World}
 use Rattle.cache_engine.specs.declared.engine.Engine.{Engine}
 use Rattle.cache_engine.specs.Engines.{IsBegunWith, IsLeftIn}
+use Rattle.cache_engine.proofs.EngineLaws.{left_in}
 use Rattle.stored_tier.specs.Performing.{StandsFor}
 use Rattle.stored_tier.specs.Sites.{IsAt}
 use Rattle.cache_engine.specs.Beginning.{BeginsAt, opened_world}
@@ -37,7 +38,7 @@ summarised number start before behind last engine counts ticket entries history 
     let may : MayBegin b.held.history 1 = subst (λ (h : List Entry). MayBegin h 1) (sym is) m in
     let w : World = opened_world default_settings 0 m.state b.held.history behind in
     let stood : StandsFor engine.tier w = subst (λ (n : ℕ). StandsFor engine.tier (opened_world default_settings n m.state b.held.history behind)) zero (b.opened default_settings m.state refl leaves may) in
-    let stands : IsLeftIn engine w = rw begins.1 stood in
+    let stands : IsLeftIn engine w = left_in engine w begins.1 begins.2 refl stood in
     let at : IsAt behind w = record { there = b.held; told = b.told; history = refl; faults = refl; moment = refl; shared = refl } in
     let e = runs w at stands in
     let same : e.last.history ≡ history = e.at.history ∙ history_of last.held e.at.there history e.at.told held in

@@ -6,8 +6,7 @@ use Rattle.outside.specs.Sites.{SiteState}
 use Rattle.cache_tier.specs.declared.reply.Reply.{Reply}
 use Rattle.cache_tier.specs.Worlds.{IsUnshared, World}
 use Rattle.cache_engine.specs.declared.engine.Engine.{Engine}
-use Rattle.session_engine.specs.Doubting.{IsEnded}
-use Rattle.cache_engine.specs.Engines.{IsLeftIn}
+use Rattle.cache_engine.specs.Engines.{IsLedTo, IsLeftIn}
 use Rattle.stored_tier.specs.Sites.{IsAt}
 use Rattle.cache_engine.specs.Requests.{Given, LineRun, LineStep}
 use Rattle.script_maker.specs.Giving.{Gives}
@@ -74,7 +73,7 @@ goes_out w lines [] left' c c' site site' engine engine' g (more, is, count, at,
 
 -- a line was put
 pub answers_one : (w : World) (lines left : List (List ℕ)) (old new : List ℕ) (c c' : Counts) (reply : Option Reply) (engine : Engine) (site : SiteState) → Gives lines left old new true → old ≡ [] → c' ≡ counted reply c
-    → IsEnded engine.tier engine.doubt site (λ w'. LineStep 0 w new w' reply) → Answers w lines left c c' engine site true
+    → IsLedTo engine site (λ w'. LineStep 0 w new w' reply) → Answers w lines left c c' engine site true
 answers_one w [] left old new c c' reply engine site g clear count p = let bad = g.0 in cc
 answers_one w (line ∷ lines) left old new c c' reply engine site g clear count p =
     let is : new ≡ line = g.2 ∙ ap (λ l. l ++ line) clear in (

@@ -95,7 +95,7 @@ opens_begun before behind bases left propagate_ms start engine session is first 
         state = no.state;
         leaves = no.leaves;
       };
-      stands = rw is (left_in engine _ begun.1 (b.opened settings no.state ms no.leaves (may_begin b.held.history no)));
+      stands = rw is (left_in engine _ begun.1 begun.2 refl (b.opened settings no.state ms no.leaves (may_begin b.held.history no)));
       left = more;
     }
 

@@ -65,12 +65,12 @@ came_line res o given lines before behind session engine' waiting' line is s r =
 
 -- the ended lines and one more are answered
 pub answered_line : {E : Type 0} (res : Result (Unit {0}) E) (o : Origin) (given : List ℕ) (lines : List (List ℕ)) (before behind : Outside) (session : Session) (engine' : Engine) (waiting' line : List ℕ) → ended_lines given ++ line ∷ [] ≡ lines
-    → (s : Serving o given before session) → KeepsSlots before.site.held behind.site.held → (r : Responds res before behind session.output waiting' engine' s.world line)
+    → (s : Serving o given before session) → (session.engine.journal ≡ None → KeepsSlots before.site.held behind.site.held) → (r : Responds res before behind session.output waiting' engine' s.world line)
     → Answered o lines (s.replies ++ r.reply ∷ []) behind.site
 answered_line res o given lines before behind session engine' waiting' line is s kept r =
     answered_by o lines (s.replies ++ r.reply ∷ []) behind.site engine' r.world
     (came_line res o given lines before behind session engine' waiting' line is s r).comes r.at
-    (kept_slots before.site.held behind.site.held s.at.there r.at.there s.at.told r.at.told kept ∙ s.slots) r.stands
+    (kept_slots before.site.held behind.site.held s.at.there r.at.there s.at.told r.at.told (kept s.stands.journal) ∙ s.slots) r.stands
 
 -- a front of the replies is written
 pub cut_short : (o : Origin) (lines : List (List ℕ)) (replies : List (Option Reply)) (now : Outside) → Answered o lines replies now.site → Breaks (Some o.written) now.written (replies_bytes replies) → CutShort o lines now
@@ -84,7 +84,7 @@ ended_by given line session is front =
 
 -- a line feed came, and the reply was passed on
 pub serving_line : {E : Type 0} (o : Origin) (given : List ℕ) (before behind : Outside) (session session' : Session) (line : List ℕ)
-    → line ≡ text_of session.line → session'.line ≡ [] → KeepsSlots before.site.held behind.site.held → (s : Serving o given before session)
+    → line ≡ text_of session.line → session'.line ≡ [] → (session.engine.journal ≡ None → KeepsSlots before.site.held behind.site.held) → (s : Serving o given before session)
     → Responds {E = E} (Ok tt) before behind session.output session'.output session'.engine s.world line
     → Serving o (given ++ 10 ∷ []) behind session'
 serving_line o given before behind session session' line is empty kept s r =
@@ -95,7 +95,7 @@ serving_line o given before behind session session' line is empty kept s r =
       replies = s.replies ++ r.reply ∷ [];
       comes = came.comes;
       at = r.at;
-      slots = kept_slots before.site.held behind.site.held s.at.there r.at.there s.at.told r.at.told kept ∙ s.slots;
+      slots = kept_slots before.site.held behind.site.held s.at.there r.at.there s.at.told r.at.told (kept s.stands.journal) ∙ s.slots;
       stands = r.stands;
       left = came.left;
       line = empty ∙ sym (ap front_of (rest_ended given) ∙ front_short [] (lit≤ tt));
@@ -104,7 +104,7 @@ serving_line o given before behind session session' line is empty kept s r =
 
 -- a line feed came, and the sink failed
 pub cut_short_line : {E : Type 0} (e : E) (o : Origin) (given : List ℕ) (before behind : Outside) (session : Session) (engine' : Engine) (waiting' line : List ℕ)
-    → line ≡ text_of session.line → KeepsSlots before.site.held behind.site.held → (s : Serving o given before session)
+    → line ≡ text_of session.line → (session.engine.journal ≡ None → KeepsSlots before.site.held behind.site.held) → (s : Serving o given before session)
     → Responds (Err e) before behind session.output waiting' engine' s.world line
     → CutShort o (ended_lines (given ++ 10 ∷ [])) behind
 cut_short_line e o given before behind session engine' waiting' line is kept s r =
@@ -209,7 +209,7 @@ closes_ended o given now session none s = record {
 
 -- the last line is answered
 pub closes_line : {E : Type 0} (r : Result (Unit {0}) E) (o : Origin) (given : List ℕ) (before behind : Outside) (session : Session) (engine' : Engine) (waiting' line : List ℕ)
-    → line ≡ session.line → session.line ≢ [] → KeepsSlots before.site.held behind.site.held → (s : Serving o given before session)
+    → line ≡ session.line → session.line ≢ [] → (session.engine.journal ≡ None → KeepsSlots before.site.held behind.site.held) → (s : Serving o given before session)
     → Responds r before behind session.output waiting' engine' s.world line
     → Closes r o given behind waiting'
 closes_line (Ok done) o given before behind session engine' waiting' line is some kept s p =

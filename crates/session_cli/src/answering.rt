@@ -1,5 +1,6 @@
 //! One request line and its reply.
 
+ghost use Rattle.std.specs.Prelude.{◌≡◌, None};
 ghost use Rattle.outside.specs.Faults.{HasCause};
 ghost use Rattle.cache_tier.specs.Worlds.{IsUnshared, World};
 ghost use Rattle.cache_engine.specs.Engines.{IsInOrder, IsLeftIn};
@@ -36,7 +37,8 @@ pub fn respond<K: Sink, P: Site, C: Clock>(
         (seen (K.written sink.old) (C.coming clock.old) (P.Disk.state site.old))
         (seen (K.written sink.new) (C.coming clock.new) (P.Disk.state site.new))
         output.old output.new engine.new w line.now }
-    ensures slots { KeepsSlots (P.Disk.state site.old).held (P.Disk.state site.new).held }
+    ensures slots { engine.old.journal ≡ None
+        → KeepsSlots (P.Disk.state site.old).held (P.Disk.state site.new).held }
     ensures order { IsInOrder engine.new }
     ensures cause { HasCause (K.faults sink.old) (K.faults sink.new) result }
 {

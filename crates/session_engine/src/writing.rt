@@ -56,6 +56,7 @@ pub fn write_rows<P: Site>(
         (P.Disk.state site.new)
         (reply_of result) }
     ensures certain { KeepsCertain P.Disk.state P.Disk.possible site.old site.new }
+    ensures disk { (P.Disk.state site.new).disk_faults ≡ (P.Disk.state site.old).disk_faults }
 {
     tier_law();
     label_law();

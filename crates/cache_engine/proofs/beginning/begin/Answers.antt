@@ -25,6 +25,7 @@ returns-in-Ok-new_tier-clause-begins g c = (
   begun c.opened_law.ensures c.in-Ok-new_tier.tier c.in-Ok.schema c.args.start c.args.propagate_ms _ _
       c.in-Ok.ensures.told c.in-Ok-new_tier.ensures.fresh,
   refl,
+  refl,
 )
 
 pub returns-in-Ok-new_tier-clause-order : goal.returns-in-Ok-new_tier-clause-order

@@ -1,3 +1,4 @@
+use Rattle.propagators.proofs.CertainLaws.{same_certain}
 use Rattle.std.proofs.Common.{ap, refl, ◌∙◌}
 use Rattle.cache_tier.specs.declared.reply.Last.TheVariants.{Done}
 use Rattle.cache_tier.specs.Worlds.{only}
@@ -17,3 +18,6 @@ returns-in-Ok-clause-performs g c = λ w at stands unshared.
     (c.done.ensures ∙ ap (λ n. only (Done n)) c.set_size.ensures) c.in-Ok.ensures.performs w at
     (stands_entered c.args.tier.now (record c.args.tier.now.clock { sets = c.make_moment.new.sets }) w (record { now = refl; added = refl; round = refl; due = refl }) c.make_moment.ensures.same stands)
     unshared
+
+pub returns-then-is_err-clause-certain : goal.returns-then-is_err-clause-certain
+returns-then-is_err-clause-certain g c = same_certain g.P.Disk.state g.P.Disk.possible c.args.site.now

@@ -1,3 +1,4 @@
+use Rattle.propagators.proofs.CertainLaws.{bank_certain}
 use Rattle.cache_engine.proofs.ConsoleSteps.{refused_caused, writes_caused}
 use Rattle.cache_engine.proofs.WritingLaws.{console_written}
 use Rattle.cache_engine.proofs.console.write_console.Goals as goal
@@ -21,3 +22,8 @@ returns-in-Ok-clause-cause g c =
 
 pub returns-in-Err-clause-cause : goal.returns-in-Err-clause-cause
 returns-in-Err-clause-cause g c = refused_caused _ c.in-Err.refused c.refuse.result c.refuse.ensures
+
+pub returns-in-Ok-clause-certain : goal.returns-in-Ok-clause-certain
+returns-in-Ok-clause-certain g c =
+    bank_certain g.P.Disk.state g.P.Disk.possible g.met.P.Disk.certain c.args.site.now c.foreign-end.new.self _
+    c.foreign-end.ensures.told c.foreign-end.ensures.crash

@@ -1,4 +1,5 @@
 use Rattle.std.proofs.Common.{sym}
+use Rattle.propagators.proofs.CertainLaws.{same_certain}
 use Rattle.group_catalog.specs.Catalogs.{groups_in}
 use Rattle.group_engine.proofs.RefreshedSets.{plain_explicit, refresh_does, refresh_failed, refresh_passes}
 use Rattle.cache_engine.proofs.due_work.refresh_set.Goals as goal
@@ -17,3 +18,6 @@ returns-in-Ok-clause-performs g c =
 pub returns-in-Err-clause-performs : goal.returns-in-Err-clause-performs
 returns-in-Err-clause-performs g c =
     refresh_failed c.args.tier.now _ _ _ c.args.interval c.in-Err.error c.bank_fault.result c.requires.sound (sym c.if-not-shows_something.ensures) c.in-Err.ensures.performs c.bank_fault.ensures
+
+pub returns-then-not-shows_something-clause-certain : goal.returns-then-not-shows_something-clause-certain
+returns-then-not-shows_something-clause-certain g c = same_certain g.P.Disk.state g.P.Disk.possible c.args.site.now

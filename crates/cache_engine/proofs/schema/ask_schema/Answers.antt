@@ -1,6 +1,7 @@
 use Rattle.std.proofs.Common.{sym, ◌∙◌}
 use Rattle.std.specs.Prelude.{Err, Ok}
 use Rattle.outside.specs.declared.fault.BankError.TheVariants.{Memory}
+use Rattle.propagators.proofs.CertainLaws.{bank_certain}
 use Rattle.cache_engine.proofs.AskingLaws.{asked_and_told, asked_in_vain, not_asked}
 use Rattle.session_engine.proofs.OthersLaws.{schema_reads}
 use Rattle.cache_engine.proofs.schema.ask_schema.Goals as goal
@@ -44,3 +45,12 @@ returns-in-Ok-name_grown-clause-performs g c =
       shares = c.in-Ok.ensures.cause.shared;
     })
     c.learn.ensures.learns
+
+pub returns-in-Err-clause-certain : goal.returns-in-Err-clause-certain
+returns-in-Err-clause-certain g c = bank_certain g.P.Disk.state g.P.Disk.possible g.met.P.Disk.certain c.args.site.now c.schema.new.self _ c.in-Err.ensures.told c.in-Err.ensures.crash
+
+pub returns-in-Err-name_grown-clause-certain : goal.returns-in-Err-name_grown-clause-certain
+returns-in-Err-name_grown-clause-certain g c = bank_certain g.P.Disk.state g.P.Disk.possible g.met.P.Disk.certain c.args.site.now c.schema.new.self _ c.in-Ok.ensures.told c.in-Ok.ensures.crash
+
+pub returns-in-Ok-name_grown-clause-certain : goal.returns-in-Ok-name_grown-clause-certain
+returns-in-Ok-name_grown-clause-certain g c = bank_certain g.P.Disk.state g.P.Disk.possible g.met.P.Disk.certain c.args.site.now c.schema.new.self _ c.in-Ok.ensures.told c.in-Ok.ensures.crash

@@ -1,8 +1,9 @@
-use Rattle.std.proofs.Common.{◌++◌, ◌∷◌, [], ◌∙◌, ap, refl, subst}
+use Rattle.std.proofs.Common.{◌++◌, ◌∷◌, [], ◌∙◌, ap, subst}
 use Rattle.std.specs.Prelude.{Err, Ok}
 use Rattle.outside.specs.Bank.{Defines}
-use Rattle.outside.specs.declared.fault.BankError.TheVariants.{Failed, Memory}
+use Rattle.outside.specs.declared.fault.BankError.TheVariants.{Failed}
 use Rattle.cache_engine.specs.Growing.{Learns}
+use Rattle.propagators.proofs.CertainLaws.{bank_certain}
 use Rattle.cache_engine.proofs.CreatingLaws.{done_caused, failed_caused, table_made, table_unmade, table_unsure}
 use Rattle.cache_engine.proofs.serving.create_table.Goals as goal
 
@@ -64,3 +65,12 @@ returns-clause-performs g c =
       moment = c.in-Err-Memory.ensures.crash.later;
       shares = c.in-Err-Memory.ensures.cause.shared;
     })
+
+pub returns-in-Ok-clause-certain : goal.returns-in-Ok-clause-certain
+returns-in-Ok-clause-certain g c = bank_certain g.P.Disk.state g.P.Disk.possible g.met.P.Disk.certain c.args.site.now c.define.new.self _ c.in-Ok.ensures.told c.in-Ok.ensures.crash
+
+pub returns-in-Err-Failed-clause-certain : goal.returns-in-Err-Failed-clause-certain
+returns-in-Err-Failed-clause-certain g c = bank_certain g.P.Disk.state g.P.Disk.possible g.met.P.Disk.certain c.args.site.now c.define.new.self _ c.in-Err-Failed.ensures.told c.in-Err-Failed.ensures.crash
+
+pub returns-clause-certain : goal.returns-clause-certain
+returns-clause-certain g c = bank_certain g.P.Disk.state g.P.Disk.possible g.met.P.Disk.certain c.args.site.now c.define.new.self _ c.in-Err-Memory.ensures.told c.in-Err-Memory.ensures.crash

@@ -1,5 +1,9 @@
+use Rattle.std.proofs.Common.{refl}
 use Rattle.session_engine.proofs.DoubtLaws.{ready_none}
-use Rattle.cache_engine.proofs.EngineLaws.{ended_executes}
+use Rattle.stored_tier.specs.Performing.{reply_of}
+use Rattle.propagators.proofs.CertainLaws.{same_certain}
+use Rattle.cache_engine.proofs.CauseLaws.{caused_bank}
+use Rattle.cache_engine.proofs.EngineLaws.{ended_executes, flush_executes, roll_back_executes, unwritten_executes}
 use Rattle.cache_engine.proofs.statement.execute.Goals as goal
 
 pub returns-in-Commit-clause-performs : goal.returns-in-Commit-clause-performs
@@ -7,37 +11,44 @@ returns-in-Commit-clause-performs g c = rw c.in-Commit.is c.commit_transaction.e
 
 pub returns-in-Select-clause-performs : goal.returns-in-Select-clause-performs
 returns-in-Select-clause-performs g c =
-    ended_executes c.args.tier.now c.run_query.new.tier c.args.doubt.now _ _ c.args.id c.args.statement c.run_query.result c.requires.free
-    (rw c.in-Select.is (c.run_query.ensures.performs _))
+    unwritten_executes g.P.Disk.state g.P.Disk.possible c.args.tier.now c.run_query.new.tier c.args.doubt.now c.args.journal.now c.args.site.now
+    c.args.site.now c.args.id c.args.statement c.run_query.result c.requires.free (same_certain g.P.Disk.state g.P.Disk.possible c.args.site.now)
+    (rw c.in-Select.is (c.run_query.ensures.unwritten _))
 
 pub returns-in-Select-clause-ready : goal.returns-in-Select-clause-ready
 returns-in-Select-clause-ready g c = ready_none c.run_query.new.tier c.args.doubt.now c.requires.free
 
 pub returns-in-Select-clause-cause : goal.returns-in-Select-clause-cause
-returns-in-Select-clause-cause g c = c.run_query.ensures.calm _
+returns-in-Select-clause-cause g c =
+    caused_bank c.args.journal.now (g.P.Disk.state c.args.site.now) (g.P.Disk.state c.args.site.now) (reply_of c.run_query.result) refl (c.run_query.ensures.calm _)
 
 pub returns-in-Write-clause-performs : goal.returns-in-Write-clause-performs
 returns-in-Write-clause-performs g c =
-    ended_executes c.args.tier.now c.write_rows.new.tier c.args.doubt.now _ _ c.args.id c.args.statement c.write_rows.result c.requires.free
-    (rw c.in-Write.is c.write_rows.ensures.performs)
+    unwritten_executes g.P.Disk.state g.P.Disk.possible c.args.tier.now c.write_rows.new.tier c.args.doubt.now c.args.journal.now c.args.site.now
+    c.write_rows.new.site c.args.id c.args.statement c.write_rows.result c.requires.free c.write_rows.ensures.certain
+    (rw c.in-Write.is c.write_rows.ensures.unwritten)
+
+pub returns-in-Write-clause-cause : goal.returns-in-Write-clause-cause
+returns-in-Write-clause-cause g c =
+    caused_bank c.args.journal.now (g.P.Disk.state c.args.site.now) (g.P.Disk.state c.write_rows.new.site) (reply_of c.write_rows.result)
+    c.write_rows.ensures.disk c.write_rows.ensures.cause
 
 pub returns-in-Write-clause-ready : goal.returns-in-Write-clause-ready
 returns-in-Write-clause-ready g c = ready_none c.write_rows.new.tier c.args.doubt.now c.requires.free
 
 pub returns-in-CreateGroup-clause-performs : goal.returns-in-CreateGroup-clause-performs
 returns-in-CreateGroup-clause-performs g c =
-    ended_executes c.args.tier.now c.create_group.new.tier c.args.doubt.now _ _ c.args.id c.args.statement c.create_group.result c.requires.free
-    (rw c.in-CreateGroup.is (c.create_group.ensures.performs _))
+    ended_executes g.P.Disk.state g.P.Disk.possible c.args.tier.now c.create_group.new.tier c.args.doubt.now c.args.journal.now c.create_group.new.journal
+    c.args.site.now c.create_group.new.site c.args.id c.args.statement c.create_group.result c.requires.free
+    (rw c.in-CreateGroup.is c.create_group.ensures.performs)
 
 pub returns-in-CreateGroup-clause-ready : goal.returns-in-CreateGroup-clause-ready
 returns-in-CreateGroup-clause-ready g c = ready_none c.create_group.new.tier c.args.doubt.now c.requires.free
 
-pub returns-in-CreateGroup-clause-cause : goal.returns-in-CreateGroup-clause-cause
-returns-in-CreateGroup-clause-cause g c = c.create_group.ensures.calm _
-
 pub returns-in-Load-clause-performs : goal.returns-in-Load-clause-performs
 returns-in-Load-clause-performs g c =
-    ended_executes c.args.tier.now c.load_group.new.tier c.args.doubt.now _ _ c.args.id c.args.statement c.load_group.result c.requires.free
+    ended_executes g.P.Disk.state g.P.Disk.possible c.args.tier.now c.load_group.new.tier c.args.doubt.now c.args.journal.now c.load_group.new.journal
+    c.args.site.now c.load_group.new.site c.args.id c.args.statement c.load_group.result c.requires.free
     (rw c.in-Load.is c.load_group.ensures.performs)
 
 pub returns-in-Load-clause-ready : goal.returns-in-Load-clause-ready
@@ -45,7 +56,8 @@ returns-in-Load-clause-ready g c = ready_none c.load_group.new.tier c.args.doubt
 
 pub returns-in-Refresh-clause-performs : goal.returns-in-Refresh-clause-performs
 returns-in-Refresh-clause-performs g c =
-    ended_executes c.args.tier.now c.refresh_group.new.tier c.args.doubt.now _ _ c.args.id c.args.statement c.refresh_group.result c.requires.free
+    ended_executes g.P.Disk.state g.P.Disk.possible c.args.tier.now c.refresh_group.new.tier c.args.doubt.now c.args.journal.now c.refresh_group.new.journal
+    c.args.site.now c.refresh_group.new.site c.args.id c.args.statement c.refresh_group.result c.requires.free
     (rw c.in-Refresh.is c.refresh_group.ensures.performs)
 
 pub returns-in-Refresh-clause-ready : goal.returns-in-Refresh-clause-ready
@@ -53,29 +65,17 @@ returns-in-Refresh-clause-ready g c = ready_none c.refresh_group.new.tier c.args
 
 pub returns-in-Unload-clause-performs : goal.returns-in-Unload-clause-performs
 returns-in-Unload-clause-performs g c =
-    ended_executes c.args.tier.now c.unload_group.new.tier c.args.doubt.now _ _ c.args.id c.args.statement c.unload_group.result c.requires.free
-    (rw c.in-Unload.is (c.unload_group.ensures.performs _))
+    ended_executes g.P.Disk.state g.P.Disk.possible c.args.tier.now c.unload_group.new.tier c.args.doubt.now c.args.journal.now c.unload_group.new.journal
+    c.args.site.now c.unload_group.new.site c.args.id c.args.statement c.unload_group.result c.requires.free
+    (rw c.in-Unload.is c.unload_group.ensures.performs)
 
 pub returns-in-Unload-clause-ready : goal.returns-in-Unload-clause-ready
 returns-in-Unload-clause-ready g c = ready_none c.unload_group.new.tier c.args.doubt.now c.requires.free
 
-pub returns-in-Unload-clause-cause : goal.returns-in-Unload-clause-cause
-returns-in-Unload-clause-cause g c = c.unload_group.ensures.calm _
-
-pub returns-in-Flush-clause-performs : goal.returns-in-Flush-clause-performs
-returns-in-Flush-clause-performs g c =
-    ended_executes c.args.tier.now c.flush_group.new.tier c.args.doubt.now _ _ c.args.id c.args.statement c.flush_group.result c.requires.free
-    (rw c.in-Flush.is (c.flush_group.ensures.performs _))
-
-pub returns-in-Flush-clause-ready : goal.returns-in-Flush-clause-ready
-returns-in-Flush-clause-ready g c = ready_none c.flush_group.new.tier c.args.doubt.now c.requires.free
-
-pub returns-in-Flush-clause-cause : goal.returns-in-Flush-clause-cause
-returns-in-Flush-clause-cause g c = c.flush_group.ensures.calm _
-
 pub returns-in-Alter-clause-performs : goal.returns-in-Alter-clause-performs
 returns-in-Alter-clause-performs g c =
-    ended_executes c.args.tier.now c.alter_group.new.tier c.args.doubt.now _ _ c.args.id c.args.statement c.alter_group.result c.requires.free
+    ended_executes g.P.Disk.state g.P.Disk.possible c.args.tier.now c.alter_group.new.tier c.args.doubt.now c.args.journal.now c.alter_group.new.journal
+    c.args.site.now c.alter_group.new.site c.args.id c.args.statement c.alter_group.result c.requires.free
     (rw c.in-Alter.is c.alter_group.ensures.performs)
 
 pub returns-in-Alter-clause-ready : goal.returns-in-Alter-clause-ready
@@ -83,7 +83,8 @@ returns-in-Alter-clause-ready g c = ready_none c.alter_group.new.tier c.args.dou
 
 pub returns-in-DropGroup-clause-performs : goal.returns-in-DropGroup-clause-performs
 returns-in-DropGroup-clause-performs g c =
-    ended_executes c.args.tier.now c.drop_group.new.tier c.args.doubt.now _ _ c.args.id c.args.statement c.drop_group.result c.requires.free
+    ended_executes g.P.Disk.state g.P.Disk.possible c.args.tier.now c.drop_group.new.tier c.args.doubt.now c.args.journal.now c.drop_group.new.journal
+    c.args.site.now c.drop_group.new.site c.args.id c.args.statement c.drop_group.result c.requires.free
     (rw c.in-DropGroup.is c.drop_group.ensures.performs)
 
 pub returns-in-DropGroup-clause-ready : goal.returns-in-DropGroup-clause-ready
@@ -91,19 +92,35 @@ returns-in-DropGroup-clause-ready g c = ready_none c.drop_group.new.tier c.args.
 
 pub returns-in-Call-clause-performs : goal.returns-in-Call-clause-performs
 returns-in-Call-clause-performs g c =
-    ended_executes c.args.tier.now c.call_procedure.new.tier c.args.doubt.now _ _ c.args.id c.args.statement c.call_procedure.result c.requires.free
+    ended_executes g.P.Disk.state g.P.Disk.possible c.args.tier.now c.call_procedure.new.tier c.args.doubt.now c.args.journal.now c.call_procedure.new.journal
+    c.args.site.now c.call_procedure.new.site c.args.id c.args.statement c.call_procedure.result c.requires.free
     (rw c.in-Call.is c.call_procedure.ensures.performs)
 
 pub returns-in-Call-clause-ready : goal.returns-in-Call-clause-ready
 returns-in-Call-clause-ready g c = ready_none c.call_procedure.new.tier c.args.doubt.now c.requires.free
 
+pub returns-in-Flush-clause-performs : goal.returns-in-Flush-clause-performs
+returns-in-Flush-clause-performs g c =
+    rw c.in-Flush.is
+    (flush_executes g.P.Disk.state g.P.Disk.possible c.args.tier.now c.flush_group.new.tier c.args.doubt.now c.args.journal.now c.args.site.now c.args.id
+    c.in-Flush.flush c.flush_group.result c.requires.free (c.flush_group.ensures.performs _))
+
+pub returns-in-Flush-clause-ready : goal.returns-in-Flush-clause-ready
+returns-in-Flush-clause-ready g c = ready_none c.flush_group.new.tier c.args.doubt.now c.requires.free
+
+pub returns-in-Flush-clause-cause : goal.returns-in-Flush-clause-cause
+returns-in-Flush-clause-cause g c =
+    caused_bank c.args.journal.now (g.P.Disk.state c.args.site.now) (g.P.Disk.state c.args.site.now) (reply_of c.flush_group.result) refl (c.flush_group.ensures.calm _)
+
 pub returns-in-Rollback-clause-performs : goal.returns-in-Rollback-clause-performs
 returns-in-Rollback-clause-performs g c =
-    ended_executes c.args.tier.now c.roll_back.new.tier c.args.doubt.now _ _ c.args.id c.args.statement c.roll_back.result c.requires.free
-    (rw c.in-Rollback.is (c.roll_back.ensures.performs _))
+    rw c.in-Rollback.is
+    (roll_back_executes g.P.Disk.state g.P.Disk.possible c.args.tier.now c.roll_back.new.tier c.args.doubt.now c.args.journal.now c.args.site.now c.args.id
+    c.roll_back.result c.requires.free (c.roll_back.ensures.performs _))
 
 pub returns-in-Rollback-clause-ready : goal.returns-in-Rollback-clause-ready
 returns-in-Rollback-clause-ready g c = ready_none c.roll_back.new.tier c.args.doubt.now c.requires.free
 
 pub returns-in-Rollback-clause-cause : goal.returns-in-Rollback-clause-cause
-returns-in-Rollback-clause-cause g c = c.roll_back.ensures.calm _
+returns-in-Rollback-clause-cause g c =
+    caused_bank c.args.journal.now (g.P.Disk.state c.args.site.now) (g.P.Disk.state c.args.site.now) (reply_of c.roll_back.result) refl (c.roll_back.ensures.calm _)

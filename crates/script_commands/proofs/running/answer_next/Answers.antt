@@ -1,5 +1,6 @@
 use Rattle.std.proofs.Common.{◌≡◌, Bool, true, rules, subst}
 use Rattle.script_maker.specs.Giving.{Gives}
+use Rattle.cache_engine.proofs.RequestLaws.{goes_on}
 use Rattle.script_commands.proofs.RunningLaws.{answers_one, unshared_at}
 use Rattle.script_commands.proofs.running.answer_next.Goals as goal
 
@@ -11,4 +12,6 @@ returns-clause-answers g c = λ w at left.
     in
     let gives : Gives c.args.lines.now c.put_next.new.self c.args.line.now.items c.as_slice.result.now true = rw c.as_slice.ensures.value told in
     answers_one w c.args.lines.now c.put_next.new.self c.args.line.now.items c.as_slice.result.now c.args.counts.now c.with.result c.request-reply.result c.request-reply.new.engine _
-    gives c.requires.clear c.with.ensures (c.request-reply.ensures.performs w at left (unshared_at w _ at c.requires.unshared))
+    gives c.requires.clear c.with.ensures (goes_on g.P.Disk.state g.P.Disk.possible c.args.engine.now c.request-reply.new.engine c.args.site.now c.request-reply.new.site 0
+    c.as_slice.result.now c.request-reply.result c.request-reply.ensures.cause c.request-reply.ensures.none
+    c.request-reply.ensures.performs w at left (unshared_at w _ at c.requires.unshared))
