@@ -26,13 +26,13 @@ use Rattle.group_catalog.specs.Catalogs.{groups_in}
 use Rattle.group_store.specs.Stores.{Kept}
 use Rattle.order_laws.proofs.TruthLaws.{both_true}
 use Rattle.cache_tier.specs.declared.group.GroupDef.{GroupDef}
-use Rattle.cache_tier.specs.declared.reply.Last.TheVariants.{Done}
+use Rattle.cache_tier.specs.declared.reply.Last.TheVariants.{Done, No}
 use Rattle.cache_tier.specs.declared.reply.Reply.{Reply}
-use Rattle.cache_tier.specs.AlterSteps.{AltersTo, SetsStateAlone, SetsStateRefreshed, altered_entries, joins_something, same_state, with_state}
+use Rattle.cache_tier.specs.AlterSteps.{AltersTo, SetsStateAlone, SetsStateRefreshed, altered_entries, joins_something, refreshed_state, same_state, state_answer, with_state}
 use Rattle.cache_tier.specs.Groups.{Group, is_explicit, is_on, is_read_only, is_writethrough, place_called}
 use Rattle.cache_tier.specs.Order.{Broken, alter_broken, first_broken, of_group, refusal}
-use Rattle.cache_tier.specs.Reading.{TellsPosition, as_it_was, backing_at}
-use Rattle.cache_tier.specs.Rules.{named}
+use Rattle.cache_tier.specs.Reading.{Answers, TellsPosition, as_it_was, backing_at}
+use Rattle.cache_tier.specs.Rules.{named, past}
 use Rattle.cache_tier.specs.Sets.{Choice, OnePosition, alone, at_position, changed, changed_from, has_something, is_in_set, of_set, shows_something}
 use Rattle.cache_tier.specs.Shown.{shown, state_behind}
 use Rattle.cache_tier.specs.Steps.{DoesStatement}
@@ -40,15 +40,25 @@ use Rattle.cache_tier.specs.TierStates.{Session, Tier, refresh_tried}
 use Rattle.cache_tier.specs.Worlds.{BankCall, Tries, Unless, World, bank_fault, only}
 use Rattle.cache_tier.proofs.PositionLaws.{Hidden, alone_one, alone_twice, hidden_empty, hidden_state, join_base, join_one, join_step}
 use Rattle.stored_tier.specs.declared.tier.Tier.{Tier as Stored}
-use Rattle.group_engine.specs.Altering.{AimsAlter, AimsAlterIn, AltersAlone, AltersHere, AltersWith, FindsAltered, alter_state, altered_with}
+use Rattle.group_engine.specs.Altering.{AimsAlter, AimsAlterIn, AltersAlone, AltersHere, AltersReady, AltersWith, FindsAltered, IsReadyAt, alter_state, altered_with}
+use Rattle.group_engine.specs.declared.ready.Ready.{Ready}
+use Rattle.group_engine.specs.Ready.{AnswersBehind, IsReadyFor, is_full_ready}
+use Rattle.group_engine.proofs.ReadyLaws.{full_then, kept_here, refused_over, wanting_over}
+use Rattle.kept_journal.specs.Drafts.{StaysKept}
+use Rattle.kept_journal.specs.Keeping.{KeepsOver}
+use Rattle.propagators.specs.Certainty.{KeepsCertain}
+use Rattle.tier_journal.specs.declared.journal.TierJournal.{TierJournal}
+use Rattle.outside.specs.Holding.{Held}
+use Rattle.stored_tier.proofs.OverLaws.{keeps_called, keeps_stays, keeps_tier}
+use Rattle.tier_base.specs.declared.limit.Limit.TheVariants as limit
 use Rattle.group_engine.specs.Fresh.{AreFresh, IsRead}
-use Rattle.stored_tier.specs.Performing.{Executes, IsPerformed, PerformsIn, StandsFor, reply_of}
+use Rattle.stored_tier.specs.Performing.{Executes, IsPerformedOver, PerformsInOver, StandsFor, reply_of}
 use Rattle.stored_tier.specs.Refreshing.{is_filled, is_off}
 use Rattle.stored_tier.specs.Sites.{IsAt}
 use Rattle.outside.specs.Sites.{SiteState}
 use Rattle.stored_tier.specs.Stored.{AreKept, HasSession, IsSound, IsStoredAs, is_plain, without_list}
 use Rattle.group_engine.proofs.AimLaws.{IsUnlisted, unlisted}
-use Rattle.group_engine.proofs.CalmLaws.{NumberLaw, flushes_none, own_here, refused_by, wanting_still}
+use Rattle.group_engine.proofs.CalmLaws.{NumberLaw, own_here}
 use Rattle.group_engine.proofs.DropLocks.{group_stored, place_stored}
 use Rattle.group_engine.proofs.RefreshedSets.{shows_stored}
 use Rattle.group_engine.proofs.FreshLaws.{Changes, IsBeside, IsRefreshed, all_there, changed_at, changed_long, changed_mapped, groups_behind, stands_behind, stateless, tier_behind}
@@ -109,21 +119,37 @@ module _ (law : NumberLaw) (t : Stored) (a : Tier) (s : Session) (id : SessionId
   }
 
 -- it is refused, or memory was wanting
-pub not_altered : (t : Stored) (site : SiteState) (id : SessionId) (alter : Alter) (e : Refused) → AimsAlterIn t id alter (Err e) → PerformsIn t t site site id (Executes (statement.Alter alter)) (Err e)
-not_altered t site id alter (refused.Rule rule) aims = refused_by t site id (statement.Alter alter) rule (λ s w has is. aims w.tier s is has)
-not_altered t site id alter refused.Memory aims = wanting_still t t site id (statement.Alter alter) (λ w stands. stands)
+pub not_altered : {D : Type 0} (state : D → SiteState) (possible : D → ℕ → Held → Type 0) (t : Stored) (k : Option TierJournal) (d : D) (id : SessionId) (alter : Alter) (e : Refused) → AimsAlterIn t id alter (Err e) → PerformsInOver state possible t t k k d d id (Executes (statement.Alter alter)) (Err e)
+not_altered state possible t k d id alter (refused.Rule rule) aims = refused_over state possible t k d id (statement.Alter alter) rule (λ s w has is. aims w.tier s is has)
+not_altered state possible t k d id alter refused.Memory aims = wanting_over state possible t t k k d id (statement.Alter alter) (kept_here k) (λ w stands. stands)
 
 -- what it does of the group that is found
-pub altered : (t new : Stored) (before behind : SiteState) (id : SessionId) (alter : Alter) (place : ℕ) (result : Result Reply Refused) → AimsAlterIn t id alter (Ok place) → AltersHere t new before behind alter.state place (reply_of result)
-    → PerformsIn t new before behind id (Executes (statement.Alter alter)) result
-altered t new before behind id alter place result aims alters = λ s has w at stands apart.
+pub altered : {D : Type 0} (state : D → SiteState) (possible : D → ℕ → Held → Type 0) (t new : Stored) (k k' : Option TierJournal) (d d' : D) (id : SessionId) (alter : Alter) (place : ℕ) (result : Result Reply Refused) → AimsAlterIn t id alter (Ok place)
+    → AltersHere state possible t new k k' d d' alter.state place (reply_of result) → PerformsInOver state possible t new k k' d d' id (Executes (statement.Alter alter)) result
+altered state possible t new k k' d d' id alter place result aims alters = λ s has w at stands apart keeps.
     let f = aims w.tier s stands.stored has in
-    let p = alters w f.group at stands apart f.there f.reads in
-    record { world = p.world; at = p.at; stands = p.stands; is = does s w p.world f p.is }
+    let p = alters w f.group at stands apart keeps f.there f.reads in
+    record { world = p.world; at = p.at; is = does s w p.world f p.is; stands = p.stands; keeps = p.keeps }
   where
     does : (s : Session) (w w' : World) (f : FindsAltered w.tier s alter place) → Tries (AltersTo alter.state place f.group) w w' (reply_of result) → Executes (statement.Alter alter) s w w' (reply_of result)
     does s w w' f (inl d) = inl (subst (λ o. Unless o (DoesStatement s (statement.Alter alter)) w w' (reply_of result)) (sym f.free) (record { place = place; group = f.group; there = f.called; is = f.there; does = d }))
     does s w w' f (inr m) = inr m
+
+-- with what was made ready for the group that is stored at the place
+pub altered_ready : {D : Type 0} (state : D → SiteState) (possible : D → ℕ → Held → Type 0) (t new : Stored) (k mid k' : Option TierJournal) (d d' : D) (ready : Ready) (to : RefreshState) (place : ℕ) (reply : Reply) → IsReadyAt (groups_in t.catalog) mid place to ready → StaysKept k mid
+    → AltersReady state possible t new mid k' d d' ready to place reply → AltersHere state possible t new k k' d d' to place reply
+altered_ready state possible t new k mid k' d d' ready to place reply is stays alters = λ w g at stands apart keeps there reads.
+    alters w g at stands apart (keeps_stays state possible d k mid w stays keeps) (is w.tier.schema (without_list g) (group_stored t w.tier place g stands.stored there)) there reads
+
+-- memory was wanting, and at most room came to the journal
+pub not_ready : {D : Type 0} (state : D → SiteState) (possible : D → ℕ → Held → Type 0) (t : Stored) (k k' : Option TierJournal) (d : D) (to : RefreshState) (place : ℕ) (e : Refused) → StaysKept k k' → e ≡ refused.Memory → AltersHere state possible t t k k' d d to place (reply_of (Err e))
+not_ready state possible t k k' d to place e stays is = λ w g at stands apart keeps there reads. record {
+  world = w;
+  at = at;
+  is = inr (refl, ap (λ x. reply_of (Err x)) is);
+  stands = λ whole. stands;
+  keeps = λ whole. keeps_stays state possible d k k' w stays keeps;
+}
 
 -- the STATE alone
 
@@ -216,17 +242,23 @@ module _ (t t' : Stored) (w : World) (place : ℕ) (st : RefreshState) (x : Stan
       shows = all_shown t'.schema w.history (changed (alone place) (with_state st) w.tier) t'.stores.items (x.stored.schema ∙ sym is.beside.schema) (subst (λ l. AreKept t'.schema l t'.stores.items) (sym groups_then) is.kept)
           (subst (EachShows w.history w.tier.log final) (sym is.stores) shows_then);
       stands = stands_after w x.stands final become positions;
-      unkept = x.unkept;
       waits = x.waits;
     }
 
-    pub set_alone : (site : SiteState) (reply : Reply) → IsAt site w → reply ≡ only (Done 0) → IsPerformed t' site (λ w'. SetsStateAlone place g st w w' reply)
-    set_alone site reply at told = record {
-      world = record w { tier = changed (alone place) (with_state st) w.tier };
-      at = record { there = at.there; told = at.told; history = at.history; faults = at.faults; moment = at.moment; shared = at.shared };
-      stands = stands_then;
-      is = record { mid = w; stop = None; first = flushes_none w (altered_entries g st) x.unkept; next = (refl, told) };
-    }
+    module _ {D : Type 0} (state : D → SiteState) (possible : D → ℕ → Held → Type 0) (k k' : Option TierJournal) (d d' : D) (ready : Ready) (at : IsAt (state d) w) (keeps : KeepsOver state possible d k w) (of : IsReadyFor w.tier.schema k ready (altered_entries g st)) where
+      pub set_alone : (told reply : Reply) → AnswersBehind state possible k k' d d' ready told reply → told ≡ only (Done 0) → IsPerformedOver state possible t' k' d' (Some reply) (λ w'. SetsStateAlone place g st w w' reply)
+      set_alone told reply answers is = answers t' w (altered_entries g st) (state_answer place st) at keeps of stands_then refl (λ j faults moment. refl) is
+
+-- 119 of the journal
+pub alone_full : {D : Type 0} (state : D → SiteState) (possible : D → ℕ → Held → Type 0) (t : Stored) (k : Option TierJournal) (d : D) (ready : Ready) (st : RefreshState) (place : ℕ) (reply : Reply) → is_full_ready ready ≡ true → reply ≡ only (No (past limit.JournalSlot))
+    → AltersAlone state possible t t k k d d ready st place reply
+alone_full state possible t k d ready st place reply full told = λ w g at stands keeps of there none. record {
+  world = w;
+  at = at;
+  is = full_then state possible k d w ready (altered_entries g st) (Answers (state_answer place st)) reply keeps of full told;
+  stands = λ whole. stands;
+  keeps = λ whole. keeps;
+}
 
 -- the STATE behind a refresh
 
@@ -273,7 +305,7 @@ only_read st groups place g at reads k x at_k = by st
 
 module _ (t new : Stored) (behind : SiteState) (w : World) (place n : ℕ) (g : Group) (st : RefreshState) (made : List (Option Kept)) (at : slice_get w.tier.groups place ≡ Some g) (reads : is_read_only g ≡ true)
     (r : IsRead t behind (Ok n) w) (fresh : AreFresh t r.world (is_filled (altered_with st g.def.interval place) None) n made) (is : IsRefreshed t new (altered_with st g.def.interval place) place (with_state st) n made)
-    (reply : Reply) (told : reply ≡ only (Done 0)) where
+    (told : Reply) where
   there : slice_get r.world.tier.groups place ≡ Some g
   there = ap (λ (x : Tier). slice_get x.groups place) r.tier ∙ at
 
@@ -282,43 +314,62 @@ module _ (t new : Stored) (behind : SiteState) (w : World) (place n : ℕ) (g : 
       (only_read st r.world.tier.groups place g there reads) (λ x. refl)
       (λ s. altered_positions st r.world.tier.groups place n g s there r.stands.stands.read.one)
 
-  pub set_refreshed : IsPerformed new behind (λ w'. SetsStateRefreshed place g st (altered_with st g.def.interval place) as_it_was w w' reply)
-  set_refreshed = record {
-    world = record r.world { tier = tier_behind (altered_with st g.def.interval place) place (with_state st) n (backing_at r.world n) r.world.tier };
-    at = record { there = r.at.there; told = r.at.told; history = r.at.history; faults = r.at.faults; moment = r.at.moment; shared = r.at.shared };
-    stands = stands_last;
+  module _ {D : Type 0} (state : D → SiteState) (possible : D → ℕ → Held → Type 0) (k k' : Option TierJournal) (mid d' : D) (ready : Ready) (is_mid : state mid ≡ behind) (keeps : KeepsOver state possible mid k r.world) (of : IsReadyFor r.world.tier.schema k ready (altered_entries g st)) where
+    pub set_refreshed : (reply : Reply) → AnswersBehind state possible k k' mid d' ready told reply → told ≡ only (Done 0)
+        → IsPerformedOver state possible new k' d' (Some reply) (λ w'. SetsStateRefreshed place g st (altered_with st g.def.interval place) as_it_was w w' reply)
+    set_refreshed reply answers is_done =
+        let p = answers new r.world (altered_entries g st) (refreshed_state place st (altered_with st g.def.interval place) n) (subst (λ x. IsAt x r.world) (sym is_mid) r.at) keeps of stands_last refl (λ j faults moment. refl) is_done in
+        record { world = p.world; at = p.at; is = record { result = Ok n; mid = r.world; call = r.call; tier = r.tier; goes_on = inl p.is }; stands = p.stands; keeps = p.keeps }
+
+-- so it is where these groups are the ones that it is refreshed with
+module _ {D : Type 0} (state : D → SiteState) (possible : D → ℕ → Held → Type 0) (t : Stored) (k : Option TierJournal) (d mid : D) (w : World) (place n : ℕ) (g : Group) (st : RefreshState) (ready : Ready) (chosen : Choice) (certain : KeepsCertain state possible d mid)
+    (keeps : KeepsOver state possible d k w) (of : IsReadyFor w.tier.schema k ready (altered_entries g st)) where
+  keeps_read : (told : Result ℕ BankError) (r : IsRead t (state mid) told w) → KeepsOver state possible mid k r.world
+  keeps_read told r = keeps_called state possible k d mid w r.world keeps certain r.call.journal (ap (λ (x : Tier). x.schema) r.tier)
+
+  ready_read : (told : Result ℕ BankError) (r : IsRead t (state mid) told w) → IsReadyFor r.world.tier.schema k ready (altered_entries g st)
+  ready_read told r = subst (λ (x : Tier). IsReadyFor x.schema k ready (altered_entries g st)) (sym r.tier) of
+
+  pub refreshed_with : (new : Stored) (k' : Option TierJournal) (d' : D) (made : List (Option Kept)) (told reply : Reply) → slice_get w.tier.groups place ≡ Some g → is_read_only g ≡ true → chosen ≡ altered_with st g.def.interval place
+      → (r : IsRead t (state mid) (Ok n) w) → AreFresh t r.world (is_filled chosen None) n made → IsRefreshed t new chosen place (with_state st) n made → AnswersBehind state possible k k' mid d' ready told reply → told ≡ only (Done 0)
+      → IsPerformedOver state possible new k' d' (Some reply) (λ w'. SetsStateRefreshed place g st chosen as_it_was w w' reply)
+  refreshed_with new k' d' made told reply at reads chosen_is r fresh is answers is_done =
+      subst (λ (c : Choice). IsPerformedOver state possible new k' d' (Some reply) (λ w'. SetsStateRefreshed place g st c as_it_was w w' reply)) (sym chosen_is)
+      (set_refreshed t new (state mid) w place n g st made at reads r (subst (λ (c : Choice). AreFresh t r.world (is_filled c None) n made) chosen_is fresh)
+      (subst (λ (c : Choice). IsRefreshed t new c place (with_state st) n made) chosen_is is) told state possible k k' mid d' ready refl (keeps_read (Ok n) r) (ready_read (Ok n) r) reply answers is_done)
+
+  -- 119 of the journal
+  pub full_with : (reply : Reply) → (r : IsRead t (state mid) (Ok n) w) → is_full_ready ready ≡ true → reply ≡ only (No (past limit.JournalSlot)) → IsPerformedOver state possible t k mid (Some reply) (λ w'. SetsStateRefreshed place g st chosen as_it_was w w' reply)
+  full_with reply r full told = record {
+    world = r.world;
+    at = r.at;
     is = record {
       result = Ok n;
       mid = r.world;
       call = r.call;
       tier = r.tier;
-      goes_on = inl (record { mid = r.world; stop = None; first = flushes_none r.world (altered_entries g st) r.stands.unkept; next = (refl, told) });
+      goes_on = inl (full_then state possible k mid r.world ready (altered_entries g st) (Answers (refreshed_state place st chosen n)) reply (keeps_read (Ok n) r) (ready_read (Ok n) r) full told);
     };
+    stands = λ whole. r.stands;
+    keeps = λ whole. keeps_read (Ok n) r;
   }
 
--- so it is where these groups are the ones that it is refreshed with
-pub refreshed_with : (t new : Stored) (behind : SiteState) (w : World) (place n : ℕ) (g : Group) (st : RefreshState) (chosen : Choice) (made : List (Option Kept)) (reply : Reply) → slice_get w.tier.groups place ≡ Some g → is_read_only g ≡ true → chosen ≡ altered_with st g.def.interval place
-    → (r : IsRead t behind (Ok n) w) → AreFresh t r.world (is_filled chosen None) n made → IsRefreshed t new chosen place (with_state st) n made → reply ≡ only (Done 0) → IsPerformed new behind (λ w'. SetsStateRefreshed place g st chosen as_it_was w w' reply)
-refreshed_with t new behind w place n g st chosen made reply at reads chosen_is r fresh is told =
-    subst (λ (d : Choice). IsPerformed new behind (λ w'. SetsStateRefreshed place g st d as_it_was w w' reply)) (sym chosen_is)
-    (set_refreshed t new behind w place n g st made at reads r (subst (λ (d : Choice). AreFresh t r.world (is_filled d None) n made) chosen_is fresh)
-    (subst (λ (d : Choice). IsRefreshed t new d place (with_state st) n made) chosen_is is) reply told)
-
--- the call failed
-pub not_refreshed : (t : Stored) (behind : SiteState) (w : World) (place : ℕ) (g : Group) (st : RefreshState) (chosen : Choice) (e : BankError) (reply : Reply) → IsRead t behind (Err e) w → reply ≡ bank_fault e
-    → IsPerformed t behind (λ w'. SetsStateRefreshed place g st chosen as_it_was w w' reply)
-not_refreshed t behind w place g st chosen e reply r told = record {
-  world = r.world;
-  at = r.at;
-  stands = r.stands;
-  is = record { result = Err e; mid = r.world; call = r.call; tier = r.tier; goes_on = (refl, told) };
-}
+  -- the call failed
+  pub not_refreshed : (e : BankError) (reply : Reply) → (r : IsRead t (state mid) (Err e) w) → reply ≡ bank_fault e → IsPerformedOver state possible t k mid (Some reply) (λ w'. SetsStateRefreshed place g st chosen as_it_was w w' reply)
+  not_refreshed e reply r told = record {
+    world = r.world;
+    at = r.at;
+    is = record { result = Err e; mid = r.world; call = r.call; tier = r.tier; goes_on = (refl, told) };
+    stands = λ whole. r.stands;
+    keeps = λ whole. keeps_read (Err e) r;
+  }
 
 -- to each STATE
 
 -- the STATE that is given
-pub of_state : (old new : Stored) (before behind : SiteState) (place : ℕ) (reply : Reply) (given st : RefreshState) → given ≡ st → AltersHere old new before behind st place reply → AltersHere old new before behind given place reply
-of_state old new before behind place reply given st is alters = subst (λ x. AltersHere old new before behind x place reply) (sym is) alters
+pub of_state : {D : Type 0} (state : D → SiteState) (possible : D → ℕ → Held → Type 0) (old new : Stored) (k k' : Option TierJournal) (d d' : D) (ready : Ready) (place : ℕ) (reply : Reply) (given st : RefreshState) → given ≡ st → AltersReady state possible old new k k' d d' ready st place reply
+    → AltersReady state possible old new k k' d d' ready given place reply
+of_state state possible old new k k' d d' ready place reply given st is alters = subst (λ x. AltersReady state possible old new k k' d d' ready x place reply) (sym is) alters
 
 -- the group that is stored at the place
 record IsSeen (t : Stored) (w : World) (seen g : Group) : Type 0 where
@@ -339,15 +390,16 @@ joins_stored t w place seen g sound stands at there =
     let shows = shows_stored t w g.def.interval sound stands.stored ∙ ap (λ (y : Group). shows_something y.def.interval (groups_in t.catalog)) s.is in
     λ i. s.something i || shows i
 
-pub on_alone : (t new : Stored) (site : SiteState) (place : ℕ) (seen : Group) (reply : Reply) → IsSound t → slice_get (groups_in t.catalog) place ≡ Some seen → (seen.loaded || shows_something seen.def.interval (groups_in t.catalog)) ≡ false
-    → AltersAlone t new site On place reply → AltersHere t new site site On place reply
-on_alone t new site place seen reply sound at none alters = λ w g at_w stands apart there reads.
+pub on_alone : {D : Type 0} (state : D → SiteState) (possible : D → ℕ → Held → Type 0) (t new : Stored) (k k' : Option TierJournal) (d d' : D) (ready : Ready) (place : ℕ) (seen : Group) (reply : Reply) → IsSound t → slice_get (groups_in t.catalog) place ≡ Some seen → (seen.loaded || shows_something seen.def.interval (groups_in t.catalog)) ≡ false
+    → AltersAlone state possible t new k k' d d' ready On place reply → AltersReady state possible t new k k' d d' ready On place reply
+on_alone state possible t new k k' d d' ready place seen reply sound at none alters = λ w g at_w stands apart keeps of there reads.
     let s = seen_there t w place seen g sound stands at there in
-    let p = alters w g at_w stands there (s.something ∙ unloaded seen.loaded none) in
+    let p = alters w g at_w stands keeps of there (s.something ∙ unloaded seen.loaded none) in
     record {
       world = p.world;
       at = p.at;
       stands = p.stands;
+      keeps = p.keeps;
       is = inl (subst (λ b. MatchBool b (SetsStateRefreshed place g On (of_set g.def.interval (Some place)) (refresh_tried g.def.interval) w p.world reply) (SetsStateAlone place g On w p.world reply)) (sym (joins_stored t w place seen g sound stands at there ∙ none)) p.is);
     }
   where
@@ -362,26 +414,27 @@ tried_so : (place : ℕ) (g : Group) (st : RefreshState) (chosen : Choice) (inte
     → SetsStateRefreshed place g st chosen (refresh_tried interval) w w' reply
 tried_so place g st chosen interval w w' reply r = record { result = r.result; mid = r.mid; call = one_call (TellsPosition r.result) w r.mid (refresh_tried interval w.tier) r.call; tier = r.tier; goes_on = r.goes_on }
 
-pub on_joined : (t noted new : Stored) (before behind : SiteState) (place : ℕ) (seen : Group) (reply : Reply) → IsSound t → slice_get (groups_in t.catalog) place ≡ Some seen → (seen.loaded || shows_something seen.def.interval (groups_in t.catalog)) ≡ true
-    → ((w : World) → StandsFor t w → StandsFor noted (record w { tier = refresh_tried seen.def.interval w.tier })) → AltersWith noted new before behind On place (of_set seen.def.interval (Some place)) reply → AltersHere t new before behind On place reply
-on_joined t noted new before behind place seen reply sound at some notes alters = λ w g at_w stands apart there reads.
+pub on_joined : {D : Type 0} (state : D → SiteState) (possible : D → ℕ → Held → Type 0) (t noted new : Stored) (k k' : Option TierJournal) (d d' : D) (ready : Ready) (place : ℕ) (seen : Group) (reply : Reply) → IsSound t → slice_get (groups_in t.catalog) place ≡ Some seen → (seen.loaded || shows_something seen.def.interval (groups_in t.catalog)) ≡ true
+    → ((w : World) → StandsFor t w → StandsFor noted (record w { tier = refresh_tried seen.def.interval w.tier })) → AltersWith state possible noted new k k' d d' ready On place (of_set seen.def.interval (Some place)) reply → AltersReady state possible t new k k' d d' ready On place reply
+on_joined state possible t noted new k k' d d' ready place seen reply sound at some notes alters = λ w g at_w stands apart keeps of there reads.
     let s = seen_there t w place seen g sound stands at there in
     let interval : seen.def.interval ≡ g.def.interval = ap (λ (y : Group). y.def.interval) (sym s.is) in
-    let p = alters (record w { tier = refresh_tried seen.def.interval w.tier }) g (record { there = at_w.there; told = at_w.told; history = at_w.history; faults = at_w.faults; moment = at_w.moment; shared = at_w.shared }) (notes w stands) apart there reads
+    let p = alters (record w { tier = refresh_tried seen.def.interval w.tier }) g (record { there = at_w.there; told = at_w.told; history = at_w.history; faults = at_w.faults; moment = at_w.moment; shared = at_w.shared }) (notes w stands) apart (keeps_tier state possible d k w (refresh_tried seen.def.interval w.tier) refl keeps) of there reads
     (ap (λ i. of_set i (Some place)) interval) in
     record {
       world = p.world;
       at = p.at;
       stands = p.stands;
+      keeps = p.keeps;
       is = inl (subst (λ b. MatchBool b (SetsStateRefreshed place g On (of_set g.def.interval (Some place)) (refresh_tried g.def.interval) w p.world reply) (SetsStateAlone place g On w p.world reply)) (sym (joins_stored t w place seen g sound stands at there ∙ some))
           (subst (λ i. SetsStateRefreshed place g On (of_set i (Some place)) (refresh_tried i) w p.world reply) interval
           (tried_so place g On (of_set seen.def.interval (Some place)) seen.def.interval w p.world reply p.is)));
     }
 
-pub off_alone : (t new : Stored) (site : SiteState) (place : ℕ) (reply : Reply) → AltersAlone t new site Off place reply → AltersHere t new site site Off place reply
-off_alone t new site place reply alters = λ w g at stands apart there reads.
-    let p = alters w g at stands there refl in
-    record { world = p.world; at = p.at; stands = p.stands; is = inl p.is }
+pub off_alone : {D : Type 0} (state : D → SiteState) (possible : D → ℕ → Held → Type 0) (t new : Stored) (k k' : Option TierJournal) (d d' : D) (ready : Ready) (place : ℕ) (reply : Reply) → AltersAlone state possible t new k k' d d' ready Off place reply → AltersReady state possible t new k k' d d' ready Off place reply
+off_alone state possible t new k k' d d' ready place reply alters = λ w g at stands apart keeps of there reads.
+    let p = alters w g at stands keeps of there refl in
+    record { world = p.world; at = p.at; is = inl p.is; stands = p.stands; keeps = p.keeps }
 
 was_off : (st : RefreshState) → same_state st Off ≡ is_off st
 was_off On = refl
@@ -395,24 +448,26 @@ leaves_stored t w place seen g sound stands at there =
     let off = was_off g.state ∙ ap (λ (y : Group). is_off y.state) s.is in
     λ i. off i && s.something i
 
-pub paused_alone : (t new : Stored) (site : SiteState) (place : ℕ) (seen : Group) (reply : Reply) → IsSound t → slice_get (groups_in t.catalog) place ≡ Some seen → (is_off seen.state && seen.loaded) ≡ false
-    → AltersAlone t new site Paused place reply → AltersHere t new site site Paused place reply
-paused_alone t new site place seen reply sound at none alters = λ w g at_w stands apart there reads.
-    let p = alters w g at_w stands there refl in
+pub paused_alone : {D : Type 0} (state : D → SiteState) (possible : D → ℕ → Held → Type 0) (t new : Stored) (k k' : Option TierJournal) (d d' : D) (ready : Ready) (place : ℕ) (seen : Group) (reply : Reply) → IsSound t → slice_get (groups_in t.catalog) place ≡ Some seen → (is_off seen.state && seen.loaded) ≡ false
+    → AltersAlone state possible t new k k' d d' ready Paused place reply → AltersReady state possible t new k k' d d' ready Paused place reply
+paused_alone state possible t new k k' d d' ready place seen reply sound at none alters = λ w g at_w stands apart keeps of there reads.
+    let p = alters w g at_w stands keeps of there refl in
     record {
       world = p.world;
       at = p.at;
       stands = p.stands;
+      keeps = p.keeps;
       is = inl (subst (λ b. MatchBool b (SetsStateRefreshed place g Paused (alone place) as_it_was w p.world reply) (SetsStateAlone place g Paused w p.world reply)) (sym (leaves_stored t w place seen g sound stands at there ∙ none)) p.is);
     }
 
-pub paused_with : (t new : Stored) (before behind : SiteState) (place : ℕ) (seen : Group) (reply : Reply) → IsSound t → slice_get (groups_in t.catalog) place ≡ Some seen → (is_off seen.state && seen.loaded) ≡ true
-    → AltersWith t new before behind Paused place (alone place) reply → AltersHere t new before behind Paused place reply
-paused_with t new before behind place seen reply sound at some alters = λ w g at_w stands apart there reads.
-    let p = alters w g at_w stands apart there reads refl in
+pub paused_with : {D : Type 0} (state : D → SiteState) (possible : D → ℕ → Held → Type 0) (t new : Stored) (k k' : Option TierJournal) (d d' : D) (ready : Ready) (place : ℕ) (seen : Group) (reply : Reply) → IsSound t → slice_get (groups_in t.catalog) place ≡ Some seen → (is_off seen.state && seen.loaded) ≡ true
+    → AltersWith state possible t new k k' d d' ready Paused place (alone place) reply → AltersReady state possible t new k k' d d' ready Paused place reply
+paused_with state possible t new k k' d d' ready place seen reply sound at some alters = λ w g at_w stands apart keeps of there reads.
+    let p = alters w g at_w stands apart keeps of there reads refl in
     record {
       world = p.world;
       at = p.at;
       stands = p.stands;
+      keeps = p.keeps;
       is = inl (subst (λ b. MatchBool b (SetsStateRefreshed place g Paused (alone place) as_it_was w p.world reply) (SetsStateAlone place g Paused w p.world reply)) (sym (leaves_stored t w place seen g sound stands at there ∙ some)) p.is);
     }

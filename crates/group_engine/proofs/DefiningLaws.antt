@@ -1,5 +1,5 @@
 -- CREATE CACHE GROUP over what is stored.
-use Rattle.std.proofs.Common.{◌≡◌, Bool, true, false, not, ◌&&◌, ◌||◌, nat_eq, Option, Some, None, Ok, List, [], ◌∷◌, ◌++◌, length, map, refl, sym, ap, subst, ◌∙◌, inl}
+use Rattle.std.proofs.Common.{◌≡◌, Bool, true, false, not, ◌&&◌, ◌||◌, nat_eq, Option, Some, None, Result, Ok, Err, ℕ, List, [], ◌∷◌, ◌++◌, length, map, refl, sym, ap, subst, ◌∙◌, inl}
 use Rattle.std.specs.List.{list_all, list_any}
 use Rattle.std.specs.Option.{is_none, option_or}
 use Rattle.std.proofs.Math.Dec.{eqb-suc-zero}
@@ -23,30 +23,42 @@ use Rattle.group_catalog.proofs.SoundLaws.{or_none}
 use Rattle.group_store.specs.Stores.{Kept}
 use Rattle.tier_statements.specs.Seen.{session_seen}
 use Rattle.cache_tier.specs.declared.group.GroupDef.{GroupDef}
-use Rattle.cache_tier.specs.declared.reply.Last.TheVariants.{Done}
+use Rattle.cache_tier.specs.declared.reply.Last.TheVariants.{Done, No}
+use Rattle.cache_tier.specs.declared.reply.Reply.{Reply}
+use Rattle.row_types.specs.declared.rule.Refused.{Refused}
+use Rattle.row_types.specs.declared.rule.Refused.TheVariants as refused
+use Rattle.table_defs.specs.Declarations.{IsRefusedBy}
+use Rattle.sql_subset.specs.declared.stmt.Stmt.{Stmt}
 use Rattle.cache_tier.specs.Definitions.{IsTreeOf, column_fault, defined_by, definition_broken, definition_fault, definition_names, definition_types, first_fault, first_unknown, is_read_only_kind, new_group, placed_tables, table_names, text_of}
 use Rattle.cache_tier.specs.DefineSteps.{CreatesGroup, define_answer, with_new_group}
 use Rattle.cache_tier.specs.Groups.{Group, defines_name, definitions_of, is_defined_on, is_read_only, is_writethrough}
-use Rattle.cache_tier.specs.Journals.{Defines, JournalEntry, is_full}
-use Rattle.cache_tier.specs.JournalSteps.{Flushes, FlushesKept, journal_fault, name_sizes}
+use Rattle.cache_tier.specs.Journals.{Defines, JournalEntry}
+use Rattle.cache_tier.specs.JournalSteps.{Flushes, FlushesSome, journal_full}
 use Rattle.cache_tier.specs.Order.{refusal}
 use Rattle.cache_tier.specs.Reading.{Answers}
 use Rattle.cache_tier.specs.Rules.{broken_if, named, open_writes, past, plain}
 use Rattle.cache_tier.specs.Steps.{DoesStatement}
 use Rattle.cache_tier.specs.TierStates.{Session, Tier}
-use Rattle.cache_tier.specs.Worlds.{Passes, Then, Unless, World, only}
+use Rattle.cache_tier.specs.Worlds.{Then, Unless, World, only}
 use Rattle.std.specs.Bool.{MatchBool}
 use Rattle.cache_tier.specs.Defining.{IsNewGroup}
 use Rattle.cache_tier.specs.Events.{StaysShown, with_tier}
 use Rattle.cache_tier.specs.StandingBetween.{HasNoTableOf, Stands, foreign_key_in, has_no_where}
 use Rattle.stored_tier.specs.declared.tier.Tier.{Tier as Stored}
-use Rattle.group_engine.specs.Defining.{HasNewGroup, IsDefinition, is_done, is_free}
-use Rattle.stored_tier.specs.Grouping.{HasGroups, IsBareStore}
-use Rattle.stored_tier.specs.Performing.{Executes, PerformsIn, StandsFor}
+use Rattle.group_engine.specs.Defining.{HasNewGroup, IsDefinition, IsReadyToCreate, IsUnrefused, is_done, is_free}
+use Rattle.group_engine.specs.declared.ready.Ready.{Ready}
+use Rattle.group_engine.specs.Ready.{AnswersBehind, IsReadyFor, is_full_ready}
+use Rattle.group_engine.proofs.ReadyLaws.{full_ready, kept_here, refused_over, wanting_over}
+use Rattle.kept_journal.specs.Drafts.{StaysKept}
+use Rattle.tier_journal.specs.declared.journal.TierJournal.{TierJournal}
+use Rattle.outside.specs.Holding.{Held}
+use Rattle.stored_tier.proofs.OverLaws.{keeps_stays}
+use Rattle.stored_tier.specs.Grouping.{HasGroups, IsBareStore, KeepsGroups}
+use Rattle.stored_tier.specs.Performing.{Executes, PerformsInOver, StandsFor}
 use Rattle.outside.specs.Sites.{SiteState}
 use Rattle.stored_tier.proofs.LaterLaws.{later_more}
 use Rattle.stored_tier.specs.Stored.{HasSession, IsSound, IsStoredAs, is_plain, without_list}
-use Rattle.group_engine.proofs.GroupComes.{kept_more, names_more, plain_more, shows_more, sound_grouped, time_kept, whole_more}
+use Rattle.group_engine.proofs.GroupComes.{kept_more, names_more, plain_more, shows_more, sound_grouped, stands_kept, time_kept, whole_more}
 
 -- the rule that refuses it
 
@@ -198,30 +210,23 @@ module _ (new_tables : HasNewTables) (writes_all : WritesAll) (apart : StandsApa
       stored = stored;
       shows = shows_more t new w (with_tier (with_new_group d tree w.tier) w) coming store stands sound has.beside.schema refl refl has.stores stays.same no_table bare;
       stands = stays.stands;
-      unkept = stands.unkept;
       waits = stands.waits;
     }
 
     abbrev entries : List JournalEntry
     entries = Defines d (text_of d) ∷ []
 
-    pub creates : CreatesGroup d w (with_tier (with_new_group d tree w.tier) w) (only (Done 0))
-    creates = record {
+    pub creates : (w' : World) (reply : Reply) → journal_full w entries ≡ false → Then (FlushesSome entries) (Answers (define_answer d tree)) w w' reply → CreatesGroup d w w' reply
+    creates w' reply fits then = record {
       tree = tree;
       is = accepted.tree_of;
-      does = subst (λ o. Unless o (Then (Flushes entries) (Answers (define_answer d tree))) w (with_tier (with_new_group d tree w.tier) w) (only (Done 0))) (sym no_fault) then;
+      does = subst (λ o. Unless o (Then (Flushes entries) (Answers (define_answer d tree))) w w' reply) (sym (ap (λ b. broken_if b (past limit.JournalSlot)) fits)) (record {
+        mid = then.mid;
+        stop = then.stop;
+        first = subst (λ b. MatchBool b ((then.mid ≡ w) × (then.stop ≡ Some (only (No (past limit.JournalSlot))))) (Flushes entries w then.mid then.stop)) fits then.first;
+        next = then.next;
+      });
     }
-      where
-        no_fault : journal_fault w entries ≡ None
-        no_fault = ap (λ b. broken_if (b && is_full (name_sizes w) w.journal entries) (past limit.JournalSlot)) stands.unkept
-
-        then : Then (Flushes entries) (Answers (define_answer d tree)) w (with_tier (with_new_group d tree w.tier) w) (only (Done 0))
-        then = record {
-          mid = w;
-          stop = None;
-          first = subst (λ b. MatchBool b (FlushesKept entries w w None) (Passes w w None)) (sym stands.unkept) (refl, refl);
-          next = (refl, refl);
-        }
 
 defined_tree : (t : Stored) (d : CreateGroup) (def : GroupDef) → IsDefinition t d def → IsDefined t d def.tree
 defined_tree t d def x = record {
@@ -239,19 +244,53 @@ has_defined : (t new : Stored) (d : CreateGroup) (def : GroupDef) → IsDefiniti
 has_defined t new d def x n =
     subst (λ y. HasGroups t new (groups_in t.catalog ++ new_group t.next t.clock.now d y ∷ []) (t.stores.items ++ n.store ∷ [])) x.is n.has
 
--- the group is there
-pub group_created : HasNewTables → WritesAll → StandsApart → GroupLaw → (t new : Stored) (site : SiteState) (id : SessionId) (d : CreateGroup) (def : GroupDef) → IsSound t → IsDefinition t d def → HasNewGroup t new d def
-    → ((a : Tier) (s : Session) → IsStoredAs t a → HasSession t id s → refusal a s (statement.CreateGroup d) ≡ None)
-    → PerformsIn t new site site id (Executes (statement.CreateGroup d)) (Ok (only (Done 0)))
-group_created new_tables writes_all apart law t new site id d def sound x n free = λ s has_session w at stands unshared. (
-    let y = defined_tree t d def x in
-    let has = has_defined t new d def x n in
-    record {
-      world = with_tier (with_new_group d def.tree w.tier) w;
-      at = record { there = at.there; told = at.told; history = at.history; faults = at.faults; moment = at.moment; shared = at.shared };
-      stands = stands_more new_tables writes_all apart t w stands sound d def.tree y law new n.store n.bare has;
-      is = inl (subst (λ o. Unless o (DoesStatement s (statement.CreateGroup d)) w (with_tier (with_new_group d def.tree w.tier) w) (only (Done 0))) (sym (free w.tier s stands.stored has_session)) (creates new_tables writes_all apart t w stands sound d def.tree y law new n.store n.bare has));
-    })
+does_create : (s : Session) (d : CreateGroup) (w w' : World) (reply : Reply) → refusal w.tier s (statement.CreateGroup d) ≡ None → CreatesGroup d w w' reply → Executes (statement.CreateGroup d) s w w' reply
+does_create s d w w' reply free is = inl (subst (λ o. Unless o (DoesStatement s (statement.CreateGroup d)) w w' reply) (sym free) is)
+
+module _ {D : Type 0} (state : D → SiteState) (possible : D → ℕ → Held → Type 0) where
+  -- the group is there
+  pub group_created : HasNewTables → WritesAll → StandsApart → GroupLaw → (t new : Stored) (k k' : Option TierJournal) (d d' : D) (ready : Ready) (id : SessionId) (c : CreateGroup) (def : GroupDef) (told reply : Reply) → IsSound t → IsDefinition t c def → HasNewGroup t new c def → IsUnrefused t id c
+      → IsReadyToCreate k c ready → is_full_ready ready ≡ false → AnswersBehind state possible k k' d d' ready told reply → told ≡ only (Done 0) → PerformsInOver state possible t new k k' d d' id (Executes (statement.CreateGroup c)) (Ok reply)
+  group_created new_tables writes_all apart law t new k k' d d' ready id c def told reply sound x n free of fits answers is = λ s has_session w at stands unshared keeps.
+      let y = defined_tree t c def x in
+      let has = has_defined t new c def x n in
+      let p = answers new w (Defines c (text_of c) ∷ []) (define_answer c def.tree) at keeps (of w.tier.schema) (stands_more new_tables writes_all apart t w stands sound c def.tree y law new n.store n.bare has) refl (λ j faults moment. refl) is in
+      record {
+        world = p.world;
+        at = p.at;
+        is = does_create s c w p.world reply (free w.tier s stands.stored has_session)
+            (creates new_tables writes_all apart t w stands sound c def.tree y law new n.store n.bare has p.world reply (full_ready state possible k d w ready (Defines c (text_of c) ∷ []) keeps (of w.tier.schema) refl ∙ fits) p.is);
+        stands = p.stands;
+        keeps = p.keeps;
+      }
+
+  -- 119 of the journal
+  pub group_full : (t : Stored) (k : Option TierJournal) (d : D) (ready : Ready) (id : SessionId) (c : CreateGroup) (def : GroupDef) (reply : Reply) → IsDefinition t c def → IsUnrefused t id c → IsReadyToCreate k c ready → is_full_ready ready ≡ true → reply ≡ only (No (past limit.JournalSlot))
+      → PerformsInOver state possible t t k k d d id (Executes (statement.CreateGroup c)) (Ok reply)
+  group_full t k d ready id c def reply x free of full told = λ s has_session w at stands unshared keeps. record {
+    world = w;
+    at = at;
+    is = does_create s c w w reply (free w.tier s stands.stored has_session) (record {
+      tree = def.tree;
+      is = subst (λ (l : List TableDef). IsTreeOf (placed_tables l c) def.tree) (sym stands.stored.schema) x.tree_of;
+      does = subst (λ o. Unless o (Then (Flushes (Defines c (text_of c) ∷ [])) (Answers (define_answer c def.tree))) w w reply)
+          (sym (ap (λ b. broken_if b (past limit.JournalSlot)) (full_ready state possible k d w ready (Defines c (text_of c) ∷ []) keeps (of w.tier.schema) refl ∙ full))) (refl, told);
+    });
+    stands = λ whole. stands;
+    keeps = λ whole. keeps;
+  }
+
+  -- a rule refuses it, or memory was wanting
+  pub create_refused : (t : Stored) (k : Option TierJournal) (d : D) (id : SessionId) (c : CreateGroup) (e : Refused) → ((a : Tier) (s : Session) → IsStoredAs t a → HasSession t id s → IsRefusedBy (refusal a s (statement.CreateGroup c)) e)
+      → PerformsInOver state possible t t k k d d id (Executes (statement.CreateGroup c)) (Err e)
+  create_refused t k d id c (refused.Rule rule) is = refused_over state possible t k d id (statement.CreateGroup c) rule (λ s w has stored. is w.tier s stored has)
+  create_refused t k d id c refused.Memory is = wanting_over state possible t t k k d id (statement.CreateGroup c) (kept_here k) (λ w stands. stands)
+
+  pub create_wanting : (t new : Stored) (k k' : Option TierJournal) (d : D) (id : SessionId) (c : CreateGroup) → StaysKept k k' → KeepsGroups t new → PerformsInOver state possible t new k k' d d id (Executes (statement.CreateGroup c)) (Err refused.Memory)
+  create_wanting t new k k' d id c stays kept = wanting_over state possible t new k k' d id (statement.CreateGroup c) stays (λ w stands. stands_kept t new w stands kept)
+
+  pub create_moved : (t new : Stored) (k mid k' : Option TierJournal) (d d' : D) (id : SessionId) (st : Stmt) (result : Result Reply Refused) → StaysKept k mid → PerformsInOver state possible t new mid k' d d' id (Executes st) result → PerformsInOver state possible t new k k' d d' id (Executes st) result
+  create_moved t new k mid k' d d' id st result stays performs = λ s has w at stands unshared keeps. performs s has w at stands unshared (keeps_stays state possible d k mid w stays keeps)
 
 -- and the parts are sound
 pub sound_created : (t new : Stored) (d : CreateGroup) (def : GroupDef) → IsSound t → IsDefinition t d def → HasNewGroup t new d def → IsSound new
@@ -263,3 +302,7 @@ sound_created t new d def sound x n =
     (plain_more (groups_in t.catalog) g sound.plain (plain_new g y.done))
     (names_more (groups_in t.catalog) g sound.named (new_name t.schema (definitions_of (groups_in t.catalog)) x.writes d x.unbroken))
     (whole_more t.stores.items n.store sound.whole n.bare.whole) (later_more (groups_in t.catalog) g t.unsettled.items sound.later) n.unverified
+
+-- what was made ready for the definition of a group that is made of it
+pub create_ready_for : (k : Option TierJournal) (made declared : CreateGroup) (text : List ℕ) (ready : Ready) → made ≡ declared → text ≡ text_of declared → ((schema : List TableDef) (c : CreateGroup) → IsReadyFor schema k ready (Defines c text ∷ [])) → IsReadyToCreate k made ready
+create_ready_for k made declared text ready same is of = λ schema. subst (λ (t : List ℕ). IsReadyFor schema k ready (Defines made t ∷ [])) (is ∙ ap text_of (sym same)) (of schema made)

@@ -5,7 +5,7 @@ use Rattle.std.specs.Option.{option_map}
 use Rattle.row_types.specs.declared.rule.Refused.{Refused}
 use Rattle.row_types.specs.declared.rule.Refused.TheVariants as refused
 use Rattle.row_types.specs.declared.rule.Rule.{Rule}
-use Rattle.table_defs.specs.Declarations.{Tells}
+use Rattle.table_defs.specs.Declarations.{IsRefusedBy}
 use Rattle.tier_base.specs.declared.limit.Limit.TheVariants as limit
 use Rattle.tier_base.specs.declared.number.SessionId.{SessionId}
 use Rattle.open_sessions.specs.Lookups.{of_label, open_ops}
@@ -25,6 +25,7 @@ use Rattle.cache_tier.specs.Locks.{group_lock}
 use Rattle.cache_tier.specs.Order.{refusal}
 use Rattle.cache_tier.specs.Reading.{Answers}
 use Rattle.cache_tier.specs.Rounds.{Round}
+use Rattle.cache_tier.specs.Rules.{past}
 use Rattle.cache_tier.specs.Steps.{DoesStatement}
 use Rattle.cache_tier.specs.TierStates.{Session, Tier, is_labelled, session_of}
 use Rattle.cache_tier.specs.Worlds.{Passes, Then, Tries, Unless, World, only}
@@ -33,15 +34,25 @@ use Rattle.cache_tier.specs.Events.{with_tier}
 use Rattle.cache_tier.specs.StandingBetween.{Stands}
 use Rattle.cache_tier.specs.Statements.{IsDroppable}
 use Rattle.stored_tier.specs.declared.tier.Tier.{Tier as Stored}
-use Rattle.group_engine.specs.Dropping.{DropsHere, IsWithoutGroup, RoundFor, is_written_at}
-use Rattle.stored_tier.specs.Performing.{Executes, IsCaused, IsPerformed, Performs, PerformsIn, StandsFor, reply_of, stop_of}
+use Rattle.group_engine.specs.Dropping.{DropsHere, IsFreeAt, IsReadyToGo, IsWithoutGroup, RoundFor, is_written_at}
+use Rattle.group_engine.specs.declared.ready.Ready.{Ready}
+use Rattle.group_engine.specs.Ready.{AnswersBehind, IsReadyFor, is_full_ready}
+use Rattle.group_engine.proofs.ReadyLaws.{full_then, kept_here, refused_over, wanting_over}
+use Rattle.group_engine.proofs.GroupRows.{same_there}
+use Rattle.table_defs.specs.declared.definition.TableDef.{TableDef}
+use Rattle.kept_journal.specs.Drafts.{StaysKept}
+use Rattle.tier_journal.specs.declared.journal.TierJournal.{TierJournal}
+use Rattle.outside.specs.Holding.{Held}
+use Rattle.stored_tier.proofs.OverLaws.{keeps_stays}
+use Rattle.stored_tier.specs.Grouping.{KeepsGroups}
+use Rattle.stored_tier.specs.Performing.{Executes, IsPerformedOver, PerformsInOver, PerformsOver, StandsFor, reply_of}
 use Rattle.stored_tier.specs.Sites.{IsAt}
 use Rattle.outside.specs.Sites.{SiteState}
 use Rattle.stored_tier.proofs.LaterLaws.{later_less}
 use Rattle.stored_tier.specs.Stored.{HasSession, IsSound, IsStoredAs, are_later, without_list}
-use Rattle.group_engine.proofs.CalmLaws.{NumberLaw, flushes_none, own_here}
+use Rattle.group_engine.proofs.CalmLaws.{NumberLaw, own_here}
 use Rattle.group_engine.proofs.DropLocks.{get_map, group_stored, group_within, place_stored, place_within, written_stored}
-use Rattle.group_engine.proofs.GroupComes.{sound_grouped, time_kept}
+use Rattle.group_engine.proofs.GroupComes.{sound_grouped, stands_kept, time_kept}
 use Rattle.group_engine.proofs.GroupGoes.{filtered, kept_less, map_less, names_less, plain_less, shows_less, whole_less}
 use Rattle.stored_tier.proofs.SeenLaws.{find_seen}
 
@@ -110,31 +121,56 @@ module _ (law : DropLaw) (numbers : NumberLaw) (t new : Stored) (id : SessionId)
       stored = stored;
       shows = shows_less t new w (with_tier (without_group g.def.name w.tier) w) place g sound stands at without.has.beside.schema refl left without.has.stores shows;
       stands = shows.stands;
-      unkept = stands.unkept;
       waits = stands.waits;
     }
 
-    pub drops : DropsRest s g w (with_tier (without_group g.def.name w.tier) w) (only (Done 0))
-    drops = subst (λ o. Unless o (Then (FlushesSome (Drops g.def.name ∷ [])) (Answers (drop_answer g.def.name))) w (with_tier (without_group g.def.name w.tier) w) (only (Done 0))) (sym free) then
-      where
-        then : Then (FlushesSome (Drops g.def.name ∷ [])) (Answers (drop_answer g.def.name)) w (with_tier (without_group g.def.name w.tier) w) (only (Done 0))
-        then = record { mid = w; stop = None; first = flushes_none w (Drops g.def.name ∷ []) stands.unkept; next = (refl, refl) }
+-- the rest of DROP where no other session has written on the tables
+rest_so : (s : Session) (g : Group) (w w' : World) (reply : Reply) → drop_fault s g w ≡ None → Then (FlushesSome (Drops g.def.name ∷ [])) (Answers (drop_answer g.def.name)) w w' reply → DropsRest s g w w' reply
+rest_so s g w w' reply free then = subst (λ o. Unless o (Then (FlushesSome (Drops g.def.name ∷ [])) (Answers (drop_answer g.def.name))) w w' reply) (sym free) then
 
--- no other session has written on the group's tables
-abbrev pub IsFree : Stored → SessionId → ℕ → Type 0
-IsFree t id place =
-    (a : Tier) (s : Session) (g : Group) → IsStoredAs t a → HasSession t id s → slice_get a.groups place ≡ Some g → group_lock s.label a g ≡ None
+module _ {D : Type 0} (state : D → SiteState) (possible : D → ℕ → Held → Type 0) where
+  pub dropped : DropLaw → NumberLaw → (t new : Stored) (k k' : Option TierJournal) (d d' : D) (ready : Ready) (id : SessionId) (place : ℕ) (told reply : Reply) → IsSound t → open_ops id (seen_all t.sessions) ≡ [] → (is_written_at (groups_in t.catalog) place ≡ true → t.unsettled.items ≡ [])
+      → IsFreeAt t id place → IsWithoutGroup t new place → IsReadyToGo (groups_in t.catalog) k place ready → AnswersBehind state possible k k' d d' ready told reply → told ≡ only (Done 0) → DropsHere state possible t new k k' d d' id place reply
+  dropped law numbers t new k k' d d' ready id place told reply sound rests settled free without of answers is = λ s w g has at stands keeps there.
+      let unlocked = free w.tier s g stands.stored has there in
+      let p = answers new w (Drops g.def.name ∷ []) (drop_answer g.def.name) at keeps (of w.tier.schema (without_list g) (group_stored t w.tier place g stands.stored there))
+      (stands_without law numbers t new id place sound rests settled s w g has stands there unlocked without) refl (λ j faults moment. refl) is in
+      record { world = p.world; at = p.at; is = inl (rest_so s g w p.world reply unlocked p.is); stands = p.stands; keeps = p.keeps }
 
-pub dropped : DropLaw → NumberLaw → (t new : Stored) (site : SiteState) (id : SessionId) (place : ℕ) → IsSound t → open_ops id (seen_all t.sessions) ≡ [] → (is_written_at (groups_in t.catalog) place ≡ true → t.unsettled.items ≡ [])
-    → IsFree t id place → IsWithoutGroup t new place → DropsHere t new site id place (only (Done 0))
-dropped law numbers t new site id place sound rests settled free without = λ s w g has at stands there. (
-    let unlocked = free w.tier s g stands.stored has there in
-    record {
-      world = with_tier (without_group g.def.name w.tier) w;
-      at = record { there = at.there; told = at.told; history = at.history; faults = at.faults; moment = at.moment; shared = at.shared };
-      stands = stands_without law numbers t new id place sound rests settled s w g has stands there unlocked without;
-      is = inl (drops law numbers t new id place sound rests settled s w g has stands there unlocked without);
-    })
+  -- 119 of the journal
+  pub drop_full : (t : Stored) (k : Option TierJournal) (d : D) (ready : Ready) (id : SessionId) (place : ℕ) (reply : Reply) → IsFreeAt t id place → IsReadyToGo (groups_in t.catalog) k place ready → is_full_ready ready ≡ true → reply ≡ only (No (past limit.JournalSlot))
+      → DropsHere state possible t t k k d d id place reply
+  drop_full t k d ready id place reply free of full told = λ s w g has at stands keeps there.
+      let unlocked = free w.tier s g stands.stored has there in
+      let ready_for = of w.tier.schema (without_list g) (group_stored t w.tier place g stands.stored there) in
+      record {
+        world = w;
+        at = at;
+        is = inl (rest_so s g w w reply unlocked (full_then state possible k d w ready (Drops g.def.name ∷ []) (Answers (drop_answer g.def.name)) reply keeps ready_for full told));
+        stands = λ whole. stands;
+        keeps = λ whole. keeps;
+      }
+
+  -- 111, or memory was wanting
+  pub drop_refused : (t : Stored) (k : Option TierJournal) (d : D) (id : SessionId) (place : ℕ) (e : Refused) → ((a : Tier) (s : Session) (g : Group) → IsStoredAs t a → HasSession t id s → slice_get a.groups place ≡ Some g → IsRefusedBy (group_lock s.label a g) e) → DropsHere state possible t t k k d d id place (reply_of (Err e))
+  drop_refused t k d id place e is = λ s w g has at stands keeps there. record { world = w; at = at; is = by s w g e (is w.tier s g stands.stored has there); stands = λ whole. stands; keeps = λ whole. keeps }
+    where
+      by : (s : Session) (w : World) (g : Group) (e : Refused) → IsRefusedBy (group_lock s.label w.tier g) e → Tries (DropsRest s g) w w (reply_of (Err e))
+      by s w g (refused.Rule rule) told = inl (subst (λ o. Unless o (Then (FlushesSome (Drops g.def.name ∷ [])) (Answers (drop_answer g.def.name))) w w (only (No rule))) (sym told) (refl, refl))
+      by s w g refused.Memory told = inr (refl, refl)
+
+  pub drop_wanting : (t new : Stored) (k k' : Option TierJournal) (d : D) (id : SessionId) (place : ℕ) (e : Refused) → StaysKept k k' → KeepsGroups t new → e ≡ refused.Memory → DropsHere state possible t new k k' d d id place (reply_of (Err e))
+  drop_wanting t new k k' d id place e stays kept is = λ s w g has at stands keeps there. record {
+    world = w;
+    at = at;
+    is = inr (refl, ap (λ x. reply_of (Err x)) is);
+    stands = λ whole. stands_kept t new w stands kept;
+    keeps = λ whole. keeps_stays state possible d k k' w stays keeps;
+  }
+
+  -- with what was made ready
+  pub drop_moved : (t new : Stored) (k mid k' : Option TierJournal) (d d' : D) (id : SessionId) (place : ℕ) (reply : Reply) → StaysKept k mid → DropsHere state possible t new mid k' d d' id place reply → DropsHere state possible t new k k' d d' id place reply
+  drop_moved t new k mid k' d d' id place reply stays drops = λ s w g has at stands keeps there. drops s w g has at stands (keeps_stays state possible d k mid w stays keeps) there
 
 -- DROP, behind what refuses it
 
@@ -153,18 +189,19 @@ is_written : (groups : List Group) (place : ℕ) (g : Group) → slice_get group
 is_written groups place g there = ap (λ o. unwrap_or (option_map is_writethrough o) false) there
 
 -- the round ended the line
-pub ended : (t mid : Stored) (before behind : SiteState) (id : SessionId) (name : List ℕ) (place : ℕ) (reply : Reply) → IsSound t
+pub ended : {D : Type 0} (state : D → SiteState) (possible : D → ℕ → Held → Type 0) (t mid : Stored) (k k' : Option TierJournal) (d d' : D) (id : SessionId) (name : List ℕ) (place : ℕ) (reply : Reply) → IsSound t
     → ((a : Tier) (s : Session) → IsStoredAs t a → HasSession t id s → refusal a s (statement.DropGroup name) ≡ None) → place_called (groups_in t.catalog) name ≡ Some place
-    → Performs t mid before behind (λ w w'. RoundFor place w w' (Some reply)) → PerformsIn t mid before behind id (Executes (statement.DropGroup name)) (Ok reply)
-ended t mid before behind id name place reply sound free called rounds = λ s has w at stands unshared. (
-    let p = rounds w at stands unshared in
+    → PerformsOver state possible t mid k k' d d' (Some reply) (λ w w'. RoundFor place w w' (Some reply)) → PerformsInOver state possible t mid k k' d d' id (Executes (statement.DropGroup name)) (Ok reply)
+ended state possible t mid k k' d d' id name place reply sound free called rounds = λ s has w at stands unshared keeps. (
+    let p = rounds w at stands unshared keeps in
     let g = group_there t w.tier name place stands.stored called in
     record {
       world = p.world;
       at = p.at;
-      stands = p.stands;
       is = inl (on_group t w s name place g.0 p.world reply stands.stored (free w.tier s stands.stored has) called g.1 (does s w p.world g.0 (is_writethrough g.0) refl
           (subst (λ b. MatchBool b (Round w p.world (Some reply)) (Passes w p.world (Some reply))) (is_written w.tier.groups place g.0 g.1) p.is)));
+      stands = p.stands;
+      keeps = p.keeps;
     })
   where
     does : (s : Session) (w w1 : World) (g : Group) (b : Bool) → is_writethrough g ≡ b → MatchBool (is_writethrough g) (Round w w1 (Some reply)) (Passes w w1 (Some reply)) → DropsAt s place g w w1 reply
@@ -183,22 +220,24 @@ pub record SettlesOnly (t mid : Stored) : Type 0 where
   pub sessions : mid.sessions ≡ t.sessions
 
 -- and then the group goes, or 111
-pub went : (t mid new : Stored) (before behind : SiteState) (id : SessionId) (name : List ℕ) (place : ℕ) (reply : Reply) (result : Result Reply Refused) → IsSound t → SettlesOnly t mid
+pub went : {D : Type 0} (state : D → SiteState) (possible : D → ℕ → Held → Type 0) (t mid new : Stored) (k km k' : Option TierJournal) (d dm d' : D) (id : SessionId) (name : List ℕ) (place : ℕ) (result : Result Reply Refused) → IsSound t → SettlesOnly t mid
     → ((a : Tier) (s : Session) → IsStoredAs t a → HasSession t id s → refusal a s (statement.DropGroup name) ≡ None) → place_called (groups_in t.catalog) name ≡ Some place
-    → Performs t mid before behind (λ w w'. RoundFor place w w' None) → DropsHere mid new behind id place (reply_of result) → PerformsIn t new before behind id (Executes (statement.DropGroup name)) result
-went t mid new before behind id name place reply result sound same free called rounds drops = λ s has w at stands unshared. (
-    let p = rounds w at stands unshared in
+    → PerformsOver state possible t mid k km d dm None (λ w w'. RoundFor place w w' None) → DropsHere state possible mid new km k' dm d' id place (reply_of result) → PerformsInOver state possible t new k k' d d' id (Executes (statement.DropGroup name)) result
+went state possible t mid new k km k' d dm d' id name place result sound same free called rounds drops = λ s has w at stands unshared keeps. (
+    let p = rounds w at stands unshared keeps in
+    let stands_mid = p.stands refl in
     let g = group_there t w.tier name place stands.stored called in
-    let g1 = group_there mid p.world.tier name place p.stands.stored (ap (λ k. place_called (groups_in k) name) same.catalog ∙ called) in
-    let q = drops s p.world g1.0 (session_same s has) p.at p.stands g1.1 in
-    let defs : g1.0.def ≡ g.0.def = same_def w.tier p.world.tier g.0 g1.0 stands.stored p.stands.stored g.1 g1.1 in
+    let g1 = group_there mid p.world.tier name place stands_mid.stored (ap (λ c. place_called (groups_in c) name) same.catalog ∙ called) in
+    let q = drops s p.world g1.0 (session_same s has) p.at stands_mid (p.keeps refl) g1.1 in
+    let defs : g1.0.def ≡ g.0.def = same_def w.tier p.world.tier g.0 g1.0 stands.stored stands_mid.stored g.1 g1.1 in
     record {
       world = q.world;
       at = q.at;
-      stands = q.stands;
       is = does s w p.world q.world g.0 stands.stored (free w.tier s stands.stored has) g.1 (is_writethrough g.0) refl
           (subst (λ b. MatchBool b (Round w p.world None) (Passes w p.world None)) (is_written w.tier.groups place g.0 g.1) p.is)
           (subst (λ (d : GroupDef). Tries (DropsRest s (record g1.0 { def = d })) p.world q.world (reply_of result)) defs q.is);
+      stands = q.stands;
+      keeps = q.keeps;
     })
   where
     session_same : (s : Session) → HasSession t id s → HasSession mid id s
@@ -224,14 +263,23 @@ went t mid new before behind id name place reply result sound same free called r
         here (inl rest) = inl (on_group t w s name place g w' (reply_of result) is none called there (subst (λ b. MatchBool b (Then Round (Tries (DropsRest s g)) w w' (reply_of result)) (DropsRest s g w w' (reply_of result))) (sym e) rest))
         here (inr wants) = inr wants
 
--- a call that failed is told only where the count rose
-pub caused_then : (a b : SiteState) (reply : Reply) → IsCaused a b (only (Done 0)) → IsCaused b b reply → IsCaused a b reply
-caused_then a b reply before behind = record {
-  later = before.later;
-  moment = before.moment;
-  shares = before.shares;
-  slots = before.slots;
-  bare = behind.bare;
-  bank = λ told. (let rose = behind.bank told in let later = before.later in omega (arith, rose, later));
-  disk = behind.disk;
+-- what was made ready for the group that is stored at a place
+pub gone_there : (groups : List Group) (k : Option TierJournal) (place : ℕ) (seen : Group) (ready : Ready) → slice_get groups place ≡ Some seen → ((schema : List TableDef) → IsReadyFor schema k ready (Drops seen.def.name ∷ [])) → IsReadyToGo groups k place ready
+gone_there groups k place seen ready at is = λ schema g there. subst (λ (x : Group). IsReadyFor schema k ready (Drops x.def.name ∷ [])) (same_there groups place seen g at there) (is schema)
+
+-- nothing changed
+pub same_groups : (t : Stored) → KeepsGroups t t
+same_groups t = record {
+  beside = record { schema = refl; stale = refl; sessions = refl; unsettled = refl; writers = refl; next = refl; clock = refl };
+  groups = refl;
+  stores = refl;
+  visible = refl;
+  directory = refl;
+  verified = refl;
 }
+
+-- a rule refuses it, or memory was wanting
+pub not_dropped : {D : Type 0} (state : D → SiteState) (possible : D → ℕ → Held → Type 0) (t : Stored) (k : Option TierJournal) (d : D) (id : SessionId) (name : List ℕ) (e : Refused)
+    → ((a : Tier) (s : Session) → IsStoredAs t a → HasSession t id s → IsRefusedBy (refusal a s (statement.DropGroup name)) e) → PerformsInOver state possible t t k k d d id (Executes (statement.DropGroup name)) (Err e)
+not_dropped state possible t k d id name (refused.Rule rule) is = refused_over state possible t k d id (statement.DropGroup name) rule (λ s w has stored. is w.tier s stored has)
+not_dropped state possible t k d id name refused.Memory is = wanting_over state possible t t k k d id (statement.DropGroup name) (kept_here k) (λ w stands. stands)

@@ -448,7 +448,6 @@ module _ (t t' : Stored) (mid : World) (flag : Bool) (place : ℕ) (chosen : Cho
     shows = all_shown t'.schema mid.history (tier_behind chosen place change n fresh.state mid.tier) t'.stores.items (x.stored.schema ∙ sym is.beside.schema)
         (subst (λ l. AreKept t'.schema l t'.stores.items) (sym groups_then) is.kept) shows_then;
     stands = stands_after mid x.stands final become position;
-    unkept = x.unkept;
     waits = x.waits;
   }
 

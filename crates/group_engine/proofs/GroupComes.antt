@@ -168,7 +168,6 @@ stands_kept t new w stands keeps = record {
   };
   shows = rows_kept t new keeps ∙ stands.shows;
   stands = stands.stands;
-  unkept = stands.unkept;
   waits = stands.waits;
 }
 

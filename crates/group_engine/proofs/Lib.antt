@@ -19,6 +19,7 @@ pub mod LoadingLaws
 pub mod MatchLaws
 pub mod ReadLaws
 pub mod ReadOnlyUnloads
+pub mod ReadyLaws
 pub mod RefreshedSets
 pub mod ShownStores
 pub mod SnapshotLaws

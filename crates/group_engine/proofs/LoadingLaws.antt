@@ -9,12 +9,11 @@ use Rattle.outside.specs.Others.{is_shared}
 use Rattle.sql_subset.specs.declared.stmt.Load.{Load}
 use Rattle.cache_tier.specs.declared.reply.Reply.{Reply}
 use Rattle.cache_tier.specs.Groups.{Group, is_read_only, is_table_of, is_writethrough}
-use Rattle.cache_tier.specs.Journals.{Journal}
-use Rattle.cache_tier.specs.JournalSteps.{FlushesKept}
+use Rattle.cache_tier.specs.JournalSteps.{Flushes, FlushesKept}
 use Rattle.cache_tier.specs.LoadSteps.{LoadsReadOnly, LoadsWritethrough}
 use Rattle.cache_tier.specs.Order.{refusal}
 use Rattle.cache_tier.specs.RefreshSteps.{RefreshesReadOnly, RefreshesWritethrough}
-use Rattle.cache_tier.specs.Rotations.{Rotates, is_long}
+use Rattle.cache_tier.specs.Rotations.{Rotates, RotatesIfLong, is_long}
 use Rattle.cache_tier.specs.Rounds.{AppliesAndRotates, Round, RoundIfUnsettled, is_unsettled}
 use Rattle.cache_tier.specs.Steps.{DoesStatement}
 use Rattle.cache_tier.specs.Targets.{Target}
@@ -23,10 +22,12 @@ use Rattle.cache_tier.specs.Worlds.{IsUnshared, Part, Passes, StageFollows, Then
 use Rattle.group_engine.specs.declared.aiming.Aim.{Aim}
 use Rattle.stored_tier.specs.declared.tier.Tier.{Tier as Stored}
 use Rattle.group_engine.specs.Aiming.{Aims, AimsIn, FindsTarget, aimed}
-use Rattle.stored_tier.specs.Performing.{Executes, IsPerformed, Performs, PerformsIn, reply_of}
+use Rattle.stored_tier.specs.Performing.{Executes, PerformsInOver, PerformsOver, reply_of}
 use Rattle.outside.specs.Sites.{SiteState}
 use Rattle.group_engine.specs.Taking.{IsGroupAt, IsOfTarget, IsSettledAt, LoadsTarget, PerformsWhere, ReadsMatching}
-use Rattle.stored_tier.proofs.QuietLaws.{refusing, wanting}
+use Rattle.group_engine.proofs.ReadyLaws.{kept_here, refused_over, wanting_over}
+use Rattle.tier_journal.specs.declared.journal.TierJournal.{TierJournal}
+use Rattle.outside.specs.Holding.{Held}
 
 -- a round leaves the groups
 
@@ -37,85 +38,90 @@ pub record KeepsGroups (w m : World) : Type 0 where
 same_groups : (w m : World) → m ≡ w → KeepsGroups w m
 same_groups w m e = record { groups = ap (λ (z : World). z.tier.groups) e; shared = ap (λ (z : World). z.shared) e }
 
-passed : (A : Type 0) (b : Bool) (w m : World) (stop : Option Reply) → b ≡ false → MatchBool b A (Passes w m stop) → (m ≡ w) × (stop ≡ None)
-passed A b w m stop e is = subst (λ c. MatchBool c A (Passes w m stop)) e is
+then_groups : (w m v : World) → KeepsGroups w m → KeepsGroups m v → KeepsGroups w v
+then_groups w m v one two = record { groups = two.groups ∙ one.groups; shared = two.shared ∙ one.shared }
 
-applied_groups : (w m : World) → w.journal.kept ≡ false → AppliesAndRotates w m None → KeepsGroups w m
-applied_groups w m unkept next =
-    let unkept_then : next.mid.journal.kept ≡ false = ap (λ (j : Journal). j.kept) next.applies.journal ∙ unkept in
-    let short : is_long next.mid ≡ false = ap (λ b. b && nat_lt next.mid.tier.settings.rotate_bytes next.mid.journal.written) unkept_then in
-    let last = passed (Rotates next.mid m next.turned) (is_long next.mid) next.mid m next.turned short next.rotates in
-    record {
-      groups = ap (λ (z : World). z.tier.groups) last.0 ∙ ap (λ (t : Tier). t.groups) next.applies.tier;
-      shared = ap (λ (z : World). z.shared) last.0 ∙ next.applies.shared;
-    }
-
-round_groups : (w m : World) → w.journal.kept ≡ false → Round w m None → KeepsGroups w m
-round_groups w m unkept r =
-    let flushed = passed (FlushesKept [] w r.mid r.stop) w.journal.kept w r.mid r.stop unkept r.first in
-    let next : AppliesAndRotates r.mid m None = subst (λ stop. StageFollows stop AppliesAndRotates r.mid m None) flushed.1 r.next in
-    let keeps = applied_groups r.mid m (ap (λ (z : World). z.journal.kept) flushed.0 ∙ unkept) next in
-    record {
-      groups = keeps.groups ∙ ap (λ (z : World). z.tier.groups) flushed.0;
-      shared = keeps.shared ∙ ap (λ (z : World). z.shared) flushed.0;
-    }
-
-pub round_keeps : (w m : World) → w.journal.kept ≡ false → RoundIfUnsettled w m None → KeepsGroups w m
-round_keeps w m unkept r = by (is_unsettled w) r
+turned_groups : (w m : World) (stop : Option Reply) → RotatesIfLong w m stop → KeepsGroups w m
+turned_groups w m stop is = by (is_long w) is
   where
-    by : (b : Bool) → MatchBool b (Round w m None) (Passes w m None) → KeepsGroups w m
-    by true r = round_groups w m unkept r
+    by : (b : Bool) → MatchBool b (Rotates w m stop) (Passes w m stop) → KeepsGroups w m
+    by true r = record { groups = ap (λ (t : Tier). t.groups) r.tier; shared = r.shared }
     by false r = same_groups w m r.0
 
--- behind the round
-pub behind_round : (old settled new : Stored) (before between after : SiteState) (place : ℕ) (x : Target) (refreshes : Bool) (reply : Reply) → Performs old settled before between (λ w w'. RoundIfUnsettled w w' None) → settled.unsettled.items ≡ []
-    → PerformsWhere (IsSettledAt place x.group) settled new between after (λ w w'. ReadsMatching refreshes x w w' reply)
-    → PerformsWhere (IsGroupAt place x.group) old new before after (λ w w'. Then RoundIfUnsettled (ReadsMatching refreshes x) w w' reply)
-behind_round old settled new before between after place x refreshes reply rounds none reads w at stands apart there =
-    let first = rounds w at stands apart in
-    let m : World = first.world in
-    let keeps = round_keeps w m stands.unkept first.is in
-    let apart_then : IsUnshared m = (λ t e. ap (λ gs. is_table_of is_writethrough gs t) keeps.groups ∙ apart t (ap (λ l. is_shared l t) (sym keeps.shared) ∙ e)) in
-    let second = reads m first.at first.stands apart_then (record { there = ap (λ gs. slice_get gs place) keeps.groups ∙ there; settled = first.stands.stored.unsettled ∙ none }) in
-    record { world = second.world; at = second.at; stands = second.stands; is = record { mid = m; stop = None; first = first.is; next = second.is } }
+flushed_groups : (w m : World) (stop : Option Reply) → Flushes [] w m stop → KeepsGroups w m
+flushed_groups w m stop is = by w.journal.kept is
+  where
+    by : (b : Bool) → MatchBool b (FlushesKept [] w m stop) (Passes w m stop) → KeepsGroups w m
+    by true f = record { groups = ap (λ (t : Tier). t.groups) f.tier; shared = f.shared }
+    by false f = same_groups w m f.0
 
--- the round ended the line
-pub round_ended : (old new : Stored) (before after : SiteState) (place : ℕ) (x : Target) (refreshes : Bool) (reply : Reply) → Performs old new before after (λ w w'. RoundIfUnsettled w w' (Some reply))
-    → PerformsWhere (IsGroupAt place x.group) old new before after (λ w w'. Then RoundIfUnsettled (ReadsMatching refreshes x) w w' reply)
-round_ended old new before after place x refreshes reply rounds w at stands apart there =
-    let first = rounds w at stands apart in
-    record { world = first.world; at = first.at; stands = first.stands; is = record { mid = first.world; stop = Some reply; first = first.is; next = (refl, refl) } }
+applied_groups : (w m : World) (end : Option Reply) → AppliesAndRotates w m end → KeepsGroups w m
+applied_groups w m end next =
+    then_groups w next.mid m (record { groups = ap (λ (t : Tier). t.groups) next.applies.tier; shared = next.applies.shared }) (turned_groups next.mid m next.turned next.rotates)
+
+round_groups : (w m : World) → Round w m None → KeepsGroups w m
+round_groups w m r = then_groups w r.mid m (flushed_groups w r.mid r.stop r.first) (by r.stop r.next)
+  where
+    by : (stop : Option Reply) → StageFollows stop AppliesAndRotates r.mid m None → KeepsGroups r.mid m
+    by None next = applied_groups r.mid m None next
+    by (Some reply) next = same_groups r.mid m next.0
+
+pub round_keeps : (w m : World) → RoundIfUnsettled w m None → KeepsGroups w m
+round_keeps w m r = by (is_unsettled w) r
+  where
+    by : (b : Bool) → MatchBool b (Round w m None) (Passes w m None) → KeepsGroups w m
+    by true r = round_groups w m r
+    by false r = same_groups w m r.0
+
+module _ {D : Type 0} (state : D → SiteState) (possible : D → ℕ → Held → Type 0) where
+  -- behind the round
+  pub behind_round : (old settled new : Stored) (k km k' : Option TierJournal) (d dm d' : D) (place : ℕ) (x : Target) (refreshes : Bool) (reply : Reply) → PerformsOver state possible old settled k km d dm None (λ w w'. RoundIfUnsettled w w' None) → settled.unsettled.items ≡ []
+      → PerformsWhere (IsSettledAt place x.group) state possible settled new km k' dm d' (Some reply) (λ w w'. ReadsMatching refreshes x w w' reply)
+      → PerformsWhere (IsGroupAt place x.group) state possible old new k k' d d' (Some reply) (λ w w'. Then RoundIfUnsettled (ReadsMatching refreshes x) w w' reply)
+  behind_round old settled new k km k' d dm d' place x refreshes reply rounds none reads w at stands apart keeps there =
+      let first = rounds w at stands apart keeps in
+      let stood = first.stands refl in
+      let m : World = first.world in
+      let same = round_keeps w m first.is in
+      let apart_then : IsUnshared m = (λ t e. ap (λ gs. is_table_of is_writethrough gs t) same.groups ∙ apart t (ap (λ l. is_shared l t) (sym same.shared) ∙ e)) in
+      let second = reads m first.at stood apart_then (first.keeps refl) (record { there = ap (λ gs. slice_get gs place) same.groups ∙ there; settled = stood.stored.unsettled ∙ none }) in
+      record { world = second.world; at = second.at; is = record { mid = m; stop = None; first = first.is; next = second.is }; stands = second.stands; keeps = second.keeps }
+
+  -- the round ended the line
+  pub round_ended : (old new : Stored) (k k' : Option TierJournal) (d d' : D) (place : ℕ) (x : Target) (refreshes : Bool) (reply : Reply) → PerformsOver state possible old new k k' d d' (Some reply) (λ w w'. RoundIfUnsettled w w' (Some reply))
+      → PerformsWhere (IsGroupAt place x.group) state possible old new k k' d d' (Some reply) (λ w w'. Then RoundIfUnsettled (ReadsMatching refreshes x) w w' reply)
+  round_ended old new k k' d d' place x refreshes reply rounds w at stands apart keeps there =
+      let first = rounds w at stands apart keeps in
+      record { world = first.world; at = first.at; is = record { mid = first.world; stop = Some reply; first = first.is; next = (refl, refl) }; stands = first.stands; keeps = first.keeps }
 
 -- what is aimed at
 
-pub aimed_whole : (old new : Stored) (before after : SiteState) (place : ℕ) (x : Target) (refreshes : Bool) (reply : Reply) → is_read_only x.group ≡ true
-    → Performs old new before after (λ w w'. slice_get w.tier.groups place ≡ Some x.group → Tries (LoadsReadOnly x) w w' reply)
-    → Performs old new before after (λ w w'. slice_get w.tier.groups place ≡ Some x.group → Tries (RefreshesReadOnly x) w w' reply)
-    → PerformsWhere (IsGroupAt place x.group) old new before after (λ w w'. Tries (LoadsTarget refreshes x) w w' reply)
-aimed_whole old new before after place x true reply reads loads refreshing_it w at stands apart there =
-    let it = refreshing_it w at stands apart in
-    record { world = it.world; at = it.at; stands = it.stands; is = subst (λ b. Tries (λ v v' r. MatchBool b (RefreshesReadOnly x v v' r) (RefreshesWritethrough x v v' r)) w it.world reply) (sym reads) (it.is there) }
-aimed_whole old new before after place x false reply reads loads refreshing_it w at stands apart there =
-    let it = loads w at stands apart in
-    record { world = it.world; at = it.at; stands = it.stands; is = subst (λ b. Tries (λ v v' r. MatchBool b (LoadsReadOnly x v v' r) (LoadsWritethrough x v v' r)) w it.world reply) (sym reads) (it.is there) }
+pub aimed_whole : {D : Type 0} (state : D → SiteState) (possible : D → ℕ → Held → Type 0) (old new : Stored) (k k' : Option TierJournal) (d d' : D) (place : ℕ) (x : Target) (refreshes : Bool) (reply : Reply) → is_read_only x.group ≡ true
+    → PerformsOver state possible old new k k' d d' (Some reply) (λ w w'. slice_get w.tier.groups place ≡ Some x.group → Tries (LoadsReadOnly x) w w' reply)
+    → PerformsOver state possible old new k k' d d' (Some reply) (λ w w'. slice_get w.tier.groups place ≡ Some x.group → Tries (RefreshesReadOnly x) w w' reply)
+    → PerformsWhere (IsGroupAt place x.group) state possible old new k k' d d' (Some reply) (λ w w'. Tries (LoadsTarget refreshes x) w w' reply)
+aimed_whole state possible old new k k' d d' place x true reply reads loads refreshing_it w at stands apart keeps there =
+    let it = refreshing_it w at stands apart keeps in
+    record { world = it.world; at = it.at; stands = it.stands; keeps = it.keeps; is = subst (λ b. Tries (λ v v' r. MatchBool b (RefreshesReadOnly x v v' r) (RefreshesWritethrough x v v' r)) w it.world reply) (sym reads) (it.is there) }
+aimed_whole state possible old new k k' d d' place x false reply reads loads refreshing_it w at stands apart keeps there =
+    let it = loads w at stands apart keeps in
+    record { world = it.world; at = it.at; stands = it.stands; keeps = it.keeps; is = subst (λ b. Tries (λ v v' r. MatchBool b (LoadsReadOnly x v v' r) (LoadsWritethrough x v v' r)) w it.world reply) (sym reads) (it.is there) }
 
-pub aimed_behind : (old new : Stored) (before after : SiteState) (place : ℕ) (x : Target) (refreshes : Bool) (reply : Reply) → is_read_only x.group ≡ false
-    → PerformsWhere (IsGroupAt place x.group) old new before after (λ w w'. Then RoundIfUnsettled (ReadsMatching refreshes x) w w' reply)
-    → PerformsWhere (IsGroupAt place x.group) old new before after (λ w w'. Tries (LoadsTarget refreshes x) w w' reply)
-aimed_behind old new before after place x true reply writes does w at stands apart there =
-    let it = does w at stands apart there in
-    record { world = it.world; at = it.at; stands = it.stands; is = inl (subst (λ b. MatchBool b (RefreshesReadOnly x w it.world reply) (RefreshesWritethrough x w it.world reply)) (sym writes) it.is) }
-aimed_behind old new before after place x false reply writes does w at stands apart there =
-    let it = does w at stands apart there in
-    record { world = it.world; at = it.at; stands = it.stands; is = inl (subst (λ b. MatchBool b (LoadsReadOnly x w it.world reply) (LoadsWritethrough x w it.world reply)) (sym writes) it.is) }
+pub aimed_behind : {D : Type 0} (state : D → SiteState) (possible : D → ℕ → Held → Type 0) (old new : Stored) (k k' : Option TierJournal) (d d' : D) (place : ℕ) (x : Target) (refreshes : Bool) (reply : Reply) → is_read_only x.group ≡ false
+    → PerformsWhere (IsGroupAt place x.group) state possible old new k k' d d' (Some reply) (λ w w'. Then RoundIfUnsettled (ReadsMatching refreshes x) w w' reply)
+    → PerformsWhere (IsGroupAt place x.group) state possible old new k k' d d' (Some reply) (λ w w'. Tries (LoadsTarget refreshes x) w w' reply)
+aimed_behind state possible old new k k' d d' place x true reply writes does w at stands apart keeps there =
+    let it = does w at stands apart keeps there in
+    record { world = it.world; at = it.at; stands = it.stands; keeps = it.keeps; is = inl (subst (λ b. MatchBool b (RefreshesReadOnly x w it.world reply) (RefreshesWritethrough x w it.world reply)) (sym writes) it.is) }
+aimed_behind state possible old new k k' d d' place x false reply writes does w at stands apart keeps there =
+    let it = does w at stands apart keeps there in
+    record { world = it.world; at = it.at; stands = it.stands; keeps = it.keeps; is = inl (subst (λ b. MatchBool b (LoadsReadOnly x w it.world reply) (LoadsWritethrough x w it.world reply)) (sym writes) it.is) }
 
 -- what refuses the statement
 
-pub not_aimed : (t : Stored) (seen : SiteState) (id : SessionId) (refreshes : Bool) (load : Load) (e : Refused) → AimsIn t id refreshes load (Err e) → PerformsIn t t seen seen id (Executes (aimed refreshes load)) (Err e)
-not_aimed t seen id refreshes load (refused.Rule rule) aims s has w at stands apart =
-    refusing t seen (refusal w.tier s (aimed refreshes load)) (DoesStatement s (aimed refreshes load)) w rule (aims w.tier s stands.stored has) at stands
-not_aimed t seen id refreshes load refused.Memory aims s has w at stands apart =
-    wanting t seen (λ v v' reply. Unless (refusal v.tier s (aimed refreshes load)) (DoesStatement s (aimed refreshes load)) v v' reply) w at stands
+pub not_aimed : {D : Type 0} (state : D → SiteState) (possible : D → ℕ → Held → Type 0) (t : Stored) (k : Option TierJournal) (d : D) (id : SessionId) (refreshes : Bool) (load : Load) (e : Refused) → AimsIn t id refreshes load (Err e) → PerformsInOver state possible t t k k d d id (Executes (aimed refreshes load)) (Err e)
+not_aimed state possible t k d id refreshes load (refused.Rule rule) aims = refused_over state possible t k d id (aimed refreshes load) rule (λ s w has is. aims w.tier s is has)
+not_aimed state possible t k d id refreshes load refused.Memory aims = wanting_over state possible t t k k d id (aimed refreshes load) (kept_here k) (λ w stands. stands)
 
 -- what the statement does
 
@@ -128,10 +134,10 @@ does_so w w' s false load aim f reply (inl d) =
 does_so w w' s true load aim f reply (inr m) = inr m
 does_so w w' s false load aim f reply (inr m) = inr m
 
-pub loaded : (old new : Stored) (before after : SiteState) (id : SessionId) (refreshes : Bool) (load : Load) (aim : Aim) (result : Result Reply Refused) → AimsIn old id refreshes load (Ok aim)
-    → ((x : Target) → IsOfTarget x aim.place aim.which → is_read_only x.group ≡ aim.read_only → PerformsWhere (IsGroupAt aim.place x.group) old new before after (λ w w'. Tries (LoadsTarget refreshes x) w w' (reply_of result)))
-    → PerformsIn old new before after id (Executes (aimed refreshes load)) result
-loaded old new before after id refreshes load aim result aims loads s has w at stands apart =
+pub loaded : {D : Type 0} (state : D → SiteState) (possible : D → ℕ → Held → Type 0) (old new : Stored) (k k' : Option TierJournal) (d d' : D) (id : SessionId) (refreshes : Bool) (load : Load) (aim : Aim) (result : Result Reply Refused) → AimsIn old id refreshes load (Ok aim)
+    → ((x : Target) → IsOfTarget x aim.place aim.which → is_read_only x.group ≡ aim.read_only → PerformsWhere (IsGroupAt aim.place x.group) state possible old new k k' d d' (Some (reply_of result)) (λ w w'. Tries (LoadsTarget refreshes x) w w' (reply_of result)))
+    → PerformsInOver state possible old new k k' d d' id (Executes (aimed refreshes load)) result
+loaded state possible old new k k' d d' id refreshes load aim result aims loads s has w at stands apart keeps =
     let f = aims w.tier s stands.stored has in
-    let it = loads (record { place = aim.place; group = f.group; filter = aim.which.filter; id = load.which.id }) (record { place = refl; filter = refl; id = f.is.id }) f.kind w at stands apart f.there in
-    record { world = it.world; at = it.at; stands = it.stands; is = does_so w it.world s refreshes load aim f (reply_of result) it.is }
+    let it = loads (record { place = aim.place; group = f.group; filter = aim.which.filter; id = load.which.id }) (record { place = refl; filter = refl; id = f.is.id }) f.kind w at stands apart keeps f.there in
+    record { world = it.world; at = it.at; stands = it.stands; keeps = it.keeps; is = does_so w it.world s refreshes load aim f (reply_of result) it.is }

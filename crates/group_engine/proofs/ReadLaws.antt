@@ -125,7 +125,6 @@ module _ (t : Stored) (before after : SiteState) (step : List Entry → List Ent
       stored = stands.stored;
       shows = stands.shows ∙ sym still.same;
       stands = stands_then w now.there after still.stands;
-      unkept = stands.unkept;
       waits = stands.waits;
     };
     call = record {

@@ -200,7 +200,6 @@ refresh_wanting t clock b interval sound has shown same moments w at stands apar
         stored = stored_clocked t clock a a.now a.added (refresh_tried interval a).sets stands.stored time;
         shows = stands.shows;
         stands = stands_clocked w a.now a.added (refresh_tried interval a).sets stands.stands;
-        unkept = stands.unkept;
         waits = stands.waits;
       };
       is = subst (λ x. MatchBool x (RefreshesSet interval w w' (Some (faulty code.Memory))) (Passes w w' (Some (faulty code.Memory)))) (sym (shows_stored t w interval sound stands.stored ∙ shown))

@@ -14,7 +14,9 @@ use Rattle.group_catalog.specs.Catalogs.{groups_in}
 use Rattle.group_catalog.specs.declared.which.ResolvedWhich.{ResolvedWhich}
 use Rattle.group_store.specs.Keeping.{layer_for}
 use Rattle.group_store.specs.Stores.{Kept, SameButSpare, put_tables}
-use Rattle.cache_tier.specs.declared.reply.Last.TheVariants.{Done}
+use Rattle.cache_tier.specs.declared.reply.Last.TheVariants.{Done, No}
+use Rattle.cache_tier.specs.Rules.{past}
+use Rattle.tier_base.specs.declared.limit.Limit.TheVariants as limit
 use Rattle.cache_tier.specs.declared.reply.Reply.{Reply}
 use Rattle.cache_tier.specs.Groups.{Group}
 use Rattle.cache_tier.specs.Sets.{alone, changed_from}
@@ -26,7 +28,7 @@ use Rattle.stored_tier.proofs.StoreLists.{got}
 use Rattle.group_engine.specs.Putting.{FillsAt, GathersAt, HasPlaceFor, IsFilledAt}
 use Rattle.stored_tier.specs.Gathering.{Gathers, coming_in, gathered_in}
 use Rattle.stored_tier.specs.Stored.{IsSound}
-use Rattle.group_engine.specs.Taking.{IsSameButRoom, IsSameElsewhere, Pairs, TakesIn, TakesMatching}
+use Rattle.group_engine.specs.Taking.{IsSameButRoom, IsSameElsewhere, JudgesFull, Pairs, TakesIn, TakesMatching}
 use Rattle.group_engine.proofs.StorePairs.{room_self, room_set}
 use Rattle.stored_tier.proofs.StoreRows.{form_at}
 
@@ -99,3 +101,12 @@ taken old new place which refreshes s g rows reply at are filled groups rest unv
       unverified = unverified;
       count = told ∙ ap (λ n. only (Done n)) at.is.count;
     }
+
+-- 120, or memory was wanting; else 119 of the journal
+
+pub judged_not : (t : Stored) (place : ℕ) (which : ResolvedWhich) (refreshes : Bool) (s : TableState) (e : Refused) → GathersAt t place which refreshes s (Err e) → JudgesFull t place which s (Err e)
+judged_not t place which refreshes s (refused.Rule rule) at = (record { group = at.here.group; there = at.here.there; is = at.is.0 }, at.is.1)
+judged_not t place which refreshes s refused.Memory at = tt
+
+pub judged_full : (t : Stored) (place : ℕ) (which : ResolvedWhich) (refreshes : Bool) (s : TableState) (g : Gathered) (reply : Reply) → GathersAt t place which refreshes s (Ok g) → reply ≡ only (No (past limit.JournalSlot)) → JudgesFull t place which s (Ok reply)
+judged_full t place which refreshes s g reply at is = (record { group = at.here.group; there = at.here.there; is = at.is.fits }, is)

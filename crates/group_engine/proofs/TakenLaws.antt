@@ -66,17 +66,26 @@ use Rattle.stored_tier.specs.declared.clock.TierClock.{TierClock}
 use Rattle.stored_tier.specs.declared.tier.Tier.{Tier as Stored}
 use Rattle.stored_tier.specs.Choosing.{chosen, comes, counted, matches_at}
 use Rattle.stored_tier.specs.Gathering.{coming_in, gathered_in, overflows_in}
-use Rattle.stored_tier.specs.Performing.{IsPerformed, StandsFor, reply_of}
+use Rattle.stored_tier.specs.Performing.{IsPerformedOver, StandsFor, reply_of}
 use Rattle.stored_tier.specs.Sites.{IsAt}
 use Rattle.outside.specs.Sites.{SiteState}
 use Rattle.stored_tier.specs.Stored.{AreKept, AreWhole, HaveOwnNames, IsSound, IsStoredAs, IsVerified, KeepsTime, is_plain, named_where_cached, rows_of, without_list}
-use Rattle.group_engine.specs.Taking.{AsksTree, IsOfTarget, Pairs, IsSameButRoom, IsSameElsewhere, IsSettledAt, Overflows, PerformsWhere, ReadsMatching, TakesIn, TakesMatching}
-use Rattle.stored_tier.proofs.BankLaws.{TellsBehind, behind, call_behind, told_behind}
+use Rattle.group_engine.specs.Taking.{AsksTree, IsOfTarget, Pairs, IsSameButRoom, IsSameElsewhere, IsSettledAt, JudgesFull, Overflows, PerformsWhere, ReadsMatching, TakesIn, TakesMatching}
+use Rattle.stored_tier.proofs.BankLaws.{TellsBehind, behind, behind_at, call_behind, told_behind}
 use Rattle.group_engine.proofs.FlagLaws.{IsChanged, as_loaded, changed_at, flagged_seen, kept_loaded, names_loaded, own_place, plain_loaded, set_beside, set_there, visible_loaded}
 use Rattle.group_engine.proofs.LoadLaws.{filled_shown, has_roots, its_roots, store_has}
 use Rattle.group_engine.proofs.MatchLaws.{HasRoots, all_shown, count_coming, instances_of_keys, matching_is, shown_alike}
 use Rattle.group_engine.proofs.SnapshotLaws.{IsRead, is_read, tree_asked}
-use Rattle.stored_tier.proofs.StandingLaws.{performed_behind, performed_here}
+use Rattle.stored_tier.proofs.StandingLaws.{stands_behind}
+use Rattle.stored_tier.proofs.OverLaws.{keeps_called, keeps_stays}
+use Rattle.group_engine.specs.declared.ready.Ready.{Ready}
+use Rattle.group_engine.specs.Loaded.{IsReadyToLoad}
+use Rattle.group_engine.specs.Ready.{AnswersBehind, IgnoresDisk, IsReadyFor, is_full_ready}
+use Rattle.group_engine.proofs.ReadyLaws.{full_then}
+use Rattle.kept_journal.specs.Drafts.{StaysKept}
+use Rattle.kept_journal.specs.Keeping.{KeepsOver}
+use Rattle.propagators.specs.Certainty.{KeepsCertain}
+use Rattle.tier_journal.specs.declared.journal.TierJournal.{TierJournal}
 use Rattle.group_engine.proofs.TakenParts.{matching_sound, rows_room, stored_room}
 use Rattle.group_engine.proofs.StorePairs.{SameForm, filled_form, form_set, housed_still, kept_still, room_forms, rows_still, whole_still}
 use Rattle.stored_tier.proofs.StoreRows.{are_kept, kept_is_shown, shows_kept}
@@ -84,20 +93,8 @@ use Rattle.stored_tier.proofs.StoreRows.{are_kept, kept_is_shown, shows_kept}
 abbrev Row : Type 0
 Row = List Value
 
--- no journal is kept, so nothing is flushed
-
-flushes_none : (entries : List JournalEntry) (w : World) → w.journal.kept ≡ false → FlushesSome entries w w None
-flushes_none entries w unkept = by (has_entries entries)
-  where
-    flushes : Flushes entries w w None
-    flushes = subst (λ b. MatchBool b (FlushesKept entries w w None) (Passes w w None)) (sym unkept) (refl, refl)
-
-    fitting : FlushesFitting entries w w None
-    fitting = subst (λ b. MatchBool (b && is_full (name_sizes w) w.journal entries) ((w ≡ w) × (None ≡ Some (only (No (past limit.JournalSlot))))) (Flushes entries w w None)) (sym unkept) flushes
-
-    by : (b : Bool) → MatchBool b (FlushesFitting entries w w None) (Passes w w None)
-    by true = fitting
-    by false = (refl, refl)
+never : false ≡ true → ⊥
+never e = cc
 
 -- calls that read, in the worlds
 
@@ -116,21 +113,31 @@ reads_failing : (refreshes : Bool) (x : Target) (w mid : World) (e : BankError) 
 reads_failing true x w mid e call tier = record { result = Err e; mid = mid; call = call; tier = tier; goes_on = (refl, refl) }
 reads_failing false x w mid e call tier = record { result = Err e; mid = mid; call = call; tier = tier; goes_on = (refl, refl) }
 
-pub reads_wanting : (t : Stored) (seen : SiteState) (place : ℕ) (x : Target) (refreshes : Bool) → PerformsWhere (IsSettledAt place x.group) t t seen seen (λ w w'. ReadsMatching refreshes x w w' (faulty code.Memory))
-reads_wanting t seen place x refreshes w at stands apart here =
-    performed_here t seen w (λ w'. ReadsMatching refreshes x w w' (faulty code.Memory)) at stands (reads_failing refreshes x w w Memory (no_call w) refl)
+pub reads_wanting : {D : Type 0} (state : D → SiteState) (possible : D → ℕ → Held → Type 0) (t : Stored) (k k' : Option TierJournal) (d : D) (place : ℕ) (x : Target) (refreshes : Bool) → StaysKept k k' → PerformsWhere (IsSettledAt place x.group) state possible t t k k' d d (Some (faulty code.Memory)) (λ w w'. ReadsMatching refreshes x w w' (faulty code.Memory))
+reads_wanting state possible t k k' d place x refreshes stays w at stands apart keeps here = record {
+  world = w;
+  at = at;
+  is = reads_failing refreshes x w w Memory (no_call w) refl;
+  stands = λ whole. stands;
+  keeps = λ whole. keeps_stays state possible d k k' w stays keeps;
+}
 
 -- the call failed
-pub reads_failed : (t : Stored) (before after : SiteState) (place : ℕ) (x : Target) (refreshes : Bool) (asked : List TableId) (e : BankError) (reply : Reply)
-    → reply ≡ bank_fault e → site.Told before.held after.held (site.BankCall before.shared (TakesSnapshot asked (Err e))) → before.bank_faults ≤ after.bank_faults → before.moment ≤ after.moment → after.shared ≡ before.shared
-    → PerformsWhere (IsSettledAt place x.group) t t before after (λ w w'. ReadsMatching refreshes x w w' reply)
-reads_failed t before after place x refreshes asked e reply is told faults moment shares w at stands apart here =
-    let now = told_behind at.there before.held after.held (site.BankCall before.shared (TakesSnapshot asked (Err e))) at.told told in
-    let call = call_behind w w.tier before after now.there (TakesSnapshot asked (Err e)) at now.is faults moment in
+pub reads_failed : {D : Type 0} (state : D → SiteState) (possible : D → ℕ → Held → Type 0) (t : Stored) (k : Option TierJournal) (d d' : D) (place : ℕ) (x : Target) (refreshes : Bool) (asked : List TableId) (e : BankError) (reply : Reply)
+    → reply ≡ bank_fault e → site.Told (state d).held (state d').held (site.BankCall (state d).shared (TakesSnapshot asked (Err e))) → (state d).bank_faults ≤ (state d').bank_faults → (state d).moment ≤ (state d').moment → (state d').shared ≡ (state d).shared → KeepsCertain state possible d d'
+    → PerformsWhere (IsSettledAt place x.group) state possible t t k k d d' (Some reply) (λ w w'. ReadsMatching refreshes x w w' reply)
+reads_failed state possible t k d d' place x refreshes asked e reply is told faults moment shares certain w at stands apart keeps here =
+    let now = told_behind at.there (state d).held (state d').held (site.BankCall (state d).shared (TakesSnapshot asked (Err e))) at.told told in
+    let call = call_behind w w.tier (state d) (state d') now.there (TakesSnapshot asked (Err e)) at now.is faults moment in
     let stays : StaysShown w (at_history now.there.history w) = around_goes_on w now.there.history stands.stands apart call.history in
-    subst (λ r. IsPerformed t after (λ w'. ReadsMatching refreshes x w w' r)) (sym is)
-    (performed_behind t before after w w.tier now.there (λ w'. ReadsMatching refreshes x w w' (bank_fault e)) at now.told shares stands.unkept stands.waits stands.stored (stands.shows ∙ sym stays.same) stays.stands
-    (reads_failing refreshes x w (behind w w.tier now.there after) e (record { history = call.history; journal = call.journal; faults = call.faults; disk = call.disk; moment = call.moment; shared = call.shared }) refl))
+    subst (λ r. IsPerformedOver state possible t k d' (Some r) (λ w'. ReadsMatching refreshes x w w' r)) (sym is)
+    (record {
+      world = behind w w.tier now.there (state d');
+      at = behind_at w w.tier (state d) (state d') now.there at now.told shares;
+      is = reads_failing refreshes x w (behind w w.tier now.there (state d')) e (record { history = call.history; journal = call.journal; faults = call.faults; disk = call.disk; moment = call.moment; shared = call.shared }) refl;
+      stands = λ whole. record { stored = stands.stored; shows = stands.shows ∙ sym stays.same; stands = stands_behind w w.tier now.there (state d') stays.stands; waits = stands.waits };
+      keeps = λ whole. keeps_called state possible k d d' w (behind w w.tier now.there (state d')) keeps certain refl refl;
+    })
 
 -- the group as the catalog has it
 seen_at_place : (t : Stored) (a : Tier) (place : ℕ) (g seen : Group) → IsStoredAs t a → slice_get a.groups place ≡ Some g → slice_get (groups_in t.catalog) place ≡ Some seen → seen ≡ without_list g
@@ -157,11 +164,11 @@ flag_seen : (more : List Row) (g : Group) → is_writethrough g ≡ true → wit
 flag_seen more g writes = ap (λ b. without_list (cond (b || is_explicit g) (record g { keys = with_keys more g.keys; loaded = true }) (record g { keys = with_keys more g.keys }))) writes
 
 -- The snapshot came.
-module _ (old : Stored) (before after : SiteState) (place : ℕ) (which : ResolvedWhich) (refreshes : Bool) (x : Target) (of : IsOfTarget x place which) (writes : is_writethrough x.group ≡ true) (sound : IsSound old) (asked : List TableId) (asks : AsksTree old place asked) (snapshot : Snapshot)
-    (told : site.Told before.held after.held (site.BankCall before.shared (TakesSnapshot asked (Ok snapshot)))) (faults : before.bank_faults ≤ after.bank_faults) (moment : before.moment ≤ after.moment) (shares : after.shared ≡ before.shared)
-    (w : World) (at : IsAt before w) (stands : StandsFor old w) (apart : IsUnshared w) (here : IsSettledAt place x.group w) where
-  now : TellsBehind at.there after.held (site.BankCall before.shared (TakesSnapshot asked (Ok snapshot)))
-  now = told_behind at.there before.held after.held (site.BankCall before.shared (TakesSnapshot asked (Ok snapshot))) at.told told
+module _ {D : Type 0} (state : D → SiteState) (possible : D → ℕ → Held → Type 0) (old : Stored) (k : Option TierJournal) (d d' : D) (place : ℕ) (which : ResolvedWhich) (refreshes : Bool) (x : Target) (of : IsOfTarget x place which) (writes : is_writethrough x.group ≡ true) (sound : IsSound old) (asked : List TableId) (asks : AsksTree old place asked) (snapshot : Snapshot)
+    (told : site.Told (state d).held (state d').held (site.BankCall (state d).shared (TakesSnapshot asked (Ok snapshot)))) (faults : (state d).bank_faults ≤ (state d').bank_faults) (moment : (state d).moment ≤ (state d').moment) (shares : (state d').shared ≡ (state d).shared)
+    (certain : KeepsCertain state possible d d') (w : World) (at : IsAt (state d) w) (stands : StandsFor old w) (apart : IsUnshared w) (keeps : KeepsOver state possible d k w) (here : IsSettledAt place x.group w) where
+  now : TellsBehind at.there (state d').held (site.BankCall (state d).shared (TakesSnapshot asked (Ok snapshot)))
+  now = told_behind at.there (state d).held (state d').held (site.BankCall (state d).shared (TakesSnapshot asked (Ok snapshot))) at.told told
 
   abbrev n : ℕ
   n = snapshot.position.0
@@ -188,10 +195,10 @@ module _ (old : Stored) (before after : SiteState) (place : ℕ) (which : Resolv
   later = now.there.history
 
   abbrev mid : World
-  mid = behind w w.tier now.there after
+  mid = behind w w.tier now.there (state d')
 
   call : BankCall (TakesSnapshot asked (Ok snapshot)) w mid
-  call = call_behind w w.tier before after now.there (TakesSnapshot asked (Ok snapshot)) at now.is faults moment
+  call = call_behind w w.tier (state d) (state d') now.there (TakesSnapshot asked (Ok snapshot)) at now.is faults moment
 
   reads_call : BankCall (TellsPosition (Ok n)) w mid
   reads_call = record {
@@ -283,41 +290,52 @@ module _ (old : Stored) (before after : SiteState) (place : ℕ) (which : Resolv
   wanted false = record { result = Ok n; mid = mid; call = reads_call; tier = refl; goes_on = inr (refl, refl) }
   wanted true = record { result = Ok n; mid = mid; call = reads_call; tier = refl; goes_on = inr (refl, refl) }
 
+  -- a journal is kept over the call
+  at_mid : IsAt (state d') mid
+  at_mid = behind_at w w.tier (state d) (state d') now.there at now.told shares
+
+  keeps_mid : KeepsOver state possible d' k mid
+  keeps_mid = keeps_called state possible k d d' w mid keeps certain refl refl
+
   -- nothing was taken in
-  left_so : (new : Stored) (reply : Reply) → IsSameButRoom old new → ReadsMatching refreshes x w mid reply → IsPerformed new after (λ w'. ReadsMatching refreshes x w w' reply)
-  left_so new reply same is =
-      performed_behind new before after w w.tier now.there (λ w'. ReadsMatching refreshes x w w' reply) at now.told shares stands.unkept stands.waits
-      (stored_room old new same w.tier stands.stored) (rows_room old new same ∙ stands.shows ∙ sym read.shown) read.stands is
+  left_so : (new : Stored) (reply : Reply) → IsSameButRoom old new → ReadsMatching refreshes x w mid reply → IsPerformedOver state possible new k d' (Some reply) (λ w'. ReadsMatching refreshes x w w' reply)
+  left_so new reply same is = record {
+    world = mid;
+    at = at_mid;
+    is = is;
+    stands = λ whole. record { stored = stored_room old new same w.tier stands.stored; shows = rows_room old new same ∙ stands.shows ∙ sym read.shown; stands = stands_behind w w.tier now.there (state d') read.stands; waits = stands.waits };
+    keeps = λ whole. keeps_mid;
+  }
 
   -- it was
-  module _ (new : Stored) (reply : Reply) (k : TakesIn old new place which refreshes c reply) (sound_new : IsSound new) where
+  module _ (new : Stored) (told_reply : Reply) (took : TakesIn old new place which refreshes c told_reply) (sound_new : IsSound new) where
     abbrev keys : List Row
     keys = x.group.keys
 
-    def_is : k.group.def ≡ x.group.def
-    def_is = ap (λ (g : Group). g.def) (seen_at_place old w.tier place x.group k.group stands.stored here.there k.there)
+    def_is : took.group.def ≡ x.group.def
+    def_is = ap (λ (g : Group). g.def) (seen_at_place old w.tier place x.group took.group stands.stored here.there took.there)
 
-    rows_in : SameButSpare (put_tables 0 (map fm.values (gathered_in c tree k.store which)) k.store) k.filled
-    rows_in = subst (λ (d : GroupDef). SameButSpare (put_tables 0 (map fm.values (gathered_in c d.tree k.store which)) k.store) k.filled) def_is k.rows
+    rows_in : SameButSpare (put_tables 0 (map fm.values (gathered_in c tree took.store which)) took.store) took.filled
+    rows_in = subst (λ (d : GroupDef). SameButSpare (put_tables 0 (map fm.values (gathered_in c d.tree took.store which)) took.store) took.filled) def_is took.rows
 
     roots_v : HasRoots read.v x.group R
-    roots_v = its_roots old w sound stands place x.group here.there writes k.store k.kept later n c read
+    roots_v = its_roots old w sound stands place x.group here.there writes took.store took.kept later n c read
 
-    has : (q r : Row) → fm.get R q ≡ Some r → fm.contains_key (kept_at k.store.tables 0) q ≡ is_key keys q
-    has = store_has old w sound stands place x.group here.there writes k.store k.kept later n c read
+    has : (q r : Row) → fm.get R q ≡ Some r → fm.contains_key (kept_at took.store.tables 0) q ≡ is_key keys q
+    has = store_has old w sound stands place x.group here.there writes took.store took.kept later n c read
 
     abbrev test : Row → Bool
     test q = is_key keys q || fm.contains_key M q
 
-    filled_test : k.filled.tables ≡ shown_of read.v tree test
+    filled_test : took.filled.tables ≡ shown_of read.v tree test
     filled_test =
-        filled_shown old w sound stands place x.group here.there writes k.store k.kept later n c read which k.filled rows_in
-        ∙ shown_alike read.v x.group R roots_v (λ q. is_key keys q || passes (comes which k.store q) (fm.get R q)) test (all_shown R keys k.store which has)
+        filled_shown old w sound stands place x.group here.there writes took.store took.kept later n c read which took.filled rows_in
+        ∙ shown_alike read.v x.group R roots_v (λ q. is_key keys q || passes (comes which took.store q) (fm.get R q)) test (all_shown R keys took.store which has)
 
     matched_n : matching (backing_at mid n) x ≡ M
     matched_n =
         ap (λ (s : TableState). matching s x) backing_is
-        ∙ matching_is read.read x R (has_roots old w sound stands place x.group here.there writes k.store k.kept later n c read read.read read.schema (read.rows root (root_covers x.group))) place which of
+        ∙ matching_is read.read x R (has_roots old w sound stands place x.group here.there writes took.store took.kept later n c read read.read read.schema (read.rows root (root_covers x.group))) place which of
 
     abbrev ended : World
     ended = at_history later w
@@ -346,20 +364,20 @@ module _ (old : Stored) (before after : SiteState) (place : ℕ) (which : Resolv
 
     stored : IsStoredAs new T
     stored = record {
-      schema = stands.stored.schema ∙ sym k.rest.schema;
-      stale = stands.stored.stale ∙ sym k.rest.stale;
+      schema = stands.stored.schema ∙ sym took.rest.schema;
+      stale = stands.stored.stale ∙ sym took.rest.stale;
       groups =
           flagged_seen F as_loaded 0 x.place w.tier.groups (λ i y there e.
           let here_it : i ≡ x.place = omega (arith, e) in
           let same : y ≡ x.group = at_group i y there here_it in
           flag_seen (fm.keys M) y (ap is_writethrough same ∙ writes))
           ∙ ap (λ p. changed_from (alone p) as_loaded 0 (map without_list w.tier.groups)) of.place
-          ∙ ap (changed_from (alone place) as_loaded 0) stands.stored.groups ∙ sym k.groups;
-      sessions = stands.stored.sessions ∙ ap (λ s. map session_seen (seen_all s)) (sym k.rest.sessions);
-      unsettled = stands.stored.unsettled ∙ sym (λ i. (k.rest.unsettled i).items);
-      next = stands.stored.next ∙ sym k.rest.next;
+          ∙ ap (changed_from (alone place) as_loaded 0) stands.stored.groups ∙ sym took.groups;
+      sessions = stands.stored.sessions ∙ ap (λ s. map session_seen (seen_all s)) (sym took.rest.sessions);
+      unsettled = stands.stored.unsettled ∙ sym (λ i. (took.rest.unsettled i).items);
+      next = stands.stored.next ∙ sym took.rest.next;
       doubt = stands.stored.doubt;
-      time = subst (λ (t : TierClock). KeepsTime t w.tier.now w.tier.added w.tier.round w.tier.sets w.tier.settings) (sym k.rest.clock) stands.stored.time;
+      time = subst (λ (t : TierClock). KeepsTime t w.tier.now w.tier.added w.tier.round w.tier.sets w.tier.settings) (sym took.rest.clock) stands.stored.time;
     }
 
     keep : (j : ℕ) (g : Group) (s : Kept) (u : TableId) (p : ℕ) → slice_get T.groups j ≡ Some g → slice_get new.stores.items j ≡ Some s → place_of g.def.tree u ≡ Some p → kept_at s.tables p ≡ table_at (shown_state later T) u
@@ -368,15 +386,15 @@ module _ (old : Stored) (before after : SiteState) (place : ℕ) (which : Resolv
         r : IsChanged F x.place w.tier.groups j g
         r = changed_at F x.place w.tier.groups j g e
 
-        kept_set : slice_get (slice_set old.stores.items place k.filled) j ≡ Some s
-        kept_set = ap (λ l. slice_get l j) (sym k.stores) ∙ kept
+        kept_set : slice_get (slice_set old.stores.items place took.filled) j ≡ Some s
+        kept_set = ap (λ l. slice_get l j) (sym took.stores) ∙ kept
 
         its : j ≡ x.place → nat_eq j x.place ≡ true → kept_at s.tables p ≡ table_at (shown_state later T) u
         its here_it b =
             let same : r.group ≡ x.group = at_group j r.group r.there here_it in
             let def : g.def ≡ x.group.def = ap (λ (y : Group). y.def) (r.is ∙ ap (λ b. cond b (F r.group) r.group) b) ∙ flag_def (fm.keys M) r.group ∙ ap (λ (y : Group). y.def) same in
             let there : place_of tree u ≡ Some p = ap (λ (d : GroupDef). place_of d.tree u) (sym def) ∙ placed in
-            let put : s ≡ k.filled = set_there old.stores.items place k.filled s (ap (slice_get (slice_set old.stores.items place k.filled)) (sym (here_it ∙ of.place)) ∙ kept_set) in
+            let put : s ≡ took.filled = set_there old.stores.items place took.filled s (ap (slice_get (slice_set old.stores.items place took.filled)) (sym (here_it ∙ of.place)) ∙ kept_set) in
             ap (λ (z : Kept). kept_at z.tables p) put
             ∙ ap (λ ts. kept_at ts p) (filled_test ∙ sym (instances_of_keys read.v x.group R roots_v test))
             ∙ sym (shows_keys.its read.v u p read.known.v_is there)
@@ -393,7 +411,7 @@ module _ (old : Stored) (before after : SiteState) (place : ℕ) (which : Resolv
             let same : g ≡ r.group = r.is ∙ ap (λ b. cond b (F r.group) r.group) other in
             let there : place_of r.group.def.tree u ≡ Some p = ap (λ (y : Group). place_of y.def.tree u) (sym same) ∙ placed in
             let apart_it : j ≡ place → ⊥ = (λ e. let yes : nat_eq j x.place ≡ true = eq-eqb j x.place (e ∙ sym of.place) in cc) in
-            kept_is_shown old w sound stands j r.group s u p r.there (set_beside old.stores.items place j k.filled s apart_it kept_set) there
+            kept_is_shown old w sound stands j r.group s u p r.there (set_beside old.stores.items place j took.filled s apart_it kept_set) there
             ∙ ap (λ (z : TableState). table_at z u) (sym read.shown)
             ∙ sym (shows_keys.others u (off other (covers u x.group) refl (ap is_some there)))
 
@@ -402,64 +420,112 @@ module _ (old : Stored) (before after : SiteState) (place : ℕ) (which : Resolv
         by false b = beside b
 
     shown_rows : rows_of new ≡ shown_state later T
-    shown_rows = shows_kept new (with_tier T ended) (stands.stored.schema ∙ sym k.rest.schema) (are_kept new T sound_new stored) keep
+    shown_rows = shows_kept new (with_tier T ended) (stands.stored.schema ∙ sym took.rest.schema) (are_kept new T sound_new stored) keep
 
-    abbrev done_at : World
-    done_at = behind w T now.there after
+    stands_done : StandsFor new (with_tier T mid)
+    stands_done = record { stored = stored; shows = shown_rows; stands = stands_behind w T now.there (state d') shows_keys.stands; waits = stands.waits }
 
-    settles : (answer : World → Answer) → (answer mid).0 ≡ T → reply ≡ (answer mid).1 → Settles x answer mid done_at reply
-    settles answer tier told = record {
-      mid = mid;
-      stop = None;
-      first = flushes_none (load_entries x.group) mid stands.unkept;
-      next = (ap (λ (t : Tier). record mid { tier = t }) (sym tier), told);
-    }
+    coming_is : coming_in c took.group.def.tree took.store which ≡ chosen (comes which took.store) R
+    coming_is = ap (λ (d : GroupDef). coming_in c d.tree took.store which) def_is ∙ ap (chosen (comes which took.store)) copied_roots
 
-    coming_is : coming_in c k.group.def.tree k.store which ≡ chosen (comes which k.store) R
-    coming_is = ap (λ (d : GroupDef). coming_in c d.tree k.store which) def_is ∙ ap (chosen (comes which k.store)) copied_roots
-
-    roots_are : table_at c k.group.def.tree.root.table ≡ R
+    roots_are : table_at c took.group.def.tree.root.table ≡ R
     roots_are = ap (λ (d : GroupDef). table_at c d.tree.root.table) def_is ∙ copied_roots
-
-    adds : refreshes ≡ false → Settles x (added_answer x n) mid done_at reply
-    adds e = settles (added_answer x n) (ap (tier_with w x) matched_n)
-        (k.count
-        ∙ ap (λ b. only (Done (counted b which (table_at c k.group.def.tree.root.table) (coming_in c k.group.def.tree k.store which)))) e
-        ∙ ap (λ m. only (Done (fm.len m))) coming_is
-        ∙ ap (λ l. only (Done l)) (sym (count_coming R keys k.store which has))
-        ∙ ap (λ m. only (Done (length (new_keys x m)))) (sym matched_n))
 
     refreshed_is : refreshed_answer x n mid ≡ (tier_with w x (matching (backing_at mid n) x), only (Done (fm.len (matching (backing_at mid n) x))))
     refreshed_is = ap (λ b. cond {A = Answer} b (tier_with w x (matching (backing_at mid n) x), only (Done (fm.len (matching (backing_at mid n) x)))) (changed (alone x.place) (with_flag true) w.tier, only (Done (fm.len (held_roots x (matching (backing_at mid n) x)))))) explicit
 
-    refreshes_so : refreshes ≡ true → Settles x (refreshed_answer x n) mid done_at reply
-    refreshes_so e = settles (refreshed_answer x n) (ap (λ (a : Answer). a.0) refreshed_is ∙ ap (tier_with w x) matched_n)
-        (k.count
-        ∙ ap (λ b. only (Done (counted b which (table_at c k.group.def.tree.root.table) (coming_in c k.group.def.tree k.store which)))) e
+    fits : overflows_in c tree which ≡ false
+    fits = ap (λ (y : GroupDef). overflows_in c y.tree which) (sym def_is) ∙ took.fits
+
+    adds : refreshes ≡ false → told_reply ≡ (added_answer x n mid).1
+    adds e =
+        took.count
+        ∙ ap (λ b. only (Done (counted b which (table_at c took.group.def.tree.root.table) (coming_in c took.group.def.tree took.store which)))) e
+        ∙ ap (λ m. only (Done (fm.len m))) coming_is
+        ∙ ap (λ l. only (Done l)) (sym (count_coming R keys took.store which has))
+        ∙ ap (λ m. only (Done (length (new_keys x m)))) (sym matched_n)
+
+    refreshes_so : refreshes ≡ true → told_reply ≡ (refreshed_answer x n mid).1
+    refreshes_so e =
+        took.count
+        ∙ ap (λ b. only (Done (counted b which (table_at c took.group.def.tree.root.table) (coming_in c took.group.def.tree took.store which)))) e
         ∙ ap (λ m. only (Done (fm.len (chosen (matches_at which) m)))) roots_are
         ∙ ap (λ m. only (Done (fm.len m))) (sym matched_n)
-        ∙ sym (ap (λ (a : Answer). a.1) refreshed_is))
+        ∙ sym (ap (λ (a : Answer). a.1) refreshed_is)
 
-    fits : overflows_in c tree which ≡ false
-    fits = ap (λ (d : GroupDef). overflows_in c d.tree which) (sym def_is) ∙ k.fits
+    module _ (k' : Option TierJournal) (last : D) (ready : Ready) (of_ready : IsReadyFor w.tier.schema k ready (load_entries x.group)) (reply : Reply) (answers : AnswersBehind state possible k k' d' last ready told_reply reply) where
+      settles : (answer : World → Answer) → IgnoresDisk answer mid → (answer mid).0 ≡ T → told_reply ≡ (answer mid).1 → IsPerformedOver state possible new k' last (Some reply) (λ w'. Settles x answer mid w' reply)
+      settles answer ignores tier said =
+          answers new mid (load_entries x.group) answer at_mid keeps_mid of_ready (subst (λ (t : Tier). StandsFor new (with_tier t mid)) (sym tier) stands_done) (ap (λ (t : Tier). t.schema) tier) ignores said
 
-    took : IsPerformed new after (λ w'. ReadsMatching refreshes x w w' reply)
-    took = performed_behind new before after w T now.there (λ w'. ReadsMatching refreshes x w w' reply) at now.told shares stands.unkept stands.waits stored shown_rows shows_keys.stands
-        (went_on refreshes done_at reply fits adds refreshes_so)
 
-  -- whatever came of it
-  pub read_so : (new : Stored) (result : Result Reply Refused) → IsSound new → TakesMatching old new place which refreshes c result → IsPerformed new after (λ w'. ReadsMatching refreshes x w w' (reply_of result))
-  read_so new (Ok reply) sound_new k = took new reply k sound_new
-  read_so new (Err (refused.Rule rule)) sound_new k =
-      let def : k.1.group.def ≡ x.group.def = ap (λ (g : Group). g.def) (seen_at_place old w.tier place x.group k.1.group stands.stored here.there k.1.there) in
-      left_so new (only (No rule)) k.0 (overflowed refreshes rule (ap (λ (d : GroupDef). overflows_in c d.tree which) (sym def) ∙ k.1.is) k.2)
-  read_so new (Err refused.Memory) sound_new k = left_so new (faulty code.Memory) k (wanted refreshes)
+      took_by : (b : Bool) → refreshes ≡ b → IsPerformedOver state possible new k' last (Some reply) (λ w'. ReadsMatching b x w w' reply)
+      took_by false e =
+          let p = settles (added_answer x n) (λ j faults moment. refl) (ap (tier_with w x) matched_n) (adds e) in
+          record { world = p.world; at = p.at; is = went_on false p.world reply fits (λ same. p.is) (λ same. absurd (never same)); stands = p.stands; keeps = p.keeps }
+      took_by true e =
+          let p = settles (refreshed_answer x n) (λ j faults moment. refl) (ap (λ (a : Answer). a.0) refreshed_is ∙ ap (tier_with w x) matched_n) (refreshes_so e) in
+          record { world = p.world; at = p.at; is = went_on true p.world reply fits (λ same. absurd (never (sym same))) (λ same. p.is); stands = p.stands; keeps = p.keeps }
 
-pub read_all : (old new : Stored) (before after : SiteState) (place : ℕ) (which : ResolvedWhich) (refreshes : Bool) (asked : List TableId) (snapshot : Snapshot) (tables : TableState) (result : Result Reply Refused) → IsSound old → AsksTree old place asked → tables ≡ snapshot.tables
-    → site.Told before.held after.held (site.BankCall before.shared (TakesSnapshot asked (Ok snapshot))) → before.bank_faults ≤ after.bank_faults → before.moment ≤ after.moment → after.shared ≡ before.shared
-    → TakesMatching old new place which refreshes tables result
-    → (x : Target) → IsOfTarget x place which → is_writethrough x.group ≡ true → PerformsWhere (IsSettledAt place x.group) old new before after (λ w w'. ReadsMatching refreshes x w w' (reply_of result))
-read_all old new before after place which refreshes asked snapshot tables result sound asks same told faults moment shares k x of writes w at stands apart here =
-    let took = subst (λ s. TakesMatching old new place which refreshes s result) same k in
-    read_so old before after place which refreshes x of writes sound asked asks snapshot told faults moment shares w at stands apart here new result
-    (matching_sound old new place which refreshes snapshot.tables result sound took) took
+      pub took_so : IsPerformedOver state possible new k' last (Some reply) (λ w'. ReadsMatching refreshes x w w' reply)
+      took_so = took_by refreshes refl
+
+  -- nothing was taken in, by a rule or for want of memory
+  pub refused_so : (new : Stored) (e : Refused) → TakesMatching old new place which refreshes c (Err e) → IsPerformedOver state possible new k d' (Some (reply_of (Err e))) (λ w'. ReadsMatching refreshes x w w' (reply_of (Err e)))
+  refused_so new (refused.Rule rule) took =
+      let def : took.1.group.def ≡ x.group.def = ap (λ (g : Group). g.def) (seen_at_place old w.tier place x.group took.1.group stands.stored here.there took.1.there) in
+      left_so new (only (No rule)) took.0 (overflowed refreshes rule (ap (λ (y : GroupDef). overflows_in c y.tree which) (sym def) ∙ took.1.is) took.2)
+  refused_so new refused.Memory took = left_so new (faulty code.Memory) took (wanted refreshes)
+
+  -- 119 of the journal, or 120 before it
+  module _ (ready : Ready) (of_ready : IsReadyFor w.tier.schema k ready (load_entries x.group)) (full : is_full_ready ready ≡ true) where
+    full_settles : (answer : World → Answer) (reply : Reply) → reply ≡ only (No (past limit.JournalSlot)) → Settles x answer mid mid reply
+    full_settles answer reply is = full_then state possible k d' mid ready (load_entries x.group) (Answers answer) reply keeps_mid of_ready full is
+
+    still_so : (reply : Reply) → ReadsMatching refreshes x w mid reply → IsPerformedOver state possible old k d' (Some reply) (λ w'. ReadsMatching refreshes x w w' reply)
+    still_so reply is = record {
+      world = mid;
+      at = at_mid;
+      is = is;
+      stands = λ whole. record { stored = stands.stored; shows = stands.shows ∙ sym read.shown; stands = stands_behind w w.tier now.there (state d') read.stands; waits = stands.waits };
+      keeps = λ whole. keeps_mid;
+    }
+
+    pub full_so : (result : Result Reply Refused) → JudgesFull old place which c result → IsPerformedOver state possible old k d' (Some (reply_of result)) (λ w'. ReadsMatching refreshes x w w' (reply_of result))
+    full_so (Ok reply) judged =
+        let def : judged.0.group.def ≡ x.group.def = ap (λ (g : Group). g.def) (seen_at_place old w.tier place x.group judged.0.group stands.stored here.there judged.0.there) in
+        still_so reply (went_on refreshes mid reply (ap (λ (y : GroupDef). overflows_in c y.tree which) (sym def) ∙ judged.0.is) (λ e. full_settles (added_answer x n) reply judged.1) (λ e. full_settles (refreshed_answer x n) reply judged.1))
+    full_so (Err (refused.Rule rule)) judged =
+        let def : judged.0.group.def ≡ x.group.def = ap (λ (g : Group). g.def) (seen_at_place old w.tier place x.group judged.0.group stands.stored here.there judged.0.there) in
+        still_so (only (No rule)) (overflowed refreshes rule (ap (λ (y : GroupDef). overflows_in c y.tree which) (sym def) ∙ judged.0.is) judged.1)
+    full_so (Err refused.Memory) judged = still_so (faulty code.Memory) (wanted refreshes)
+
+-- what was made ready for the group, in the worlds
+ready_for : (t : Stored) (w : World) (k : Option TierJournal) (place : ℕ) (g : Group) (ready : Ready) → StandsFor t w → IsReadyToLoad (groups_in t.catalog) k place ready → slice_get w.tier.groups place ≡ Some g → IsReadyFor w.tier.schema k ready (load_entries g)
+ready_for t w k place g ready stands of there = of w.tier.schema (without_list g) (ap (λ gs. slice_get gs place) (sym stands.stored.groups) ∙ slice_get_map without_list w.tier.groups place g there)
+
+module _ {D : Type 0} (state : D → SiteState) (possible : D → ℕ → Held → Type 0) (old : Stored) (k : Option TierJournal) (d d' : D) (place : ℕ) (which : ResolvedWhich) (refreshes : Bool) (asked : List TableId) (snapshot : Snapshot) (sound : IsSound old) (asks : AsksTree old place asked)
+    (told : site.Told (state d).held (state d').held (site.BankCall (state d).shared (TakesSnapshot asked (Ok snapshot)))) (faults : (state d).bank_faults ≤ (state d').bank_faults) (moment : (state d).moment ≤ (state d').moment) (shares : (state d').shared ≡ (state d).shared) (certain : KeepsCertain state possible d d') (x : Target) (of : IsOfTarget x place which) (writes : is_writethrough x.group ≡ true) where
+  pub read_all : (new : Stored) (k' : Option TierJournal) (last : D) (ready : Ready) (said reply : Reply) → IsReadyToLoad (groups_in old.catalog) k place ready → TakesMatching old new place which refreshes snapshot.tables (Ok said) → AnswersBehind state possible k k' d' last ready said reply
+      → PerformsWhere (IsSettledAt place x.group) state possible old new k k' d last (Some reply) (λ w w'. ReadsMatching refreshes x w w' reply)
+  read_all new k' last ready said reply is_ready took answers w at stands apart keeps here =
+      took_so state possible old k d d' place which refreshes x of writes sound asked asks snapshot told faults moment shares certain w at stands apart keeps here new said took
+      (matching_sound old new place which refreshes snapshot.tables (Ok said) sound took) k' last ready (ready_for old w k place x.group ready stands is_ready here.there) reply answers
+
+  pub read_refused : (new : Stored) (e : Refused) → TakesMatching old new place which refreshes snapshot.tables (Err e) → PerformsWhere (IsSettledAt place x.group) state possible old new k k d d' (Some (reply_of (Err e))) (λ w w'. ReadsMatching refreshes x w w' (reply_of (Err e)))
+  read_refused new e took w at stands apart keeps here =
+      refused_so state possible old k d d' place which refreshes x of writes sound asked asks snapshot told faults moment shares certain w at stands apart keeps here new e took
+
+  pub read_full : (ready : Ready) (result : Result Reply Refused) → IsReadyToLoad (groups_in old.catalog) k place ready → is_full_ready ready ≡ true → JudgesFull old place which snapshot.tables result
+      → PerformsWhere (IsSettledAt place x.group) state possible old old k k d d' (Some (reply_of result)) (λ w w'. ReadsMatching refreshes x w w' (reply_of result))
+  read_full ready result is_ready full judged w at stands apart keeps here =
+      full_so state possible old k d d' place which refreshes x of writes sound asked asks snapshot told faults moment shares certain w at stands apart keeps here ready (ready_for old w k place x.group ready stands is_ready here.there) full result judged
+
+-- with what was made ready
+pub reads_moved : {D : Type 0} (state : D → SiteState) (possible : D → ℕ → Held → Type 0) (old new : Stored) (k mid k' : Option TierJournal) (d d' : D) (place : ℕ) (g : Group) (stop : Option Reply) (does : World → World → Type 0) → StaysKept k mid → PerformsWhere (IsSettledAt place g) state possible old new mid k' d d' stop does → PerformsWhere (IsSettledAt place g) state possible old new k k' d d' stop does
+reads_moved state possible old new k mid k' d d' place g stop does stays performs w at stands apart keeps here = performs w at stands apart (keeps_stays state possible d k mid w stays keeps) here
+
+pub reads_not_ready : {D : Type 0} (state : D → SiteState) (possible : D → ℕ → Held → Type 0) (t : Stored) (k k' : Option TierJournal) (d : D) (place : ℕ) (x : Target) (refreshes : Bool) (e : Refused) → StaysKept k k' → e ≡ refused.Memory
+    → PerformsWhere (IsSettledAt place x.group) state possible t t k k' d d (Some (reply_of (Err e))) (λ w w'. ReadsMatching refreshes x w w' (reply_of (Err e)))
+reads_not_ready state possible t k k' d place x refreshes e stays is =
+    subst (λ r. PerformsWhere (IsSettledAt place x.group) state possible t t k k' d d (Some (reply_of (Err r))) (λ w w'. ReadsMatching refreshes x w w' (reply_of (Err r)))) (sym is) (reads_wanting state possible t k k' d place x refreshes stays)

@@ -165,7 +165,6 @@ stands_entered t c w same moments x = record {
   };
   shows = x.shows;
   stands = x.stands;
-  unkept = x.unkept;
   waits = x.waits;
 }
 
@@ -185,7 +184,6 @@ stands_noted t c w interval same sets has x = record {
   });
   shows = x.shows;
   stands = stands_tried w (refresh_tried interval w.tier).sets x.stands;
-  unkept = x.unkept;
   waits = x.waits;
 }
 

@@ -27,12 +27,15 @@ use Rattle.cache_tier.specs.TierStates.{Session, Tier}
 use Rattle.group_engine.specs.declared.aiming.Aim.{Aim}
 use Rattle.stored_tier.specs.declared.tier.Tier.{Tier as Stored}
 use Rattle.group_engine.specs.Aiming.{AimsBy, which_fault}
-use Rattle.stored_tier.specs.Performing.{Executes, PerformsIn}
+use Rattle.stored_tier.specs.Performing.{Executes, PerformsInOver}
 use Rattle.outside.specs.Sites.{SiteState}
 use Rattle.stored_tier.specs.Stored.{HasSession, IsSound, IsStoredAs}
 use Rattle.group_engine.specs.Unloading.{AimsUnload, AimsUnloadIn, FindsUnload, unload_state}
 use Rattle.group_engine.proofs.AimLaws.{IsUnlisted, unlisted}
-use Rattle.group_engine.proofs.CalmLaws.{NumberLaw, own_here, refused_by, wanting_still}
+use Rattle.group_engine.proofs.CalmLaws.{NumberLaw, own_here}
+use Rattle.group_engine.proofs.ReadyLaws.{kept_here, refused_over, wanting_over}
+use Rattle.tier_journal.specs.declared.journal.TierJournal.{TierJournal}
+use Rattle.outside.specs.Holding.{Held}
 use Rattle.group_engine.proofs.DropLocks.{place_stored}
 
 of_none : (a : Tier) (name : List ℕ) (broken : Group → Broken) → place_called a.groups name ≡ None → first_broken (of_group a name broken) ≡ Some (named code.UnknownGroup name)
@@ -131,6 +134,6 @@ unload_aimed law t a s id u place seen def own read_only result sound is has fou
     (subst (λ r. AimsBy r u.which (unload_state u.which s.own g.group) place read_only result) root
     (subst (λ st. AimsBy (Some def) u.which st place read_only result) state by))
 
-pub not_aimed : (t : Stored) (site : SiteState) (id : SessionId) (u : OfGroup) (e : Refused) → AimsUnloadIn t id u (Err e) → PerformsIn t t site site id (Executes (statement.Unload u)) (Err e)
-not_aimed t site id u (refused.Rule rule) aims = refused_by t site id (statement.Unload u) rule (λ s w has is. aims w.tier s is has)
-not_aimed t site id u refused.Memory aims = wanting_still t t site id (statement.Unload u) (λ w stands. stands)
+pub not_aimed : {D : Type 0} (state : D → SiteState) (possible : D → ℕ → Held → Type 0) (t : Stored) (k : Option TierJournal) (d : D) (id : SessionId) (u : OfGroup) (e : Refused) → AimsUnloadIn t id u (Err e) → PerformsInOver state possible t t k k d d id (Executes (statement.Unload u)) (Err e)
+not_aimed state possible t k d id u (refused.Rule rule) aims = refused_over state possible t k d id (statement.Unload u) rule (λ s w has is. aims w.tier s is has)
+not_aimed state possible t k d id u refused.Memory aims = wanting_over state possible t t k k d id (statement.Unload u) (kept_here k) (λ w stands. stands)

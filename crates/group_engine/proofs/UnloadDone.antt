@@ -1,5 +1,5 @@
 -- UNLOAD of a writethrough group over what is stored.
-use Rattle.std.proofs.Common.{◌≡◌, ◌+◌, ℕ, suc, Bool, true, false, not, cond, ◌&&◌, ◌||◌, Some, None, Result, Ok, List, [], ◌∷◌, length, map, set, slice_get, unwrap_or, arith, refl, sym, ap, subst, ◌∙◌, inl, inr}
+use Rattle.std.proofs.Common.{◌≡◌, ◌+◌, ℕ, suc, Bool, true, false, not, cond, ◌&&◌, ◌||◌, Option, Some, None, Result, Ok, Err, List, [], ◌∷◌, length, map, set, slice_get, unwrap_or, arith, refl, sym, ap, subst, ◌∙◌, inl, inr}
 use Rattle.std.specs.Option.{option_map}
 use Rattle.std.specs.FinMap as fm
 use Rattle.row_types.specs.declared.value.Value.{Value}
@@ -23,7 +23,7 @@ use Rattle.group_store.specs.Trees.{keep, leads}
 use Rattle.order_laws.specs.Commits.{RiseBetween}
 use Rattle.order_laws.proofs.TruthLaws.{never_both}
 use Rattle.tier_statements.specs.Seen.{session_seen}
-use Rattle.cache_tier.specs.declared.reply.Last.TheVariants.{Done}
+use Rattle.cache_tier.specs.declared.reply.Last.TheVariants.{Done, No}
 use Rattle.cache_tier.specs.declared.reply.Reply.{Reply}
 use Rattle.cache_tier.specs.Conditions.{asks_all}
 use Rattle.cache_tier.specs.Groups.{Group, definitions_of, is_explicit, is_key, is_read_only, is_writethrough, without_keys}
@@ -35,7 +35,7 @@ use Rattle.cache_tier.specs.Steps.{DoesStatement}
 use Rattle.cache_tier.specs.Targets.{Target}
 use Rattle.cache_tier.specs.TierStates.{Session}
 use Rattle.cache_tier.specs.UnloadSteps.{Unloads, gone_keys, matching_shown, unload_answer, unload_entries, unload_fault, unloaded}
-use Rattle.cache_tier.specs.Worlds.{Then, Tries, Unless, World, only}
+use Rattle.cache_tier.specs.Worlds.{Then, Tries, Unless, World, faulty, only}
 use Rattle.cache_tier.specs.Events.{with_tier}
 use Rattle.cache_tier.specs.Loading.{ShowsKeys}
 use Rattle.cache_tier.specs.StandingBetween.{Stands}
@@ -44,18 +44,26 @@ use Rattle.group_engine.specs.declared.aiming.Aim.{Aim}
 use Rattle.stored_tier.proofs.WriterLaws.{writers_same}
 use Rattle.stored_tier.specs.declared.tier.Tier.{Tier as Stored}
 use Rattle.stored_tier.specs.Grouping.{SameTree}
-use Rattle.stored_tier.specs.Performing.{Executes, PerformsIn, StandsFor, reply_of}
+use Rattle.stored_tier.specs.Performing.{Executes, PerformsInOver, StandsFor, reply_of}
 use Rattle.outside.specs.Sites.{SiteState}
 use Rattle.stored_tier.proofs.LaterLaws.{later_by}
 use Rattle.stored_tier.specs.Stored.{AreKept, AreWhole, HasSession, IsSound, IsStoredAs, are_later, named_where_cached, without_list}
 use Rattle.group_engine.specs.Taking.{IsOfTarget}
-use Rattle.group_engine.specs.Unloading.{AimsUnloadIn, FindsUnload, IsClearedAt, IsClearedGroup, IsCutBy, IsCutAt, IsCutGroup, LeavesGroup, UnloadsHere, UnloadsTarget, cut_all, flagged, leaving}
+use Rattle.group_engine.specs.Unloading.{AimsUnloadIn, FindsUnload, IsClearedAt, IsClearedGroup, IsCutBy, IsCutAt, IsCutGroup, LeavesGroup, UnloadsHere, UnloadsReady, UnloadsTarget, cut_all, flagged, leaving}
 use Rattle.group_engine.specs.UnloadLocks.{UnloadTold}
-use Rattle.group_engine.proofs.CalmLaws.{flushes_none}
+use Rattle.group_engine.specs.declared.ready.Ready.{Ready}
+use Rattle.group_engine.specs.Ready.{AnswersBehind, is_full_ready}
+use Rattle.group_engine.proofs.ReadyLaws.{full_then}
+use Rattle.table_defs.specs.Declarations.{IsRefusedBy}
+use Rattle.tier_base.specs.declared.limit.Limit.TheVariants as limit
+use Rattle.cache_tier.specs.Rules.{past}
+use Rattle.tier_journal.specs.declared.journal.TierJournal.{TierJournal}
+use Rattle.outside.specs.Holding.{Held}
+use Rattle.stored_tier.specs.Grouping.{KeepsGroups}
 use Rattle.group_engine.proofs.DropLocks.{group_stored}
 use Rattle.group_engine.proofs.DroppingLaws.{session_there}
 use Rattle.group_engine.proofs.FlagLaws.{flagged_seen}
-use Rattle.group_engine.proofs.GroupComes.{time_kept}
+use Rattle.group_engine.proofs.GroupComes.{stands_kept, time_kept}
 use Rattle.stored_tier.proofs.SoundParts.{all_plain, changed_defs, named_by, visible_by}
 use Rattle.stored_tier.proofs.StoreChanges.{form_kept, get_here, get_there, housed_set, kept_defined, kept_set, shows_changed}
 use Rattle.stored_tier.proofs.StoreRows.{form_at, form_here}
@@ -229,46 +237,81 @@ module _ (law : UnloadLaw) (drops : (state : TableState) (tree : Tree) → Keeps
       others = behind.others;
     });
     stands = behind.stands;
-    unkept = stands.unkept;
     waits = stands.waits;
   }
 
-  pub unloads : UnloadsTarget s x all w (with_tier (unload_answer x all w).0 w) (only (Done n))
-  unloads = subst (λ o. Unless o (Then (FlushesSome (unload_entries all x.group)) (Answers (unload_answer x all))) w (with_tier (unload_answer x all w).0 w) (only (Done n))) (sym free) then
-    where
-      then : Then (FlushesSome (unload_entries all x.group)) (Answers (unload_answer x all)) w (with_tier (unload_answer x all w).0 w) (only (Done n))
-      then = record { mid = w; stop = None; first = flushes_none w (unload_entries all x.group) stands.unkept; next = (refl, ap (λ m. only (Done m)) count) }
+  pub counted : (reply : Reply) → reply ≡ only (Done n) → reply ≡ (unload_answer x all w).1
+  counted reply is = is ∙ ap (λ m. only (Done m)) count
 
 -- and the statement
 
 writes_through : (g : Group) (b : Bool) → is_read_only g ≡ b → b ≡ false → is_writethrough g ≡ true
 writes_through g b is no_one = ap not (is ∙ no_one)
 
-pub unloaded_here : UnloadLaw → ((state : TableState) (tree : Tree) → KeepsOthers state tree) → (t mid new : Stored) (site : SiteState) (id : SessionId) (aim : Aim) (all : Bool) (n : ℕ) → UnloadTold t id aim (Ok tt) → mid ≡ record t { verified = mid.verified } → IsSound mid → aim.read_only ≡ false → IsCutGroup mid new aim all n
-    → UnloadsHere t new site id aim all (only (Done n))
-unloaded_here law drops t mid new site id aim all n told same sound kind cut = λ s w x has rests asks at stands there kinds of. (
-    let writes : is_writethrough x.group ≡ true = writes_through x.group aim.read_only kinds kind in
-    let free : unload_fault s x w ≡ None = told s w x has stands there writes of in
-    let had = session_over t mid id s same has in
-    let stood = stands_over t mid w same stands in
-    record {
-      world = with_tier (unload_answer x all w).0 w;
-      at = record { there = at.there; told = at.told; history = at.history; faults = at.faults; moment = at.moment; shared = at.shared };
-      stands = stands_left law drops mid new id aim all n sound cut s w x had rests free stood there writes of;
-      is = inl (unloads law drops mid new id aim all n sound cut s w x had rests free stood there writes of);
-    })
+unload_so : (s : Session) (x : Target) (all : Bool) (w w' : World) (reply : Reply) → unload_fault s x w ≡ None → Then (FlushesSome (unload_entries all x.group)) (Answers (unload_answer x all)) w w' reply → UnloadsTarget s x all w w' reply
+unload_so s x all w w' reply free then = subst (λ o. Unless o (Then (FlushesSome (unload_entries all x.group)) (Answers (unload_answer x all))) w w' reply) (sym free) then
+
+module _ {D : Type 0} (state : D → SiteState) (possible : D → ℕ → Held → Type 0) where
+  pub unloaded_here : UnloadLaw → ((state : TableState) (tree : Tree) → KeepsOthers state tree) → (t mid new : Stored) (k k' : Option TierJournal) (d d' : D) (ready : Ready) (id : SessionId) (aim : Aim) (all : Bool) (n : ℕ) (said reply : Reply) → UnloadTold t id aim (Ok tt) → mid ≡ record t { verified = mid.verified } → IsSound mid → aim.read_only ≡ false
+      → IsCutGroup mid new aim all n → AnswersBehind state possible k k' d d' ready said reply → said ≡ only (Done n) → UnloadsReady state possible t new k k' d d' ready id aim all reply
+  unloaded_here law drops t mid new k k' d d' ready id aim all n said reply told same sound kind cut answers is = λ s w x has rests asks at stands keeps ready_for there kinds of.
+      let writes : is_writethrough x.group ≡ true = writes_through x.group aim.read_only kinds kind in
+      let free : unload_fault s x w ≡ None = told s w x has stands there writes of in
+      let had = session_over t mid id s same has in
+      let stood = stands_over t mid w same stands in
+      let p = answers new w (unload_entries all x.group) (unload_answer x all) at keeps ready_for (stands_left law drops mid new id aim all n sound cut s w x had rests free stood there writes of) refl (λ j faults moment. refl)
+      (counted law drops mid new id aim all n sound cut s w x had rests free stood there writes of said is) in
+      record { world = p.world; at = p.at; is = inl (unload_so s x all w p.world reply free p.is); stands = p.stands; keeps = p.keeps }
+
+  -- 119 of the journal
+  pub unload_full : (t mid : Stored) (k : Option TierJournal) (d : D) (ready : Ready) (id : SessionId) (aim : Aim) (all : Bool) (reply : Reply) → UnloadTold t id aim (Ok tt) → mid ≡ record t { verified = mid.verified } → aim.read_only ≡ false → is_full_ready ready ≡ true → reply ≡ only (No (past limit.JournalSlot))
+      → UnloadsReady state possible t mid k k d d ready id aim all reply
+  unload_full t mid k d ready id aim all reply told same kind full is = λ s w x has rests asks at stands keeps ready_for there kinds of.
+      let free : unload_fault s x w ≡ None = told s w x has stands there (writes_through x.group aim.read_only kinds kind) of in
+      record {
+        world = w;
+        at = at;
+        is = inl (unload_so s x all w w reply free (full_then state possible k d w ready (unload_entries all x.group) (Answers (unload_answer x all)) reply keeps ready_for full is));
+        stands = λ whole. stands_over t mid w same stands;
+        keeps = λ whole. keeps;
+      }
+
+  -- 120, then 111, or memory was wanting
+  pub unload_refused : (t mid : Stored) (k : Option TierJournal) (d : D) (ready : Ready) (id : SessionId) (aim : Aim) (all : Bool) (e : Refused) → UnloadTold t id aim (Err e) → mid ≡ record t { verified = mid.verified } → aim.read_only ≡ false → UnloadsReady state possible t mid k k d d ready id aim all (reply_of (Err e))
+  unload_refused t mid k d ready id aim all e told same kind = λ s w x has rests asks at stands keeps ready_for there kinds of. record {
+    world = w;
+    at = at;
+    is = by s w x e (told s w x has stands there (writes_through x.group aim.read_only kinds kind) of);
+    stands = λ whole. stands_over t mid w same stands;
+    keeps = λ whole. keeps;
+  }
+    where
+      by : (s : Session) (w : World) (x : Target) (e : Refused) → IsRefusedBy (unload_fault s x w) e → Tries (UnloadsTarget s x all) w w (reply_of (Err e))
+      by s w x (refused.Rule rule) is = inl (subst (λ o. Unless o (Then (FlushesSome (unload_entries all x.group)) (Answers (unload_answer x all))) w w (only (No rule))) (sym is) (refl, refl))
+      by s w x refused.Memory is = inr (refl, refl)
+
+  pub unload_wanting : (t mid new : Stored) (k : Option TierJournal) (d : D) (ready : Ready) (id : SessionId) (aim : Aim) (all : Bool) → mid ≡ record t { verified = mid.verified } → KeepsGroups mid new → UnloadsReady state possible t new k k d d ready id aim all (faulty code.Memory)
+  unload_wanting t mid new k d ready id aim all same kept = λ s w x has rests asks at stands keeps ready_for there kinds of. record {
+    world = w;
+    at = at;
+    is = inr (refl, refl);
+    stands = λ whole. stands_kept mid new w (stands_over t mid w same stands) kept;
+    keeps = λ whole. keeps;
+  }
 
 -- the whole statement, from the group that it names
-pub unload_done : (t new : Stored) (site : SiteState) (id : SessionId) (u : OfGroup) (aim : Aim) (result : Result Reply Refused) → AimsUnloadIn t id u (Ok aim) → UnloadsHere t new site id aim (asks_all u.which) (reply_of result) → PerformsIn t new site site id (Executes (statement.Unload u)) result
-unload_done t new site id u aim result aims here = λ s has w at stands unshared. (
+pub unload_done : {D : Type 0} (state : D → SiteState) (possible : D → ℕ → Held → Type 0) (t new : Stored) (k k' : Option TierJournal) (d d' : D) (id : SessionId) (u : OfGroup) (aim : Aim) (result : Result Reply Refused) → AimsUnloadIn t id u (Ok aim)
+    → UnloadsHere state possible t new k k' d d' id aim (asks_all u.which) (reply_of result) → PerformsInOver state possible t new k k' d d' id (Executes (statement.Unload u)) result
+unload_done state possible t new k k' d d' id u aim result aims here = λ s has w at stands unshared keeps. (
     let f = aims w.tier s stands.stored has in
     let x : Target = record { place = aim.place; group = f.group; filter = aim.which.filter; id = u.which.id } in
-    let p = here s w x has (rests_of w.tier s u f) (whole_of w.tier s u f) at stands f.there f.kind (record { place = refl; filter = refl; id = f.is.id }) in
+    let p = here s w x has (rests_of w.tier s u f) (whole_of w.tier s u f) at stands keeps f.there f.kind (record { place = refl; filter = refl; id = f.is.id }) in
     record {
       world = p.world;
       at = p.at;
-      stands = p.stands;
       is = done s w p.world f p.is;
+      stands = p.stands;
+      keeps = p.keeps;
     })
   where
     done : (s : Session) (w w' : World) (f : FindsUnload w.tier s u aim) → Tries (UnloadsTarget s (record { place = aim.place; group = f.group; filter = aim.which.filter; id = u.which.id }) (asks_all u.which)) w w' (reply_of result) → Executes (statement.Unload u) s w w' (reply_of result)

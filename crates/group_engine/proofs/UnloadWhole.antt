@@ -1,5 +1,5 @@
 -- UNLOAD of a READONLY group over what is stored.
-use Rattle.std.proofs.Common.{◌≡◌, ◌<◌, ◌+◌, ℕ, zero, suc, Bool, true, false, not, cond, ◌&&◌, ◌||◌, Option, Some, None, Ok, is_none, List, [], ◌∷◌, length, map, set, slice_get, refl, sym, ap, subst, ◌∙◌, inl, inr}
+use Rattle.std.proofs.Common.{◌≡◌, ◌<◌, ◌+◌, ℕ, zero, suc, Bool, true, false, not, cond, ◌&&◌, ◌||◌, Option, Some, None, Ok, Err, is_none, List, [], ◌∷◌, length, map, set, slice_get, refl, sym, ap, subst, ◌∙◌, inl, inr}
 use Rattle.std.specs.Option.{option_or}
 use Rattle.std.proofs.lemmas.List.{length-map}
 use Rattle.std.specs.FinMap as fm
@@ -19,7 +19,10 @@ use Rattle.group_store.specs.Stores.{Kept, SameButSpare, cleared_store}
 use Rattle.group_store.specs.Trees.{all_empty}
 use Rattle.order_laws.proofs.TruthLaws.{both_true}
 use Rattle.tier_statements.specs.Seen.{session_seen}
-use Rattle.cache_tier.specs.declared.reply.Last.TheVariants.{Done}
+use Rattle.cache_tier.specs.declared.reply.Last.TheVariants.{Done, No}
+use Rattle.cache_tier.specs.declared.reply.Reply.{Reply}
+use Rattle.cache_tier.specs.StandingBetween.{Stands}
+use Rattle.table_defs.specs.declared.definition.TableDef.{TableDef}
 use Rattle.cache_tier.specs.Conditions.{is_id, matches, overflow_fault}
 use Rattle.cache_tier.specs.Groups.{Group, is_explicit, is_read_only}
 use Rattle.cache_tier.specs.JournalSteps.{FlushesSome}
@@ -36,11 +39,23 @@ use Rattle.cache_tier.proofs.ShownTrees.{root_place}
 use Rattle.group_engine.specs.declared.aiming.Aim.{Aim}
 use Rattle.stored_tier.specs.declared.tier.Tier.{Tier as Stored}
 use Rattle.stored_tier.specs.Grouping.{KeepsGroups, SameTree}
-use Rattle.stored_tier.specs.Performing.{StandsFor}
+use Rattle.stored_tier.specs.Performing.{StandsFor, reply_of}
 use Rattle.outside.specs.Sites.{SiteState}
 use Rattle.stored_tier.specs.Stored.{HasSession, IsSound, IsStoredAs, is_plain, without_list}
-use Rattle.group_engine.specs.Unloading.{IsClearedGroup, UnloadsHere, UnloadsTarget}
-use Rattle.group_engine.proofs.CalmLaws.{flushes_none}
+use Rattle.group_engine.specs.Unloading.{IsClearedGroup, IsReadyToLeave, UnloadsHere, UnloadsReady, UnloadsTarget}
+use Rattle.group_engine.specs.declared.ready.Ready.{Ready}
+use Rattle.group_engine.specs.Ready.{AnswersBehind, IsReadyFor, is_full_ready}
+use Rattle.group_engine.proofs.ReadyLaws.{full_then}
+use Rattle.group_engine.proofs.GroupRows.{same_there}
+use Rattle.row_types.specs.declared.rule.Refused.{Refused}
+use Rattle.row_types.specs.declared.rule.Refused.TheVariants as refused
+use Rattle.tier_base.specs.declared.limit.Limit.TheVariants as limit
+use Rattle.cache_tier.specs.Rules.{past}
+use Rattle.kept_journal.specs.Drafts.{StaysKept}
+use Rattle.kept_journal.specs.Keeping.{KeepsOver}
+use Rattle.tier_journal.specs.declared.journal.TierJournal.{TierJournal}
+use Rattle.outside.specs.Holding.{Held}
+use Rattle.stored_tier.proofs.OverLaws.{keeps_stays}
 use Rattle.group_engine.proofs.DropLocks.{group_stored}
 use Rattle.group_engine.proofs.FlagLaws.{flagged_seen}
 use Rattle.group_engine.proofs.FreshLaws.{all_there}
@@ -80,6 +95,15 @@ all_pass test m good = fm.same_map key_total key_exact (rows_where test m) m (λ
     by None = refl
     by (Some r) = ap (λ b. cond b (Some r) None) (good r)
 
+no_overflow : (w : World) (x : Target) → x.filter ≡ None → overflow_fault x.filter (shown_roots w.history w.tier.log x.group) ≡ None
+no_overflow w x filter =
+    ap (λ f. overflow_fault f (shown_roots w.history w.tier.log x.group)) filter
+    ∙ ap (λ b. Rattle.cache_tier.specs.Rules.broken_if b (Rattle.cache_tier.specs.Rules.plain Rattle.tier_base.specs.declared.code.Code.TheVariants.Overflow))
+    (any_false (λ row. is_none (selects None row)) (fm.values (shown_roots w.history w.tier.log x.group)) (λ row. refl))
+
+whole_free : (s : Session) (w : World) (x : Target) (place : ℕ) → Stands w → slice_get w.tier.groups place ≡ Some x.group → is_read_only x.group ≡ true → x.filter ≡ None → unload_fault s x w ≡ None
+whole_free s w x place stands at reads filter = λ i. option_or (no_overflow w x filter i) (unheld w stands place x.group at reads s.label (fm.contains_key (matching_shown w x)) i)
+
 module _ (t new : Stored) (id : SessionId) (aim : Aim) (n : ℕ) (sound : IsSound t) (cleared : IsClearedGroup t new aim.place n)
     (s : Session) (w : World) (x : Target) (has : HasSession t id s) (stands : StandsFor t w) (at : slice_get w.tier.groups aim.place ≡ Some x.group) (reads : is_read_only x.group ≡ true) (filter : x.filter ≡ None) (given : x.id ≡ None) (place : x.place ≡ aim.place) where
   abbrev G : Group
@@ -108,15 +132,6 @@ module _ (t new : Stored) (id : SessionId) (aim : Aim) (n : ℕ) (sound : IsSoun
 
   count : n ≡ fm.len (matching_shown w x)
   count = cleared.did.count ∙ ap (λ (m : Table). fm.len m) (roots ∙ sym matching)
-
-  no_overflow : overflow_fault x.filter (shown_roots w.history w.tier.log x.group) ≡ None
-  no_overflow =
-      ap (λ f. overflow_fault f (shown_roots w.history w.tier.log x.group)) filter
-      ∙ ap (λ b. Rattle.cache_tier.specs.Rules.broken_if b (Rattle.cache_tier.specs.Rules.plain Rattle.tier_base.specs.declared.code.Code.TheVariants.Overflow))
-      (any_false (λ row. is_none (selects None row)) (fm.values (shown_roots w.history w.tier.log x.group)) (λ row. refl))
-
-  pub free : unload_fault s x w ≡ None
-  free = λ i. option_or (no_overflow i) (unheld w stands.stands aim.place x.group at reads s.label (fm.contains_key (matching_shown w x)) i)
 
   behind : ShowsWithout x.group w (with_tier (unload_answer x true w).0 w)
   behind = unload_shows w stands.stands x.place x.group there reads explicit (gone_keys w x)
@@ -161,28 +176,76 @@ module _ (t new : Stored) (id : SessionId) (aim : Aim) (n : ℕ) (sound : IsSoun
       others = behind.others;
     });
     stands = behind.stands;
-    unkept = stands.unkept;
     waits = stands.waits;
   }
 
-  pub unloads : UnloadsTarget s x true w (with_tier (unload_answer x true w).0 w) (only (Done n))
-  unloads = subst (λ o. Unless o (Then (FlushesSome (unload_entries true x.group)) (Answers (unload_answer x true))) w (with_tier (unload_answer x true w).0 w) (only (Done n))) (sym free) then
-    where
-      then : Then (FlushesSome (unload_entries true x.group)) (Answers (unload_answer x true)) w (with_tier (unload_answer x true w).0 w) (only (Done n))
-      then = record { mid = w; stop = None; first = flushes_none w (unload_entries true x.group) stands.unkept; next = (refl, ap (λ m. only (Done m)) count) }
+  pub counted : (reply : Reply) → reply ≡ only (Done n) → reply ≡ (unload_answer x true w).1
+  counted reply is = is ∙ ap (λ m. only (Done m)) count
 
-pub cleared_here : (t new : Stored) (site : SiteState) (id : SessionId) (aim : Aim) (all : Bool) (n : ℕ) → IsSound t → aim.read_only ≡ true → IsClearedGroup t new aim.place n → UnloadsHere t new site id aim all (only (Done n))
-cleared_here t new site id aim all n sound kind cleared = λ s w x has rests asks at stands here kinds of. (
-    let reads : is_read_only x.group ≡ true = kinds ∙ kind in
-    let plain = all_there is_plain (groups_in t.catalog) aim.place (without_list x.group) sound.plain (group_stored t w.tier aim.place x.group stands.stored here) in
-    let explicit : is_explicit x.group ≡ true = (both_true (is_explicit x.group) (is_none x.group.def.aging) plain).0 in
-    let whole = asks reads explicit in
-    record {
-      world = with_tier (unload_answer x true w).0 w;
-      at = record { there = at.there; told = at.told; history = at.history; faults = at.faults; moment = at.moment; shared = at.shared };
-      stands = stands_left t new id aim n sound cleared s w x has stands here reads whole.1 whole.2 of.place;
-      is = inl (subst (λ b. UnloadsTarget s x b w (with_tier (unload_answer x true w).0 w) (only (Done n))) (sym whole.0) (unloads t new id aim n sound cleared s w x has stands here reads whole.1 whole.2 of.place));
-    })
+-- what is done where nothing is at fault
+unload_so : (s : Session) (x : Target) (all : Bool) (w w' : World) (reply : Reply) → unload_fault s x w ≡ None → Then (FlushesSome (unload_entries all x.group)) (Answers (unload_answer x all)) w w' reply → UnloadsTarget s x all w w' reply
+unload_so s x all w w' reply free then = subst (λ o. Unless o (Then (FlushesSome (unload_entries all x.group)) (Answers (unload_answer x all))) w w' reply) (sym free) then
 
-pub whole_wanting : (t new : Stored) (site : SiteState) (id : SessionId) (aim : Aim) (all : Bool) → KeepsGroups t new → UnloadsHere t new site id aim all (faulty code.Memory)
-whole_wanting t new site id aim all keeps = λ s w x has rests asks at stands there kinds of. record { world = w; at = at; stands = stands_kept t new w stands keeps; is = inr (refl, refl) }
+explicit_there : (t : Stored) (w : World) (place : ℕ) (g : Group) → IsSound t → StandsFor t w → slice_get w.tier.groups place ≡ Some g → is_explicit g ≡ true
+explicit_there t w place g sound stands at =
+    let plain = all_there is_plain (groups_in t.catalog) place (without_list g) sound.plain (group_stored t w.tier place g stands.stored at) in
+    (both_true (is_explicit g) (is_none g.def.aging) plain).0
+
+module _ {D : Type 0} (state : D → SiteState) (possible : D → ℕ → Held → Type 0) where
+  pub cleared_here : (t new : Stored) (k k' : Option TierJournal) (d d' : D) (ready : Ready) (id : SessionId) (aim : Aim) (all : Bool) (n : ℕ) (told reply : Reply) → IsSound t → aim.read_only ≡ true → IsClearedGroup t new aim.place n → AnswersBehind state possible k k' d d' ready told reply → told ≡ only (Done n)
+      → UnloadsReady state possible t new k k' d d' ready id aim all reply
+  cleared_here t new k k' d d' ready id aim all n told reply sound kind cleared answers is = λ s w x has rests asks at stands keeps ready_for here kinds of.
+      let reads : is_read_only x.group ≡ true = kinds ∙ kind in
+      let whole = asks reads (explicit_there t w aim.place x.group sound stands here) in
+      let p = answers new w (unload_entries true x.group) (unload_answer x true) at keeps (subst (λ b. IsReadyFor w.tier.schema k ready (unload_entries b x.group)) whole.0 ready_for)
+      (stands_left t new id aim n sound cleared s w x has stands here reads whole.1 whole.2 of.place) refl (λ j faults moment. refl)
+      (counted t new id aim n sound cleared s w x has stands here reads whole.1 whole.2 of.place told is) in
+      record {
+        world = p.world;
+        at = p.at;
+        is = inl (subst (λ b. UnloadsTarget s x b w p.world reply) (sym whole.0) (unload_so s x true w p.world reply (whole_free s w x aim.place stands.stands here reads whole.1) p.is));
+        stands = p.stands;
+        keeps = p.keeps;
+      }
+
+  -- 119 of the journal
+  pub whole_full : (t : Stored) (k : Option TierJournal) (d : D) (ready : Ready) (id : SessionId) (aim : Aim) (all : Bool) (reply : Reply) → IsSound t → aim.read_only ≡ true → is_full_ready ready ≡ true → reply ≡ only (No (past limit.JournalSlot)) → UnloadsReady state possible t t k k d d ready id aim all reply
+  whole_full t k d ready id aim all reply sound kind full told = λ s w x has rests asks at stands keeps ready_for here kinds of.
+      let reads : is_read_only x.group ≡ true = kinds ∙ kind in
+      let whole = asks reads (explicit_there t w aim.place x.group sound stands here) in
+      record {
+        world = w;
+        at = at;
+        is = inl (unload_so s x all w w reply (whole_free s w x aim.place stands.stands here reads whole.1) (full_then state possible k d w ready (unload_entries all x.group) (Answers (unload_answer x all)) reply keeps ready_for full told));
+        stands = λ whole. stands;
+        keeps = λ whole. keeps;
+      }
+
+  -- memory was wanting
+  pub whole_wanting : (t new : Stored) (k : Option TierJournal) (d : D) (ready : Ready) (id : SessionId) (aim : Aim) (all : Bool) → KeepsGroups t new → UnloadsReady state possible t new k k d d ready id aim all (faulty code.Memory)
+  whole_wanting t new k d ready id aim all kept = λ s w x has rests asks at stands keeps ready_for there kinds of. record {
+    world = w;
+    at = at;
+    is = inr (refl, refl);
+    stands = λ whole. stands_kept t new w stands kept;
+    keeps = λ whole. keeps;
+  }
+
+  -- with what was made ready
+  pub left_moved : (t new : Stored) (k mid k' : Option TierJournal) (d d' : D) (ready : Ready) (id : SessionId) (aim : Aim) (all : Bool) (reply : Reply) → StaysKept k mid → IsReadyToLeave (groups_in t.catalog) mid aim.place all ready → UnloadsReady state possible t new mid k' d d' ready id aim all reply
+      → UnloadsHere state possible t new k k' d d' id aim all reply
+  left_moved t new k mid k' d d' ready id aim all reply stays of unloads = λ s w x has rests asks at stands keeps there kinds target.
+      unloads s w x has rests asks at stands (keeps_stays state possible d k mid w stays keeps) (of w.tier.schema (without_list x.group) (group_stored t w.tier aim.place x.group stands.stored there)) there kinds target
+
+  pub not_left : (t : Stored) (k k' : Option TierJournal) (d : D) (id : SessionId) (aim : Aim) (all : Bool) (e : Refused) → StaysKept k k' → e ≡ refused.Memory → UnloadsHere state possible t t k k' d d id aim all (reply_of (Err e))
+  not_left t k k' d id aim all e stays is = λ s w x has rests asks at stands keeps there kinds target. record {
+    world = w;
+    at = at;
+    is = inr (refl, ap (λ y. reply_of (Err y)) is);
+    stands = λ whole. stands;
+    keeps = λ whole. keeps_stays state possible d k k' w stays keeps;
+  }
+
+-- what was made ready for the group that is stored at a place
+pub leave_there : (groups : List Group) (k : Option TierJournal) (place : ℕ) (all : Bool) (seen : Group) (ready : Ready) → slice_get groups place ≡ Some seen → ((schema : List TableDef) → IsReadyFor schema k ready (unload_entries all seen)) → IsReadyToLeave groups k place all ready
+leave_there groups k place all seen ready at is = λ schema g there. subst (λ (x : Group). IsReadyFor schema k ready (unload_entries all x)) (same_there groups place seen g at there) (is schema)

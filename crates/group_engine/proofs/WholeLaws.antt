@@ -20,30 +20,39 @@ use Rattle.cache_tier.specs.Rules.{past}
 use Rattle.tier_base.specs.declared.limit.Limit.TheVariants as limit
 use Rattle.cache_tier.specs.Groups.{Group, is_explicit, is_on, is_read_only, is_writethrough}
 use Rattle.cache_tier.specs.DynamicLoads.{state_loaded}
-use Rattle.cache_tier.specs.JournalSteps.{FlushesFitting, FlushesSome, has_entries}
-use Rattle.cache_tier.specs.Journals.{JournalEntry, is_full}
-use Rattle.cache_tier.specs.JournalSteps.{FlushesKept, name_sizes}
-use Rattle.cache_tier.specs.Reading.{FollowsAt, Reads, TellsPosition, backing_at}
+use Rattle.cache_tier.specs.Reading.{Answers, FollowsAt, Reads, TellsPosition, backing_at}
 use Rattle.cache_tier.specs.Sets.{Choice, OnePosition, alone, at_position, changed_from, loaded_state, loaded_with, of_set, is_in_set, set_tried}
 use Rattle.cache_tier.specs.Shown.{shown}
 use Rattle.cache_tier.specs.Targets.{Settles, Target, has_flag, load_entries, shown_count, whole_answer, with_flag}
 use Rattle.cache_tier.specs.TierStates.{Tier, refresh_tried}
-use Rattle.cache_tier.specs.Worlds.{BankCall, IsUnshared, Passes, Tries, World, only}
+use Rattle.cache_tier.specs.Worlds.{BankCall, IsUnshared, Part, Tries, World, bank_fault, only}
 use Rattle.cache_tier.proofs.PositionLaws.{alone_twice, hidden_state, join_base, join_one, join_step}
 use Rattle.order_laws.proofs.TruthLaws.{both_true, or_true}
 use Rattle.instances.specs.Trees.{place_of}
 use Rattle.stored_tier.specs.declared.tier.Tier.{Tier as Stored}
 use Rattle.group_engine.specs.Fresh.{AreFresh, IsRead}
-use Rattle.group_engine.specs.Loaded.{LoadsWhole, ReadsWhole, whole_target}
+use Rattle.group_engine.specs.Loaded.{IsReadyToLoad, LoadsWhole, ReadsWhole, whole_target}
+use Rattle.group_engine.specs.declared.ready.Ready.{Ready}
+use Rattle.group_engine.specs.Ready.{AnswersBehind, IsReadyFor, is_full_ready}
+use Rattle.group_engine.proofs.ReadyLaws.{full_then}
+use Rattle.row_types.specs.declared.rule.Refused.{Refused}
+use Rattle.row_types.specs.declared.rule.Refused.TheVariants as refused
+use Rattle.table_defs.specs.declared.definition.TableDef.{TableDef}
+use Rattle.outside.specs.Holding.{Held}
+use Rattle.kept_journal.specs.Drafts.{StaysKept}
+use Rattle.kept_journal.specs.Keeping.{KeepsOver}
+use Rattle.propagators.specs.Certainty.{KeepsCertain}
+use Rattle.tier_journal.specs.declared.journal.TierJournal.{TierJournal}
+use Rattle.stored_tier.proofs.OverLaws.{keeps_called, keeps_stays, keeps_tier}
 use Rattle.group_engine.proofs.ReadLaws.{unmapped}
-use Rattle.stored_tier.specs.Performing.{IsPerformed, StandsFor}
+use Rattle.stored_tier.specs.Performing.{IsPerformedOver, PerformsOver, StandsFor, reply_of}
 use Rattle.stored_tier.specs.Refreshing.{IsStateAt, is_filled, is_off, positioned, roots_kept}
 use Rattle.stored_tier.specs.Sites.{IsAt}
 use Rattle.outside.specs.Sites.{SiteState}
 use Rattle.stored_tier.specs.Stored.{AreKept, IsSound, is_plain, without_list}
 use Rattle.group_engine.proofs.FreshLaws.{Changes, IsFlagged, IsRefreshed, all_there, changed_at, groups_behind, kept_long, mapped_there, stands_behind, tier_behind}
 use Rattle.stored_tier.proofs.RefreshSteps.{same_by_place, changed_now}
-use Rattle.group_engine.proofs.GroupRows.{there_too}
+use Rattle.group_engine.proofs.GroupRows.{same_there, there_too}
 use Rattle.group_engine.proofs.ShownStores.{each_shows}
 
 -- the group at the place is changed twice, as once
@@ -142,14 +151,6 @@ loaded_positions groups place n g s at one = by g.state refl
         (ap is_on (flag_state (has_flag x) (state_loaded (at_position n s x)))
         ∙ ap (λ (y : RefreshState). is_on (loaded_state y)) (ap (λ (y : Group). y.state) same ∙ e))) one
 
--- nothing is flushed where there is no journal
-pub flushes_none : (entries : List JournalEntry) (w : World) → w.journal.kept ≡ false → FlushesSome entries w w None
-flushes_none entries w unkept = by (has_entries entries)
-  where
-    by : (b : Bool) → MatchBool b (FlushesFitting entries w w None) (Passes w w None)
-    by true = subst (λ k. MatchBool (k && is_full (name_sizes w) w.journal entries) ((w ≡ w) × (None ≡ Some (only (No (past limit.JournalSlot))))) (MatchBool k (FlushesKept entries w w None) (Passes w w None))) (sym unkept) (refl, refl)
-    by false = (refl, refl)
-
 -- STATE and the loaded flag, one after the other
 pub loaded_once : (groups : List Group) (place n : ℕ) (chosen : Choice) (st : RefreshState) → list_all is_plain groups ≡ true → IsStateAt groups place st
     → changed_from (alone place) (λ h. record h { state = st }) 0 (changed_from (alone place) (λ h. record h { loaded = true }) 0 (changed_from chosen (positioned n) 0 groups)) ≡ changed_from (alone place) loads_group 0 (changed_from chosen (positioned n) 0 groups)
@@ -172,7 +173,7 @@ loaded_once groups place n chosen st plain state = alone_two place (λ h. record
         same false x = refl
 
 module _ (t new : Stored) (behind : SiteState) (w : World) (place n : ℕ) (g : Group) (chosen : Choice) (made : List (Option Kept)) (at : slice_get w.tier.groups place ≡ Some g) (reads : is_read_only g ≡ true) (chosen_is : chosen ≡ loaded_with g place)
-    (r : IsRead t behind (Ok n) w) (fresh : AreFresh t r.world (is_filled chosen (Some place)) n made) (is : IsRefreshed t new chosen place loads_group n made) (reply : Reply) (reply_is : reply ≡ only (Done (roots_kept (slice_get new.stores.items place)))) (sound : IsSound new) where
+    (r : IsRead t behind (Ok n) w) (fresh : AreFresh t r.world (is_filled chosen (Some place)) n made) (is : IsRefreshed t new chosen place loads_group n made) (told : Reply) (told_is : told ≡ only (Done (roots_kept (slice_get new.stores.items place)))) (sound : IsSound new) where
   there : slice_get r.world.tier.groups place ≡ Some g
   there = ap (λ (x : Tier). slice_get x.groups place) r.tier ∙ at
 
@@ -239,26 +240,47 @@ module _ (t new : Stored) (behind : SiteState) (w : World) (place n : ℕ) (g : 
           counted history log None = 0
           counted history log (Some x) = Rattle.cache_tier.specs.Shown.instances_of history log x
 
-  pub whole_read : IsPerformed new behind (λ w'. ReadsWhole place g w w' reply)
-  whole_read = record {
-    world = record r.world { tier = tier_behind chosen place loads_group n (backing_at r.world n) r.world.tier };
-    at = record { there = r.at.there; told = r.at.told; history = r.at.history; faults = r.at.faults; moment = r.at.moment; shared = r.at.shared };
-    stands = stands_last;
+  module _ {D : Type 0} (state : D → SiteState) (possible : D → ℕ → Held → Type 0) (k k' : Option TierJournal) (mid d' : D) (ready : Ready) (is_mid : state mid ≡ behind) (keeps : KeepsOver state possible mid k r.world) (of : IsReadyFor r.world.tier.schema k ready (load_entries g)) where
+    pub whole_read : (reply : Reply) → AnswersBehind state possible k k' mid d' ready told reply → IsPerformedOver state possible new k' d' (Some reply) (λ w'. ReadsWhole place g w w' reply)
+    whole_read reply answers =
+        let p = answers new r.world (load_entries g) (whole_answer (whole_target place g) n) (subst (λ x. IsAt x r.world) (sym is_mid) r.at) keeps of
+        (subst (λ (c : Choice). StandsFor new (record r.world { tier = tier_behind c place loads_group n (backing_at r.world n) r.world.tier })) chosen_is stands_last) refl (λ j faults moment. refl)
+        (told_is ∙ ap (λ m. only (Done m)) count_is ∙ ap (λ (c : Choice). only (Done (shown_count (whole_target place g) r.world.history (tier_behind c place loads_group n (backing_at r.world n) r.world.tier)))) chosen_is) in
+        record { world = p.world; at = p.at; is = record { told = Ok n; mid = r.world; call = r.call; tier = r.tier; goes_on = inl p.is }; stands = p.stands; keeps = p.keeps }
+
+-- a journal is kept over the call
+module _ {D : Type 0} (state : D → SiteState) (possible : D → ℕ → Held → Type 0) (t : Stored) (k : Option TierJournal) (d mid : D) (w : World) (place : ℕ) (g : Group) (ready : Ready) (certain : KeepsCertain state possible d mid) (keeps : KeepsOver state possible d k w) (stands : StandsFor t w) (there : slice_get w.tier.groups place ≡ Some g)
+    (is_ready : IsReadyToLoad (groups_in t.catalog) k place ready) where
+  pub keeps_read : (told : Result ℕ BankError) (r : IsRead t (state mid) told w) → KeepsOver state possible mid k r.world
+  keeps_read told r = keeps_called state possible k d mid w r.world keeps certain r.call.journal (ap (λ (x : Tier). x.schema) r.tier)
+
+  pub ready_read : (told : Result ℕ BankError) (r : IsRead t (state mid) told w) → IsReadyFor r.world.tier.schema k ready (load_entries g)
+  ready_read told r = is_ready r.world.tier.schema (without_list g) (ap (λ l. slice_get l place) (sym stands.stored.groups) ∙ mapped_there w.tier.groups place g there)
+
+  -- the call failed
+  pub whole_failed : (e : BankError) (reply : Reply) → IsRead t (state mid) (Err e) w → reply ≡ bank_fault e → IsPerformedOver state possible t k mid (Some reply) (λ w'. ReadsWhole place g w w' reply)
+  whole_failed e reply r told = record {
+    world = r.world;
+    at = r.at;
+    is = record { told = Err e; mid = r.world; call = r.call; tier = r.tier; goes_on = (refl, told) };
+    stands = λ whole. r.stands;
+    keeps = λ whole. keeps_read (Err e) r;
+  }
+
+  -- 119 of the journal
+  pub whole_full : (n : ℕ) (reply : Reply) → IsRead t (state mid) (Ok n) w → is_full_ready ready ≡ true → reply ≡ only (No (past limit.JournalSlot)) → IsPerformedOver state possible t k mid (Some reply) (λ w'. ReadsWhole place g w w' reply)
+  whole_full n reply r full told = record {
+    world = r.world;
+    at = r.at;
     is = record {
       told = Ok n;
       mid = r.world;
       call = r.call;
       tier = r.tier;
-      goes_on = inl (record {
-        mid = r.world;
-        stop = None;
-        first = flushes_none (load_entries g) r.world r.stands.unkept;
-        next = (
-          ap (λ (c : Choice). record r.world { tier = tier_behind c place loads_group n (backing_at r.world n) r.world.tier }) chosen_is,
-          reply_is ∙ ap (λ m. only (Done m)) count_is ∙ ap (λ (c : Choice). only (Done (shown_count (whole_target place g) r.world.history (tier_behind c place loads_group n (backing_at r.world n) r.world.tier)))) chosen_is,
-        );
-      });
+      goes_on = inl (full_then state possible k mid r.world ready (load_entries g) (Answers (whole_answer (whole_target place g) n)) reply (keeps_read (Ok n) r) (ready_read (Ok n) r) full told);
     };
+    stands = λ whole. r.stands;
+    keeps = λ whole. keeps_read (Ok n) r;
   }
 
 -- the statements
@@ -338,38 +360,59 @@ abbrev pub WholeReads : Target → (ℕ → World → World → Reply → Type 0
 WholeReads x other = Reads (set_tried x.group) (λ n v v' r. MatchBool (is_explicit x.group) (Settles x (whole_answer x n) v v' r) (other n v v' r))
 
 -- behind the load alone
-pub loaded_alone : (t new : Stored) (before behind : SiteState) (place : ℕ) (seen : Group) (reply : Reply) → IsSound t → slice_get (groups_in t.catalog) place ≡ Some seen → is_read_only seen ≡ true → seen.state ≡ Off → LoadsWhole t new before behind place (alone place) reply
-    → (x : Target) → x.place ≡ place → (other : ℕ → World → World → Reply → Type 0) → (w : World) → IsAt before w → StandsFor t w → IsUnshared w → IsPerformed new behind (λ w'. slice_get w.tier.groups place ≡ Some x.group → Tries (WholeReads x other) w w' reply)
-loaded_alone t new before behind place seen reply sound at reads off loads x place_is other w at_w stands apart =
+pub loaded_alone : {D : Type 0} (state : D → SiteState) (possible : D → ℕ → Held → Type 0) (t new : Stored) (k k' : Option TierJournal) (d d' : D) (place : ℕ) (seen : Group) (reply : Reply) → IsSound t → slice_get (groups_in t.catalog) place ≡ Some seen → is_read_only seen ≡ true → seen.state ≡ Off → LoadsWhole state possible t new k k' d d' place (alone place) reply
+    → (x : Target) → x.place ≡ place → (other : ℕ → World → World → Reply → Type 0) → (w : World) → IsAt (state d) w → StandsFor t w → IsUnshared w → KeepsOver state possible d k w → IsPerformedOver state possible new k' d' (Some reply) (λ w'. slice_get w.tier.groups place ≡ Some x.group → Tries (WholeReads x other) w w' reply)
+loaded_alone state possible t new k k' d d' place seen reply sound at reads off loads x place_is other w at_w stands apart keeps =
     let g = group_at t w place seen sound stands at in
-    let state : g.group.state ≡ Off = ap (λ (y : Group). y.state) g.is ∙ off in
-    let p = loads w g.group at_w stands apart g.there (ap is_read_only g.is ∙ reads) (with_alone g.group place state) in
+    let off_there : g.group.state ≡ Off = ap (λ (y : Group). y.state) g.is ∙ off in
+    let p = loads w g.group at_w stands apart keeps g.there (ap is_read_only g.is ∙ reads) (with_alone g.group place off_there) in
     record {
       world = p.world;
       at = p.at;
       stands = p.stands;
+      keeps = p.keeps;
       is = λ there.
           let both : Some x.group ≡ Some g.group = sym there ∙ g.there in
           let same : x.group ≡ g.group = cc in
-          inl (reads_whole x place g.group place_is same g.explicit other w p.world w.tier reply (tried_alone g.group w.tier state ∙ ap (λ y. set_tried y w.tier) (sym same)) p.is);
+          inl (reads_whole x place g.group place_is same g.explicit other w p.world w.tier reply (tried_alone g.group w.tier off_there ∙ ap (λ y. set_tried y w.tier) (sym same)) p.is);
     }
 
 -- behind the load with its set, which was noted
-pub loaded_joined : (t noted new : Stored) (before behind : SiteState) (place : ℕ) (seen : Group) (reply : Reply) → IsSound t → slice_get (groups_in t.catalog) place ≡ Some seen → is_read_only seen ≡ true → is_off seen.state ≡ false
-    → ((w : World) → StandsFor t w → StandsFor noted (record w { tier = refresh_tried seen.def.interval w.tier })) → LoadsWhole noted new before behind place (of_set seen.def.interval (Some place)) reply
-    → (x : Target) → x.place ≡ place → (other : ℕ → World → World → Reply → Type 0) → (w : World) → IsAt before w → StandsFor t w → IsUnshared w → IsPerformed new behind (λ w'. slice_get w.tier.groups place ≡ Some x.group → Tries (WholeReads x other) w w' reply)
-loaded_joined t noted new before behind place seen reply sound at reads on notes loads x place_is other w at_w stands apart =
+pub loaded_joined : {D : Type 0} (state : D → SiteState) (possible : D → ℕ → Held → Type 0) (t noted new : Stored) (k k' : Option TierJournal) (d d' : D) (place : ℕ) (seen : Group) (reply : Reply) → IsSound t → slice_get (groups_in t.catalog) place ≡ Some seen → is_read_only seen ≡ true → is_off seen.state ≡ false
+    → ((w : World) → StandsFor t w → StandsFor noted (record w { tier = refresh_tried seen.def.interval w.tier })) → LoadsWhole state possible noted new k k' d d' place (of_set seen.def.interval (Some place)) reply
+    → (x : Target) → x.place ≡ place → (other : ℕ → World → World → Reply → Type 0) → (w : World) → IsAt (state d) w → StandsFor t w → IsUnshared w → KeepsOver state possible d k w → IsPerformedOver state possible new k' d' (Some reply) (λ w'. slice_get w.tier.groups place ≡ Some x.group → Tries (WholeReads x other) w w' reply)
+loaded_joined state possible t noted new k k' d d' place seen reply sound at reads on notes loads x place_is other w at_w stands apart keeps =
     let g = group_at t w place seen sound stands at in
-    let state : is_off g.group.state ≡ false = ap (λ (y : Group). is_off y.state) g.is ∙ on in
+    let on_there : is_off g.group.state ≡ false = ap (λ (y : Group). is_off y.state) g.is ∙ on in
     let interval : g.group.def.interval ≡ seen.def.interval = ap (λ (y : Group). y.def.interval) g.is in
-    let p = loads (record w { tier = refresh_tried seen.def.interval w.tier }) g.group (record { there = at_w.there; told = at_w.told; history = at_w.history; faults = at_w.faults; moment = at_w.moment; shared = at_w.shared }) (notes w stands) apart g.there (ap is_read_only g.is ∙ reads)
-    (ap (λ i. of_set i (Some place)) (sym interval) ∙ with_set g.group place state) in
+    let p = loads (record w { tier = refresh_tried seen.def.interval w.tier }) g.group (record { there = at_w.there; told = at_w.told; history = at_w.history; faults = at_w.faults; moment = at_w.moment; shared = at_w.shared }) (notes w stands) apart (keeps_tier state possible d k w (refresh_tried seen.def.interval w.tier) refl keeps) g.there (ap is_read_only g.is ∙ reads)
+    (ap (λ i. of_set i (Some place)) (sym interval) ∙ with_set g.group place on_there) in
     record {
       world = p.world;
       at = p.at;
       stands = p.stands;
+      keeps = p.keeps;
       is = λ there.
           let both : Some x.group ≡ Some g.group = sym there ∙ g.there in
           let same : x.group ≡ g.group = cc in
-          inl (reads_whole x place g.group place_is same g.explicit other w p.world (refresh_tried seen.def.interval w.tier) reply (ap (λ i. refresh_tried i w.tier) (sym interval) ∙ tried_set g.group w.tier state ∙ ap (λ y. set_tried y w.tier) (sym same)) p.is);
+          inl (reads_whole x place g.group place_is same g.explicit other w p.world (refresh_tried seen.def.interval w.tier) reply (ap (λ i. refresh_tried i w.tier) (sym interval) ∙ tried_set g.group w.tier on_there ∙ ap (λ y. set_tried y w.tier) (sym same)) p.is);
     }
+
+-- with what was made ready
+pub over_moved : {D : Type 0} (state : D → SiteState) (possible : D → ℕ → Held → Type 0) (old new : Stored) (k mid k' : Option TierJournal) (d d' : D) (stop : Option Reply) (does : World → World → Type 0) → StaysKept k mid → PerformsOver state possible old new mid k' d d' stop does → PerformsOver state possible old new k k' d d' stop does
+over_moved state possible old new k mid k' d d' stop does stays performs w at stands apart keeps = performs w at stands apart (keeps_stays state possible d k mid w stays keeps)
+
+-- memory was wanting
+pub whole_wanting : {D : Type 0} (state : D → SiteState) (possible : D → ℕ → Held → Type 0) (t new : Stored) (k k' : Option TierJournal) (d : D) (place : ℕ) (x : Target) (part : Part) (e : Refused) → StaysKept k k' → ((w : World) → StandsFor t w → StandsFor new w) → e ≡ refused.Memory
+    → PerformsOver state possible t new k k' d d (Some (reply_of (Err e))) (λ w w'. slice_get w.tier.groups place ≡ Some x.group → Tries part w w' (reply_of (Err e)))
+whole_wanting state possible t new k k' d place x part e stays still is w at stands apart keeps = record {
+  world = w;
+  at = at;
+  is = λ there. inr (refl, ap (λ y. reply_of (Err y)) is);
+  stands = λ whole. still w stands;
+  keeps = λ whole. keeps_stays state possible d k k' w stays keeps;
+}
+
+-- what was made ready for the group that is stored at a place
+pub load_there : (groups : List Group) (k : Option TierJournal) (place : ℕ) (seen : Group) (ready : Ready) → slice_get groups place ≡ Some seen → ((schema : List TableDef) → IsReadyFor schema k ready (load_entries seen)) → IsReadyToLoad groups k place ready
+load_there groups k place seen ready at is = λ schema g there. subst (λ (x : Group). IsReadyFor schema k ready (load_entries x)) (same_there groups place seen g at there) (is schema)

@@ -12,7 +12,7 @@ use Rattle.sql_subset.specs.declared.stmt.RefreshState.{RefreshState}
 use Rattle.sql_subset.specs.declared.stmt.RefreshState.TheVariants.{On, Off, Paused}
 use Rattle.sql_subset.specs.declared.stmt.Stmt.TheVariants as statement
 use Rattle.cache_tier.specs.declared.reply.Reply.{Reply}
-use Rattle.cache_tier.specs.AlterSteps.{AltersTo, SetsStateAlone, SetsStateRefreshed}
+use Rattle.cache_tier.specs.AlterSteps.{AltersTo, SetsStateAlone, SetsStateRefreshed, altered_entries}
 use Rattle.cache_tier.specs.Groups.{Group, is_on, is_read_only, is_writethrough, place_called}
 use Rattle.cache_tier.specs.Order.{refusal, wrong_state}
 use Rattle.cache_tier.specs.Reading.{as_it_was}
@@ -21,9 +21,15 @@ use Rattle.cache_tier.specs.Sets.{Choice, alone, has_something, of_set}
 use Rattle.cache_tier.specs.TierStates.{Session, Tier}
 use Rattle.cache_tier.specs.Worlds.{IsUnshared, Tries, World}
 use Rattle.stored_tier.specs.declared.tier.Tier.{Tier as Stored}
-use Rattle.stored_tier.specs.Performing.{IsPerformed, StandsFor}
+use Rattle.stored_tier.specs.Performing.{IsPerformedOver, StandsFor}
 use Rattle.stored_tier.specs.Sites.{IsAt}
+use Rattle.outside.specs.Holding.{Held}
 use Rattle.outside.specs.Sites.{SiteState}
+use Rattle.table_defs.specs.declared.definition.TableDef.{TableDef}
+use Rattle.tier_journal.specs.declared.journal.TierJournal.{TierJournal}
+use Rattle.kept_journal.specs.Keeping.{KeepsOver}
+use Rattle.group_engine.specs.declared.ready.Ready.{Ready}
+use Rattle.group_engine.specs.Ready.{IsReadyFor}
 use Rattle.stored_tier.specs.Stored.{HasSession, IsStoredAs}
 
 -- what refuses ALTER by the group's kind, and by the session's writes
@@ -48,11 +54,23 @@ abbrev pub AimsAlterIn : Stored → SessionId → Alter → Result ℕ Refused �
 AimsAlterIn t id alter result =
     (a : Tier) (s : Session) → IsStoredAs t a → HasSession t id s → AimsAlter a s alter result
 
--- in each world the READONLY group at a place gets this STATE
-abbrev pub AltersHere : Stored → Stored → SiteState → SiteState → RefreshState → ℕ → Reply → Type 0
-AltersHere old new before behind state place reply =
-    (w : World) (g : Group) → IsAt before w → StandsFor old w → IsUnshared w → slice_get w.tier.groups place ≡ Some g
-    → is_read_only g ≡ true → IsPerformed new behind (λ w'. Tries (AltersTo state place g) w w' reply)
+-- In each world the READONLY group at a place gets this STATE: at the site, where the old tier stands for it, and its
+-- journal is kept over the disk.
+abbrev pub AltersHere : {D : Type 0} → (D → SiteState) → (D → ℕ → Held → Type 0) → Stored → Stored
+    → Option TierJournal → Option TierJournal → D → D → RefreshState → ℕ → Reply → Type 0
+AltersHere state possible old new k k' d d' to place reply =
+    (w : World) (g : Group) → IsAt (state d) w → StandsFor old w → IsUnshared w → KeepsOver state possible d k w
+    → slice_get w.tier.groups place ≡ Some g → is_read_only g ≡ true
+    → IsPerformedOver state possible new k' d' (Some reply) (λ w'. Tries (AltersTo to place g) w w' reply)
+
+-- the same where the record of its STATE was made ready
+abbrev pub AltersReady : {D : Type 0} → (D → SiteState) → (D → ℕ → Held → Type 0) → Stored → Stored
+    → Option TierJournal → Option TierJournal → D → D → Ready → RefreshState → ℕ → Reply → Type 0
+AltersReady state possible old new k k' d d' ready to place reply =
+    (w : World) (g : Group) → IsAt (state d) w → StandsFor old w → IsUnshared w → KeepsOver state possible d k w
+    → IsReadyFor w.tier.schema k ready (altered_entries g to) → slice_get w.tier.groups place ≡ Some g
+    → is_read_only g ≡ true
+    → IsPerformedOver state possible new k' d' (Some reply) (λ w'. Tries (AltersTo to place g) w w' reply)
 
 -- with its STATE the group at a place is refreshed: with its set, or alone
 abbrev pub altered_with : RefreshState → ℕ → ℕ → Choice
@@ -61,14 +79,26 @@ altered_with Off interval place = alone place
 altered_with Paused interval place = alone place
 
 -- so it is behind a refresh of these groups, which was noted
-abbrev pub AltersWith : Stored → Stored → SiteState → SiteState → RefreshState → ℕ → Choice → Reply → Type 0
-AltersWith old new before behind state place chosen reply =
-    (w : World) (g : Group) → IsAt before w → StandsFor old w → IsUnshared w → slice_get w.tier.groups place ≡ Some g
-    → is_read_only g ≡ true → chosen ≡ altered_with state g.def.interval place
-    → IsPerformed new behind (λ w'. SetsStateRefreshed place g state chosen as_it_was w w' reply)
+abbrev pub AltersWith : {D : Type 0} → (D → SiteState) → (D → ℕ → Held → Type 0) → Stored → Stored
+    → Option TierJournal → Option TierJournal → D → D → Ready → RefreshState → ℕ → Choice → Reply → Type 0
+AltersWith state possible old new k k' d d' ready to place chosen reply =
+    (w : World) (g : Group) → IsAt (state d) w → StandsFor old w → IsUnshared w → KeepsOver state possible d k w
+    → IsReadyFor w.tier.schema k ready (altered_entries g to) → slice_get w.tier.groups place ≡ Some g
+    → is_read_only g ≡ true → chosen ≡ altered_with to g.def.interval place
+    → IsPerformedOver state possible new k' d' (Some reply)
+        (λ w'. SetsStateRefreshed place g to chosen as_it_was w w' reply)
 
 -- and without one, where the group then has nothing to show in a set
-abbrev pub AltersAlone : Stored → Stored → SiteState → RefreshState → ℕ → Reply → Type 0
-AltersAlone old new site state place reply =
-    (w : World) (g : Group) → IsAt site w → StandsFor old w → slice_get w.tier.groups place ≡ Some g
-    → (is_on state && has_something g) ≡ false → IsPerformed new site (λ w'. SetsStateAlone place g state w w' reply)
+abbrev pub AltersAlone : {D : Type 0} → (D → SiteState) → (D → ℕ → Held → Type 0) → Stored → Stored
+    → Option TierJournal → Option TierJournal → D → D → Ready → RefreshState → ℕ → Reply → Type 0
+AltersAlone state possible old new k k' d d' ready to place reply =
+    (w : World) (g : Group) → IsAt (state d) w → StandsFor old w → KeepsOver state possible d k w
+    → IsReadyFor w.tier.schema k ready (altered_entries g to) → slice_get w.tier.groups place ≡ Some g
+    → (is_on to && has_something g) ≡ false
+    → IsPerformedOver state possible new k' d' (Some reply) (λ w'. SetsStateAlone place g to w w' reply)
+
+-- what was made ready for the group at a place, which gets this STATE
+abbrev pub IsReadyAt : List Group → Option TierJournal → ℕ → RefreshState → Ready → Type 0
+IsReadyAt groups k place to ready =
+    (schema : List TableDef) (seen : Group) → slice_get groups place ≡ Some seen
+    → IsReadyFor schema k ready (altered_entries seen to)

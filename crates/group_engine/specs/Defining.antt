@@ -1,15 +1,24 @@
 -- Which definitions of groups are done. (This project's rule.)
 
-use Rattle.std.specs.Prelude.{◌≡◌, List, [], ◌∷◌, ◌++◌, None, Bool, true, false, ◌&&◌, ◌||◌, not, is_none}
+use Rattle.std.specs.Prelude.{◌≡◌, List, [], ◌∷◌, ◌++◌, Option, None, Bool, true, false, ◌&&◌, ◌||◌, not, is_none}
 use Rattle.table_defs.specs.declared.definition.TableDef.{TableDef}
 use Rattle.sql_subset.specs.declared.stmt.CreateGroup.{CreateGroup}
 use Rattle.instances.specs.Trees.{is_sound}
 use Rattle.group_catalog.specs.Catalogs.{groups_in}
 use Rattle.group_store.specs.Stores.{Kept}
-use Rattle.cache_tier.specs.Definitions.{IsTreeOf, defined_by, definition_broken, is_read_only_kind, new_group, placed_tables}
+use Rattle.cache_tier.specs.Definitions.{IsTreeOf, defined_by, definition_broken, is_read_only_kind, new_group, placed_tables, text_of}
 use Rattle.cache_tier.specs.Groups.{definitions_of}
 use Rattle.cache_tier.specs.declared.group.GroupDef.{GroupDef}
 use Rattle.cache_tier.specs.StandingBetween.{foreign_key_in}
+use Rattle.sql_subset.specs.declared.stmt.Stmt.TheVariants as statement
+use Rattle.tier_base.specs.declared.number.SessionId.{SessionId}
+use Rattle.cache_tier.specs.Journals.{Defines}
+use Rattle.cache_tier.specs.Order.{refusal}
+use Rattle.cache_tier.specs.TierStates.{Session, Tier}
+use Rattle.tier_journal.specs.declared.journal.TierJournal.{TierJournal}
+use Rattle.group_engine.specs.declared.ready.Ready.{Ready}
+use Rattle.group_engine.specs.Ready.{IsReadyFor}
+use Rattle.stored_tier.specs.Stored.{HasSession, IsStoredAs}
 use Rattle.stored_tier.specs.declared.tier.Tier.{Tier as Stored}
 use Rattle.stored_tier.specs.Grouping.{HasGroups, IsBareStore}
 
@@ -39,3 +48,12 @@ pub record HasNewGroup (t new : Stored) (d : CreateGroup) (def : GroupDef) : Typ
   pub has :
       HasGroups t new (groups_in t.catalog ++ new_group t.next t.clock.now d def ∷ []) (t.stores.items ++ store ∷ [])
   pub unverified : new.verified ≡ false
+
+-- what was made ready for a definition
+abbrev pub IsReadyToCreate : Option TierJournal → CreateGroup → Ready → Type 0
+IsReadyToCreate k d ready = (schema : List TableDef) → IsReadyFor schema k ready (Defines d (text_of d) ∷ [])
+
+-- nothing refuses the definition
+abbrev pub IsUnrefused : Stored → SessionId → CreateGroup → Type 0
+IsUnrefused t id d =
+    (a : Tier) (s : Session) → IsStoredAs t a → HasSession t id s → refusal a s (statement.CreateGroup d) ≡ None

@@ -1,6 +1,6 @@
 -- DROP CACHE GROUP over what is stored. (TimesTen SQL Reference, "DROP CACHE GROUP".)
 
-use Rattle.std.specs.Prelude.{◌≡◌, ℕ, List, [], Option, Some, None, Bool, true, false, ◌&&◌, not, find, length, remove, slice_get, unwrap_or}
+use Rattle.std.specs.Prelude.{◌≡◌, ℕ, List, [], ◌∷◌, Option, Some, None, Bool, true, false, ◌&&◌, not, find, length, remove, slice_get, unwrap_or}
 use Rattle.std.specs.List.{list_any}
 use Rattle.std.specs.Option.{option_map}
 use Rattle.row_types.specs.declared.rule.Refused.{Refused}
@@ -13,17 +13,24 @@ use Rattle.instances.specs.declared.tree.Tree.{Tree}
 use Rattle.session_state.specs.Sessions.{OpenSession, has_id}
 use Rattle.cache_tier.specs.DropSteps.{DropsRest}
 use Rattle.cache_tier.specs.Groups.{Group, covers, is_writethrough}
-use Rattle.cache_tier.specs.Locks.{writes_on}
+use Rattle.cache_tier.specs.Locks.{group_lock, writes_on}
 use Rattle.cache_tier.specs.Rounds.{Round}
-use Rattle.cache_tier.specs.TierStates.{Session}
+use Rattle.cache_tier.specs.TierStates.{Session, Tier}
 use Rattle.cache_tier.specs.Worlds.{OnlyWhere, Stage, Tries, World}
 use Rattle.cache_tier.specs.declared.reply.Reply.{Reply}
 use Rattle.stored_tier.specs.declared.tier.Tier.{Tier as Stored}
 use Rattle.stored_tier.specs.Grouping.{HasGroups}
-use Rattle.stored_tier.specs.Performing.{IsPerformed, StandsFor, reply_of}
+use Rattle.stored_tier.specs.Performing.{IsPerformedOver, StandsFor}
 use Rattle.stored_tier.specs.Sites.{IsAt}
+use Rattle.outside.specs.Holding.{Held}
 use Rattle.outside.specs.Sites.{SiteState}
-use Rattle.stored_tier.specs.Stored.{HasSession}
+use Rattle.table_defs.specs.declared.definition.TableDef.{TableDef}
+use Rattle.cache_tier.specs.Journals.{Drops}
+use Rattle.tier_journal.specs.declared.journal.TierJournal.{TierJournal}
+use Rattle.kept_journal.specs.Keeping.{KeepsOver}
+use Rattle.group_engine.specs.declared.ready.Ready.{Ready}
+use Rattle.group_engine.specs.Ready.{IsReadyFor}
+use Rattle.stored_tier.specs.Stored.{HasSession, IsStoredAs}
 
 -- the group at a place is a writethrough one
 abbrev pub is_written_at : List Group → ℕ → Bool
@@ -43,7 +50,21 @@ pub record IsWithoutGroup (t new : Stored) (place : ℕ) : Type 0 where
   pub unverified : new.verified ≡ false
 
 -- the rest of DROP behind the round, of the group at a place
-abbrev pub DropsHere : Stored → Stored → SiteState → SessionId → ℕ → Reply → Type 0
-DropsHere t new site id place reply =
-    (s : Session) (w : World) (g : Group) → HasSession t id s → IsAt site w → StandsFor t w
-    → slice_get w.tier.groups place ≡ Some g → IsPerformed new site (λ w'. Tries (DropsRest s g) w w' reply)
+abbrev pub DropsHere : {D : Type 0} → (D → SiteState) → (D → ℕ → Held → Type 0) → Stored → Stored
+    → Option TierJournal → Option TierJournal → D → D → SessionId → ℕ → Reply → Type 0
+DropsHere state possible t new k k' d d' id place reply =
+    (s : Session) (w : World) (g : Group) → HasSession t id s → IsAt (state d) w → StandsFor t w
+    → KeepsOver state possible d k w → slice_get w.tier.groups place ≡ Some g
+    → IsPerformedOver state possible new k' d' (Some reply) (λ w'. Tries (DropsRest s g) w w' reply)
+
+-- what was made ready for the drop of the group at a place
+abbrev pub IsReadyToGo : List Group → Option TierJournal → ℕ → Ready → Type 0
+IsReadyToGo groups k place ready =
+    (schema : List TableDef) (seen : Group) → slice_get groups place ≡ Some seen
+    → IsReadyFor schema k ready (Drops seen.def.name ∷ [])
+
+-- no other session has written on the tables of the group at a place
+abbrev pub IsFreeAt : Stored → SessionId → ℕ → Type 0
+IsFreeAt t id place =
+    (a : Tier) (s : Session) (g : Group) → IsStoredAs t a → HasSession t id s → slice_get a.groups place ≡ Some g
+    → group_lock s.label a g ≡ None

@@ -25,12 +25,14 @@ use Rattle.stored_tier.specs.Refreshing.{exchanged, is_filled, positioned}
 use Rattle.stored_tier.specs.Sites.{IsAt}
 use Rattle.outside.specs.Sites.{SiteState}
 
--- counts and moments don't fall, what others change stays, and so do the slots; a failed call has its cause
+-- Counts and moments don't fall; what others change stays, and so do the slots and the count of the disk's faults. A
+-- failed call has its cause.
 pub record IsCalled {T : Type 0} (before behind : SiteState) (result : Result T BankError) : Type 0 where
   pub later : before.bank_faults ≤ behind.bank_faults
   pub moment : before.moment ≤ behind.moment
   pub shares : behind.shared ≡ before.shared
   pub slots : KeepsSlots before.held behind.held
+  pub disk : behind.disk_faults ≡ before.disk_faults
   pub failed : IsErrOf result Failed → Rose before.bank_faults behind.bank_faults
 
 -- each store that was made has the tables of its group's tree

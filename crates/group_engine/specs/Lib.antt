@@ -5,6 +5,8 @@ pub mod Dropping
 pub mod Fresh
 pub mod Loaded
 pub mod Putting
+pub mod Ready
+pub mod Readying
 pub mod Taking
 pub mod UnloadLocks
 pub mod Unloading

@@ -1,7 +1,7 @@
 -- What a writethrough group takes in by LOAD and REFRESH. (TimesTen SQL Reference, "LOAD CACHE GROUP", "REFRESH CACHE
 -- GROUP".)
 
-use Rattle.std.specs.Prelude.{◌≡◌, ℕ, List, [], ◌∷◌, Bool, true, false, Some, map, slice_get, slice_set, Result, Ok, Err}
+use Rattle.std.specs.Prelude.{◌≡◌, ℕ, List, [], ◌∷◌, Bool, true, false, Option, Some, map, slice_get, slice_set, Result, Ok, Err}
 use Rattle.std.specs.Bool.{MatchBool}
 use Rattle.std.specs.FinMap.{values}
 use Rattle.tier_base.specs.declared.code.Code.TheVariants as code
@@ -15,23 +15,27 @@ use Rattle.group_catalog.specs.Catalogs.{groups_in}
 use Rattle.group_catalog.specs.Identified.{is_given}
 use Rattle.group_catalog.specs.declared.which.ResolvedWhich.{ResolvedWhich}
 use Rattle.group_store.specs.Stores.{Kept, SameButSpare, put_tables}
-use Rattle.cache_tier.specs.declared.reply.Last.TheVariants.{Done}
+use Rattle.cache_tier.specs.declared.reply.Last.TheVariants.{Done, No}
 use Rattle.cache_tier.specs.declared.reply.Reply.{Reply}
 use Rattle.cache_tier.specs.Conditions.{is_id, overflow_fault}
 use Rattle.cache_tier.specs.Groups.{Group, is_read_only}
 use Rattle.cache_tier.specs.LoadSteps.{LoadsReadOnly, LoadsWritethrough, added_answer}
 use Rattle.cache_tier.specs.Reading.{Reads, as_it_was, backing_at}
 use Rattle.cache_tier.specs.RefreshSteps.{RefreshesReadOnly, RefreshesWritethrough, judged_roots, refreshed_answer}
-use Rattle.cache_tier.specs.Rules.{plain}
+use Rattle.cache_tier.specs.Rules.{past, plain}
 use Rattle.cache_tier.specs.Sets.{alone, changed_from}
 use Rattle.cache_tier.specs.Targets.{Settles, Target, backing_roots}
 use Rattle.cache_tier.specs.Worlds.{IsUnshared, Part, Unless, World, only}
 use Rattle.stored_tier.specs.declared.tier.Tier.{Tier as Stored}
 use Rattle.stored_tier.specs.Choosing.{counted}
 use Rattle.stored_tier.specs.Gathering.{coming_in, gathered_in, overflows_in}
-use Rattle.stored_tier.specs.Performing.{IsPerformed, StandsFor}
+use Rattle.stored_tier.specs.Performing.{IsPerformedOver, StandsFor}
 use Rattle.stored_tier.specs.Sites.{IsAt}
+use Rattle.outside.specs.Holding.{Held}
 use Rattle.outside.specs.Sites.{SiteState}
+use Rattle.tier_journal.specs.declared.journal.TierJournal.{TierJournal}
+use Rattle.kept_journal.specs.Keeping.{KeepsOver}
+use Rattle.tier_base.specs.declared.limit.Limit.TheVariants as limit
 
 -- what of the tier is neither of its groups nor of their rows
 pub record IsSameElsewhere (old new : Stored) : Type 0 where
@@ -85,6 +89,12 @@ pub record Overflows (old : Stored) (place : ℕ) (which : ResolvedWhich) (s : T
   pub there : slice_get (groups_in old.catalog) place ≡ Some group
   pub is : overflows_in s group.def.tree which ≡ true
 
+-- the condition is no 120 on a root row of these tables
+pub record Fits (old : Stored) (place : ℕ) (which : ResolvedWhich) (s : TableState) : Type 0 where
+  pub group : Group
+  pub there : slice_get (groups_in old.catalog) place ≡ Some group
+  pub is : overflows_in s group.def.tree which ≡ false
+
 -- the group takes in what matches; or 120; or memory was wanting
 abbrev pub TakesMatching : Stored → Stored → ℕ → ResolvedWhich → Bool → TableState → Result Reply Refused → Type 0
 TakesMatching old new place which refreshes s (Ok reply) = TakesIn old new place which refreshes s reply
@@ -122,10 +132,19 @@ LoadsTarget false x w w' reply =
 LoadsTarget true x w w' reply =
     MatchBool (is_read_only x.group) (RefreshesReadOnly x w w' reply) (RefreshesWritethrough x w w' reply)
 
--- for each world of these that stands so
-abbrev pub PerformsWhere : (World → Type 0) → Stored → Stored → SiteState → SiteState → (World → World → Type 0) → Type 0
-PerformsWhere P old new before behind does =
-    (w : World) → IsAt before w → StandsFor old w → IsUnshared w → P w → IsPerformed new behind (does w)
+-- for each world of these at the site that stands so, and whose journal is kept over the disk
+abbrev pub PerformsWhere : (World → Type 0) → {D : Type 0} → (D → SiteState) → (D → ℕ → Held → Type 0) → Stored
+    → Stored → Option TierJournal → Option TierJournal → D → D → Option Reply → (World → World → Type 0) → Type 0
+PerformsWhere P state possible old new k k' d d' stop does =
+    (w : World) → IsAt (state d) w → StandsFor old w → IsUnshared w → KeepsOver state possible d k w → P w
+    → IsPerformedOver state possible new k' d' stop (does w)
+
+-- 119 of the journal where the condition is no 120, or 120; or memory was wanting
+abbrev pub JudgesFull : Stored → ℕ → ResolvedWhich → TableState → Result Reply Refused → Type 0
+JudgesFull old place which s (Ok reply) = Fits old place which s × (reply ≡ only (No (past limit.JournalSlot)))
+JudgesFull old place which s (Err (refused.Rule rule)) =
+    Overflows old place which s × (rule ≡ plain code.Overflow)
+JudgesFull old place which s (Err refused.Memory) = Unit {0}
 
 -- the group is at the place, and nothing is unsettled
 pub record IsSettledAt (place : ℕ) (g : Group) (w : World) : Type 0 where

@@ -29,9 +29,15 @@ use Rattle.stored_tier.specs.declared.tier.Tier.{Tier as Stored}
 use Rattle.group_engine.specs.Aiming.{IsAimed}
 use Rattle.stored_tier.specs.Choosing.{matches_at}
 use Rattle.stored_tier.specs.Grouping.{KeepsBesideGroups}
-use Rattle.stored_tier.specs.Performing.{IsPerformed, StandsFor}
+use Rattle.stored_tier.specs.Performing.{IsPerformedOver, StandsFor}
 use Rattle.stored_tier.specs.Sites.{IsAt}
+use Rattle.table_defs.specs.declared.definition.TableDef.{TableDef}
+use Rattle.outside.specs.Holding.{Held}
 use Rattle.outside.specs.Sites.{SiteState}
+use Rattle.tier_journal.specs.declared.journal.TierJournal.{TierJournal}
+use Rattle.kept_journal.specs.Keeping.{KeepsOver}
+use Rattle.group_engine.specs.declared.ready.Ready.{Ready}
+use Rattle.group_engine.specs.Ready.{IsReadyFor}
 use Rattle.stored_tier.specs.Stored.{HasSession, IsStoredAs}
 use Rattle.group_engine.specs.Taking.{IsOfTarget}
 use Rattle.cache_tier.specs.JournalSteps.{FlushesSome}
@@ -147,10 +153,29 @@ UnloadsTarget s x all w w' reply =
     Unless (unload_fault s x w) (Then (FlushesSome (unload_entries all x.group)) (Answers (unload_answer x all))) w w'
     reply
 
--- so it is of the group at a place, in each world for which the tier stands, where the session has no open writes
-abbrev pub UnloadsHere : Stored → Stored → SiteState → SessionId → Aim → Bool → Reply → Type 0
-UnloadsHere t new site id aim all reply =
-    (s : Session) (w : World) (x : Target) → HasSession t id s → s.own ≡ [] → AsksWhole x all → IsAt site w
-    → StandsFor t w → slice_get w.tier.groups aim.place ≡ Some x.group → is_read_only x.group ≡ aim.read_only
+-- So it is of the group at a place, in each world at the site for which the tier stands, and whose journal is kept over
+-- the disk, where the session has no open writes.
+abbrev pub UnloadsHere : {D : Type 0} → (D → SiteState) → (D → ℕ → Held → Type 0) → Stored → Stored
+    → Option TierJournal → Option TierJournal → D → D → SessionId → Aim → Bool → Reply → Type 0
+UnloadsHere state possible t new k k' d d' id aim all reply =
+    (s : Session) (w : World) (x : Target) → HasSession t id s → s.own ≡ [] → AsksWhole x all → IsAt (state d) w
+    → StandsFor t w → KeepsOver state possible d k w → slice_get w.tier.groups aim.place ≡ Some x.group
+    → is_read_only x.group ≡ aim.read_only → IsOfTarget x aim.place aim.which
+    → IsPerformedOver state possible new k' d' (Some reply) (λ w'. Tries (UnloadsTarget s x all) w w' reply)
+
+-- the same where the record of its flag was made ready
+abbrev pub UnloadsReady : {D : Type 0} → (D → SiteState) → (D → ℕ → Held → Type 0) → Stored → Stored
+    → Option TierJournal → Option TierJournal → D → D → Ready → SessionId → Aim → Bool → Reply → Type 0
+UnloadsReady state possible t new k k' d d' ready id aim all reply =
+    (s : Session) (w : World) (x : Target) → HasSession t id s → s.own ≡ [] → AsksWhole x all → IsAt (state d) w
+    → StandsFor t w → KeepsOver state possible d k w
+    → IsReadyFor w.tier.schema k ready (unload_entries all x.group)
+    → slice_get w.tier.groups aim.place ≡ Some x.group → is_read_only x.group ≡ aim.read_only
     → IsOfTarget x aim.place aim.which
-    → IsPerformed new site (λ w'. Tries (UnloadsTarget s x all) w w' reply)
+    → IsPerformedOver state possible new k' d' (Some reply) (λ w'. Tries (UnloadsTarget s x all) w w' reply)
+
+-- what was made ready for the group at a place, whose instances leave
+abbrev pub IsReadyToLeave : List Group → Option TierJournal → ℕ → Bool → Ready → Type 0
+IsReadyToLeave groups k place all ready =
+    (schema : List TableDef) (seen : Group) → slice_get groups place ≡ Some seen
+    → IsReadyFor schema k ready (unload_entries all seen)

@@ -194,7 +194,7 @@ pub(crate) fn is_read_only(group: &KeptGroup) -> bool
     }
 }
 
-fn is_paused(state: RefreshState) -> bool
+pub(crate) fn is_paused(state: RefreshState) -> bool
     ensures { result ≡ is_paused state }
 {
     match state {

@@ -9,53 +9,54 @@ ghost use Rattle.group_catalog.specs.Catalogs.{groups_in};
 ghost use Rattle.group_catalog.specs.Kept.{group_seen};
 ghost use Rattle.cache_tier.specs.Groups.{is_explicit};
 ghost use Rattle.cache_tier.specs.Sets.{shows_something};
-ghost use Rattle.group_engine.specs.Altering.{alter_state, AimsAlterIn, AltersAlone, AltersHere, AltersWith};
+ghost use Rattle.group_engine.specs.Altering.{alter_state, AimsAlterIn, AltersAlone, AltersHere, AltersReady, AltersWith, IsReadyAt};
+ghost use Rattle.group_engine.specs.Ready.{IsMemoryOf, IsPlacedReady};
+ghost use Rattle.kept_journal.specs.Drafts.{StaysKept};
 ghost use Rattle.stored_tier.specs.Refreshing.{choice_of, is_off};
-ghost use Rattle.stored_tier.specs.Performing.{Executes, IsCalm, IsCaused, PerformsIn, reply_of};
-ghost use Rattle.outside.specs.Sites.{SiteState};
+ghost use Rattle.stored_tier.specs.Performing.{Executes, IsCausedOver, PerformsInOver, reply_of};
 ghost use Rattle.stored_tier.specs.Stored.{IsSound};
 
 use crate::aiming::{about, is_read_only, judge_writes};
 use crate::fresh::{read_fresh, show_fresh};
+use crate::ready::{Ready, answer_behind, slot_is_full};
+use crate::readying::ready_state;
 use cache_tier::reply::Reply;
 use group_catalog::{Catalog, KeptGroup};
 use open_sessions::laws::label_law;
 use outside::Site;
 use row_types::Refused;
 use sql_subset::stmt::{Alter, RefreshState};
-use std::alloc::Global;
+use std::alloc::{AllocError, Global};
 use stored_tier::refreshing::{Chosen, is_off, make_moment, note_moment, shows_something};
 use stored_tier::tier::Tier;
 use table_state::Op;
 use tier_base::{Code, SessionId};
+use tier_journal::TierJournal;
 use tier_statements::{bank_fault, done};
 
 /// ALTER CACHE GROUP: the STATE of a READONLY group changes. To ON, its set is refreshed with it where something is
-/// shown; from OFF to PAUSED it alone is.
+/// shown; from OFF to PAUSED it alone is. Where a journal is kept and the STATE is another, its record is flushed.
 ///
-/// The refusal is 112, 115 of a writethrough group, 122; a failed call is 201; or memory was wanting. (TimesTen SQL
+/// The refusal is 112, 115 of a writethrough group, 122; a failed call of the bank is 201; 119 where the journal has no
+/// room; 202 where a call of its disk failed, and the run is to end then; or memory was wanting. (TimesTen SQL
 /// Reference, "ALTER CACHE GROUP".)
 pub fn alter_group<P: Site>(
     tier: &mut Tier,
     alloc: Global,
     site: &mut P,
+    journal: &mut Option<TierJournal>,
     id: SessionId,
     alter: &Alter,
 ) -> Result<Reply, Refused>
     requires { IsSound tier.old }
-    ensures performs { PerformsIn tier.old tier.new
-        (P.Disk.state site.old)
-        (P.Disk.state site.new)
-        id (Executes (statement.Alter alter.now)) result }
+    ensures performs { PerformsInOver P.Disk.state P.Disk.possible tier.old tier.new journal.old journal.new
+        site.old site.new id (Executes (statement.Alter alter.now)) result }
     ensures sound { IsSound tier.new }
-    ensures cause { IsCaused
-        (P.Disk.state site.old)
-        (P.Disk.state site.new)
-        (reply_of result) }
+    ensures cause { IsCausedOver journal.old (P.Disk.state site.old) (P.Disk.state site.new) (reply_of result) }
 {
     match aim_alter(tier, alloc, id, alter) {
         Err(refused) => Err(refused),
-        Ok(place) => alter_at(tier, alloc, site, place, alter.state),
+        Ok(place) => alter_at(tier, alloc, site, journal, place, alter.state),
     }
 }
 
@@ -78,30 +79,53 @@ fn aim_alter(tier: &Tier, alloc: Global, id: SessionId, alter: &Alter) -> Result
     }
 }
 
-// The READONLY group at a place gets a STATE. It is 201 where the bank's call failed; or memory was wanting.
+// The READONLY group at a place gets a STATE, whose record is made ready first.
 fn alter_at<P: Site>(
     tier: &mut Tier,
     alloc: Global,
     site: &mut P,
+    journal: &mut Option<TierJournal>,
     place: usize,
     state: RefreshState,
 ) -> Result<Reply, Refused>
     requires sound { IsSound tier.old }
     requires within { place < length (groups_in tier.old.catalog) }
-    ensures alters { AltersHere tier.old tier.new
-        (P.Disk.state site.old)
-        (P.Disk.state site.new)
+    ensures alters { AltersHere P.Disk.state P.Disk.possible tier.old tier.new journal.old journal.new site.old site.new
         state place (reply_of result) }
     ensures sound { IsSound tier.new }
-    ensures cause { IsCaused
-        (P.Disk.state site.old)
-        (P.Disk.state site.new)
-        (reply_of result) }
+    ensures cause { IsCausedOver journal.old (P.Disk.state site.old) (P.Disk.state site.new) (reply_of result) }
 {
-    match state {
-        RefreshState::On => alter_to_on(tier, alloc, site, place),
-        RefreshState::Off => Ok(give_state(tier, alloc, place, RefreshState::Off)),
-        RefreshState::Paused => alter_to_paused(tier, alloc, site, place),
+    match ready_at(&tier.catalog, alloc, journal, place, state) {
+        Err(refused) => Err(refused),
+        Ok(ready) => match state {
+            RefreshState::On => alter_to_on(tier, alloc, site, journal, place, &ready),
+            RefreshState::Off => {
+                Ok(give_state(tier, alloc, site, journal, place, &ready, RefreshState::Off))
+            }
+            RefreshState::Paused => alter_to_paused(tier, alloc, site, journal, place, &ready),
+        },
+    }
+}
+
+// The record of the STATE that the group at a place gets, where it is another. It fails for want of memory alone.
+fn ready_at(
+    catalog: &Catalog,
+    alloc: Global,
+    journal: &mut Option<TierJournal>,
+    place: usize,
+    state: RefreshState,
+) -> Result<Ready, Refused>
+    ensures ready { IfOk result (λ ready. IsReadyAt (groups_in catalog.now) journal.new place state ready) }
+    ensures placed { IfOk result (λ ready. IsPlacedReady journal.new ready) }
+    ensures kept { StaysKept journal.old journal.new }
+    ensures memory { IsMemoryOf result }
+{
+    match catalog.get(place) {
+        None => Err(Refused::Memory),
+        Some(group) => match ready_state(alloc, journal, group, state) {
+            Err(AllocError) => Err(Refused::Memory),
+            Ok(ready) => Ok(ready),
+        },
     }
 }
 
@@ -110,31 +134,29 @@ fn alter_to_on<P: Site>(
     tier: &mut Tier,
     alloc: Global,
     site: &mut P,
+    journal: &mut Option<TierJournal>,
     place: usize,
+    ready: &Ready,
 ) -> Result<Reply, Refused>
     requires sound { IsSound tier.old }
     requires within { place < length (groups_in tier.old.catalog) }
-    ensures alters { AltersHere tier.old tier.new
-        (P.Disk.state site.old)
-        (P.Disk.state site.new)
-        On place (reply_of result) }
+    requires placed { IsPlacedReady journal.old ready.now }
+    ensures alters { AltersReady P.Disk.state P.Disk.possible tier.old tier.new journal.old journal.new site.old site.new
+        ready.now On place (reply_of result) }
     ensures sound { IsSound tier.new }
-    ensures cause { IsCaused
-        (P.Disk.state site.old)
-        (P.Disk.state site.new)
-        (reply_of result) }
+    ensures cause { IsCausedOver journal.old (P.Disk.state site.old) (P.Disk.state site.new) (reply_of result) }
 {
     let (joins, interval) = match tier.catalog.get(place) {
         None => return Err(Refused::Memory),
         Some(group) => (joins_something(&tier.catalog, group), group.def.interval),
     };
     if !joins {
-        return Ok(give_state(tier, alloc, place, RefreshState::On));
+        return Ok(give_state(tier, alloc, site, journal, place, ready, RefreshState::On));
     }
     make_moment(&mut tier.clock.sets, interval)?;
     note_moment(&mut tier.clock.sets, interval, tier.clock.now);
     let chosen = Chosen::Joined(interval, Some(place));
-    Ok(alter_with(tier, alloc, site, place, chosen, RefreshState::On))
+    Ok(alter_with(tier, alloc, site, journal, place, chosen, ready, RefreshState::On))
 }
 
 // Where it was OFF and is loaded, it alone is refreshed.
@@ -142,72 +164,84 @@ fn alter_to_paused<P: Site>(
     tier: &mut Tier,
     alloc: Global,
     site: &mut P,
+    journal: &mut Option<TierJournal>,
     place: usize,
+    ready: &Ready,
 ) -> Result<Reply, Refused>
     requires sound { IsSound tier.old }
     requires within { place < length (groups_in tier.old.catalog) }
-    ensures alters { AltersHere tier.old tier.new
-        (P.Disk.state site.old)
-        (P.Disk.state site.new)
-        Paused place (reply_of result) }
+    requires placed { IsPlacedReady journal.old ready.now }
+    ensures alters { AltersReady P.Disk.state P.Disk.possible tier.old tier.new journal.old journal.new site.old site.new
+        ready.now Paused place (reply_of result) }
     ensures sound { IsSound tier.new }
-    ensures cause { IsCaused
-        (P.Disk.state site.old)
-        (P.Disk.state site.new)
-        (reply_of result) }
+    ensures cause { IsCausedOver journal.old (P.Disk.state site.old) (P.Disk.state site.new) (reply_of result) }
 {
     let leaves = match tier.catalog.get(place) {
         None => return Err(Refused::Memory),
         Some(group) => leaves_off(group),
     };
     if !leaves {
-        return Ok(give_state(tier, alloc, place, RefreshState::Paused));
+        return Ok(give_state(tier, alloc, site, journal, place, ready, RefreshState::Paused));
     }
     let chosen = Chosen::OneAlone(place);
-    Ok(alter_with(tier, alloc, site, place, chosen, RefreshState::Paused))
+    Ok(alter_with(tier, alloc, site, journal, place, chosen, ready, RefreshState::Paused))
 }
 
-// These groups are refreshed from one snapshot, and the group at the place gets a STATE.
+// These groups are refreshed from one snapshot, and the group at the place gets a STATE; then the record is flushed.
 fn alter_with<P: Site>(
     tier: &mut Tier,
     alloc: Global,
     site: &mut P,
+    journal: &mut Option<TierJournal>,
     place: usize,
     chosen: Chosen,
+    ready: &Ready,
     state: RefreshState,
 ) -> Reply
     requires sound { IsSound tier.old }
     requires within { place < length (groups_in tier.old.catalog) }
-    ensures alters { AltersWith tier.old tier.new
-        (P.Disk.state site.old)
-        (P.Disk.state site.new)
-        state place (choice_of chosen) result }
+    requires placed { IsPlacedReady journal.old ready.now }
+    ensures alters { AltersWith P.Disk.state P.Disk.possible tier.old tier.new journal.old journal.new site.old site.new
+        ready.now state place (choice_of chosen) result }
     ensures sound { IsSound tier.new }
-    ensures cause { IsCaused
-        (P.Disk.state site.old)
-        (P.Disk.state site.new)
-        result }
+    ensures cause { IsCausedOver journal.old (P.Disk.state site.old) (P.Disk.state site.new) result }
 {
     match read_fresh(tier, alloc, site, chosen, None) {
         Err(error) => bank_fault(alloc, error),
         Ok(fresh) => {
+            if ready.is_full() {
+                return slot_is_full(alloc);
+            }
             show_fresh(tier, chosen, fresh);
             tier.catalog.with_state(place, state);
-            done(alloc, 0)
+            answer_behind(alloc, site, journal, ready, done(alloc, 0))
         }
     }
 }
 
-// The STATE of the group at a place changes, and nothing else.
-fn give_state(tier: &mut Tier, alloc: Global, place: usize, state: RefreshState) -> Reply
+// The STATE of the group at a place changes, and nothing else; then the record is flushed.
+fn give_state<P: Site>(
+    tier: &mut Tier,
+    alloc: Global,
+    site: &mut P,
+    journal: &mut Option<TierJournal>,
+    place: usize,
+    ready: &Ready,
+    state: RefreshState,
+) -> Reply
     requires sound { IsSound tier.old }
     requires within { place < length (groups_in tier.old.catalog) }
-    ensures alters { (site : SiteState) → AltersAlone tier.old tier.new site state place result }
+    requires placed { IsPlacedReady journal.old ready.now }
+    ensures alters { AltersAlone P.Disk.state P.Disk.possible tier.old tier.new journal.old journal.new site.old site.new
+        ready.now state place result }
     ensures sound { IsSound tier.new }
-    ensures calm { IsCalm result }
+    ensures cause { IsCausedOver journal.old (P.Disk.state site.old) (P.Disk.state site.new) result }
 {
+    if ready.is_full() {
+        return slot_is_full(alloc);
+    }
     tier.catalog.with_state(place, state);
-    done(alloc, 0)
+    answer_behind(alloc, site, journal, ready, done(alloc, 0))
 }
 
 // 115 of a writethrough group, then 122.

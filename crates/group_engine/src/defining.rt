@@ -6,52 +6,93 @@ ghost use Rattle.table_defs.specs.Declarations.{Tells};
 ghost use Rattle.cache_tier.specs.Order.{refusal};
 ghost use Rattle.cache_tier.specs.TierStates.{Session as OneSession, Tier as AbstractTier};
 ghost use Rattle.cache_tier.specs.StandingBetween.{foreign_key_in};
-ghost use Rattle.group_engine.specs.Defining.{HasNewGroup, IsDefinition, is_done, is_free};
+ghost use Rattle.group_engine.specs.Defining.{HasNewGroup, IsDefinition, IsReadyToCreate, IsUnrefused, is_done, is_free};
 ghost use Rattle.stored_tier.specs.Grouping.{KeepsGroups};
-ghost use Rattle.stored_tier.specs.Performing.{Executes, IsCalm, PerformsIn, reply_of};
-ghost use Rattle.outside.specs.Sites.{SiteState};
+ghost use Rattle.stored_tier.specs.Performing.{Executes, IsCausedOver, PerformsInOver, reply_of};
+ghost use Rattle.cache_tier.specs.Definitions.{text_of};
+ghost use Rattle.group_engine.specs.Ready.{IsPlacedReady};
 ghost use Rattle.stored_tier.specs.Stored.{HasSession, IsSound, IsStoredAs};
 
 use crate::grouping::{bare_store, keep_group};
+use crate::ready::{Ready, answer_behind, slot_is_full};
+use crate::readying::ready_definition;
 use cache_tier::group::GroupDef;
 use cache_tier::group_shown_law;
 use cache_tier::reply::Reply;
 use group_catalog::laws::definition_law;
 use group_catalog::{KeptGroup, define};
 use open_sessions::laws::label_law;
+use outside::Site;
 use row_types::Refused;
 use sql_subset::stmt::{CreateGroup, GroupKind};
 use std::alloc::{AllocError, Global};
 use stored_tier::tier::Tier;
 use table_defs::TableDef;
 use tier_base::{Moment, SessionId, TableId, Ticket};
+use tier_journal::TierJournal;
 use tier_statements::done;
 
-/// CREATE CACHE GROUP: the group is there, without rows.
+/// CREATE CACHE GROUP: the group is there, without rows. Its definition is flushed, by its text, where a journal is
+/// kept.
 ///
 /// The refusal is the first broken rule, as `group_catalog::define` tells it: 102, 103, 113; 122; 104, 105; 114 by
-/// letter; 119 of the groups; or memory was wanting. All then stays. Groups that are DYNAMIC or age are refused
-/// before by the reader's lines that aren't done yet; here memory is said to be wanting for one. (TimesTen SQL
-/// Reference, "CREATE CACHE GROUP".)
-pub fn create_group(
+/// letter; 119 of the groups; then 119 where the journal has no room; or memory was wanting. All then stays. It is 202
+/// where a call of the journal's disk failed; the run is to end then. Groups that are DYNAMIC or age are refused before
+/// by the reader's lines that aren't done yet; here memory is said to be wanting for one. (TimesTen SQL Reference,
+/// "CREATE CACHE GROUP".)
+pub fn create_group<P: Site>(
     tier: &mut Tier,
     alloc: Global,
+    site: &mut P,
+    journal: &mut Option<TierJournal>,
     id: SessionId,
     declared: CreateGroup,
+    text: &[u8],
 ) -> Result<Reply, Refused>
-    requires { IsSound tier.old }
-    ensures performs { (site : SiteState) → PerformsIn tier.old tier.new site site id (Executes (statement.CreateGroup declared)) result }
+    requires sound { IsSound tier.old }
+    requires text { text.now ≡ text_of declared }
+    ensures performs { PerformsInOver P.Disk.state P.Disk.possible tier.old tier.new journal.old journal.new
+        site.old site.new id (Executes (statement.CreateGroup declared)) result }
     ensures sound { IsSound tier.new }
-    ensures calm { IsCalm (reply_of result) }
+    ensures cause { IsCausedOver journal.old (P.Disk.state site.old) (P.Disk.state site.new) (reply_of result) }
+{
+    match judge_definition(tier, alloc, id, declared) {
+        Err(refused) => Err(refused),
+        Ok(def) => match ready_definition(alloc, journal, text) {
+            Err(AllocError) => Err(Refused::Memory),
+            Ok(ready) => create_ready(tier, alloc, site, journal, id, def, &ready),
+        },
+    }
+}
+
+// The group of a definition comes, and its definition, which was made ready, is flushed; or 119.
+fn create_ready<P: Site>(
+    tier: &mut Tier,
+    alloc: Global,
+    site: &mut P,
+    journal: &mut Option<TierJournal>,
+    id: SessionId,
+    def: GroupDef,
+    ready: &Ready,
+) -> Result<Reply, Refused>
+    requires sound { IsSound tier.old }
+    requires made { IsDefinition tier.old def.declared def }
+    requires free { IsUnrefused tier.old id def.declared }
+    requires ready { IsReadyToCreate journal.old def.declared ready.now }
+    requires placed { IsPlacedReady journal.old ready.now }
+    ensures performs { PerformsInOver P.Disk.state P.Disk.possible tier.old tier.new journal.old journal.new
+        site.old site.new id (Executes (statement.CreateGroup def.declared)) result }
+    ensures sound { IsSound tier.new }
+    ensures cause { IsCausedOver journal.old (P.Disk.state site.old) (P.Disk.state site.new) (reply_of result) }
 {
     definition_law();
     group_shown_law();
-    match judge_definition(tier, alloc, id, declared) {
-        Err(refused) => Err(refused),
-        Ok(def) => match add_group(tier, alloc, def) {
-            Err(AllocError) => Err(Refused::Memory),
-            Ok(()) => Ok(done(alloc, 0)),
-        },
+    if ready.is_full() {
+        return Ok(slot_is_full(alloc));
+    }
+    match add_group(tier, alloc, def) {
+        Err(AllocError) => Err(Refused::Memory),
+        Ok(()) => Ok(answer_behind(alloc, site, journal, ready, done(alloc, 0))),
     }
 }
 

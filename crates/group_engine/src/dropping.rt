@@ -21,12 +21,15 @@ ghost use Rattle.cache_tier.specs.Groups.{covers, place_called, Group as OneGrou
 ghost use Rattle.cache_tier.specs.Locks.{group_lock, locked_by, writes_on};
 ghost use Rattle.cache_tier.specs.Order.{refusal};
 ghost use Rattle.cache_tier.specs.TierStates.{Session as OneSession, Tier as AbstractTier};
-ghost use Rattle.group_engine.specs.Dropping.{DropsHere, IsWithoutGroup, RoundFor, is_written_at};
+ghost use Rattle.group_engine.specs.Dropping.{DropsHere, IsFreeAt, IsReadyToGo, IsWithoutGroup, RoundFor, is_written_at};
+ghost use Rattle.group_engine.specs.Ready.{IsMemoryOf, IsPlacedReady};
+ghost use Rattle.kept_journal.specs.Drafts.{StaysKept};
 ghost use Rattle.stored_tier.specs.Grouping.{KeepsGroups};
 ghost use Rattle.stored_tier.specs.Stored.{named_where_cached, HasSession, IsSound, IsStoredAs};
-ghost use Rattle.stored_tier.specs.Performing.{Executes, IsCalm, IsCaused, IsStopCaused, Performs, PerformsIn, reply_of, stop_of};
-ghost use Rattle.outside.specs.Sites.{SiteState};
+ghost use Rattle.stored_tier.specs.Performing.{Executes, IsCausedOver, IsStopCausedOver, PerformsInOver, PerformsOver, reply_of, stop_of};
 
+use crate::ready::{Ready, answer_behind, has_come, slot_is_full};
+use crate::readying::ready_drop;
 use cache_tier::drop_statement_law;
 use cache_tier::reply::Reply;
 use group_catalog::{Catalog, KeptGroup};
@@ -42,36 +45,41 @@ use stored_tier::tier::Tier;
 use table_defs::{BackingSchema, TableDef};
 use table_state::Op;
 use tier_base::{Code, Name, Seq, SessionId, TableId};
+use tier_journal::TierJournal;
 use tier_statements::done;
 
 /// DROP CACHE GROUP: the group is gone with its rows; the backing tables stay. What is unsettled is applied at the bank
-/// first where it is a writethrough group.
+/// first where it is a writethrough group. Where a journal is kept, the drop is flushed.
 ///
-/// The refusal is 112, 122, then 111 where another session has written in the group; a failed call is 201, a row that
-/// isn't as a transaction says 210; or memory was wanting. (TimesTen SQL Reference, "DROP CACHE GROUP".)
+/// The refusal is 112, 122, then 111 where another session has written in the group, then 119 where the journal has no
+/// room; a failed call of the bank is 201, one of the journal's disk 202, after which the run is to end; a row that
+/// isn't as a transaction says is 210; or memory was wanting. (TimesTen SQL Reference, "DROP CACHE GROUP".)
 pub fn drop_group<P: Site>(
     tier: &mut Tier,
     alloc: Global,
     site: &mut P,
+    journal: &mut Option<TierJournal>,
     id: SessionId,
     name: &Name,
 ) -> Result<Reply, Refused>
     requires { IsSound tier.old }
-    ensures performs { PerformsIn tier.old tier.new
-        (P.Disk.state site.old)
-        (P.Disk.state site.new)
-        id (Executes (statement.DropGroup name.now)) result }
+    ensures performs { PerformsInOver P.Disk.state P.Disk.possible tier.old tier.new journal.old journal.new
+        site.old site.new id (Executes (statement.DropGroup name.now)) result }
     ensures sound { IsSound tier.new }
-    ensures cause { IsCaused
-        (P.Disk.state site.old)
-        (P.Disk.state site.new)
-        (reply_of result) }
+    ensures cause { IsCausedOver journal.old (P.Disk.state site.old) (P.Disk.state site.new) (reply_of result) }
 {
+    let kept = journal.is_some();
     match judge_drop(tier, alloc, id, name) {
         Err(refused) => Err(refused),
-        Ok(place) => match settle_for(tier, alloc, site, place) {
+        Ok(place) => match settle_for(tier, alloc, site, journal, place) {
             Err(reply) => Ok(reply),
-            Ok(()) => drop_at(tier, alloc, id, place),
+            Ok(()) => {
+                // No journal comes by a round, which its clauses don't say.
+                if has_come(kept, journal) {
+                    return Err(Refused::Memory);
+                }
+                drop_at(tier, alloc, site, journal, id, place)
+            }
         },
     }
 }
@@ -108,47 +116,107 @@ fn settle_for<P: Site>(
     tier: &mut Tier,
     alloc: Global,
     site: &mut P,
+    journal: &mut Option<TierJournal>,
     place: usize,
 ) -> Result<(), Reply>
     requires { IsSound tier.old }
-    ensures performs { Performs tier.old tier.new
-        (P.Disk.state site.old)
-        (P.Disk.state site.new)
-        (λ w w'. RoundFor place w w' (stop_of result)) }
+    ensures performs { PerformsOver P.Disk.state P.Disk.possible tier.old tier.new journal.old journal.new
+        site.old site.new (stop_of result) (λ w w'. RoundFor place w w' (stop_of result)) }
     ensures all { OnOk result (is_written_at (groups_in tier.old.catalog) place ≡ true
         → tier.new.unsettled.items ≡ []) }
     ensures same { tier.new ≡ record tier.old { unsettled = tier.new.unsettled; clock = tier.new.clock } }
     ensures sound { IsSound tier.new }
-    ensures cause { IsStopCaused
+    ensures cause { IsStopCausedOver journal.old
         (P.Disk.state site.old)
         (P.Disk.state site.new)
         (stop_of result) }
 {
     if is_written_at(&tier.catalog, place) {
-        tier.settle_all(alloc, site)
+        tier.settle_all(alloc, site, journal)
     } else {
         Ok(())
     }
 }
 
-// The group at a place goes, where no other session has written on its tables; else 111.
-fn drop_at(tier: &mut Tier, alloc: Global, id: SessionId, place: usize) -> Result<Reply, Refused>
+// The group at a place goes, where no other session has written on its tables; else 111. The drop is flushed last.
+fn drop_at<P: Site>(
+    tier: &mut Tier,
+    alloc: Global,
+    site: &mut P,
+    journal: &mut Option<TierJournal>,
+    id: SessionId,
+    place: usize,
+) -> Result<Reply, Refused>
     requires sound { IsSound tier.old }
     requires within { place < length (groups_in tier.old.catalog) }
     requires rests { open_ops id (seen_all tier.old.sessions) ≡ [] }
     requires settled { is_written_at (groups_in tier.old.catalog) place ≡ true → tier.old.unsettled.items ≡ [] }
-    ensures performs { (site : SiteState) → DropsHere tier.old tier.new site id place (reply_of result) }
+    ensures performs { DropsHere P.Disk.state P.Disk.possible tier.old tier.new journal.old journal.new
+        site.old site.new id place (reply_of result) }
     ensures sound { IsSound tier.new }
-    ensures calm { IsCalm (reply_of result) }
+    ensures cause { IsCausedOver journal.old (P.Disk.state site.old) (P.Disk.state site.new) (reply_of result) }
+{
+    match judge_writers(tier, alloc, id, place) {
+        Err(refused) => Err(refused),
+        Ok(()) => match ready_to_go(&tier.catalog, alloc, journal, place) {
+            Err(refused) => Err(refused),
+            Ok(ready) => take_away(tier, alloc, site, journal, id, place, &ready),
+        },
+    }
+}
+
+// What is made ready for the drop of the group at a place. It fails for want of memory alone.
+fn ready_to_go(
+    catalog: &Catalog,
+    alloc: Global,
+    journal: &mut Option<TierJournal>,
+    place: usize,
+) -> Result<Ready, Refused>
+    ensures ready { IfOk result (λ ready. IsReadyToGo (groups_in catalog.now) journal.new place ready) }
+    ensures placed { IfOk result (λ ready. IsPlacedReady journal.new ready) }
+    ensures kept { StaysKept journal.old journal.new }
+    ensures memory { IsMemoryOf result }
+{
+    match catalog.get(place) {
+        None => Err(Refused::Memory),
+        Some(group) => match ready_drop(alloc, journal, &group.def.name) {
+            Err(AllocError) => Err(Refused::Memory),
+            Ok(ready) => Ok(ready),
+        },
+    }
+}
+
+// The group at a place goes, and its drop, which was made ready, is flushed; or 119. No other session has written on
+// its tables.
+fn take_away<P: Site>(
+    tier: &mut Tier,
+    alloc: Global,
+    site: &mut P,
+    journal: &mut Option<TierJournal>,
+    id: SessionId,
+    place: usize,
+    ready: &Ready,
+) -> Result<Reply, Refused>
+    requires sound { IsSound tier.old }
+    requires within { place < length (groups_in tier.old.catalog) }
+    requires rests { open_ops id (seen_all tier.old.sessions) ≡ [] }
+    requires settled { is_written_at (groups_in tier.old.catalog) place ≡ true → tier.old.unsettled.items ≡ [] }
+    requires free { IsFreeAt tier.old id place }
+    requires ready { IsReadyToGo (groups_in tier.old.catalog) journal.old place ready.now }
+    requires placed { IsPlacedReady journal.old ready.now }
+    ensures performs { DropsHere P.Disk.state P.Disk.possible tier.old tier.new journal.old journal.new
+        site.old site.new id place (reply_of result) }
+    ensures sound { IsSound tier.new }
+    ensures cause { IsCausedOver journal.old (P.Disk.state site.old) (P.Disk.state site.new) (reply_of result) }
 {
     label_law();
     drop_statement_law();
-    match judge_writers(tier, alloc, id, place) {
-        Err(refused) => Err(refused),
-        Ok(()) => match remove_group(tier, alloc, place) {
-            Err(AllocError) => Err(Refused::Memory),
-            Ok(()) => Ok(done(alloc, 0)),
-        },
+    if ready.is_full() {
+        return Ok(slot_is_full(alloc));
+    }
+    match remove_group(tier, alloc, place) {
+        Err(AllocError) => Err(Refused::Memory),
+        Ok(()) => Ok(answer_behind(alloc, site, journal, ready, done(alloc, 0))),
     }
 }
 

@@ -6,6 +6,7 @@ ghost use Rattle.cache_tier.specs.Groups.{definitions_of};
 ghost use Rattle.cache_tier.specs.Sets.{RefreshesSet};
 ghost use Rattle.stored_tier.specs.Refreshing.{choice_of, end_of, has_moment, is_filled};
 ghost use Rattle.group_engine.specs.Fresh.{AreFormed, IsCalled, IsExchanged, ReadsFresh};
+ghost use Rattle.propagators.specs.Certainty.{KeepsCertain};
 ghost use Rattle.stored_tier.specs.Performing.{Performs};
 ghost use Rattle.stored_tier.specs.Stored.{IsSound};
 
@@ -65,6 +66,7 @@ pub(crate) fn read_fresh<P: Site>(
         (P.Disk.state site.old)
         (P.Disk.state site.new)
         result }
+    ensures certain { KeepsCertain P.Disk.state P.Disk.possible site.old site.new }
 {
     let Ok(tables) = tables_read(alloc, &tier.catalog, chosen) else {
         return Err(BankError::Memory);
@@ -123,6 +125,7 @@ pub fn refresh_members<P: Site>(
         (P.Disk.state site.old)
         (P.Disk.state site.new)
         result }
+    ensures certain { KeepsCertain P.Disk.state P.Disk.possible site.old site.new }
 {
     note_moment(&mut tier.clock.sets, interval, tier.clock.now);
     let chosen = Chosen::Joined(interval, None);

@@ -1,14 +1,19 @@
 //! LOAD and REFRESH of a writethrough group, behind the rules that refuse them and the round that comes first.
 
-ghost use Rattle.std.specs.Prelude.{◌≡◌, ◌∷◌, IfOk, map, option_copied, slice_get, true};
+ghost use Rattle.std.specs.Prelude.{◌≡◌, ◌∷◌, IfOk, Some, map, option_copied, slice_get, true};
 ghost use Rattle.instances.specs.declared.tree.Child.{Child as OneChild};
 ghost use Rattle.cache_tier.specs.Groups.{is_writethrough};
 ghost use Rattle.cache_tier.specs.Targets.{Target};
 ghost use Rattle.group_engine.specs.Putting.{FillsAt, HasPlaceFor, GathersAt};
-ghost use Rattle.stored_tier.specs.Performing.{IsCaused, reply_of};
+ghost use Rattle.stored_tier.specs.Performing.{IsCalm, IsCausedOver, reply_of};
 ghost use Rattle.stored_tier.specs.Stored.{IsSound};
-ghost use Rattle.group_engine.specs.Taking.{AsksTree, IsOfTarget, IsSettledAt, PerformsWhere, ReadsMatching, TakesMatching};
+ghost use Rattle.group_catalog.specs.Catalogs.{groups_in};
+ghost use Rattle.group_engine.specs.Loaded.{IsReadyToLoad};
+ghost use Rattle.group_engine.specs.Ready.{IsPlacedReady};
+ghost use Rattle.group_engine.specs.Taking.{AsksTree, IsOfTarget, IsSettledAt, JudgesFull, PerformsWhere, ReadsMatching, TakesMatching};
 
+use crate::loading_whole::ready_to_load;
+use crate::ready::{Ready, answer_behind, slot_is_full};
 use cache_tier::reply::Reply;
 use group_catalog::ResolvedWhich;
 use group_store::Store;
@@ -20,41 +25,93 @@ use stored_tier::gathering::{Gathered, fill, gather};
 use stored_tier::tier::Tier;
 use table_state::Tables;
 use tier_base::{Seq, TableId};
+use tier_journal::TierJournal;
 use tier_statements::{bank_fault, done};
 
-/// The writethrough group at a place gains the instances that match, of one snapshot; its flag is set. Nothing is
-/// unsettled. The reply tells how many came, or for a refresh how many match.
+/// The writethrough group at a place gains the instances that match, of one snapshot; its flag is set, which is flushed
+/// where it is new. Nothing is unsettled. The reply tells how many came, or for a refresh how many match.
 ///
-/// It is 120 where the condition is so on some backing root, and 201 where the bank's call failed; or memory was
-/// wanting.
+/// It is 120 where the condition is so on some backing root, then 119 where the journal has no room, 201 where the
+/// bank's call failed, and 202 where one of the journal's disk did; or memory was wanting.
 pub(crate) fn load_written<P: Site>(
     tier: &mut Tier,
     alloc: Global,
     site: &mut P,
+    journal: &mut Option<TierJournal>,
     place: usize,
     which: &ResolvedWhich,
     refreshes: bool,
 ) -> Result<Reply, Refused>
     requires sound { IsSound tier.old }
     ensures reads { (x : Target) → IsOfTarget x place which.now → is_writethrough x.group ≡ true
-        → PerformsWhere (IsSettledAt place x.group) tier.old tier.new
-        (P.Disk.state site.old)
-        (P.Disk.state site.new)
+        → PerformsWhere (IsSettledAt place x.group) P.Disk.state P.Disk.possible tier.old tier.new
+        journal.old journal.new site.old site.new (Some (reply_of result))
         (λ w w'. ReadsMatching refreshes x w w' (reply_of result)) }
     ensures sound { IsSound tier.new }
-    ensures cause { IsCaused
-        (P.Disk.state site.old)
-        (P.Disk.state site.new)
-        (reply_of result) }
+    ensures cause { IsCausedOver journal.old (P.Disk.state site.old) (P.Disk.state site.new) (reply_of result) }
+{
+    match ready_to_load(&tier.catalog, alloc, journal, place) {
+        Err(refused) => Err(refused),
+        Ok(ready) => load_matching(tier, alloc, site, journal, place, which, refreshes, &ready),
+    }
+}
+
+// The same where the record of the flag was made ready.
+fn load_matching<P: Site>(
+    tier: &mut Tier,
+    alloc: Global,
+    site: &mut P,
+    journal: &mut Option<TierJournal>,
+    place: usize,
+    which: &ResolvedWhich,
+    refreshes: bool,
+    ready: &Ready,
+) -> Result<Reply, Refused>
+    requires sound { IsSound tier.old }
+    requires ready { IsReadyToLoad (groups_in tier.old.catalog) journal.old place ready.now }
+    requires placed { IsPlacedReady journal.old ready.now }
+    ensures reads { (x : Target) → IsOfTarget x place which.now → is_writethrough x.group ≡ true
+        → PerformsWhere (IsSettledAt place x.group) P.Disk.state P.Disk.possible tier.old tier.new
+        journal.old journal.new site.old site.new (Some (reply_of result))
+        (λ w w'. ReadsMatching refreshes x w w' (reply_of result)) }
+    ensures sound { IsSound tier.new }
+    ensures cause { IsCausedOver journal.old (P.Disk.state site.old) (P.Disk.state site.new) (reply_of result) }
 {
     match tables_of_tree(tier, alloc, place) {
         Err(_) => Err(Refused::Memory),
         Ok(asked) => match site.snapshot(asked.as_slice()) {
             Err(error) => Ok(bank_fault(alloc, error)),
             Ok(snapshot) => {
-                take_matching(tier, alloc, place, which, refreshes, &snapshot.tables)
+                if ready.is_full() {
+                    return judge_full(tier, alloc, place, which, refreshes, &snapshot.tables);
+                }
+                match take_matching(tier, alloc, place, which, refreshes, &snapshot.tables) {
+                    Err(refused) => Err(refused),
+                    Ok(reply) => Ok(answer_behind(alloc, site, journal, ready, reply)),
+                }
             }
         },
+    }
+}
+
+// 120 of the condition, and then 119 of the journal.
+fn judge_full(
+    tier: &Tier,
+    alloc: Global,
+    place: usize,
+    which: &ResolvedWhich,
+    refreshes: bool,
+    tables: &Tables,
+) -> Result<Reply, Refused>
+    ensures judges { JudgesFull tier.now place which.now tables.now result }
+    ensures calm { IsCalm (reply_of result) }
+{
+    match gather_at(tier, alloc, place, which, refreshes, tables) {
+        Err(refused) => Err(refused),
+        Ok(gathered) => {
+            let _ = gathered;
+            Ok(slot_is_full(alloc))
+        }
     }
 }
 

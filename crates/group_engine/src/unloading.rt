@@ -14,24 +14,28 @@ ghost use Rattle.tier_statements.specs.Seen.{session_seen};
 ghost use Rattle.cache_tier.specs.Locks.{locked_by};
 ghost use Rattle.cache_tier.specs.Conditions.{overflows};
 ghost use Rattle.stored_tier.specs.Grouping.{KeepsGroups};
-ghost use Rattle.group_engine.specs.Unloading.{IsClearedAt, IsClearedBy, IsClearedGroup, IsCutAt, IsCutBy, IsCutGroup, UnloadsHere, cut_all, flagged, leaving, unload_state, AimsUnloadIn};
+ghost use Rattle.group_engine.specs.Unloading.{IsClearedAt, IsClearedBy, IsClearedGroup, IsCutAt, IsCutBy, IsCutGroup, IsReadyToLeave, UnloadsHere, UnloadsReady, cut_all, flagged, leaving, unload_state, AimsUnloadIn};
 ghost use Rattle.group_engine.specs.UnloadLocks.{LocksTold, RootsTold, UnloadTold};
 ghost use Rattle.group_catalog.specs.Catalogs.{groups_in};
-ghost use Rattle.stored_tier.specs.Performing.{Executes, IsCalm, PerformsIn, reply_of};
-ghost use Rattle.outside.specs.Sites.{SiteState};
+ghost use Rattle.kept_journal.specs.Drafts.{StaysKept};
+ghost use Rattle.stored_tier.specs.Performing.{Executes, IsCausedOver, PerformsInOver, reply_of};
+ghost use Rattle.group_engine.specs.Ready.{IsMemoryOf, IsPlacedReady};
 ghost use Rattle.stored_tier.specs.Stored.{IsSound};
 
 use crate::aiming::{Aim, about, aim_by, asks_all, is_read_only, is_whole_only, judge_writes};
 use crate::dropping::refuse_locked;
+use crate::ready::{Ready, answer_behind, slot_is_full};
+use crate::readying::ready_unload;
 use crate::unload_locks::writer_within;
 use cache_tier::laws::tier_law;
 use cache_tier::reply::Reply;
 use cache_tier::unload_statement_law;
-use group_catalog::{KeptGroup, ResolvedWhich};
+use group_catalog::{Catalog, KeptGroup, ResolvedWhich};
 use group_store::laws::drop_instance_law;
 use group_store::{Shown, Store};
 use indexed_rows::key_at;
 use open_sessions::laws::label_law;
+use outside::Site;
 use row_types::{Detail, Key, Refused, Rule};
 use session_state::Session;
 use sql_subset::stmt::{OfGroup, Which};
@@ -40,70 +44,146 @@ use stored_tier::tier::Tier;
 use table_state::Op;
 use table_state::scan_laws::keyed_law;
 use tier_base::{Code, SessionId};
+use tier_journal::TierJournal;
 use tier_statements::done;
 
 /// UNLOAD CACHE GROUP: the instances that match leave the cache, and nothing changes at the backing database. The reply
 /// tells how many left.
 ///
 /// The refusal is 112, 103, 115, 122, 104 and 105 in the order of refusals, then 120 of the condition on a shown root,
-/// then 111 of an instance in which another session has uncommitted writes; or memory was wanting. (TimesTen SQL
-/// Reference, "UNLOAD CACHE GROUP".)
-pub fn unload_group(
+/// then 111 of an instance in which another session has uncommitted writes, then 119 where the journal has no room; 202
+/// where a call of its disk failed, and the run is to end then; or memory was wanting. Where a journal is kept and the
+/// flag changes, its record is flushed. (TimesTen SQL Reference, "UNLOAD CACHE GROUP".)
+pub fn unload_group<P: Site>(
     tier: &mut Tier,
     alloc: Global,
+    site: &mut P,
+    journal: &mut Option<TierJournal>,
     id: SessionId,
     unload: &OfGroup,
 ) -> Result<Reply, Refused>
     requires { IsSound tier.old }
-    ensures performs { (site : SiteState) → PerformsIn tier.old tier.new site site id (Executes (statement.Unload unload.now)) result }
+    ensures performs { PerformsInOver P.Disk.state P.Disk.possible tier.old tier.new journal.old journal.new
+        site.old site.new id (Executes (statement.Unload unload.now)) result }
     ensures sound { IsSound tier.new }
-    ensures calm { IsCalm (reply_of result) }
+    ensures cause { IsCausedOver journal.old (P.Disk.state site.old) (P.Disk.state site.new) (reply_of result) }
 {
     match aim_unload(tier, alloc, id, unload) {
         Err(refused) => Err(refused),
-        Ok(aim) => unload_aimed(tier, alloc, id, &aim, asks_all(&unload.which)),
+        Ok(aim) => unload_aimed(tier, alloc, site, journal, id, &aim, asks_all(&unload.which)),
     }
 }
 
-// The instances that match leave; or 120, then 111.
-fn unload_aimed(
+// The instances that match leave; or 120, then 111, then 119. The record of the flag is made ready first.
+fn unload_aimed<P: Site>(
     tier: &mut Tier,
     alloc: Global,
+    site: &mut P,
+    journal: &mut Option<TierJournal>,
     id: SessionId,
     aim: &Aim,
     all: bool,
 ) -> Result<Reply, Refused>
     requires { IsSound tier.old }
-    ensures performs { (site : SiteState) → UnloadsHere tier.old tier.new site id aim.now all (reply_of result) }
+    ensures performs { UnloadsHere P.Disk.state P.Disk.possible tier.old tier.new journal.old journal.new
+        site.old site.new id aim.now all (reply_of result) }
     ensures sound { IsSound tier.new }
-    ensures calm { IsCalm (reply_of result) }
+    ensures cause { IsCausedOver journal.old (P.Disk.state site.old) (P.Disk.state site.new) (reply_of result) }
 {
-    drop_instance_law();
-    unload_statement_law();
-    if aim.read_only {
-        return unload_whole(tier, alloc, aim);
-    }
-    match judge_instances(tier, alloc, id, aim) {
+    match ready_to_leave(&tier.catalog, alloc, journal, aim.place, all) {
         Err(refused) => Err(refused),
-        Ok(()) => match cut_group(tier, alloc, aim, all) {
+        Ok(ready) => {
+            if aim.read_only {
+                unload_whole(tier, alloc, site, journal, aim, &ready)
+            } else {
+                unload_matching(tier, alloc, site, journal, id, aim, all, &ready)
+            }
+        }
+    }
+}
+
+// What is made ready for the group at a place, whose instances leave. It fails for want of memory alone.
+fn ready_to_leave(
+    catalog: &Catalog,
+    alloc: Global,
+    journal: &mut Option<TierJournal>,
+    place: usize,
+    all: bool,
+) -> Result<Ready, Refused>
+    ensures ready { IfOk result (λ ready. IsReadyToLeave (groups_in catalog.now) journal.new place all ready) }
+    ensures placed { IfOk result (λ ready. IsPlacedReady journal.new ready) }
+    ensures kept { StaysKept journal.old journal.new }
+    ensures memory { IsMemoryOf result }
+{
+    match catalog.get(place) {
+        None => Err(Refused::Memory),
+        Some(group) => match ready_unload(alloc, journal, group, all) {
             Err(AllocError) => Err(Refused::Memory),
-            Ok(count) => Ok(done(alloc, count as u64)),
+            Ok(ready) => Ok(ready),
         },
     }
 }
 
-// All instances of a READONLY group leave: nothing is asked of its rows, and no session writes in it.
-fn unload_whole(tier: &mut Tier, alloc: Global, aim: &Aim) -> Result<Reply, Refused>
+// The instances of a writethrough group that match leave; or 120, then 111, then 119.
+fn unload_matching<P: Site>(
+    tier: &mut Tier,
+    alloc: Global,
+    site: &mut P,
+    journal: &mut Option<TierJournal>,
+    id: SessionId,
+    aim: &Aim,
+    all: bool,
+    ready: &Ready,
+) -> Result<Reply, Refused>
+    requires sound { IsSound tier.old }
+    requires kind { aim.now.read_only ≡ false }
+    requires placed { IsPlacedReady journal.old ready.now }
+    ensures performs { UnloadsReady P.Disk.state P.Disk.possible tier.old tier.new journal.old journal.new
+        site.old site.new ready.now id aim.now all (reply_of result) }
+    ensures sound { IsSound tier.new }
+    ensures cause { IsCausedOver journal.old (P.Disk.state site.old) (P.Disk.state site.new) (reply_of result) }
+{
+    drop_instance_law();
+    unload_statement_law();
+    match judge_instances(tier, alloc, id, aim) {
+        Err(refused) => Err(refused),
+        Ok(()) => {
+            if ready.is_full() {
+                return Ok(slot_is_full(alloc));
+            }
+            match cut_group(tier, alloc, aim, all) {
+                Err(AllocError) => Err(Refused::Memory),
+                Ok(count) => {
+                    Ok(answer_behind(alloc, site, journal, ready, done(alloc, count as u64)))
+                }
+            }
+        }
+    }
+}
+
+// All instances of a READONLY group leave, or 119: nothing is asked of its rows, and no session writes in it.
+fn unload_whole<P: Site>(
+    tier: &mut Tier,
+    alloc: Global,
+    site: &mut P,
+    journal: &mut Option<TierJournal>,
+    aim: &Aim,
+    ready: &Ready,
+) -> Result<Reply, Refused>
     requires sound { IsSound tier.old }
     requires kind { aim.now.read_only ≡ true }
-    ensures performs { (site : SiteState) (id : OneId) (all : Bool)
-        → UnloadsHere tier.old tier.new site id aim.now all (reply_of result) }
+    requires placed { IsPlacedReady journal.old ready.now }
+    ensures performs { (id : OneId) (all : Bool) → UnloadsReady P.Disk.state P.Disk.possible tier.old tier.new
+        journal.old journal.new site.old site.new ready.now id aim.now all (reply_of result) }
     ensures sound { IsSound tier.new }
-    ensures calm { IsCalm (reply_of result) }
+    ensures cause { IsCausedOver journal.old (P.Disk.state site.old) (P.Disk.state site.new) (reply_of result) }
 {
+    if ready.is_full() {
+        return Ok(slot_is_full(alloc));
+    }
     match clear_group(tier, alloc, aim.place) {
         Err(AllocError) => Err(Refused::Memory),
-        Ok(count) => Ok(done(alloc, count as u64)),
+        Ok(count) => Ok(answer_behind(alloc, site, journal, ready, done(alloc, count as u64))),
     }
 }
 

@@ -5,13 +5,10 @@ use Rattle.group_engine.proofs.altering.alter_to_paused.Goals as goal
 
 pub returns-then-not-leaves-clause-alters : goal.returns-then-not-leaves-clause-alters
 returns-then-not-leaves-clause-alters g c =
-    paused_alone c.args.tier.now c.give_state.new.tier _ c.args.place (group_seen c.in-Some.group.now) c.give_state.result c.requires.sound (sym c.in-Some.ensures) (sym c.leaves_off-leaves.ensures ∙ c.if-not-leaves.true)
-    (c.give_state.ensures.alters _)
-
-pub returns-then-not-leaves-clause-cause : goal.returns-then-not-leaves-clause-cause
-returns-then-not-leaves-clause-cause g c = c.give_state.ensures.calm _
+    paused_alone g.P.Disk.state g.P.Disk.possible c.args.tier.now c.give_state.new.tier c.args.journal.now c.give_state.new.journal c.args.site.now c.give_state.new.site c.args.ready.now c.args.place (group_seen c.in-Some.group.now) c.give_state.result c.requires.sound (sym c.in-Some.ensures) (sym c.leaves_off-leaves.ensures ∙ c.if-not-leaves.true)
+    c.give_state.ensures.alters
 
 pub returns-clause-alters : goal.returns-clause-alters
 returns-clause-alters g c =
-    paused_with c.args.tier.now c.alter_with.new.tier _ _ c.args.place (group_seen c.in-Some.group.now) c.alter_with.result c.requires.sound (sym c.in-Some.ensures) (sym c.leaves_off-leaves.ensures ∙ c.if-not-leaves.false)
+    paused_with g.P.Disk.state g.P.Disk.possible c.args.tier.now c.alter_with.new.tier c.args.journal.now c.alter_with.new.journal c.args.site.now c.alter_with.new.site c.args.ready.now c.args.place (group_seen c.in-Some.group.now) c.alter_with.result c.requires.sound (sym c.in-Some.ensures) (sym c.leaves_off-leaves.ensures ∙ c.if-not-leaves.false)
     c.alter_with.ensures.alters

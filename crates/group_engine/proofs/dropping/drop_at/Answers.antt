@@ -1,21 +1,25 @@
-use Rattle.std.proofs.Common.{◌≡◌, ◌<◌, ◌≤◌, Ok, arith, length, subst, sym}
-use Rattle.group_catalog.specs.Catalogs.{groups_in}
-use Rattle.group_engine.specs.Dropping.{DropsHere}
 use Rattle.stored_tier.specs.Performing.{reply_of}
-use Rattle.group_engine.proofs.DroppingLaws.{dropped, sound_without}
-use Rattle.group_engine.proofs.GroupGoes.{as_many}
+use Rattle.stored_tier.proofs.QuietLaws.{calm_refused}
+use Rattle.group_engine.proofs.DroppingLaws.{drop_moved, drop_refused, drop_wanting, same_groups}
+use Rattle.group_engine.proofs.ReadyLaws.{calm_cause, moved_cause}
 use Rattle.group_engine.proofs.dropping.drop_at.Goals as goal
 
-pub remove_group-requires-clause-kept : goal.remove_group-requires-clause-kept
-remove_group-requires-clause-kept c =
-    let same = as_many c.args.tier.now.schema (groups_in c.args.tier.now.catalog) c.args.tier.now.stores.items c.requires.sound.kept in
-    omega (arith, same, c.requires.within)
+pub returns-in-Err-clause-performs : goal.returns-in-Err-clause-performs
+returns-in-Err-clause-performs g c = drop_refused g.P.Disk.state g.P.Disk.possible c.args.tier.now c.args.journal.now c.args.site.now c.args.id c.args.place c.in-Err.refused c.in-Err.ensures
 
-pub returns-in-Ok-remove_group-clause-performs : goal.returns-in-Ok-remove_group-clause-performs
-returns-in-Ok-remove_group-clause-performs c = λ site.
-    subst (λ r. DropsHere c.args.tier.now c.remove_group.new.tier site c.args.id c.args.place (reply_of (Ok r))) (sym c.done.ensures)
-    (dropped c.drop_statement_law.ensures c.label_law.ensures.number c.args.tier.now c.remove_group.new.tier site c.args.id c.args.place c.requires.sound
-    c.requires.rests c.requires.settled c.in-Ok.ensures c.in-Ok-remove_group.ensures.ok)
+pub returns-in-Err-clause-cause : goal.returns-in-Err-clause-cause
+returns-in-Err-clause-cause g c = calm_cause _ _ _ (calm_refused c.in-Err.refused)
 
-pub returns-in-Ok-remove_group-clause-sound : goal.returns-in-Ok-remove_group-clause-sound
-returns-in-Ok-remove_group-clause-sound c = sound_without c.args.tier.now c.remove_group.new.tier c.args.place c.requires.sound c.requires.settled c.in-Ok-remove_group.ensures.ok
+pub returns-in-Err-ready_to_go-clause-performs : goal.returns-in-Err-ready_to_go-clause-performs
+returns-in-Err-ready_to_go-clause-performs g c =
+    drop_wanting g.P.Disk.state g.P.Disk.possible c.args.tier.now c.args.tier.now c.args.journal.now c.ready_to_go.new.journal c.args.site.now c.args.id c.args.place c.in-Err-ready_to_go.refused c.ready_to_go.ensures.kept (same_groups _) c.in-Err-ready_to_go.ensures.memory
+
+pub returns-in-Err-ready_to_go-clause-cause : goal.returns-in-Err-ready_to_go-clause-cause
+returns-in-Err-ready_to_go-clause-cause g c = calm_cause _ _ _ (calm_refused c.in-Err-ready_to_go.refused)
+
+pub returns-in-Ok-ready_to_go-clause-performs : goal.returns-in-Ok-ready_to_go-clause-performs
+returns-in-Ok-ready_to_go-clause-performs g c =
+    drop_moved g.P.Disk.state g.P.Disk.possible c.args.tier.now c.take_away.new.tier c.args.journal.now c.ready_to_go.new.journal c.take_away.new.journal c.args.site.now c.take_away.new.site c.args.id c.args.place (reply_of c.take_away.result) c.ready_to_go.ensures.kept c.take_away.ensures.performs
+
+pub returns-in-Ok-ready_to_go-clause-cause : goal.returns-in-Ok-ready_to_go-clause-cause
+returns-in-Ok-ready_to_go-clause-cause g c = moved_cause _ _ _ _ _ c.ready_to_go.ensures.kept c.take_away.ensures.cause

@@ -1,4 +1,5 @@
 use Rattle.std.proofs.Common.{◌≡◌, ◌∙◌, Err, rules, subst, sym}
+use Rattle.propagators.proofs.CertainLaws.{bank_certain}
 use Rattle.group_engine.specs.Fresh.{ReadsIn}
 use Rattle.stored_tier.specs.Refreshing.{choice_of, is_filled}
 use Rattle.group_engine.proofs.ReadLaws.{are_formed, fresh_here, not_called, read_failed, read_here}
@@ -27,3 +28,12 @@ returns-clause-reads g c = λ w at stands apart. (
 
 pub returns-clause-formed : goal.returns-clause-formed
 returns-clause-formed g c = are_formed (is_filled (choice_of c.args.chosen) c.args.loads) c.args.tier.now.schema _ _ c.in-Ok-made_stores.made.items c.in-Ok-made_stores.ensures
+
+pub returns-in_err-snapshot-clause-certain : goal.returns-in_err-snapshot-clause-certain
+returns-in_err-snapshot-clause-certain g c = bank_certain g.P.Disk.state g.P.Disk.possible g.met.P.Disk.certain c.args.site.now c.snapshot.new.self _ c.in_err-snapshot.ensures.told c.in_err-snapshot.ensures.crash
+
+pub returns-in-Err-clause-certain : goal.returns-in-Err-clause-certain
+returns-in-Err-clause-certain g c = bank_certain g.P.Disk.state g.P.Disk.possible g.met.P.Disk.certain c.args.site.now c.snapshot.new.self _ c.snapshot.ensures.told c.snapshot.ensures.crash
+
+pub returns-clause-certain : goal.returns-clause-certain
+returns-clause-certain g c = bank_certain g.P.Disk.state g.P.Disk.possible g.met.P.Disk.certain c.args.site.now c.snapshot.new.self _ c.in_ok-snapshot.ensures.told c.in_ok-snapshot.ensures.crash

@@ -1,25 +1,29 @@
-use Rattle.std.proofs.Common.{◌≡◌, ◌∙◌, ap, refl, subst, sym}
-use Rattle.group_catalog.specs.Kept.{group_seen}
-use Rattle.group_engine.proofs.WholeLaws.{loaded_alone, loaded_joined, off_is}
-use Rattle.group_engine.proofs.TriedLaws.{stands_made, stands_noted}
+use Rattle.stored_tier.specs.Performing.{reply_of}
+use Rattle.cache_tier.specs.LoadSteps.{LoadsReadOnly}
+use Rattle.cache_tier.specs.RefreshSteps.{RefreshesReadOnly}
+use Rattle.group_engine.proofs.ReadyLaws.{calm_cause, moved_cause}
+use Rattle.group_engine.proofs.WholeLaws.{over_moved, whole_wanting}
+use Rattle.stored_tier.proofs.QuietLaws.{calm_refused}
 use Rattle.group_engine.proofs.loading_whole.load_whole.Goals as goal
 
-pub returns-then-is_off-clause-loads : goal.returns-then-is_off-clause-loads
-returns-then-is_off-clause-loads g c = λ x place_is reads w at stands apart.
-    loaded_alone c.args.tier.now _ _ _ c.args.place (group_seen c.in-Some.group.now) _ c.requires.sound (sym c.in-Some.ensures) (sym c.if-not-is_read_only.ensures) (off_is c.in-Some.group.now.state (sym c.if-is_off.ensures)) c.load_with.ensures.loads x place_is _ w at stands apart
+pub returns-in-Err-clause-loads : goal.returns-in-Err-clause-loads
+returns-in-Err-clause-loads g c = λ x place_is reads.
+    whole_wanting g.P.Disk.state g.P.Disk.possible c.args.tier.now c.args.tier.now c.args.journal.now c.ready_to_load.new.journal c.args.site.now c.args.place x (LoadsReadOnly x) c.in-Err.refused c.ready_to_load.ensures.kept (λ w stands. stands) c.in-Err.ensures.memory
 
-pub returns-then-is_off-clause-refreshes : goal.returns-then-is_off-clause-refreshes
-returns-then-is_off-clause-refreshes g c = λ x place_is reads w at stands apart.
-    loaded_alone c.args.tier.now _ _ _ c.args.place (group_seen c.in-Some.group.now) _ c.requires.sound (sym c.in-Some.ensures) (sym c.if-not-is_read_only.ensures) (off_is c.in-Some.group.now.state (sym c.if-is_off.ensures)) c.load_with.ensures.loads x place_is _ w at stands apart
+pub returns-in-Err-clause-refreshes : goal.returns-in-Err-clause-refreshes
+returns-in-Err-clause-refreshes g c = λ x place_is reads.
+    whole_wanting g.P.Disk.state g.P.Disk.possible c.args.tier.now c.args.tier.now c.args.journal.now c.ready_to_load.new.journal c.args.site.now c.args.place x (RefreshesReadOnly x) c.in-Err.refused c.ready_to_load.ensures.kept (λ w stands. stands) c.in-Err.ensures.memory
 
-pub returns-clause-loads : goal.returns-clause-loads
-returns-clause-loads g c = λ x place_is reads w at stands apart.
-    loaded_joined c.args.tier.now _ _ _ _ c.args.place (group_seen c.in-Some.group.now) _ c.requires.sound (sym c.in-Some.ensures) (sym c.if-not-is_read_only.ensures) (sym c.if-is_off.ensures)
-    (λ v x. stands_made c.args.tier.now (record c.args.tier.now.clock { sets = c.make_moment.new.sets }) (record c.args.tier.now.clock { sets = c.note_moment.new.sets }) v c.in-Some.group.now.def.interval (record { now = refl; added = refl; round = refl; due = refl }) (record { now = refl; added = refl; round = refl; due = refl }) c.in_ok-make_moment.ensures.same c.in_ok-make_moment.ensures.ok c.note_moment.ensures x)
-    c.load_with-2.ensures.loads x place_is _ w at stands apart
+pub returns-in-Err-clause-cause : goal.returns-in-Err-clause-cause
+returns-in-Err-clause-cause g c = calm_cause _ _ _ (calm_refused c.in-Err.refused)
 
-pub returns-clause-refreshes : goal.returns-clause-refreshes
-returns-clause-refreshes g c = λ x place_is reads w at stands apart.
-    loaded_joined c.args.tier.now _ _ _ _ c.args.place (group_seen c.in-Some.group.now) _ c.requires.sound (sym c.in-Some.ensures) (sym c.if-not-is_read_only.ensures) (sym c.if-is_off.ensures)
-    (λ v x. stands_made c.args.tier.now (record c.args.tier.now.clock { sets = c.make_moment.new.sets }) (record c.args.tier.now.clock { sets = c.note_moment.new.sets }) v c.in-Some.group.now.def.interval (record { now = refl; added = refl; round = refl; due = refl }) (record { now = refl; added = refl; round = refl; due = refl }) c.in_ok-make_moment.ensures.same c.in_ok-make_moment.ensures.ok c.note_moment.ensures x)
-    c.load_with-2.ensures.loads x place_is _ w at stands apart
+pub returns-in-Ok-clause-loads : goal.returns-in-Ok-clause-loads
+returns-in-Ok-clause-loads g c = λ x place_is reads.
+    over_moved g.P.Disk.state g.P.Disk.possible c.args.tier.now c.load_ready.new.tier c.args.journal.now c.ready_to_load.new.journal c.load_ready.new.journal c.args.site.now c.load_ready.new.site _ _ c.ready_to_load.ensures.kept (c.load_ready.ensures.loads x place_is reads)
+
+pub returns-in-Ok-clause-refreshes : goal.returns-in-Ok-clause-refreshes
+returns-in-Ok-clause-refreshes g c = λ x place_is reads.
+    over_moved g.P.Disk.state g.P.Disk.possible c.args.tier.now c.load_ready.new.tier c.args.journal.now c.ready_to_load.new.journal c.load_ready.new.journal c.args.site.now c.load_ready.new.site _ _ c.ready_to_load.ensures.kept (c.load_ready.ensures.refreshes x place_is reads)
+
+pub returns-in-Ok-clause-cause : goal.returns-in-Ok-clause-cause
+returns-in-Ok-clause-cause g c = moved_cause _ _ _ _ _ c.ready_to_load.ensures.kept c.load_ready.ensures.cause

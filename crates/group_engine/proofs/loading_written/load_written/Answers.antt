@@ -1,22 +1,19 @@
-use Rattle.std.proofs.Common.{refl, subst, sym}
-use Rattle.group_engine.specs.Taking.{AsksTree}
-use Rattle.group_engine.proofs.TakenLaws.{read_all, reads_failed, reads_wanting}
-use Rattle.group_engine.proofs.TakenParts.{matching_sound}
+use Rattle.stored_tier.specs.Performing.{reply_of}
+use Rattle.group_engine.proofs.ReadyLaws.{calm_cause, moved_cause}
+use Rattle.group_engine.proofs.TakenLaws.{reads_moved, reads_not_ready}
+use Rattle.stored_tier.proofs.QuietLaws.{calm_refused}
 use Rattle.group_engine.proofs.loading_written.load_written.Goals as goal
 
 pub returns-in-Err-clause-reads : goal.returns-in-Err-clause-reads
-returns-in-Err-clause-reads g c = λ x of writes. reads_wanting c.args.tier.now _ c.args.place x c.args.refreshes
+returns-in-Err-clause-reads g c = λ x of writes.
+    reads_not_ready g.P.Disk.state g.P.Disk.possible c.args.tier.now c.args.journal.now c.ready_to_load.new.journal c.args.site.now c.args.place x c.args.refreshes c.in-Err.refused c.ready_to_load.ensures.kept c.in-Err.ensures.memory
 
-pub returns-in-Err-snapshot-clause-reads : goal.returns-in-Err-snapshot-clause-reads
-returns-in-Err-snapshot-clause-reads g c = λ x of writes.
-    reads_failed c.args.tier.now _ _ c.args.place x c.args.refreshes c.as_slice.result.now c.in-Err-snapshot.error c.bank_fault.result c.bank_fault.ensures
-    c.in-Err-snapshot.ensures.told c.in-Err-snapshot.ensures.cause.later c.in-Err-snapshot.ensures.crash.later c.in-Err-snapshot.ensures.cause.shared
+pub returns-in-Err-clause-cause : goal.returns-in-Err-clause-cause
+returns-in-Err-clause-cause g c = calm_cause _ _ _ (calm_refused c.in-Err.refused)
 
-pub returns-clause-reads : goal.returns-clause-reads
-returns-clause-reads g c =
-    read_all c.args.tier.now c.take_matching.new.tier _ _ c.args.place c.args.which.now c.args.refreshes c.as_slice.result.now c.in-Ok-snapshot.snapshot _ c.take_matching.result c.requires.sound
-    (subst (AsksTree c.args.tier.now c.args.place) (sym c.as_slice.ensures.value) c.in-Ok.ensures)
-    refl c.in-Ok-snapshot.ensures.told c.in-Ok-snapshot.ensures.cause.later c.in-Ok-snapshot.ensures.crash.later c.in-Ok-snapshot.ensures.cause.shared c.take_matching.ensures
+pub returns-in-Ok-clause-reads : goal.returns-in-Ok-clause-reads
+returns-in-Ok-clause-reads g c = λ x of writes.
+    reads_moved g.P.Disk.state g.P.Disk.possible c.args.tier.now c.load_matching.new.tier c.args.journal.now c.ready_to_load.new.journal c.load_matching.new.journal c.args.site.now c.load_matching.new.site c.args.place x.group _ _ c.ready_to_load.ensures.kept (c.load_matching.ensures.reads x of writes)
 
-pub returns-clause-sound : goal.returns-clause-sound
-returns-clause-sound g c = matching_sound c.args.tier.now c.take_matching.new.tier c.args.place c.args.which.now c.args.refreshes _ c.take_matching.result c.requires.sound c.take_matching.ensures
+pub returns-in-Ok-clause-cause : goal.returns-in-Ok-clause-cause
+returns-in-Ok-clause-cause g c = moved_cause _ _ _ _ _ c.ready_to_load.ensures.kept c.load_matching.ensures.cause

@@ -1,18 +1,28 @@
-use Rattle.std.proofs.Common.{Ok, subst, sym}
 use Rattle.stored_tier.specs.Performing.{reply_of}
-use Rattle.group_engine.specs.Unloading.{UnloadsHere}
-use Rattle.group_engine.proofs.UnloadDone.{sound_cut, unloaded_here}
+use Rattle.stored_tier.proofs.QuietLaws.{calm_refused}
+use Rattle.group_engine.proofs.ReadyLaws.{calm_cause, moved_cause}
+use Rattle.group_engine.proofs.UnloadWhole.{left_moved, not_left}
 use Rattle.group_engine.proofs.unloading.unload_aimed.Goals as goal
 
-pub returns-in-Ok-cut_group-clause-performs : goal.returns-in-Ok-cut_group-clause-performs
-returns-in-Ok-cut_group-clause-performs c = λ site.
-    subst (λ r. UnloadsHere c.args.tier.now c.cut_group.new.tier site c.args.id c.args.aim.now c.args.all (reply_of (Ok r))) (sym c.done.ensures)
-    (unloaded_here c.unload_statement_law.ensures c.drop_instance_law.ensures c.args.tier.now c.judge_instances.new.tier c.cut_group.new.tier site c.args.id c.args.aim.now c.args.all c.in-Ok-cut_group.count
-    c.in-Ok.ensures.told c.in-Ok.ensures.same c.in-Ok.ensures.sound c.if-aim.false c.in-Ok-cut_group.ensures.ok)
+pub returns-in-Err-clause-performs : goal.returns-in-Err-clause-performs
+returns-in-Err-clause-performs g c =
+    not_left g.P.Disk.state g.P.Disk.possible c.args.tier.now c.args.journal.now c.ready_to_leave.new.journal c.args.site.now c.args.id c.args.aim.now c.args.all c.in-Err.refused c.ready_to_leave.ensures.kept c.in-Err.ensures.memory
 
-pub returns-in-Ok-cut_group-clause-sound : goal.returns-in-Ok-cut_group-clause-sound
-returns-in-Ok-cut_group-clause-sound c =
-    sound_cut c.judge_instances.new.tier c.cut_group.new.tier c.args.aim.now c.args.all c.in-Ok-cut_group.count c.in-Ok.ensures.sound c.in-Ok-cut_group.ensures.ok
+pub returns-in-Err-clause-cause : goal.returns-in-Err-clause-cause
+returns-in-Err-clause-cause g c = calm_cause _ _ _ (calm_refused c.in-Err.refused)
 
 pub returns-then-aim-clause-performs : goal.returns-then-aim-clause-performs
-returns-then-aim-clause-performs c = λ site. c.unload_whole.ensures.performs site c.args.id c.args.all
+returns-then-aim-clause-performs g c =
+    left_moved g.P.Disk.state g.P.Disk.possible c.args.tier.now c.unload_whole.new.tier c.args.journal.now c.ready_to_leave.new.journal c.unload_whole.new.journal c.args.site.now c.unload_whole.new.site c.in-Ok.ready c.args.id c.args.aim.now c.args.all (reply_of c.unload_whole.result)
+    c.ready_to_leave.ensures.kept c.in-Ok.ensures.ready (c.unload_whole.ensures.performs c.args.id c.args.all)
+
+pub returns-then-aim-clause-cause : goal.returns-then-aim-clause-cause
+returns-then-aim-clause-cause g c = moved_cause _ _ _ _ _ c.ready_to_leave.ensures.kept c.unload_whole.ensures.cause
+
+pub returns-clause-performs : goal.returns-clause-performs
+returns-clause-performs g c =
+    left_moved g.P.Disk.state g.P.Disk.possible c.args.tier.now c.unload_matching.new.tier c.args.journal.now c.ready_to_leave.new.journal c.unload_matching.new.journal c.args.site.now c.unload_matching.new.site c.in-Ok.ready c.args.id c.args.aim.now c.args.all (reply_of c.unload_matching.result)
+    c.ready_to_leave.ensures.kept c.in-Ok.ensures.ready c.unload_matching.ensures.performs
+
+pub returns-clause-cause : goal.returns-clause-cause
+returns-clause-cause g c = moved_cause _ _ _ _ _ c.ready_to_leave.ensures.kept c.unload_matching.ensures.cause
