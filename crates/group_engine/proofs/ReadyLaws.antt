@@ -404,13 +404,6 @@ caused_both k mid before between behind reply one none two =
       whole = λ is. two.whole (none is);
     }
 
--- no journal came
-pub never_came : (k mid : Option TierJournal) (kept came : Bool) → kept ≡ is_some k → came ≡ (not kept && is_some mid) → came ≡ false → k ≡ None → mid ≡ None
-never_came k None kept came is told none without = refl
-never_came k (Some t) kept came is told none without =
-    let unkept : kept ≡ false = is ∙ ap is_some without in
-    absurd (never (sym (told ∙ ap (λ b. not b && true) unkept) ∙ none))
-
 pub ready_ok : {E : Type 0} (r : Result Ready E) (P Q : Ready → Type 0) → ((x : Ready) → P x → Q x) → IfOk r P → IfOk r Q
 ready_ok (Ok x) P Q so is = so x is
 ready_ok (Err e) P Q so is = tt

@@ -499,33 +499,3 @@ module _ {D : Type 0} (state : D → SiteState) (possible : D → ℕ → Held �
         let def : judged.0.group.def ≡ x.group.def = ap (λ (g : Group). g.def) (seen_at_place old w.tier place x.group judged.0.group stands.stored here.there judged.0.there) in
         still_so (only (No rule)) (overflowed refreshes rule (ap (λ (y : GroupDef). overflows_in c y.tree which) (sym def) ∙ judged.0.is) judged.1)
     full_so (Err refused.Memory) judged = still_so (faulty code.Memory) (wanted refreshes)
-
--- what was made ready for the group, in the worlds
-ready_for : (t : Stored) (w : World) (k : Option TierJournal) (place : ℕ) (g : Group) (ready : Ready) → StandsFor t w → IsReadyToLoad (groups_in t.catalog) k place ready → slice_get w.tier.groups place ≡ Some g → IsReadyFor w.tier.schema k ready (load_entries g)
-ready_for t w k place g ready stands of there = of w.tier.schema (without_list g) (ap (λ gs. slice_get gs place) (sym stands.stored.groups) ∙ slice_get_map without_list w.tier.groups place g there)
-
-module _ {D : Type 0} (state : D → SiteState) (possible : D → ℕ → Held → Type 0) (old : Stored) (k : Option TierJournal) (d d' : D) (place : ℕ) (which : ResolvedWhich) (refreshes : Bool) (asked : List TableId) (snapshot : Snapshot) (sound : IsSound old) (asks : AsksTree old place asked)
-    (told : site.Told (state d).held (state d').held (site.BankCall (state d).shared (TakesSnapshot asked (Ok snapshot)))) (faults : (state d).bank_faults ≤ (state d').bank_faults) (moment : (state d).moment ≤ (state d').moment) (shares : (state d').shared ≡ (state d).shared) (certain : KeepsCertain state possible d d') (x : Target) (of : IsOfTarget x place which) (writes : is_writethrough x.group ≡ true) where
-  pub read_all : (new : Stored) (k' : Option TierJournal) (last : D) (ready : Ready) (said reply : Reply) → IsReadyToLoad (groups_in old.catalog) k place ready → TakesMatching old new place which refreshes snapshot.tables (Ok said) → AnswersBehind state possible k k' d' last ready said reply
-      → PerformsWhere (IsSettledAt place x.group) state possible old new k k' d last (Some reply) (λ w w'. ReadsMatching refreshes x w w' reply)
-  read_all new k' last ready said reply is_ready took answers w at stands apart keeps here =
-      took_so state possible old k d d' place which refreshes x of writes sound asked asks snapshot told faults moment shares certain w at stands apart keeps here new said took
-      (matching_sound old new place which refreshes snapshot.tables (Ok said) sound took) k' last ready (ready_for old w k place x.group ready stands is_ready here.there) reply answers
-
-  pub read_refused : (new : Stored) (e : Refused) → TakesMatching old new place which refreshes snapshot.tables (Err e) → PerformsWhere (IsSettledAt place x.group) state possible old new k k d d' (Some (reply_of (Err e))) (λ w w'. ReadsMatching refreshes x w w' (reply_of (Err e)))
-  read_refused new e took w at stands apart keeps here =
-      refused_so state possible old k d d' place which refreshes x of writes sound asked asks snapshot told faults moment shares certain w at stands apart keeps here new e took
-
-  pub read_full : (ready : Ready) (result : Result Reply Refused) → IsReadyToLoad (groups_in old.catalog) k place ready → is_full_ready ready ≡ true → JudgesFull old place which snapshot.tables result
-      → PerformsWhere (IsSettledAt place x.group) state possible old old k k d d' (Some (reply_of result)) (λ w w'. ReadsMatching refreshes x w w' (reply_of result))
-  read_full ready result is_ready full judged w at stands apart keeps here =
-      full_so state possible old k d d' place which refreshes x of writes sound asked asks snapshot told faults moment shares certain w at stands apart keeps here ready (ready_for old w k place x.group ready stands is_ready here.there) full result judged
-
--- with what was made ready
-pub reads_moved : {D : Type 0} (state : D → SiteState) (possible : D → ℕ → Held → Type 0) (old new : Stored) (k mid k' : Option TierJournal) (d d' : D) (place : ℕ) (g : Group) (stop : Option Reply) (does : World → World → Type 0) → StaysKept k mid → PerformsWhere (IsSettledAt place g) state possible old new mid k' d d' stop does → PerformsWhere (IsSettledAt place g) state possible old new k k' d d' stop does
-reads_moved state possible old new k mid k' d d' place g stop does stays performs w at stands apart keeps here = performs w at stands apart (keeps_stays state possible d k mid w stays keeps) here
-
-pub reads_not_ready : {D : Type 0} (state : D → SiteState) (possible : D → ℕ → Held → Type 0) (t : Stored) (k k' : Option TierJournal) (d : D) (place : ℕ) (x : Target) (refreshes : Bool) (e : Refused) → StaysKept k k' → e ≡ refused.Memory
-    → PerformsWhere (IsSettledAt place x.group) state possible t t k k' d d (Some (reply_of (Err e))) (λ w w'. ReadsMatching refreshes x w w' (reply_of (Err e)))
-reads_not_ready state possible t k k' d place x refreshes e stays is =
-    subst (λ r. PerformsWhere (IsSettledAt place x.group) state possible t t k k' d d (Some (reply_of (Err r))) (λ w w'. ReadsMatching refreshes x w w' (reply_of (Err r)))) (sym is) (reads_wanting state possible t k k' d place x refreshes stays)

@@ -1,6 +1,6 @@
 //! What a statement on a group writes to the journal: made ready before anything changes, and flushed last.
 
-ghost use Rattle.std.specs.Prelude.{◌≡◌, ◌&&◌, IfOk, false, is_some, not};
+ghost use Rattle.std.specs.Prelude.{◌≡◌, IfOk, false};
 ghost use Rattle.tier_base.specs.declared.limit.Limit.TheVariants as limit;
 ghost use Rattle.cache_tier.specs.declared.reply.Last.TheVariants.{No};
 ghost use Rattle.cache_tier.specs.Rules.{past};
@@ -67,13 +67,6 @@ pub(crate) fn room_made(journal: &mut TierJournal, batch: Batch) -> Result<Ready
         Err(ReserveError::Limit) => Ok(Ready::Full),
         Err(ReserveError::Memory) => Err(AllocError),
     }
-}
-
-/// Whether a journal came where none was kept.
-pub(crate) fn has_come(kept: bool, journal: &Option<TierJournal>) -> bool
-    ensures { result ≡ (not kept && is_some journal.now) }
-{
-    !kept && journal.is_some()
 }
 
 /// 119 of the journal.
