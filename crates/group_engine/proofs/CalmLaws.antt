@@ -1,11 +1,7 @@
 -- Replies that tell no fault, and the operations of a session.
-use Rattle.std.proofs.Common.{◌&&◌, Bool, true, ◌≡◌, ℕ, ◌∙◌, ap, unwrap_or, false, Option, Some, None, Err, List, [], refl, sym, subst, inl, inr, le_refl}
+use Rattle.std.proofs.Common.{◌≡◌, ℕ, ◌∙◌, ap, unwrap_or, false, Option, Some, None, List, [], refl, sym, le_refl}
 use Rattle.tier_base.specs.declared.code.Code.TheVariants as code
-use Rattle.std.specs.Bool.{MatchBool}
-use Rattle.tier_base.specs.declared.limit.Limit.TheVariants as limit
 use Rattle.tier_base.specs.declared.number.SessionId.{SessionId}
-use Rattle.row_types.specs.declared.rule.Refused.TheVariants as refused
-use Rattle.row_types.specs.declared.rule.Rule.{Rule}
 use Rattle.std.specs.Option.{option_map}
 use Rattle.table_defs.specs.declared.definition.TableDef.{TableDef}
 use Rattle.open_sessions.specs.Lookups.{of_label, of_number, open_ops}
@@ -14,20 +10,13 @@ use Rattle.open_sessions.specs.declared.sessions.Sessions.{Sessions}
 use Rattle.session_state.specs.Sessions.{OpenSession}
 use Rattle.outside.specs.Holding.{Held}
 use Rattle.order_laws.proofs.TruthLaws.{never_both}
-use Rattle.sql_subset.specs.declared.stmt.Stmt.{Stmt}
 use Rattle.cache_tier.specs.declared.reply.Last.{Last}
-use Rattle.cache_tier.specs.declared.reply.Last.TheVariants.{No}
-use Rattle.cache_tier.specs.Journals.{JournalEntry, is_full}
-use Rattle.cache_tier.specs.JournalSteps.{Flushes, FlushesFitting, FlushesKept, FlushesSome, has_entries, name_sizes}
-use Rattle.cache_tier.specs.Order.{refusal}
-use Rattle.cache_tier.specs.Rules.{past}
-use Rattle.cache_tier.specs.Steps.{DoesStatement, tells}
+use Rattle.cache_tier.specs.Steps.{tells}
 use Rattle.cache_tier.specs.TierStates.{Session}
-use Rattle.cache_tier.specs.Worlds.{Passes, Unless, World, only}
+use Rattle.cache_tier.specs.Worlds.{only}
 use Rattle.stored_tier.specs.declared.tier.Tier.{Tier as Stored}
-use Rattle.stored_tier.specs.Performing.{Executes, IsCalm, KeepsSlots, PerformsIn, StandsFor}
-use Rattle.outside.specs.Sites.{SiteState}
-use Rattle.stored_tier.specs.Stored.{HasSession, IsSound, IsStoredAs}
+use Rattle.stored_tier.specs.Performing.{IsCalm, KeepsSlots}
+use Rattle.stored_tier.specs.Stored.{HasSession, IsSound}
 
 slots_stay : (held : Option Held) → KeepsSlots held held
 slots_stay None = tt

@@ -1,94 +1,32 @@
 -- LOAD and REFRESH of a writethrough group, whatever came of the read.
-use Rattle.std.proofs.Common.{◌≡◌, ◌≤◌, ◌+◌, ◌⊎◌, inl, inr, ℕ, zero, suc, Bool, true, false, not, cond, ◌&&◌, ◌||◌, nat_eq, Option, Some, None, Result, Ok, Err, List, [], ◌∷◌, ◌++◌, All, is_none, is_some, length, map, filter, slice_get, slice_set, take, arith, refl, sym, ap, subst, ◌∙◌}
-use Rattle.std.proofs.lemmas.Bool.{eq-eqb, eqb-true}
-use Rattle.std.proofs.lemmas.List.{append-nil, take_all}
-use Rattle.std.specs.Bool.{MatchBool}
-use Rattle.std.specs.List.{list_all, list_any}
-use Rattle.std.specs.FinMap as fm
+use Rattle.std.proofs.Common.{◌≡◌, ◌≤◌, ℕ, Bool, true, Option, Some, Result, Ok, Err, List, slice_get, sym, ap, subst, ◌∙◌}
 use Rattle.row_types.specs.declared.rule.Refused.{Refused}
 use Rattle.row_types.specs.declared.rule.Refused.TheVariants as refused
-use Rattle.row_types.specs.declared.rule.Rule.{Rule}
-use Rattle.row_types.specs.declared.value.Value.{Value}
-use Rattle.tier_base.specs.declared.code.Code.TheVariants as code
-use Rattle.tier_base.specs.declared.limit.Limit.TheVariants as limit
 use Rattle.tier_base.specs.declared.number.TableId.{TableId}
-use Rattle.indexed_rows.specs.Rows.{Table}
 use Rattle.indexed_rows.proofs.MapLaws.{slice_get_map}
-use Rattle.table_state.specs.Copies.{is_one_of}
-use Rattle.table_state.specs.declared.history.Entry.{Entry}
-use Rattle.table_state.specs.Histories.{state_at, state_of}
-use Rattle.table_state.specs.Tables.{TableState, table_at}
-use Rattle.instances.specs.declared.tree.Child.{Child}
-use Rattle.instances.specs.declared.tree.Tree.{Tree}
-use Rattle.instances.specs.Trees.{place_of}
-use Rattle.instances.specs.Views.{kept_at, passes}
-use Rattle.cache_store.specs.Shown.{shown_of}
-use Rattle.open_sessions.specs.Opening.{AreSessions, seen_all}
-use Rattle.order_laws.specs.Commits.{RiseBetween}
-use Rattle.own_rows.specs.OwnTables.{AreShown}
-use Rattle.order_laws.proofs.TruthLaws.{both_true, same_some}
-use Rattle.outside.specs.Bank.{Grows}
 use Rattle.outside.specs.Calls as site
 use Rattle.outside.specs.Console.{TakesSnapshot}
 use Rattle.outside.specs.Holding.{Held}
-use Rattle.outside.specs.Others.{Around}
-use Rattle.outside.specs.declared.fault.BankError.{BankError}
-use Rattle.outside.specs.declared.fault.BankError.TheVariants.{Memory}
 use Rattle.outside.specs.declared.site.Snapshot.{Snapshot}
 use Rattle.group_catalog.specs.Catalogs.{groups_in}
 use Rattle.group_catalog.specs.declared.which.ResolvedWhich.{ResolvedWhich}
-use Rattle.group_store.specs.Shown.{AreHoused, shown_by}
-use Rattle.group_store.specs.Stores.{Kept, SameButSpare, put_tables}
-use Rattle.tier_statements.specs.Seen.{session_seen}
-use Rattle.cache_tier.specs.declared.group.GroupDef.{GroupDef}
-use Rattle.cache_tier.specs.declared.reply.Last.TheVariants.{Done, No}
 use Rattle.cache_tier.specs.declared.reply.Reply.{Reply}
-use Rattle.cache_tier.specs.Conditions.{overflow_fault, overflows}
-use Rattle.cache_tier.specs.Groups.{Group, covers, is_explicit, is_key, is_writethrough, with_keys}
-use Rattle.cache_tier.specs.JournalSteps.{Flushes, FlushesFitting, FlushesKept, FlushesSome, has_entries, name_sizes}
-use Rattle.cache_tier.specs.Journals.{JournalEntry, is_full}
-use Rattle.cache_tier.specs.LoadSteps.{added_answer}
-use Rattle.cache_tier.specs.Reading.{Answers, FollowsAt, Reads, TellsPosition, as_it_was, backing_at, state_or_none}
-use Rattle.cache_tier.specs.RefreshSteps.{judged_roots, refreshed_answer}
-use Rattle.cache_tier.specs.Rules.{broken_if, past, plain as plain_rule}
-use Rattle.cache_tier.specs.Sets.{alone, changed, changed_from}
-use Rattle.cache_tier.specs.Shown.{instances_where, root_key, shown_state}
-use Rattle.cache_tier.specs.Targets.{Settles, Target, backing_roots, has_flag, held_roots, load_entries, matching, new_keys, with_flag}
-use Rattle.cache_tier.specs.TierStates.{Tier}
-use Rattle.cache_tier.specs.Worlds.{Answer, BankCall, IsUnshared, Passes, Part, Quiet, Refuses, Then, Unless, World, bank_fault, faulty, only}
-use Rattle.cache_tier.specs.Events.{StaysShown, at_history, with_tier}
-use Rattle.cache_tier.specs.Loading.{ShowsKeys}
-use Rattle.cache_tier.specs.StandingBetween.{Stands}
-use Rattle.cache_tier.specs.Statements.{IsLoadable}
-use Rattle.cache_tier.proofs.HistoryKeeps.{around_goes_on, root_covers}
-use Rattle.cache_tier.proofs.LoadStatements.{load_shows}
-use Rattle.stored_tier.specs.declared.clock.TierClock.{TierClock}
+use Rattle.cache_tier.specs.Groups.{Group, is_writethrough}
+use Rattle.cache_tier.specs.Targets.{Target, load_entries}
+use Rattle.cache_tier.specs.Worlds.{World}
 use Rattle.stored_tier.specs.declared.tier.Tier.{Tier as Stored}
-use Rattle.stored_tier.specs.Choosing.{chosen, comes, counted, matches_at}
-use Rattle.stored_tier.specs.Gathering.{coming_in, gathered_in, overflows_in}
-use Rattle.stored_tier.specs.Performing.{IsPerformedOver, StandsFor, reply_of}
-use Rattle.stored_tier.specs.Sites.{IsAt}
+use Rattle.stored_tier.specs.Performing.{StandsFor, reply_of}
 use Rattle.outside.specs.Sites.{SiteState}
-use Rattle.stored_tier.specs.Stored.{AreKept, AreWhole, HaveOwnNames, IsSound, IsStoredAs, IsVerified, KeepsTime, is_plain, named_where_cached, rows_of, without_list}
-use Rattle.group_engine.specs.Taking.{AsksTree, IsOfTarget, Pairs, IsSameButRoom, IsSameElsewhere, IsSettledAt, JudgesFull, Overflows, PerformsWhere, ReadsMatching, TakesIn, TakesMatching}
-use Rattle.stored_tier.proofs.BankLaws.{TellsBehind, behind, behind_at, call_behind, told_behind}
-use Rattle.group_engine.proofs.FlagLaws.{IsChanged, as_loaded, changed_at, flagged_seen, kept_loaded, names_loaded, own_place, plain_loaded, set_beside, set_there, visible_loaded}
-use Rattle.group_engine.proofs.LoadLaws.{filled_shown, has_roots, its_roots, store_has}
-use Rattle.group_engine.proofs.MatchLaws.{HasRoots, all_shown, count_coming, instances_of_keys, matching_is, shown_alike}
-use Rattle.group_engine.proofs.SnapshotLaws.{IsRead, is_read, tree_asked}
-use Rattle.stored_tier.proofs.StandingLaws.{stands_behind}
-use Rattle.stored_tier.proofs.OverLaws.{keeps_called, keeps_stays}
+use Rattle.stored_tier.specs.Stored.{IsSound, without_list}
+use Rattle.group_engine.specs.Taking.{AsksTree, IsOfTarget, IsSettledAt, JudgesFull, PerformsWhere, ReadsMatching, TakesMatching}
+use Rattle.stored_tier.proofs.OverLaws.{keeps_stays}
 use Rattle.group_engine.specs.declared.ready.Ready.{Ready}
 use Rattle.group_engine.specs.Loaded.{IsReadyToLoad}
-use Rattle.group_engine.specs.Ready.{AnswersBehind, IgnoresDisk, IsReadyFor, is_full_ready}
-use Rattle.group_engine.proofs.ReadyLaws.{full_then}
+use Rattle.group_engine.specs.Ready.{AnswersBehind, IsReadyFor, is_full_ready}
 use Rattle.kept_journal.specs.Drafts.{StaysKept}
-use Rattle.kept_journal.specs.Keeping.{KeepsOver}
 use Rattle.propagators.specs.Certainty.{KeepsCertain}
 use Rattle.tier_journal.specs.declared.journal.TierJournal.{TierJournal}
-use Rattle.group_engine.proofs.TakenParts.{matching_sound, rows_room, stored_room}
-use Rattle.group_engine.proofs.StorePairs.{SameForm, filled_form, form_set, housed_still, kept_still, room_forms, rows_still, whole_still}
-use Rattle.stored_tier.proofs.StoreRows.{are_kept, kept_is_shown, shows_kept}
+use Rattle.group_engine.proofs.TakenParts.{matching_sound}
 use Rattle.group_engine.proofs.TakenLaws.{full_so, reads_wanting, refused_so, took_so}
 
 -- what was made ready for the group, in the worlds

@@ -156,7 +156,16 @@ fn alter_to_on<P: Site>(
     make_moment(&mut tier.clock.sets, interval)?;
     note_moment(&mut tier.clock.sets, interval, tier.clock.now);
     let chosen = Chosen::Joined(interval, Some(place));
-    Ok(alter_with(tier, alloc, site, journal, place, chosen, ready, RefreshState::On))
+    Ok(alter_with(
+        tier,
+        alloc,
+        site,
+        journal,
+        place,
+        chosen,
+        ready,
+        RefreshState::On,
+    ))
 }
 
 // Where it was OFF and is loaded, it alone is refreshed.
@@ -181,10 +190,27 @@ fn alter_to_paused<P: Site>(
         Some(group) => leaves_off(group),
     };
     if !leaves {
-        return Ok(give_state(tier, alloc, site, journal, place, ready, RefreshState::Paused));
+        return Ok(give_state(
+            tier,
+            alloc,
+            site,
+            journal,
+            place,
+            ready,
+            RefreshState::Paused,
+        ));
     }
     let chosen = Chosen::OneAlone(place);
-    Ok(alter_with(tier, alloc, site, journal, place, chosen, ready, RefreshState::Paused))
+    Ok(alter_with(
+        tier,
+        alloc,
+        site,
+        journal,
+        place,
+        chosen,
+        ready,
+        RefreshState::Paused,
+    ))
 }
 
 // These groups are refreshed from one snapshot, and the group at the place gets a STATE; then the record is flushed.

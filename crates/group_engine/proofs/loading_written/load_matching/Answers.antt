@@ -1,4 +1,4 @@
-use Rattle.std.proofs.Common.{Err, Ok, refl, subst, sym, ◌∙◌}
+use Rattle.std.proofs.Common.{Err, Ok, subst, sym, ◌∙◌}
 use Rattle.row_types.specs.declared.rule.Refused.TheVariants as refused
 use Rattle.stored_tier.specs.Performing.{reply_of}
 use Rattle.propagators.proofs.CertainLaws.{bank_certain}
