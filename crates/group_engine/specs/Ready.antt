@@ -32,7 +32,8 @@ is_full_ready (Both b) = false
 is_full_ready Full = true
 
 -- the one entry was made ready so
-pub record IsOne (schema : List TableDef) (k : Option TierJournal) (draft : Draft) (entries : List JournalEntry) : Type 0 where
+pub record IsOne (schema : List TableDef) (k : Option TierJournal) (draft : Draft) (entries : List JournalEntry)
+    : Type 0 where
   pub entry : JournalEntry
   pub is : entries ≡ entry ∷ []
   pub of : IsDraftOf schema k draft entry

@@ -90,8 +90,8 @@ fn alter_at<P: Site>(
 ) -> Result<Reply, Refused>
     requires sound { IsSound tier.old }
     requires within { place < length (groups_in tier.old.catalog) }
-    ensures alters { AltersHere P.Disk.state P.Disk.possible tier.old tier.new journal.old journal.new site.old site.new
-        state place (reply_of result) }
+    ensures alters { AltersHere P.Disk.state P.Disk.possible tier.old tier.new journal.old journal.new
+        site.old site.new state place (reply_of result) }
     ensures sound { IsSound tier.new }
     ensures cause { IsCausedOver journal.old (P.Disk.state site.old) (P.Disk.state site.new) (reply_of result) }
 {
@@ -141,8 +141,8 @@ fn alter_to_on<P: Site>(
     requires sound { IsSound tier.old }
     requires within { place < length (groups_in tier.old.catalog) }
     requires placed { IsPlacedReady journal.old ready.now }
-    ensures alters { AltersReady P.Disk.state P.Disk.possible tier.old tier.new journal.old journal.new site.old site.new
-        ready.now On place (reply_of result) }
+    ensures alters { AltersReady P.Disk.state P.Disk.possible tier.old tier.new journal.old journal.new
+        site.old site.new ready.now On place (reply_of result) }
     ensures sound { IsSound tier.new }
     ensures cause { IsCausedOver journal.old (P.Disk.state site.old) (P.Disk.state site.new) (reply_of result) }
 {
@@ -180,8 +180,8 @@ fn alter_to_paused<P: Site>(
     requires sound { IsSound tier.old }
     requires within { place < length (groups_in tier.old.catalog) }
     requires placed { IsPlacedReady journal.old ready.now }
-    ensures alters { AltersReady P.Disk.state P.Disk.possible tier.old tier.new journal.old journal.new site.old site.new
-        ready.now Paused place (reply_of result) }
+    ensures alters { AltersReady P.Disk.state P.Disk.possible tier.old tier.new journal.old journal.new
+        site.old site.new ready.now Paused place (reply_of result) }
     ensures sound { IsSound tier.new }
     ensures cause { IsCausedOver journal.old (P.Disk.state site.old) (P.Disk.state site.new) (reply_of result) }
 {
@@ -227,8 +227,8 @@ fn alter_with<P: Site>(
     requires sound { IsSound tier.old }
     requires within { place < length (groups_in tier.old.catalog) }
     requires placed { IsPlacedReady journal.old ready.now }
-    ensures alters { AltersWith P.Disk.state P.Disk.possible tier.old tier.new journal.old journal.new site.old site.new
-        ready.now state place (choice_of chosen) result }
+    ensures alters { AltersWith P.Disk.state P.Disk.possible tier.old tier.new journal.old journal.new
+        site.old site.new ready.now state place (choice_of chosen) result }
     ensures sound { IsSound tier.new }
     ensures cause { IsCausedOver journal.old (P.Disk.state site.old) (P.Disk.state site.new) result }
 {
@@ -258,8 +258,8 @@ fn give_state<P: Site>(
     requires sound { IsSound tier.old }
     requires within { place < length (groups_in tier.old.catalog) }
     requires placed { IsPlacedReady journal.old ready.now }
-    ensures alters { AltersAlone P.Disk.state P.Disk.possible tier.old tier.new journal.old journal.new site.old site.new
-        ready.now state place result }
+    ensures alters { AltersAlone P.Disk.state P.Disk.possible tier.old tier.new journal.old journal.new
+        site.old site.new ready.now state place result }
     ensures sound { IsSound tier.new }
     ensures cause { IsCausedOver journal.old (P.Disk.state site.old) (P.Disk.state site.new) result }
 {

@@ -112,7 +112,8 @@ fn flush_ready<D: Disk>(
 ) -> Result<(), Reply>
     requires placed { IsPlacedReady journal.old ready.now }
     requires fits { is_full_ready ready.now ≡ false }
-    ensures flushes { WritesReady D.state D.possible journal.old journal.new disk.old disk.new ready.now (stop_of result) }
+    ensures flushes { WritesReady D.state D.possible journal.old journal.new disk.old disk.new ready.now
+        (stop_of result) }
     ensures cause { DiskIsCaused journal.old (D.state disk.old) (D.state disk.new) (stop_of result) }
 {
     match ready {
