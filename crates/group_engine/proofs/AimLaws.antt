@@ -1,8 +1,8 @@
 -- What LOAD and REFRESH name, over what is stored.
-use Rattle.std.proofs.Common.{◌≡◌, ℕ, zero, suc, Bool, true, false, not, cond, nat_lt, ◌+◌, Option, Some, None, Result, Ok, Err, List, [], ◌∷◌, length, map, slice_get, position, refl, sym, ap, subst, ◌∙◌}
+use Rattle.std.proofs.Common.{◌≡◌, ℕ, zero, suc, Bool, true, false, not, cond, nat_lt, ◌+◌, Option, Some, None, Result, Ok, Err, List, [], ◌∷◌, map, slice_get, refl, sym, ap, subst, ◌∙◌}
 use Rattle.std.proofs.lemmas.List.{length-map}
 use Rattle.std.specs.List.{prefix_len}
-use Rattle.std.specs.Option.{option_and_then, option_or}
+use Rattle.std.specs.Option.{option_or}
 use Rattle.tier_base.specs.declared.code.Code.TheVariants as code
 use Rattle.tier_base.specs.declared.number.SessionId.{SessionId}
 use Rattle.row_types.specs.declared.rule.Refused.{Refused}
@@ -16,13 +16,13 @@ use Rattle.open_sessions.specs.Lookups.{open_ops}
 use Rattle.open_sessions.specs.Opening.{seen_all}
 use Rattle.group_catalog.specs.Catalogs.{groups_in}
 use Rattle.cache_tier.specs.Conditions.{root_def, which_names, which_types}
-use Rattle.cache_tier.specs.Groups.{Group, group_at, is_called, is_read_only, place_called}
-use Rattle.cache_tier.specs.Order.{Broken, broken_by_name, first_broken, load_broken, of_group, refresh_broken, refusal}
+use Rattle.cache_tier.specs.Groups.{Group, is_called, is_read_only, place_called}
+use Rattle.cache_tier.specs.Order.{Broken, first_broken, load_broken, of_group, refresh_broken, refusal}
 use Rattle.cache_tier.specs.Rules.{named}
 use Rattle.cache_tier.specs.TierStates.{Session, Tier}
 use Rattle.group_engine.specs.declared.aiming.Aim.{Aim}
 use Rattle.stored_tier.specs.declared.tier.Tier.{Tier as Stored}
-use Rattle.group_engine.specs.Aiming.{Aims, AimsBy, IsAimed, aim_state, aimed, load_state, refresh_state, which_fault}
+use Rattle.group_engine.specs.Aiming.{Aims, AimsBy, aim_state, aimed, load_state, refresh_state, which_fault}
 use Rattle.stored_tier.specs.Stored.{HasSession, IsSound, IsStoredAs, without_list}
 use Rattle.stored_tier.proofs.OwnSeen.{NumberLaw, own_found}
 

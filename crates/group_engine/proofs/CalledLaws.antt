@@ -1,28 +1,23 @@
 -- A set that is refreshed, and CALL.
-use Rattle.std.proofs.Common.{◌≡◌, ℕ, suc, Bool, true, false, cond, not, ◌&&◌, ◌||◌, nat_eq, Option, Some, None, List, [], ◌∷◌, length, map, slice_get, count_by, refl, sym, ap, subst, ◌∙◌, inl, inr, ⊎_elim}
-use Rattle.std.specs.Prelude.{Result, Ok, Err}
-use Rattle.std.specs.Bool.{MatchBool}
-use Rattle.table_state.specs.Tables.{TableState}
+use Rattle.std.proofs.Common.{◌≡◌, ℕ, suc, Bool, true, false, cond, ◌&&◌, ◌||◌, nat_eq, Option, Some, None, List, [], ◌∷◌, refl, sym, subst, ◌∙◌, inl}
+use Rattle.std.specs.Prelude.{Ok, Err}
 use Rattle.outside.specs.declared.fault.BankError.{BankError}
-use Rattle.group_catalog.specs.Catalogs.{groups_in}
 use Rattle.group_store.specs.Stores.{Kept}
 use Rattle.order_laws.proofs.TruthLaws.{both_true}
-use Rattle.cache_tier.specs.declared.reply.Reply.{Reply}
-use Rattle.cache_tier.specs.Groups.{Group, is_explicit, is_on, is_read_only}
-use Rattle.cache_tier.specs.Reading.{ReadsFirst, StageFollowsAt, TellsPosition, backing_at}
+use Rattle.cache_tier.specs.Groups.{Group, is_on, is_read_only}
+use Rattle.cache_tier.specs.Reading.{TellsPosition, backing_at}
 use Rattle.cache_tier.specs.Sets.{Choice, OnePosition, RefreshesSet, alone, at_position, changed_from, is_in_set, of_set, refreshed}
 use Rattle.cache_tier.specs.TierStates.{Tier, refresh_tried}
-use Rattle.cache_tier.specs.Worlds.{BankCall, IsUnshared, World, bank_fault}
+use Rattle.cache_tier.specs.Worlds.{BankCall, World, bank_fault}
 use Rattle.cache_tier.proofs.SetLaws.{refresh_has_one_position}
 use Rattle.group_engine.specs.declared.fresh.Fresh.{Fresh}
 use Rattle.stored_tier.specs.declared.tier.Tier.{Tier as Stored}
-use Rattle.group_engine.specs.Fresh.{AreFresh, IsRead, ReadsFresh, ReadsIn}
-use Rattle.stored_tier.specs.Performing.{IsPerformed, Performs, StandsFor}
-use Rattle.stored_tier.specs.Refreshing.{end_of, is_filled, positioned}
+use Rattle.group_engine.specs.Fresh.{AreFresh, ReadsFresh}
+use Rattle.stored_tier.specs.Performing.{Performs, StandsFor}
+use Rattle.stored_tier.specs.Refreshing.{is_filled, positioned}
 use Rattle.stored_tier.specs.Sites.{IsAt}
 use Rattle.outside.specs.Sites.{SiteState}
-use Rattle.stored_tier.specs.Stored.{IsSound, without_list}
-use Rattle.group_engine.proofs.FreshLaws.{Changes, IsRefreshed, groups_behind, stands_behind, tier_behind}
+use Rattle.group_engine.proofs.FreshLaws.{Changes, IsRefreshed, stands_behind}
 
 same_kept : (c : Choice) (from : ℕ) (groups : List Group) → changed_from c (λ g. g) from groups ≡ groups
 same_kept c from [] = refl

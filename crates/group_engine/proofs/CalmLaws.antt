@@ -1,11 +1,7 @@
--- Replies that tell no fault, and parts that leave all as it was.
-use Rattle.std.proofs.Common.{◌&&◌, Bool, true, ◌≡◌, ℕ, ◌∙◌, ap, unwrap_or, false, Option, Some, None, Err, List, [], refl, sym, subst, inl, inr, le_refl}
+-- Replies that tell no fault, and the operations of a session.
+use Rattle.std.proofs.Common.{◌≡◌, ℕ, ◌∙◌, ap, unwrap_or, false, Option, Some, None, List, [], refl, sym, le_refl}
 use Rattle.tier_base.specs.declared.code.Code.TheVariants as code
-use Rattle.std.specs.Bool.{MatchBool}
-use Rattle.tier_base.specs.declared.limit.Limit.TheVariants as limit
 use Rattle.tier_base.specs.declared.number.SessionId.{SessionId}
-use Rattle.row_types.specs.declared.rule.Refused.TheVariants as refused
-use Rattle.row_types.specs.declared.rule.Rule.{Rule}
 use Rattle.std.specs.Option.{option_map}
 use Rattle.table_defs.specs.declared.definition.TableDef.{TableDef}
 use Rattle.open_sessions.specs.Lookups.{of_label, of_number, open_ops}
@@ -14,20 +10,13 @@ use Rattle.open_sessions.specs.declared.sessions.Sessions.{Sessions}
 use Rattle.session_state.specs.Sessions.{OpenSession}
 use Rattle.outside.specs.Holding.{Held}
 use Rattle.order_laws.proofs.TruthLaws.{never_both}
-use Rattle.sql_subset.specs.declared.stmt.Stmt.{Stmt}
 use Rattle.cache_tier.specs.declared.reply.Last.{Last}
-use Rattle.cache_tier.specs.declared.reply.Last.TheVariants.{No}
-use Rattle.cache_tier.specs.Journals.{JournalEntry, is_full}
-use Rattle.cache_tier.specs.JournalSteps.{Flushes, FlushesFitting, FlushesKept, FlushesSome, has_entries, name_sizes}
-use Rattle.cache_tier.specs.Order.{refusal}
-use Rattle.cache_tier.specs.Rules.{past}
-use Rattle.cache_tier.specs.Steps.{DoesStatement, tells}
+use Rattle.cache_tier.specs.Steps.{tells}
 use Rattle.cache_tier.specs.TierStates.{Session}
-use Rattle.cache_tier.specs.Worlds.{Passes, Unless, World, only}
+use Rattle.cache_tier.specs.Worlds.{only}
 use Rattle.stored_tier.specs.declared.tier.Tier.{Tier as Stored}
-use Rattle.stored_tier.specs.Performing.{Executes, IsCalm, KeepsSlots, PerformsIn, StandsFor}
-use Rattle.outside.specs.Sites.{SiteState}
-use Rattle.stored_tier.specs.Stored.{HasSession, IsSound, IsStoredAs}
+use Rattle.stored_tier.specs.Performing.{IsCalm, KeepsSlots}
+use Rattle.stored_tier.specs.Stored.{HasSession, IsSound}
 
 slots_stay : (held : Option Held) → KeepsSlots held held
 slots_stay None = tt
@@ -55,33 +44,3 @@ own_here law t id s sound has =
     ap (λ n. unwrap_or (option_map (λ (x : OpenSession). x.ops) (of_number n (seen_all t.sessions))) []) (sym has.number)
     ∙ ap (λ o. unwrap_or (option_map (λ (x : OpenSession). x.ops) o) []) (law t.schema t.sessions s.label has.seen sound.sessions has.found)
     ∙ ap (λ (x : Session). x.own) has.is
-
--- memory was wanting, and the tier stands for the worlds that it stood for
-pub wanting_still : (t new : Stored) (site : SiteState) (id : SessionId) (st : Stmt) → ((w : World) → StandsFor t w → StandsFor new w) → PerformsIn t new site site id (Executes st) (Err refused.Memory)
-wanting_still t new site id st still = λ s has w at stands unshared. record { world = w; at = at; stands = still w stands; is = inr (refl, refl) }
-
--- a rule refuses it, and nothing changed
-pub refused_by : (t : Stored) (site : SiteState) (id : SessionId) (st : Stmt) (rule : Rule)
-    → ((s : Session) (w : World) → HasSession t id s → IsStoredAs t w.tier → refusal w.tier s st ≡ Some rule) → PerformsIn t t site site id (Executes st) (Err (refused.Rule rule))
-refused_by t site id st rule is = λ s has w at stands unshared. record {
-  world = w;
-  at = at;
-  stands = stands;
-  is = inl (subst (λ o. Unless o (DoesStatement s st) w w (only (No rule))) (sym (is s w has stands.stored)) (refl, refl));
-}
-
--- nothing is flushed where there is no journal
-pub flushes_none : (w : World) (entries : List JournalEntry) → w.journal.kept ≡ false → FlushesSome entries w w None
-flushes_none w entries unkept = by (has_entries entries)
-  where
-    flushes : Flushes entries w w None
-    flushes = subst (λ b. MatchBool b (FlushesKept entries w w None) (Passes w w None)) (sym unkept) (refl, refl)
-
-    fits : FlushesFitting entries w w None
-    fits =
-        subst (λ b. MatchBool b ((w ≡ w) × (None ≡ Some (only (No (past limit.JournalSlot))))) (Flushes entries w w None))
-        (sym (ap (λ b. b && is_full (name_sizes w) w.journal entries) unkept)) flushes
-
-    by : (b : Bool) → MatchBool b (FlushesFitting entries w w None) (Passes w w None)
-    by true = fits
-    by false = (refl, refl)

@@ -1,5 +1,5 @@
 -- Instances of a store that leave, one after another.
-use Rattle.std.proofs.Common.{◌≡◌, ◌<◌, ◌≤◌, ◌+◌, ℕ, zero, suc, Bool, true, false, cond, nat_eq, Option, Some, None, List, [], ◌∷◌, ◌++◌, filter, get_or, length, map, take, slice_get, arith, refl, sym, ap, subst, ◌∙◌}
+use Rattle.std.proofs.Common.{◌≡◌, ◌<◌, ◌+◌, ℕ, zero, suc, Bool, true, false, cond, Some, None, List, [], ◌∷◌, ◌++◌, filter, get_or, length, map, take, slice_get, arith, refl, sym, ap, subst, ◌∙◌}
 use Rattle.row_types.specs.declared.value.Value.{Value}
 use Rattle.indexed_rows.specs.Rows.{is_same}
 use Rattle.recency.specs.Rings.{keys_without}

@@ -1,10 +1,9 @@
 -- DROP CACHE GROUP over what is stored.
-use Rattle.std.proofs.Common.{◌≡◌, ◌<◌, ◌≤◌, ◌+◌, ℕ, arith, Bool, true, false, Option, Some, None, Result, Ok, Err, List, [], ◌∷◌, find, length, map, remove, slice_get, unwrap_or, refl, sym, ap, subst, ◌∙◌, inl, inr}
+use Rattle.std.proofs.Common.{◌≡◌, ℕ, Bool, true, false, Option, Some, None, Result, Ok, Err, List, [], ◌∷◌, find, map, remove, slice_get, unwrap_or, refl, sym, ap, subst, ◌∙◌, inl, inr}
 use Rattle.std.specs.Bool.{MatchBool}
 use Rattle.std.specs.Option.{option_map}
 use Rattle.row_types.specs.declared.rule.Refused.{Refused}
 use Rattle.row_types.specs.declared.rule.Refused.TheVariants as refused
-use Rattle.row_types.specs.declared.rule.Rule.{Rule}
 use Rattle.table_defs.specs.Declarations.{IsRefusedBy}
 use Rattle.tier_base.specs.declared.limit.Limit.TheVariants as limit
 use Rattle.tier_base.specs.declared.number.SessionId.{SessionId}
@@ -19,7 +18,7 @@ use Rattle.cache_tier.specs.declared.reply.Reply.{Reply}
 use Rattle.cache_tier.specs.DropSteps.{DropsAt, DropsGroup, DropsRest, drop_answer, drop_fault, without_group}
 use Rattle.cache_tier.specs.declared.group.GroupDef.{GroupDef}
 use Rattle.cache_tier.specs.Groups.{Group, is_called, is_writethrough, place_called}
-use Rattle.cache_tier.specs.Journals.{Drops, JournalEntry}
+use Rattle.cache_tier.specs.Journals.{Drops}
 use Rattle.cache_tier.specs.JournalSteps.{FlushesSome}
 use Rattle.cache_tier.specs.Locks.{group_lock}
 use Rattle.cache_tier.specs.Order.{refusal}
@@ -45,13 +44,12 @@ use Rattle.tier_journal.specs.declared.journal.TierJournal.{TierJournal}
 use Rattle.outside.specs.Holding.{Held}
 use Rattle.stored_tier.proofs.OverLaws.{keeps_stays}
 use Rattle.stored_tier.specs.Grouping.{KeepsGroups}
-use Rattle.stored_tier.specs.Performing.{Executes, IsPerformedOver, PerformsInOver, PerformsOver, StandsFor, reply_of}
-use Rattle.stored_tier.specs.Sites.{IsAt}
+use Rattle.stored_tier.specs.Performing.{Executes, PerformsInOver, PerformsOver, StandsFor, reply_of}
 use Rattle.outside.specs.Sites.{SiteState}
 use Rattle.stored_tier.proofs.LaterLaws.{later_less}
 use Rattle.stored_tier.specs.Stored.{HasSession, IsSound, IsStoredAs, are_later, without_list}
 use Rattle.group_engine.proofs.CalmLaws.{NumberLaw, own_here}
-use Rattle.group_engine.proofs.DropLocks.{get_map, group_stored, group_within, place_stored, place_within, written_stored}
+use Rattle.group_engine.proofs.DropLocks.{group_stored, group_within, place_stored, place_within, written_stored}
 use Rattle.group_engine.proofs.GroupComes.{sound_grouped, stands_kept, time_kept}
 use Rattle.group_engine.proofs.GroupGoes.{filtered, kept_less, map_less, names_less, plain_less, shows_less, whole_less}
 use Rattle.stored_tier.proofs.SeenLaws.{find_seen}

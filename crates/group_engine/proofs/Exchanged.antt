@@ -1,20 +1,10 @@
 -- Stores that were exchanged for others.
-use Rattle.std.proofs.Common.{◌≡◌, ◌≤◌, ℕ, zero, suc, ◌+◌, Bool, true, false, cond, not, ◌&&◌, ◌||◌, Option, Some, None, is_none, is_some, List, [], ◌∷◌, length, map, slice_get, unwrap_or, refl, sym, ap, subst, ◌∙◌, arith}
-use Rattle.std.specs.List.{list_all, list_any}
-use Rattle.std.specs.Option.{option_map, option_or}
-use Rattle.tier_base.specs.declared.number.TableId.{TableId}
+use Rattle.std.proofs.Common.{◌≡◌, ℕ, zero, suc, Option, Some, None, List, [], ◌∷◌, length, slice_get, unwrap_or, refl, ap, subst}
 use Rattle.table_defs.specs.declared.definition.TableDef.{TableDef}
 use Rattle.group_store.specs.Keeping.{IsFor}
-use Rattle.group_store.specs.Shown.{AreHoused, home_from, home_of, homes_from, homes_of}
-use Rattle.group_store.specs.Stores.{Kept, place_in}
-use Rattle.group_store.specs.declared.directory.Home.{Home}
-use Rattle.cache_tier.specs.declared.group.GroupDef.{GroupDef}
-use Rattle.cache_tier.specs.Groups.{Group, covers, definitions_of, is_defined_on, is_table_of}
-use Rattle.cache_tier.specs.Routes.{hidden_where}
-use Rattle.cache_tier.specs.Sets.{Choice, changed_from}
+use Rattle.group_store.specs.Stores.{Kept}
+use Rattle.cache_tier.specs.Groups.{Group}
 use Rattle.stored_tier.specs.Refreshing.{exchanged}
-use Rattle.group_catalog.specs.Catalogs.{groups_in}
-use Rattle.group_catalog.specs.declared.catalog.Catalog.{Catalog}
 use Rattle.stored_tier.specs.Stored.{AreKept, AreWhole}
 
 pub kept_exchanged : (schema : List TableDef) (groups : List Group) (stores : List Kept) (made : List (Option Kept)) → AreKept schema groups stores → ((k : ℕ) (g : Group) (s : Kept) → slice_get groups k ≡ Some g → slice_get made k ≡ Some (Some s) → IsFor schema g.def.tree s) → AreKept schema groups (exchanged stores made)

@@ -1,5 +1,5 @@
 -- A store that is filled with a view of a state keeps that view.
-use Rattle.std.proofs.Common.{◌≡◌, ◌≤◌, ◌<◌, ℕ, zero, suc, ◌+◌, Bool, true, false, cond, ◌&&◌, ◌||◌, nat_eq, Option, Some, None, is_some, List, [], ◌∷◌, ◌++◌, length, map, slice_get, unwrap_or, refl, sym, ap, subst, ◌∙◌, arith}
+use Rattle.std.proofs.Common.{◌≡◌, ℕ, zero, suc, ◌+◌, Bool, true, false, cond, ◌&&◌, ◌||◌, nat_eq, Option, Some, None, is_some, List, [], ◌∷◌, ◌++◌, length, map, slice_get, unwrap_or, refl, sym, ap, subst, ◌∙◌, arith}
 use Rattle.std.proofs.lemmas.Bool.{eq-eqb}
 use Rattle.std.specs.Option.{option_map, option_or}
 use Rattle.std.specs.FinMap as fm
@@ -20,15 +20,14 @@ use Rattle.instances.specs.Views.{child_rows, is_kept, kept_at, passes, refers_t
 use Rattle.instances.proofs.Gathering.{get_where}
 use Rattle.slot_rows.specs.SlotKeys.{IsKeyedBy}
 use Rattle.cache_store.specs.Operating.{change_at}
-use Rattle.cache_store.specs.Shown.{shown_of, tables_with, with_rows}
+use Rattle.cache_store.specs.Shown.{shown_of, with_rows}
 use Rattle.cache_store.proofs.AboveLaws.{above}
 use Rattle.cache_store.proofs.JoinLaws.{get_with_rows, shown_all}
 use Rattle.cache_store.proofs.OwnLaws.{keeps}
 use Rattle.cache_store.proofs.ShownLaws.{view_length}
-use Rattle.group_store.specs.Keeping.{IsFor, layer_for, primary_of}
-use Rattle.group_store.specs.Shown.{foreign_key_of}
+use Rattle.group_store.specs.Keeping.{IsFor, layer_for}
 use Rattle.group_store.specs.Stores.{Kept, SameButSpare, put_rows, put_store, put_tables}
-use Rattle.group_store.specs.Trees.{Layer, key_at}
+use Rattle.group_store.specs.Trees.{key_at}
 use Rattle.cache_tier.proofs.ShownTables.{defined_in, some_def}
 use Rattle.stored_tier.proofs.StoreForms.{key_for, primary}
 use Rattle.cache_tier.specs.Commits.{tables_of}

@@ -1,14 +1,13 @@
 -- Behind a refresh the stored tier stands for the refreshed one.
-use Rattle.std.proofs.Common.{◌≡◌, ◌≤◌, ℕ, zero, suc, ◌+◌, Bool, true, false, cond, not, ◌&&◌, ◌||◌, nat_eq, Option, Some, None, is_some, is_none, List, [], ◌∷◌, ◌++◌, length, map, slice_get, unwrap_or, refl, sym, ap, subst, ◌∙◌, arith}
+use Rattle.std.proofs.Common.{◌≡◌, ◌≤◌, ℕ, zero, suc, ◌+◌, Bool, true, false, cond, ◌&&◌, ◌||◌, nat_eq, Option, Some, None, is_some, is_none, List, [], ◌∷◌, ◌++◌, length, map, slice_get, unwrap_or, refl, sym, ap, subst, ◌∙◌, arith}
 use Rattle.std.proofs.lemmas.Bool.{eq-eqb, eqb-true}
-use Rattle.std.specs.Option.{option_and_then, option_map}
+use Rattle.std.specs.Option.{option_and_then}
 use Rattle.std.specs.List.{list_all}
 use Rattle.std.specs.FinMap as fm
 use Rattle.std.specs.FinMap.{empty}
 use Rattle.row_types.specs.Order.{key_order}
 use Rattle.row_types.specs.declared.value.Value.{Value}
 use Rattle.row_types.proofs.OrderLaws.{key_exact, key_total}
-use Rattle.tier_base.specs.declared.number.TableId.{TableId}
 use Rattle.table_defs.specs.Declarations.{foreign_places}
 use Rattle.table_defs.specs.declared.definition.TableDef.{TableDef}
 use Rattle.indexed_rows.specs.Rows.{Table, key_of}
@@ -37,7 +36,7 @@ use Rattle.group_engine.specs.Fresh.{AreFresh, IsViewed}
 use Rattle.stored_tier.specs.Performing.{StandsFor}
 use Rattle.stored_tier.specs.Refreshing.{exchanged, is_filled, positioned}
 use Rattle.stored_tier.specs.Stored.{AreKept, IsStoredAs, is_plain, without_list}
-use Rattle.group_engine.proofs.GroupRows.{AllBecome, Becomes, catalog_after, same_there, stands_after, there_too}
+use Rattle.group_engine.proofs.GroupRows.{AllBecome, Becomes, same_there, stands_after, there_too}
 use Rattle.group_engine.proofs.ShownStores.{EachShows, all_shown, each_shows}
 
 abbrev Row : Type 0

@@ -1,11 +1,10 @@
 -- What is stored where a group goes with its store, and what is shown then.
-use Rattle.std.proofs.Common.{◌≡◌, ◌≢◌, ℕ, zero, suc, ◌+◌, ◌<◌, ◌≤◌, ◌⊎◌, inl, inr, Bool, true, false, cond, not, ◌&&◌, ◌||◌, nat_eq, nat_lt, Option, Some, None, is_some, List, [], ◌∷◌, ◌++◌, drop, filter, find, length, map, remove, slice_get, take, unwrap_or, refl, sym, ap, subst, ◌∙◌, arith}
+use Rattle.std.proofs.Common.{◌≡◌, ◌≢◌, ℕ, zero, suc, ◌<◌, ◌≤◌, Bool, true, false, cond, not, ◌&&◌, ◌||◌, Some, is_some, List, [], ◌∷◌, filter, length, map, remove, slice_get, unwrap_or, refl, sym, ap, subst, ◌∙◌, arith}
 use Rattle.std.specs.List.{list_all, list_any}
 use Rattle.std.specs.Option.{option_map}
-use Rattle.std.specs.FinMap.{empty}
 use Rattle.tier_base.specs.declared.number.TableId.{TableId}
 use Rattle.table_defs.specs.declared.definition.TableDef.{TableDef}
-use Rattle.table_state.specs.Tables.{TableState, table_at}
+use Rattle.table_state.specs.Tables.{table_at}
 use Rattle.instances.specs.Trees.{place_of}
 use Rattle.instances.specs.Views.{kept_at}
 use Rattle.group_store.specs.Stores.{Kept}

@@ -1,28 +1,27 @@
 -- What is shown of the tables of a group at its place, and groups of which some change.
-use Rattle.std.proofs.Common.{◌≡◌, ℕ, zero, suc, ◌+◌, Bool, true, false, cond, Option, Some, None, is_some, List, [], ◌∷◌, length, slice_get, unwrap_or, refl, sym, ap, ◌∙◌, subst, arith}
+use Rattle.std.proofs.Common.{◌≡◌, ℕ, zero, suc, true, Some, is_some, List, [], ◌∷◌, length, slice_get, unwrap_or, refl, sym, ap, ◌∙◌, arith}
 use Rattle.std.specs.List.{find}
 use Rattle.tier_base.specs.declared.number.TableId.{TableId}
-use Rattle.table_defs.specs.declared.definition.TableDef.{TableDef}
 use Rattle.table_state.specs.declared.history.Entry.{Entry}
-use Rattle.table_state.specs.Tables.{TableState, table_at}
+use Rattle.table_state.specs.Tables.{table_at}
 use Rattle.instances.specs.Trees.{place_of}
 use Rattle.instances.specs.Views.{kept_at}
 use Rattle.order_laws.specs.Sides.{AgreeOn}
 use Rattle.cache_tier.specs.declared.group.GroupDef.{GroupDef}
-use Rattle.cache_tier.specs.Groups.{Group, covers, group_over, is_key, is_writethrough}
+use Rattle.cache_tier.specs.Groups.{Group, covers, is_key, is_writethrough}
 use Rattle.cache_tier.specs.Sets.{OnePosition}
 use Rattle.cache_tier.specs.Shown.{shown, shown_state, shown_table, table_of_group}
 use Rattle.cache_tier.specs.Standing.{AreDistinct}
 use Rattle.cache_tier.specs.TierStates.{Tier}
 use Rattle.cache_tier.specs.Worlds.{World}
 use Rattle.cache_tier.specs.Events.{with_tier}
-use Rattle.cache_tier.specs.StandingBetween.{Each, HasCatalog, HasKeys, IsCatalogued, IsReadWithin, Stands, has_root_row, own_writes}
+use Rattle.cache_tier.specs.StandingBetween.{Each, HasCatalog, HasKeys, IsCatalogued, IsReadWithin, Stands, own_writes}
 use Rattle.cache_tier.proofs.ChosenGroups.{each_at, found_place}
-use Rattle.cache_tier.proofs.GroupPairs.{IsKept, Pairs, catalogued_kept, own_tables_kept, pairs_each, same_covers, same_kind}
+use Rattle.cache_tier.proofs.GroupPairs.{IsKept, Pairs, catalogued_kept, own_tables_kept, pairs_each, same_kind}
 use Rattle.cache_tier.proofs.GroupTables.{IsFound, each_own, live_at, live_table, over_is_found}
 use Rattle.cache_tier.proofs.HistoryKeeps.{all_through_on, applies_stay}
 use Rattle.cache_tier.proofs.Regrouping.{regrouped}
-use Rattle.cache_tier.proofs.SessionLaws.{Known, known}
+use Rattle.cache_tier.proofs.SessionLaws.{known}
 use Rattle.cache_tier.proofs.ShownTables.{from_length, live_of, table_shown}
 use Rattle.cache_tier.proofs.TableLaws.{covered_defined}
 

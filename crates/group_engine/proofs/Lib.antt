@@ -35,3 +35,4 @@ pub mod UnloadLaws
 pub mod UnloadWhole
 pub mod UnloadWithin
 pub mod WholeLaws
+pub mod WrittenLaws

@@ -1,8 +1,6 @@
 -- A writethrough group takes in instances: what is stored and shown then.
-use Rattle.std.proofs.Common.{◌≡◌, ◌≤◌, ◌<◌, ◌+◌, ℕ, zero, suc, Bool, true, false, not, cond, ◌&&◌, ◌||◌, nat_eq, Option, Some, None, is_some, List, [], ◌∷◌, ◌++◌, length, map, slice_get, slice_set, unwrap_or, arith, refl, sym, ap, subst, ◌∙◌}
-use Rattle.std.proofs.lemmas.Bool.{eq-eqb, eqb-true}
+use Rattle.std.proofs.Common.{◌≡◌, ◌<◌, ◌+◌, ℕ, zero, suc, Bool, true, false, cond, ◌||◌, Option, Some, None, is_some, List, [], ◌∷◌, length, map, slice_get, unwrap_or, arith, refl, sym, ap, subst, ◌∙◌}
 use Rattle.std.proofs.lemmas.List.{length-map}
-use Rattle.std.specs.List.{find, list_all, list_any}
 use Rattle.std.specs.Option.{option_map}
 use Rattle.std.specs.FinMap as fm
 use Rattle.row_types.specs.declared.value.Value.{Value}
@@ -15,7 +13,7 @@ use Rattle.table_state.specs.Tables.{TableState, table_at}
 use Rattle.evaluator.specs.Cascades.{key_in}
 use Rattle.instances.specs.declared.tree.Child.{Child}
 use Rattle.instances.specs.declared.tree.Tree.{Tree}
-use Rattle.instances.specs.Trees.{is_sound, place_of, table_of}
+use Rattle.instances.specs.Trees.{place_of, table_of}
 use Rattle.instances.specs.Views.{kept_at, passes}
 use Rattle.slot_rows.specs.SlotKeys.{IsKeyedBy}
 use Rattle.cache_store.specs.Shown.{shown_of, tables_with}
@@ -27,20 +25,17 @@ use Rattle.group_store.specs.Trees.{key_at}
 use Rattle.group_store.proofs.FormLaws.{key_for, primary}
 use Rattle.group_catalog.specs.declared.which.ResolvedWhich.{ResolvedWhich}
 use Rattle.order_laws.proofs.TableLaws.{get_same}
-use Rattle.order_laws.proofs.TruthLaws.{same_some}
-use Rattle.cache_tier.specs.Groups.{Group, covers, is_key, is_read_only, is_writethrough}
+use Rattle.cache_tier.specs.Groups.{Group, is_key, is_writethrough}
 use Rattle.cache_tier.specs.Shown.{root_key, shown_in, shown_state}
 use Rattle.cache_tier.specs.Worlds.{World}
-use Rattle.cache_tier.specs.Events.{at_history}
-use Rattle.cache_tier.specs.StandingBetween.{HaveOwnTables, IsCatalogued, Stands}
+use Rattle.cache_tier.specs.StandingBetween.{IsCatalogued}
 use Rattle.cache_tier.proofs.ChosenGroups.{each_at}
 use Rattle.cache_tier.proofs.GroupTables.{IsFound, LiveTable, each_own, read_only_not}
 use Rattle.cache_tier.proofs.HistoryKeeps.{root_covers}
-use Rattle.cache_tier.proofs.SessionLaws.{Known}
 use Rattle.cache_tier.proofs.ShownTables.{defined_in, root_plain, row_shown, some_def}
-use Rattle.cache_tier.proofs.ShownTrees.{place_there, root_place, sound_child}
+use Rattle.cache_tier.proofs.ShownTrees.{place_there, sound_child}
 use Rattle.stored_tier.specs.declared.tier.Tier.{Tier as Stored}
-use Rattle.stored_tier.specs.Choosing.{comes, matches_at}
+use Rattle.stored_tier.specs.Choosing.{comes}
 use Rattle.stored_tier.specs.Gathering.{gathered_in}
 use Rattle.stored_tier.specs.Performing.{StandsFor}
 use Rattle.stored_tier.specs.Stored.{IsSound}

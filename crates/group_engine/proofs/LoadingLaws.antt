@@ -1,27 +1,25 @@
 -- LOAD and REFRESH, from what they name to what they do.
-use Rattle.std.proofs.Common.{◌≡◌, ℕ, Bool, true, false, not, nat_lt, ◌&&◌, ◌⊎◌, inl, inr, Option, Some, None, Result, Ok, Err, List, [], slice_get, refl, sym, ap, subst, ◌∙◌}
+use Rattle.std.proofs.Common.{◌≡◌, ℕ, Bool, true, false, inl, inr, Option, Some, None, Result, Ok, Err, [], slice_get, refl, sym, ap, subst, ◌∙◌}
 use Rattle.std.specs.Bool.{MatchBool}
 use Rattle.row_types.specs.declared.rule.Refused.{Refused}
 use Rattle.row_types.specs.declared.rule.Refused.TheVariants as refused
 use Rattle.tier_base.specs.declared.number.SessionId.{SessionId}
-use Rattle.tier_base.specs.declared.number.TableId.{TableId}
 use Rattle.outside.specs.Others.{is_shared}
 use Rattle.sql_subset.specs.declared.stmt.Load.{Load}
 use Rattle.cache_tier.specs.declared.reply.Reply.{Reply}
-use Rattle.cache_tier.specs.Groups.{Group, is_read_only, is_table_of, is_writethrough}
+use Rattle.cache_tier.specs.Groups.{is_read_only, is_table_of, is_writethrough}
 use Rattle.cache_tier.specs.JournalSteps.{Flushes, FlushesKept}
 use Rattle.cache_tier.specs.LoadSteps.{LoadsReadOnly, LoadsWritethrough}
-use Rattle.cache_tier.specs.Order.{refusal}
 use Rattle.cache_tier.specs.RefreshSteps.{RefreshesReadOnly, RefreshesWritethrough}
 use Rattle.cache_tier.specs.Rotations.{Rotates, RotatesIfLong, is_long}
 use Rattle.cache_tier.specs.Rounds.{AppliesAndRotates, Round, RoundIfUnsettled, is_unsettled}
 use Rattle.cache_tier.specs.Steps.{DoesStatement}
 use Rattle.cache_tier.specs.Targets.{Target}
 use Rattle.cache_tier.specs.TierStates.{Session, Tier}
-use Rattle.cache_tier.specs.Worlds.{IsUnshared, Part, Passes, StageFollows, Then, Tries, Unless, World}
+use Rattle.cache_tier.specs.Worlds.{IsUnshared, Passes, StageFollows, Then, Tries, Unless, World}
 use Rattle.group_engine.specs.declared.aiming.Aim.{Aim}
 use Rattle.stored_tier.specs.declared.tier.Tier.{Tier as Stored}
-use Rattle.group_engine.specs.Aiming.{Aims, AimsIn, FindsTarget, aimed}
+use Rattle.group_engine.specs.Aiming.{AimsIn, FindsTarget, aimed}
 use Rattle.stored_tier.specs.Performing.{Executes, PerformsInOver, PerformsOver, reply_of}
 use Rattle.outside.specs.Sites.{SiteState}
 use Rattle.group_engine.specs.Taking.{IsGroupAt, IsOfTarget, IsSettledAt, LoadsTarget, PerformsWhere, ReadsMatching}

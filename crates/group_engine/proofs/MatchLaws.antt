@@ -1,12 +1,9 @@
 -- Which instances match, come, and are shown then.
-use Rattle.std.proofs.Common.{◌≡◌, ℕ, zero, suc, ◌+◌, ◌<◌, Bool, true, false, not, cond, ◌&&◌, ◌||◌, Option, Some, None, is_some, List, [], ◌∷◌, ◌++◌, length, map, filter, slice_get, refl, sym, ap, subst, ◌∙◌, arith}
-use Rattle.std.proofs.lemmas.List.{length-map}
+use Rattle.std.proofs.Common.{◌≡◌, ℕ, suc, Bool, true, false, not, cond, ◌&&◌, ◌||◌, Option, Some, None, is_some, List, [], ◌∷◌, ◌++◌, length, map, filter, slice_get, refl, sym, ap, ◌∙◌, arith}
 use Rattle.std.specs.FinMap as fm
 use Rattle.row_types.specs.declared.value.Value.{Value}
 use Rattle.row_types.proofs.OrderLaws.{key_exact, key_total}
-use Rattle.tier_base.specs.declared.number.TableId.{TableId}
-use Rattle.table_defs.specs.declared.definition.TableDef.{TableDef}
-use Rattle.indexed_rows.specs.Rows.{Table, key_of}
+use Rattle.indexed_rows.specs.Rows.{Table}
 use Rattle.table_state.specs.Tables.{TableState, table_at}
 use Rattle.evaluator.specs.Writes.{selects as selects_row}
 use Rattle.instances.specs.declared.tree.Child.{Child}
@@ -14,13 +11,12 @@ use Rattle.instances.specs.declared.tree.Tree.{Tree}
 use Rattle.instances.specs.Views.{child_rows, is_true, kept_at, passes, refers_to_one, root_rows, rows_where, selects, with_children}
 use Rattle.instances.proofs.Gathering.{entry_found, get_where}
 use Rattle.cache_store.specs.Shown.{shown_of}
-use Rattle.group_catalog.specs.Identified.{is_given}
 use Rattle.group_catalog.specs.declared.which.ResolvedWhich.{ResolvedWhich}
 use Rattle.group_store.specs.Stores.{Kept}
 use Rattle.cache_tier.specs.Conditions.{is_id, matches}
 use Rattle.cache_tier.specs.Groups.{Group, is_explicit, is_key, is_read_only}
 use Rattle.cache_tier.specs.Shown.{exceeds, instances_where, root_key, shown_in, shows_root}
-use Rattle.cache_tier.specs.Targets.{Target, matching, new_keys}
+use Rattle.cache_tier.specs.Targets.{Target, matching}
 use Rattle.cache_tier.proofs.ShownTrees.{front_kept}
 use Rattle.stored_tier.specs.Choosing.{chosen, comes, matches_at}
 use Rattle.stored_tier.specs.Gathering.{gathered_in}

@@ -1,5 +1,5 @@
 -- What is read for a refresh, in the worlds at the site.
-use Rattle.std.proofs.Common.{◌≡◌, ◌≤◌, ℕ, zero, suc, ◌+◌, Bool, true, false, cond, ◌&&◌, ◌||◌, nat_eq, Option, Some, None, is_some, List, [], ◌∷◌, ◌++◌, length, map, slice_get, take, refl, sym, ap, subst, ◌∙◌, arith}
+use Rattle.std.proofs.Common.{◌≡◌, ◌≤◌, ℕ, zero, suc, ◌+◌, Bool, true, false, cond, ◌||◌, nat_eq, Option, Some, None, List, [], ◌∷◌, ◌++◌, length, map, slice_get, take, refl, sym, ap, subst, ◌∙◌, arith}
 use Rattle.std.proofs.lemmas.List.{append-nil}
 use Rattle.std.proofs.lemmas.List.Folds.{list_any-append}
 use Rattle.std.specs.Prelude.{Result, Ok, Err}
@@ -21,20 +21,19 @@ use Rattle.outside.specs.Bank.{Grows}
 use Rattle.outside.specs.Calls as site
 use Rattle.outside.specs.Console.{IsCopyOf, TakesSnapshot}
 use Rattle.outside.specs.Holding.{Held}
-use Rattle.outside.specs.Others.{Around, AreOthers}
+use Rattle.outside.specs.Others.{Around}
 use Rattle.outside.specs.declared.fault.BankError.{BankError}
 use Rattle.outside.specs.declared.fault.BankError.TheVariants.{Memory}
 use Rattle.outside.specs.declared.site.Snapshot.{Snapshot}
 use Rattle.order_laws.proofs.TruthLaws.{both_true, or_true}
 use Rattle.group_catalog.specs.Catalogs.{groups_in}
-use Rattle.group_store.specs.Keeping.{IsFor, layer_for}
+use Rattle.group_store.specs.Keeping.{layer_for}
 use Rattle.group_store.specs.Stores.{Kept, SameButSpare, put_rows, put_store, put_tables}
 use Rattle.cache_store.specs.Operating.{change_at}
 use Rattle.cache_tier.specs.Commits.{tables_of}
 use Rattle.cache_tier.specs.Groups.{Group}
 use Rattle.cache_tier.specs.Reading.{TellsPosition}
 use Rattle.cache_tier.specs.Sets.{Choice}
-use Rattle.cache_tier.specs.TierStates.{Tier}
 use Rattle.cache_tier.specs.Worlds.{BankCall, IsUnshared, World}
 use Rattle.cache_tier.specs.Events.{StaysShown, at_history}
 use Rattle.cache_tier.specs.StandingBetween.{IsCatalogued, Stands}

@@ -1,5 +1,5 @@
 -- Entries that are made ready, and the worlds whose journal they are for.
-use Rattle.std.proofs.Common.{◌≡◌, ℕ, ◌+◌, ◌-◌, ◌≤◌, ◌<◌, ◌^◌, ◌⊎◌, Bool, true, false, cond, is_some, not, ◌&&◌, Option, Some, None, List, [], ◌∷◌, ◌++◌, length, slice_get, refl, sym, ap, subst, ◌∙◌, inl, inr, arith}
+use Rattle.std.proofs.Common.{◌≡◌, ℕ, ◌≤◌, ◌<◌, Bool, true, false, cond, ◌&&◌, Option, Some, None, List, [], ◌∷◌, ◌++◌, length, slice_get, refl, sym, ap, subst, ◌∙◌, inl, inr, arith}
 use Rattle.std.specs.Prelude.{Result, Ok, Err}
 use Rattle.std.specs.Result.{IfOk}
 use Rattle.std.specs.Bool.{MatchBool}
@@ -24,12 +24,11 @@ use Rattle.outside.specs.Calls.{BankCall, BankTold, Certain, Leaves, Told}
 use Rattle.outside.specs.Faults.{BankHasCause, Rose}
 use Rattle.outside.specs.declared.fault.BankError.{BankError}
 use Rattle.outside.specs.declared.fault.BankError.TheVariants.{Failed, Memory}
-use Rattle.outside.specs.Holding.{Held, Slots}
+use Rattle.outside.specs.Holding.{Held}
 use Rattle.outside.specs.Sites.{SiteState}
 use Rattle.cache_tier.specs.declared.reply.Last.TheVariants.{Done, No}
 use Rattle.cache_tier.specs.declared.reply.Reply.{Reply}
 use Rattle.cache_tier.specs.AlterSteps.{altered_entries, same_state}
-use Rattle.cache_tier.specs.Events.{with_tier}
 use Rattle.cache_tier.specs.Groups.{Group}
 use Rattle.cache_tier.specs.Journals.{Journal, JournalEntry, SetsLoaded, SetsState, flushed_with, is_full}
 use Rattle.cache_tier.specs.Order.{refusal}
@@ -40,30 +39,29 @@ use Rattle.cache_tier.specs.Reading.{Answers}
 use Rattle.cache_tier.specs.Rules.{past}
 use Rattle.cache_tier.specs.Targets.{load_entries}
 use Rattle.cache_tier.specs.UnloadSteps.{unload_entries}
-use Rattle.cache_tier.specs.Worlds.{Answer, Part, Passes, Stage, Then, Unless, World, bank_fault, faulty, only}
+use Rattle.cache_tier.specs.Worlds.{Part, Passes, Then, Unless, World, bank_fault, faulty, only}
 use Rattle.tier_journal.specs.declared.batch.Batch.{Batch}
 use Rattle.tier_journal.specs.declared.journal.TierJournal.{TierJournal}
 use Rattle.tier_journal.specs.Batches.{Adds, Holds, IsEmpty}
-use Rattle.tier_journal.specs.Keeping.{HasRoomFor, HasSame, IsTooMuch, Keeps, KeepsOn, standing_in, version_in}
+use Rattle.tier_journal.specs.Keeping.{HasRoomFor, IsTooMuch, Keeps, KeepsOn, standing_in, version_in}
 use Rattle.tier_journal.specs.Leaving.{LeftByFlush}
 use Rattle.tier_journal.proofs.KeepLaws.{full_past, past_full}
 use Rattle.kept_journal.specs.declared.draft.Draft.{Draft}
-use Rattle.kept_journal.specs.Drafts.{IsDraftOf, StaysKept, is_full_draft}
-use Rattle.kept_journal.specs.Keeping.{DiskIsCaused, IsOver, IsWrittenOver, KeepsOver, WritesDraft, is_broken, over_disk, stop_of}
+use Rattle.kept_journal.specs.Drafts.{IsDraftOf, StaysKept}
+use Rattle.kept_journal.specs.Keeping.{DiskIsCaused, IsOver, IsWrittenOver, KeepsOver, WritesDraft, is_broken, over_disk}
 use Rattle.kept_journal.proofs.DraftLaws.{full_so, one_entry, one_place, placed_so}
 use Rattle.kept_journal.proofs.FlushLaws.{IsRead, failed_over, fitting_over, flushed_over, still_over}
 use Rattle.stored_tier.specs.declared.tier.Tier.{Tier as Stored}
-use Rattle.stored_tier.specs.Performing.{Executes, IsCalm, IsCaused, IsCausedOver, IsPerformedOver, KeepsSlots, PerformsInOver, StandsFor}
+use Rattle.stored_tier.specs.Performing.{Executes, IsCalm, IsCausedOver, KeepsSlots, PerformsInOver, StandsFor}
 use Rattle.stored_tier.specs.Stored.{HasSession, IsStoredAs}
-use Rattle.stored_tier.specs.Sites.{IsAt}
 use Rattle.stored_tier.proofs.OverLaws.{answered_over, caused_quiet, caused_then, ended_over, flush_breaks, keeps_stays}
 use Rattle.group_engine.specs.Altering.{IsReadyAt}
 use Rattle.group_engine.specs.Fresh.{IsCalled}
 use Rattle.group_engine.proofs.GroupRows.{same_there}
-use Rattle.group_engine.specs.Readying.{differ, is_flagged, is_turned}
+use Rattle.group_engine.specs.Readying.{is_flagged, is_turned}
 use Rattle.group_engine.specs.declared.ready.Ready.{Ready}
 use Rattle.group_engine.specs.declared.ready.Ready.TheVariants.{Both, Full, Nothing, One}
-use Rattle.group_engine.specs.Ready.{AnswersBehind, FillsAll, FitsAll, IsOne, IsPlacedReady, IsReadyFor, OverfillsAll, WritesReady, is_full_ready}
+use Rattle.group_engine.specs.Ready.{AnswersBehind, FillsAll, FitsAll, IsOne, IsPlacedReady, IsReadyFor, WritesReady, is_full_ready}
 
 -- what is made ready
 
@@ -366,24 +364,6 @@ fault_cause {X = X} k before behind e reply x told = subst (IsCausedOver k befor
     by Memory x = record { later = x.later; moment = x.moment; shares = x.shares; slots = λ none. x.slots; bare = refl; bank = λ told. absurd (never (sym told)); disk_later = same_least before.disk_faults behind.disk_faults x.disk; disk = λ told. absurd (never (sym told)); whole = λ none. refl }
 
 -- a round before, whose cause is that of a line that is done
-pub caused_calm : (k : Option TierJournal) (before behind : SiteState) (reply : Reply) → IsCausedOver k before behind (only (Done 0)) → IsCalm reply → IsCausedOver k before behind reply
-caused_calm k before behind reply one calm =
-    let two = calm before in
-    record {
-      later = one.later;
-      moment = one.moment;
-      shares = one.shares;
-      slots = one.slots;
-      bare = two.bare;
-      bank = λ told. rose_on before.bank_faults behind.bank_faults one.later (two.bank told);
-      disk_later = one.disk_later;
-      disk = λ told. absurd (never (sym told ∙ two.disk));
-      whole = λ none. two.disk;
-    }
-  where
-    rose_on : (a b : ℕ) → a ≤ b → Rose a a → Rose a b
-    rose_on a b later rose = omega (arith, later, rose)
-
 pub caused_both : (k mid : Option TierJournal) (before between behind : SiteState) (reply : Reply) → IsCausedOver k before between (only (Done 0)) → (k ≡ None → mid ≡ None) → IsCausedOver mid between behind reply → IsCausedOver k before behind reply
 caused_both k mid before between behind reply one none two =
     let a = one.later in
@@ -403,13 +383,6 @@ caused_both k mid before between behind reply one none two =
       disk = λ told. rose_later before.disk_faults between.disk_faults behind.disk_faults e (two.disk told);
       whole = λ is. two.whole (none is);
     }
-
--- no journal came
-pub never_came : (k mid : Option TierJournal) (kept came : Bool) → kept ≡ is_some k → came ≡ (not kept && is_some mid) → came ≡ false → k ≡ None → mid ≡ None
-never_came k None kept came is told none without = refl
-never_came k (Some t) kept came is told none without =
-    let unkept : kept ≡ false = is ∙ ap is_some without in
-    absurd (never (sym (told ∙ ap (λ b. not b && true) unkept) ∙ none))
 
 pub ready_ok : {E : Type 0} (r : Result Ready E) (P Q : Ready → Type 0) → ((x : Ready) → P x → Q x) → IfOk r P → IfOk r Q
 ready_ok (Ok x) P Q so is = so x is

@@ -1,5 +1,5 @@
 -- What a new moment, and a refresh that was tried, leave of what is stored.
-use Rattle.std.proofs.Common.{◌≡◌, ℕ, ◌+◌, max, Bool, true, false, cond, not, ◌&&◌, ◌||◌, nat_eq, is_none, find, filter, Option, Some, None, List, [], ◌∷◌, ◌++◌, map, unwrap_or, refl, sym, ap, subst, ◌∙◌, arith}
+use Rattle.std.proofs.Common.{◌≡◌, ℕ, Bool, true, false, cond, not, ◌&&◌, ◌||◌, nat_eq, is_none, find, filter, Option, Some, None, List, [], ◌∷◌, ◌++◌, map, unwrap_or, refl, sym, ap, subst, ◌∙◌, arith}
 use Rattle.std.specs.Prelude.{Err}
 use Rattle.std.specs.Bool.{MatchBool}
 use Rattle.std.specs.List.{list_all}
@@ -10,18 +10,10 @@ use Rattle.tier_base.specs.declared.code.Code.TheVariants as code
 use Rattle.outside.specs.declared.fault.BankError.{BankError}
 use Rattle.outside.specs.declared.fault.BankError.TheVariants as bank
 use Rattle.order_laws.proofs.TruthLaws.{both_true}
-use Rattle.sql_subset.specs.declared.request.Line.{Line}
-use Rattle.table_state.specs.declared.history.Entry.{Entry}
-use Rattle.cache_tier.specs.Aging.{aged, is_aged_by, is_aging_due, is_over}
-use Rattle.cache_tier.specs.DoubtSteps.{SettlesDoubt}
-use Rattle.cache_tier.specs.DueWork.{DueAging, DueDoubt, DueRound, DueSets, DueSetsOf, DueWork, Item, Noted, ThenItem, due_sets, intervals, is_round_due, noted, stopped, with_number}
-use Rattle.cache_tier.specs.Groups.{Group, definitions_of, is_explicit, is_on, is_read_only}
-use Rattle.cache_tier.specs.Rounds.{Round}
+use Rattle.cache_tier.specs.Groups.{Group, is_explicit}
 use Rattle.cache_tier.specs.Sets.{RefreshesIfShown, RefreshesSet, has_something, holds_some, is_in_set, shows_something}
-use Rattle.cache_tier.specs.Steps.{added_by, at_moment, with_moment}
-use Rattle.cache_tier.specs.TierStates.{SetState, Tier, cut, is_of_interval, refresh_tried}
-use Rattle.cache_tier.specs.Worlds.{OnlyWhere, Passes, World, bank_fault, faulty}
-use Rattle.cache_tier.specs.declared.reply.Note.{Note}
+use Rattle.cache_tier.specs.TierStates.{SetState, Tier, is_of_interval, refresh_tried}
+use Rattle.cache_tier.specs.Worlds.{Passes, World, bank_fault, faulty}
 use Rattle.cache_tier.specs.declared.reply.Reply.{Reply}
 use Rattle.group_catalog.specs.Catalogs.{groups_in}
 use Rattle.cache_tier.specs.Events.{with_tier}

@@ -1,5 +1,5 @@
 -- What the stores keep is what is shown, group by group.
-use Rattle.std.proofs.Common.{◌≡◌, ℕ, zero, suc, ◌+◌, Bool, true, false, cond, Option, Some, None, is_some, List, [], ◌∷◌, length, map, slice_get, unwrap_or, refl, sym, ap, ◌∙◌, subst, arith}
+use Rattle.std.proofs.Common.{◌≡◌, ℕ, zero, suc, ◌+◌, true, cond, Option, Some, None, is_some, List, [], ◌∷◌, map, slice_get, unwrap_or, refl, sym, ap, ◌∙◌, arith}
 use Rattle.std.specs.List.{find, list_any}
 use Rattle.std.specs.Option.{option_map, option_or}
 use Rattle.std.specs.FinMap.{empty}
@@ -14,9 +14,9 @@ use Rattle.instances.specs.Views.{kept_at}
 use Rattle.order_laws.proofs.TruthLaws.{never_both}
 use Rattle.group_store.specs.Keeping.{IsFor}
 use Rattle.group_store.specs.Shown.{kept_rows, rows_there, shown_by, stored_rows, tables_by}
-use Rattle.group_store.specs.Stores.{Kept, place_in}
+use Rattle.group_store.specs.Stores.{Kept}
 use Rattle.stored_tier.proofs.StoreRows.{place_same}
-use Rattle.cache_tier.specs.Groups.{Group, covers, group_over}
+use Rattle.cache_tier.specs.Groups.{Group, covers}
 use Rattle.cache_tier.specs.Shown.{shown, shown_state, shown_table, table_of_group, tables_from}
 use Rattle.cache_tier.specs.TierStates.{Tier}
 use Rattle.cache_tier.specs.StandingBetween.{HasCatalog, HaveOwnTables}

@@ -6,7 +6,6 @@ use Rattle.std.specs.FinMap.{empty}
 use Rattle.std.specs.List.{find}
 use Rattle.std.specs.Option.{option_and_then}
 use Rattle.tier_base.specs.declared.number.TableId.{TableId}
-use Rattle.table_defs.specs.declared.definition.TableDef.{TableDef}
 use Rattle.table_state.specs.declared.history.Entry.{Entry}
 use Rattle.table_state.specs.declared.history.Entry.TheVariants.{Definition, Foreign, Own}
 use Rattle.table_state.specs.declared.operation.Op.{Op}
@@ -18,7 +17,7 @@ use Rattle.table_state.proofs.HistoryLaws.{state_of-append}
 use Rattle.instances.specs.declared.tree.Child.{Child}
 use Rattle.instances.specs.declared.tree.Tree.{Tree}
 use Rattle.instances.specs.Trees.{place_of}
-use Rattle.order_laws.specs.Commits.{applied_sealed, pending, virtual_state}
+use Rattle.order_laws.specs.Commits.{applied_sealed, pending}
 use Rattle.order_laws.specs.Sides.{AgreeOn, are_off}
 use Rattle.order_laws.proofs.OthersLaws.{beside}
 use Rattle.order_laws.proofs.SideLaws.{side_off}

@@ -1,5 +1,5 @@
 -- Stores of which each keeps its form.
-use Rattle.std.proofs.Common.{◌≡◌, ℕ, zero, suc, Bool, cond, Option, Some, None, List, [], ◌∷◌, length, map, slice_get, slice_set, unwrap_or, refl, sym, ap, subst, ◌∙◌}
+use Rattle.std.proofs.Common.{◌≡◌, ℕ, zero, suc, cond, Option, Some, List, [], ◌∷◌, length, slice_get, slice_set, unwrap_or, refl, sym, ap, subst, ◌∙◌}
 use Rattle.std.specs.List.{position}
 use Rattle.std.specs.Option.{option_map, option_or}
 use Rattle.std.specs.FinMap.{empty}
@@ -8,8 +8,7 @@ use Rattle.tier_base.specs.declared.number.TableId.{TableId}
 use Rattle.table_defs.specs.declared.definition.TableDef.{TableDef}
 use Rattle.instances.specs.Trees.{same_table}
 use Rattle.instances.specs.Views.{kept_at}
-use Rattle.group_store.specs.Keeping.{IsFor}
-use Rattle.group_store.specs.Shown.{AreHoused, IsOver, home_from, home_of, homes_from, homes_of, kept_rows, shown_by, stored_rows, tables_by}
+use Rattle.group_store.specs.Shown.{AreHoused, IsOver, home_from, home_of, homes_from, kept_rows, shown_by, stored_rows, tables_by}
 use Rattle.group_store.specs.Stores.{Kept, SameButSpare, foreign_columns, place_in, put_tables}
 use Rattle.group_store.specs.Trees.{foreign_at}
 use Rattle.group_store.specs.declared.directory.Home.{Home}

@@ -1,86 +1,31 @@
 -- What a load leaves of the parts of the tier: it stays sound.
-use Rattle.std.proofs.Common.{◌≡◌, ◌≤◌, ◌+◌, ◌⊎◌, inl, inr, ℕ, zero, suc, Bool, true, false, not, cond, ◌&&◌, ◌||◌, nat_eq, Option, Some, None, Result, Ok, Err, List, [], ◌∷◌, ◌++◌, All, is_none, is_some, length, map, filter, slice_get, slice_set, take, arith, refl, sym, ap, subst, ◌∙◌}
-use Rattle.std.proofs.lemmas.Bool.{eq-eqb, eqb-true}
-use Rattle.std.proofs.lemmas.List.{append-nil, take_all}
-use Rattle.std.specs.Bool.{MatchBool}
-use Rattle.std.specs.List.{list_all, list_any}
+use Rattle.std.proofs.Common.{◌≡◌, ℕ, Bool, true, false, Result, Ok, Err, [], All, map, slice_set, refl, sym, ap, subst, ◌∙◌}
+use Rattle.std.specs.List.{list_all}
 use Rattle.std.specs.FinMap as fm
 use Rattle.row_types.specs.declared.rule.Refused.{Refused}
 use Rattle.row_types.specs.declared.rule.Refused.TheVariants as refused
-use Rattle.row_types.specs.declared.rule.Rule.{Rule}
-use Rattle.row_types.specs.declared.value.Value.{Value}
-use Rattle.tier_base.specs.declared.code.Code.TheVariants as code
-use Rattle.tier_base.specs.declared.limit.Limit.TheVariants as limit
-use Rattle.tier_base.specs.declared.number.TableId.{TableId}
-use Rattle.indexed_rows.specs.Rows.{Table}
-use Rattle.indexed_rows.proofs.MapLaws.{slice_get_map}
-use Rattle.table_state.specs.Copies.{is_one_of}
-use Rattle.table_state.specs.declared.history.Entry.{Entry}
-use Rattle.table_state.specs.Histories.{state_at, state_of}
-use Rattle.table_state.specs.Tables.{TableState, table_at}
-use Rattle.instances.specs.declared.tree.Child.{Child}
-use Rattle.instances.specs.declared.tree.Tree.{Tree}
-use Rattle.instances.specs.Trees.{place_of}
-use Rattle.instances.specs.Views.{kept_at, passes}
-use Rattle.cache_store.specs.Shown.{shown_of}
+use Rattle.table_state.specs.Tables.{TableState}
 use Rattle.open_sessions.specs.Opening.{AreSessions, seen_all}
 use Rattle.order_laws.specs.Commits.{RiseBetween}
 use Rattle.own_rows.specs.OwnTables.{AreShown}
-use Rattle.order_laws.proofs.TruthLaws.{both_true, same_some}
-use Rattle.outside.specs.Bank.{Grows}
-use Rattle.outside.specs.Calls as site
-use Rattle.outside.specs.Console.{TakesSnapshot}
-use Rattle.outside.specs.Holding.{Held}
-use Rattle.outside.specs.Others.{Around}
-use Rattle.outside.specs.declared.fault.BankError.{BankError}
-use Rattle.outside.specs.declared.fault.BankError.TheVariants.{Memory}
-use Rattle.outside.specs.declared.site.Snapshot.{Snapshot}
 use Rattle.group_catalog.specs.Catalogs.{groups_in}
 use Rattle.group_catalog.specs.declared.which.ResolvedWhich.{ResolvedWhich}
 use Rattle.group_store.specs.Shown.{AreHoused, shown_by}
-use Rattle.group_store.specs.Stores.{Kept, SameButSpare, put_tables}
 use Rattle.tier_statements.specs.Seen.{session_seen}
-use Rattle.cache_tier.specs.declared.group.GroupDef.{GroupDef}
-use Rattle.cache_tier.specs.declared.reply.Last.TheVariants.{Done, No}
 use Rattle.cache_tier.specs.declared.reply.Reply.{Reply}
-use Rattle.cache_tier.specs.Conditions.{overflow_fault, overflows}
-use Rattle.cache_tier.specs.Groups.{Group, covers, definitions_of, is_explicit, is_key, is_writethrough, with_keys}
-use Rattle.cache_tier.specs.JournalSteps.{Flushes, FlushesFitting, FlushesKept, FlushesSome, has_entries, name_sizes}
-use Rattle.cache_tier.specs.Journals.{JournalEntry, is_full}
-use Rattle.cache_tier.specs.LoadSteps.{added_answer}
-use Rattle.cache_tier.specs.Reading.{Answers, FollowsAt, Reads, TellsPosition, as_it_was, backing_at, state_or_none}
-use Rattle.cache_tier.specs.RefreshSteps.{judged_roots, refreshed_answer}
-use Rattle.cache_tier.specs.Rules.{broken_if, past, plain as plain_rule}
-use Rattle.cache_tier.specs.Sets.{alone, changed, changed_from}
-use Rattle.cache_tier.specs.Shown.{instances_where, root_key, shown_state}
-use Rattle.cache_tier.specs.Targets.{Settles, Target, backing_roots, has_flag, held_roots, load_entries, matching, new_keys, with_flag}
+use Rattle.cache_tier.specs.Groups.{definitions_of}
+use Rattle.cache_tier.specs.Sets.{alone}
 use Rattle.cache_tier.specs.TierStates.{Tier}
-use Rattle.cache_tier.specs.Worlds.{Answer, BankCall, IsUnshared, Passes, Part, Quiet, Refuses, Then, Unless, World, bank_fault, faulty, only}
-use Rattle.cache_tier.specs.Events.{StaysShown, at_history, with_tier}
-use Rattle.cache_tier.specs.Loading.{ShowsKeys}
-use Rattle.cache_tier.specs.StandingBetween.{Stands}
-use Rattle.cache_tier.specs.Statements.{IsLoadable}
-use Rattle.cache_tier.proofs.HistoryKeeps.{around_goes_on, root_covers}
-use Rattle.cache_tier.proofs.LoadStatements.{load_shows}
 use Rattle.stored_tier.proofs.WriterLaws.{writers_same}
 use Rattle.stored_tier.specs.declared.clock.TierClock.{TierClock}
 use Rattle.stored_tier.specs.declared.tier.Tier.{Tier as Stored}
-use Rattle.stored_tier.specs.Choosing.{chosen, comes, counted, matches_at}
-use Rattle.stored_tier.specs.Gathering.{coming_in, gathered_in, overflows_in}
-use Rattle.stored_tier.specs.Performing.{IsPerformed, StandsFor, reply_of}
-use Rattle.stored_tier.specs.Sites.{IsAt}
-use Rattle.stored_tier.specs.Stored.{AreKept, AreWhole, HaveOwnNames, IsSound, IsStoredAs, IsVerified, KeepsTime, are_later, is_plain, named_where_cached, rows_of, without_list}
-use Rattle.group_engine.specs.Taking.{AsksTree, IsOfTarget, Pairs, IsSameButRoom, IsSameElsewhere, IsSettledAt, Overflows, PerformsWhere, ReadsMatching, TakesIn, TakesMatching}
-use Rattle.stored_tier.proofs.BankLaws.{TellsBehind, behind, call_behind, told_behind}
-use Rattle.group_engine.proofs.FlagLaws.{IsChanged, as_loaded, changed_at, flagged_seen, kept_loaded, names_loaded, own_place, plain_loaded, set_beside, set_there, visible_loaded}
-use Rattle.group_engine.proofs.LoadLaws.{filled_shown, has_roots, its_roots, store_has}
-use Rattle.group_engine.proofs.MatchLaws.{HasRoots, all_shown, count_coming, instances_of_keys, matching_is, shown_alike}
-use Rattle.group_engine.proofs.SnapshotLaws.{IsRead, is_read, tree_asked}
+use Rattle.stored_tier.specs.Gathering.{gathered_in}
+use Rattle.stored_tier.specs.Stored.{AreKept, HaveOwnNames, IsSound, IsStoredAs, KeepsTime, are_later, is_plain, named_where_cached, rows_of}
+use Rattle.group_engine.specs.Taking.{Pairs, IsSameButRoom, TakesIn, TakesMatching}
+use Rattle.group_engine.proofs.FlagLaws.{as_loaded, kept_loaded, names_loaded, plain_loaded, visible_loaded}
 use Rattle.stored_tier.proofs.LaterLaws.{later_by}
 use Rattle.stored_tier.proofs.SoundParts.{changed_defs}
-use Rattle.stored_tier.proofs.StandingLaws.{performed_behind, performed_here}
 use Rattle.group_engine.proofs.StorePairs.{SameForm, filled_form, form_set, housed_still, kept_still, room_forms, rows_still, whole_still}
-use Rattle.stored_tier.proofs.StoreRows.{are_kept, kept_is_shown, shows_kept}
 
 -- room alone is another
 

@@ -1,15 +1,15 @@
 -- That a refresh was tried is noted.
-use Rattle.std.proofs.Common.{◌≡◌, ℕ, Bool, true, false, cond, not, ◌||◌, nat_eq, Option, Some, None, List, [], ◌∷◌, map, filter, find, unwrap_or, refl, sym, ap, subst, ◌∙◌}
+use Rattle.std.proofs.Common.{◌≡◌, ℕ, Bool, true, false, cond, not, ◌||◌, nat_eq, Some, List, [], ◌∷◌, map, filter, find, unwrap_or, refl, sym, ap, ◌∙◌}
 use Rattle.std.proofs.lemmas.Bool.{eq-eqb, eqb-true}
 use Rattle.std.specs.Option.{option_map}
-use Rattle.cache_tier.specs.TierStates.{SetState, Settings, Tier, is_of_interval, refresh_tried}
+use Rattle.cache_tier.specs.TierStates.{SetState, Tier, is_of_interval, refresh_tried}
 use Rattle.cache_tier.specs.Worlds.{World}
 use Rattle.cache_tier.specs.StandingBetween.{Stands}
 use Rattle.stored_tier.specs.declared.moments.SetMoment.{SetMoment}
 use Rattle.stored_tier.specs.declared.clock.TierClock.{TierClock}
 use Rattle.stored_tier.specs.declared.tier.Tier.{Tier as Stored}
 use Rattle.stored_tier.specs.Performing.{StandsFor}
-use Rattle.stored_tier.specs.Refreshing.{has_moment, is_noted, moment_in, moments_with}
+use Rattle.stored_tier.specs.Refreshing.{has_moment, moment_in, moments_with}
 use Rattle.stored_tier.specs.Stored.{IsSound, IsStoredAs, KeepsTime}
 use Rattle.stored_tier.specs.Moments.{refreshed_in, set_seen}
 

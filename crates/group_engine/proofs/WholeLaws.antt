@@ -11,7 +11,6 @@ use Rattle.sql_subset.specs.declared.stmt.RefreshState.{RefreshState}
 use Rattle.sql_subset.specs.declared.stmt.RefreshState.TheVariants.{On, Off, Paused}
 use Rattle.table_state.specs.Tables.{TableState}
 use Rattle.outside.specs.declared.fault.BankError.{BankError}
-use Rattle.instances.specs.Views.{kept_at}
 use Rattle.group_catalog.specs.Catalogs.{groups_in}
 use Rattle.group_store.specs.Stores.{Kept}
 use Rattle.cache_tier.specs.declared.reply.Reply.{Reply}

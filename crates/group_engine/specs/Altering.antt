@@ -86,7 +86,7 @@ AltersWith state possible old new k k' d d' ready to place chosen reply =
     → IsReadyFor w.tier.schema k ready (altered_entries g to) → slice_get w.tier.groups place ≡ Some g
     → is_read_only g ≡ true → chosen ≡ altered_with to g.def.interval place
     → IsPerformedOver state possible new k' d' (Some reply)
-        (λ w'. SetsStateRefreshed place g to chosen as_it_was w w' reply)
+    (λ w'. SetsStateRefreshed place g to chosen as_it_was w w' reply)
 
 -- and without one, where the group then has nothing to show in a set
 abbrev pub AltersAlone : {D : Type 0} → (D → SiteState) → (D → ℕ → Held → Type 0) → Stored → Stored

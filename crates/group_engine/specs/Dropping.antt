@@ -1,18 +1,12 @@
 -- DROP CACHE GROUP over what is stored. (TimesTen SQL Reference, "DROP CACHE GROUP".)
 
-use Rattle.std.specs.Prelude.{◌≡◌, ℕ, List, [], ◌∷◌, Option, Some, None, Bool, true, false, ◌&&◌, not, find, length, remove, slice_get, unwrap_or}
-use Rattle.std.specs.List.{list_any}
+use Rattle.std.specs.Prelude.{◌≡◌, ℕ, List, [], ◌∷◌, Option, Some, None, Bool, false, ◌&&◌, not, find, remove, slice_get, unwrap_or}
 use Rattle.std.specs.Option.{option_map}
-use Rattle.row_types.specs.declared.rule.Refused.{Refused}
-use Rattle.table_state.specs.declared.operation.Op.{Op}
-use Rattle.table_state.specs.Operations.{table_of}
 use Rattle.tier_base.specs.declared.number.SessionId.{SessionId}
-use Rattle.tier_base.specs.declared.number.TableId.{TableId}
 use Rattle.group_catalog.specs.Catalogs.{groups_in}
-use Rattle.instances.specs.declared.tree.Tree.{Tree}
 use Rattle.session_state.specs.Sessions.{OpenSession, has_id}
 use Rattle.cache_tier.specs.DropSteps.{DropsRest}
-use Rattle.cache_tier.specs.Groups.{Group, covers, is_writethrough}
+use Rattle.cache_tier.specs.Groups.{Group, is_writethrough}
 use Rattle.cache_tier.specs.Locks.{group_lock, writes_on}
 use Rattle.cache_tier.specs.Rounds.{Round}
 use Rattle.cache_tier.specs.TierStates.{Session, Tier}

@@ -21,7 +21,7 @@ use Rattle.cache_tier.specs.Worlds.{BankCall, IsUnshared, World}
 use Rattle.group_engine.specs.declared.fresh.Fresh.{Fresh}
 use Rattle.stored_tier.specs.declared.tier.Tier.{Tier as Stored}
 use Rattle.stored_tier.specs.Performing.{KeepsSlots, StandsFor}
-use Rattle.stored_tier.specs.Refreshing.{exchanged, is_filled, positioned}
+use Rattle.stored_tier.specs.Refreshing.{exchanged, positioned}
 use Rattle.stored_tier.specs.Sites.{IsAt}
 use Rattle.outside.specs.Sites.{SiteState}
 

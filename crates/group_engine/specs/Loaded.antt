@@ -8,7 +8,7 @@ use Rattle.cache_tier.specs.Groups.{Group, is_read_only}
 use Rattle.cache_tier.specs.Reading.{FollowsAt, TellsPosition}
 use Rattle.cache_tier.specs.Sets.{Choice, loaded_with}
 use Rattle.cache_tier.specs.Targets.{Settles, Target, load_entries, whole_answer}
-use Rattle.cache_tier.specs.Worlds.{BankCall, IsUnshared, Part, World}
+use Rattle.cache_tier.specs.Worlds.{BankCall, IsUnshared, World}
 use Rattle.stored_tier.specs.declared.tier.Tier.{Tier as Stored}
 use Rattle.stored_tier.specs.Performing.{IsPerformedOver, StandsFor}
 use Rattle.stored_tier.specs.Sites.{IsAt}

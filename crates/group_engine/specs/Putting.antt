@@ -1,8 +1,7 @@
 -- Rows that are put into the store of a group. (TimesTen Cache User's Guide, "Cache instances": instances are loaded
 -- whole.)
 
-use Rattle.std.specs.Prelude.{◌≡◌, ◌≤◌, ◌+◌, ℕ, List, Bool, true, Some, length, slice_get, slice_set, Result, Ok, Err}
-use Rattle.tier_base.specs.declared.code.Code.TheVariants as code
+use Rattle.std.specs.Prelude.{◌≡◌, ◌≤◌, ◌+◌, ℕ, List, Bool, Some, length, slice_get, slice_set, Result, Ok, Err}
 use Rattle.row_types.specs.declared.rule.Refused.{Refused}
 use Rattle.row_types.specs.declared.rule.Refused.TheVariants as refused
 use Rattle.row_types.specs.declared.value.Value.{Value}

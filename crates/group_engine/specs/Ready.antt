@@ -32,7 +32,8 @@ is_full_ready (Both b) = false
 is_full_ready Full = true
 
 -- the one entry was made ready so
-pub record IsOne (schema : List TableDef) (k : Option TierJournal) (draft : Draft) (entries : List JournalEntry) : Type 0 where
+pub record IsOne (schema : List TableDef) (k : Option TierJournal) (draft : Draft) (entries : List JournalEntry)
+    : Type 0 where
   pub entry : JournalEntry
   pub is : entries ≡ entry ∷ []
   pub of : IsDraftOf schema k draft entry
@@ -104,7 +105,7 @@ AnswersBehind state possible old new d d' ready told reply =
     → StandsFor t (with_tier (answer w).0 w) → (answer w).0.schema ≡ w.tier.schema → IgnoresDisk answer w
     → told ≡ (answer w).1
     → IsPerformedOver state possible t new d' (Some reply)
-        (λ w'. Then (FlushesSome entries) (Answers answer) w w' reply)
+    (λ w'. Then (FlushesSome entries) (Answers answer) w w' reply)
 
 -- it fails for want of memory alone
 abbrev pub IsMemoryOf : {T : Type 0} → Result T Refused → Type 0

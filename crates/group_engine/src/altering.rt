@@ -90,8 +90,8 @@ fn alter_at<P: Site>(
 ) -> Result<Reply, Refused>
     requires sound { IsSound tier.old }
     requires within { place < length (groups_in tier.old.catalog) }
-    ensures alters { AltersHere P.Disk.state P.Disk.possible tier.old tier.new journal.old journal.new site.old site.new
-        state place (reply_of result) }
+    ensures alters { AltersHere P.Disk.state P.Disk.possible tier.old tier.new journal.old journal.new
+        site.old site.new state place (reply_of result) }
     ensures sound { IsSound tier.new }
     ensures cause { IsCausedOver journal.old (P.Disk.state site.old) (P.Disk.state site.new) (reply_of result) }
 {
@@ -141,8 +141,8 @@ fn alter_to_on<P: Site>(
     requires sound { IsSound tier.old }
     requires within { place < length (groups_in tier.old.catalog) }
     requires placed { IsPlacedReady journal.old ready.now }
-    ensures alters { AltersReady P.Disk.state P.Disk.possible tier.old tier.new journal.old journal.new site.old site.new
-        ready.now On place (reply_of result) }
+    ensures alters { AltersReady P.Disk.state P.Disk.possible tier.old tier.new journal.old journal.new
+        site.old site.new ready.now On place (reply_of result) }
     ensures sound { IsSound tier.new }
     ensures cause { IsCausedOver journal.old (P.Disk.state site.old) (P.Disk.state site.new) (reply_of result) }
 {
@@ -156,7 +156,16 @@ fn alter_to_on<P: Site>(
     make_moment(&mut tier.clock.sets, interval)?;
     note_moment(&mut tier.clock.sets, interval, tier.clock.now);
     let chosen = Chosen::Joined(interval, Some(place));
-    Ok(alter_with(tier, alloc, site, journal, place, chosen, ready, RefreshState::On))
+    Ok(alter_with(
+        tier,
+        alloc,
+        site,
+        journal,
+        place,
+        chosen,
+        ready,
+        RefreshState::On,
+    ))
 }
 
 // Where it was OFF and is loaded, it alone is refreshed.
@@ -171,8 +180,8 @@ fn alter_to_paused<P: Site>(
     requires sound { IsSound tier.old }
     requires within { place < length (groups_in tier.old.catalog) }
     requires placed { IsPlacedReady journal.old ready.now }
-    ensures alters { AltersReady P.Disk.state P.Disk.possible tier.old tier.new journal.old journal.new site.old site.new
-        ready.now Paused place (reply_of result) }
+    ensures alters { AltersReady P.Disk.state P.Disk.possible tier.old tier.new journal.old journal.new
+        site.old site.new ready.now Paused place (reply_of result) }
     ensures sound { IsSound tier.new }
     ensures cause { IsCausedOver journal.old (P.Disk.state site.old) (P.Disk.state site.new) (reply_of result) }
 {
@@ -181,10 +190,27 @@ fn alter_to_paused<P: Site>(
         Some(group) => leaves_off(group),
     };
     if !leaves {
-        return Ok(give_state(tier, alloc, site, journal, place, ready, RefreshState::Paused));
+        return Ok(give_state(
+            tier,
+            alloc,
+            site,
+            journal,
+            place,
+            ready,
+            RefreshState::Paused,
+        ));
     }
     let chosen = Chosen::OneAlone(place);
-    Ok(alter_with(tier, alloc, site, journal, place, chosen, ready, RefreshState::Paused))
+    Ok(alter_with(
+        tier,
+        alloc,
+        site,
+        journal,
+        place,
+        chosen,
+        ready,
+        RefreshState::Paused,
+    ))
 }
 
 // These groups are refreshed from one snapshot, and the group at the place gets a STATE; then the record is flushed.
@@ -201,8 +227,8 @@ fn alter_with<P: Site>(
     requires sound { IsSound tier.old }
     requires within { place < length (groups_in tier.old.catalog) }
     requires placed { IsPlacedReady journal.old ready.now }
-    ensures alters { AltersWith P.Disk.state P.Disk.possible tier.old tier.new journal.old journal.new site.old site.new
-        ready.now state place (choice_of chosen) result }
+    ensures alters { AltersWith P.Disk.state P.Disk.possible tier.old tier.new journal.old journal.new
+        site.old site.new ready.now state place (choice_of chosen) result }
     ensures sound { IsSound tier.new }
     ensures cause { IsCausedOver journal.old (P.Disk.state site.old) (P.Disk.state site.new) result }
 {
@@ -232,8 +258,8 @@ fn give_state<P: Site>(
     requires sound { IsSound tier.old }
     requires within { place < length (groups_in tier.old.catalog) }
     requires placed { IsPlacedReady journal.old ready.now }
-    ensures alters { AltersAlone P.Disk.state P.Disk.possible tier.old tier.new journal.old journal.new site.old site.new
-        ready.now state place result }
+    ensures alters { AltersAlone P.Disk.state P.Disk.possible tier.old tier.new journal.old journal.new
+        site.old site.new ready.now state place result }
     ensures sound { IsSound tier.new }
     ensures cause { IsCausedOver journal.old (P.Disk.state site.old) (P.Disk.state site.new) result }
 {

@@ -1,6 +1,6 @@
 //! DROP CACHE GROUP.
 
-ghost use Rattle.std.specs.Prelude.{◌≡◌, ◌<◌, ◌≤◌, ◌&&◌, [], IfOk, OnErr, OnOk, Some, false, find, insert, length, not, option_copied, remove, slice_get, true, unwrap_or};
+ghost use Rattle.std.specs.Prelude.{◌≡◌, ◌<◌, ◌≤◌, ◌&&◌, [], IfOk, None, OnErr, OnOk, Some, false, find, insert, length, not, option_copied, remove, slice_get, true, unwrap_or};
 ghost use Rattle.std.specs.Vec.{vec_capacity};
 ghost use Rattle.table_state.specs.Operations.{table_of};
 ghost use Rattle.group_store.specs.Shown.{homes_of};
@@ -28,7 +28,7 @@ ghost use Rattle.stored_tier.specs.Grouping.{KeepsGroups};
 ghost use Rattle.stored_tier.specs.Stored.{named_where_cached, HasSession, IsSound, IsStoredAs};
 ghost use Rattle.stored_tier.specs.Performing.{Executes, IsCausedOver, IsStopCausedOver, PerformsInOver, PerformsOver, reply_of, stop_of};
 
-use crate::ready::{Ready, answer_behind, has_come, slot_is_full};
+use crate::ready::{Ready, answer_behind, slot_is_full};
 use crate::readying::ready_drop;
 use cache_tier::drop_statement_law;
 use cache_tier::reply::Reply;
@@ -68,18 +68,11 @@ pub fn drop_group<P: Site>(
     ensures sound { IsSound tier.new }
     ensures cause { IsCausedOver journal.old (P.Disk.state site.old) (P.Disk.state site.new) (reply_of result) }
 {
-    let kept = journal.is_some();
     match judge_drop(tier, alloc, id, name) {
         Err(refused) => Err(refused),
         Ok(place) => match settle_for(tier, alloc, site, journal, place) {
             Err(reply) => Ok(reply),
-            Ok(()) => {
-                // No journal comes by a round, which its clauses don't say.
-                if has_come(kept, journal) {
-                    return Err(Refused::Memory);
-                }
-                drop_at(tier, alloc, site, journal, id, place)
-            }
+            Ok(()) => drop_at(tier, alloc, site, journal, id, place),
         },
     }
 }
@@ -130,6 +123,7 @@ fn settle_for<P: Site>(
         (P.Disk.state site.old)
         (P.Disk.state site.new)
         (stop_of result) }
+    ensures none { journal.old ≡ None → journal.new ≡ None }
 {
     if is_written_at(&tier.catalog, place) {
         tier.settle_all(alloc, site, journal)

@@ -10,7 +10,7 @@ pub mod grouping;
 pub mod loading;
 pub mod loading_whole;
 pub mod loading_written;
-mod readying;
 mod ready;
+mod readying;
 pub mod unload_locks;
 pub mod unloading;

@@ -13,7 +13,6 @@ ghost use Rattle.group_engine.specs.Taking.{IsGroupAt, IsOfTarget, LoadsTarget, 
 use crate::aiming::{Aim, find_aim};
 use crate::loading_whole::load_whole;
 use crate::loading_written::load_written;
-use crate::ready::has_come;
 use cache_tier::reply::Reply;
 use group_catalog::ResolvedWhich;
 use outside::Site;
@@ -121,15 +120,8 @@ fn load_behind<P: Site>(
     ensures sound { IsSound tier.new }
     ensures cause { IsCausedOver journal.old (P.Disk.state site.old) (P.Disk.state site.new) (reply_of result) }
 {
-    let kept = journal.is_some();
     match tier.settle_pending(alloc, site, journal) {
         Err(reply) => Ok(reply),
-        Ok(()) => {
-            // No journal comes by a round, which its clauses don't say.
-            if has_come(kept, journal) {
-                return Err(Refused::Memory);
-            }
-            load_written(tier, alloc, site, journal, place, which, refreshes)
-        }
+        Ok(()) => load_written(tier, alloc, site, journal, place, which, refreshes),
     }
 }

@@ -121,7 +121,16 @@ fn load_ready<P: Site>(
     make_moment(&mut tier.clock.sets, interval)?;
     note_moment(&mut tier.clock.sets, interval, tier.clock.now);
     let chosen = Chosen::Joined(interval, Some(place));
-    Ok(load_with(tier, alloc, site, journal, place, chosen, ready, RefreshState::On))
+    Ok(load_with(
+        tier,
+        alloc,
+        site,
+        journal,
+        place,
+        chosen,
+        ready,
+        RefreshState::On,
+    ))
 }
 
 // The group at a place shows its view, refreshed with these groups; its STATE becomes this one. Then the records are

@@ -1,6 +1,6 @@
 //! What a statement on a group writes to the journal: made ready before anything changes, and flushed last.
 
-ghost use Rattle.std.specs.Prelude.{◌≡◌, ◌&&◌, IfOk, false, is_some, not};
+ghost use Rattle.std.specs.Prelude.{◌≡◌, IfOk, false};
 ghost use Rattle.tier_base.specs.declared.limit.Limit.TheVariants as limit;
 ghost use Rattle.cache_tier.specs.declared.reply.Last.TheVariants.{No};
 ghost use Rattle.cache_tier.specs.Rules.{past};
@@ -69,13 +69,6 @@ pub(crate) fn room_made(journal: &mut TierJournal, batch: Batch) -> Result<Ready
     }
 }
 
-/// Whether a journal came where none was kept.
-pub(crate) fn has_come(kept: bool, journal: &Option<TierJournal>) -> bool
-    ensures { result ≡ (not kept && is_some journal.now) }
-{
-    !kept && journal.is_some()
-}
-
 /// 119 of the journal.
 pub(crate) fn slot_is_full(alloc: Global) -> Reply
     ensures told { result ≡ only (No (past limit.JournalSlot)) }
@@ -119,7 +112,8 @@ fn flush_ready<D: Disk>(
 ) -> Result<(), Reply>
     requires placed { IsPlacedReady journal.old ready.now }
     requires fits { is_full_ready ready.now ≡ false }
-    ensures flushes { WritesReady D.state D.possible journal.old journal.new disk.old disk.new ready.now (stop_of result) }
+    ensures flushes { WritesReady D.state D.possible journal.old journal.new disk.old disk.new ready.now
+        (stop_of result) }
     ensures cause { DiskIsCaused journal.old (D.state disk.old) (D.state disk.new) (stop_of result) }
 {
     match ready {

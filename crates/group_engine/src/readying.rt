@@ -147,11 +147,7 @@ fn one_flag(
 }
 
 // That a group's STATE is ON, and that it is loaded. A name of 256 bytes and more is taken for want of memory.
-fn both(
-    alloc: Global,
-    journal: &mut Option<TierJournal>,
-    name: &Name,
-) -> Result<Ready, AllocError>
+fn both(alloc: Global, journal: &mut Option<TierJournal>, name: &Name) -> Result<Ready, AllocError>
     ensures ready { IfOk result (λ ready. (schema : List OneTable)
         → IsReadyFor schema journal.new ready (SetsState name.now On ∷ SetsLoaded name.now true ∷ [])) }
     ensures kept { StaysKept journal.old journal.new }

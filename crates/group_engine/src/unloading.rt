@@ -70,7 +70,15 @@ pub fn unload_group<P: Site>(
 {
     match aim_unload(tier, alloc, id, unload) {
         Err(refused) => Err(refused),
-        Ok(aim) => unload_aimed(tier, alloc, site, journal, id, &aim, asks_all(&unload.which)),
+        Ok(aim) => unload_aimed(
+            tier,
+            alloc,
+            site,
+            journal,
+            id,
+            &aim,
+            asks_all(&unload.which),
+        ),
     }
 }
 

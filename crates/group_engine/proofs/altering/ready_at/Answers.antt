@@ -1,4 +1,4 @@
-use Rattle.std.proofs.Common.{[], sym, subst}
+use Rattle.std.proofs.Common.{[], sym}
 use Rattle.cache_tier.specs.AlterSteps.{altered_entries}
 use Rattle.group_catalog.specs.Kept.{group_seen}
 use Rattle.group_engine.proofs.ReadyLaws.{placed_ready, ready_there}

@@ -1,4 +1,4 @@
-use Rattle.std.proofs.Common.{◌∷◌, [], ap, subst, sym, ◌∙◌}
+use Rattle.std.proofs.Common.{◌∷◌, [], ap, subst, sym}
 use Rattle.sql_subset.specs.declared.stmt.CreateGroup.{CreateGroup}
 use Rattle.sql_subset.specs.declared.stmt.Stmt.TheVariants as statement
 use Rattle.cache_tier.specs.declared.group.GroupDef.{GroupDef}
@@ -6,7 +6,7 @@ use Rattle.cache_tier.specs.Journals.{Defines}
 use Rattle.row_types.specs.declared.rule.Refused.TheVariants as refused
 use Rattle.stored_tier.specs.Performing.{Executes, PerformsInOver}
 use Rattle.stored_tier.proofs.QuietLaws.{calm_refused}
-use Rattle.group_engine.specs.Defining.{IsDefinition, IsReadyToCreate, IsUnrefused}
+use Rattle.group_engine.specs.Defining.{IsDefinition, IsUnrefused}
 use Rattle.group_engine.proofs.DefiningLaws.{create_moved, create_ready_for, create_refused, create_wanting}
 use Rattle.group_engine.proofs.DroppingLaws.{same_groups}
 use Rattle.group_engine.proofs.ReadyLaws.{calm_cause, moved_cause, placed_ready}

@@ -1,10 +1,9 @@
-use Rattle.std.proofs.Common.{◌≡◌, Err, ap, refl, sym}
-use Rattle.row_types.specs.declared.rule.Refused.TheVariants as refused
+use Rattle.std.proofs.Common.{ap}
 use Rattle.stored_tier.specs.declared.tier.Tier.{Tier as Stored}
 use Rattle.stored_tier.specs.Performing.{reply_of}
 use Rattle.stored_tier.proofs.QuietLaws.{calm_refused}
-use Rattle.group_engine.proofs.DroppingLaws.{drop_wanting, ended, not_dropped, same_groups, went}
-use Rattle.group_engine.proofs.ReadyLaws.{calm_cause, caused_both, caused_calm, kept_here, never_came}
+use Rattle.group_engine.proofs.DroppingLaws.{ended, not_dropped, went}
+use Rattle.group_engine.proofs.ReadyLaws.{calm_cause, caused_both}
 use Rattle.group_engine.proofs.dropping.drop_group.Goals as goal
 
 pub returns-in-Err-clause-performs : goal.returns-in-Err-clause-performs
@@ -18,25 +17,14 @@ returns-in-Err-settle_for-clause-performs g c =
     ended g.P.Disk.state g.P.Disk.possible c.args.tier.now c.settle_for.new.tier c.args.journal.now c.settle_for.new.journal c.args.site.now c.settle_for.new.site
     c.args.id c.args.name.now c.in-Ok.place c.in-Err-settle_for.reply c.requires c.in-Ok.ensures.told c.in-Ok.ensures.place c.in-Err-settle_for.ensures.performs
 
-pub returns-then-has_come-clause-performs : goal.returns-then-has_come-clause-performs
-returns-then-has_come-clause-performs g c =
-    went g.P.Disk.state g.P.Disk.possible c.args.tier.now c.settle_for.new.tier c.settle_for.new.tier c.args.journal.now c.settle_for.new.journal c.settle_for.new.journal c.args.site.now c.settle_for.new.site c.settle_for.new.site
-    c.args.id c.args.name.now c.in-Ok.place (Err refused.Memory) c.requires
-    (record { catalog = ap (λ (t : Stored). t.catalog) c.in-Ok-settle_for.ensures.same; sessions = ap (λ (t : Stored). t.sessions) c.in-Ok-settle_for.ensures.same })
-    c.in-Ok.ensures.told c.in-Ok.ensures.place c.in-Ok-settle_for.ensures.performs
-    (drop_wanting g.P.Disk.state g.P.Disk.possible c.settle_for.new.tier c.settle_for.new.tier c.settle_for.new.journal c.settle_for.new.journal c.settle_for.new.site c.args.id c.in-Ok.place refused.Memory (kept_here _) (same_groups _) refl)
-
-pub returns-then-has_come-clause-cause : goal.returns-then-has_come-clause-cause
-returns-then-has_come-clause-cause g c = caused_calm _ _ _ _ c.in-Ok-settle_for.ensures.cause (calm_refused refused.Memory)
-
-pub returns-else-has_come-clause-performs : goal.returns-else-has_come-clause-performs
-returns-else-has_come-clause-performs g c =
+pub returns-in-Ok-settle_for-clause-performs : goal.returns-in-Ok-settle_for-clause-performs
+returns-in-Ok-settle_for-clause-performs g c =
     went g.P.Disk.state g.P.Disk.possible c.args.tier.now c.settle_for.new.tier c.drop_at.new.tier c.args.journal.now c.settle_for.new.journal c.drop_at.new.journal c.args.site.now c.settle_for.new.site c.drop_at.new.site
     c.args.id c.args.name.now c.in-Ok.place c.drop_at.result c.requires
     (record { catalog = ap (λ (t : Stored). t.catalog) c.in-Ok-settle_for.ensures.same; sessions = ap (λ (t : Stored). t.sessions) c.in-Ok-settle_for.ensures.same })
     c.in-Ok.ensures.told c.in-Ok.ensures.place c.in-Ok-settle_for.ensures.performs c.drop_at.ensures.performs
 
-pub returns-else-has_come-clause-cause : goal.returns-else-has_come-clause-cause
-returns-else-has_come-clause-cause g c =
+pub returns-in-Ok-settle_for-clause-cause : goal.returns-in-Ok-settle_for-clause-cause
+returns-in-Ok-settle_for-clause-cause g c =
     caused_both _ _ _ _ _ (reply_of c.drop_at.result) c.in-Ok-settle_for.ensures.cause
-    (never_came _ _ _ _ c.is_some-kept.ensures c.has_come.ensures c.if-has_come.false) c.drop_at.ensures.cause
+    c.settle_for.ensures.none c.drop_at.ensures.cause

@@ -1,4 +1,4 @@
-use Rattle.std.proofs.Common.{◌≡◌, ◌∙◌, ◌≤◌, arith, length, sym}
+use Rattle.std.proofs.Common.{◌∙◌, arith, sym}
 use Rattle.group_catalog.specs.Catalogs.{groups_in}
 use Rattle.cache_tier.specs.Groups.{covers}
 use Rattle.group_engine.proofs.GroupGoes.{none_elsewhere, one_else}

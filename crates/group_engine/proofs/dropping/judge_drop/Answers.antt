@@ -1,7 +1,5 @@
-use Rattle.std.proofs.Common.{◌≡◌, ◌∙◌, ◌<◌, List, [], ap, arith, length, nat_eq, refl, subst, sym}
-use Rattle.std.specs.Bool.{◌==◌}
+use Rattle.std.proofs.Common.{◌∙◌, ap, arith, subst, sym}
 use Rattle.table_defs.specs.Declarations.{IsRefusedBy}
-use Rattle.table_state.specs.declared.operation.Op.{Op}
 use Rattle.group_catalog.specs.Catalogs.{groups_in}
 use Rattle.cache_tier.specs.Rules.{open_writes}
 use Rattle.group_engine.proofs.CalmLaws.{own_here}

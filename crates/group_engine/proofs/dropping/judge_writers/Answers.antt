@@ -1,10 +1,9 @@
-use Rattle.std.proofs.Common.{◌≡◌, ◌∙◌, Option, Some, None, ap, slice_get, subst, sym}
+use Rattle.std.proofs.Common.{◌≡◌, ◌∙◌, Some, None, ap, slice_get, subst, sym}
 use Rattle.std.specs.Option.{option_map}
 use Rattle.open_sessions.specs.Opening.{seen_all}
 use Rattle.session_state.specs.Kept.{seen_of}
 use Rattle.table_defs.specs.Declarations.{IsRefusedBy}
 use Rattle.tier_statements.specs.Seen.{session_seen}
-use Rattle.group_catalog.specs.Catalogs.{groups_in}
 use Rattle.group_catalog.specs.Kept.{group_seen}
 use Rattle.cache_tier.specs.Groups.{Group}
 use Rattle.cache_tier.specs.Locks.{group_lock, locked_by}

@@ -1,4 +1,4 @@
-use Rattle.std.proofs.Common.{◌≡◌, ◌∙◌, None, true, false, refl, subst, sym}
+use Rattle.std.proofs.Common.{◌∙◌, None, refl, subst, sym}
 use Rattle.std.specs.Bool.{MatchBool}
 use Rattle.cache_tier.specs.Rounds.{Round}
 use Rattle.cache_tier.specs.Worlds.{Passes}

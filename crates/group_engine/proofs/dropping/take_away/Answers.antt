@@ -1,4 +1,4 @@
-use Rattle.std.proofs.Common.{◌≡◌, ◌<◌, ◌≤◌, ◌∙◌, arith, length, refl, sym}
+use Rattle.std.proofs.Common.{◌∙◌, arith, refl, sym}
 use Rattle.group_catalog.specs.Catalogs.{groups_in}
 use Rattle.group_engine.proofs.DroppingLaws.{drop_full, drop_wanting, dropped, sound_without}
 use Rattle.group_engine.proofs.GroupGoes.{as_many}

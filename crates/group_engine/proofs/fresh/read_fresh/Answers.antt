@@ -1,4 +1,4 @@
-use Rattle.std.proofs.Common.{◌≡◌, ◌∙◌, Err, rules, subst, sym}
+use Rattle.std.proofs.Common.{◌≡◌, ◌∙◌, Err, rules, subst}
 use Rattle.propagators.proofs.CertainLaws.{bank_certain}
 use Rattle.group_engine.specs.Fresh.{ReadsIn}
 use Rattle.stored_tier.specs.Refreshing.{choice_of, is_filled}

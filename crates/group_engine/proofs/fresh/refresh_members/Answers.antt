@@ -1,4 +1,4 @@
-use Rattle.std.proofs.Common.{◌∙◌, None, ap, refl}
+use Rattle.std.proofs.Common.{◌∙◌, ap, refl}
 use Rattle.group_catalog.specs.Catalogs.{groups_in}
 use Rattle.group_engine.proofs.CalledLaws.{set_failed, set_groups, set_refreshed}
 use Rattle.cache_tier.specs.Groups.{definitions_of}

@@ -1,4 +1,4 @@
-use Rattle.std.proofs.Common.{◌≡◌, ◌∙◌, ap, false, refl, subst, sym, true}
+use Rattle.std.proofs.Common.{◌≡◌, ◌∙◌, ap, refl, subst, sym}
 use Rattle.cache_tier.specs.Groups.{definitions_of}
 use Rattle.group_catalog.specs.Catalogs.{groups_in}
 use Rattle.stored_tier.specs.Refreshing.{choice_of, exchanged, positioned}

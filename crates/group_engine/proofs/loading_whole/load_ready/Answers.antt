@@ -1,7 +1,7 @@
-use Rattle.std.proofs.Common.{◌≡◌, ◌∙◌, ap, refl, subst, sym}
+use Rattle.std.proofs.Common.{refl, sym}
 use Rattle.group_catalog.specs.Kept.{group_seen}
 use Rattle.group_engine.proofs.WholeLaws.{loaded_alone, loaded_joined, off_is}
-use Rattle.group_engine.proofs.TriedLaws.{stands_made, stands_noted}
+use Rattle.group_engine.proofs.TriedLaws.{stands_made}
 use Rattle.group_engine.proofs.loading_whole.load_ready.Goals as goal
 
 pub returns-then-is_off-clause-loads : goal.returns-then-is_off-clause-loads

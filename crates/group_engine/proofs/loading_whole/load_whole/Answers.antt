@@ -1,4 +1,3 @@
-use Rattle.stored_tier.specs.Performing.{reply_of}
 use Rattle.cache_tier.specs.LoadSteps.{LoadsReadOnly}
 use Rattle.cache_tier.specs.RefreshSteps.{RefreshesReadOnly}
 use Rattle.group_engine.proofs.ReadyLaws.{calm_cause, moved_cause}

@@ -1,4 +1,4 @@
-use Rattle.std.proofs.Common.{◌≡◌, ◌<◌, ◌∙◌, ap, arith, length, refl, subst, sym}
+use Rattle.std.proofs.Common.{◌∙◌, ap, arith, length, refl, sym}
 use Rattle.cache_tier.specs.declared.reply.Last.TheVariants.{Done}
 use Rattle.cache_tier.specs.Groups.{definitions_of}
 use Rattle.cache_tier.specs.Sets.{alone, changed_from}

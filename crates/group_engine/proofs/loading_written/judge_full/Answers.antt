@@ -1,4 +1,3 @@
-use Rattle.std.proofs.Common.{Err, Ok, refl}
 use Rattle.group_engine.proofs.TakeLaws.{judged_full, judged_not}
 use Rattle.stored_tier.proofs.QuietLaws.{calm_refused}
 use Rattle.group_engine.proofs.loading_written.judge_full.Goals as goal

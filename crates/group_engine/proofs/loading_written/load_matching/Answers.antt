@@ -1,10 +1,11 @@
-use Rattle.std.proofs.Common.{Err, Ok, refl, subst, sym, ◌∙◌}
+use Rattle.std.proofs.Common.{Err, Ok, subst, sym, ◌∙◌}
 use Rattle.row_types.specs.declared.rule.Refused.TheVariants as refused
 use Rattle.stored_tier.specs.Performing.{reply_of}
 use Rattle.propagators.proofs.CertainLaws.{bank_certain}
 use Rattle.group_engine.specs.Taking.{AsksTree}
 use Rattle.group_engine.proofs.ReadyLaws.{bank_cause, calm_cause, fault_so, kept_here, taken_calm}
-use Rattle.group_engine.proofs.TakenLaws.{read_all, read_full, read_refused, reads_failed, reads_wanting}
+use Rattle.group_engine.proofs.TakenLaws.{reads_failed, reads_wanting}
+use Rattle.group_engine.proofs.WrittenLaws.{read_all, read_full, read_refused}
 use Rattle.group_engine.proofs.TakenParts.{matching_sound}
 use Rattle.stored_tier.proofs.QuietLaws.{calm_refused}
 use Rattle.group_engine.proofs.loading_written.load_matching.Goals as goal

@@ -1,6 +1,5 @@
-use Rattle.stored_tier.specs.Performing.{reply_of}
 use Rattle.group_engine.proofs.ReadyLaws.{calm_cause, moved_cause}
-use Rattle.group_engine.proofs.TakenLaws.{reads_moved, reads_not_ready}
+use Rattle.group_engine.proofs.WrittenLaws.{reads_moved, reads_not_ready}
 use Rattle.stored_tier.proofs.QuietLaws.{calm_refused}
 use Rattle.group_engine.proofs.loading_written.load_written.Goals as goal
 

@@ -1,4 +1,3 @@
-use Rattle.std.proofs.Common.{Some}
 use Rattle.group_engine.proofs.ReadyLaws.{answered_cause, answers_not, answers_so}
 use Rattle.stored_tier.proofs.OverLaws.{caused_stopped}
 use Rattle.group_engine.proofs.ready.answer_behind.Goals as goal

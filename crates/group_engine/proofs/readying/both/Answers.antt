@@ -1,4 +1,4 @@
-use Rattle.std.proofs.Common.{◌≡◌, ◌<◌, ℕ, List, Some, [], ◌∷◌, true, length, rules, subst}
+use Rattle.std.proofs.Common.{◌<◌, ℕ, List, Some, [], ◌∷◌, true, length, rules, subst}
 use Rattle.table_defs.specs.declared.definition.TableDef.{TableDef}
 use Rattle.sql_subset.specs.declared.stmt.RefreshState.TheVariants.{On}
 use Rattle.cache_tier.specs.Journals.{SetsLoaded, SetsState}

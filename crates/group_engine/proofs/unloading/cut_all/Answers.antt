@@ -1,4 +1,4 @@
-use Rattle.std.proofs.Common.{◌<◌, ◌≤◌, arith, length}
+use Rattle.std.proofs.Common.{arith}
 use Rattle.group_engine.proofs.CutLaws.{cut_more}
 use Rattle.group_engine.proofs.unloading.cut_all.Goals as goal
 

@@ -1,4 +1,4 @@
-use Rattle.std.proofs.Common.{◌≡◌, ◌∙◌, ◌≤◌, ap, false, is_none, length, rules, sym, true}
+use Rattle.std.proofs.Common.{◌≡◌, ◌∙◌, ap, false, is_none, rules, sym, true}
 use Rattle.std.specs.FinMap.{values}
 use Rattle.std.specs.List.{list_any}
 use Rattle.evaluator.specs.Writes.{selects}
