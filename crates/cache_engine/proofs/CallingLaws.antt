@@ -39,7 +39,6 @@ use Rattle.stored_tier.proofs.OverLaws.{over_here, over_so}
 use Rattle.cache_engine.proofs.StillLaws.{over_still, quiet_still, refresh_still, still_on, still_same}
 use Rattle.outside.specs.Sites.{SiteState}
 use Rattle.stored_tier.specs.Stored.{HasSession, IsStoredAs, without_list}
-use Rattle.group_engine.proofs.CalmLaws.{refused_by}
 use Rattle.session_engine.proofs.NamedLaws.{named_seen}
 use Rattle.cache_engine.proofs.WantLaws.{executes_wanting}
 

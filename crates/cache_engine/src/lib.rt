@@ -5,6 +5,7 @@ pub mod beginning;
 pub mod calling;
 pub mod console;
 pub mod create;
+mod define;
 pub mod due;
 pub mod due_sets;
 pub mod due_work;

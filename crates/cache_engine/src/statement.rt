@@ -3,6 +3,9 @@
 ghost use Rattle.std.specs.Prelude.{◌≡◌, IfErr, IfOk, None, Some, false};
 ghost use Rattle.row_types.specs.declared.rule.Refused.TheVariants as refused;
 ghost use Rattle.cache_tier.specs.TierStates.{Tier as AbstractTier};
+ghost use Rattle.cache_tier.specs.Definitions.{text_of};
+ghost use Rattle.sql_subset.specs.declared.stmt.CreateGroup.{CreateGroup};
+ghost use Rattle.sql_subset.specs.declared.stmt.Stmt.TheVariants as statements;
 ghost use Rattle.cache_tier.specs.Undone.{is_undone, is_undone_request, is_undone_statement};
 ghost use Rattle.sql_subset.specs.declared.request.Line.TheVariants as says;
 ghost use Rattle.stored_tier.specs.Answering.{IsSessionOf};
@@ -12,6 +15,7 @@ ghost use Rattle.cache_engine.specs.Serving.{AsksAndDoes, DoesAdmitted};
 ghost use Rattle.stored_tier.specs.Stored.{IsSound, IsStoredAs};
 
 use crate::calling::call_procedure;
+use crate::define::definition_text;
 use crate::schema::ask_schema;
 use crate::serving::serve_console;
 use cache_tier::reply::Reply;
@@ -125,7 +129,17 @@ fn do_request<P: Site>(
         }
         Request::Statement(statement) => {
             let id = admitted(tier, alloc, label)?;
-            execute(tier, doubt, alloc, site, journal, id, statement)
+            let text = definition_text(alloc, &statement)?;
+            execute(
+                tier,
+                doubt,
+                alloc,
+                site,
+                journal,
+                id,
+                statement,
+                text.as_bytes(),
+            )
         }
     }
 }
@@ -143,7 +157,7 @@ fn admitted(tier: &Tier, alloc: Global, label: &Label) -> Result<SessionId, Refu
     }
 }
 
-// What the statement of a session asks for. Indexes aren't done yet.
+// What the statement of a session asks for. The text is that of a definition. Indexes aren't done yet.
 fn execute<P: Site>(
     tier: &mut Tier,
     doubt: &mut Option<Doubt>,
@@ -152,9 +166,11 @@ fn execute<P: Site>(
     journal: &mut Option<TierJournal>,
     id: SessionId,
     statement: Stmt,
+    text: &[u8],
 ) -> Result<Reply, Refused>
     requires sound { IsSound tier.old }
     requires free { doubt.old ≡ None }
+    requires text { (d : CreateGroup) → statement ≡ statements.CreateGroup d → text.now ≡ text_of d }
     requires done { is_undone_statement statement ≡ false }
     ensures performs { EndsInOver P.Disk.state P.Disk.possible tier.old tier.new doubt.new journal.old journal.new
         site.old site.new id (Executes statement) result }
@@ -168,7 +184,9 @@ fn execute<P: Site>(
     match statement {
         Stmt::Select(query) => run_query(tier, alloc, id, &query),
         Stmt::Write(write) => write_rows(tier, alloc, site, id, &write),
-        Stmt::CreateGroup(group) => create_group(tier, alloc, site, journal, id, group),
+        Stmt::CreateGroup(group) => {
+            create_group(tier, alloc, site, journal, id, group, text)
+        }
         Stmt::Load(load) => load_group(tier, alloc, site, journal, id, &load),
         Stmt::Refresh(load) => refresh_group(tier, alloc, site, journal, id, &load),
         Stmt::Unload(unload) => unload_group(tier, alloc, site, journal, id, &unload),

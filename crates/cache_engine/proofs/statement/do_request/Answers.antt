@@ -39,8 +39,8 @@ returns-in_ok-id-in-Close-clause-cause g c =
     caused_bank c.args.journal.now (g.P.Disk.state c.args.site.now) (g.P.Disk.state c.args.site.now) (reply_of c.close_session.result) refl
     (c.close_session.ensures.calm _)
 
-pub returns-in_ok-id-in-Statement-clause-performs : goal.returns-in_ok-id-in-Statement-clause-performs
-returns-in_ok-id-in-Statement-clause-performs g c =
+pub returns-in_ok-text-in-Statement-clause-performs : goal.returns-in_ok-text-in-Statement-clause-performs
+returns-in_ok-text-in-Statement-clause-performs g c =
     rw c.in-Statement.is
     (statement_led g.P.Disk.state g.P.Disk.possible c.args.tier.now c.execute.new.tier c.execute.new.doubt c.args.journal.now c.execute.new.journal
     c.args.site.now c.execute.new.site c.args.label.now c.in_ok-id-in-Statement.id

@@ -124,3 +124,6 @@ returns-in-Rollback-clause-ready g c = ready_none c.roll_back.new.tier c.args.do
 pub returns-in-Rollback-clause-cause : goal.returns-in-Rollback-clause-cause
 returns-in-Rollback-clause-cause g c =
     caused_bank c.args.journal.now (g.P.Disk.state c.args.site.now) (g.P.Disk.state c.args.site.now) (reply_of c.roll_back.result) refl (c.roll_back.ensures.calm _)
+
+pub create_group-requires-clause-text : goal.create_group-requires-clause-text
+create_group-requires-clause-text g c = c.requires.text c.in-CreateGroup.group c.in-CreateGroup.is
