@@ -112,6 +112,10 @@ alike_trans [] (h ∷ hs) ks a b = absurd a
 alike_trans (g ∷ gs) [] ks a b = absurd a
 alike_trans (g ∷ gs) (h ∷ hs) [] a b = absurd b
 
+pub alike_self : (gs : List Group) → AreAlike gs gs
+alike_self [] = tt
+alike_self (g ∷ gs) = (record { def = refl; state = refl; loaded = refl }, alike_self gs)
+
 -- a group of this name is changed
 abbrev pub turned : List ℕ → (Group → Group) → Group → Group
 turned name change g = cond (is_called name g) (change g) g

@@ -7,3 +7,4 @@ pub mod DroppedLaws
 pub mod RoundedLaws
 pub mod LeftLaws
 pub mod AtOnceLaws
+pub mod OthersLaws

@@ -24,7 +24,9 @@ ghost use Rattle.sql_subset.specs.declared.stmt.RefreshState.{RefreshState};
 ghost use Rattle.cache_tier.specs.Shown.{shown_state};
 ghost use Rattle.cache_tier.specs.StandingBetween.{Stands, live_groups_of};
 ghost use Rattle.cache_tier.specs.TierStates.{Session, Settings, Tier, opened, session_of, with_group};
-ghost use Rattle.cache_tier.specs.Worlds.{World};
+ghost use Rattle.cache_tier.specs.Worlds.{BankCall, IsUnshared, World};
+ghost use Rattle.outside.specs.Bank.{Grows};
+ghost use Rattle.outside.specs.Others.{AreOthers};
 ghost use Rattle.recovery.specs.Journalled.{CrashLeaves, IsFlushed, IsFlushedWith, IsJournalled, IsJournalledOn, IsPrepared, IsQuiet, IsToldAtOnce, with_commit_noted, with_flushed_entry};
 ghost use Rattle.recovery.specs.Recalling.{AreMatched, RecallsAll, group_of, recalled, with_loaded};
 
@@ -44,8 +46,9 @@ pub fn recalled_law()
 /// The journal stays the tier's where a session's transaction commits and its record is noted (`commits`), where the
 /// tail is flushed (`flushes`), or with a definition, a drop, a STATE or a flag behind it (`definitions`, `drops`, `states`,
 /// `flags`), where a round is done, with the tail flushed before, and transactions of others come (`round`), where a
-/// synchronous transaction's record is flushed (`prepares`) and it comes (`applies`), and where the tier changes in what
-/// no entry tells (`quiet`). What was held is held.
+/// synchronous transaction's record is flushed (`prepares`) and it comes (`applies`), where transactions of others come
+/// that change no table of a live writethrough group, as in a call of the bank that reads (`others`, `reads`), and where
+/// the tier changes in what no entry tells (`quiet`). What was held is held.
 pub fn journalled_law()
     ensures commits { (w : World) (early : List Sealed) (s : Session) → Stands w → IsJournalled w early
         → session_of w.tier s.label ≡ Some s → IsJournalledOn (with_commit_noted s w) early }
@@ -77,6 +80,11 @@ pub fn journalled_law()
     ensures applies { (w : World) (early : List Sealed) (s : Sealed) (front : List JournalEntry) (t : Tier)
         → IsJournalled w early → IsPrepared w s front → IsToldAtOnce s w.tier t
         → IsJournalledOn (at_history (w.history ++ entry_of s ∷ []) (record w { tier = t })) early }
+    ensures others { (w : World) (early : List Sealed) (entries : List Entry) (t : Tier) → IsJournalled w early
+        → IsUnshared w → AreOthers w.shared w.history entries → IsQuiet w.tier t
+        → IsJournalledOn (at_history (w.history ++ entries) (record w { tier = t })) early }
+    ensures reads { (w w' : World) (early : List Sealed) → IsJournalled w early → IsUnshared w
+        → BankCall (Grows []) w w' → IsQuiet w.tier w'.tier → IsJournalledOn w' early }
     ensures quiet { (w : World) (early : List Sealed) (t : Tier) → IsJournalled w early → IsQuiet w.tier t
         → IsJournalled (record w { tier = t }) early }
 {}

@@ -2,6 +2,7 @@ use Rattle.recovery.proofs.AtOnceLaws.{at_once_kept, prepare_kept}
 use Rattle.recovery.proofs.DroppedLaws.{drop_kept}
 use Rattle.recovery.proofs.CatalogLaws.{define_kept}
 use Rattle.recovery.proofs.JournalledLaws.{commits_kept, flushes_kept, loaded_kept, quiet_kept, state_kept}
+use Rattle.recovery.proofs.OthersLaws.{others_kept, reads_kept}
 use Rattle.recovery.proofs.RoundedLaws.{round_kept}
 use Rattle.recovery.proofs.laws.journalled_law.Goals as goal
 
@@ -34,3 +35,9 @@ returns-clause-prepares c = prepare_kept
 
 pub returns-clause-applies : goal.returns-clause-applies
 returns-clause-applies c = at_once_kept
+
+pub returns-clause-others : goal.returns-clause-others
+returns-clause-others c = others_kept
+
+pub returns-clause-reads : goal.returns-clause-reads
+returns-clause-reads c = reads_kept
