@@ -82,7 +82,7 @@ found_through groups test (r ∷ ss) s e all = by (test r) e (both_true (are_wri
 
 -- ---- the tables of the catalog
 
-alike_table : (gs hs : List Group) (u : TableId) → AreAlike gs hs → is_table_of is_writethrough gs u ≡ is_table_of is_writethrough hs u
+pub alike_table : (gs hs : List Group) (u : TableId) → AreAlike gs hs → is_table_of is_writethrough gs u ≡ is_table_of is_writethrough hs u
 alike_table [] [] u are = refl
 alike_table (g ∷ gs) (h ∷ hs) u are =
     λ i. (is_writethrough (record g { def = sym are.0.def i }) && covers u (record g { def = sym are.0.def i })) || alike_table gs hs u are.1 i

@@ -8,3 +8,5 @@ pub mod RoundedLaws
 pub mod LeftLaws
 pub mod AtOnceLaws
 pub mod OthersLaws
+pub mod LongerLaws
+pub mod TablesLaws

@@ -1,11 +1,14 @@
 //! Laws of recovery, each on the contract of a function that does nothing. They are this project's rules, over recovery
 //! as the TimesTen Cache User's Guide tells of it.
 
-ghost use Rattle.std.specs.Prelude.{◌≡◌, ◌++◌, ◌∷◌, Bool, ℕ, List, [], None, Some, true};
+ghost use Rattle.std.specs.Prelude.{◌≡◌, ◌++◌, ◌∷◌, Bool, ℕ, List, [], None, Some, false, true};
+ghost use Rattle.table_defs.specs.declared.definition.TableDef.{TableDef};
 ghost use Rattle.table_state.specs.declared.history.Entry.{Entry};
+ghost use Rattle.table_state.specs.declared.history.Entry.TheVariants.{Definition};
 ghost use Rattle.table_state.specs.declared.history.Sealed.{Sealed};
 ghost use Rattle.order_laws.specs.Events.{Event, Follows};
 ghost use Rattle.order_laws.specs.Standing.{live_tables};
+ghost use Rattle.cache_tier.specs.ConsoleSteps.{refers_to_writethrough};
 ghost use Rattle.cache_tier.specs.Events.{at_history, settled_to, with_tier};
 ghost use Rattle.cache_tier.specs.Defining.{IsNewGroup};
 ghost use Rattle.cache_tier.specs.DefineSteps.{with_new_group};
@@ -47,8 +50,9 @@ pub fn recalled_law()
 /// tail is flushed (`flushes`), or with a definition, a drop, a STATE or a flag behind it (`definitions`, `drops`, `states`,
 /// `flags`), where a round is done, with the tail flushed before, and transactions of others come (`round`), where a
 /// synchronous transaction's record is flushed (`prepares`) and it comes (`applies`), where transactions of others come
-/// that change no table of a live writethrough group, as in a call of the bank that reads (`others`, `reads`), and where
-/// the tier changes in what no entry tells (`quiet`). What was held is held.
+/// that change no table of a live writethrough group, as in a call of the bank that reads (`others`, `reads`), where a
+/// table is defined whose foreign key refers to no table of such a group, whether the tier has been told or not
+/// (`tables`), and where the tier changes in what no entry tells (`quiet`). What was held is held.
 pub fn journalled_law()
     ensures commits { (w : World) (early : List Sealed) (s : Session) → Stands w → IsJournalled w early
         → session_of w.tier s.label ≡ Some s → IsJournalledOn (with_commit_noted s w) early }
@@ -85,6 +89,9 @@ pub fn journalled_law()
         → IsJournalledOn (at_history (w.history ++ entries) (record w { tier = t })) early }
     ensures reads { (w w' : World) (early : List Sealed) → IsJournalled w early → IsUnshared w
         → BankCall (Grows []) w w' → IsQuiet w.tier w'.tier → IsJournalledOn w' early }
+    ensures tables { (w : World) (early : List Sealed) (def : TableDef) (t : Tier) → IsJournalled w early
+        → refers_to_writethrough w.tier def.foreign_key ≡ false → IsQuiet w.tier t
+        → IsJournalledOn (at_history (w.history ++ Definition def ∷ []) (record w { tier = t })) early }
     ensures quiet { (w : World) (early : List Sealed) (t : Tier) → IsJournalled w early → IsQuiet w.tier t
         → IsJournalled (record w { tier = t }) early }
 {}
