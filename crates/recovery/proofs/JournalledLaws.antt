@@ -26,7 +26,7 @@ use Rattle.recovery_laws.proofs.CrashLaws.{event_keeps}
 use Rattle.recovery_laws.proofs.TieLaws.{tied_commit, tied_quiet}
 use Rattle.cache_tier.specs.CommitSteps.{sealed_own}
 use Rattle.cache_tier.specs.AlterSteps.{with_state}
-use Rattle.cache_tier.specs.Groups.{Group, covers, defines_name, is_called, is_table_of, is_writethrough}
+use Rattle.cache_tier.specs.Groups.{Group, covers, defines_name, is_called, is_read_only, is_table_of, is_writethrough}
 use Rattle.sql_subset.specs.declared.stmt.RefreshState.{RefreshState}
 use Rattle.cache_tier.specs.Journals.{Commits, Journal, JournalEntry, SetsLoaded, SetsState, next_behind, next_with, with_noted}
 use Rattle.cache_tier.specs.JournalWays.{given}
@@ -46,7 +46,7 @@ use Rattle.recovery.proofs.RecalledLaws.{next_is}
 
 -- ---- entries
 
-commits_seen : (schema : List TableDef) (late : List Sealed) → notes_of schema (map Commits late) ≡ map Commit late
+pub commits_seen : (schema : List TableDef) (late : List Sealed) → notes_of schema (map Commits late) ≡ map Commit late
 commits_seen schema [] = refl
 commits_seen schema (s ∷ late) = ap (λ l. Commit s ∷ l) (commits_seen schema late)
 
@@ -89,6 +89,10 @@ alike_table (g ∷ gs) (h ∷ hs) u are =
 alike_table [] (h ∷ hs) u are = absurd are
 alike_table (g ∷ gs) [] u are = absurd are
 
+-- and they have one kind
+pub alike_kind : (g h : Group) → IsAlike g h → is_read_only h ≡ is_read_only g
+alike_kind g h a = λ i. is_read_only (record h { def = a.def i })
+
 alike_commit : (schema : TableState) (ops : List Op) (gs hs : List Group) → AreAlike gs hs → AreAlike gs (map (with_commit schema ops) hs)
 alike_commit schema ops [] [] are = tt
 alike_commit schema ops (g ∷ gs) (h ∷ hs) are = (by (is_writethrough h), alike_commit schema ops gs hs are.1)
@@ -106,7 +110,7 @@ ops_same a b same (op ∷ ops) = λ i. same (table_of op) i && ops_same a b same
 pub alike_trans : (gs hs ks : List Group) → AreAlike gs hs → AreAlike hs ks → AreAlike gs ks
 alike_trans [] [] [] a b = tt
 alike_trans (g ∷ gs) (h ∷ hs) (k ∷ ks) a b =
-    (record { def = b.0.def ∙ a.0.def; state = b.0.state ∙ a.0.state; loaded = b.0.loaded ∙ a.0.loaded }, alike_trans gs hs ks a.1 b.1)
+    (record { def = b.0.def ∙ a.0.def; state = λ r. b.0.state (alike_kind g h a.0 ∙ r) ∙ a.0.state r; loaded = b.0.loaded ∙ a.0.loaded }, alike_trans gs hs ks a.1 b.1)
 alike_trans [] [] (k ∷ ks) a b = absurd b
 alike_trans [] (h ∷ hs) ks a b = absurd a
 alike_trans (g ∷ gs) [] ks a b = absurd a
@@ -114,7 +118,7 @@ alike_trans (g ∷ gs) (h ∷ hs) [] a b = absurd b
 
 pub alike_self : (gs : List Group) → AreAlike gs gs
 alike_self [] = tt
-alike_self (g ∷ gs) = (record { def = refl; state = refl; loaded = refl }, alike_self gs)
+alike_self (g ∷ gs) = (record { def = refl; state = λ r. refl; loaded = refl }, alike_self gs)
 
 -- a group of this name is changed
 abbrev pub turned : List ℕ → (Group → Group) → Group → Group
@@ -125,7 +129,7 @@ pub record TurnsAlike (change : Group → Group) : Type 0 where
   pub alike : (g h : Group) → IsAlike g h → IsAlike (change g) (change h)
 
 pub state_steady : (state : RefreshState) → TurnsAlike (with_state state)
-state_steady state = record { alike = λ g h a. record { def = a.def; state = refl; loaded = a.loaded } }
+state_steady state = record { alike = λ g h a. record { def = a.def; state = λ r. refl; loaded = a.loaded } }
 
 pub loaded_steady : (flag : Bool) → TurnsAlike (with_loaded flag)
 loaded_steady flag = record { alike = λ g h a. record { def = a.def; state = a.state; loaded = refl } }

@@ -10,3 +10,5 @@ pub mod AtOnceLaws
 pub mod OthersLaws
 pub mod LongerLaws
 pub mod TablesLaws
+pub mod SlotLaws
+pub mod RotatedLaws

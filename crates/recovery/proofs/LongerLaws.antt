@@ -1,6 +1,6 @@
 -- Over a longer schema the entries of a journal mean what they meant.
-use Rattle.std.proofs.Common.{◌≡◌, ℕ, zero, suc, ◌+◌, ◌<◌, ◌^◌, Bool, true, false, cond, not, ◌||◌, nat_lt, Option, Some, None, is_some, List, [], ◌∷◌, ◌++◌, length, position, slice_get, map, flat_map, refl, sym, ap, subst, ◌∙◌, arith}
-use Rattle.std.specs.Option.{option_and_then, option_map, option_or}
+use Rattle.std.proofs.Common.{◌≡◌, ℕ, ◌+◌, ◌<◌, ◌^◌, Bool, true, false, cond, not, nat_lt, Option, Some, None, is_some, List, [], ◌∷◌, ◌++◌, length, position, slice_get, map, flat_map, refl, sym, ap, subst, ◌∙◌, arith}
+use Rattle.std.specs.Option.{option_and_then, option_or}
 use Rattle.std.specs.List.{list_any, position_or_len}
 use Rattle.std.proofs.lemmas.List.{length-append}
 use Rattle.std.proofs.lemmas.Bool.{lt-ltb, ltb-true}
@@ -12,9 +12,8 @@ use Rattle.order_laws.proofs.TableLaws.{get_same}
 use Rattle.instances.specs.declared.tree.Tree.{Tree}
 use Rattle.sql_subset.specs.declared.stmt.CreateGroup.{CreateGroup}
 use Rattle.sql_subset.specs.declared.stmt.GroupTable.{GroupTable}
-use Rattle.cache_tier.specs.Definitions.{IsTreeOf, Placed, column_fault, defined_by, definition_names, first_fault, first_unknown, is_read_only_kind, names_in, new_group, placed_from, placed_if, placed_tables, refresh_of, root_aging, table_names}
-use Rattle.cache_tier.specs.DefineSteps.{with_new_group}
-use Rattle.cache_tier.specs.Groups.{Group, covers, defines_name, definitions_of}
+use Rattle.cache_tier.specs.Definitions.{IsTreeOf, Placed, column_fault, definition_names, first_fault, first_unknown, is_read_only_kind, names_in, new_group, placed_from, placed_if, placed_tables, refresh_of, root_aging, table_names}
+use Rattle.cache_tier.specs.Groups.{Group, defines_name, definitions_of}
 use Rattle.cache_tier.specs.Rules.{broken_if, named}
 use Rattle.cache_tier.specs.declared.group.GroupDef.{GroupDef}
 use Rattle.cache_tier.specs.Journals.{Commits, Defines, Drops, JournalEntry, Marks, Numbers, Prepares, SetsLoaded, SetsState}
@@ -24,7 +23,7 @@ use Rattle.cache_tier.proofs.HistoryKeeps.{root_covers}
 use Rattle.cache_tier.proofs.ShownTrees.{found_at, sound_later}
 use Rattle.cache_tier.proofs.TableLaws.{covered_defined}
 use Rattle.tier_base.specs.declared.code.Code.TheVariants as code
-use Rattle.recovery.specs.Recalling.{IsDefined, Recalls, RecallsAll, group_of, note_of, notes_of, written_tables}
+use Rattle.recovery.specs.Recalling.{IsDefined, Recalls, RecallsAll, group_of, note_of, notes_of}
 
 -- ---- names that are found
 
@@ -191,7 +190,7 @@ pub all_later : (more : List TableDef) (entries : List JournalEntry) (t t' : Tie
 all_later more [] t t' is = ap (longer more) is
 all_later more (e ∷ entries) t t' (mid, first, rest) = (longer more mid, recalls_later more e t mid first, all_later more entries mid t' rest)
 
-schema_stays : (e : JournalEntry) (t t' : Tier) → Recalls e t t' → t'.schema ≡ t.schema
+pub schema_stays : (e : JournalEntry) (t t' : Tier) → Recalls e t t' → t'.schema ≡ t.schema
 schema_stays (Commits s) t t' is = ap (λ (x : Tier). x.schema) is
 schema_stays (Prepares s) t t' is = ap (λ (x : Tier). x.schema) is
 schema_stays (Numbers n) t t' is = ap (λ (x : Tier). x.schema) is

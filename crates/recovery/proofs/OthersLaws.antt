@@ -1,6 +1,6 @@
 -- What keeps the journal the tier's where transactions of others come, be entries in the tail or not.
-use Rattle.std.proofs.Common.{◌≡◌, ℕ, ◌+◌, ◌≤◌, Bool, true, false, not, ◌&&◌, Option, Some, None, List, [], ◌∷◌, ◌++◌, map, refl, sym, ap, subst, ◌∙◌, arith, append_assoc, append-nil}
-use Rattle.std.specs.Option.{IsSome, option_and_then}
+use Rattle.std.proofs.Common.{◌≡◌, ℕ, true, false, not, ◌&&◌, Option, Some, None, List, [], ◌∷◌, ◌++◌, refl, sym, ap, subst, ◌∙◌, arith, append_assoc, append-nil}
+use Rattle.std.specs.Option.{IsSome}
 use Rattle.tier_base.specs.declared.number.TableId.{TableId}
 use Rattle.table_defs.specs.declared.definition.TableDef.{TableDef}
 use Rattle.table_state.specs.declared.history.Entry.{Entry}
@@ -25,13 +25,12 @@ use Rattle.recovery_laws.specs.Notes.{Note, groups_of, log_in}
 use Rattle.recovery_laws.proofs.CrashLaws.{event_keeps}
 use Rattle.recovery_laws.proofs.PushLaws.{steady_quiet}
 use Rattle.cache_tier.specs.Events.{at_history}
-use Rattle.cache_tier.specs.Groups.{Group, is_table_of, is_writethrough}
 use Rattle.cache_tier.specs.JournalWays.{given}
 use Rattle.cache_tier.specs.TierStates.{Tier, opened}
 use Rattle.cache_tier.specs.Worlds.{BankCall, IsUnshared, World}
 use Rattle.recovery.specs.Journalled.{IsJournalled, IsJournalledOn, IsQuiet, seen_as}
 use Rattle.recovery.specs.Recalling.{RecallsAll, notes_of}
-use Rattle.recovery.proofs.JournalledLaws.{alike_self, alike_trans, given_is, live, notes}
+use Rattle.recovery.proofs.JournalledLaws.{alike_self, alike_trans, given_is, live}
 use Rattle.recovery.proofs.RoundedLaws.{leads_foreign}
 
 some_state : (o : Option TableState) → IsSome o → (s : TableState) × (o ≡ Some s)

@@ -115,7 +115,7 @@ goes_on entries schema tables (Left s ∷ events) h later log us left commits ea
 
 -- ---- the tier
 
-no_late : (late : List Sealed) → map Commits late ≡ [] → late ≡ []
+pub no_late : (late : List Sealed) → map Commits late ≡ [] → late ≡ []
 no_late [] e = refl
 no_late (s ∷ late) e = Prim.cc
 

@@ -1,7 +1,6 @@
 -- What keeps the journal the tier's where a table is defined at the backing database.
 use Rattle.std.proofs.Common.{◌≡◌, ◌⊎◌, inl, inr, ℕ, zero, suc, ◌+◌, ◌≤◌, Bool, true, false, cond, not, ◌&&◌, ◌||◌, Option, Some, None, is_some, List, [], ◌∷◌, ◌++◌, length, map, slice_get, refl, sym, ap, subst, ◌∙◌, arith, append_assoc}
 use Rattle.std.specs.Option.{option_and_then}
-use Rattle.std.specs.List.{list_any}
 use Rattle.std.proofs.lemmas.List.Folds.{list_any-append}
 use Rattle.tier_base.specs.declared.number.TableId.{TableId}
 use Rattle.table_defs.specs.declared.definition.ForeignKey.{ForeignKey}
@@ -33,7 +32,7 @@ use Rattle.cache_tier.specs.StandingBetween.{Each, IsCatalogued}
 use Rattle.cache_tier.specs.TierStates.{Tier, opened}
 use Rattle.cache_tier.specs.Worlds.{World}
 use Rattle.cache_tier.proofs.TableLaws.{covered_defined}
-use Rattle.recovery.specs.Journalled.{IsJournalled, IsJournalledOn, IsQuiet, seen_as}
+use Rattle.recovery.specs.Journalled.{IsJournalled, IsJournalledOn, IsQuiet}
 use Rattle.recovery.specs.Recalling.{RecallsAll, notes_of}
 use Rattle.recovery.proofs.FoldLaws.{IsFolded}
 use Rattle.recovery.proofs.JournalledLaws.{alike_table, alike_trans, folded, given_is, live, notes, seen}

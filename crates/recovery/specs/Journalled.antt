@@ -10,17 +10,19 @@ use Rattle.order_laws.specs.Commits.{NoneConflicts, pending, virtual_state}
 use Rattle.recovery_laws.specs.Crashes.{IsLeft, Stands, World as Seen}
 use Rattle.recovery_laws.specs.Notes.{log_in}
 use Rattle.cache_tier.specs.CommitSteps.{committed_unsettled, sealed_own}
-use Rattle.cache_tier.specs.Groups.{Group}
+use Rattle.cache_tier.specs.Groups.{Group, is_read_only}
 use Rattle.cache_tier.specs.Journals.{Commits, Journal, JournalEntry, Prepares, next_behind, with_noted}
 use Rattle.cache_tier.specs.JournalWays.{given}
+use Rattle.cache_tier.specs.Rotations.{slot_entries}
 use Rattle.cache_tier.specs.TierStates.{Session, Settings, Tier, opened}
 use Rattle.cache_tier.specs.Worlds.{World}
 use Rattle.recovery.specs.Recalling.{AreMatched, RecallsAll, notes_of}
 
--- the second is the first but for what no entry tells: its first ticket, its keys, its position, its horizon, its moment
+-- the second is the first but for what no entry tells: its first ticket, its keys, its position, its horizon, its
+-- moment, and the STATE of a group that isn't READONLY, which nothing reads
 pub record IsAlike (g h : Group) : Type 0 where
   pub def : h.def ≡ g.def
-  pub state : h.state ≡ g.state
+  pub state : is_read_only g ≡ true → h.state ≡ g.state
   pub loaded : h.loaded ≡ g.loaded
 
 abbrev pub AreAlike : List Group → List Group → Type 0
@@ -76,6 +78,12 @@ pub record IsFlushedWith (e : JournalEntry) (old new : Journal) : Type 0 where
 pub record IsFlushed (old new : Journal) : Type 0 where
   pub kept : new.kept ≡ true
   pub flushed : new.flushed ≡ given old
+  pub tail : new.tail ≡ []
+
+-- the other slot is begun anew with what the tier has
+pub record IsRenewed (t : Tier) (new : Journal) : Type 0 where
+  pub kept : new.kept ≡ true
+  pub flushed : new.flushed ≡ slot_entries t
   pub tail : new.tail ≡ []
 
 -- the tier changes in what no entry tells

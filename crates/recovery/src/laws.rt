@@ -30,7 +30,7 @@ ghost use Rattle.cache_tier.specs.TierStates.{Session, Settings, Tier, opened, s
 ghost use Rattle.cache_tier.specs.Worlds.{BankCall, IsUnshared, World};
 ghost use Rattle.outside.specs.Bank.{Grows};
 ghost use Rattle.outside.specs.Others.{AreOthers};
-ghost use Rattle.recovery.specs.Journalled.{CrashLeaves, IsFlushed, IsFlushedWith, IsJournalled, IsJournalledOn, IsPrepared, IsQuiet, IsToldAtOnce, with_commit_noted, with_flushed_entry};
+ghost use Rattle.recovery.specs.Journalled.{CrashLeaves, IsFlushed, IsFlushedWith, IsJournalled, IsJournalledOn, IsPrepared, IsQuiet, IsRenewed, IsToldAtOnce, with_commit_noted, with_flushed_entry};
 ghost use Rattle.recovery.specs.Recalling.{AreMatched, RecallsAll, group_of, recalled, with_loaded};
 
 /// Where a journal's entries and a history belong together, the tier that the entries leave stands over the history,
@@ -52,7 +52,8 @@ pub fn recalled_law()
 /// synchronous transaction's record is flushed (`prepares`) and it comes (`applies`), where transactions of others come
 /// that change no table of a live writethrough group, as in a call of the bank that reads (`others`, `reads`), where a
 /// table is defined whose foreign key refers to no table of such a group, whether the tier has been told or not
-/// (`tables`), and where the tier changes in what no entry tells (`quiet`). What was held is held.
+/// (`tables`), where a slot is begun anew and nothing is unsettled (`rotates`), and where the tier changes in what no
+/// entry tells (`quiet`). What was held is held.
 pub fn journalled_law()
     ensures commits { (w : World) (early : List Sealed) (s : Session) → Stands w → IsJournalled w early
         → session_of w.tier s.label ≡ Some s → IsJournalledOn (with_commit_noted s w) early }
@@ -92,6 +93,9 @@ pub fn journalled_law()
     ensures tables { (w : World) (early : List Sealed) (def : TableDef) (t : Tier) → IsJournalled w early
         → refers_to_writethrough w.tier def.foreign_key ≡ false → IsQuiet w.tier t
         → IsJournalledOn (at_history (w.history ++ Definition def ∷ []) (record w { tier = t })) early }
+    ensures rotates { (w : World) (early : List Sealed) (new : Journal) → Stands w → IsJournalled w early
+        → w.journal.tail ≡ [] → w.tier.unsettled ≡ [] → IsRenewed w.tier new
+        → IsJournalledOn (record w { journal = new }) early }
     ensures quiet { (w : World) (early : List Sealed) (t : Tier) → IsJournalled w early → IsQuiet w.tier t
         → IsJournalled (record w { tier = t }) early }
 {}

@@ -78,7 +78,7 @@ tables_from_first : (groups : List LiveGroup) → live_tables (from_first groups
 tables_from_first [] = refl
 tables_from_first (g ∷ groups) = ap (λ l. g.tables ++ l) (tables_from_first groups)
 
-rise_low : (low : ℕ) (log : List Sealed) (high : ℕ) → RiseBetween low log high → low ≤ high
+pub rise_low : (low : ℕ) (log : List Sealed) (high : ℕ) → RiseBetween low log high → low ≤ high
 rise_low low [] high rise = rise
 rise_low low (s ∷ log) high rise = let a : low ≤ s.ticket.0 = rise.0 in let b : s.ticket.0 + 1 ≤ high = rise_low (s.ticket.0 + 1) log high rise.1 in omega arith
 

@@ -3,6 +3,7 @@ use Rattle.recovery.proofs.DroppedLaws.{drop_kept}
 use Rattle.recovery.proofs.CatalogLaws.{define_kept}
 use Rattle.recovery.proofs.JournalledLaws.{commits_kept, flushes_kept, loaded_kept, quiet_kept, state_kept}
 use Rattle.recovery.proofs.OthersLaws.{others_kept, reads_kept}
+use Rattle.recovery.proofs.RotatedLaws.{rotation_kept}
 use Rattle.recovery.proofs.RoundedLaws.{round_kept}
 use Rattle.recovery.proofs.TablesLaws.{table_kept}
 use Rattle.recovery.proofs.laws.journalled_law.Goals as goal
@@ -42,6 +43,9 @@ returns-clause-others c = others_kept
 
 pub returns-clause-reads : goal.returns-clause-reads
 returns-clause-reads c = reads_kept
+
+pub returns-clause-rotates : goal.returns-clause-rotates
+returns-clause-rotates c = rotation_kept
 
 pub returns-clause-tables : goal.returns-clause-tables
 returns-clause-tables c = table_kept
