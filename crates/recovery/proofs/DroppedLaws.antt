@@ -66,7 +66,7 @@ alike_called (g ∷ gs) (h ∷ hs) name are = λ i. defines_name name (sym are.0
 alike_called [] (h ∷ hs) name are = absurd are
 alike_called (g ∷ gs) [] name are = absurd are
 
-alike_apart : (gs hs : List Group) → AreAlike gs hs → NamesApart gs → NamesApart hs
+pub alike_apart : (gs hs : List Group) → AreAlike gs hs → NamesApart gs → NamesApart hs
 alike_apart [] [] are apart = tt
 alike_apart (g ∷ gs) (h ∷ hs) are apart = (
   ap (λ (d : Rattle.cache_tier.specs.declared.group.GroupDef.GroupDef). list_any (is_called d.name) hs) are.0.def ∙ sym (alike_called gs hs g.def.name are.1) ∙ apart.0,

@@ -1,0 +1,22 @@
+//! Laws of lines, each on the contract of a function that does nothing. They are this project's rules.
+
+ghost use Rattle.std.specs.Prelude.{List, ℕ};
+ghost use Rattle.sql_subset.specs.declared.request.OpenOptions.{OpenOptions};
+ghost use Rattle.cache_tier.specs.CommitSteps.{RollsBack};
+ghost use Rattle.cache_tier.specs.ConsoleSteps.{clock_answer};
+ghost use Rattle.cache_tier.specs.SessionSteps.{close_answer, flag_answer, open_answer};
+ghost use Rattle.cache_tier.specs.TierStates.{Session};
+ghost use Rattle.cache_tier.specs.Worlds.{Quiet};
+ghost use Rattle.line_laws.specs.Keeping.{KeepsJournal};
+
+/// The journal stays the tier's where a line changes nothing that an entry tells: OPEN (`opens`), CLOSE (`closes`),
+/// ttOptSetFlag (`sets_level`), ROLLBACK (`rolls_back`), the clock (`clock`).
+pub fn quiet_line_law()
+    ensures opens { (label : List ℕ) (options : OpenOptions)
+        → KeepsJournal (λ w w' reply. Quiet (open_answer w.tier label options) w w' reply) }
+    ensures closes { (label : List ℕ) → KeepsJournal (λ w w' reply. Quiet (close_answer w.tier label) w w' reply) }
+    ensures sets_level { (label : List ℕ) (level : ℕ)
+        → KeepsJournal (λ w w' reply. Quiet (flag_answer w.tier label level) w w' reply) }
+    ensures rolls_back { (s : Session) → KeepsJournal (RollsBack s) }
+    ensures clock { KeepsJournal (λ w w' reply. Quiet (clock_answer w.tier) w w' reply) }
+{}

@@ -1,0 +1,7 @@
+//! What each part of a line keeps of a commit journal: it stays the tier's. A law is the contract of a function that does
+//! nothing.
+#![tactic(auto)]
+
+mod laws;
+
+pub use laws::quiet_line_law;
