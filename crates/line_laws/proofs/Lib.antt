@@ -4,3 +4,4 @@ pub mod FlushLaws
 pub mod PlaceLaws
 pub mod TellingLaws
 pub mod QuietStatements
+pub mod GroupStatements

@@ -2,10 +2,15 @@
 
 ghost use Rattle.std.specs.Prelude.{List, ℕ};
 ghost use Rattle.sql_subset.specs.declared.request.OpenOptions.{OpenOptions};
+ghost use Rattle.sql_subset.specs.declared.stmt.Alter.{Alter};
+ghost use Rattle.sql_subset.specs.declared.stmt.OfGroup.{OfGroup};
+ghost use Rattle.cache_tier.specs.AlterSteps.{Alters};
 ghost use Rattle.cache_tier.specs.CommitSteps.{RollsBack};
 ghost use Rattle.cache_tier.specs.ConsoleSteps.{clock_answer};
 ghost use Rattle.cache_tier.specs.SessionSteps.{close_answer, flag_answer, open_answer};
+ghost use Rattle.cache_tier.specs.Steps.{RefreshesCalled};
 ghost use Rattle.cache_tier.specs.TierStates.{Session};
+ghost use Rattle.cache_tier.specs.UnloadSteps.{Unloads};
 ghost use Rattle.cache_tier.specs.Worlds.{Quiet};
 ghost use Rattle.line_laws.specs.Keeping.{KeepsJournal};
 
@@ -19,4 +24,12 @@ pub fn quiet_line_law()
         → KeepsJournal (λ w w' reply. Quiet (flag_answer w.tier label level) w w' reply) }
     ensures rolls_back { (s : Session) → KeepsJournal (RollsBack s) }
     ensures clock { KeepsJournal (λ w w' reply. Quiet (clock_answer w.tier) w w' reply) }
+{}
+
+/// The journal stays the tier's behind ALTER CACHE GROUP (`alters`) and UNLOAD CACHE GROUP (`unloads`), whose records
+/// are flushed before the group changes, and behind ttCacheAutorefresh (`refreshes_called`).
+pub fn group_line_law()
+    ensures alters { (a : Alter) → KeepsJournal (Alters a) }
+    ensures unloads { (s : Session) (u : OfGroup) → KeepsJournal (Unloads s u) }
+    ensures refreshes_called { (interval : ℕ) → KeepsJournal (RefreshesCalled interval) }
 {}

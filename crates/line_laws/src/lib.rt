@@ -4,4 +4,4 @@
 
 mod laws;
 
-pub use laws::quiet_line_law;
+pub use laws::{group_line_law, quiet_line_law};
