@@ -5,3 +5,5 @@ pub mod PlaceLaws
 pub mod TellingLaws
 pub mod QuietStatements
 pub mod GroupStatements
+pub mod MixedLaws
+pub mod RoundLaws

@@ -33,12 +33,12 @@ use Rattle.recovery.specs.Recalling.{RecallsAll, notes_of}
 use Rattle.recovery.proofs.JournalledLaws.{alike_self, alike_trans, given_is, live}
 use Rattle.recovery.proofs.RoundedLaws.{leads_foreign}
 
-some_state : (o : Option TableState) → IsSome o → (s : TableState) × (o ≡ Some s)
+pub some_state : (o : Option TableState) → IsSome o → (s : TableState) × (o ≡ Some s)
 some_state None e = Prim.cc
 some_state (Some s) e = (s, refl)
 
 -- what is on tables of others is on no live one
-off_shared : (shared live : List TableId) (ops : List Op) → ((t : TableId) → is_shared shared t ≡ true → is_one_of live t ≡ false) → are_on_shared shared ops ≡ true → are_off live ops ≡ true
+pub off_shared : (shared live : List TableId) (ops : List Op) → ((t : TableId) → is_shared shared t ≡ true → is_one_of live t ≡ false) → are_on_shared shared ops ≡ true → are_off live ops ≡ true
 off_shared shared live [] apart e = refl
 off_shared shared live (op ∷ ops) apart e =
     let (first, rest) = both_true (is_shared shared (table_of op)) (are_on_shared shared ops) e in

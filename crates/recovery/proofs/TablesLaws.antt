@@ -80,7 +80,7 @@ all_closed schema def (g ∷ groups) closed there apart = (
       (λ f fk. (or_both (is_one_of g.tables f.parent) (is_one_of (live_tables groups) f.parent) (sym (in_tables g groups f.parent) ∙ apart f fk)).1),
 )
 
-written_defined : (schema : List TableDef) (gs : List Group) (u : TableId) → Each (IsCatalogued schema) gs → is_table_of is_writethrough gs u ≡ true → is_some (slice_get schema u.0) ≡ true
+pub written_defined : (schema : List TableDef) (gs : List Group) (u : TableId) → Each (IsCatalogued schema) gs → is_table_of is_writethrough gs u ≡ true → is_some (slice_get schema u.0) ≡ true
 written_defined schema [] u all e = Prim.cc
 written_defined schema (g ∷ gs) u all e = by (is_writethrough g) (covers u g) refl e (written_defined schema gs u all.1)
   where
