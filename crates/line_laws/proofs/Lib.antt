@@ -7,3 +7,5 @@ pub mod QuietStatements
 pub mod GroupStatements
 pub mod MixedLaws
 pub mod RoundLaws
+pub mod LoadStatements
+pub mod CommitStatements

@@ -194,16 +194,22 @@ module _ (w : World) (x : Stands w) (apart : IsUnshared w) where
       let f = flow h far in
       let (n, n_is) = some_state (state_of (h ++ Foreign ops ∷ [])) (m.0.1 f.flow.stand.over.backing f.flow.stand.over.leaves) in
       let off = off_shared w.shared (live_tables (live_groups_of w.tier.groups)) ops (λ t e. live_table w.tier.groups t ∙ apart t e) m.0.0 in
-      let next : Far (h ++ Foreign ops ∷ []) = (far.0 ++ Others ops ∷ [], follows_append x.flow.stand.over.backing.schema (live_tables (live_groups_of w.tier.groups)) far.0 (Others ops ∷ []) w.history w.tier.unsettled h w.tier.unsettled (h ++ Foreign ops ∷ []) w.tier.unsettled far.1
-      (record { off = off; state = n; leaves = n_is }, (refl, refl))) in
+      let next : Far (h ++ Foreign ops ∷ []) = (
+        far.0 ++ Others ops ∷ [],
+        follows_append x.flow.stand.over.backing.schema (live_tables (live_groups_of w.tier.groups)) far.0 (Others ops ∷ []) w.history w.tier.unsettled h w.tier.unsettled (h ++ Foreign ops ∷ []) w.tier.unsettled far.1
+            (record { off = off; state = n; leaves = n_is }, (refl, refl)),
+      ) in
       subst Far (append_assoc h (Foreign ops ∷ []) tail) (mixed tail (h ++ Foreign ops ∷ []) own next m.1 each (subst Once (sym (append_assoc h (Foreign ops ∷ []) tail)) once) order)
   mixed (Own ticket ops ∷ tail) h own far (first, rest, is, entry, more) each once order =
       let s : Sealed = record { ticket = ticket; ops = ops } in
       let all : Each (IsInLog w.tier.unsettled) (first ∷ rest) = subst (Each (IsInLog w.tier.unsettled)) is each in
       let one : IsInLog w.tier.unsettled s = subst (IsInLog w.tier.unsettled) (sym (same_sealed ticket ops first entry)) all.0 in
       let fresh : has_ticket ticket.0 h ≡ false = once_before h ticket ops tail once in
-      let next : Far (h ++ Own ticket ops ∷ []) = (far.0 ++ Came s ∷ [], follows_append x.flow.stand.over.backing.schema (live_tables (live_groups_of w.tier.groups)) far.0 (Came s ∷ []) w.history w.tier.unsettled h w.tier.unsettled (h ++ Own ticket ops ∷ []) w.tier.unsettled far.1
-      (is_next h s far one fresh order.0, (refl, refl))) in
+      let next : Far (h ++ Own ticket ops ∷ []) = (
+        far.0 ++ Came s ∷ [],
+        follows_append x.flow.stand.over.backing.schema (live_tables (live_groups_of w.tier.groups)) far.0 (Came s ∷ []) w.history w.tier.unsettled h w.tier.unsettled (h ++ Own ticket ops ∷ []) w.tier.unsettled far.1
+            (is_next h s far one fresh order.0, (refl, refl)),
+      ) in
       subst Far (append_assoc h (Own ticket ops ∷ []) tail) (mixed tail (h ++ Own ticket ops ∷ []) rest next more all.1 (subst Once (sym (append_assoc h (Own ticket ops ∷ []) tail)) once) order.1)
 
   -- all that come in a round are its events

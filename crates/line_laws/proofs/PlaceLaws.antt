@@ -26,7 +26,7 @@ above_stay change p k (g ∷ gs) lt =
     let other : nat_eq k p ≡ false = nat_eq_other k p (λ e. (let same : k ≡ p = e in absurd (omega (arith, same, lt)))) in
     λ i. cond (other i) (change g) g ∷ above_stay change p (suc k) gs (omega (arith, lt)) i
 
-none_at : (name : List ℕ) (gs : List Group) (i : ℕ) (g : Group) → list_any (is_called name) gs ≡ false → slice_get gs i ≡ Some g → is_called name g ≡ false
+pub none_at : (name : List ℕ) (gs : List Group) (i : ℕ) (g : Group) → list_any (is_called name) gs ≡ false → slice_get gs i ≡ Some g → is_called name g ≡ false
 none_at name [] i g none at = Prim.cc
 none_at name (x ∷ gs) zero g none at = ap (is_called name) (sym (same_some at)) ∙ (or_both (is_called name x) (list_any (is_called name) gs) none).0
 none_at name (x ∷ gs) (suc i) g none at = none_at name gs i g (or_both (is_called name x) (list_any (is_called name) gs) none).1 at

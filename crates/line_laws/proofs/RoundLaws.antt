@@ -170,11 +170,11 @@ round_goes w w' early stop x j apart q settled ok = by q.stop q.first q.next
         empty gen tier = elim settled [
           | inl e ↦ ended (both_none next.applied next.turned (sym next.end ∙ e))
           | inr r ↦ elim r [
-              | inl same ↦
-                  let a : next.mid.journal.generation ≡ w.journal.generation = ap (λ (k : Rattle.cache_tier.specs.Journals.Journal). k.generation) next.applies.journal ∙ is.generation in
-                  absurd (omega (arith, a, gen, same))
-              | inr none ↦ ap (λ (t : Tier). t.unsettled) (sym tier) ∙ none
-            ]
+            | inl same ↦
+                let a : next.mid.journal.generation ≡ w.journal.generation = ap (λ (k : Rattle.cache_tier.specs.Journals.Journal). k.generation) next.applies.journal ∙ is.generation in
+                absurd (omega (arith, a, gen, same))
+            | inr none ↦ ap (λ (t : Tier). t.unsettled) (sym tier) ∙ none
+          ]
         ]
 
         turned : Rounded q.mid w' flushed.now

@@ -1,13 +1,20 @@
 -- What a part of a line keeps of a journal. (This project's rule.)
 
-use Rattle.std.specs.Prelude.{◌≡◌, ◌⊎◌, List, [], false}
+use Rattle.std.specs.Prelude.{◌≡◌, ◌⊎◌, List, [], false, Some, None}
 use Rattle.table_state.specs.declared.history.Sealed.{Sealed}
 use Rattle.tier_base.specs.declared.code.Code.TheVariants as code
+use Rattle.instances.specs.declared.tree.Tree.{Tree}
+use Rattle.sql_subset.specs.declared.stmt.CreateGroup.{CreateGroup}
 use Rattle.cache_tier.specs.declared.reply.Reply.{Reply}
+use Rattle.cache_tier.specs.Defining.{IsNewGroup}
+use Rattle.cache_tier.specs.Definitions.{IsTreeOf, definition_names, placed_tables}
+use Rattle.cache_tier.specs.Groups.{definitions_of}
 use Rattle.cache_tier.specs.StandingBetween.{Stands}
 use Rattle.cache_tier.specs.Steps.{tells}
+use Rattle.cache_tier.specs.TierStates.{Session, session_of}
 use Rattle.cache_tier.specs.Worlds.{IsUnshared, Part, World}
 use Rattle.recovery.specs.Journalled.{IsJournalled, IsJournalledOn}
+use Rattle.recovery.specs.Recalling.{group_of}
 
 -- Where the tier stands, its journal is its own, and others change no table of a live writethrough group: behind the part
 -- the journal is the tier's, unless a call of its disk failed, which ends the run.
@@ -25,3 +32,35 @@ abbrev pub KeepsSettledJournal : Part → Type 0
 KeepsSettledJournal part =
     (w w' : World) (early : List Sealed) (reply : Reply) → Stands w → IsJournalled w early → IsUnshared w
     → part w w' reply → RenewsSettled w w' → tells code.JournalFault reply.last ≡ false → IsJournalledOn w' early
+
+-- the same where this holds of the world
+abbrev pub KeepsJournalWhere : (World → Type 0) → Part → Type 0
+KeepsJournalWhere P part =
+    (w w' : World) (early : List Sealed) (reply : Reply) → Stands w → IsJournalled w early → IsUnshared w → P w
+    → part w w' reply → tells code.JournalFault reply.last ≡ false → IsJournalledOn w' early
+
+-- nothing more
+abbrev pub Anything : World → Type 0
+Anything w = Unit {0}
+
+-- the same of a statement of an open session, where this holds of the world and the session
+abbrev pub KeepsJournalOf : Session → (World → Type 0) → Part → Type 0
+KeepsJournalOf s P part =
+    (w w' : World) (early : List Sealed) (reply : Reply) → Stands w → IsJournalled w early → IsUnshared w
+    → session_of w.tier s.label ≡ Some s → P w → part w w' reply → tells code.JournalFault reply.last ≡ false
+    → IsJournalledOn w' early
+
+abbrev pub KeepsSettledJournalOf : Session → (World → Type 0) → Part → Type 0
+KeepsSettledJournalOf s P part =
+    (w w' : World) (early : List Sealed) (reply : Reply) → Stands w → IsJournalled w early → IsUnshared w
+    → session_of w.tier s.label ≡ Some s → P w → part w w' reply → RenewsSettled w w'
+    → tells code.JournalFault reply.last ≡ false → IsJournalledOn w' early
+
+-- The definition breaks no rule of names, and each group that it may make is one that may come.
+pub record MayCreate (d : CreateGroup) (w : World) : Type 0 where
+  pub names : definition_names w.tier.schema (definitions_of w.tier.groups) d ≡ None
+  pub new : (tree : Tree) → IsTreeOf (placed_tables w.tier.schema d) tree → IsNewGroup w (group_of w.tier d tree)
+
+-- the session has no uncommitted writes
+abbrev pub HasNoWrites : Session → World → Type 0
+HasNoWrites s w = s.own ≡ []

@@ -3,16 +3,23 @@
 ghost use Rattle.std.specs.Prelude.{List, ℕ};
 ghost use Rattle.sql_subset.specs.declared.request.OpenOptions.{OpenOptions};
 ghost use Rattle.sql_subset.specs.declared.stmt.Alter.{Alter};
+ghost use Rattle.sql_subset.specs.declared.stmt.CreateGroup.{CreateGroup};
+ghost use Rattle.sql_subset.specs.declared.stmt.Load.{Load};
 ghost use Rattle.sql_subset.specs.declared.stmt.OfGroup.{OfGroup};
 ghost use Rattle.cache_tier.specs.AlterSteps.{Alters};
-ghost use Rattle.cache_tier.specs.CommitSteps.{RollsBack};
+ghost use Rattle.cache_tier.specs.CommitSteps.{CommitsLater, RollsBack};
 ghost use Rattle.cache_tier.specs.ConsoleSteps.{clock_answer};
+ghost use Rattle.cache_tier.specs.DefineSteps.{CreatesGroup};
+ghost use Rattle.cache_tier.specs.DropSteps.{DropsGroup};
+ghost use Rattle.cache_tier.specs.LoadSteps.{Loads};
+ghost use Rattle.cache_tier.specs.RefreshSteps.{Refreshes};
+ghost use Rattle.cache_tier.specs.Rounds.{Drains};
 ghost use Rattle.cache_tier.specs.SessionSteps.{close_answer, flag_answer, open_answer};
 ghost use Rattle.cache_tier.specs.Steps.{RefreshesCalled};
 ghost use Rattle.cache_tier.specs.TierStates.{Session};
 ghost use Rattle.cache_tier.specs.UnloadSteps.{Unloads};
 ghost use Rattle.cache_tier.specs.Worlds.{Quiet};
-ghost use Rattle.line_laws.specs.Keeping.{KeepsJournal};
+ghost use Rattle.line_laws.specs.Keeping.{Anything, HasNoWrites, KeepsJournal, KeepsJournalOf, KeepsJournalWhere, KeepsSettledJournal, KeepsSettledJournalOf, MayCreate};
 
 /// The journal stays the tier's where a line changes nothing that an entry tells: OPEN (`opens`), CLOSE (`closes`),
 /// ttOptSetFlag (`sets_level`), ROLLBACK (`rolls_back`), the clock (`clock`).
@@ -32,4 +39,21 @@ pub fn group_line_law()
     ensures alters { (a : Alter) → KeepsJournal (Alters a) }
     ensures unloads { (s : Session) (u : OfGroup) → KeepsJournal (Unloads s u) }
     ensures refreshes_called { (interval : ℕ) → KeepsJournal (RefreshesCalled interval) }
+{}
+
+/// The journal stays the tier's behind a round, and what comes behind one: ttDrain (`drains`), LOAD CACHE GROUP
+/// (`loads`), REFRESH CACHE GROUP (`refreshes`), DROP CACHE GROUP (`drops`). A slot that the round begins anew has to
+/// find nothing unsettled, as it does where the round ends without a fault.
+pub fn round_line_law()
+    ensures drains { KeepsSettledJournal Drains }
+    ensures loads { (load : Load) → KeepsSettledJournal (Loads load) }
+    ensures refreshes { (load : Load) → KeepsSettledJournal (Refreshes load) }
+    ensures drops { (s : Session) (name : List ℕ) → KeepsSettledJournalOf s (HasNoWrites s) (DropsGroup s name) }
+{}
+
+/// The journal stays the tier's behind COMMIT of asynchronous writes, whose record is noted, or flushed with DURABLE
+/// (`commits_later`), and behind CREATE CACHE GROUP of a group that may come (`creates`).
+pub fn commit_line_law()
+    ensures commits_later { (s : Session) → KeepsJournalOf s Anything (CommitsLater s) }
+    ensures creates { (d : CreateGroup) → KeepsJournalWhere (MayCreate d) (CreatesGroup d) }
 {}
