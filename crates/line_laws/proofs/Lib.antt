@@ -9,3 +9,6 @@ pub mod MixedLaws
 pub mod RoundLaws
 pub mod LoadStatements
 pub mod CommitStatements
+pub mod QueryStatements
+pub mod OtherLaws
+pub mod AtOnceStatements

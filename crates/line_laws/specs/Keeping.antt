@@ -1,11 +1,15 @@
 -- What a part of a line keeps of a journal. (This project's rule.)
 
-use Rattle.std.specs.Prelude.{◌≡◌, ◌⊎◌, List, [], false, Some, None}
+use Rattle.std.specs.Prelude.{◌≡◌, ◌⊎◌, List, [], false, true, Some, None}
 use Rattle.table_state.specs.declared.history.Sealed.{Sealed}
 use Rattle.tier_base.specs.declared.code.Code.TheVariants as code
+use Rattle.table_state.specs.Histories.{state_of}
+use Rattle.table_state.specs.Tables.{TableState}
+use Rattle.order_laws.specs.Commits.{NoneConflicts, pending}
 use Rattle.instances.specs.declared.tree.Tree.{Tree}
 use Rattle.sql_subset.specs.declared.stmt.CreateGroup.{CreateGroup}
 use Rattle.cache_tier.specs.declared.reply.Reply.{Reply}
+use Rattle.cache_tier.specs.CommitSteps.{is_synchronous_own, sealed_own}
 use Rattle.cache_tier.specs.Defining.{IsNewGroup}
 use Rattle.cache_tier.specs.Definitions.{IsTreeOf, definition_names, placed_tables}
 use Rattle.cache_tier.specs.Groups.{definitions_of}
@@ -64,3 +68,13 @@ pub record MayCreate (d : CreateGroup) (w : World) : Type 0 where
 -- the session has no uncommitted writes
 abbrev pub HasNoWrites : Session → World → Type 0
 HasNoWrites s w = s.own ≡ []
+
+-- nothing that is pending conflicts with the session's writes
+abbrev pub MeetsNone : Session → World → Type 0
+MeetsNone s w =
+    (b : TableState) → state_of w.history ≡ Some b
+    → NoneConflicts b.schema (pending w.history w.tier.log) (sealed_own w.tier s)
+
+-- the same of a session whose writes are synchronous
+abbrev pub MeetsIfAtOnce : Session → World → Type 0
+MeetsIfAtOnce s w = is_synchronous_own w.tier s ≡ true → MeetsNone s w

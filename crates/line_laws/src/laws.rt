@@ -1,25 +1,31 @@
 //! Laws of lines, each on the contract of a function that does nothing. They are this project's rules.
 
 ghost use Rattle.std.specs.Prelude.{List, ℕ};
+ghost use Rattle.std.specs.Prelude.{Ok};
+ghost use Rattle.resolution.specs.Writes.{PlacedChange};
+ghost use Rattle.sql_query.specs.declared.query.Query.{Query};
 ghost use Rattle.sql_subset.specs.declared.request.OpenOptions.{OpenOptions};
 ghost use Rattle.sql_subset.specs.declared.stmt.Alter.{Alter};
 ghost use Rattle.sql_subset.specs.declared.stmt.CreateGroup.{CreateGroup};
 ghost use Rattle.sql_subset.specs.declared.stmt.Load.{Load};
 ghost use Rattle.sql_subset.specs.declared.stmt.OfGroup.{OfGroup};
 ghost use Rattle.cache_tier.specs.AlterSteps.{Alters};
-ghost use Rattle.cache_tier.specs.CommitSteps.{CommitsLater, RollsBack};
+ghost use Rattle.cache_tier.specs.CommitSteps.{CommitsAll, CommitsLater, CommitsNow, RollsBack};
 ghost use Rattle.cache_tier.specs.ConsoleSteps.{clock_answer};
 ghost use Rattle.cache_tier.specs.DefineSteps.{CreatesGroup};
 ghost use Rattle.cache_tier.specs.DropSteps.{DropsGroup};
 ghost use Rattle.cache_tier.specs.LoadSteps.{Loads};
 ghost use Rattle.cache_tier.specs.RefreshSteps.{Refreshes};
 ghost use Rattle.cache_tier.specs.Rounds.{Drains};
+ghost use Rattle.cache_tier.specs.Routes.{Cached};
+ghost use Rattle.cache_tier.specs.SelectSteps.{Selects};
 ghost use Rattle.cache_tier.specs.SessionSteps.{close_answer, flag_answer, open_answer};
 ghost use Rattle.cache_tier.specs.Steps.{RefreshesCalled};
 ghost use Rattle.cache_tier.specs.TierStates.{Session};
 ghost use Rattle.cache_tier.specs.UnloadSteps.{Unloads};
 ghost use Rattle.cache_tier.specs.Worlds.{Quiet};
-ghost use Rattle.line_laws.specs.Keeping.{Anything, HasNoWrites, KeepsJournal, KeepsJournalOf, KeepsJournalWhere, KeepsSettledJournal, KeepsSettledJournalOf, MayCreate};
+ghost use Rattle.cache_tier.specs.WriteSteps.{WritesBy};
+ghost use Rattle.line_laws.specs.Keeping.{Anything, HasNoWrites, KeepsJournal, KeepsJournalOf, KeepsJournalWhere, KeepsSettledJournal, KeepsSettledJournalOf, MayCreate, MeetsIfAtOnce, MeetsNone};
 
 /// The journal stays the tier's where a line changes nothing that an entry tells: OPEN (`opens`), CLOSE (`closes`),
 /// ttOptSetFlag (`sets_level`), ROLLBACK (`rolls_back`), the clock (`clock`).
@@ -52,8 +58,19 @@ pub fn round_line_law()
 {}
 
 /// The journal stays the tier's behind COMMIT of asynchronous writes, whose record is noted, or flushed with DURABLE
-/// (`commits_later`), and behind CREATE CACHE GROUP of a group that may come (`creates`).
+/// (`commits_later`); of synchronous ones, whose record is flushed first, and with which nothing pending conflicts, be
+/// they in doubt then or not (`commits_now`); of either (`commits`); and behind CREATE CACHE GROUP of a group that may
+/// come (`creates`).
 pub fn commit_line_law()
     ensures commits_later { (s : Session) → KeepsJournalOf s Anything (CommitsLater s) }
+    ensures commits_now { (s : Session) → KeepsJournalOf s (MeetsNone s) (CommitsNow s) }
+    ensures commits { (s : Session) → KeepsJournalOf s (MeetsIfAtOnce s) (CommitsAll s) }
     ensures creates { (d : CreateGroup) → KeepsJournalWhere (MayCreate d) (CreatesGroup d) }
+{}
+
+/// The journal stays the tier's behind SELECT (`selects`), and behind INSERT, UPDATE and DELETE in the cache
+/// (`writes`), with the dynamic load that may come before them.
+pub fn query_line_law()
+    ensures selects { (s : Session) (q : Query) → KeepsSettledJournal (Selects s q) }
+    ensures writes { (s : Session) (placed : PlacedChange) → KeepsSettledJournal (WritesBy (Ok Cached) s placed) }
 {}

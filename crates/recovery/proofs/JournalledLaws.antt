@@ -62,7 +62,7 @@ recalls_push (x ∷ entries) e t mid t' (next, first, rest) one = (next, first, 
 
 -- ---- sessions
 
-found_applies : (v : TableState) (test : Session → Bool) (ss : List Session) (s : Session) → find test ss ≡ Some s → AllApply v (own_writes ss) → Applies v s.own
+pub found_applies : (v : TableState) (test : Session → Bool) (ss : List Session) (s : Session) → find test ss ≡ Some s → AllApply v (own_writes ss) → Applies v s.own
 found_applies v test [] s e all = Prim.cc
 found_applies v test (r ∷ ss) s e all = by (test r) e (λ h. found_applies v test ss s h all.1)
   where
@@ -93,7 +93,7 @@ alike_table (g ∷ gs) [] u are = absurd are
 pub alike_kind : (g h : Group) → IsAlike g h → is_read_only h ≡ is_read_only g
 alike_kind g h a = λ i. is_read_only (record h { def = a.def i })
 
-alike_commit : (schema : TableState) (ops : List Op) (gs hs : List Group) → AreAlike gs hs → AreAlike gs (map (with_commit schema ops) hs)
+pub alike_commit : (schema : TableState) (ops : List Op) (gs hs : List Group) → AreAlike gs hs → AreAlike gs (map (with_commit schema ops) hs)
 alike_commit schema ops [] [] are = tt
 alike_commit schema ops (g ∷ gs) (h ∷ hs) are = (by (is_writethrough h), alike_commit schema ops gs hs are.1)
   where
