@@ -1,14 +1,12 @@
 -- COMMIT of synchronous writes.
-use Rattle.std.proofs.Common.{◌≡◌, ◌⊎◌, inl, inr, ℕ, ◌+◌, ◌≤◌, Bool, true, false, Option, Some, None, Result, Ok, Err, List, [], ◌∷◌, ◌++◌, refl, sym, ap, subst, ◌∙◌, arith, append_assoc, append-nil}
+use Rattle.std.proofs.Common.{◌≡◌, ◌⊎◌, inl, inr, Bool, true, false, Option, Some, None, Result, Ok, Err, List, [], ◌∷◌, ◌++◌, refl, sym, ap, subst, ◌∙◌, arith}
 use Rattle.std.specs.Bool.{MatchBool}
 use Rattle.row_types.specs.declared.rule.Rule.{Rule}
-use Rattle.tier_base.specs.declared.number.TableId.{TableId}
 use Rattle.tier_base.specs.declared.code.Code.TheVariants as code
 use Rattle.table_state.specs.declared.history.Entry.{Entry}
 use Rattle.table_state.specs.declared.history.Sealed.{Sealed}
 use Rattle.table_state.specs.declared.operation.Op.{Op}
-use Rattle.table_state.specs.Histories.{entry_of, has_ticket, state_of}
-use Rattle.table_state.specs.Tables.{TableState}
+use Rattle.table_state.specs.Histories.{entry_of, has_ticket}
 use Rattle.outside.specs.Bank.{AppliesOnce, Comes, Grows}
 use Rattle.outside.specs.Others.{AreOthers, Around}
 use Rattle.outside.specs.declared.site.Applied.{Applied}
@@ -21,7 +19,7 @@ use Rattle.cache_tier.specs.CommitSteps.{AppliesNow, CommitsAll, CommitsLater, C
 use Rattle.cache_tier.specs.declared.reply.Reply.{Reply}
 use Rattle.cache_tier.specs.Events.{at_history}
 use Rattle.cache_tier.specs.JournalSteps.{Flushes}
-use Rattle.cache_tier.specs.Journals.{Prepares, next_behind}
+use Rattle.cache_tier.specs.Journals.{Prepares}
 use Rattle.cache_tier.specs.JournalWays.{given}
 use Rattle.cache_tier.specs.PassedSteps.{with_ticket}
 use Rattle.cache_tier.specs.Shown.{no_rows}
@@ -30,15 +28,15 @@ use Rattle.cache_tier.specs.Steps.{tells}
 use Rattle.cache_tier.specs.TierStates.{Session, Tier, is_labelled, session_of}
 use Rattle.cache_tier.specs.Worlds.{BankCall, Becomes, Follows, IsUnshared, StageFollows, Then, ThenStage, Unless, World}
 use Rattle.cache_tier.proofs.HistoryKeeps.{others_go_on}
-use Rattle.recovery.specs.Journalled.{AreAlike, IsJournalled, IsJournalledOn, IsPrepared, IsQuiet, IsToldAtOnce, with_flushed_entry}
+use Rattle.recovery.specs.Journalled.{IsJournalled, IsJournalledOn, IsPrepared, IsQuiet, IsToldAtOnce}
 use Rattle.recovery.proofs.AtOnceLaws.{at_once_kept, prepare_kept}
 use Rattle.recovery.proofs.JournalledLaws.{alike_commit, alike_self, found_applies}
 use Rattle.recovery.proofs.OthersLaws.{on_then, one_journalled_on, others_kept, reads_kept}
-use Rattle.line_laws.specs.Keeping.{KeepsJournalOf, MeetsIfAtOnce, MeetsNone}
+use Rattle.line_laws.specs.Keeping.{KeepsJournalOf, MeetsIfAtOnce, MeetsNone, is_broken}
 use Rattle.line_laws.proofs.CommitStatements.{commits_later_kept}
 use Rattle.line_laws.proofs.FlushLaws.{IsWhole, kept_flushes}
 use Rattle.line_laws.proofs.OtherLaws.{others_pending, others_schema, others_tickets}
-use Rattle.line_laws.proofs.PartWords.{is_broken, quiet_on, same_on, still_quiet, unshared_still}
+use Rattle.line_laws.proofs.PartWords.{quiet_on, same_on, still_quiet, unshared_still}
 
 module _ (s : Session) (w : World) (early : List Sealed) (stands : Stands w) (j : IsJournalled w early) (apart : IsUnshared w) (there : session_of w.tier s.label ≡ Some s) (meets : MeetsNone s w) where
   abbrev x : Sealed

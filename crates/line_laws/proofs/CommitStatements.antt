@@ -1,9 +1,8 @@
 -- COMMIT of asynchronous writes, CREATE CACHE GROUP and DROP CACHE GROUP.
-use Rattle.std.proofs.Common.{◌≡◌, ◌⊎◌, inl, inr, ℕ, zero, suc, ◌+◌, ◌≤◌, Bool, true, false, cond, not, ◌&&◌, ◌||◌, Option, Some, None, List, [], ◌∷◌, ◌++◌, find, slice_get, refl, sym, ap, subst, ◌∙◌, arith, append_assoc}
+use Rattle.std.proofs.Common.{◌≡◌, inl, inr, ℕ, zero, suc, Bool, true, false, not, ◌&&◌, Option, Some, None, List, [], ◌∷◌, find, slice_get, refl, sym, ap, subst, ◌∙◌, append_assoc}
 use Rattle.std.specs.Bool.{MatchBool}
-use Rattle.std.specs.List.{filter, list_all, list_any}
+use Rattle.std.specs.List.{list_all, list_any}
 use Rattle.std.proofs.lemmas.Cmp.{nat_list_eq_equiv}
-use Rattle.std.specs.Cmp.Lexicographic.{bytes_decides}
 use Rattle.row_types.specs.declared.rule.Rule.{Rule}
 use Rattle.table_state.specs.declared.history.Sealed.{Sealed}
 use Rattle.table_state.specs.declared.operation.Op.{Op}
@@ -14,17 +13,16 @@ use Rattle.order_laws.specs.Sides.{are_off}
 use Rattle.order_laws.proofs.StepLaws.{or_none}
 use Rattle.order_laws.proofs.TruthLaws.{same_some}
 use Rattle.cache_tier.specs.Commits.{tables_of}
-use Rattle.cache_tier.specs.CommitSteps.{CommitsLater, CommitsOwn, committed_unsettled, ends, sealed_own}
+use Rattle.cache_tier.specs.CommitSteps.{CommitsLater, committed_unsettled, sealed_own}
 use Rattle.cache_tier.specs.declared.reply.Reply.{Reply}
 use Rattle.cache_tier.specs.declared.reply.Last.TheVariants.{Done}
 use Rattle.cache_tier.specs.DefineSteps.{CreatesGroup, define_answer, with_new_group}
 use Rattle.cache_tier.specs.Definitions.{IsTreeOf, placed_tables, text_of}
 use Rattle.cache_tier.specs.Dropping.{MayDrop}
-use Rattle.cache_tier.specs.DropSteps.{DropsAt, DropsGroup, DropsRest, drop_answer, drop_fault, without_group}
+use Rattle.cache_tier.specs.DropSteps.{DropsGroup, DropsRest, drop_answer, drop_fault, without_group}
 use Rattle.cache_tier.specs.Groups.{Group, covers, is_called, is_writethrough}
-use Rattle.cache_tier.specs.JournalSteps.{Flushes, FlushesSome, Notes, NotesKept, Records, journal_fault}
-use Rattle.cache_tier.specs.Journals.{Commits, Defines, Drops, Journal, JournalEntry, with_noted}
-use Rattle.cache_tier.specs.JournalWays.{given}
+use Rattle.cache_tier.specs.JournalSteps.{Flushes, FlushesSome, NotesKept, Records, journal_fault}
+use Rattle.cache_tier.specs.Journals.{Commits, Defines, Drops}
 use Rattle.cache_tier.specs.Locks.{locked_by, writes_on}
 use Rattle.cache_tier.specs.Reading.{Answers}
 use Rattle.cache_tier.specs.Rounds.{Round}
@@ -37,16 +35,15 @@ use Rattle.cache_tier.proofs.GroupTables.{in_tree}
 use Rattle.cache_tier.proofs.SessionLists.{none_passes}
 use Rattle.cache_tier.proofs.UnloadStatements.{map_nothing}
 use Rattle.tier_base.specs.declared.code.Code.TheVariants as code
-use Rattle.recovery.specs.Journalled.{IsFlushedWith, IsJournalled, IsJournalledOn, IsQuiet, with_commit_noted, with_flushed_entry}
-use Rattle.recovery.specs.Recalling.{group_of}
+use Rattle.recovery.specs.Journalled.{IsJournalled, IsJournalledOn, IsQuiet, with_commit_noted, with_flushed_entry}
 use Rattle.recovery.proofs.CatalogLaws.{define_kept}
 use Rattle.recovery.proofs.DroppedLaws.{drop_kept}
-use Rattle.recovery.proofs.JournalledLaws.{alike_self, commits_kept, flushes_kept}
+use Rattle.recovery.proofs.JournalledLaws.{commits_kept, flushes_kept}
 use Rattle.recovery.proofs.NewestLaws.{NamesApart}
 use Rattle.recovery.proofs.OthersLaws.{on_then, one_journalled_on}
-use Rattle.line_laws.specs.Keeping.{Anything, HasNoWrites, KeepsJournalOf, KeepsJournalWhere, KeepsSettledJournalOf, MayCreate, RenewsSettled}
-use Rattle.line_laws.proofs.FlushLaws.{HasFlushed, IsWhole, kept_flushes}
-use Rattle.line_laws.proofs.PartWords.{is_broken, quiet_on, same_on, stays_on, still_quiet}
+use Rattle.line_laws.specs.Keeping.{Anything, HasNoWrites, KeepsJournalOf, KeepsJournalWhere, KeepsSettledJournalOf, MayCreate, RenewsSettled, is_broken}
+use Rattle.line_laws.proofs.FlushLaws.{IsWhole, kept_flushes}
+use Rattle.line_laws.proofs.PartWords.{same_on, still_quiet}
 use Rattle.line_laws.proofs.PlaceLaws.{none_at}
 use Rattle.line_laws.proofs.RoundLaws.{Rounded, round_goes}
 use Rattle.line_laws.proofs.TellingLaws.{names_apart, none, refused, some_flushes, whole}

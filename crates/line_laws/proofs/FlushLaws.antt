@@ -11,7 +11,7 @@ use Rattle.cache_tier.specs.Worlds.{Passes, World}
 use Rattle.recovery.specs.Journalled.{IsJournalled, IsJournalledOn}
 use Rattle.recovery.proofs.JournalledLaws.{flushes_kept}
 use Rattle.recovery.proofs.OthersLaws.{one_journalled_on}
-use Rattle.line_laws.proofs.PartWords.{is_broken}
+use Rattle.line_laws.specs.Keeping.{is_broken}
 
 -- the tail, and these entries behind it, are flushed
 pub record HasFlushed (entries : List JournalEntry) (old new : Journal) : Type 0 where

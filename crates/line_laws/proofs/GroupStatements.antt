@@ -1,23 +1,22 @@
 -- Statements on one group: ALTER, UNLOAD; and the refresh of a set.
-use Rattle.std.proofs.Common.{◌≡◌, ℕ, ◌+◌, ◌≤◌, Bool, true, false, cond, ◌&&◌, ◌||◌, not, Option, Some, None, List, [], ◌∷◌, slice_get, refl, sym, ap, subst, ◌∙◌, arith}
+use Rattle.std.proofs.Common.{◌≡◌, ℕ, Bool, true, false, cond, ◌&&◌, Some, None, List, slice_get, refl, sym, ap, ◌∙◌}
 use Rattle.row_types.specs.declared.value.Value.{Value}
 use Rattle.sql_subset.specs.declared.stmt.Alter.{Alter}
 use Rattle.sql_subset.specs.declared.stmt.OfGroup.{OfGroup}
 use Rattle.sql_subset.specs.declared.stmt.RefreshState.{RefreshState}
 use Rattle.sql_subset.specs.declared.stmt.RefreshState.TheVariants.{On, Off, Paused}
-use Rattle.cache_tier.specs.AlterSteps.{Alters, AltersTo, SetsStateAlone, SetsStateRefreshed, altered_entries, joins_something, refreshed_state, same_state, state_answer, with_state}
+use Rattle.cache_tier.specs.AlterSteps.{Alters, AltersTo, SetsStateAlone, SetsStateRefreshed, altered_entries, joins_something, refreshed_state, same_state, state_answer}
 use Rattle.cache_tier.specs.Conditions.{asks_all}
 use Rattle.cache_tier.specs.Groups.{Group, is_explicit, is_read_only, is_writethrough}
 use Rattle.cache_tier.specs.JournalSteps.{FlushesSome}
 use Rattle.cache_tier.specs.Reading.{Answers, as_it_was, backing_at}
 use Rattle.cache_tier.specs.Sets.{Choice, RefreshesIfShown, RefreshesSet, alone, changed, has_something, of_set, refreshed, set_size, shows_something}
 use Rattle.cache_tier.specs.Steps.{RefreshesCalled}
-use Rattle.cache_tier.specs.Targets.{Target, has_flag, with_flag}
+use Rattle.cache_tier.specs.Targets.{Target, has_flag}
 use Rattle.cache_tier.specs.TierStates.{Session, Tier, refresh_tried}
 use Rattle.cache_tier.specs.UnloadSteps.{Unloads, gone_keys, unload_answer, unload_entries, unload_fault, unloaded}
 use Rattle.cache_tier.specs.Worlds.{Becomes, Then, Unless, World, only}
 use Rattle.recovery.specs.Journalled.{IsAlike, IsQuiet}
-use Rattle.recovery.proofs.JournalledLaws.{alike_kind}
 use Rattle.recovery.proofs.NewestLaws.{NamesApart}
 use Rattle.line_laws.specs.Keeping.{KeepsJournal}
 use Rattle.line_laws.proofs.PartWords.{Any, GoesPart, GoesStage, becomes_goes, match_goes, only_where_goes, quiet_goes, reads_first_goes, reads_goes, still_quiet, then_goes, unless_goes}

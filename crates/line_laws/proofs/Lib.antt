@@ -12,3 +12,4 @@ pub mod CommitStatements
 pub mod QueryStatements
 pub mod OtherLaws
 pub mod AtOnceStatements
+pub mod DueStatements

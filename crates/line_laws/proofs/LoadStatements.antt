@@ -1,5 +1,5 @@
 -- ttDrain, LOAD and REFRESH.
-use Rattle.std.proofs.Common.{◌≡◌, ◌⊎◌, inl, inr, ℕ, ◌+◌, ◌≤◌, Bool, true, false, cond, ◌&&◌, ◌||◌, not, Option, Some, None, List, [], ◌∷◌, length, slice_get, refl, sym, ap, subst, ◌∙◌, arith}
+use Rattle.std.proofs.Common.{◌≡◌, ℕ, Bool, true, false, cond, Option, List, length, slice_get, refl, sym, ap, subst, ◌∙◌}
 use Rattle.std.specs.Bool.{MatchBool}
 use Rattle.std.specs.FinMap.{keys, len}
 use Rattle.row_types.specs.declared.value.Value.{Value}
@@ -8,7 +8,6 @@ use Rattle.table_state.specs.Tables.{TableState}
 use Rattle.table_state.specs.declared.history.Sealed.{Sealed}
 use Rattle.sql_subset.specs.declared.stmt.Load.{Load}
 use Rattle.cache_tier.specs.Conditions.{overflow_fault}
-use Rattle.cache_tier.specs.declared.reply.Reply.{Reply}
 use Rattle.cache_tier.specs.declared.reply.Last.TheVariants.{Done}
 use Rattle.cache_tier.specs.DynamicLoads.{state_loaded}
 use Rattle.cache_tier.specs.Groups.{Group, is_explicit, is_read_only, is_table_of, is_writethrough, with_keys}
@@ -20,11 +19,11 @@ use Rattle.cache_tier.specs.Sets.{alone, changed, loaded_state, loaded_with, ref
 use Rattle.cache_tier.specs.StandingBetween.{Stands}
 use Rattle.cache_tier.specs.Targets.{Settles, Target, backing_roots, has_flag, held_roots, load_entries, loaded_tier, matching, matching_past, view_roots, whole_answer, with_flag}
 use Rattle.cache_tier.specs.TierStates.{Tier}
-use Rattle.cache_tier.specs.Worlds.{Answer, IsUnshared, OnlyWhere, Part, Passes, Then, Unless, World, only}
-use Rattle.recovery.specs.Journalled.{IsAlike, IsJournalled, IsJournalledOn}
+use Rattle.cache_tier.specs.Worlds.{Answer, IsUnshared, OnlyWhere, Part, Unless, World, only}
+use Rattle.recovery.specs.Journalled.{IsAlike, IsJournalledOn}
 use Rattle.recovery.proofs.JournalledLaws.{alike_kind}
-use Rattle.line_laws.specs.Keeping.{KeepsSettledJournal, RenewsSettled}
-use Rattle.line_laws.proofs.PartWords.{Any, Goes, GoesPart, SettledPart, SettledStage, is_broken, match_goes, quiet_goes, reads_goes, same_goes, still_quiet, then_settled, unless_goes}
+use Rattle.line_laws.specs.Keeping.{KeepsSettledJournal}
+use Rattle.line_laws.proofs.PartWords.{Any, Goes, GoesPart, SettledPart, SettledStage, match_goes, quiet_goes, reads_goes, same_goes, still_quiet, then_settled, unless_goes}
 use Rattle.line_laws.proofs.QuietTiers.{alike_one, alike_where, refreshed_quiet, set_tried_groups, set_tried_quiet}
 use Rattle.line_laws.proofs.RoundLaws.{Rounded, round_goes}
 use Rattle.line_laws.proofs.TellingLaws.{IsAt, IsLoadedAs, Told, at_of_tier, load_told, settles_goes}

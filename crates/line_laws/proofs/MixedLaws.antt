@@ -1,6 +1,6 @@
 -- The transactions of a round come as events of it.
-use Rattle.std.proofs.Common.{◌≡◌, ℕ, zero, suc, ◌+◌, ◌<◌, ◌≤◌, Bool, true, false, cond, not, ◌&&◌, Option, Some, None, is_some, List, [], ◌∷◌, ◌++◌, length, map, filter, slice_get, refl, sym, ap, subst, ◌∙◌, arith, append_assoc, append-nil}
-use Rattle.std.specs.List.{Contains, list_all, slice_index_or}
+use Rattle.std.proofs.Common.{◌≡◌, ℕ, zero, suc, ◌+◌, ◌<◌, ◌≤◌, Bool, true, false, cond, not, ◌&&◌, is_some, List, [], ◌∷◌, ◌++◌, map, filter, slice_get, refl, sym, ap, subst, ◌∙◌, arith, append_assoc, append-nil}
+use Rattle.std.specs.List.{Contains, list_all}
 use Rattle.std.proofs.lemmas.List.Elements.{filter-append}
 use Rattle.tier_base.specs.declared.number.TableId.{TableId}
 use Rattle.tier_base.specs.declared.number.Ticket.{Ticket}
@@ -13,8 +13,6 @@ use Rattle.table_state.specs.declared.operation.Op.{Op}
 use Rattle.table_state.specs.Footprints.{conflict}
 use Rattle.table_state.specs.Histories.{entry_of, has_ticket, state_of}
 use Rattle.table_state.specs.Operations.{table_of}
-use Rattle.table_state.specs.Tables.{TableState}
-use Rattle.outside.specs.Others.{AreOthers, is_shared}
 use Rattle.order_laws.specs.Commits.{FollowsLower, IsInLog, KeepsOrder, NoneConflicts, Once, RiseBetween, conflicting, is_op_on, is_pending, pending}
 use Rattle.order_laws.specs.Events.{Came, Event, Follows, IsNext, Left, Others}
 use Rattle.order_laws.specs.Pipelines.{FlowsWithLive, with_history}
@@ -26,7 +24,6 @@ use Rattle.order_laws.proofs.RoundLaws.{in_log, once_before}
 use Rattle.order_laws.proofs.TableLaws.{footprint_later}
 use Rattle.order_laws.proofs.TruthLaws.{both_true}
 use Rattle.recovery_laws.proofs.FoldLaws.{rise_lower}
-use Rattle.cache_tier.specs.Groups.{Group, is_table_of, is_writethrough}
 use Rattle.cache_tier.specs.Rounds.{Comes, Mixes}
 use Rattle.cache_tier.specs.StandingBetween.{Each, Stands, live_groups_of, progress_in}
 use Rattle.cache_tier.specs.Worlds.{IsUnshared, World}

@@ -1,5 +1,5 @@
 -- What transactions of others leave as it was.
-use Rattle.std.proofs.Common.{◌≡◌, ℕ, Some, List, [], ◌∷◌, ◌++◌, refl, sym, ap, subst, ◌∙◌, append_assoc, append-nil}
+use Rattle.std.proofs.Common.{◌≡◌, ℕ, Some, List, [], ◌∷◌, ◌++◌, sym, ap, ◌∙◌, append_assoc, append-nil}
 use Rattle.tier_base.specs.declared.number.TableId.{TableId}
 use Rattle.table_state.specs.declared.history.Entry.{Entry}
 use Rattle.table_state.specs.declared.history.Entry.TheVariants.{Definition, Foreign, Own}

@@ -16,7 +16,7 @@ use Rattle.cache_tier.specs.Worlds.{Answer, BankCall, Becomes, Follows, IsUnshar
 use Rattle.recovery.specs.Journalled.{AreAlike, IsJournalled, IsJournalledOn, IsQuiet}
 use Rattle.recovery.proofs.JournalledLaws.{alike_self, alike_table, quiet_kept}
 use Rattle.recovery.proofs.OthersLaws.{on_then, reads_kept}
-use Rattle.line_laws.specs.Keeping.{RenewsSettled}
+use Rattle.line_laws.specs.Keeping.{RenewsSettled, is_broken}
 
 -- ---- what goes on
 
@@ -25,11 +25,6 @@ pub record Goes (Q : World → Type 0) (w' : World) (early : List Sealed) : Type
   pub on : IsJournalledOn w' early
   pub unshared : IsUnshared w'
   pub holds : Q w'
-
--- a stage ends the run: a call of the journal's disk failed
-abbrev pub is_broken : Option Reply → Bool
-is_broken None = false
-is_broken (Some reply) = tells code.JournalFault reply.last
 
 abbrev pub GoesPart : (World → Type 0) → Part → Type 0
 GoesPart P part = (w w' : World) (early : List Sealed) (reply : Reply) → IsJournalled w early → IsUnshared w → P w → part w w' reply → tells code.JournalFault reply.last ≡ false → IsJournalledOn w' early

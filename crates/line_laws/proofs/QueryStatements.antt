@@ -4,7 +4,6 @@ use Rattle.std.specs.Bool.{MatchBool}
 use Rattle.row_types.specs.declared.value.Value.{Value}
 use Rattle.row_types.specs.declared.rule.Rule.{Rule}
 use Rattle.tier_base.specs.declared.number.TableId.{TableId}
-use Rattle.table_state.specs.declared.history.Sealed.{Sealed}
 use Rattle.table_state.specs.declared.operation.Op.{Op}
 use Rattle.table_state.specs.declared.operation.Op.TheVariants.{Insert, Update, Delete}
 use Rattle.table_state.specs.Tables.{TableState}
@@ -22,24 +21,24 @@ use Rattle.cache_tier.specs.Groups.{Group, covers, is_read_only, is_table_of, is
 use Rattle.cache_tier.specs.InsertSteps.{Finds, Inserts, insert_answer, insert_fault, taken}
 use Rattle.cache_tier.specs.JournalSteps.{FlushesSome}
 use Rattle.cache_tier.specs.OwnWrites.{written}
-use Rattle.cache_tier.specs.Reading.{Reads, ReadsFirst, as_it_was, backing_at}
+use Rattle.cache_tier.specs.Reading.{ReadsFirst, as_it_was, backing_at}
 use Rattle.cache_tier.specs.Rounds.{RoundIfUnsettled}
 use Rattle.cache_tier.specs.Routes.{Cached, PassedOn, Route}
 use Rattle.cache_tier.specs.SelectSteps.{Selects, SelectsBy, SelectsOn, SelectsPassed, SelectsPlaced, SelectsShown, query_answer}
 use Rattle.cache_tier.specs.Sets.{Choice, alone, at_position, changed, changed_from, loaded_state, of_set, refreshed, set_tried}
 use Rattle.cache_tier.specs.Shown.{over, seen_by}
 use Rattle.cache_tier.specs.StandingBetween.{Stands}
-use Rattle.cache_tier.specs.TierStates.{Session, Tier, with_session}
+use Rattle.cache_tier.specs.TierStates.{Session, Tier}
 use Rattle.cache_tier.specs.Wants.{Want}
 use Rattle.cache_tier.specs.Worlds.{Answer, Becomes, IsUnshared, Part, Passes, Quiet, Stage, StageFollows, Then, ThenStage, Tries, Unless, World}
 use Rattle.cache_tier.specs.WriteSteps.{WritesBy, WritesEffects, WritesOps, WritesShown}
 use Rattle.cache_tier.specs.Journals.{Commits, Defines, Drops, JournalEntry, Marks, Numbers, Prepares, SetsLoaded, SetsState}
-use Rattle.recovery.specs.Journalled.{AreAlike, IsAlike, IsJournalled, IsJournalledOn, IsQuiet}
-use Rattle.recovery.proofs.JournalledLaws.{alike_kind, alike_self}
+use Rattle.recovery.specs.Journalled.{IsAlike, IsJournalledOn, IsQuiet}
+use Rattle.recovery.proofs.JournalledLaws.{alike_self}
 use Rattle.recovery.proofs.OthersLaws.{on_then}
-use Rattle.line_laws.specs.Keeping.{KeepsSettledJournal, RenewsSettled}
+use Rattle.line_laws.specs.Keeping.{KeepsSettledJournal, RenewsSettled, is_broken}
 use Rattle.line_laws.proofs.LoadStatements.{StandsAt, round_if_at}
-use Rattle.line_laws.proofs.PartWords.{Any, Goes, GoesPart, GoesStage, SettledPart, SettledStage, becomes_goes, call_goes, is_broken, quiet_on, reads_first_goes, reads_goes, refuses_goes, same_goes, same_on, still_quiet, then_settled, tries_goes}
+use Rattle.line_laws.proofs.PartWords.{Any, Goes, GoesPart, GoesStage, SettledPart, SettledStage, becomes_goes, call_goes, quiet_on, reads_first_goes, reads_goes, refuses_goes, same_goes, same_on, still_quiet, then_settled, tries_goes}
 use Rattle.line_laws.proofs.QuietTiers.{alike_changed, quiet_groups, quiet_then, refreshed_quiet, set_tried_groups, set_tried_quiet, use_quiet, writes_quiet}
 use Rattle.line_laws.proofs.TellingLaws.{IsAt, Told, at_of_tier, becomes_told, on_told}
 

@@ -1,30 +1,29 @@
 -- A round, with the flush before it and the rotation behind it.
-use Rattle.std.proofs.Common.{◌≡◌, ◌⊎◌, inl, inr, ℕ, ◌+◌, ◌≤◌, Bool, true, false, cond, not, Option, Some, None, List, [], ◌∷◌, ◌++◌, filter, length, refl, sym, ap, subst, ◌∙◌, arith}
+use Rattle.std.proofs.Common.{◌≡◌, ◌⊎◌, inl, inr, ℕ, ◌+◌, Bool, true, false, cond, not, Option, Some, None, List, [], ◌∷◌, filter, refl, sym, ap, subst, ◌∙◌, arith}
 use Rattle.table_state.specs.declared.history.Entry.{Entry}
 use Rattle.table_state.specs.declared.history.Sealed.{Sealed}
 use Rattle.table_state.specs.Histories.{has_ticket}
-use Rattle.order_laws.specs.Commits.{is_pending, pending}
+use Rattle.order_laws.specs.Commits.{pending}
 use Rattle.order_laws.specs.Events.{Event, Follows}
 use Rattle.order_laws.specs.Standing.{live_tables}
 use Rattle.cache_tier.specs.declared.reply.Reply.{Reply}
 use Rattle.cache_tier.specs.Events.{at_history, settled_to}
 use Rattle.cache_tier.specs.JournalSteps.{Flushes}
-use Rattle.cache_tier.specs.Reading.{Answers}
 use Rattle.cache_tier.specs.Rotations.{Broken, Kept, Renewed, Rotates, Rotation, RotatesIfLong, is_long, journal_after, rotation_stop}
-use Rattle.cache_tier.specs.Rounds.{AllLeft, Applies, AppliesAndRotates, Differing, Drained, Drains, Failing, Round, RoundEnd, RoundIfUnsettled, Wanting, both_stop, is_unsettled, round_stop}
+use Rattle.cache_tier.specs.Rounds.{AllLeft, Applies, AppliesAndRotates, Differing, Drained, Failing, Round, RoundEnd, Wanting, both_stop, round_stop}
 use Rattle.cache_tier.specs.StandingBetween.{Stands, live_groups_of}
 use Rattle.cache_tier.specs.TierStates.{Tier}
-use Rattle.cache_tier.specs.Worlds.{IsUnshared, OnlyWhere, Passes, StageFollows, World, only}
+use Rattle.cache_tier.specs.Worlds.{IsUnshared, OnlyWhere, StageFollows, World}
 use Rattle.cache_tier.proofs.HistoryKeeps.{round_goes_on}
 use Rattle.recovery.specs.Journalled.{IsJournalled, IsJournalledOn, IsQuiet}
 use Rattle.recovery.proofs.JournalledLaws.{alike_self, quiet_kept}
-use Rattle.recovery.proofs.OthersLaws.{on_then, one_journalled, one_journalled_on}
+use Rattle.recovery.proofs.OthersLaws.{on_then, one_journalled_on}
 use Rattle.recovery.proofs.RotatedLaws.{rotation_kept}
 use Rattle.recovery.proofs.RoundedLaws.{round_kept}
-use Rattle.line_laws.specs.Keeping.{KeepsSettledJournal, RenewsSettled}
+use Rattle.line_laws.specs.Keeping.{RenewsSettled, is_broken}
 use Rattle.line_laws.proofs.FlushLaws.{IsWhole, kept_flushes, tail_flushed}
 use Rattle.line_laws.proofs.MixedLaws.{round_events}
-use Rattle.line_laws.proofs.PartWords.{Any, Goes, GoesPart, SettledStage, is_broken, quiet_goes, stays_on, still_quiet, then_settled}
+use Rattle.line_laws.proofs.PartWords.{stays_on}
 
 -- ---- what a tier stands on is its history and itself
 

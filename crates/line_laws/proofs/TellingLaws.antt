@@ -25,8 +25,9 @@ use Rattle.recovery.proofs.DroppedLaws.{alike_apart}
 use Rattle.recovery.proofs.JournalledLaws.{alike_kind, folded, flushes_kept, loaded_kept, quiet_kept, state_kept, turned}
 use Rattle.recovery.proofs.NewestLaws.{NamesApart}
 use Rattle.recovery.proofs.OthersLaws.{on_then, one_journalled_on}
+use Rattle.line_laws.specs.Keeping.{is_broken}
 use Rattle.line_laws.proofs.FlushLaws.{HasFlushed, IsWhole, kept_flushes}
-use Rattle.line_laws.proofs.PartWords.{Any, Goes, GoesPart, GoesStage, is_broken, quiet_on, same_goes, same_on}
+use Rattle.line_laws.proofs.PartWords.{Any, Goes, GoesPart, GoesStage, quiet_on, same_goes, same_on}
 use Rattle.line_laws.proofs.PlaceLaws.{alike_at, same_changed, turned_at, turned_twice}
 
 -- the tier is what these entries tell, but for what no entry tells

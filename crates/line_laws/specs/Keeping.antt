@@ -1,17 +1,21 @@
 -- What a part of a line keeps of a journal. (This project's rule.)
 
-use Rattle.std.specs.Prelude.{◌≡◌, ◌⊎◌, List, [], false, true, Some, None}
+use Rattle.std.specs.Prelude.{◌≡◌, ◌⊎◌, Bool, Option, List, [], false, true, Some, None}
 use Rattle.table_state.specs.declared.history.Sealed.{Sealed}
 use Rattle.tier_base.specs.declared.code.Code.TheVariants as code
+use Rattle.table_defs.specs.declared.definition.TableDef.{TableDef}
 use Rattle.table_state.specs.Histories.{state_of}
 use Rattle.table_state.specs.Tables.{TableState}
 use Rattle.order_laws.specs.Commits.{NoneConflicts, pending}
 use Rattle.instances.specs.declared.tree.Tree.{Tree}
 use Rattle.sql_subset.specs.declared.stmt.CreateGroup.{CreateGroup}
+use Rattle.cache_tier.specs.declared.reply.Note.{Note}
 use Rattle.cache_tier.specs.declared.reply.Reply.{Reply}
 use Rattle.cache_tier.specs.CommitSteps.{is_synchronous_own, sealed_own}
+use Rattle.cache_tier.specs.ConsoleSteps.{refers_to_writethrough}
 use Rattle.cache_tier.specs.Defining.{IsNewGroup}
 use Rattle.cache_tier.specs.Definitions.{IsTreeOf, definition_names, placed_tables}
+use Rattle.cache_tier.specs.DueWork.{Item}
 use Rattle.cache_tier.specs.Groups.{definitions_of}
 use Rattle.cache_tier.specs.StandingBetween.{Stands}
 use Rattle.cache_tier.specs.Steps.{tells}
@@ -27,6 +31,17 @@ KeepsJournal part =
     (w w' : World) (early : List Sealed) (reply : Reply) → Stands w → IsJournalled w early → IsUnshared w
     → part w w' reply → tells code.JournalFault reply.last ≡ false → IsJournalledOn w' early
 
+-- a stage ends the run: a call of the journal's disk failed
+abbrev pub is_broken : Option Reply → Bool
+is_broken None = false
+is_broken (Some reply) = tells code.JournalFault reply.last
+
+-- the same of an item of due work
+abbrev pub KeepsJournalDue : Item → Type 0
+KeepsJournalDue item =
+    (w w' : World) (early : List Sealed) (notes : List Note) (stop : Option Reply) → Stands w → IsJournalled w early
+    → IsUnshared w → item w w' notes stop → is_broken stop ≡ false → IsJournalledOn w' early
+
 -- no slot was begun anew, or nothing is unsettled
 abbrev pub RenewsSettled : World → World → Type 0
 RenewsSettled w w' = (w'.journal.generation ≡ w.journal.generation) ⊎ (w'.tier.unsettled ≡ [])
@@ -36,6 +51,11 @@ abbrev pub KeepsSettledJournal : Part → Type 0
 KeepsSettledJournal part =
     (w w' : World) (early : List Sealed) (reply : Reply) → Stands w → IsJournalled w early → IsUnshared w
     → part w w' reply → RenewsSettled w w' → tells code.JournalFault reply.last ≡ false → IsJournalledOn w' early
+
+abbrev pub KeepsSettledJournalDue : Item → Type 0
+KeepsSettledJournalDue item =
+    (w w' : World) (early : List Sealed) (notes : List Note) (stop : Option Reply) → Stands w → IsJournalled w early
+    → IsUnshared w → item w w' notes stop → RenewsSettled w w' → is_broken stop ≡ false → IsJournalledOn w' early
 
 -- the same where this holds of the world
 abbrev pub KeepsJournalWhere : (World → Type 0) → Part → Type 0
@@ -64,6 +84,10 @@ KeepsSettledJournalOf s P part =
 pub record MayCreate (d : CreateGroup) (w : World) : Type 0 where
   pub names : definition_names w.tier.schema (definitions_of w.tier.groups) d ≡ None
   pub new : (tree : Tree) → IsTreeOf (placed_tables w.tier.schema d) tree → IsNewGroup w (group_of w.tier d tree)
+
+-- no foreign key of the table refers to one of a live writethrough group
+abbrev pub RefersToNone : TableDef → World → Type 0
+RefersToNone def w = refers_to_writethrough w.tier def.foreign_key ≡ false
 
 -- the session has no uncommitted writes
 abbrev pub HasNoWrites : Session → World → Type 0

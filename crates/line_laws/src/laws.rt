@@ -2,6 +2,7 @@
 
 ghost use Rattle.std.specs.Prelude.{List, ℕ};
 ghost use Rattle.std.specs.Prelude.{Ok};
+ghost use Rattle.table_defs.specs.declared.definition.TableDef.{TableDef};
 ghost use Rattle.resolution.specs.Writes.{PlacedChange};
 ghost use Rattle.sql_query.specs.declared.query.Query.{Query};
 ghost use Rattle.sql_subset.specs.declared.request.OpenOptions.{OpenOptions};
@@ -11,9 +12,10 @@ ghost use Rattle.sql_subset.specs.declared.stmt.Load.{Load};
 ghost use Rattle.sql_subset.specs.declared.stmt.OfGroup.{OfGroup};
 ghost use Rattle.cache_tier.specs.AlterSteps.{Alters};
 ghost use Rattle.cache_tier.specs.CommitSteps.{CommitsAll, CommitsLater, CommitsNow, RollsBack};
-ghost use Rattle.cache_tier.specs.ConsoleSteps.{clock_answer};
+ghost use Rattle.cache_tier.specs.ConsoleSteps.{Creates, clock_answer};
 ghost use Rattle.cache_tier.specs.DefineSteps.{CreatesGroup};
 ghost use Rattle.cache_tier.specs.DropSteps.{DropsGroup};
+ghost use Rattle.cache_tier.specs.DueWork.{DueAging, DueDoubt, DueRound, DueSets};
 ghost use Rattle.cache_tier.specs.LoadSteps.{Loads};
 ghost use Rattle.cache_tier.specs.RefreshSteps.{Refreshes};
 ghost use Rattle.cache_tier.specs.Rounds.{Drains};
@@ -25,7 +27,7 @@ ghost use Rattle.cache_tier.specs.TierStates.{Session};
 ghost use Rattle.cache_tier.specs.UnloadSteps.{Unloads};
 ghost use Rattle.cache_tier.specs.Worlds.{Quiet};
 ghost use Rattle.cache_tier.specs.WriteSteps.{WritesBy};
-ghost use Rattle.line_laws.specs.Keeping.{Anything, HasNoWrites, KeepsJournal, KeepsJournalOf, KeepsJournalWhere, KeepsSettledJournal, KeepsSettledJournalOf, MayCreate, MeetsIfAtOnce, MeetsNone};
+ghost use Rattle.line_laws.specs.Keeping.{Anything, HasNoWrites, KeepsJournal, KeepsJournalDue, KeepsJournalOf, KeepsJournalWhere, KeepsSettledJournal, KeepsSettledJournalDue, KeepsSettledJournalOf, MayCreate, MeetsIfAtOnce, MeetsNone, RefersToNone};
 
 /// The journal stays the tier's where a line changes nothing that an entry tells: OPEN (`opens`), CLOSE (`closes`),
 /// ttOptSetFlag (`sets_level`), ROLLBACK (`rolls_back`), the clock (`clock`).
@@ -73,4 +75,19 @@ pub fn commit_line_law()
 pub fn query_line_law()
     ensures selects { (s : Session) (q : Query) → KeepsSettledJournal (Selects s q) }
     ensures writes { (s : Session) (placed : PlacedChange) → KeepsSettledJournal (WritesBy (Ok Cached) s placed) }
+{}
+
+/// The journal stays the tier's behind CREATE TABLE at the console, whose foreign key refers to no table of a live
+/// writethrough group, be it done or not.
+pub fn table_line_law()
+    ensures { (def : TableDef) → KeepsJournalWhere (RefersToNone def) (Creates def) }
+{}
+
+/// The journal stays the tier's behind each item of due work: the doubt, where the bank tells whether its ticket stands
+/// (`doubt`), the round (`round`), the sets (`sets`), aging (`aging`).
+pub fn due_line_law()
+    ensures doubt { KeepsJournalDue DueDoubt }
+    ensures round { KeepsSettledJournalDue DueRound }
+    ensures sets { KeepsJournalDue DueSets }
+    ensures aging { KeepsJournalDue DueAging }
 {}
