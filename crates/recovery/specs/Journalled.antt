@@ -11,7 +11,7 @@ use Rattle.recovery_laws.specs.Crashes.{IsLeft, Stands, World as Seen}
 use Rattle.recovery_laws.specs.Notes.{log_in}
 use Rattle.cache_tier.specs.CommitSteps.{committed_unsettled, sealed_own}
 use Rattle.cache_tier.specs.Groups.{Group, is_read_only}
-use Rattle.cache_tier.specs.Journals.{Commits, Journal, JournalEntry, Prepares, next_behind, with_noted}
+use Rattle.cache_tier.specs.Journals.{Commits, Journal, JournalEntry, Numbers, Prepares, next_behind, with_noted}
 use Rattle.cache_tier.specs.JournalWays.{given}
 use Rattle.cache_tier.specs.Rotations.{slot_entries}
 use Rattle.cache_tier.specs.TierStates.{Session, Settings, Tier, opened}
@@ -96,10 +96,10 @@ pub record IsQuiet (old new : Tier) : Type 0 where
 abbrev pub with_flushed_entry : Tier → Journal → World → World
 with_flushed_entry t j w = record w { tier = t; journal = j }
 
--- A synchronous transaction may come now: its record is the last that is flushed, its ticket is new and above all before,
+-- A transaction may come now at once: its record is the last that is flushed, its ticket is new and above all before,
 -- it applies to the virtual state, and nothing pending conflicts with it.
-pub record IsPrepared (w : World) (s : Sealed) (front : List JournalEntry) : Type 0 where
-  pub flushed : w.journal.flushed ≡ front ++ Prepares s ∷ []
+pub record IsAwaited (record_is : JournalEntry) (w : World) (s : Sealed) (front : List JournalEntry) : Type 0 where
+  pub flushed : w.journal.flushed ≡ front ++ record_is ∷ []
   pub tail : w.journal.tail ≡ []
   pub below : next_behind front ≤ s.ticket.0
   pub fresh : has_ticket s.ticket.0 w.history ≡ false
@@ -108,6 +108,13 @@ pub record IsPrepared (w : World) (s : Sealed) (front : List JournalEntry) : Typ
   pub virtual_is : virtual_state w.history w.tier.log ≡ Some virtual
   pub left : TableState
   pub leads : applied_all s.ops virtual ≡ Some left
+
+-- a synchronous one, and a write that is passed on
+abbrev pub IsPrepared : World → Sealed → List JournalEntry → Type 0
+IsPrepared w s front = IsAwaited (Prepares s) w s front
+
+abbrev pub IsNumbered : World → Sealed → List JournalEntry → Type 0
+IsNumbered w s front = IsAwaited (Numbers s.ticket.0) w s front
 
 -- the tier has been told that it came, or hasn't yet, as where its ticket is in doubt; else no entry tells what changed
 pub record IsToldAtOnce (s : Sealed) (old new : Tier) : Type 0 where

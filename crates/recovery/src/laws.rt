@@ -16,7 +16,7 @@ ghost use Rattle.cache_tier.specs.Definitions.{IsTreeOf, definition_names, place
 ghost use Rattle.cache_tier.specs.Dropping.{MayDrop};
 ghost use Rattle.cache_tier.specs.DropSteps.{without_group};
 ghost use Rattle.cache_tier.specs.Groups.{Group, definitions_of, is_called};
-ghost use Rattle.cache_tier.specs.Journals.{Defines, Drops, Journal, JournalEntry, Prepares, SetsLoaded, SetsState};
+ghost use Rattle.cache_tier.specs.Journals.{Defines, Drops, Journal, JournalEntry, Numbers, Prepares, SetsLoaded, SetsState};
 ghost use Rattle.cache_tier.specs.CommitSteps.{sealed_own};
 ghost use Rattle.cache_tier.specs.PassedSteps.{with_ticket};
 ghost use Rattle.table_state.specs.Histories.{entry_of};
@@ -30,7 +30,7 @@ ghost use Rattle.cache_tier.specs.TierStates.{Session, Settings, Tier, opened, s
 ghost use Rattle.cache_tier.specs.Worlds.{BankCall, IsUnshared, World};
 ghost use Rattle.outside.specs.Bank.{Grows};
 ghost use Rattle.outside.specs.Others.{AreOthers};
-ghost use Rattle.recovery.specs.Journalled.{CrashLeaves, IsFlushed, IsFlushedWith, IsJournalled, IsJournalledOn, IsPrepared, IsQuiet, IsRenewed, IsToldAtOnce, with_commit_noted, with_flushed_entry};
+ghost use Rattle.recovery.specs.Journalled.{CrashLeaves, IsFlushed, IsFlushedWith, IsJournalled, IsJournalledOn, IsNumbered, IsPrepared, IsQuiet, IsRenewed, IsToldAtOnce, with_commit_noted, with_flushed_entry};
 ghost use Rattle.recovery.specs.Recalling.{AreMatched, RecallsAll, group_of, recalled, with_loaded};
 
 /// Where a journal's entries and a history belong together, the tier that the entries leave stands over the history,
@@ -49,7 +49,8 @@ pub fn recalled_law()
 /// The journal stays the tier's where a session's transaction commits and its record is noted (`commits`), where the
 /// tail is flushed (`flushes`), or with a definition, a drop, a STATE or a flag behind it (`definitions`, `drops`, `states`,
 /// `flags`), where a round is done, with the tail flushed before, and transactions of others come (`round`), where a
-/// synchronous transaction's record is flushed (`prepares`) and it comes (`applies`), where transactions of others come
+/// synchronous transaction's record is flushed (`prepares`) and it comes (`applies`), where the number of a write that is
+/// passed on is flushed (`numbers`) and it comes (`passes`), where transactions of others come
 /// that change no table of a live writethrough group, as in a call of the bank that reads (`others`, `reads`), where a
 /// table is defined whose foreign key refers to no table of such a group, whether the tier has been told or not
 /// (`tables`), where a slot is begun anew and nothing is unsettled (`rotates`), and where the tier changes in what no
@@ -84,6 +85,12 @@ pub fn journalled_law()
         → IsJournalledOn (with_flushed_entry t new w) early }
     ensures applies { (w : World) (early : List Sealed) (s : Sealed) (front : List JournalEntry) (t : Tier)
         → IsJournalled w early → IsPrepared w s front → IsToldAtOnce s w.tier t
+        → IsJournalledOn (at_history (w.history ++ entry_of s ∷ []) (record w { tier = t })) early }
+    ensures numbers { (w : World) (early : List Sealed) (t : Tier) (new : Journal) → Stands w → IsJournalled w early
+        → IsFlushedWith (Numbers w.tier.next) w.journal new → IsQuiet (with_ticket w.tier) t
+        → IsJournalledOn (with_flushed_entry t new w) early }
+    ensures passes { (w : World) (early : List Sealed) (s : Sealed) (front : List JournalEntry) (t : Tier)
+        → IsJournalled w early → IsNumbered w s front → IsToldAtOnce s w.tier t
         → IsJournalledOn (at_history (w.history ++ entry_of s ∷ []) (record w { tier = t })) early }
     ensures others { (w : World) (early : List Sealed) (entries : List Entry) (t : Tier) → IsJournalled w early
         → IsUnshared w → AreOthers w.shared w.history entries → IsQuiet w.tier t

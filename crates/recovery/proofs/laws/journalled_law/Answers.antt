@@ -1,4 +1,4 @@
-use Rattle.recovery.proofs.AtOnceLaws.{at_once_kept, prepare_kept}
+use Rattle.recovery.proofs.AtOnceLaws.{at_once_kept, number_kept, passed_kept, prepare_kept}
 use Rattle.recovery.proofs.DroppedLaws.{drop_kept}
 use Rattle.recovery.proofs.CatalogLaws.{define_kept}
 use Rattle.recovery.proofs.JournalledLaws.{commits_kept, flushes_kept, loaded_kept, quiet_kept, state_kept}
@@ -37,6 +37,12 @@ returns-clause-prepares c = prepare_kept
 
 pub returns-clause-applies : goal.returns-clause-applies
 returns-clause-applies c = at_once_kept
+
+pub returns-clause-numbers : goal.returns-clause-numbers
+returns-clause-numbers c = number_kept
+
+pub returns-clause-passes : goal.returns-clause-passes
+returns-clause-passes c = passed_kept
 
 pub returns-clause-others : goal.returns-clause-others
 returns-clause-others c = others_kept
