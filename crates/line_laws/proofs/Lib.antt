@@ -13,3 +13,4 @@ pub mod QueryStatements
 pub mod OtherLaws
 pub mod AtOnceStatements
 pub mod DueStatements
+pub mod PassedStatements

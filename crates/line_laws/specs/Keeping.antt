@@ -1,11 +1,17 @@
 -- What a part of a line keeps of a journal. (This project's rule.)
 
-use Rattle.std.specs.Prelude.{◌≡◌, ◌⊎◌, Bool, Option, List, [], false, true, Some, None}
+use Rattle.std.specs.Prelude.{◌≡◌, ◌⊎◌, ℕ, Bool, Option, List, [], ◌∷◌, false, true, Some, None}
 use Rattle.table_state.specs.declared.history.Sealed.{Sealed}
 use Rattle.tier_base.specs.declared.code.Code.TheVariants as code
 use Rattle.table_defs.specs.declared.definition.TableDef.{TableDef}
+use Rattle.table_state.specs.declared.operation.Op.{Op}
 use Rattle.table_state.specs.Histories.{state_of}
 use Rattle.table_state.specs.Tables.{TableState}
+use Rattle.outside.specs.Console.{IsDone}
+use Rattle.evaluator.specs.declared.change.Change.{Change}
+use Rattle.resolution.specs.Writes.{PlacedChange, change_seen}
+use Rattle.order_laws.specs.Sides.{are_off}
+use Rattle.order_laws.specs.Standing.{live_tables}
 use Rattle.order_laws.specs.Commits.{NoneConflicts, pending}
 use Rattle.instances.specs.declared.tree.Tree.{Tree}
 use Rattle.sql_subset.specs.declared.stmt.CreateGroup.{CreateGroup}
@@ -17,7 +23,7 @@ use Rattle.cache_tier.specs.Defining.{IsNewGroup}
 use Rattle.cache_tier.specs.Definitions.{IsTreeOf, definition_names, placed_tables}
 use Rattle.cache_tier.specs.DueWork.{Item}
 use Rattle.cache_tier.specs.Groups.{definitions_of}
-use Rattle.cache_tier.specs.StandingBetween.{Stands}
+use Rattle.cache_tier.specs.StandingBetween.{Stands, live_groups_of}
 use Rattle.cache_tier.specs.Steps.{tells}
 use Rattle.cache_tier.specs.TierStates.{Session, session_of}
 use Rattle.cache_tier.specs.Worlds.{IsUnshared, Part, World}
@@ -102,3 +108,10 @@ MeetsNone s w =
 -- the same of a session whose writes are synchronous
 abbrev pub MeetsIfAtOnce : Session → World → Type 0
 MeetsIfAtOnce s w = is_synchronous_own w.tier s ≡ true → MeetsNone s w
+
+-- whatever a write that is passed on does over the backing schema is on no table of a live writethrough group
+abbrev pub IsOffLive : PlacedChange → World → Type 0
+IsOffLive placed w =
+    (change : Change) (ops : List Op) (rows : ℕ) (b s : TableState) → change_seen change ≡ placed
+    → state_of w.history ≡ Some b → s.schema ≡ b.schema → IsDone (change ∷ []) ops rows s
+    → are_off (live_tables (live_groups_of w.tier.groups)) ops ≡ true

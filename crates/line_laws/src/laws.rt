@@ -17,6 +17,7 @@ ghost use Rattle.cache_tier.specs.DefineSteps.{CreatesGroup};
 ghost use Rattle.cache_tier.specs.DropSteps.{DropsGroup};
 ghost use Rattle.cache_tier.specs.DueWork.{DueAging, DueDoubt, DueRound, DueSets};
 ghost use Rattle.cache_tier.specs.LoadSteps.{Loads};
+ghost use Rattle.cache_tier.specs.PassedSteps.{PassesOn};
 ghost use Rattle.cache_tier.specs.RefreshSteps.{Refreshes};
 ghost use Rattle.cache_tier.specs.Rounds.{Drains};
 ghost use Rattle.cache_tier.specs.Routes.{Cached};
@@ -27,7 +28,7 @@ ghost use Rattle.cache_tier.specs.TierStates.{Session};
 ghost use Rattle.cache_tier.specs.UnloadSteps.{Unloads};
 ghost use Rattle.cache_tier.specs.Worlds.{Quiet};
 ghost use Rattle.cache_tier.specs.WriteSteps.{WritesBy};
-ghost use Rattle.line_laws.specs.Keeping.{Anything, HasNoWrites, KeepsJournal, KeepsJournalDue, KeepsJournalOf, KeepsJournalWhere, KeepsSettledJournal, KeepsSettledJournalDue, KeepsSettledJournalOf, MayCreate, MeetsIfAtOnce, MeetsNone, RefersToNone};
+ghost use Rattle.line_laws.specs.Keeping.{Anything, HasNoWrites, IsOffLive, KeepsJournal, KeepsJournalDue, KeepsJournalOf, KeepsJournalWhere, KeepsSettledJournal, KeepsSettledJournalDue, KeepsSettledJournalOf, MayCreate, MeetsIfAtOnce, MeetsNone, RefersToNone};
 
 /// The journal stays the tier's where a line changes nothing that an entry tells: OPEN (`opens`), CLOSE (`closes`),
 /// ttOptSetFlag (`sets_level`), ROLLBACK (`rolls_back`), the clock (`clock`).
@@ -71,10 +72,13 @@ pub fn commit_line_law()
 {}
 
 /// The journal stays the tier's behind SELECT (`selects`), and behind INSERT, UPDATE and DELETE in the cache
-/// (`writes`), with the dynamic load that may come before them.
+/// (`writes`), with the dynamic load that may come before them; and behind a write that is passed on, which has its
+/// number flushed first, and touches no table of a live writethrough group (`passes_on`).
 pub fn query_line_law()
     ensures selects { (s : Session) (q : Query) → KeepsSettledJournal (Selects s q) }
     ensures writes { (s : Session) (placed : PlacedChange) → KeepsSettledJournal (WritesBy (Ok Cached) s placed) }
+    ensures passes_on { (s : Session) (placed : PlacedChange)
+        → KeepsJournalWhere (IsOffLive placed) (PassesOn s placed) }
 {}
 
 /// The journal stays the tier's behind CREATE TABLE at the console, whose foreign key refers to no table of a live
