@@ -14,3 +14,4 @@ pub mod OtherLaws
 pub mod AtOnceStatements
 pub mod DueStatements
 pub mod PassedStatements
+pub mod ConsoleStatements

@@ -1,19 +1,15 @@
 -- A write that is passed on.
-use Rattle.std.proofs.Common.{◌≡◌, ◌⊎◌, inl, inr, ℕ, ◌+◌, ◌≤◌, Bool, true, false, Option, Some, None, Result, Ok, Err, List, [], ◌∷◌, ◌++◌, refl, sym, ap, subst, ◌∙◌, arith, append_assoc, append-nil}
+use Rattle.std.proofs.Common.{◌≡◌, ◌⊎◌, inl, inr, ℕ, false, Option, Some, None, Result, Ok, Err, List, [], ◌∷◌, ◌++◌, refl, sym, ap, subst, ◌∙◌, arith}
 use Rattle.row_types.specs.declared.rule.Rule.{Rule}
-use Rattle.tier_base.specs.declared.number.TableId.{TableId}
 use Rattle.tier_base.specs.declared.code.Code.TheVariants as code
 use Rattle.table_state.specs.declared.history.Entry.{Entry}
 use Rattle.table_state.specs.declared.history.Sealed.{Sealed}
 use Rattle.table_state.specs.declared.operation.Op.{Op}
-use Rattle.table_state.specs.Histories.{entry_of, state_of}
-use Rattle.table_state.specs.Operations.{applied_all}
-use Rattle.table_state.specs.Tables.{TableState}
+use Rattle.table_state.specs.Histories.{entry_of}
 use Rattle.evaluator.specs.declared.change.Change.{Change}
 use Rattle.outside.specs.declared.site.Done.{Done as Wrote}
 use Rattle.outside.specs.declared.site.Done.TheVariants.{Rows, Broken}
 use Rattle.outside.specs.Bank.{Grows}
-use Rattle.outside.specs.Console.{IsDone}
 use Rattle.outside.specs.Others.{AreOthers, Around}
 use Rattle.outside.specs.declared.fault.BankError.{BankError}
 use Rattle.outside.specs.declared.fault.BankError.TheVariants.{Failed, Memory}

@@ -1,6 +1,6 @@
 -- What a part of a line keeps of a journal. (This project's rule.)
 
-use Rattle.std.specs.Prelude.{◌≡◌, ◌⊎◌, ℕ, Bool, Option, List, [], ◌∷◌, false, true, Some, None}
+use Rattle.std.specs.Prelude.{◌≡◌, ◌⊎◌, ℕ, Bool, Option, List, [], ◌∷◌, false, true, Some, None, Ok, map}
 use Rattle.table_state.specs.declared.history.Sealed.{Sealed}
 use Rattle.tier_base.specs.declared.code.Code.TheVariants as code
 use Rattle.table_defs.specs.declared.definition.TableDef.{TableDef}
@@ -9,7 +9,8 @@ use Rattle.table_state.specs.Histories.{state_of}
 use Rattle.table_state.specs.Tables.{TableState}
 use Rattle.outside.specs.Console.{IsDone}
 use Rattle.evaluator.specs.declared.change.Change.{Change}
-use Rattle.resolution.specs.Writes.{PlacedChange, change_seen}
+use Rattle.resolution.specs.Writes.{PlacedChange, change_seen, resolved_writes}
+use Rattle.sql_query.specs.declared.write.Write.{Write}
 use Rattle.order_laws.specs.Sides.{are_off}
 use Rattle.order_laws.specs.Standing.{live_tables}
 use Rattle.order_laws.specs.Commits.{NoneConflicts, pending}
@@ -26,7 +27,7 @@ use Rattle.cache_tier.specs.Groups.{definitions_of}
 use Rattle.cache_tier.specs.StandingBetween.{Stands, live_groups_of}
 use Rattle.cache_tier.specs.Steps.{tells}
 use Rattle.cache_tier.specs.TierStates.{Session, session_of}
-use Rattle.cache_tier.specs.Worlds.{IsUnshared, Part, World}
+use Rattle.cache_tier.specs.Worlds.{IsUnshared, Part, Stage, World}
 use Rattle.recovery.specs.Journalled.{IsJournalled, IsJournalledOn}
 use Rattle.recovery.specs.Recalling.{group_of}
 
@@ -115,3 +116,16 @@ IsOffLive placed w =
     (change : Change) (ops : List Op) (rows : ℕ) (b s : TableState) → change_seen change ≡ placed
     → state_of w.history ≡ Some b → s.schema ≡ b.schema → IsDone (change ∷ []) ops rows s
     → are_off (live_tables (live_groups_of w.tier.groups)) ops ≡ true
+
+-- the same of the console's writes
+abbrev pub AreOffLive : List Write → World → Type 0
+AreOffLive writes w =
+    (changes : List Change) (ops : List Op) (rows : ℕ) (b s : TableState)
+    → resolved_writes w.tier.schema writes ≡ Ok (map change_seen changes) → state_of w.history ≡ Some b
+    → s.schema ≡ b.schema → IsDone changes ops rows s → are_off (live_tables (live_groups_of w.tier.groups)) ops ≡ true
+
+-- the same of a stage, as of the end of the input
+abbrev pub KeepsJournalAt : Stage → Type 0
+KeepsJournalAt stage =
+    (w w' : World) (early : List Sealed) (stop : Option Reply) → Stands w → IsJournalled w early → IsUnshared w
+    → stage w w' stop → is_broken stop ≡ false → IsJournalledOn w' early

@@ -5,6 +5,7 @@ ghost use Rattle.std.specs.Prelude.{Ok};
 ghost use Rattle.table_defs.specs.declared.definition.TableDef.{TableDef};
 ghost use Rattle.resolution.specs.Writes.{PlacedChange};
 ghost use Rattle.sql_query.specs.declared.query.Query.{Query};
+ghost use Rattle.sql_query.specs.declared.write.Write.{Write};
 ghost use Rattle.sql_subset.specs.declared.request.OpenOptions.{OpenOptions};
 ghost use Rattle.sql_subset.specs.declared.stmt.Alter.{Alter};
 ghost use Rattle.sql_subset.specs.declared.stmt.CreateGroup.{CreateGroup};
@@ -12,7 +13,7 @@ ghost use Rattle.sql_subset.specs.declared.stmt.Load.{Load};
 ghost use Rattle.sql_subset.specs.declared.stmt.OfGroup.{OfGroup};
 ghost use Rattle.cache_tier.specs.AlterSteps.{Alters};
 ghost use Rattle.cache_tier.specs.CommitSteps.{CommitsAll, CommitsLater, CommitsNow, RollsBack};
-ghost use Rattle.cache_tier.specs.ConsoleSteps.{Creates, clock_answer};
+ghost use Rattle.cache_tier.specs.ConsoleSteps.{Creates, WritesAll, clock_answer};
 ghost use Rattle.cache_tier.specs.DefineSteps.{CreatesGroup};
 ghost use Rattle.cache_tier.specs.DropSteps.{DropsGroup};
 ghost use Rattle.cache_tier.specs.DueWork.{DueAging, DueDoubt, DueRound, DueSets};
@@ -23,12 +24,12 @@ ghost use Rattle.cache_tier.specs.Rounds.{Drains};
 ghost use Rattle.cache_tier.specs.Routes.{Cached};
 ghost use Rattle.cache_tier.specs.SelectSteps.{Selects};
 ghost use Rattle.cache_tier.specs.SessionSteps.{close_answer, flag_answer, open_answer};
-ghost use Rattle.cache_tier.specs.Steps.{RefreshesCalled};
+ghost use Rattle.cache_tier.specs.Steps.{Finishes, RefreshesCalled};
 ghost use Rattle.cache_tier.specs.TierStates.{Session};
 ghost use Rattle.cache_tier.specs.UnloadSteps.{Unloads};
 ghost use Rattle.cache_tier.specs.Worlds.{Quiet};
 ghost use Rattle.cache_tier.specs.WriteSteps.{WritesBy};
-ghost use Rattle.line_laws.specs.Keeping.{Anything, HasNoWrites, IsOffLive, KeepsJournal, KeepsJournalDue, KeepsJournalOf, KeepsJournalWhere, KeepsSettledJournal, KeepsSettledJournalDue, KeepsSettledJournalOf, MayCreate, MeetsIfAtOnce, MeetsNone, RefersToNone};
+ghost use Rattle.line_laws.specs.Keeping.{Anything, AreOffLive, HasNoWrites, IsOffLive, KeepsJournal, KeepsJournalAt, KeepsJournalDue, KeepsJournalOf, KeepsJournalWhere, KeepsSettledJournal, KeepsSettledJournalDue, KeepsSettledJournalOf, MayCreate, MeetsIfAtOnce, MeetsNone, RefersToNone};
 
 /// The journal stays the tier's where a line changes nothing that an entry tells: OPEN (`opens`), CLOSE (`closes`),
 /// ttOptSetFlag (`sets_level`), ROLLBACK (`rolls_back`), the clock (`clock`).
@@ -81,10 +82,11 @@ pub fn query_line_law()
         → KeepsJournalWhere (IsOffLive placed) (PassesOn s placed) }
 {}
 
-/// The journal stays the tier's behind CREATE TABLE at the console, whose foreign key refers to no table of a live
-/// writethrough group, be it done or not.
-pub fn table_line_law()
-    ensures { (def : TableDef) → KeepsJournalWhere (RefersToNone def) (Creates def) }
+/// The journal stays the tier's behind what the console does: CREATE TABLE, whose foreign key refers to no table of a
+/// live writethrough group, be it done or not (`creates`), and its writes, which touch none (`writes`).
+pub fn console_line_law()
+    ensures creates { (def : TableDef) → KeepsJournalWhere (RefersToNone def) (Creates def) }
+    ensures writes { (writes : List Write) → KeepsJournalWhere (AreOffLive writes) (WritesAll writes) }
 {}
 
 /// The journal stays the tier's behind each item of due work: the doubt, where the bank tells whether its ticket stands
@@ -94,4 +96,9 @@ pub fn due_line_law()
     ensures round { KeepsSettledJournalDue DueRound }
     ensures sets { KeepsJournalDue DueSets }
     ensures aging { KeepsJournalDue DueAging }
+{}
+
+/// The journal stays the tier's behind the flush at the end of the input.
+pub fn end_line_law()
+    ensures { KeepsJournalAt Finishes }
 {}

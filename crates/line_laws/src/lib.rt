@@ -4,4 +4,7 @@
 
 mod laws;
 
-pub use laws::{commit_line_law, group_line_law, query_line_law, quiet_line_law, round_line_law};
+pub use laws::{
+    commit_line_law, console_line_law, due_line_law, end_line_law, group_line_law, query_line_law,
+    quiet_line_law, round_line_law,
+};
