@@ -15,3 +15,4 @@ pub mod AtOnceStatements
 pub mod DueStatements
 pub mod PassedStatements
 pub mod ConsoleStatements
+pub mod AskedLaws

@@ -6,6 +6,7 @@ ghost use Rattle.table_defs.specs.declared.definition.TableDef.{TableDef};
 ghost use Rattle.resolution.specs.Writes.{PlacedChange};
 ghost use Rattle.sql_query.specs.declared.query.Query.{Query};
 ghost use Rattle.sql_query.specs.declared.write.Write.{Write};
+ghost use Rattle.sql_subset.specs.declared.request.Line.{Line};
 ghost use Rattle.sql_subset.specs.declared.request.OpenOptions.{OpenOptions};
 ghost use Rattle.sql_subset.specs.declared.stmt.Alter.{Alter};
 ghost use Rattle.sql_subset.specs.declared.stmt.CreateGroup.{CreateGroup};
@@ -13,7 +14,7 @@ ghost use Rattle.sql_subset.specs.declared.stmt.Load.{Load};
 ghost use Rattle.sql_subset.specs.declared.stmt.OfGroup.{OfGroup};
 ghost use Rattle.cache_tier.specs.AlterSteps.{Alters};
 ghost use Rattle.cache_tier.specs.CommitSteps.{CommitsAll, CommitsLater, CommitsNow, RollsBack};
-ghost use Rattle.cache_tier.specs.ConsoleSteps.{Creates, WritesAll, clock_answer};
+ghost use Rattle.cache_tier.specs.ConsoleSteps.{AsksSchema, Creates, WritesAll, clock_answer};
 ghost use Rattle.cache_tier.specs.DefineSteps.{CreatesGroup};
 ghost use Rattle.cache_tier.specs.DropSteps.{DropsGroup};
 ghost use Rattle.cache_tier.specs.DueWork.{DueAging, DueDoubt, DueRound, DueSets};
@@ -32,7 +33,7 @@ ghost use Rattle.cache_tier.specs.WriteSteps.{WritesBy};
 ghost use Rattle.line_laws.specs.Keeping.{Anything, AreOffLive, HasNoWrites, IsOffLive, KeepsJournal, KeepsJournalAt, KeepsJournalDue, KeepsJournalOf, KeepsJournalWhere, KeepsSettledJournal, KeepsSettledJournalDue, KeepsSettledJournalOf, MayCreate, MeetsIfAtOnce, MeetsNone, RefersToNone};
 
 /// The journal stays the tier's where a line changes nothing that an entry tells: OPEN (`opens`), CLOSE (`closes`),
-/// ttOptSetFlag (`sets_level`), ROLLBACK (`rolls_back`), the clock (`clock`).
+/// ttOptSetFlag (`sets_level`), ROLLBACK (`rolls_back`), the clock (`clock`), the question for the schema (`asks`).
 pub fn quiet_line_law()
     ensures opens { (label : List ℕ) (options : OpenOptions)
         → KeepsJournal (λ w w' reply. Quiet (open_answer w.tier label options) w w' reply) }
@@ -41,6 +42,7 @@ pub fn quiet_line_law()
         → KeepsJournal (λ w w' reply. Quiet (flag_answer w.tier label level) w w' reply) }
     ensures rolls_back { (s : Session) → KeepsJournal (RollsBack s) }
     ensures clock { KeepsJournal (λ w w' reply. Quiet (clock_answer w.tier) w w' reply) }
+    ensures asks { (l : Line) → KeepsJournalAt (AsksSchema l) }
 {}
 
 /// The journal stays the tier's behind ALTER CACHE GROUP (`alters`) and UNLOAD CACHE GROUP (`unloads`), whose records

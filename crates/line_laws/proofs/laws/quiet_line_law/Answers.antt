@@ -1,3 +1,4 @@
+use Rattle.line_laws.proofs.AskedLaws.{asks_kept}
 use Rattle.line_laws.proofs.QuietStatements.{clock_kept, closes_kept, opens_kept, rolls_back_kept, sets_level_kept}
 use Rattle.line_laws.proofs.laws.quiet_line_law.Goals as goal
 
@@ -15,3 +16,6 @@ returns-clause-rolls_back c = rolls_back_kept
 
 pub returns-clause-clock : goal.returns-clause-clock
 returns-clause-clock c = clock_kept
+
+pub returns-clause-asks : goal.returns-clause-asks
+returns-clause-asks c = asks_kept
