@@ -31,8 +31,8 @@ use Rattle.cache_tier.specs.Worlds.{IsUnshared, Part, Stage, World}
 use Rattle.recovery.specs.Journalled.{IsJournalled, IsJournalledOn}
 use Rattle.recovery.specs.Recalling.{group_of}
 
--- Where the tier stands, its journal is its own, and others change no table of a live writethrough group: behind the part
--- the journal is the tier's, unless a call of its disk failed, which ends the run.
+-- Where the tier stands, its journal is its own, and others change no table of a live writethrough group: behind the
+-- part the journal is the tier's, unless a call of its disk failed, which ends the run.
 abbrev pub KeepsJournal : Part → Type 0
 KeepsJournal part =
     (w w' : World) (early : List Sealed) (reply : Reply) → Stands w → IsJournalled w early → IsUnshared w

@@ -1,5 +1,5 @@
-//! What each part of a line keeps of a commit journal: it stays the tier's. A law is the contract of a function that does
-//! nothing.
+//! What each part of a line keeps of a commit journal: it stays the tier's. A law is the contract of a function that
+//! does nothing.
 #![tactic(auto)]
 
 mod laws;

@@ -47,14 +47,14 @@ pub fn recalled_law()
 {}
 
 /// The journal stays the tier's where a session's transaction commits and its record is noted (`commits`), where the
-/// tail is flushed (`flushes`), or with a definition, a drop, a STATE or a flag behind it (`definitions`, `drops`, `states`,
-/// `flags`), where a round is done, with the tail flushed before, and transactions of others come (`round`), where a
-/// synchronous transaction's record is flushed (`prepares`) and it comes (`applies`), where the number of a write that is
-/// passed on is flushed (`numbers`) and it comes (`passes`), where transactions of others come
-/// that change no table of a live writethrough group, as in a call of the bank that reads (`others`, `reads`), where a
-/// table is defined whose foreign key refers to no table of such a group, whether the tier has been told or not
-/// (`tables`), where a slot is begun anew and nothing is unsettled (`rotates`), and where the tier changes in what no
-/// entry tells (`quiet`). What was held is held.
+/// tail is flushed (`flushes`), or with a definition, a drop, a STATE or a flag behind it (`definitions`, `drops`,
+/// `states`, `flags`), where a round is done, with the tail flushed before, and transactions of others come (`round`),
+/// where a synchronous transaction's record is flushed (`prepares`) and it comes (`applies`), where the number of a
+/// write that is passed on is flushed (`numbers`) and it comes (`passes`), where transactions of others come that change
+/// no table of a live writethrough group, as in a call of the bank that reads (`others`, `reads`), where a table is
+/// defined whose foreign key refers to no table of such a group, whether the tier has been told or not (`tables`), where
+/// a slot is begun anew and nothing is unsettled (`rotates`), and where the tier changes in what no entry tells
+/// (`quiet`). What was held is held.
 pub fn journalled_law()
     ensures commits { (w : World) (early : List Sealed) (s : Session) → Stands w → IsJournalled w early
         → session_of w.tier s.label ≡ Some s → IsJournalledOn (with_commit_noted s w) early }

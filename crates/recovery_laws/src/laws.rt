@@ -39,7 +39,8 @@ pub fn crash_law()
 /// (`event`): it loses no commit that was held.
 pub fn rotation_law()
     ensures matches { (notes : List Note) (h : List Entry) (flags : List (List ℕ × ℕ)) (us : List Sealed) (next : ℕ)
-        → IsMatched notes h → MayRotate notes h us next → IsMatched (rotated next (catalog_of notes).groups flags us) h }
+        → IsMatched notes h → MayRotate notes h us next
+        → IsMatched (rotated next (catalog_of notes).groups flags us) h }
     ensures event { (w : World) (early : List Sealed) (flags : List (List ℕ × ℕ)) (us : List Sealed) (next : ℕ)
         → Stands w early → w.late ≡ [] → MayRotate (given w) w.history us next
         → HoldsPending (given w) w.history us
