@@ -160,7 +160,7 @@ module _ (w : World) (early : List Sealed) (j : IsJournalled w early) (stands : 
     }
 
     alike_new : IsAlike (group_of j.catalog d tree) group
-    alike_new = record { def = ap (λ s. defined_by s d tree) (sym folded_schema); state = refl; loaded = refl }
+    alike_new = record { def = ap (λ s. defined_by s d tree) (sym folded_schema); state = λ r. refl; loaded = refl }
 
     pub define_journalled : (t : Tier) (journal : Journal) → IsFlushedWith (Defines d text) w.journal journal → IsQuiet (with_new_group d tree w.tier) t → IsJournalledOn (with_flushed_entry t journal w) early
     define_journalled t journal flushed quiet =

@@ -21,9 +21,9 @@ use Rattle.cache_tier.specs.StandingBetween as between
 use Rattle.cache_tier.specs.TierStates.{Tier}
 use Rattle.cache_tier.specs.Worlds.{World}
 use Rattle.cache_tier.proofs.GroupTables.{each_last}
-use Rattle.recovery.specs.Journalled.{AreAlike, IsAlike, IsFlushedWith, IsJournalled, IsJournalledOn, IsQuiet, with_flushed_entry}
+use Rattle.recovery.specs.Journalled.{AreAlike, IsFlushedWith, IsJournalled, IsJournalledOn, IsQuiet, with_flushed_entry}
 use Rattle.recovery.proofs.CatalogLaws.{waiting_is}
-use Rattle.recovery.proofs.JournalledLaws.{alike_trans, below_same, entry_journalled, folded, given_is, notes, seen}
+use Rattle.recovery.proofs.JournalledLaws.{alike_kind, alike_trans, below_same, entry_journalled, folded, given_is, notes, seen}
 use Rattle.recovery.proofs.NewestLaws.{NamesApart, Pair, any_newest, named, newest, pair, plain}
 
 -- ---- the group of a name
@@ -66,7 +66,7 @@ alike_called (g ∷ gs) (h ∷ hs) name are = λ i. defines_name name (sym are.0
 alike_called [] (h ∷ hs) name are = absurd are
 alike_called (g ∷ gs) [] name are = absurd are
 
-alike_apart : (gs hs : List Group) → AreAlike gs hs → NamesApart gs → NamesApart hs
+pub alike_apart : (gs hs : List Group) → AreAlike gs hs → NamesApart gs → NamesApart hs
 alike_apart [] [] are apart = tt
 alike_apart (g ∷ gs) (h ∷ hs) are apart = (
   ap (λ (d : Rattle.cache_tier.specs.declared.group.GroupDef.GroupDef). list_any (is_called d.name) hs) are.0.def ∙ sym (alike_called gs hs g.def.name are.1) ∙ apart.0,
@@ -74,9 +74,6 @@ alike_apart (g ∷ gs) (h ∷ hs) are apart = (
 )
 alike_apart [] (h ∷ hs) are apart = absurd are
 alike_apart (g ∷ gs) [] are apart = absurd are
-
-alike_kind : (g h : Group) → IsAlike g h → is_read_only h ≡ is_read_only g
-alike_kind g h a = λ i. is_read_only (record h { def = a.def i })
 
 pub alike_without : (name : List ℕ) (gs hs : List Group) → AreAlike gs hs → AreAlike (filter (λ g. not (is_called name g)) gs) (filter (λ g. not (is_called name g)) hs)
 alike_without name [] [] are = tt

@@ -39,7 +39,7 @@ IsFresh g = (g.keys ≡ []) × (g.position ≡ None)
 
 -- ---- some groups leave
 
-any_filter : (p q : Group → Bool) (gs : List Group) → list_any p gs ≡ false → list_any p (filter q gs) ≡ false
+pub any_filter : (p q : Group → Bool) (gs : List Group) → list_any p gs ≡ false → list_any p (filter q gs) ≡ false
 any_filter p q [] none = refl
 any_filter p q (g ∷ gs) none = by (p g) refl none (q g) (any_filter p q gs)
   where

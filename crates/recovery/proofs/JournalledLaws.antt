@@ -26,7 +26,7 @@ use Rattle.recovery_laws.proofs.CrashLaws.{event_keeps}
 use Rattle.recovery_laws.proofs.TieLaws.{tied_commit, tied_quiet}
 use Rattle.cache_tier.specs.CommitSteps.{sealed_own}
 use Rattle.cache_tier.specs.AlterSteps.{with_state}
-use Rattle.cache_tier.specs.Groups.{Group, covers, defines_name, is_called, is_table_of, is_writethrough}
+use Rattle.cache_tier.specs.Groups.{Group, covers, defines_name, is_called, is_read_only, is_table_of, is_writethrough}
 use Rattle.sql_subset.specs.declared.stmt.RefreshState.{RefreshState}
 use Rattle.cache_tier.specs.Journals.{Commits, Journal, JournalEntry, SetsLoaded, SetsState, next_behind, next_with, with_noted}
 use Rattle.cache_tier.specs.JournalWays.{given}
@@ -46,7 +46,7 @@ use Rattle.recovery.proofs.RecalledLaws.{next_is}
 
 -- ---- entries
 
-commits_seen : (schema : List TableDef) (late : List Sealed) → notes_of schema (map Commits late) ≡ map Commit late
+pub commits_seen : (schema : List TableDef) (late : List Sealed) → notes_of schema (map Commits late) ≡ map Commit late
 commits_seen schema [] = refl
 commits_seen schema (s ∷ late) = ap (λ l. Commit s ∷ l) (commits_seen schema late)
 
@@ -62,7 +62,7 @@ recalls_push (x ∷ entries) e t mid t' (next, first, rest) one = (next, first, 
 
 -- ---- sessions
 
-found_applies : (v : TableState) (test : Session → Bool) (ss : List Session) (s : Session) → find test ss ≡ Some s → AllApply v (own_writes ss) → Applies v s.own
+pub found_applies : (v : TableState) (test : Session → Bool) (ss : List Session) (s : Session) → find test ss ≡ Some s → AllApply v (own_writes ss) → Applies v s.own
 found_applies v test [] s e all = Prim.cc
 found_applies v test (r ∷ ss) s e all = by (test r) e (λ h. found_applies v test ss s h all.1)
   where
@@ -82,14 +82,18 @@ found_through groups test (r ∷ ss) s e all = by (test r) e (both_true (are_wri
 
 -- ---- the tables of the catalog
 
-alike_table : (gs hs : List Group) (u : TableId) → AreAlike gs hs → is_table_of is_writethrough gs u ≡ is_table_of is_writethrough hs u
+pub alike_table : (gs hs : List Group) (u : TableId) → AreAlike gs hs → is_table_of is_writethrough gs u ≡ is_table_of is_writethrough hs u
 alike_table [] [] u are = refl
 alike_table (g ∷ gs) (h ∷ hs) u are =
     λ i. (is_writethrough (record g { def = sym are.0.def i }) && covers u (record g { def = sym are.0.def i })) || alike_table gs hs u are.1 i
 alike_table [] (h ∷ hs) u are = absurd are
 alike_table (g ∷ gs) [] u are = absurd are
 
-alike_commit : (schema : TableState) (ops : List Op) (gs hs : List Group) → AreAlike gs hs → AreAlike gs (map (with_commit schema ops) hs)
+-- and they have one kind
+pub alike_kind : (g h : Group) → IsAlike g h → is_read_only h ≡ is_read_only g
+alike_kind g h a = λ i. is_read_only (record h { def = a.def i })
+
+pub alike_commit : (schema : TableState) (ops : List Op) (gs hs : List Group) → AreAlike gs hs → AreAlike gs (map (with_commit schema ops) hs)
 alike_commit schema ops [] [] are = tt
 alike_commit schema ops (g ∷ gs) (h ∷ hs) are = (by (is_writethrough h), alike_commit schema ops gs hs are.1)
   where
@@ -106,11 +110,15 @@ ops_same a b same (op ∷ ops) = λ i. same (table_of op) i && ops_same a b same
 pub alike_trans : (gs hs ks : List Group) → AreAlike gs hs → AreAlike hs ks → AreAlike gs ks
 alike_trans [] [] [] a b = tt
 alike_trans (g ∷ gs) (h ∷ hs) (k ∷ ks) a b =
-    (record { def = b.0.def ∙ a.0.def; state = b.0.state ∙ a.0.state; loaded = b.0.loaded ∙ a.0.loaded }, alike_trans gs hs ks a.1 b.1)
+    (record { def = b.0.def ∙ a.0.def; state = λ r. b.0.state (alike_kind g h a.0 ∙ r) ∙ a.0.state r; loaded = b.0.loaded ∙ a.0.loaded }, alike_trans gs hs ks a.1 b.1)
 alike_trans [] [] (k ∷ ks) a b = absurd b
 alike_trans [] (h ∷ hs) ks a b = absurd a
 alike_trans (g ∷ gs) [] ks a b = absurd a
 alike_trans (g ∷ gs) (h ∷ hs) [] a b = absurd b
+
+pub alike_self : (gs : List Group) → AreAlike gs gs
+alike_self [] = tt
+alike_self (g ∷ gs) = (record { def = refl; state = λ r. refl; loaded = refl }, alike_self gs)
 
 -- a group of this name is changed
 abbrev pub turned : List ℕ → (Group → Group) → Group → Group
@@ -121,7 +129,7 @@ pub record TurnsAlike (change : Group → Group) : Type 0 where
   pub alike : (g h : Group) → IsAlike g h → IsAlike (change g) (change h)
 
 pub state_steady : (state : RefreshState) → TurnsAlike (with_state state)
-state_steady state = record { alike = λ g h a. record { def = a.def; state = refl; loaded = a.loaded } }
+state_steady state = record { alike = λ g h a. record { def = a.def; state = λ r. refl; loaded = a.loaded } }
 
 pub loaded_steady : (flag : Bool) → TurnsAlike (with_loaded flag)
 loaded_steady flag = record { alike = λ g h a. record { def = a.def; state = a.state; loaded = refl } }

@@ -21,7 +21,7 @@ use Rattle.recovery.specs.Journalled.{AreAlike, CrashLeaves, IsAlike, IsJournall
 use Rattle.recovery.specs.Recalling.{IsDefined, Recalls, RecallsAll, group_of, notes_of, with_loaded}
 use Rattle.recovery.proofs.CatalogLaws.{alike_covers, alike_definitions, alike_last}
 use Rattle.recovery.proofs.DroppedLaws.{alike_without}
-use Rattle.recovery.proofs.JournalledLaws.{alike_trans, alike_turned, loaded_steady, state_steady}
+use Rattle.recovery.proofs.JournalledLaws.{alike_kind, alike_trans, alike_turned, loaded_steady, state_steady}
 
 -- ---- the same entries over another tier
 
@@ -39,7 +39,7 @@ record Leaves (entries : List JournalEntry) (n t' : Tier) : Type 0 where
 
 alike_back : (gs hs : List Group) → AreAlike gs hs → AreAlike hs gs
 alike_back [] [] are = tt
-alike_back (g ∷ gs) (h ∷ hs) are = (record { def = sym are.0.def; state = sym are.0.state; loaded = sym are.0.loaded }, alike_back gs hs are.1)
+alike_back (g ∷ gs) (h ∷ hs) are = (record { def = sym are.0.def; state = λ r. sym (are.0.state (sym (alike_kind g h are.0) ∙ r)); loaded = sym are.0.loaded }, alike_back gs hs are.1)
 alike_back [] (h ∷ hs) are = absurd are
 alike_back (g ∷ gs) [] are = absurd are
 
@@ -64,7 +64,7 @@ step_same (Defines d text) t n t' same is = (with_new_group d is.tree n, defined
     after = record {
       schema = same.schema;
       next = same.next;
-      groups = alike_last t.groups n.groups (group_of t d is.tree) (group_of n d is.tree) same.groups (record { def = ap (λ s. defined_by s d is.tree) same.schema; state = refl; loaded = refl });
+      groups = alike_last t.groups n.groups (group_of t d is.tree) (group_of n d is.tree) same.groups (record { def = ap (λ s. defined_by s d is.tree) same.schema; state = λ r. refl; loaded = refl });
     }
 step_same (Drops name) t n t' same is = (without_group name n, refl, subst (λ x. AreSame x (without_group name n)) (sym is) (record { schema = same.schema; next = same.next; groups = alike_without name t.groups n.groups same.groups }))
 step_same (SetsState name state) t n t' same is =

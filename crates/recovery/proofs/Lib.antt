@@ -7,3 +7,8 @@ pub mod DroppedLaws
 pub mod RoundedLaws
 pub mod LeftLaws
 pub mod AtOnceLaws
+pub mod OthersLaws
+pub mod LongerLaws
+pub mod TablesLaws
+pub mod SlotLaws
+pub mod RotatedLaws

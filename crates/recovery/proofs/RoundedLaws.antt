@@ -45,7 +45,7 @@ single None = refl
 single (Some s) = refl
 
 -- what others do applies to the backing state
-leads_foreign : (h : List Entry) (ops : List Op) (b n : TableState) → state_of h ≡ Some b → state_of (h ++ Foreign ops ∷ []) ≡ Some n → applied_all ops b ≡ Some n
+pub leads_foreign : (h : List Entry) (ops : List Op) (b n : TableState) → state_of h ≡ Some b → state_of (h ++ Foreign ops ∷ []) ≡ Some n → applied_all ops b ≡ Some n
 leads_foreign h ops b n leaves is = sym (single (applied_all ops b)) ∙ sym (state_of-append h (Foreign ops ∷ []) ∙ ap (option_and_then (state_from (Foreign ops ∷ []))) leaves) ∙ is
 
 pub leads_own : (h : List Entry) (s : Sealed) (b n : TableState) → state_of h ≡ Some b → state_of (h ++ entry_of s ∷ []) ≡ Some n → applied_all s.ops b ≡ Some n
@@ -115,7 +115,7 @@ goes_on entries schema tables (Left s ∷ events) h later log us left commits ea
 
 -- ---- the tier
 
-no_late : (late : List Sealed) → map Commits late ≡ [] → late ≡ []
+pub no_late : (late : List Sealed) → map Commits late ≡ [] → late ≡ []
 no_late [] e = refl
 no_late (s ∷ late) e = Prim.cc
 

@@ -10,17 +10,19 @@ use Rattle.order_laws.specs.Commits.{NoneConflicts, pending, virtual_state}
 use Rattle.recovery_laws.specs.Crashes.{IsLeft, Stands, World as Seen}
 use Rattle.recovery_laws.specs.Notes.{log_in}
 use Rattle.cache_tier.specs.CommitSteps.{committed_unsettled, sealed_own}
-use Rattle.cache_tier.specs.Groups.{Group}
-use Rattle.cache_tier.specs.Journals.{Commits, Journal, JournalEntry, Prepares, next_behind, with_noted}
+use Rattle.cache_tier.specs.Groups.{Group, is_read_only}
+use Rattle.cache_tier.specs.Journals.{Commits, Journal, JournalEntry, Numbers, Prepares, next_behind, with_noted}
 use Rattle.cache_tier.specs.JournalWays.{given}
+use Rattle.cache_tier.specs.Rotations.{slot_entries}
 use Rattle.cache_tier.specs.TierStates.{Session, Settings, Tier, opened}
 use Rattle.cache_tier.specs.Worlds.{World}
 use Rattle.recovery.specs.Recalling.{AreMatched, RecallsAll, notes_of}
 
--- the second is the first but for what no entry tells: its first ticket, its keys, its position, its horizon, its moment
+-- the second is the first but for what no entry tells: its first ticket, its keys, its position, its horizon, its
+-- moment, and the STATE of a group that isn't READONLY, which nothing reads
 pub record IsAlike (g h : Group) : Type 0 where
   pub def : h.def ≡ g.def
-  pub state : h.state ≡ g.state
+  pub state : is_read_only g ≡ true → h.state ≡ g.state
   pub loaded : h.loaded ≡ g.loaded
 
 abbrev pub AreAlike : List Group → List Group → Type 0
@@ -78,6 +80,12 @@ pub record IsFlushed (old new : Journal) : Type 0 where
   pub flushed : new.flushed ≡ given old
   pub tail : new.tail ≡ []
 
+-- the other slot is begun anew with what the tier has
+pub record IsRenewed (t : Tier) (new : Journal) : Type 0 where
+  pub kept : new.kept ≡ true
+  pub flushed : new.flushed ≡ slot_entries t
+  pub tail : new.tail ≡ []
+
 -- the tier changes in what no entry tells
 pub record IsQuiet (old new : Tier) : Type 0 where
   pub log : new.log ≡ old.log
@@ -88,10 +96,10 @@ pub record IsQuiet (old new : Tier) : Type 0 where
 abbrev pub with_flushed_entry : Tier → Journal → World → World
 with_flushed_entry t j w = record w { tier = t; journal = j }
 
--- A synchronous transaction may come now: its record is the last that is flushed, its ticket is new and above all before,
+-- A transaction may come now at once: its record is the last that is flushed, its ticket is new and above all before,
 -- it applies to the virtual state, and nothing pending conflicts with it.
-pub record IsPrepared (w : World) (s : Sealed) (front : List JournalEntry) : Type 0 where
-  pub flushed : w.journal.flushed ≡ front ++ Prepares s ∷ []
+pub record IsAwaited (record_is : JournalEntry) (w : World) (s : Sealed) (front : List JournalEntry) : Type 0 where
+  pub flushed : w.journal.flushed ≡ front ++ record_is ∷ []
   pub tail : w.journal.tail ≡ []
   pub below : next_behind front ≤ s.ticket.0
   pub fresh : has_ticket s.ticket.0 w.history ≡ false
@@ -100,6 +108,13 @@ pub record IsPrepared (w : World) (s : Sealed) (front : List JournalEntry) : Typ
   pub virtual_is : virtual_state w.history w.tier.log ≡ Some virtual
   pub left : TableState
   pub leads : applied_all s.ops virtual ≡ Some left
+
+-- a synchronous one, and a write that is passed on
+abbrev pub IsPrepared : World → Sealed → List JournalEntry → Type 0
+IsPrepared w s front = IsAwaited (Prepares s) w s front
+
+abbrev pub IsNumbered : World → Sealed → List JournalEntry → Type 0
+IsNumbered w s front = IsAwaited (Numbers s.ticket.0) w s front
 
 -- the tier has been told that it came, or hasn't yet, as where its ticket is in doubt; else no entry tells what changed
 pub record IsToldAtOnce (s : Sealed) (old new : Tier) : Type 0 where

@@ -1,11 +1,14 @@
 //! Laws of recovery, each on the contract of a function that does nothing. They are this project's rules, over recovery
 //! as the TimesTen Cache User's Guide tells of it.
 
-ghost use Rattle.std.specs.Prelude.{◌≡◌, ◌++◌, ◌∷◌, Bool, ℕ, List, [], None, Some, true};
+ghost use Rattle.std.specs.Prelude.{◌≡◌, ◌++◌, ◌∷◌, Bool, ℕ, List, [], None, Some, false, true};
+ghost use Rattle.table_defs.specs.declared.definition.TableDef.{TableDef};
 ghost use Rattle.table_state.specs.declared.history.Entry.{Entry};
+ghost use Rattle.table_state.specs.declared.history.Entry.TheVariants.{Definition};
 ghost use Rattle.table_state.specs.declared.history.Sealed.{Sealed};
 ghost use Rattle.order_laws.specs.Events.{Event, Follows};
 ghost use Rattle.order_laws.specs.Standing.{live_tables};
+ghost use Rattle.cache_tier.specs.ConsoleSteps.{refers_to_writethrough};
 ghost use Rattle.cache_tier.specs.Events.{at_history, settled_to, with_tier};
 ghost use Rattle.cache_tier.specs.Defining.{IsNewGroup};
 ghost use Rattle.cache_tier.specs.DefineSteps.{with_new_group};
@@ -13,7 +16,7 @@ ghost use Rattle.cache_tier.specs.Definitions.{IsTreeOf, definition_names, place
 ghost use Rattle.cache_tier.specs.Dropping.{MayDrop};
 ghost use Rattle.cache_tier.specs.DropSteps.{without_group};
 ghost use Rattle.cache_tier.specs.Groups.{Group, definitions_of, is_called};
-ghost use Rattle.cache_tier.specs.Journals.{Defines, Drops, Journal, JournalEntry, Prepares, SetsLoaded, SetsState};
+ghost use Rattle.cache_tier.specs.Journals.{Defines, Drops, Journal, JournalEntry, Numbers, Prepares, SetsLoaded, SetsState};
 ghost use Rattle.cache_tier.specs.CommitSteps.{sealed_own};
 ghost use Rattle.cache_tier.specs.PassedSteps.{with_ticket};
 ghost use Rattle.table_state.specs.Histories.{entry_of};
@@ -24,8 +27,10 @@ ghost use Rattle.sql_subset.specs.declared.stmt.RefreshState.{RefreshState};
 ghost use Rattle.cache_tier.specs.Shown.{shown_state};
 ghost use Rattle.cache_tier.specs.StandingBetween.{Stands, live_groups_of};
 ghost use Rattle.cache_tier.specs.TierStates.{Session, Settings, Tier, opened, session_of, with_group};
-ghost use Rattle.cache_tier.specs.Worlds.{World};
-ghost use Rattle.recovery.specs.Journalled.{CrashLeaves, IsFlushed, IsFlushedWith, IsJournalled, IsJournalledOn, IsPrepared, IsQuiet, IsToldAtOnce, with_commit_noted, with_flushed_entry};
+ghost use Rattle.cache_tier.specs.Worlds.{BankCall, IsUnshared, World};
+ghost use Rattle.outside.specs.Bank.{Grows};
+ghost use Rattle.outside.specs.Others.{AreOthers};
+ghost use Rattle.recovery.specs.Journalled.{CrashLeaves, IsFlushed, IsFlushedWith, IsJournalled, IsJournalledOn, IsNumbered, IsPrepared, IsQuiet, IsRenewed, IsToldAtOnce, with_commit_noted, with_flushed_entry};
 ghost use Rattle.recovery.specs.Recalling.{AreMatched, RecallsAll, group_of, recalled, with_loaded};
 
 /// Where a journal's entries and a history belong together, the tier that the entries leave stands over the history,
@@ -42,10 +47,14 @@ pub fn recalled_law()
 {}
 
 /// The journal stays the tier's where a session's transaction commits and its record is noted (`commits`), where the
-/// tail is flushed (`flushes`), or with a definition, a drop, a STATE or a flag behind it (`definitions`, `drops`, `states`,
-/// `flags`), where a round is done, with the tail flushed before, and transactions of others come (`round`), where a
-/// synchronous transaction's record is flushed (`prepares`) and it comes (`applies`), and where the tier changes in what
-/// no entry tells (`quiet`). What was held is held.
+/// tail is flushed (`flushes`), or with a definition, a drop, a STATE or a flag behind it (`definitions`, `drops`,
+/// `states`, `flags`), where a round is done, with the tail flushed before, and transactions of others come (`round`),
+/// where a synchronous transaction's record is flushed (`prepares`) and it comes (`applies`), where the number of a
+/// write that is passed on is flushed (`numbers`) and it comes (`passes`), where transactions of others come that change
+/// no table of a live writethrough group, as in a call of the bank that reads (`others`, `reads`), where a table is
+/// defined whose foreign key refers to no table of such a group, whether the tier has been told or not (`tables`), where
+/// a slot is begun anew and nothing is unsettled (`rotates`), and where the tier changes in what no entry tells
+/// (`quiet`). What was held is held.
 pub fn journalled_law()
     ensures commits { (w : World) (early : List Sealed) (s : Session) → Stands w → IsJournalled w early
         → session_of w.tier s.label ≡ Some s → IsJournalledOn (with_commit_noted s w) early }
@@ -77,6 +86,23 @@ pub fn journalled_law()
     ensures applies { (w : World) (early : List Sealed) (s : Sealed) (front : List JournalEntry) (t : Tier)
         → IsJournalled w early → IsPrepared w s front → IsToldAtOnce s w.tier t
         → IsJournalledOn (at_history (w.history ++ entry_of s ∷ []) (record w { tier = t })) early }
+    ensures numbers { (w : World) (early : List Sealed) (t : Tier) (new : Journal) → Stands w → IsJournalled w early
+        → IsFlushedWith (Numbers w.tier.next) w.journal new → IsQuiet (with_ticket w.tier) t
+        → IsJournalledOn (with_flushed_entry t new w) early }
+    ensures passes { (w : World) (early : List Sealed) (s : Sealed) (front : List JournalEntry) (t : Tier)
+        → IsJournalled w early → IsNumbered w s front → IsToldAtOnce s w.tier t
+        → IsJournalledOn (at_history (w.history ++ entry_of s ∷ []) (record w { tier = t })) early }
+    ensures others { (w : World) (early : List Sealed) (entries : List Entry) (t : Tier) → IsJournalled w early
+        → IsUnshared w → AreOthers w.shared w.history entries → IsQuiet w.tier t
+        → IsJournalledOn (at_history (w.history ++ entries) (record w { tier = t })) early }
+    ensures reads { (w w' : World) (early : List Sealed) → IsJournalled w early → IsUnshared w
+        → BankCall (Grows []) w w' → IsQuiet w.tier w'.tier → IsJournalledOn w' early }
+    ensures tables { (w : World) (early : List Sealed) (def : TableDef) (t : Tier) → IsJournalled w early
+        → refers_to_writethrough w.tier def.foreign_key ≡ false → IsQuiet w.tier t
+        → IsJournalledOn (at_history (w.history ++ Definition def ∷ []) (record w { tier = t })) early }
+    ensures rotates { (w : World) (early : List Sealed) (new : Journal) → Stands w → IsJournalled w early
+        → w.journal.tail ≡ [] → w.tier.unsettled ≡ [] → IsRenewed w.tier new
+        → IsJournalledOn (record w { journal = new }) early }
     ensures quiet { (w : World) (early : List Sealed) (t : Tier) → IsJournalled w early → IsQuiet w.tier t
         → IsJournalled (record w { tier = t }) early }
 {}

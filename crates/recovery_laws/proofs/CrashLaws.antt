@@ -428,29 +428,29 @@ among_filter p s (x ∷ xs) a e = by (p x) refl a (among_filter p s xs)
     by false f (inl same) more = differ (p s) e (ap p (sym same) ∙ f)
     by false f (inr c) more = more c e
 
-commits_of_rotated : (next : ℕ) (gs : List Named) (u : List Sealed) → commits_in (rotated next gs u) ≡ u
-commits_of_rotated next gs u = commits_push (definitions gs) (flags_of gs ++ map Commit u) ∙ (λ i. defs gs i ++ (commits_push (flags_of gs) (map Commit u) ∙ (λ j. flags gs j ++ these u j)) i)
+commits_of_rotated : (next : ℕ) (gs : List Named) (fs : List (List ℕ × ℕ)) (u : List Sealed) → commits_in (rotated next gs fs u) ≡ u
+commits_of_rotated next gs fs u = commits_push (definitions gs) (flags_of fs ++ map Commit u) ∙ (λ i. defs gs i ++ (commits_push (flags_of fs) (map Commit u) ∙ (λ j. flags fs j ++ these u j)) i)
   where
     defs : (gs : List Named) → commits_in (definitions gs) ≡ []
     defs [] = refl
     defs (g ∷ gs) = commits_push (definitions gs) (Define g.name g.group.tables ∷ []) ∙ append-nil (commits_in (definitions gs)) ∙ defs gs
 
-    flags : (gs : List Named) → commits_in (flags_of gs) ≡ []
+    flags : (fs : List (List ℕ × ℕ)) → commits_in (flags_of fs) ≡ []
     flags [] = refl
-    flags (g ∷ gs) = commits_push (flags_of gs) (Flag g.name g.flag ∷ []) ∙ append-nil (commits_in (flags_of gs)) ∙ flags gs
+    flags (f ∷ fs) = flags fs
 
     these : (u : List Sealed) → commits_in (map Commit u) ≡ u
     these [] = refl
     these (s ∷ u) = ap (λ l. s ∷ l) (these u)
 
-pub rotation_holds : (notes : List Note) (h : List Entry) (next : ℕ) (gs : List Named) (u log : List Sealed) → IsMatched notes h → ((s : Sealed) → Among s (pending h (log_in h notes)) → Among s u) → AreHeld notes h log → AreHeld (rotated next gs u) h log
-rotation_holds notes h next gs u [] m all held = tt
-rotation_holds notes h next gs u (s ∷ log) m all held = (by held.0, rotation_holds notes h next gs u log m all held.1)
+pub rotation_holds : (notes : List Note) (h : List Entry) (next : ℕ) (gs : List Named) (fs : List (List ℕ × ℕ)) (u log : List Sealed) → IsMatched notes h → ((s : Sealed) → Among s (pending h (log_in h notes)) → Among s u) → AreHeld notes h log → AreHeld (rotated next gs fs u) h log
+rotation_holds notes h next gs fs u [] m all held = tt
+rotation_holds notes h next gs fs u (s ∷ log) m all held = (by held.0, rotation_holds notes h next gs fs u log m all held.1)
   where
-    which : (b : Bool) → has_ticket s.ticket.0 h ≡ b → Among s (commits_in notes) → Among s (commits_in (rotated next gs u)) ⊎ (found s.ticket.0 h ≡ Some s)
+    which : (b : Bool) → has_ticket s.ticket.0 h ≡ b → Among s (commits_in notes) → Among s (commits_in (rotated next gs fs u)) ⊎ (found s.ticket.0 h ≡ Some s)
     which true e a = inr (found_ops (log_in h notes) h s m.legal.ops (commit_told s h notes a) e)
-    which false e a = inl (subst (Among s) (sym (commits_of_rotated next gs u)) (all s (among_filter (is_pending h) s (log_in h notes) (commit_told s h notes a) (ap not e))))
+    which false e a = inl (subst (Among s) (sym (commits_of_rotated next gs fs u)) (all s (among_filter (is_pending h) s (log_in h notes) (commit_told s h notes a) (ap not e))))
 
-    by : Among s (commits_in notes) ⊎ (found s.ticket.0 h ≡ Some s) → Among s (commits_in (rotated next gs u)) ⊎ (found s.ticket.0 h ≡ Some s)
+    by : Among s (commits_in notes) ⊎ (found s.ticket.0 h ≡ Some s) → Among s (commits_in (rotated next gs fs u)) ⊎ (found s.ticket.0 h ≡ Some s)
     by (inl a) = which (has_ticket s.ticket.0 h) refl a
     by (inr e) = inr e

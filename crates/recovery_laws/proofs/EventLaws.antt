@@ -216,7 +216,7 @@ comes notes h s m may =
 here_now : (h : List Entry) (s : Sealed) → has_ticket s.ticket.0 (h ++ entry_of s ∷ []) ≡ true
 here_now h s = has_ticket-append s.ticket.0 h (entry_of s ∷ []) ∙ ap (λ b. has_ticket s.ticket.0 h || (b || false)) (eq-eqb s.ticket.0 s.ticket.0 refl) ∙ or_true (has_ticket s.ticket.0 h)
 
-found_now : (h : List Entry) (s : Sealed) → has_ticket s.ticket.0 h ≡ false → found s.ticket.0 (h ++ entry_of s ∷ []) ≡ Some s
+pub found_now : (h : List Entry) (s : Sealed) → has_ticket s.ticket.0 h ≡ false → found s.ticket.0 (h ++ entry_of s ∷ []) ≡ Some s
 found_now [] s none = ap (λ b. cond b (Some s) None) (eq-eqb s.ticket.0 s.ticket.0 refl)
 found_now (Definition def ∷ h) s none = found_now h s none
 found_now (Foreign ops ∷ h) s none = found_now h s none

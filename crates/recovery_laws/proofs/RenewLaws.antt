@@ -10,13 +10,13 @@ use Rattle.recovery_laws.specs.Rotations.{AllLater, definitions, flags_of, rotat
 use Rattle.recovery_laws.proofs.CrashLaws.{held_more, more_commits, rotation_holds}
 use Rattle.recovery_laws.proofs.RotateLaws.{rotation_matches}
 
-pub rotation_event : (w : World) (early u : List Sealed) (next : ℕ) → Stands w early → w.late ≡ [] → next_of (given w) ≤ next → AllLater (groups_of (given w)) u → all_on (live_tables (groups_of (given w))) u ≡ true → Stand (progress_of (groups_of (given w)) w.history u next)
-    → ((s : Sealed) → Among s (pending w.history (log_in w.history (given w))) → Among s u) → Event w (with_flushed (rotated next (catalog_of (given w)).groups u) w)
-rotation_event w early u next st nothing le later on stand all =
+pub rotation_event : (w : World) (early : List Sealed) (fs : List (List ℕ × ℕ)) (u : List Sealed) (next : ℕ) → Stands w early → w.late ≡ [] → next_of (given w) ≤ next → AllLater (groups_of (given w)) u → all_on (live_tables (groups_of (given w))) u ≡ true → Stand (progress_of (groups_of (given w)) w.history u next)
+    → ((s : Sealed) → Among s (pending w.history (log_in w.history (given w))) → Among s u) → Event w (with_flushed (rotated next (catalog_of (given w)).groups fs u) w)
+rotation_event w early fs u next st nothing le later on stand all =
     let gs = (catalog_of (given w)).groups in
     let commits : w.commits ≡ early = st.are ∙ ap (λ l. early ++ l) nothing ∙ append-nil early in
     let held : AreHeld (given w) w.history early = held_more w.flushed (given w) w.history w.history early (λ s a. more_commits w.flushed (map Commit w.late) s a) (λ t s e. e) st.held in
-    rotates (rotated next gs u) nothing (higher (next_of (given w)) next (mark_of (definitions gs ++ (flags_of gs ++ map Commit u))) (catalog_of (rotated next gs u)).next le) (rotation_matches (given w) w.history u next st.matched le later on stand) (subst (AreHeld (rotated next gs u) w.history) (sym commits) (rotation_holds (given w) w.history next gs u early st.matched all held))
+    rotates (rotated next gs fs u) nothing (higher (next_of (given w)) next (mark_of (definitions gs ++ (flags_of fs ++ map Commit u))) (catalog_of (rotated next gs fs u)).next le) (rotation_matches (given w) w.history fs u next st.matched le later on stand) (subst (AreHeld (rotated next gs fs u) w.history) (sym commits) (rotation_holds (given w) w.history next gs fs u early st.matched all held))
   where
     higher : (a n m k : ℕ) → a ≤ n → a ≤ max (max n m) k
     higher a n m k le = omega (arith, le)

@@ -78,7 +78,7 @@ tables_from_first : (groups : List LiveGroup) → live_tables (from_first groups
 tables_from_first [] = refl
 tables_from_first (g ∷ groups) = ap (λ l. g.tables ++ l) (tables_from_first groups)
 
-rise_low : (low : ℕ) (log : List Sealed) (high : ℕ) → RiseBetween low log high → low ≤ high
+pub rise_low : (low : ℕ) (log : List Sealed) (high : ℕ) → RiseBetween low log high → low ≤ high
 rise_low low [] high rise = rise
 rise_low low (s ∷ log) high rise = let a : low ≤ s.ticket.0 = rise.0 in let b : s.ticket.0 + 1 ≤ high = rise_low (s.ticket.0 + 1) log high rise.1 in omega arith
 
@@ -162,16 +162,15 @@ record Same (c d : Catalog) : Type 0 where
   groups : live_groups d.groups ≡ live_groups c.groups
   next : d.next ≡ c.next
 
-flags_fold : (gs : List Named) (c : Catalog) → Same c (recall_all (flags_of gs) c)
+flags_fold : (fs : List (List ℕ × ℕ)) (c : Catalog) → Same c (recall_all (flags_of fs) c)
 flags_fold [] c = record { groups = refl; next = refl }
-flags_fold (g ∷ gs) c =
-    let r = flags_fold gs c in
-    let d = recall_all (flags_of gs) c in
-    subst (Same c) (sym (recall_push (flags_of gs) (Flag g.name g.flag ∷ []) c)) (record { groups = flags_keep g.name g.flag d.groups ∙ r.groups; next = r.next })
+flags_fold (f ∷ fs) c =
+    let r = flags_fold fs (recall (Flag f.0 f.1) c) in
+    record { groups = r.groups ∙ flags_keep f.0 f.1 c.groups; next = r.next }
 
-flags_fit : (h : List Entry) (c : Catalog) (log : List Sealed) (gs : List Named) → FitAll h c log (flags_of gs)
+flags_fit : (h : List Entry) (c : Catalog) (log : List Sealed) (fs : List (List ℕ × ℕ)) → FitAll h c log (flags_of fs)
 flags_fit h c log [] = tt
-flags_fit h c log (g ∷ gs) = fits_push h c log (flags_of gs) (Flag g.name g.flag ∷ []) (flags_fit h c log gs) (tt, tt)
+flags_fit h c log (f ∷ fs) = (tt, flags_fit h (recall (Flag f.0 f.1) c) (log ++ []) fs)
 
 commits_groups : (u : List Sealed) (c : Catalog) → (recall_all (map Commit u) c).groups ≡ c.groups
 commits_groups [] c = refl
@@ -188,54 +187,54 @@ quiet_log : (h : List Entry) (gs : List Named) → log_in h (definitions gs) ≡
 quiet_log h [] = refl
 quiet_log h (g ∷ gs) = log_push h (definitions gs) (Define g.name g.group.tables ∷ []) ∙ append-nil (log_in h (definitions gs)) ∙ quiet_log h gs
 
-quiet_flags : (h : List Entry) (gs : List Named) → log_in h (flags_of gs) ≡ []
+quiet_flags : (h : List Entry) (fs : List (List ℕ × ℕ)) → log_in h (flags_of fs) ≡ []
 quiet_flags h [] = refl
-quiet_flags h (g ∷ gs) = log_push h (flags_of gs) (Flag g.name g.flag ∷ []) ∙ append-nil (log_in h (flags_of gs)) ∙ quiet_flags h gs
+quiet_flags h (f ∷ fs) = quiet_flags h fs
 
 commits_log : (h : List Entry) (u : List Sealed) → log_in h (map Commit u) ≡ u
 commits_log h [] = refl
 commits_log h (s ∷ u) = ap (λ l. s ∷ l) (commits_log h u)
 
-pub rotated_log : (h : List Entry) (next : ℕ) (gs : List Named) (u : List Sealed) → log_in h (rotated next gs u) ≡ u
-rotated_log h next gs u = log_push h (definitions gs) (flags_of gs ++ map Commit u) ∙ (λ i. quiet_log h gs i ++ (log_push h (flags_of gs) (map Commit u) ∙ (λ j. quiet_flags h gs j ++ commits_log h u j)) i)
+pub rotated_log : (h : List Entry) (next : ℕ) (gs : List Named) (fs : List (List ℕ × ℕ)) (u : List Sealed) → log_in h (rotated next gs fs u) ≡ u
+rotated_log h next gs fs u = log_push h (definitions gs) (flags_of fs ++ map Commit u) ∙ (λ i. quiet_log h gs i ++ (log_push h (flags_of fs) (map Commit u) ∙ (λ j. quiet_flags h fs j ++ commits_log h u j)) i)
 
 -- A rotation of a journal that matches matches, with all that is unsettled.
-pub rotation_matches : (notes : List Note) (h : List Entry) (u : List Sealed) (next : ℕ) → (m : IsMatched notes h) → next_of notes ≤ next → AllLater (groups_of notes) u → all_on (live_tables (groups_of notes)) u ≡ true
-    → Stand (progress_of (groups_of notes) h u next) → IsMatched (rotated next (catalog_of notes).groups u) h
-rotation_matches notes h u next m le later on stand =
+pub rotation_matches : (notes : List Note) (h : List Entry) (fs : List (List ℕ × ℕ)) (u : List Sealed) (next : ℕ) → (m : IsMatched notes h) → next_of notes ≤ next → AllLater (groups_of notes) u → all_on (live_tables (groups_of notes)) u ≡ true
+    → Stand (progress_of (groups_of notes) h u next) → IsMatched (rotated next (catalog_of notes).groups fs u) h
+rotation_matches notes h fs u next m le later on stand =
     let gs = (catalog_of notes).groups in
     let defs = definitions gs in
-    let flags = flags_of gs in
+    let flags = flags_of fs in
     let c = recall_all defs empty_catalog in
     let d = recall_all flags c in
     let cd = defs_fold gs in
-    let dd = flags_fold gs c in
+    let dd = flags_fold fs c in
     let tables : live_tables (live_groups d.groups) ≡ live_tables (groups_of notes) = ap live_tables (dd.groups ∙ cd.groups) ∙ tables_from_first (groups_of notes) in
-    let last_log : log_in h (flags ++ map Commit u) ≡ u = log_push h flags (map Commit u) ∙ (λ i. quiet_flags h gs i ++ commits_log h u i) in
-    let log : log_in h (rotated next gs u) ≡ u = log_push h defs (flags ++ map Commit u) ∙ (λ i. quiet_log h gs i ++ last_log i) in
-    let catalog : groups_of (rotated next gs u) ≡ from_first (groups_of notes) =
+    let last_log : log_in h (flags ++ map Commit u) ≡ u = log_push h flags (map Commit u) ∙ (λ i. quiet_flags h fs i ++ commits_log h u i) in
+    let log : log_in h (rotated next gs fs u) ≡ u = log_push h defs (flags ++ map Commit u) ∙ (λ i. quiet_log h gs i ++ last_log i) in
+    let catalog : groups_of (rotated next gs fs u) ≡ from_first (groups_of notes) =
     ap (λ (x : Catalog). live_groups x.groups) (recall_push defs (flags ++ map Commit u) empty_catalog ∙ recall_push flags (map Commit u) c)
     ∙ ap live_groups (commits_groups u d) ∙ dd.groups ∙ cd.groups
     in
     let rise : RiseBetween d.next u next = subst (λ (n : ℕ). RiseBetween n u next) (sym (dd.next ∙ cd.next)) stand.over.rise in
     let fits : FitAll h empty_catalog [] (defs ++ (flags ++ map Commit u)) =
     fits_push h empty_catalog [] defs (flags ++ map Commit u) (defs_fit h gs (all_apart h empty_catalog [] notes m.fits tt))
-    (fits_push h c ([] ++ log_in h defs) flags (map Commit u) (flags_fit h c ([] ++ log_in h defs) gs) (commits_fit h d (([] ++ log_in h defs) ++ log_in h flags) u next rise (ap (λ t. all_on t u) tables ∙ on)))
+    (fits_push h c ([] ++ log_in h defs) flags (map Commit u) (flags_fit h c ([] ++ log_in h defs) fs) (commits_fit h d (([] ++ log_in h defs) ++ log_in h flags) u next rise (ap (λ t. all_on t u) tables ∙ on)))
     in
     let now = stand_from_first (groups_of notes) h u next later stand in
-    stands_matched (rotated next gs u) h next (tt, fits) (λ t there. inl (lower t there (has_ticket t h) refl))
-    (subst (λ (g : List LiveGroup). Stand (progress_of g h (log_in h (rotated next gs u)) next)) (sym catalog) (subst (λ (l : List Sealed). Stand (progress_of (from_first (groups_of notes)) h l next)) (sym log) now))
+    stands_matched (rotated next gs fs u) h next (tt, fits) (λ t there. inl (lower t there (has_ticket t h) refl))
+    (subst (λ (g : List LiveGroup). Stand (progress_of g h (log_in h (rotated next gs fs u)) next)) (sym catalog) (subst (λ (l : List Sealed). Stand (progress_of (from_first (groups_of notes)) h l next)) (sym log) now))
   where
     differ : {P : Type 0} (b : Bool) → b ≡ true → b ≡ false → P
     differ b x y = cc
 
-    lower : (t : ℕ) → has_ticket t h ≡ true → (b : Bool) → has_ticket t h ≡ b → t < mark_of (rotated next (catalog_of notes).groups u)
+    lower : (t : ℕ) → has_ticket t h ≡ true → (b : Bool) → has_ticket t h ≡ b → t < mark_of (rotated next (catalog_of notes).groups fs u)
     lower t there b e = by (nat_le (next_of notes) t) refl
       where
-        by : (x : Bool) → nat_le (next_of notes) t ≡ x → t < mark_of (rotated next (catalog_of notes).groups u)
+        by : (x : Bool) → nat_le (next_of notes) t ≡ x → t < mark_of (rotated next (catalog_of notes).groups fs u)
         by true f = differ (has_ticket t h) there (no_later h notes m.fits m.known t (leb-true (next_of notes) t f))
         by false f =
-            let mark : next ≤ mark_of (rotated next (catalog_of notes).groups u) = le-max_left next (mark_of (definitions (catalog_of notes).groups ++ (flags_of (catalog_of notes).groups ++ map Commit u))) in
+            let mark : next ≤ mark_of (rotated next (catalog_of notes).groups fs u) = le-max_left next (mark_of (definitions (catalog_of notes).groups ++ (flags_of fs ++ map Commit u))) in
             let lt : t < next_of notes = under f in
             omega (arith, mark, lt, le)
           where

@@ -22,8 +22,8 @@ pub tied_quiet : (h : List Entry) (log : List Sealed) (notes : List Note) (x : N
 tied_quiet h log notes x none tied = tied ∙ sym (ap (pending h) (log_one h notes x [] none ∙ append-nil (log_in h notes)))
 
 -- a rotation keeps all that is unsettled
-pub tied_rotation : (h : List Entry) (log u : List Sealed) (next : ℕ) (gs : List Named) → pending h log ≡ pending h u → Tied h log (rotated next gs u)
-tied_rotation h log u next gs rest = rest ∙ sym (ap (pending h) (rotated_log h next gs u))
+pub tied_rotation : (h : List Entry) (log u : List Sealed) (next : ℕ) (gs : List Named) (fs : List (List ℕ × ℕ)) → pending h log ≡ pending h u → Tied h log (rotated next gs fs u)
+tied_rotation h log u next gs fs rest = rest ∙ sym (ap (pending h) (rotated_log h next gs fs u))
 
 -- a recovery's tier: its list is that of the entries
 pub tied_recovered : (h : List Entry) (notes : List Note) → Tied h (log_in h notes) notes

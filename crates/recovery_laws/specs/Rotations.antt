@@ -18,13 +18,15 @@ abbrev pub definitions : List Named → List Note
 definitions [] = []
 definitions (g ∷ groups) = definitions groups ++ Define g.name g.group.tables ∷ []
 
-abbrev pub flags_of : List Named → List Note
+-- flags, each with the name of its group
+abbrev pub flags_of : List (List ℕ × ℕ) → List Note
 flags_of [] = []
-flags_of (g ∷ groups) = flags_of groups ++ Flag g.name g.flag ∷ []
+flags_of (flag ∷ flags) = Flag flag.0 flag.1 ∷ flags_of flags
 
 -- the next ticket, the definitions, the flags, and the commits that aren't applied
-abbrev pub rotated : ℕ → List Named → List Sealed → List Note
-rotated next groups unsettled = Mark next ∷ (definitions groups ++ (flags_of groups ++ map Commit unsettled))
+abbrev pub rotated : ℕ → List Named → List (List ℕ × ℕ) → List Sealed → List Note
+rotated next groups flags unsettled =
+    Mark next ∷ (definitions groups ++ (flags_of flags ++ map Commit unsettled))
 
 -- its group from the first ticket on
 abbrev pub from_first : List LiveGroup → List LiveGroup

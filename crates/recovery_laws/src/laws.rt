@@ -35,12 +35,14 @@ pub fn crash_law()
         → AtMoment w x notes h → IsLeft early x.commits notes h }
 {}
 
-/// What a rotation puts in the journal's place matches (`matches`), and the rotation is an event (`event`): it loses
-/// no commit that was held.
+/// What a rotation puts in the journal's place matches, with any flags (`matches`), and the rotation is an event
+/// (`event`): it loses no commit that was held.
 pub fn rotation_law()
-    ensures matches { (notes : List Note) (h : List Entry) (us : List Sealed) (next : ℕ) → IsMatched notes h
-        → MayRotate notes h us next → IsMatched (rotated next (catalog_of notes).groups us) h }
-    ensures event { (w : World) (early us : List Sealed) (next : ℕ) → Stands w early → w.late ≡ []
-        → MayRotate (given w) w.history us next → HoldsPending (given w) w.history us
-        → Event w (with_flushed (rotated next (catalog_of (given w)).groups us) w) }
+    ensures matches { (notes : List Note) (h : List Entry) (flags : List (List ℕ × ℕ)) (us : List Sealed) (next : ℕ)
+        → IsMatched notes h → MayRotate notes h us next
+        → IsMatched (rotated next (catalog_of notes).groups flags us) h }
+    ensures event { (w : World) (early : List Sealed) (flags : List (List ℕ × ℕ)) (us : List Sealed) (next : ℕ)
+        → Stands w early → w.late ≡ [] → MayRotate (given w) w.history us next
+        → HoldsPending (given w) w.history us
+        → Event w (with_flushed (rotated next (catalog_of (given w)).groups flags us) w) }
 {}

@@ -1,0 +1,128 @@
+-- The console's writes, and the end of the input.
+use Rattle.std.proofs.Common.{◌≡◌, ◌⊎◌, inl, inr, ℕ, Bool, true, false, not, ◌&&◌, ◌||◌, nat_eq, Some, Result, Ok, Err, List, [], ◌∷◌, ◌++◌, map, refl, sym, ap, subst, ◌∙◌, append-nil, eq-eqb, eqb-true}
+use Rattle.std.specs.Option.{IsSome, option_and_then}
+use Rattle.tier_base.specs.declared.number.TableId.{TableId}
+use Rattle.evaluator.specs.declared.change.Change.{Change}
+use Rattle.table_state.specs.Copies.{is_one_of}
+use Rattle.table_state.specs.declared.history.Entry.{Entry}
+use Rattle.table_state.specs.declared.history.Entry.TheVariants.{Foreign}
+use Rattle.table_state.specs.declared.history.Sealed.{Sealed}
+use Rattle.table_state.specs.declared.operation.Op.{Op}
+use Rattle.table_state.specs.Histories.{state_from, state_of}
+use Rattle.table_state.specs.Operations.{applied_all, table_of}
+use Rattle.table_state.specs.Tables.{TableState}
+use Rattle.table_state.proofs.HistoryLaws.{state_of-append}
+use Rattle.outside.specs.Bank.{Grows}
+use Rattle.outside.specs.Console.{Writes, WritesForeign}
+use Rattle.outside.specs.Others.{AreOthers, Around, are_on_shared, is_shared}
+use Rattle.outside.specs.declared.site.Done.{Done as Wrote}
+use Rattle.outside.specs.declared.site.Done.TheVariants.{Rows, Broken}
+use Rattle.outside.specs.declared.fault.BankError.{BankError}
+use Rattle.outside.specs.declared.fault.BankError.TheVariants.{Failed, Memory}
+use Rattle.order_laws.specs.Commits.{is_op_on}
+use Rattle.order_laws.specs.Sides.{are_off}
+use Rattle.order_laws.specs.Standing.{live_tables}
+use Rattle.order_laws.proofs.TruthLaws.{both_true}
+use Rattle.cache_tier.specs.ConsoleSteps.{WritesAll}
+use Rattle.cache_tier.specs.Events.{at_history}
+use Rattle.cache_tier.specs.StandingBetween.{Stands, live_groups_of}
+use Rattle.cache_tier.specs.Steps.{Finishes}
+use Rattle.cache_tier.specs.Worlds.{IsUnshared, World}
+use Rattle.cache_tier.proofs.GroupTables.{live_table}
+use Rattle.cache_tier.proofs.HistoryKeeps.{others_go_on}
+use Rattle.sql_query.specs.declared.write.Write.{Write}
+use Rattle.resolution.specs.Writes.{change_seen, resolved_writes}
+use Rattle.recovery.specs.Journalled.{IsJournalled, IsJournalledOn}
+use Rattle.recovery.proofs.OthersLaws.{on_then, one_journalled, one_journalled_on, others_kept}
+use Rattle.line_laws.specs.Keeping.{AreOffLive, KeepsJournalAt, KeepsJournalWhere}
+use Rattle.line_laws.proofs.FlushLaws.{kept_flushes, tail_flushed}
+use Rattle.line_laws.proofs.OtherLaws.{others_schema}
+use Rattle.line_laws.proofs.PartWords.{still_quiet}
+
+-- ---- the end of the input
+
+pub finishes_kept : KeepsJournalAt Finishes
+finishes_kept w w' early stop stands j apart q ok = tail_flushed w w' early j (kept_flushes [] w w' stop j.kept q ok).0
+
+-- ---- one transaction of the console's, as of others that change its tables
+
+abbrev own_tables : List Op → List TableId
+own_tables [] = []
+own_tables (op ∷ ops) = table_of op ∷ own_tables ops
+
+or_true : (b : Bool) → (b || true) ≡ true
+or_true true = refl
+or_true false = refl
+
+on_more : (shared : List TableId) (t : TableId) (ops : List Op) → are_on_shared shared ops ≡ true → are_on_shared (t ∷ shared) ops ≡ true
+on_more shared t [] e = refl
+on_more shared t (op ∷ ops) e =
+    let (first, rest) = both_true (is_shared shared (table_of op)) (are_on_shared shared ops) e in
+    λ i. (ap (λ b. nat_eq t.0 (table_of op).0 || b) first ∙ or_true (nat_eq t.0 (table_of op).0)) i && on_more shared t ops rest i
+
+on_own : (ops : List Op) → are_on_shared (own_tables ops) ops ≡ true
+on_own [] = refl
+on_own (op ∷ ops) = λ i. ap (λ b. b || is_one_of (own_tables ops) (table_of op)) (eq-eqb (table_of op).0 (table_of op).0 refl) i && on_more (own_tables ops) (table_of op) ops (on_own ops) i
+
+not_false : (b : Bool) → not b ≡ true → b ≡ false
+not_false true e = Prim.cc
+not_false false e = refl
+
+same_id : (t u : TableId) → nat_eq t.0 u.0 ≡ true → t ≡ u
+same_id t u e = λ i. record { 0 = eqb-true t.0 u.0 e i }
+
+own_off : (live : List TableId) (ops : List Op) (t : TableId) → are_off live ops ≡ true → is_shared (own_tables ops) t ≡ true → is_one_of live t ≡ false
+own_off live [] t off e = Prim.cc
+own_off live (op ∷ ops) t off e = by (nat_eq (table_of op).0 t.0) refl e (own_off live ops t both.1)
+  where
+    both : (not (is_op_on live op) ≡ true) × (are_off live ops ≡ true)
+    both = both_true (not (is_op_on live op)) (are_off live ops) off
+
+    by : (b : Bool) → nat_eq (table_of op).0 t.0 ≡ b → (b || is_shared (own_tables ops) t) ≡ true → (is_shared (own_tables ops) t ≡ true → is_one_of live t ≡ false) → is_one_of live t ≡ false
+    by true f e rest = ap (is_one_of live) (sym (same_id (table_of op) t f)) ∙ not_false (is_op_on live op) both.0
+    by false f e rest = rest e
+
+leads_to : (h : List Entry) (ops : List Op) (b n : TableState) → state_of h ≡ Some b → applied_all ops b ≡ Some n → (s : TableState) → state_of h ≡ Some s → IsSome (state_of (h ++ Foreign ops ∷ []))
+leads_to h ops b n leaves is s e =
+    let now : state_of (h ++ Foreign ops ∷ []) ≡ Some n = state_of-append h (Foreign ops ∷ []) ∙ ap (option_and_then (state_from (Foreign ops ∷ []))) leaves ∙ ap (λ o. option_and_then (state_from []) o) is in
+    subst IsSome (sym now) refl
+
+module _ (writes : List Write) (w w' : World) (early : List Sealed) (stands : Stands w) (j : IsJournalled w early) (apart : IsUnshared w) (off : AreOffLive writes w) (changes : List Change) (seen : resolved_writes w.tier.schema writes ≡ Ok (map change_seen changes)) (tier : w'.tier ≡ w.tier) (journal : w'.journal ≡ w.journal) where
+  came : (rows : ℕ) (before middle behind : List Entry) → AreOthers w.shared w.history before → Writes changes rows (w.history ++ before) middle → AreOthers w.shared middle behind → w'.history ≡ middle ++ behind → IsJournalledOn w' early
+  came rows before middle behind came_before own came_behind history =
+      let first = others_kept w early before w.tier j apart came_before (still_quiet w.tier) in
+      let st = (others_go_on w before stands apart came_before).stands in
+      let over = st.flow.stand.over in
+      let done = own.done over.backing over.leaves in
+      let beside = off changes own.ops rows stands.flow.stand.over.backing over.backing seen stands.flow.stand.over.leaves (others_schema w.shared before w.history stands.flow.stand.over.backing over.backing stands.flow.stand.over.leaves came_before over.leaves) done in
+      let base : World = record w { history = w.history ++ before; shared = own_tables own.ops } in
+      let second = others_kept base first.now (Foreign own.ops ∷ []) w.tier (one_journalled (at_history (w.history ++ before) w) base first.now (record { tier = refl; history = refl; journal = refl }) first.is)
+      (λ t e. sym (live_table w.tier.groups t) ∙ own_off (live_tables (live_groups_of w.tier.groups)) own.ops t beside e)
+      (on_own own.ops, leads_to (w.history ++ before) own.ops over.backing done.left over.leaves done.applies, tt) (still_quiet w.tier) in
+      let next : World = at_history ((w.history ++ before) ++ Foreign own.ops ∷ []) w in
+      let third = others_kept next second.now behind w.tier (one_journalled (at_history ((w.history ++ before) ++ Foreign own.ops ∷ []) base) next second.now (record { tier = refl; history = refl; journal = refl }) second.is) apart
+      (subst (λ l. AreOthers w.shared l behind) own.grows came_behind) (still_quiet w.tier) in
+      let last : World = at_history (((w.history ++ before) ++ Foreign own.ops ∷ []) ++ behind) w in
+      one_journalled_on last w' early (record { tier = tier; history = history ∙ ap (λ l. l ++ behind) own.grows; journal = journal })
+      (on_then last early first.now first.more first.grows (on_then last first.now second.now second.more second.grows third))
+
+  without : (before middle behind : List Entry) → AreOthers w.shared w.history before → Grows [] (w.history ++ before) middle → AreOthers w.shared middle behind → w'.history ≡ middle ++ behind → IsJournalledOn w' early
+  without before middle behind came_before own came_behind history =
+      let first = others_kept w early before w.tier j apart came_before (still_quiet w.tier) in
+      let same : middle ≡ w.history ++ before = own ∙ append-nil (w.history ++ before) in
+      let second = others_kept (at_history (w.history ++ before) w) first.now behind w.tier first.is apart (subst (λ l. AreOthers w.shared l behind) same came_behind) (still_quiet w.tier) in
+      let last : World = at_history ((w.history ++ before) ++ behind) w in
+      one_journalled_on last w' early (record { tier = tier; history = history ∙ ap (λ l. l ++ behind) same; journal = journal }) (on_then last early first.now first.more first.grows second)
+
+  wrote : (result : Result Wrote BankError) → Around w.shared (WritesForeign changes result) w.history w'.history → IsJournalledOn w' early
+  wrote (Ok (Rows n)) a = came n a.before a.middle a.behind a.came_before a.own a.came_behind a.is
+  wrote (Ok (Broken rule)) a = without a.before a.middle a.behind a.came_before a.own.0 a.came_behind a.is
+  wrote (Err Memory) a = without a.before a.middle a.behind a.came_before a.own a.came_behind a.is
+  wrote (Err Failed) a = by a.own
+    where
+      by : Grows [] (w.history ++ a.before) a.middle ⊎ ((n : ℕ) × Writes changes n (w.history ++ a.before) a.middle) → IsJournalledOn w' early
+      by (inl own) = without a.before a.middle a.behind a.came_before own a.came_behind a.is
+      by (inr own) = came own.0 a.before a.middle a.behind a.came_before own.1 a.came_behind a.is
+
+pub console_kept : (writes : List Write) → KeepsJournalWhere (AreOffLive writes) (WritesAll writes)
+console_kept writes w w' early reply stands j apart off q ok = wrote writes w w' early stands j apart off q.changes q.stand_for q.tier q.call.journal q.result q.call.history
