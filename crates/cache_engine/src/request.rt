@@ -142,10 +142,7 @@ fn work_and_answer<P: Site>(
     };
     match stop {
         Some(reply) => with_notes(notes, reply),
-        None => with_notes(
-            notes,
-            answer_line(tier, doubt, alloc, site, journal, line),
-        ),
+        None => with_notes(notes, answer_line(tier, doubt, alloc, site, journal, line)),
     }
 }
 

@@ -184,9 +184,7 @@ fn execute<P: Site>(
     match statement {
         Stmt::Select(query) => run_query(tier, alloc, id, &query),
         Stmt::Write(write) => write_rows(tier, alloc, site, id, &write),
-        Stmt::CreateGroup(group) => {
-            create_group(tier, alloc, site, journal, id, group, text)
-        }
+        Stmt::CreateGroup(group) => { create_group(tier, alloc, site, journal, id, group, text) }
         Stmt::Load(load) => load_group(tier, alloc, site, journal, id, &load),
         Stmt::Refresh(load) => refresh_group(tier, alloc, site, journal, id, &load),
         Stmt::Unload(unload) => unload_group(tier, alloc, site, journal, id, &unload),

@@ -75,7 +75,6 @@ WritesDraft state possible old new d d' draft e stop stage =
     (w : World) → w.moment ≡ (state d).moment → KeepsOver state possible d old w → IsDraftOf w.tier.schema old draft e
     → IsWrittenOver state possible new d d' stop stage w
 
-
 -- the reply with which a stage ends has no notes, and tells no fault of the bank
 abbrev pub IsOfDisk : Option Reply → Type 0
 IsOfDisk None = Unit {0}
