@@ -24,8 +24,8 @@ pub record IsDueCaused (k : Option TierJournal) (before behind : SiteState) (due
   pub shares : behind.shared ≡ before.shared
   pub slots : k ≡ None → KeepsSlots before.held behind.held
   pub bank :
-      Rose before.bank_faults (count_by (note_tells code.BackingFault) due.notes + stop_faults code.BackingFault due.stop)
-      behind.bank_faults
+      Rose before.bank_faults
+      (count_by (note_tells code.BackingFault) due.notes + stop_faults code.BackingFault due.stop) behind.bank_faults
   pub disk : count_by (note_tells code.JournalFault) due.notes ≡ 0
   pub stop : Rose before.disk_faults (stop_faults code.JournalFault due.stop) behind.disk_faults
   pub whole : k ≡ None → stop_faults code.JournalFault due.stop ≡ 0

@@ -63,8 +63,8 @@ pub record Footing (D : Type 0) : Type 0 where
 abbrev pub over : {D : Type 0} → Option TierJournal → D → Footing D
 over k d = record { journal = k; disk = d }
 
--- The stored tier does an item of due work in each world, and its notes come behind the earlier ones. Each fault that they
--- tell has its cause, the groups keep their definitions, and no set loses the entry of its last refresh.
+-- The stored tier does an item of due work in each world, and its notes come behind the earlier ones. Each fault that
+-- they tell has its cause, the groups keep their definitions, and no set loses the entry of its last refresh.
 pub record DoesItem {D : Type 0} (state : D → SiteState) (possible : D → ℕ → Held → Type 0) (item : Item)
     (old new : Stored) (before behind : Footing D) (earlier notes : List Note) (stop : Option Reply) : Type 0 where
   pub performs :

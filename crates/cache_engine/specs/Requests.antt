@@ -44,8 +44,8 @@ abbrev pub LineStep : ℕ → World → List ℕ → World → Option Reply → 
 LineStep base w bytes w' reply =
     (said : Saying) × (IsSaid bytes said ⊎ IsUnread bytes w w' reply) × Step base w said w' reply
 
--- The same of a line in which a journal may be written to. Where its reply tells a failed call of the journal's disk, it
--- isn't said that the world's count of such calls rose; it is said of the site's.
+-- The same of a line in which a journal may be written to. Where its reply tells a failed call of the journal's disk,
+-- it isn't said that the world's count of such calls rose; it is said of the site's.
 abbrev pub LineGoes : ℕ → World → List ℕ → World → Option Reply → Type 0
 LineGoes base w bytes w' None = LineStep base w bytes w' None
 LineGoes base w bytes w' (Some reply) =
@@ -66,8 +66,8 @@ LineRun w (g ∷ lines) (reply ∷ replies) w' =
     (mid : World) × LineStep g.base w g.bytes mid reply × LineRun mid lines replies w'
 
 -- Counts and moments don't fall, and what others change stays; the slots do where no journal is kept. Each fault of the
--- bank, and each of the journal, that a reply tells has a failed call of its own. No note tells one of the journal, and without
--- a journal none is told.
+-- bank, and each of the journal, that a reply tells has a failed call of its own. No note tells one of the journal, and
+-- without a journal none is told.
 pub record IsLineCaused (k : Option TierJournal) (before behind : SiteState) (reply : Option Reply) : Type 0 where
   pub later : before.bank_faults ≤ behind.bank_faults
   pub moment : before.moment ≤ behind.moment

@@ -20,9 +20,9 @@ use stored_tier::tier::Tier;
 use table_defs::BackingSchema;
 use tier_base::{Limit, Moment};
 
-/// An engine over a backing database in which no transaction of a tier stands: nothing is in doubt, and no journal is kept. It asks for the schema; transactions of
-/// others may come in that call. `start` is its first moment, and `propagate_ms` says after how many milliseconds a
-/// round is due; 0 where none ever is.
+/// An engine over a backing database in which no transaction of a tier stands: nothing is in doubt, and no journal is
+/// kept. It asks for the schema; transactions of others may come in that call. `start` is its first moment, and
+/// `propagate_ms` says after how many milliseconds a round is due; 0 where none ever is.
 ///
 /// `Failed` only where the count of bank faults rose in this call; nothing else is known then, as for want of
 /// memory.

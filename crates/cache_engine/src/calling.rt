@@ -31,8 +31,9 @@ use tier_statements::{done, faulty};
 /// gives the transaction a level of passthrough.
 ///
 /// The refusal is the first rule that the procedure and its arguments break, as `resolve_call` tells it; a failed call
-/// of the bank is 201, of the journal's disk 202, after which the run is to end, a row that isn't as a transaction says 210; or memory was wanting. (TimesTen Cache User's
-/// Guide, "ttCacheAutorefresh"; TimesTen built-in procedures, "ttOptSetFlag"; ttDrain is this project's.)
+/// of the bank is 201, of the journal's disk 202, after which the run is to end, a row that isn't as a transaction says
+/// 210; or memory was wanting. (TimesTen Cache User's Guide, "ttCacheAutorefresh"; TimesTen built-in procedures,
+/// "ttOptSetFlag"; ttDrain is this project's.)
 pub fn call_procedure<P: Site>(
     tier: &mut Tier,
     alloc: Global,
@@ -88,7 +89,8 @@ fn refresh_called<P: Site>(tier: &mut Tier, alloc: Global, site: &mut P, interva
 // ttOptSetFlag, as `set_level`.
 fn give_level(tier: &mut Tier, alloc: Global, id: SessionId, level: u8) -> Reply
     requires { IsSound tier.old }
-    ensures performs { (site : SiteState) (s : Session) → HasSession tier.old id s → Performs tier.old tier.new site site
+    ensures performs { (site : SiteState) (s : Session) → HasSession tier.old id s
+        → Performs tier.old tier.new site site
         (λ w w'. Tries (Quiet (flag_answer w.tier s.label level)) w w' result) }
     ensures sound { IsSound tier.new }
     ensures calm { IsCalm result }

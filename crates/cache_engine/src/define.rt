@@ -13,7 +13,8 @@ use std::alloc::{AllocError, Global};
 /// The text by which a journal keeps the definition of a group; the empty one of another statement. It fails for want
 /// of memory alone.
 pub(crate) fn definition_text(alloc: Global, statement: &Stmt) -> Result<Text, AllocError>
-    ensures { IfOk result (λ text. (d : CreateGroup) → statement.now ≡ statements.CreateGroup d → text ≡ text_of d) }
+    ensures { IfOk result (λ text. (d : CreateGroup) → statement.now ≡ statements.CreateGroup d
+        → text ≡ text_of d) }
 {
     if is_definition(statement) {
         return print(alloc, statement);

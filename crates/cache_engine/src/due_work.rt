@@ -78,8 +78,8 @@ fn tell(told: Option<Note>, notes: &mut Vec<Note>)
     }
 }
 
-// What is due is done: the round, and the sets of these intervals. Its notes come behind the others, and it is the reply
-// that ends the line.
+// What is due is done: the round, and the sets of these intervals. Its notes come behind the others, and it is the
+// reply that ends the line.
 fn do_due<P: Site>(
     tier: &mut Tier,
     alloc: Global,

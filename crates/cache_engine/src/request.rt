@@ -28,13 +28,13 @@ use tier_statements::{faulty, refuse};
 /// Answers one request line, without its line end. A line that is empty or a comment has no reply. Moments are counted
 /// from `base`.
 ///
-/// The line is a step of the abstract tier, and the reply is that step's. It is so in each world in which the engine was
-/// left so: its tier stands there, or a commit is in doubt. Where memory is wanting the reply says so, and the engine is
-/// as before but for the due work.
+/// The line is a step of the abstract tier, and the reply is that step's. It is so in each world in which the engine
+/// was left so: its tier stands there, or a commit is in doubt. Where memory is wanting the reply says so, and the
+/// engine is as before but for the due work.
 ///
 /// A reply tells a fault of the bank only where the count of bank faults rose in this call, and a fault of the journal
-/// (202) only where a journal is kept and the count of the disk's faults rose, also where the site tells nothing of what
-/// it holds. Behind a fault of the journal the run is to end: nothing is said of what the engine is left in.
+/// (202) only where a journal is kept and the count of the disk's faults rose, also where the site tells nothing of
+/// what it holds. Behind a fault of the journal the run is to end: nothing is said of what the engine is left in.
 pub fn request<P: Site>(
     engine: &mut Engine,
     alloc: Global,

@@ -38,8 +38,8 @@ use tier_base::{Label, SessionId};
 use tier_journal::TierJournal;
 use tier_statements::{done, refuse};
 
-/// Answers a line that is admitted, where nothing is in doubt: the bank is asked for the schema where the line wants it,
-/// and the line does what it says. A COMMIT whose call failed leaves its ticket in doubt.
+/// Answers a line that is admitted, where nothing is in doubt: the bank is asked for the schema where the line wants
+/// it, and the line does what it says. A COMMIT whose call failed leaves its ticket in doubt.
 pub(crate) fn answer_line<P: Site>(
     tier: &mut Tier,
     doubt: &mut Option<Doubt>,
@@ -113,7 +113,8 @@ fn do_request<P: Site>(
     requires free { doubt.old ≡ None }
     requires done { is_undone_request request ≡ false }
     ensures performs { EndsOver P.Disk.state P.Disk.possible tier.old tier.new doubt.new journal.old journal.new
-        site.old site.new (Some (reply_of result)) (λ w w'. DoesAdmitted (says.Session label.now request) w w' (reply_of result)) }
+        site.old site.new (Some (reply_of result))
+        (λ w w'. DoesAdmitted (says.Session label.now request) w w' (reply_of result)) }
     ensures sound { IsSound tier.new }
     ensures ready { IsReady tier.new doubt.new }
     ensures cause { IsCausedOver journal.old

@@ -19,13 +19,15 @@ use tier_base::{Code, Limit};
 use tier_journal::TierJournal;
 use tier_statements::{faulty, only};
 
-/// Flushes the tail, where a journal is kept. The reply is `fault 202`: a call of the disk failed, and the run is to end.
+/// Flushes the tail, where a journal is kept. The reply is `fault 202`: a call of the disk failed, and the run is to
+/// end.
 pub fn flush_tail<D: Disk>(
     alloc: Global,
     disk: &mut D,
     journal: &mut Option<TierJournal>,
 ) -> Result<(), Reply>
-    ensures flushes { WritesOver D.state D.possible journal.old journal.new disk.old disk.new (stop_of result) (Flushes []) }
+    ensures flushes { WritesOver D.state D.possible journal.old journal.new disk.old disk.new (stop_of result)
+        (Flushes []) }
     ensures none { journal.old ≡ None → journal.new ≡ None }
     ensures cause { DiskIsCaused journal.old (D.state disk.old) (D.state disk.new) (stop_of result) }
 {
@@ -64,8 +66,8 @@ pub fn flush_draft<D: Disk>(
     }
 }
 
-/// Notes the entry that was made ready, or flushes it with the tail before it where it is to be durable, where a journal
-/// is kept. The reply is `fault 202` where a call of the disk failed, and the run is to end. It takes no memory.
+/// Notes the entry that was made ready, or flushes it with the tail before it where it is to be durable, where a
+/// journal is kept. The reply is `fault 202` where a call of the disk failed, and the run is to end. It takes no memory.
 pub fn record_draft<D: Disk>(
     alloc: Global,
     disk: &mut D,

@@ -28,8 +28,9 @@ impl Tier {
     /// CALL ttDrain: the unsettled transactions are applied at the bank, in ticket order. The reply tells how many got
     /// their receipt; nothing is unsettled then.
     ///
-    /// It is 202 where a call of the journal's disk failed; the run is to end then. It is 201 where a call of the bank failed, 210 with the table and the key of a row that isn't as the transaction
-    /// says, and 299 where memory was wanting; then those stay unsettled that have no receipt. (TimesTen Cache User's
+    /// It is 202 where a call of the journal's disk failed; the run is to end then. It is 201 where a call of the bank
+    /// failed, 210 with the table and the key of a row that isn't as the transaction says, and 299 where memory was
+    /// wanting; then those stay unsettled that have no receipt. (TimesTen Cache User's
     /// Guide, asynchronous writethrough; the call and its codes are this project's rule.)
     pub fn drain<P: Site>(
         &mut self,
