@@ -3,6 +3,7 @@ pub mod Due
 pub mod DueItems
 pub mod Engines
 pub mod Growing
+pub mod Keeping
 pub mod Requests
 pub mod Serving
 pub mod Tabling

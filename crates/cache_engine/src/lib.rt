@@ -12,6 +12,7 @@ pub mod due_work;
 pub mod early;
 pub mod engine;
 pub mod growing;
+pub mod keeping;
 pub mod request;
 pub mod schema;
 pub mod serving;

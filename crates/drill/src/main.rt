@@ -9,13 +9,16 @@
 mod backing;
 mod error;
 mod joined;
+mod kept;
 mod plan;
 mod script;
+mod slots;
 mod stage;
 mod telling;
 
 use error::DrillError;
 use script::Script;
+use slots::tell_slots;
 use stage::Stage;
 use std::alloc::Global;
 use std::io::{Read, Write};
@@ -49,6 +52,9 @@ fn drilled(alloc: Global, bytes: &[u8]) -> Result<(u8, Vec<u8>), DrillError> {
     let mut stage = Stage::new(alloc)?;
     stage.plan_all(alloc, &script)?;
     let (status, sink) = stage.run(alloc, script.input.as_slice())?;
-    let text = told(alloc, sink.bytes(), stage.site.history().as_slice())?;
+    let mut text = told(alloc, sink.bytes(), stage.site.history().as_slice())?;
+    if stage.journal {
+        tell_slots(alloc, &mut stage.site, &mut text)?;
+    }
     Ok((status, text))
 }

@@ -26,6 +26,9 @@ pub enum Plan<'a> {
     Words(&'a str),
     /// `joined`: tables that foreign keys join stand in the history before the run, as `joined` defines them.
     Joined,
+    /// `journal`: the engine runs beside a new journal, without the program's settings and session, and the journal's
+    /// slots are told at the end.
+    Journal,
     /// `note TEXT`: what the script is about. It plans nothing.
     Note,
 }
@@ -54,6 +57,7 @@ impl<'a> Plan<'a> {
             "settings" => Some(Plan::Settings(rest)),
             "words" => Some(Plan::Words(rest)),
             "joined" => Some(Plan::Joined),
+            "journal" => Some(Plan::Journal),
             "note" => Some(Plan::Note),
             _ => None,
         }
@@ -99,6 +103,9 @@ fn parse_kind(word: &str) -> Option<CallKind> {
         "find" => Some(CallKind::Find),
         "foreign" => Some(CallKind::Foreign),
         "snapshot" => Some(CallKind::Snapshot),
+        "read" => Some(CallKind::ReadAt),
+        "write" => Some(CallKind::WriteAt),
+        "sync" => Some(CallKind::Sync),
         _ => None,
     }
 }

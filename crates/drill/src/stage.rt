@@ -3,6 +3,7 @@
 use crate::backing::{asked_behind_label, changes_of, defined};
 use crate::error::DrillError;
 use crate::joined::joined_tables;
+use crate::kept::run_kept;
 use crate::plan::Plan;
 use crate::script::{Planned, Script};
 use backing_gate::{CallKind, MemorySite};
@@ -27,6 +28,8 @@ pub struct Stage<'a> {
     piece: usize,
     source_fails: Vec<u64>,
     sink_fails: Vec<u64>,
+    /// Whether the engine runs beside a journal.
+    pub journal: bool,
 }
 
 impl Drop for Stage<'_> {
@@ -41,6 +44,7 @@ impl Drop for Stage<'_> {
             piece: _,
             source_fails: _,
             sink_fails: _,
+            journal: _,
         } = self;
     }
 }
@@ -59,6 +63,7 @@ impl<'a> Stage<'a> {
             piece: 65_536,
             source_fails: Vec::new(alloc),
             sink_fails: Vec::new(alloc),
+            journal: false,
         })
     }
 
@@ -148,6 +153,7 @@ impl<'a> Stage<'a> {
                 self.site.foreign_at(call, side, changes)?;
             }
             Plan::Before(_) | Plan::Joined | Plan::Note => {}
+            Plan::Journal => self.journal = true,
             Plan::Pieces(piece) => self.piece = piece,
             Plan::Source(call) => self.source_fails.push(call).map_err(AllocError::from)?,
             Plan::Sink(call) => self.sink_fails.push(call).map_err(AllocError::from)?,
@@ -173,9 +179,14 @@ impl<'a> Stage<'a> {
 
     /// Runs the program over the input. The status, and the sink with the replies.
     pub fn run(&mut self, alloc: Global, input: &[u8]) -> Result<(u8, MemorySink), AllocError> {
+        let sink_fails = Vec::from_slice(alloc, self.sink_fails.as_slice())?;
+        if self.journal {
+            let mut sink = MemorySink::new(alloc, self.piece, sink_fails);
+            let status = run_kept(alloc, &mut self.site, input, &mut sink)?;
+            return Ok((status, sink));
+        }
         let input = Vec::from_slice(alloc, input)?;
         let source_fails = Vec::from_slice(alloc, self.source_fails.as_slice())?;
-        let sink_fails = Vec::from_slice(alloc, self.sink_fails.as_slice())?;
         let words = words_of(alloc, self.words)?;
         let mut source = MemorySource::new(input, self.piece.max(1), source_fails);
         let mut sink = MemorySink::new(alloc, self.piece, sink_fails);

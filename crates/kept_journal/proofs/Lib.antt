@@ -1,2 +1,3 @@
 pub mod DraftLaws
 pub mod FlushLaws
+pub mod OpeningLaws

@@ -4,6 +4,8 @@
 pub mod draft;
 pub mod keeping;
 mod making;
+pub mod opening;
 
 pub use draft::Draft;
 pub use keeping::{flush_draft, flush_tail, record_draft};
+pub use opening::{EmptyError, empty_journal};

@@ -1,6 +1,6 @@
 //! Opening the tier's journal.
 
-ghost use Rattle.std.specs.Prelude.{◌≡◌, ◌<◌, ◌^◌, ℕ, Some, None, [], IfOk, length};
+ghost use Rattle.std.specs.Prelude.{◌≡◌, ◌<◌, ◌^◌, ℕ, Some, None, [], IfErr, IfOk, length};
 ghost use Rattle.outside.specs.declared.disk.Slot.{Slot as OneSlot};
 ghost use Rattle.outside.specs.Calls.{Certain, Leaves};
 ghost use Rattle.outside.specs.Holding.{Held, Slots};
@@ -8,6 +8,7 @@ ghost use Rattle.commit_journal.specs.Causes.{OpenHasCause};
 ghost use Rattle.commit_journal.specs.Layout.{Reads, entries_of};
 ghost use Rattle.commit_journal.specs.Opening.{HaveBytes, IsBlank, Keeps};
 ghost use Rattle.commit_journal.specs.Resting.{AtRest};
+ghost use Rattle.tier_journal.specs.declared.opening.Found.TheVariants.{Damaged, Whole};
 ghost use Rattle.tier_journal.specs.Opening.{Finds, IsNewFound, IsOfJournal, ShowsFound};
 
 use crate::journal::TierJournal;
@@ -32,6 +33,19 @@ impl Drop for Found {
         match self {
             Self::Whole(_, _) => {}
             Self::Damaged(_, _) => {}
+        }
+    }
+}
+
+impl Found {
+    /// The journal with its entries; or the first damaged place.
+    pub fn into_whole(self) -> Result<(TierJournal, Vec<Record>), (Slot, u64)>
+        ensures whole { IfOk result (λ parts. self ≡ Whole parts.0 parts.1) }
+        ensures damaged { IfErr result (λ place. self ≡ Damaged place.0 place.1) }
+    {
+        match self {
+            Self::Whole(journal, records) => Ok((journal, records)),
+            Self::Damaged(slot, place) => Err((slot, place)),
         }
     }
 }
