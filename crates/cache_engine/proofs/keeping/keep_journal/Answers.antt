@@ -1,4 +1,5 @@
-use Rattle.std.proofs.Common.{refl}
+use Rattle.std.proofs.Common.{refl, subst}
+use Rattle.kept_journal.specs.Opening.{IsEmptyOver}
 use Rattle.cache_engine.proofs.keeping.keep_journal.Goals as goal
 
 pub returns-in-Ok-clause-kept : goal.returns-in-Ok-clause-kept
@@ -7,5 +8,7 @@ returns-in-Ok-clause-kept g c = record {
   doubt = refl;
   kept = c.in-Ok.journal;
   is = refl;
-  over = c.in-Ok.ensures.empty;
+  over = λ o told have.
+      subst (λ s. IsEmptyOver g.P.Disk.state g.P.Disk.possible s o c.in-Ok.journal c.empty_journal.new.disk)
+      c.as_slice.ensures (c.in-Ok.ensures.empty o told have);
 }
