@@ -8,6 +8,7 @@ use cache_engine::engine::Engine;
 use cache_engine::keeping::keep_journal;
 use cache_engine::request::request;
 use cache_tier::reply::Last;
+use kept_journal::EmptyError;
 use outside::MemorySink;
 use session_cli::{Output, write_reply};
 use std::alloc::{AllocError, Global};
@@ -31,8 +32,11 @@ pub fn run_kept(
     let Ok(mut engine) = begin(alloc, site, Moment(0), 0) else {
         return Ok(NOT_BEGUN);
     };
-    if keep_journal(&mut engine, alloc, site).is_err() {
-        return Ok(NOT_BEGUN);
+    match keep_journal(&mut engine, alloc, site) {
+        Ok(()) => {}
+        Err(EmptyError::Disk) => return Ok(NOT_BEGUN),
+        Err(EmptyError::Used) => return Ok(NOT_BEGUN),
+        Err(EmptyError::Memory) => return Ok(NOT_BEGUN),
     }
     let status = answer_all(alloc, &mut engine, site, input, &mut output, sink);
     let _ = output.flush(sink);
