@@ -54,7 +54,7 @@ fourth_of a b c d e h =
     (or_none d e three.1).0
 
 -- the letters of clauses
-abbrev with_f : CreateGroup → List Placed → Bool
+abbrev pub with_f : CreateGroup → List Placed → Bool
 with_f d ps = not (is_read_only_kind d.kind) && list_any has_filter ps
 
 abbrev with_g : CreateGroup → Bool
@@ -69,7 +69,7 @@ with_j schema d ps = not (is_read_only_kind d.kind) && is_joined_outside schema 
 abbrev with_k : CreateGroup → List Placed → Bool
 with_k d ps = has_wrong_interval d.autorefresh || list_any has_wrong_times ps
 
-no_f : (schema : List TableDef) (d : CreateGroup) (ps : List Placed) → clauses_fault schema d ps ≡ None → with_f d ps ≡ false
+pub no_f : (schema : List TableDef) (d : CreateGroup) (ps : List Placed) → clauses_fault schema d ps ≡ None → with_f d ps ≡ false
 no_f schema d ps h =
     unbroken (with_f d ps) (lettered letter.F)
     (first_of (broken_if (with_f d ps) (lettered letter.F)) (broken_if (with_g d) (lettered letter.G)) (broken_if (with_h d ps) (lettered letter.H))
@@ -81,7 +81,7 @@ no_j schema d ps h =
     (fifth_of (broken_if (with_f d ps) (lettered letter.F)) (broken_if (with_g d) (lettered letter.G)) (broken_if (with_h d ps) (lettered letter.H))
     (broken_if (list_any has_wrong_aging ps) (lettered letter.I)) (broken_if (with_j schema d ps) (lettered letter.J)) (broken_if (with_k d ps) (lettered letter.K)) h)
 
-no_d : (schema : List TableDef) (groups : List GroupDef) (ps : List Placed) → tables_fault schema groups ps ≡ None → list_any (is_grouped groups) ps ≡ false
+pub no_d : (schema : List TableDef) (groups : List GroupDef) (ps : List Placed) → tables_fault schema groups ps ≡ None → list_any (is_grouped groups) ps ≡ false
 no_d schema groups ps h =
     unbroken (list_any (is_grouped groups) ps) (lettered letter.D)
     (fourth_of (broken_if (list_any has_other_key ps) (lettered letter.A)) (broken_if (list_any has_foreign_parent ps) (lettered letter.B))
@@ -89,7 +89,7 @@ no_d schema groups ps h =
     (broken_if (list_any (differs_from_backing schema) ps) (lettered letter.E)) h)
 
 -- a test that is asked of writethrough groups alone
-asked : (read_only : Bool) (b : Bool) → read_only ≡ false → (not read_only && b) ≡ false → b ≡ false
+pub asked : (read_only : Bool) (b : Bool) → read_only ≡ false → (not read_only && b) ≡ false → b ≡ false
 asked true b e f = cc
 asked false b e f = f
 

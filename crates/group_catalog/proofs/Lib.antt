@@ -3,6 +3,7 @@ pub mod CatalogLaws
 pub mod ListLaws
 pub mod NamingLaws
 pub mod PlacedLaws
+pub mod ReadBackLaws
 pub mod SoundLaws
 pub mod TreeLaws
 pub mod WhichLaws

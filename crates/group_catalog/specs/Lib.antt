@@ -4,4 +4,5 @@ pub mod Filtered
 pub mod Identified
 pub mod Kept
 pub mod Placed
+pub mod ReadBack
 pub mod Sound

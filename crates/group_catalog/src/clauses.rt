@@ -12,7 +12,7 @@ use crate::refusing::lettered;
 use crate::tables::is_root;
 use row_types::{Column, Letter, Refused, Ty};
 use sql_subset::stmt::{AgingClause, AgingRule, Autorefresh, CreateGroup, GroupKind};
-use table_defs::{BackingSchema, ForeignKey, TableDef};
+use table_defs::{ForeignKey, TableDef};
 
 /// The greatest interval, in milliseconds: 24 hours.
 const GREATEST_INTERVAL: u64 = 86_400_000;
@@ -27,7 +27,7 @@ const GREATEST_SPAN: u64 = 1_000_000_000;
 /// "CREATE CACHE GROUP"; the letters, their order and the ranges are this project's.)
 #[tactic(auto, using(crate::proofs::ListLaws::any_map))]
 pub(crate) fn judge_clauses(
-    schema: &BackingSchema,
+    schema: &[TableDef],
     declared: &CreateGroup,
     tables: &[PlacedTable<'_>],
 ) -> Result<(), Refused>
@@ -55,7 +55,7 @@ pub(crate) fn judge_clauses(
     Ok(())
 }
 
-fn is_read_only(kind: GroupKind) -> bool
+pub(crate) fn is_read_only(kind: GroupKind) -> bool
     ensures { result ≡ is_read_only_kind kind }
 {
     match kind {
@@ -149,10 +149,10 @@ fn is_required_time(column: Option<&Column>) -> bool
 
 // j: a foreign key to a table outside of these, or from one.
 #[tactic(auto, using(crate::proofs::ListLaws::any_map))]
-fn is_joined_outside(schema: &BackingSchema, tables: &[PlacedTable<'_>]) -> bool
+fn is_joined_outside(schema: &[TableDef], tables: &[PlacedTable<'_>]) -> bool
     ensures { result ≡ is_joined_outside schema.now (tables_seen tables.now) }
 {
-    any_refers_out(tables) || is_referred_to(tables, schema.as_slice())
+    any_refers_out(tables) || is_referred_to(tables, schema)
 }
 
 fn any_refers_out(tables: &[PlacedTable<'_>]) -> bool

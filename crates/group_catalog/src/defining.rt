@@ -1,28 +1,32 @@
 //! CREATE CACHE GROUP.
 
-ghost use Rattle.std.specs.Prelude.{◌≡◌, IfOk, OnOk, length, true};
+ghost use Rattle.std.specs.Prelude.{◌≡◌, IfErr, IfOk, List, OnOk, length, true};
+ghost use Rattle.row_types.specs.declared.rule.Letter.TheVariants as letter;
+ghost use Rattle.row_types.specs.declared.rule.Refused.TheVariants as refused;
+ghost use Rattle.table_defs.specs.declared.definition.TableDef.{TableDef as OneTable};
 ghost use Rattle.instances.specs.Trees.{is_sound};
 ghost use Rattle.std.specs.List.{list_any};
 ghost use Rattle.table_defs.specs.Declarations.{Tells};
 ghost use Rattle.cache_tier.specs.Definitions.{IsTreeOf, aging_of, column_type_fault, defined_by, definition_broken, first_fault, has_unheld_filter, has_unsound_filter, placed_tables, root_aging, rule_of, types_fault};
 ghost use Rattle.cache_tier.specs.Groups.{defines_name, definitions_of};
-ghost use Rattle.cache_tier.specs.Rules.{at_limit, broken_if, named, plain};
+ghost use Rattle.cache_tier.specs.Rules.{at_limit, broken_if, lettered, named, plain};
 ghost use Rattle.group_catalog.specs.Catalogs.{groups_in};
 ghost use Rattle.group_catalog.specs.Placed.{tables_seen};
+ghost use Rattle.group_catalog.specs.ReadBack.{broken_beside, has_own_parent, read_back_fault, root_refers};
 
 use crate::catalog::Catalog;
-use crate::clauses::judge_clauses;
+use crate::clauses::{is_read_only, judge_clauses};
 use crate::kept::refresh_of;
 use crate::naming::{Judged, column_named, name_tree};
 use crate::placing::{PlacedTable, place_tables};
-use crate::refusing::{no_type, plain, refuse_name};
+use crate::refusing::{lettered, no_type, plain, refuse_name};
 use crate::tables::judge_tables;
 use cache_tier::group::{AgingRule, GroupDef, TimeRule};
 use instances::Tree;
-use row_types::{Column, Detail, Refused, Rule};
+use row_types::{Column, Detail, Letter, Refused, Rule};
 use sql_subset::stmt::{AgingClause, AgingRule as AgingWords, CreateGroup};
 use std::alloc::{AllocError, Global};
-use table_defs::{BackingSchema, refuse_types};
+use table_defs::{BackingSchema, TableDef, refuse_types};
 use tier_base::{Code, Limit, Name};
 
 /// What the definition of a group says, over the backing schema and beside the groups that there are.
@@ -46,7 +50,86 @@ pub fn define(
     ensures tree { IfOk result (λ def. IsTreeOf (placed_tables schema.now declared) def.tree) }
     ensures sound { IfOk result (λ def. is_sound schema.now def.tree ≡ true) }
 {
-    let (tree, aging) = judge(alloc, schema, catalog, &declared, has_writes)?;
+    let found = judge(
+        alloc,
+        schema,
+        schema.as_slice(),
+        catalog,
+        &declared,
+        has_writes,
+    )?;
+    made_of(alloc, declared, found)
+}
+
+/// What a definition says that is read back from a journal, over the backing schema and beside the groups that the
+/// entries before it leave.
+///
+/// It is refused as by `define`, but that a table outside may refer to one of a writethrough group, since that table may
+/// have come later; nobody has uncommitted writes. Letter j stands last for a root that refers to a table of its own
+/// group. (The journal is this project's.)
+pub fn define_read_back(
+    alloc: Global,
+    schema: &BackingSchema,
+    catalog: &Catalog,
+    declared: CreateGroup,
+) -> Result<GroupDef, Refused>
+    ensures told { Tells result (read_back_fault schema.now (definitions_of (groups_in catalog.now)) declared) }
+    ensures defined { IfOk result (λ def. def ≡ defined_by schema.now declared def.tree) }
+    ensures tree { IfOk result (λ def. IsTreeOf (placed_tables schema.now declared) def.tree) }
+    ensures sound { IfOk result (λ def. is_sound schema.now def.tree ≡ true) }
+{
+    let found = judge(alloc, schema, &[], catalog, &declared, false)?;
+    if found.refers && !is_read_only(declared.kind) {
+        return Err(lettered(Letter::J));
+    }
+    made_of(alloc, declared, found)
+}
+
+// What a definition has that breaks no rule.
+struct Accepted {
+    // the tree of its tables
+    tree: Tree,
+    // the rule of aging
+    aging: Option<AgingRule>,
+    // whether the root table has a foreign key
+    refers: bool,
+}
+
+impl Drop for Accepted {
+    fn drop(self) {
+        let Self {
+            tree: _,
+            aging: _,
+            refers: _,
+        } = self;
+    }
+}
+
+impl Accepted {
+    fn into_parts(self) -> (Tree, Option<AgingRule>)
+        ensures { result ≡ (self.tree, self.aging) }
+    {
+        let Self {
+            tree,
+            aging,
+            refers: _,
+        } = self;
+        (tree, aging)
+    }
+}
+
+// The definition of this tree with this rule of aging.
+fn made_of(
+    alloc: Global,
+    declared: CreateGroup,
+    found: Accepted,
+) -> Result<GroupDef, Refused>
+    ensures { IfOk result (λ def. (schema : List OneTable)
+        → found.aging ≡ root_aging declared (placed_tables schema declared)
+        → def ≡ defined_by schema declared found.tree) }
+    ensures memory { IfErr result (λ error. error ≡ refused.Memory) }
+{
+    let (tree, aging) = found.into_parts();
     let name = declared.name.copied(alloc)?;
     let refresh = refresh_of(&declared);
     Ok(GroupDef {
@@ -61,19 +144,23 @@ pub fn define(
     })
 }
 
-// The first broken rule, or the tree and the rule of aging.
+// The first broken rule, or what the definition has. Of tables outside of the group these are asked for foreign keys that
+// refer to it.
 fn judge(
     alloc: Global,
     schema: &BackingSchema,
+    outside: &[TableDef],
     catalog: &Catalog,
     declared: &CreateGroup,
     has_writes: bool,
-) -> Result<(Tree, Option<AgingRule>), Refused>
+) -> Result<Accepted, Refused>
     ensures told { Tells result
-        (definition_broken schema.now (definitions_of (groups_in catalog.now)) has_writes declared.now) }
-    ensures tree { IfOk result (λ found. IsTreeOf (placed_tables schema.now declared.now) found.0) }
-    ensures sound { IfOk result (λ found. is_sound schema.now found.0 ≡ true) }
-    ensures aging { IfOk result (λ found. found.1 ≡ root_aging declared.now (placed_tables schema.now declared.now)) }
+        (broken_beside outside.now schema.now (definitions_of (groups_in catalog.now)) has_writes declared.now) }
+    ensures tree { IfOk result (λ found. IsTreeOf (placed_tables schema.now declared.now) found.tree) }
+    ensures sound { IfOk result (λ found. is_sound schema.now found.tree ≡ true) }
+    ensures aging { IfOk result (λ found.
+        found.aging ≡ root_aging declared.now (placed_tables schema.now declared.now)) }
+    ensures refers { IfOk result (λ found. found.refers ≡ root_refers (placed_tables schema.now declared.now)) }
 {
     let tables = place_tables(alloc, schema, declared.tables.as_slice())?;
     let tables = tables.as_slice();
@@ -89,11 +176,15 @@ fn judge(
             refuse_open(has_writes)?;
             judge_types(judged, tables)?;
             judge_tables(schema, catalog, tables)?;
-            judge_clauses(schema, declared, tables)?;
+            judge_clauses(outside, declared, tables)?;
             judge_count(catalog)?;
             judge_form(schema, &tree)?;
             let columns = root.def.columns.as_slice();
-            Ok((tree, aging_of(declared.dynamic, columns, &root.it.aging)))
+            Ok(Accepted {
+                tree,
+                aging: aging_of(declared.dynamic, columns, &root.it.aging),
+                refers: root.def.foreign_key.is_some(),
+            })
         }
     }
 }

@@ -15,6 +15,6 @@ pub mod which;
 
 pub use call::resolve_call;
 pub use catalog::Catalog;
-pub use defining::define;
+pub use defining::{define, define_read_back};
 pub use kept::KeptGroup;
 pub use which::{ResolvedWhich, resolve_which};

@@ -18,12 +18,12 @@ none_there [] le = refl
 none_there (x ∷ l) le = let bad : ◌≡◌ {A = ℕ} 1 0 = omega (arith, le) in absurd (Prim.cc bad)
 
 module _ {D : Type 0} (state : D → SiteState) (possible : D → ℕ → Held → Type 0) where
-  pub empty_over : (schema : List TableDef) (t : TierJournal) (found : Found) (records : Vec Record) (d d' : D) → found ≡ Whole t records → records.items ≡ [] → version_in t ≡ 2
+  pub empty_over : (schema : List TableDef) (t : TierJournal) (found : Found) (records : Vec (ℕ × Record)) (d d' : D) → found ≡ Whole t records → records.items ≡ [] → version_in t ≡ 2
       → ((o : Held) → (state d).held ≡ Some o → HaveBytes o.slots → Finds state possible d' schema o found) → ((o : Held) → (state d).held ≡ Some o → IsBlank o.slots → IsNewFound found)
       → (o : Held) → (state d).held ≡ Some o → HaveBytes o.slots → IsEmptyOver state possible schema o t d'
   empty_over schema t found records d d' whole none two finds new o told have =
       let f = subst (λ x. Finds state possible d' schema o x) whole (finds o told have) in
-      let keeps : Keeps schema t f.now.slots (opened_journal t []) = subst (λ l. Keeps schema t f.now.slots (opened_journal t (meanings l))) none f.shows.3 in
+      let keeps : Keeps schema t f.now.slots (opened_journal t []) = subst (λ l. Keeps schema t f.now.slots (opened_journal t (meanings l))) none f.shows.4 in
       record {
         journal = opened_journal t [];
         kept = refl;

@@ -27,7 +27,7 @@ use Rattle.tier_journal.specs.declared.opening.Found.{Found}
 use Rattle.tier_journal.specs.declared.opening.Found.TheVariants.{Damaged, Whole}
 use Rattle.tier_journal.specs.declared.record.Record.{Record}
 use Rattle.tier_journal.specs.Keeping.{Keeps}
-use Rattle.tier_journal.specs.Opening.{Counts, IsFirstUnfit, IsNewFound, IsOfJournal, ShowsFound, StandForAll, StandsFor, StandsForNone, meaning, meanings, opened_journal}
+use Rattle.tier_journal.specs.Opening.{Counts, IsFirstUnfit, IsNewFound, IsOfJournal, ShowsFound, StandForAll, StandsFor, StandsForNone, meaning, meanings, opened_journal, places_of}
 use Rattle.tier_journal.specs.Reading.{IsReadOp, IsReadOps, IsReadText, name_in_op, on_table}
 use Rattle.tier_journal.specs.Writing.{HasTables, IsOfSchema, name_in, name_of, written, written_all, written_op, written_ops}
 use Rattle.tier_journal.proofs.Lists.{all_append}
@@ -127,12 +127,21 @@ stand_push schema (y ∷ entries) (q ∷ placed) x p h s = (h.0, stand_push sche
 stands_as : (schema : List TableDef) (x : JournalEntry) (p q : Placed) → p ≡ q → StandsFor schema x p.1 → StandsFor schema x q.1
 stands_as schema x p q e s = subst (λ (r : Placed). StandsFor schema x r.1) e s
 
-pub stand_more : (schema : List TableDef) (records : List Record) (record' : Record) (placed : List Placed) (i : ℕ) (p : Placed) → i < length placed → p ≡ get_or placed i p → StandForAll schema (meanings records) (take i placed) → StandsFor schema (meaning record') p.1
+pub stand_more : (schema : List TableDef) (records : List (ℕ × Record)) (record' : ℕ × Record) (placed : List Placed) (i : ℕ) (p : Placed) → i < length placed → p ≡ get_or placed i p → StandForAll schema (meanings records) (take i placed) → StandsFor schema (meaning record'.1) p.1
     → StandForAll schema (meanings (records ++ record' ∷ [])) (take (i + 1) placed)
 stand_more schema records record' placed i p lt is h s =
-    let one = stand_push schema (meanings records) (take i placed) (meaning record') (get_or placed i p) h (stands_as schema (meaning record') p (get_or placed i p) is s) in
-    subst (λ (l : List JournalEntry). StandForAll schema l (take (i + 1) placed)) (sym (map_push meaning records record'))
-    (subst (λ (l : List Placed). StandForAll schema (meanings records ++ meaning record' ∷ []) l) (sym (take_more placed i p lt)) one)
+    let one = stand_push schema (meanings records) (take i placed) (meaning record'.1) (get_or placed i p) h (stands_as schema (meaning record'.1) p (get_or placed i p) is s) in
+    subst (λ (l : List JournalEntry). StandForAll schema l (take (i + 1) placed)) (sym (map_push (λ (r : ℕ × Record). meaning r.1) records record'))
+    (subst (λ (l : List Placed). StandForAll schema (meanings records ++ meaning record'.1 ∷ []) l) (sym (take_more placed i p lt)) one)
+
+pub places_more : (records : List (ℕ × Record)) (record' : Record) (placed : List Placed) (i : ℕ) (p : Placed) → i < length placed → p ≡ get_or placed i p → places_of records ≡ places_of (take i placed)
+    → places_of (records ++ (p.0, record') ∷ []) ≡ places_of (take (i + 1) placed)
+places_more records record' placed i p lt is h =
+    map_push (λ (r : ℕ × Record). r.0) records (p.0, record')
+    ∙ ap (λ (l : List ℕ). l ++ p.0 ∷ []) h
+    ∙ ap (λ (q : Placed). places_of (take i placed) ++ q.0 ∷ []) is
+    ∙ sym (map_push (λ (q : Placed). q.0) (take i placed) (get_or placed i p))
+    ∙ ap (λ (l : List Placed). places_of l) (sym (take_more placed i p lt))
 
 pub first_unfit : (schema : List TableDef) (placed : List Placed) (i : ℕ) (p : Placed) (entries : List JournalEntry) → i < length placed → p ≡ get_or placed i p → StandForAll schema entries (take i placed) → StandsForNone schema p.1 → IsFirstUnfit schema placed p.0
 first_unfit schema placed i p entries lt is fit unfit = record {
@@ -176,7 +185,7 @@ counts_of j now placed (Some d) slot rests none some = some d.0 d.1 refl
 no_placed : (slots : Slots) (placed : List Placed) (damaged : Option (Slot × ℕ)) → IsBlank slots → Reads slots placed damaged → (placed ≡ []) × (damaged ≡ None)
 no_placed slots placed damaged blank reads = let x = one_journal reads (new blank.first blank.second) in (x.entries_same, x.damaged_same)
 
-no_records : (schema : List TableDef) (records : List Record) (placed : List Placed) → placed ≡ [] → StandForAll schema (meanings records) placed → records ≡ []
+no_records : (schema : List TableDef) (records : List (ℕ × Record)) (placed : List Placed) → placed ≡ [] → StandForAll schema (meanings records) placed → records ≡ []
 no_records schema [] placed e h = refl
 no_records schema (x ∷ records) [] e h = absurd h
 no_records schema (x ∷ records) (p ∷ placed) e h = absurd cc

@@ -32,8 +32,12 @@ meaning (record_of.Drop g) = Drops g
 meaning (record_of.State g state) = SetsState g state
 meaning (record_of.Loaded g flag) = SetsLoaded g flag
 
-abbrev pub meanings : List Record → List JournalEntry
-meanings records = map meaning records
+abbrev pub meanings : List (ℕ × Record) → List JournalEntry
+meanings records = map (λ r. meaning r.1) records
+
+-- the places at which they begin
+abbrev pub places_of : {X : Type 0} → List (ℕ × X) → List ℕ
+places_of placed = map (λ p. p.0) placed
 
 -- a definition's text spells it
 abbrev pub IsSpelt : JournalEntry → Type 0
@@ -93,12 +97,12 @@ abbrev pub opened_journal : TierJournal → List JournalEntry → Journal
 opened_journal t entries =
     record { kept = true; flushed = entries; tail = []; written = slot_size t; generation = generation_in t }
 
--- Of the slots as they were and as they are now: each entry in the tier's words, and the journal with them; or the
--- first damaged place.
+-- Of the slots as they were and as they are now: each entry in the tier's words and where it begins, and the journal with
+-- them; or the first damaged place.
 abbrev pub ShowsFound : List TableDef → Slots → Slots → Found → Type 0
 ShowsFound schema slots now (Whole t records) =
     (placed : List Placed) × Reads slots placed None × StandForAll schema (meanings records.items) placed
-    × Keeps schema t now (opened_journal t (meanings records.items))
+    × (places_of records.items ≡ places_of placed) × Keeps schema t now (opened_journal t (meanings records.items))
 ShowsFound schema slots now (Damaged slot place) = IsDamagedAt schema slots now slot place
 
 -- what was found, over a certain disk

@@ -19,7 +19,7 @@ use Rattle.journal_entries.specs.declared.entry.Op.TheVariants as named
 use Rattle.commit_journal.specs.Layout.{Placed}
 use Rattle.tier_journal.specs.declared.reading.Told.{Told}
 use Rattle.tier_journal.specs.declared.record.Record.{Record}
-use Rattle.tier_journal.specs.Opening.{IsFirstUnfit, StandForAll, StandsFor, StandsForNone, meaning, meanings}
+use Rattle.tier_journal.specs.Opening.{IsFirstUnfit, StandForAll, StandsFor, StandsForNone, meaning, meanings, places_of}
 use Rattle.tier_journal.specs.Writing.{IsOfSchema, written_op, written_ops}
 
 -- the name of the operation's table
@@ -57,9 +57,10 @@ abbrev pub IsRead : List TableDef → Entry → Option Record → Type 0
 IsRead schema e None = StandsForNone schema e
 IsRead schema e (Some r) = StandsFor schema (meaning r) e
 
--- all of the entries in the tier's words, or the place of the first that stands for none
-abbrev pub IsToldBy : List TableDef → List Placed → List Record → Option ℕ → Type 0
-IsToldBy schema placed records None = StandForAll schema (meanings records) placed
+-- all of the entries in the tier's words, each at its place, or the place of the first that stands for none
+abbrev pub IsToldBy : List TableDef → List Placed → List (ℕ × Record) → Option ℕ → Type 0
+IsToldBy schema placed records None =
+    StandForAll schema (meanings records) placed × (places_of records ≡ places_of placed)
 IsToldBy schema placed records (Some place) = IsFirstUnfit schema placed place
 
 abbrev pub IsTold : List TableDef → List Placed → Told → Type 0

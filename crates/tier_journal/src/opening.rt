@@ -21,8 +21,8 @@ use table_defs::TableDef;
 
 /// What an opening finds.
 pub enum Found {
-    /// The journal, with its entries in order.
-    Whole(TierJournal, Vec<Record>),
+    /// The journal, with its entries in order, each with the place of its first byte in the slot.
+    Whole(TierJournal, Vec<(u64, Record)>),
     /// This is the first place that doesn't read, or whose entry doesn't fit the schema: the slot, and the byte in it.
     Damaged(Slot, u64),
 }
@@ -39,7 +39,7 @@ impl Drop for Found {
 
 impl Found {
     /// The journal with its entries; or the first damaged place.
-    pub fn into_whole(self) -> Result<(TierJournal, Vec<Record>), (Slot, u64)>
+    pub fn into_whole(self) -> Result<(TierJournal, Vec<(u64, Record)>), (Slot, u64)>
         ensures whole { IfOk result (λ parts. self ≡ Whole parts.0 parts.1) }
         ensures damaged { IfErr result (λ place. self ≡ Damaged place.0 place.1) }
     {

@@ -107,13 +107,13 @@ fn read_entry(
 /// What reading entries in the tier's words finds.
 #[derive(Drop)]
 pub struct Told {
-    /// The entries, up to the first that stands for none.
-    pub records: Vec<Record>,
+    /// The entries with the places of their first bytes, up to the first that stands for none.
+    pub records: Vec<(u64, Record)>,
     /// Its place.
     pub unfit: Option<u64>,
 }
 
-/// The entries in the tier's words, or the place of the first that stands for none.
+/// The entries in the tier's words, with their places, or the place of the first that stands for none.
 pub(crate) fn read_entries(
     alloc: Global,
     schema: &[TableDef],
@@ -131,7 +131,7 @@ pub(crate) fn read_entries(
                     unfit: Some(*place),
                 });
             }
-            Some(record) => records.push(record)?,
+            Some(record) => records.push((*place, record))?,
         }
     }
     Ok(Told {

@@ -25,6 +25,7 @@ returns-in-None-damaged-clause-shows c = λ slots now reads rests.
     (subst (λ (u : Option ℕ). IsToldBy c.args.schema.now c.deref.result.now c.in_ok-records.field-0.records.items u) c.in-None.is c.in_ok-records.ensures) in (
       c.args.opened.entries.items,
       subst (λ (d : Option (Slot × ℕ)). Reads slots c.args.opened.entries.items d) c.in-None-damaged.is reads,
-      all,
-      opened_keeps c.args.schema.now _ now (meanings c.in_ok-records.field-0.records.items) c.args.opened.entries.items all (rests c.in-None-damaged.is),
+      all.0,
+      all.1,
+      opened_keeps c.args.schema.now _ now (meanings c.in_ok-records.field-0.records.items) c.args.opened.entries.items all.0 (rests c.in-None-damaged.is),
     )
