@@ -1,2 +1,3 @@
 pub mod Journalled
 pub mod Recalling
+pub mod Reopening
