@@ -1,0 +1,4 @@
+pub mod FittingLaws
+pub mod FoldLaws
+pub mod NamingLaws
+pub mod OrderLaws

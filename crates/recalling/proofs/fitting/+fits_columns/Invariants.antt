@@ -1,0 +1,6 @@
+-- The columns get fewer.
+use Rattle.std.proofs.Common.{length}
+use Rattle.recalling.proofs.fitting.+fits_columns.Given as goal
+
+abbrev pub decreases-fits_columns : goal.decreases-fits_columns
+decreases-fits_columns l = length l.columns.now
