@@ -104,38 +104,27 @@ sound_built t bare sessions naming plain named none first writers unverified =
 
 -- the sets, one by one
 
-filter_one : (groups : List Group) (g : Group) → is_read_only g ≡ true → filter is_read_only (groups ++ g ∷ []) ≡ filter is_read_only groups ++ g ∷ []
-filter_one [] g yes = ap (λ b. cond b (g ∷ []) []) yes
-filter_one (h ∷ groups) g yes = by (is_read_only h) (filter_one groups g yes)
+sets_append : (opened : ℕ) (xs ys : List Group) → sets_from opened (xs ++ ys) ≡ sets_from opened xs ++ sets_from opened ys
+sets_append opened [] ys = refl
+sets_append opened (x ∷ xs) ys = by (is_read_only x) (sets_append opened xs ys)
   where
-    by : (b : Bool) → filter is_read_only (groups ++ g ∷ []) ≡ filter is_read_only groups ++ g ∷ []
-        → cond b (h ∷ filter is_read_only (groups ++ g ∷ [])) (filter is_read_only (groups ++ g ∷ [])) ≡ cond b (h ∷ filter is_read_only groups) (filter is_read_only groups) ++ g ∷ []
-    by true rest = ap (λ l. h ∷ l) rest
+    by : (b : Bool) → sets_from opened (xs ++ ys) ≡ sets_from opened xs ++ sets_from opened ys
+        → map (set_from opened) (cond b (x ∷ filter is_read_only (xs ++ ys)) (filter is_read_only (xs ++ ys))) ≡ map (set_from opened) (cond b (x ∷ filter is_read_only xs) (filter is_read_only xs)) ++ sets_from opened ys
+    by true rest = ap (λ l. set_from opened x ∷ l) rest
     by false rest = rest
 
-filter_none : (groups : List Group) (g : Group) → is_read_only g ≡ false → filter is_read_only (groups ++ g ∷ []) ≡ filter is_read_only groups
-filter_none [] g no = ap (λ b. cond b (g ∷ []) []) no
-filter_none (h ∷ groups) g no = ap (λ l. cond (is_read_only h) (h ∷ l) l) (filter_none groups g no)
-
-pub set_begun : (now : ℕ) (groups : List Group) (i : ℕ) (g : Group) (s : SetMoment) (old new : List SetMoment) → slice_get groups i ≡ Some g → is_read_only g ≡ true → set_seen s ≡ set_from now g → new ≡ old ++ s ∷ []
-    → map set_seen old ≡ sets_from now (take i groups) → map set_seen new ≡ sets_from now (take (i + 1) groups)
-set_begun now groups i g s old new at yes same is before =
+pub one_added : (opened : ℕ) (g : Group) (s : SetMoment) (old new : List SetMoment) → is_read_only g ≡ true → set_seen s ≡ set_from opened g → new ≡ old ++ s ∷ [] → map set_seen new ≡ map set_seen old ++ sets_from opened (g ∷ [])
+one_added opened g s old new reads same is =
     ap (map set_seen) is ∙ map-append set_seen old (s ∷ [])
-    ∙ (λ j. before j ++ same j ∷ [])
-    ∙ sym (ap (sets_from now) (take_one groups i g at) ∙ ap (map (set_from now)) (filter_one (take i groups) g yes) ∙ map-append (set_from now) (filter is_read_only (take i groups)) (g ∷ []))
+    ∙ ap (λ x. map set_seen old ++ x ∷ []) same
+    ∙ ap (λ b. map set_seen old ++ map (set_from opened) (cond b (g ∷ []) [])) (sym reads)
 
-pub no_set_begun : (now : ℕ) (groups : List Group) (i : ℕ) (g : Group) (sets : List SetState) → slice_get groups i ≡ Some g → is_read_only g ≡ false → sets ≡ sets_from now (take i groups) → sets ≡ sets_from now (take (i + 1) groups)
-no_set_begun now groups i g sets at no before = before ∙ sym (ap (sets_from now) (take_one groups i g at) ∙ ap (map (set_from now)) (filter_none (take i groups) g no))
+pub none_added : (opened : ℕ) (g : Group) (old : List SetState) → is_read_only g ≡ false → old ≡ old ++ sets_from opened (g ∷ [])
+none_added opened g old writes = sym (append-nil old) ∙ ap (λ b. old ++ map (set_from opened) (cond b (g ∷ []) [])) (sym writes)
 
-none_past : {X : Type 0} (xs : List X) (i : ℕ) → slice_get xs i ≡ None → length xs ≤ i
-none_past [] i none = omega arith
-none_past (x ∷ xs) zero none = cc
-none_past (x ∷ xs) (suc i) none = let le = none_past xs i none in omega (arith, le)
-
-pub past_sets : (now : ℕ) (groups : List Group) (i : ℕ) (sets : List SetState) → slice_get groups i ≡ None → sets ≡ sets_from now (take i groups) → sets ≡ sets_from now (take (i + 1) groups)
-past_sets now groups i sets none before =
-    let le = none_past groups i none in
-    before ∙ ap (sets_from now) (take_past groups i le ∙ sym (take_past groups (i + 1) (omega (arith, le))))
+pub set_next : (opened : ℕ) (groups : List Group) (i : ℕ) (g : Group) (old new : List SetState) → slice_get groups i ≡ Some g → new ≡ old ++ sets_from opened (g ∷ []) → old ≡ sets_from opened (take i groups) → new ≡ sets_from opened (take (i + 1) groups)
+set_next opened groups i g old new at is before =
+    is ∙ ap (λ l. l ++ sets_from opened (g ∷ [])) before ∙ sym (sets_append opened (take i groups) (g ∷ [])) ∙ ap (sets_from opened) (sym (take_one groups i g at))
 
 pub all_sets : (now : ℕ) (groups : List Group) (i : ℕ) (sets : List SetState) → length groups ≤ i → sets ≡ sets_from now (take i groups) → sets ≡ sets_from now groups
 all_sets now groups i sets le before = before ∙ ap (sets_from now) (take_past groups i le)
@@ -168,11 +157,11 @@ bare_shows h log g u v bare virtual = by (is_read_only g) refl
 
 found_each : (P : Group → Type 0) (test : Group → Bool) (groups : List Group) (g : Group) → Each P groups → find test groups ≡ Some g → P g
 found_each P test [] g all e = cc
-found_each P test (h ∷ groups) g all e = by (test h) e
+found_each P test (h ∷ groups) g all e = by (test h) e (found_each P test groups g all.1)
   where
-    by : (b : Bool) → cond b (Some h) (find test groups) ≡ Some g → P g
-    by true same = let one : h ≡ g = cc in subst P one all.0
-    by false rest = found_each P test groups g all.1 rest
+    by : (b : Bool) → cond b (Some h) (find test groups) ≡ Some g → (find test groups ≡ Some g → P g) → P g
+    by true same rest = let one : h ≡ g = cc in subst P one all.0
+    by false there rest = rest there
 
 none_shown : (h : List Entry) (a : Tier) (v : TableState) (u : TableId) → Each IsBareGroup a.groups → virtual_state h a.log ≡ Some v → table_at (shown_state h a) u ≡ empty
 none_shown h a v u bare virtual = by (slice_get a.schema u.0) refl

@@ -1,5 +1,5 @@
 -- A writethrough group that holds all its instances again, and one such group after the other.
-use Rattle.std.proofs.Common.{◌≡◌, ◌≤◌, ◌⊎◌, inl, inr, ℕ, zero, suc, ◌+◌, Bool, true, false, not, cond, ◌&&◌, ◌||◌, nat_eq, Option, Some, None, List, [], ◌∷◌, drop, length, map, slice_get, refl, sym, ap, subst, ◌∙◌, arith}
+use Rattle.std.proofs.Common.{◌≡◌, ◌≤◌, ◌<◌, ◌⊎◌, inl, inr, ℕ, zero, suc, ◌+◌, Bool, true, false, not, cond, ◌&&◌, ◌||◌, nat_eq, Option, Some, None, List, [], ◌∷◌, drop, length, map, slice_get, refl, sym, ap, subst, ◌∙◌, arith}
 use Rattle.std.specs.Prelude.{Result, Ok, Err}
 use Rattle.std.specs.Bool.{MatchBool}
 use Rattle.std.specs.FinMap as fm
@@ -42,7 +42,7 @@ use Rattle.group_engine.specs.Taking.{AsksTree, IsOfTarget, IsSameButRoom, IsSet
 use Rattle.group_engine.proofs.ReadLaws.{not_called, read_failed, snapshot_grows, unmapped, was_read}
 use Rattle.group_engine.proofs.TakenLaws as taken
 use Rattle.group_engine.proofs.TakenParts.{matching_sound, rows_room, stored_room}
-use Rattle.reopening.specs.Reloading.{HoldsIfWanted, IsHeldTo, IsQuiet, IsStillHeld, all_instances, held_again}
+use Rattle.reopening.specs.Reloading.{HoldsIfWanted, IsHeldTo, IsQuiet, IsStillHeld, all_instances, held_again, is_held_at}
 use Rattle.reopening.proofs.ViewingLaws.{IsSameBut, still_held, still_passed}
 
 -- one group of several is changed
@@ -216,26 +216,30 @@ seen_there : (t : Stored) (w : World) (place : ℕ) (g : Group) → StandsFor t 
 seen_there t w place g stands at = ap (λ l. slice_get l place) (sym stands.stored.groups) ∙ Rattle.group_engine.proofs.FreshLaws.mapped_there w.tier.groups place g at
 
 -- the group at the place, as the catalog has it, isn't to hold its instances
-pub unwanted : (t : Stored) (seen : SiteState) (place : ℕ) → ((g : Group) → slice_get (groups_in t.catalog) place ≡ Some g → is_held_again g ≡ false) → Performs t t seen seen (λ w w'. HoldsIfWanted place w w' None)
+pub unwanted : (t : Stored) (seen : SiteState) (place : ℕ) → is_held_at (slice_get (groups_in t.catalog) place) ≡ false → Performs t t seen seen (λ w w'. HoldsIfWanted place w w' None)
 unwanted t seen place not_so w at stands apart = record {
   world = w;
   at = at;
   stands = stands;
-  is = λ g there. subst (λ b. MatchBool b (HoldsAgainAt place w w None) (Passes w w None)) (sym (not_so (without_list g) (seen_there t w place g stands there))) (refl, refl);
+  is = λ g there. subst (λ b. MatchBool b (HoldsAgainAt place w w None) (Passes w w None)) (sym (ap is_held_at (sym (seen_there t w place g stands there)) ∙ not_so)) (refl, refl);
 }
 
-pub wanted_so : (old new : Stored) (before after : SiteState) (place : ℕ) (seen : Group) (stop : Option Reply) → slice_get (groups_in old.catalog) place ≡ Some seen → is_held_again seen ≡ true
-    → Performs old new before after (λ w w'. HoldsAgainAt place w w' stop) → Performs old new before after (λ w w'. HoldsIfWanted place w w' stop)
-wanted_so old new before after place seen stop there wanted does w at stands apart =
-    let r = does w at stands apart in
-    record {
-      world = r.world;
-      at = r.at;
-      stands = r.stands;
-      is = λ g spot.
-          let same : without_list g ≡ seen = same_some (sym (seen_there old w place g stands spot) ∙ there) in
-          subst (λ b. MatchBool b (HoldsAgainAt place w r.world stop) (Passes w r.world stop)) (sym (ap is_held_again same ∙ wanted)) r.is;
-    }
+pub wanted_so : (old new : Stored) (before after : SiteState) (place : ℕ) (stop : Option Reply) → is_held_at (slice_get (groups_in old.catalog) place) ≡ true
+    → ((seen : Group) → slice_get (groups_in old.catalog) place ≡ Some seen → is_held_again seen ≡ true → Performs old new before after (λ w w'. HoldsAgainAt place w w' stop)) → Performs old new before after (λ w w'. HoldsIfWanted place w w' stop)
+wanted_so old new before after place stop wanted does = by (slice_get (groups_in old.catalog) place) refl wanted
+  where
+    by : (o : Option Group) → slice_get (groups_in old.catalog) place ≡ o → is_held_at o ≡ true → Performs old new before after (λ w w'. HoldsIfWanted place w w' stop)
+    by None there yes_it = cc
+    by (Some seen) there yes_it = λ w at stands apart.
+        let r = does seen there yes_it w at stands apart in
+        record {
+          world = r.world;
+          at = r.at;
+          stands = r.stands;
+          is = λ g spot.
+              let same : without_list g ≡ seen = same_some (sym (seen_there old w place g stands spot) ∙ there) in
+              subst (λ b. MatchBool b (HoldsAgainAt place w r.world stop) (Passes w r.world stop)) (sym (ap is_held_again same ∙ yes_it)) r.is;
+        }
 
 -- one after the other
 
@@ -310,3 +314,36 @@ held_stopped place w mid new stop so le does =
 pub held_ended : (place : ℕ) (w mid : World) → IsHeldTo place w mid → length w.tier.groups ≤ place → HoldAgain 0 w.tier.groups w mid None
 held_ended place w mid so le =
     so.goes_on mid None (subst (λ gs. HoldAgain place gs mid mid None) (sym (drop_past w.tier.groups place le)) (refl, refl))
+
+-- the loop over the groups
+
+as_many : (t : Stored) (w : World) → StandsFor t w → length w.tier.groups ≡ length (groups_in t.catalog)
+as_many t w stands = sym (unlisted_long w.tier.groups) ∙ ap length stands.stored.groups
+  where
+    unlisted_long : (gs : List Group) → length (map without_list gs) ≡ length gs
+    unlisted_long gs = Rattle.std.proofs.lemmas.List.length-map gs without_list
+
+pub loop_begun : (t : Stored) (site : SiteState) → Performs t t site site (λ w mid. IsHeldTo 0 w mid)
+loop_begun t site w at stands apart = record { world = w; at = at; stands = stands; is = held_begun w apart }
+
+pub loop_next : (old mid new : Stored) (a b c : SiteState) (place : ℕ) → place < length (groups_in old.catalog) → Performs old mid a b (λ w v. IsHeldTo place w v) → Performs mid new b c (λ w w'. HoldsIfWanted place w w' None)
+    → Performs old new a c (λ w v. IsHeldTo (place + 1) w v)
+loop_next old mid new a b c place lt so does w at stands apart =
+    let m = so w at stands apart in
+    let n = does m.world m.at m.stands m.is.still.apart in
+    let long = as_many old w stands in
+    record { world = n.world; at = n.at; stands = n.stands; is = held_next place w m.world n.world m.is (omega (arith, lt, long)) n.is }
+
+pub loop_stopped : (old mid new : Stored) (a b c : SiteState) (place : ℕ) (stop : Reply) → place < length (groups_in old.catalog) → Performs old mid a b (λ w v. IsHeldTo place w v) → Performs mid new b c (λ w w'. HoldsIfWanted place w w' (Some stop))
+    → Performs old new a c (λ w w'. HoldAgain 0 w.tier.groups w w' (Some stop))
+loop_stopped old mid new a b c place stop lt so does w at stands apart =
+    let m = so w at stands apart in
+    let n = does m.world m.at m.stands m.is.still.apart in
+    let long = as_many old w stands in
+    record { world = n.world; at = n.at; stands = n.stands; is = held_stopped place w m.world n.world stop m.is (omega (arith, lt, long)) n.is }
+
+pub loop_ended : (old new : Stored) (a b : SiteState) (place : ℕ) → length (groups_in old.catalog) ≤ place → Performs old new a b (λ w v. IsHeldTo place w v) → Performs old new a b (λ w w'. HoldAgain 0 w.tier.groups w w' None)
+loop_ended old new a b place le so w at stands apart =
+    let m = so w at stands apart in
+    let long = as_many old w stands in
+    record { world = m.world; at = m.at; stands = m.stands; is = held_ended place w m.world m.is (omega (arith, le, long)) }

@@ -36,19 +36,17 @@ hold_as place [] (h ∷ hs) same v w' stop does = cc
 hold_as place (g ∷ gs) [] same v w' stop does = cc
 hold_as place (g ∷ gs) (h ∷ hs) same v w' stop does =
     let first : is_held_again g ≡ is_held_again h = cc in
+    let rest : held_again gs ≡ held_again hs = cc in
     record {
       mid = does.mid;
       stop = does.stop;
       first = subst (λ b. MatchBool b (HoldsAgainAt place v does.mid does.stop) (Passes v does.mid does.stop)) first does.first;
-      next = by does.stop does.next;
+      next = by does.stop (hold_as (suc place) gs hs rest does.mid w' stop) does.next;
     }
   where
-    rest : held_again gs ≡ held_again hs
-    rest = cc
-
-    by : (o : Option Reply) → StageFollows o (HoldAgain (suc place) gs) does.mid w' stop → StageFollows o (HoldAgain (suc place) hs) does.mid w' stop
-    by None x = hold_as (suc place) gs hs rest does.mid w' stop x
-    by (Some s) x = x
+    by : (o : Option Reply) → (HoldAgain (suc place) gs does.mid w' stop → HoldAgain (suc place) hs does.mid w' stop) → StageFollows o (HoldAgain (suc place) gs) does.mid w' stop → StageFollows o (HoldAgain (suc place) hs) does.mid w' stop
+    by None then x = then x
+    by (Some s) then x = x
 
 pub reloaded : (old mid new : Stored) (a b c : SiteState) (stop : Option Reply) → Performs old mid a b (λ w w'. ViewsAgain w w' None) → Performs mid new b c (λ w w'. HoldAgain 0 w.tier.groups w w' stop)
     → Performs old new a c (λ w w'. Reloads w w' stop)

@@ -1,26 +1,25 @@
 -- The round with which a tier is opened again: it is the abstract tier's, behind which that stands.
-use Rattle.std.proofs.Common.{◌≡◌, ◌≤◌, ℕ, ◌+◌, ◌-◌, ◌^◌, min, not, Option, Some, None, List, [], length, filter, refl, sym, ap, subst, arith}
+use Rattle.std.proofs.Common.{◌≡◌, ◌≤◌, ℕ, ◌+◌, ◌-◌, ◌^◌, min, not, Option, Some, None, List, [], length, filter, refl, sym, ap, subst, arith, inl, inr}
 use Rattle.std.specs.Prelude.{Result, Ok, Err}
-use Rattle.std.specs.Result.{IsErrOf}
 use Rattle.table_state.specs.declared.history.Sealed.{Sealed}
 use Rattle.order_laws.specs.Commits.{RiseBetween}
 use Rattle.order_laws.specs.Standing.{live_tables}
-use Rattle.outside.specs.Faults.{Rose}
 use Rattle.outside.specs.Holding.{Held}
 use Rattle.outside.specs.Sites.{SiteState}
-use Rattle.propagators.specs.Rounds.{HoldsRound, Round as BankRound}
-use Rattle.cache_tier.specs.Rounds.{AllLeft, RoundEnd}
+use Rattle.propagators.specs.Rounds.{HoldsRound, Round as BankRound, doubts_at}
+use Rattle.propagators.specs.declared.rounds.RoundFault.{RoundFault}
+use Rattle.propagators.specs.declared.rounds.RoundFault.TheVariants as stop
+use Rattle.cache_tier.specs.Rounds.{AllLeft, Differing, Failing, RoundEnd, Wanting}
 use Rattle.cache_tier.specs.StandingBetween.{Stands, live_groups_of}
 use Rattle.cache_tier.specs.Worlds.{IsUnshared, World}
 use Rattle.stored_tier.specs.Sites.{IsAt}
 use Rattle.stored_tier.proofs.BankLaws.{behind, behind_at, told_behind}
 use Rattle.stored_tier.proofs.RoundLaws.{is_left, round_seen, unsure_at}
 use Rattle.stored_tier.proofs.SettlingLaws.{AreLaws, RoundAt, unshared_live}
-use Rattle.stored_tier.proofs.StandingLaws.{slots_kept, stands_behind}
-use Rattle.reopening.specs.Building.{IsSettled, settled_tier}
+use Rattle.stored_tier.proofs.StandingLaws.{stands_behind}
+use Rattle.reopening.specs.Building.{IsSettled, SettlesCommits, settled_tier}
 use Rattle.reopening.specs.declared.start.ReopenError.{ReopenError}
-use Rattle.reopening.specs.declared.start.ReopenError.TheVariants as error
-use Rattle.reopening.specs.Starting.{IsReopenCaused}
+use Rattle.reopening.specs.Starting.{TellsFault}
 
 -- the round as the world has it
 round_of : (w : World) (old left : List Sealed) (before : SiteState) (few : ℕ) (was now : Held) → w.shared ≡ before.shared → w.history ≡ was.history → w.tier.unsettled ≡ old → HoldsRound before.shared few old left was now → BankRound w.shared few w.tier.unsettled w.history left now.history
@@ -65,14 +64,14 @@ settled_with laws old left before after few end round all w at x apart same rise
       };
     }
 
--- why it ended
-pub settling_caused : {T : Type 0} (old left : List Sealed) (before after : SiteState) (few : ℕ) (result : Result T ReopenError) → RoundAt old left before after few → after.disk_faults ≡ before.disk_faults
-    → (IsErrOf result error.Failed → Rose before.bank_faults after.bank_faults) → IsReopenCaused before after result
-settling_caused old left before after few result round disk failed = record {
-  later = round.faults;
-  moment = round.moment;
-  shares = round.shares;
-  slots = slots_kept before.held after.held (HoldsRound before.shared few old left) (λ o n is. is.slots) round.told;
-  disk = disk;
-  failed = failed;
-}
+-- it ended early
+pub settled_told : AreLaws → (old left : List Sealed) (before after : SiteState) (fault : RoundFault) (e : ReopenError) → RoundAt old left before after (doubts_at fault) → TellsFault fault e
+    → SettlesCommits old left before after (let r : Result (Unit {0}) ReopenError = Err e in r)
+settled_told laws old left before after stop.Failed e round told =
+    subst (λ x. SettlesCommits old left before after (let r : Result (Unit {0}) ReopenError = Err x in r)) (sym told) (settled_with laws old left before after 1 Failing round tt)
+settled_told laws old left before after stop.Memory e round told =
+    subst (λ x. SettlesCommits old left before after (let r : Result (Unit {0}) ReopenError = Err x in r)) (sym told) (settled_with laws old left before after 0 Wanting round tt)
+settled_told laws old left before after (stop.Differs table key) e round told = elim told [
+  | inl one ↦ subst (λ x. SettlesCommits old left before after (let r : Result (Unit {0}) ReopenError = Err x in r)) (sym one) (settled_with laws old left before after 0 (Differing table key) round tt)
+  | inr other ↦ subst (λ x. SettlesCommits old left before after (let r : Result (Unit {0}) ReopenError = Err x in r)) (sym other) (settled_with laws old left before after 0 Wanting round tt)
+]

@@ -1,7 +1,7 @@
 -- What a tier is opened again with, the abstract tier that begins so, and what opening it leaves. (TimesTen Cache User's
 -- Guide, "Recovery"; that sets count from the opening, and that no session is open, is this project's rule.)
 
-use Rattle.std.specs.Prelude.{◌≡◌, ℕ, ◌≤◌, List, [], Option, None, Some, true, false, Result, Ok, Err}
+use Rattle.std.specs.Prelude.{◌≡◌, ◌⊎◌, ℕ, ◌≤◌, List, [], Option, None, Some, true, false, Result, Ok, Err}
 use Rattle.std.specs.List.{list_all}
 use Rattle.std.specs.Result.{IsErrOf}
 use Rattle.row_types.specs.declared.value.Value.{Value}
@@ -11,6 +11,8 @@ use Rattle.outside.specs.Sites.{SiteState}
 use Rattle.outside.specs.declared.fault.BankError.{BankError}
 use Rattle.outside.specs.declared.fault.BankError.TheVariants as bank
 use Rattle.order_laws.specs.Commits.{RiseBetween}
+use Rattle.propagators.specs.declared.rounds.RoundFault.{RoundFault}
+use Rattle.propagators.specs.declared.rounds.RoundFault.TheVariants as stop
 use Rattle.group_catalog.specs.Catalogs.{groups_in}
 use Rattle.cache_tier.specs.Groups.{Group}
 use Rattle.cache_tier.specs.Rounds.{Differing, Failing, RoundEnd, Wanting, round_stop}
@@ -59,6 +61,12 @@ abbrev pub end_told : ReopenError → RoundEnd
 end_told error.Failed = Failing
 end_told (error.Differs table key) = Differing table key
 end_told error.Memory = Wanting
+
+-- why a round ended early; where a row differs, memory may be wanting for its key
+abbrev pub TellsFault : RoundFault → ReopenError → Type 0
+TellsFault stop.Failed e = e ≡ error.Failed
+TellsFault stop.Memory e = e ≡ error.Memory
+TellsFault (stop.Differs table key) e = (e ≡ error.Differs table key) ⊎ (e ≡ error.Memory)
 
 -- the fault of a call of the bank
 abbrev pub fault_of : BankError → ReopenError

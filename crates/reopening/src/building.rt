@@ -1,14 +1,15 @@
 //! The tier as it is built from what entries leave, without rows.
 
-ghost use Rattle.std.specs.Prelude.{◌≡◌, ◌≤◌, IfOk, map, true};
+ghost use Rattle.std.specs.Prelude.{◌≡◌, ◌≤◌, ◌++◌, ◌∷◌, [], IfOk, OnOk, map, true};
 ghost use Rattle.std.specs.List.{list_all};
 ghost use Rattle.cache_tier.specs.TierStates.{cut};
 ghost use Rattle.group_catalog.specs.Catalogs.{groups_in};
+ghost use Rattle.group_catalog.specs.Kept.{group_seen};
 ghost use Rattle.stored_tier.specs.Moments.{set_seen};
 ghost use Rattle.stored_tier.specs.Stored.{HaveOwnNames, IsSound, is_plain};
 ghost use Rattle.reopening.specs.Building.{AreBare, IsBegunClock, IsBuilt, sets_from};
 
-use group_catalog::Catalog;
+use group_catalog::{Catalog, KeptGroup};
 use group_engine::grouping::bare_store;
 use group_store::Store;
 use open_sessions::Sessions;
@@ -97,22 +98,34 @@ fn begun_clock(
 }
 
 // The set of each READONLY group counts from this moment on.
-fn begun_sets(alloc: Global, catalog: &Catalog, now: u64) -> Result<Vec<SetMoment>, AllocError>
-    ensures { IfOk result (λ sets. map set_seen sets.items ≡ sets_from now (groups_in catalog.now)) }
+fn begun_sets(
+    alloc: Global,
+    catalog: &Catalog,
+    opened: u64,
+) -> Result<Vec<SetMoment>, AllocError>
+    ensures { IfOk result (λ sets. map set_seen sets.items ≡ sets_from opened (groups_in catalog.now)) }
 {
     let mut sets = Vec::new(alloc);
     for place in 0..catalog.len() {
-        match catalog.get(place) {
-            None => {}
-            Some(group) => {
-                if is_read_only(group) {
-                    sets.push(SetMoment {
-                        interval: group.def.interval,
-                        refreshed: now,
-                    })?;
-                }
-            }
-        }
+        let Some(group) = catalog.get(place) else {
+            return Err(AllocError);
+        };
+        add_set(&mut sets, group, opened)?;
     }
     Ok(sets)
+}
+
+// The set of a READONLY group comes behind the others.
+fn add_set(sets: &mut Vec<SetMoment>, group: &KeptGroup, opened: u64) -> Result<(), AllocError>
+    ensures { OnOk result (map set_seen sets.new.items
+        ≡ map set_seen sets.old.items ++ sets_from opened (group_seen group.now ∷ [])) }
+{
+    if !is_read_only(group) {
+        return Ok(());
+    }
+    sets.push(SetMoment {
+        interval: group.def.interval,
+        refreshed: opened,
+    })?;
+    Ok(())
 }

@@ -1,6 +1,6 @@
 //! A writethrough group that holds all its instances again.
 
-ghost use Rattle.std.specs.Prelude.{◌≡◌, IsTrue, Some, [], length, slice_get, true};
+ghost use Rattle.std.specs.Prelude.{◌≡◌, Some, [], slice_get, true};
 ghost use Rattle.cache_tier.specs.Groups.{Group};
 ghost use Rattle.group_catalog.specs.Catalogs.{groups_in};
 ghost use Rattle.group_catalog.specs.Kept.{group_seen};
@@ -10,9 +10,9 @@ ghost use Rattle.recovery.specs.Reopening.{HoldsAgainAt, is_held_again};
 ghost use Rattle.stored_tier.specs.Performing.{Performs};
 ghost use Rattle.stored_tier.specs.Refreshing.{end_of};
 ghost use Rattle.stored_tier.specs.Stored.{IsSound};
-ghost use Rattle.reopening.specs.Reloading.{HoldsIfWanted, IsQuiet};
+ghost use Rattle.reopening.specs.Reloading.{HoldsIfWanted, IsQuiet, is_held_at};
 
-use group_catalog::{KeptGroup, ResolvedWhich};
+use group_catalog::{Catalog, KeptGroup, ResolvedWhich};
 use group_engine::loading_written::{tables_of_tree, take_matching};
 use outside::{BankError, Site};
 use std::alloc::Global;
@@ -43,14 +43,20 @@ pub(crate) fn hold_if_wanted<P: Site>(
         result }
     ensures certain { KeepsCertain P.Disk.state P.Disk.possible site.old site.new }
 {
-    let wanted = match tier.catalog.get(place) {
-        None => false,
-        Some(group) => is_held_again(group),
-    };
-    if !wanted {
+    if !is_wanted(&tier.catalog, place) {
         return Ok(());
     }
     hold_all(tier, alloc, site, place)
+}
+
+// Whether the group at a place is to hold all its instances again.
+fn is_wanted(catalog: &Catalog, place: usize) -> bool
+    ensures { result ≡ is_held_at (slice_get (groups_in catalog.now) place) }
+{
+    match catalog.get(place) {
+        None => false,
+        Some(group) => is_held_again(group),
+    }
 }
 
 // Whether a group is a writethrough one that is explicit, and its flag is set.
@@ -92,8 +98,14 @@ fn hold_all<P: Site>(
         Ok(asked) => match site.snapshot(asked.as_slice()) {
             Err(error) => Err(error),
             Ok(snapshot) => match take_matching(tier, alloc, place, &all, false, &snapshot.tables) {
-                Err(_) => Err(BankError::Memory),
-                Ok(_) => Ok(()),
+                Err(refused) => {
+                    let _ = refused;
+                    Err(BankError::Memory)
+                }
+                Ok(reply) => {
+                    let _ = reply;
+                    Ok(())
+                }
             },
         },
     }

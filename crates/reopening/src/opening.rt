@@ -37,16 +37,10 @@ pub fn reopen<P: Site>(alloc: Global, site: &mut P, start: Start) -> Result<Tier
         result }
     ensures certain { KeepsCertain P.Disk.state P.Disk.possible site.old site.new }
 {
-    let Start {
-        schema,
-        catalog,
-        commits,
-        next,
-        now,
-        propagate_ms,
-    } = start;
+    let (next, now, propagate_ms) = (start.next, start.now, start.propagate_ms);
+    let (schema, catalog, commits) = start.into_parts();
     let mut commits = commits;
-    match settle_commits(site, &mut commits) {
+    match settle_commits(alloc, site, &mut commits) {
         Err(error) => Err(error),
         Ok(()) => match built_tier(alloc, schema, catalog, next, now, propagate_ms) {
             Err(_) => Err(ReopenError::Memory),

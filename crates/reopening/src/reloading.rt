@@ -1,6 +1,6 @@
 //! The rows that come back: READONLY groups at one position, and then writethrough ones.
 
-ghost use Rattle.std.specs.Prelude.{◌≡◌, []};
+ghost use Rattle.std.specs.Prelude.{◌≡◌, [], true};
 ghost use Rattle.std.specs.List.{list_any};
 ghost use Rattle.group_catalog.specs.Catalogs.{groups_in};
 ghost use Rattle.group_engine.specs.Fresh.{IsCalled};
@@ -62,6 +62,26 @@ fn view_again<P: Site>(tier: &mut Tier, alloc: Global, site: &mut P) -> Result<(
     if !is_some_viewed(&tier.catalog) {
         return Ok(());
     }
+    show_again(tier, alloc, site)
+}
+
+// The same where there is such a group.
+fn show_again<P: Site>(tier: &mut Tier, alloc: Global, site: &mut P) -> Result<(), BankError>
+    requires sound { IsSound tier.old }
+    requires settled { tier.old.unsettled.items ≡ [] }
+    requires some { list_any is_shown_again (groups_in tier.old.catalog) ≡ true }
+    ensures performs { Performs tier.old tier.new
+        (P.Disk.state site.old)
+        (P.Disk.state site.new)
+        (λ w w'. ViewsAgain w w' (end_of result)) }
+    ensures sound { IsSound tier.new }
+    ensures quiet { IsQuiet tier.old tier.new }
+    ensures called { IsCalled
+        (P.Disk.state site.old)
+        (P.Disk.state site.new)
+        result }
+    ensures certain { KeepsCertain P.Disk.state P.Disk.possible site.old site.new }
+{
     match read_fresh(tier, alloc, site, Chosen::Reloaded, None) {
         Err(error) => Err(error),
         Ok(fresh) => {
@@ -104,7 +124,10 @@ fn hold_again<P: Site>(tier: &mut Tier, alloc: Global, site: &mut P) -> Result<(
     ensures certain { KeepsCertain P.Disk.state P.Disk.possible site.old site.new }
 {
     for place in 0..tier.catalog.len() {
-        hold_if_wanted(tier, alloc, site, place)?;
+        match hold_if_wanted(tier, alloc, site, place) {
+            Err(error) => return Err(error),
+            Ok(()) => {}
+        }
     }
     Ok(())
 }

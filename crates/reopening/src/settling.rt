@@ -5,11 +5,12 @@ ghost use Rattle.propagators.specs.Certainty.{KeepsCertain};
 ghost use Rattle.reopening.specs.Building.{SettlesCommits};
 ghost use Rattle.reopening.specs.Starting.{IsReopenCaused};
 
-use crate::start::ReopenError;
+use crate::start::{ReopenError, told_of};
 use cache_tier::round_shown_law;
 use outside::Site;
 use propagators::laws::{follow_law, left_law};
-use propagators::{RoundFault, round};
+use propagators::round;
+use std::alloc::Global;
 use std::collections::VecDeque;
 use table_state::Sealed;
 
@@ -18,6 +19,7 @@ use table_state::Sealed;
 //
 // After a fault those without a receipt are left.
 pub(crate) fn settle_commits<P: Site>(
+    alloc: Global,
     site: &mut P,
     commits: &mut VecDeque<Sealed>,
 ) -> Result<(), ReopenError>
@@ -37,8 +39,6 @@ pub(crate) fn settle_commits<P: Site>(
     round_shown_law();
     match round(site, commits) {
         Ok(_) => Ok(()),
-        Err(RoundFault::Failed) => Err(ReopenError::Failed),
-        Err(RoundFault::Memory) => Err(ReopenError::Memory),
-        Err(RoundFault::Differs(table, key)) => Err(ReopenError::Differs(table, key)),
+        Err(fault) => Err(told_of(alloc, &fault)),
     }
 }

@@ -1,11 +1,13 @@
 //! What a tier is opened again with, and why it can't be.
 
 ghost use Rattle.std.specs.Prelude.{◌≡◌};
-ghost use Rattle.reopening.specs.Starting.{fault_of};
+ghost use Rattle.reopening.specs.Starting.{TellsFault, fault_of};
 
 use group_catalog::Catalog;
 use outside::BankError;
+use propagators::RoundFault;
 use row_types::Key;
+use std::alloc::Global;
 use std::collections::VecDeque;
 use table_defs::BackingSchema;
 use table_state::Sealed;
@@ -41,6 +43,23 @@ impl Drop for Start {
     }
 }
 
+impl Start {
+    // The schema, the groups and the commits.
+    pub(crate) fn into_parts(self) -> (BackingSchema, Catalog, VecDeque<Sealed>)
+        ensures { result ≡ (self.schema, self.catalog, self.commits) }
+    {
+        let Self {
+            schema,
+            catalog,
+            commits,
+            next: _,
+            now: _,
+            propagate_ms: _,
+        } = self;
+        (schema, catalog, commits)
+    }
+}
+
 /// Why a tier can't be opened again.
 pub enum ReopenError {
     /// A call of the bank failed.
@@ -58,6 +77,20 @@ impl Drop for ReopenError {
             Self::Differs(_, _) => {}
             Self::Memory => {}
         }
+    }
+}
+
+// Why a round ended early. Memory may be wanting for the key of the row that differs.
+pub(crate) fn told_of(alloc: Global, fault: &RoundFault) -> ReopenError
+    ensures { TellsFault fault.now result }
+{
+    match fault {
+        RoundFault::Failed => ReopenError::Failed,
+        RoundFault::Memory => ReopenError::Memory,
+        RoundFault::Differs(table, key) => match key.copied(alloc) {
+            Err(_) => ReopenError::Memory,
+            Ok(key) => ReopenError::Differs(*table, key),
+        },
     }
 }
 
