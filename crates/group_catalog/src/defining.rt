@@ -124,7 +124,7 @@ fn made_of(
     declared: CreateGroup,
     found: Accepted,
 ) -> Result<GroupDef, Refused>
-    ensures { IfOk result (λ def. (schema : List OneTable)
+    ensures made { IfOk result (λ def. (schema : List OneTable)
         → found.aging ≡ root_aging declared (placed_tables schema declared)
         → def ≡ defined_by schema declared found.tree) }
     ensures memory { IfErr result (λ error. error ≡ refused.Memory) }
