@@ -58,11 +58,7 @@ pub fn open<P: Site>(
 }
 
 // The engine gets the journal of the disk. Where it isn't got, the engine is as it was.
-fn get_journal<P: Site>(
-    engine: &mut Engine,
-    alloc: Global,
-    site: &mut P,
-) -> Result<(), OpenError>
+fn get_journal<P: Site>(engine: &mut Engine, alloc: Global, site: &mut P) -> Result<(), OpenError>
     ensures gets { OnOk result (GetsJournal P.Disk.state P.Disk.possible engine.old engine.new site.old site.new) }
     ensures order { IsInOrder engine.old → IsInOrder engine.new }
     ensures cause { JournalIsCaused (P.Disk.state site.old) (P.Disk.state site.new) result }

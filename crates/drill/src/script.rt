@@ -54,7 +54,7 @@ impl<'a> Script<'a> {
             None => Err(DrillError::Line(number)),
             Some(Plan::Restart) => {
                 let place = self.input.len();
-                self.restarts.push(place)?;
+                self.restarts.push(place).map_err(AllocError::from)?;
                 Ok(())
             }
             Some(plan) => {

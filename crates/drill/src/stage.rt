@@ -178,7 +178,11 @@ impl<'a> Stage<'a> {
 
     /// Runs the program over the input, once for each part of it, over the same site. The status of the last run, and the
     /// sink with the replies of all.
-    pub fn run(&mut self, alloc: Global, script: &Script<'a>) -> Result<(u8, MemorySink), AllocError> {
+    pub fn run(
+        &mut self,
+        alloc: Global,
+        script: &Script<'a>,
+    ) -> Result<(u8, MemorySink), AllocError> {
         let sink_fails = Vec::from_slice(alloc, self.sink_fails.as_slice())?;
         let mut sink = MemorySink::new(alloc, self.piece, sink_fails);
         let mut rest = script.input.as_slice();

@@ -197,14 +197,16 @@ serving_flushed (Ok done) o given bytes before written session session' tier lin
       (splits_then (Some o.written) before.written written (replies_bytes s.replies) session.output [] session'.output s.passed p);
 }
 serving_flushed (Err stop.Sink) o given bytes before written session session' tier line sunk s p =
-    let b : Breaks (Some o.written) written (replies_bytes s.replies) = subst (λ (l : List ℕ). Breaks (Some o.written) written l) (append-nil (replies_bytes s.replies)) (breaks_then (Some o.written) before.written written (replies_bytes s.replies) session.output [] s.passed p) in
-    (length bytes, subst (λ (l : List ℕ). CutShort o (ended_lines (given ++ l)) (record before { written = written })) (sym (take_whole bytes))
-    (record {
-      replies = s.replies;
-      answered = inl (answered_here o (given ++ bytes) before session s);
-      count = b.count;
-      tells = told_after o.written written (take b.count (replies_bytes s.replies)) b.written;
-    }))
+    let b : Breaks (Some o.written) written (replies_bytes s.replies) = subst (λ (l : List ℕ). Breaks (Some o.written) written l) (append-nil (replies_bytes s.replies)) (breaks_then (Some o.written) before.written written (replies_bytes s.replies) session.output [] s.passed p) in (
+      length bytes,
+      subst (λ (l : List ℕ). CutShort o (ended_lines (given ++ l)) (record before { written = written })) (sym (take_whole bytes))
+          (record {
+            replies = s.replies;
+            answered = inl (answered_here o (given ++ bytes) before session s);
+            count = b.count;
+            tells = told_after o.written written (take b.count (replies_bytes s.replies)) b.written;
+          }),
+    )
 serving_flushed (Err stop.Disk) o given bytes before written session session' tier line sunk s p = absurd (sunk refl)
 
 -- where nothing waits, all replies of the ended lines are written

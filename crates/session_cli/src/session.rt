@@ -237,7 +237,15 @@ impl Session {
             (P.Disk.state site.new).disk_faults result }
     {
         let line = self.line.text();
-        match respond(alloc, &mut self.engine, &mut self.output, sink, site, clock, line) {
+        match respond(
+            alloc,
+            &mut self.engine,
+            &mut self.output,
+            sink,
+            site,
+            clock,
+            line,
+        ) {
             Ok(()) => {
                 self.line.clear();
                 Ok(())
