@@ -123,7 +123,7 @@ pub record IsKnown (w : World) : Type 0 where
   pub read : AreReadAt (length w.history) w.tier.groups
   pub stands : w.tier.doubt ≡ None → Stands w
 
-known_of : (t : Stored) (doubt : Option Doubt) (w : World) → IsLeft t doubt w → IsKnown w
+pub known_of : (t : Stored) (doubt : Option Doubt) (w : World) → IsLeft t doubt w → IsKnown w
 known_of t None w is = record { legal = legal_of w is.stands; read = is.stands.read; stands = λ none. is.stands }
 known_of t (Some d) w x = record {
   legal = x.legal;

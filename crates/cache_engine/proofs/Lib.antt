@@ -11,9 +11,11 @@ pub mod DueSteps
 pub mod DueStored
 pub mod EarlyLaws
 pub mod EngineLaws
+pub mod FinishingLaws
 pub mod GrowingLaws
 pub mod JournalKept
 pub mod LineLaws
+pub mod OpeningLaws
 pub mod RequestLaws
 pub mod ServingLaws
 pub mod StillLaws

@@ -139,3 +139,8 @@ goes_on state possible old new d d' base bytes reply caused none goes w at stand
         unkept = subst (λ k. KeepsOver state possible d' k it.world) (none stands.journal) (it.keeps whole);
       };
     }
+
+-- whether a journal is kept stays over a line
+pub line_kept : HeedLeads → (base : ℕ) (w : World) (bytes : List ℕ) (w' : World) (reply : Option Reply) → LineGoes base w bytes w' reply → w'.journal.kept ≡ w.journal.kept
+line_kept law base w bytes w' None goes = ap (λ (x : World). x.journal.kept) goes.2.1
+line_kept law base w bytes w' (Some reply) goes = led_kept w.journal w'.journal (law base w w' goes.0 reply goes.3).journal

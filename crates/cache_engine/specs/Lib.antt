@@ -2,8 +2,9 @@ pub mod Beginning
 pub mod Due
 pub mod DueItems
 pub mod Engines
+pub mod Finishing
 pub mod Growing
-pub mod Keeping
+pub mod Opening
 pub mod Requests
 pub mod Serving
 pub mod Tabling

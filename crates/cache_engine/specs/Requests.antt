@@ -1,6 +1,6 @@
 -- What a request line does, by its bytes. (This project's rule.)
 
-use Rattle.std.specs.Prelude.{◌≡◌, ◌⊎◌, ◌≤◌, ℕ, nat_lt, List, [], ◌∷◌, Bool, false, Option, Some, None, length, count_by}
+use Rattle.std.specs.Prelude.{◌≡◌, ◌⊎◌, ◌≤◌, ℕ, nat_lt, List, [], ◌∷◌, ◌++◌, Bool, true, false, Option, Some, None, length, count_by}
 use Rattle.std.specs.Bool.{MatchBool}
 use Rattle.tier_base.specs.declared.code.Code.TheVariants as code
 use Rattle.tier_base.specs.declared.limit.Limit.TheVariants as limit
@@ -12,6 +12,7 @@ use Rattle.cache_tier.specs.Worlds.{World, faulty}
 use Rattle.stored_tier.specs.Performing.{KeepsSlots}
 use Rattle.outside.specs.Sites.{SiteState}
 use Rattle.tier_journal.specs.declared.journal.TierJournal.{TierJournal}
+use Rattle.kept_journal.specs.Keeping.{is_broken}
 
 -- the line is longer than a line may be
 abbrev pub is_long : List ℕ → Bool
@@ -64,6 +65,20 @@ LineRun w [] (reply ∷ replies) w' = ⊥
 LineRun w (g ∷ lines) [] w' = ⊥
 LineRun w (g ∷ lines) (reply ∷ replies) w' =
     (mid : World) × LineStep g.base w g.bytes mid reply × LineRun mid lines replies w'
+
+-- One line after another, of which the last tells a failed call of the journal's disk: the run ends there. Each line
+-- before it is a step.
+pub record BrokenRun (w : World) (lines : List Given) (replies : List (Option Reply)) (w' : World) : Type 0 where
+  pub before : List Given
+  pub told : List (Option Reply)
+  pub mid : World
+  pub run : LineRun w before told mid
+  pub last : Given
+  pub reply : Option Reply
+  pub lines_are : lines ≡ before ++ last ∷ []
+  pub replies_are : replies ≡ told ++ reply ∷ []
+  pub goes : LineGoes last.base mid last.bytes w' reply
+  pub fails : is_broken reply ≡ true
 
 -- Counts and moments don't fall, and what others change stays; the slots do where no journal is kept. Each fault of the
 -- bank, and each of the journal, that a reply tells has a failed call of its own. No note tells one of the journal, and

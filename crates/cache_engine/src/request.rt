@@ -25,8 +25,8 @@ use std::alloc::Global;
 use tier_base::{Code, Limit, Moment, Seq};
 use tier_statements::{faulty, refuse};
 
-/// Answers one request line, without its line end. A line that is empty or a comment has no reply. Moments are counted
-/// from `base`.
+/// Answers one request line, without its line end. A line that is empty or a comment has no reply, and the site isn't
+/// called. Moments are counted from `base`.
 ///
 /// The line is a step of the abstract tier, and the reply is that step's. It is so in each world in which the engine
 /// was left so: its tier stands there, or a commit is in doubt. Where memory is wanting the reply says so, and the
@@ -46,6 +46,7 @@ pub fn request<P: Site>(
     ensures performs { Goes P.Disk.state P.Disk.possible engine.old engine.new site.old site.new result
         (λ w w'. LineGoes base.0 w line.now w' result) }
     ensures none { engine.old.journal ≡ None → engine.new.journal ≡ None }
+    ensures silent { result ≡ None → site.new ≡ site.old }
     ensures order { IsInOrder engine.new }
     ensures cause { IsLineCaused engine.old.journal
         (P.Disk.state site.old)

@@ -9,7 +9,6 @@
 mod backing;
 mod error;
 mod joined;
-mod kept;
 mod plan;
 mod script;
 mod slots;
@@ -51,9 +50,9 @@ fn drilled(alloc: Global, bytes: &[u8]) -> Result<(u8, Vec<u8>), DrillError> {
     let script = Script::read(alloc, bytes)?;
     let mut stage = Stage::new(alloc)?;
     stage.plan_all(alloc, &script)?;
-    let (status, sink) = stage.run(alloc, script.input.as_slice())?;
+    let (status, sink) = stage.run(alloc, &script)?;
     let mut text = told(alloc, sink.bytes(), stage.site.history().as_slice())?;
-    if stage.journal {
+    if stage.slots {
         tell_slots(alloc, &mut stage.site, &mut text)?;
     }
     Ok((status, text))

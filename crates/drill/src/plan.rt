@@ -26,9 +26,10 @@ pub enum Plan<'a> {
     Words(&'a str),
     /// `joined`: tables that foreign keys join stand in the history before the run, as `joined` defines them.
     Joined,
-    /// `journal`: the engine runs beside a new journal, without the program's settings and session, and the journal's
-    /// slots are told at the end.
-    Journal,
+    /// `slots`: the first bytes of the journal's slots are told at the end.
+    Slots,
+    /// `restart`: the input behind this line is that of a new run of the program, over the same site.
+    Restart,
     /// `note TEXT`: what the script is about. It plans nothing.
     Note,
 }
@@ -57,7 +58,8 @@ impl<'a> Plan<'a> {
             "settings" => Some(Plan::Settings(rest)),
             "words" => Some(Plan::Words(rest)),
             "joined" => Some(Plan::Joined),
-            "journal" => Some(Plan::Journal),
+            "slots" => Some(Plan::Slots),
+            "restart" => Some(Plan::Restart),
             "note" => Some(Plan::Note),
             _ => None,
         }

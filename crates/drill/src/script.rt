@@ -25,6 +25,8 @@ pub struct Script<'a> {
     pub plans: Vec<Planned<'a>>,
     /// All other lines, as they stand.
     pub input: Vec<u8>,
+    /// How many bytes of the input stand before each restart.
+    pub restarts: Vec<usize>,
 }
 
 impl<'a> Script<'a> {
@@ -33,6 +35,7 @@ impl<'a> Script<'a> {
         let mut script = Script {
             plans: Vec::new(alloc),
             input: Vec::new(alloc),
+            restarts: Vec::new(alloc),
         };
         let mut number: usize = 0;
         for line in bytes.split_inclusive(is_line_feed) {
@@ -49,6 +52,11 @@ impl<'a> Script<'a> {
         }
         match parse_plan(line) {
             None => Err(DrillError::Line(number)),
+            Some(Plan::Restart) => {
+                let place = self.input.len();
+                self.restarts.push(place).map_err(AllocError::from)?;
+                Ok(())
+            }
             Some(plan) => {
                 self.push(Planned { line: number, plan })?;
                 Ok(())

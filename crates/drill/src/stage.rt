@@ -3,7 +3,6 @@
 use crate::backing::{asked_behind_label, changes_of, defined};
 use crate::error::DrillError;
 use crate::joined::joined_tables;
-use crate::kept::run_kept;
 use crate::plan::Plan;
 use crate::script::{Planned, Script};
 use backing_gate::{CallKind, MemorySite};
@@ -28,8 +27,8 @@ pub struct Stage<'a> {
     piece: usize,
     source_fails: Vec<u64>,
     sink_fails: Vec<u64>,
-    /// Whether the engine runs beside a journal.
-    pub journal: bool,
+    /// Whether the journal's slots are told at the end.
+    pub slots: bool,
 }
 
 impl Drop for Stage<'_> {
@@ -44,7 +43,7 @@ impl Drop for Stage<'_> {
             piece: _,
             source_fails: _,
             sink_fails: _,
-            journal: _,
+            slots: _,
         } = self;
     }
 }
@@ -63,7 +62,7 @@ impl<'a> Stage<'a> {
             piece: 65_536,
             source_fails: Vec::new(alloc),
             sink_fails: Vec::new(alloc),
-            journal: false,
+            slots: false,
         })
     }
 
@@ -152,8 +151,8 @@ impl<'a> Stage<'a> {
                 let changes = changes_of(alloc, &self.schema, text, planned.line)?;
                 self.site.foreign_at(call, side, changes)?;
             }
-            Plan::Before(_) | Plan::Joined | Plan::Note => {}
-            Plan::Journal => self.journal = true,
+            Plan::Before(_) | Plan::Joined | Plan::Note | Plan::Restart => {}
+            Plan::Slots => self.slots = true,
             Plan::Pieces(piece) => self.piece = piece,
             Plan::Source(call) => self.source_fails.push(call).map_err(AllocError::from)?,
             Plan::Sink(call) => self.sink_fails.push(call).map_err(AllocError::from)?,
@@ -177,30 +176,48 @@ impl<'a> Stage<'a> {
         }
     }
 
-    /// Runs the program over the input. The status, and the sink with the replies.
-    pub fn run(&mut self, alloc: Global, input: &[u8]) -> Result<(u8, MemorySink), AllocError> {
+    /// Runs the program over the input, once for each part of it, over the same site. The status of the last run, and the
+    /// sink with the replies of all.
+    pub fn run(
+        &mut self,
+        alloc: Global,
+        script: &Script<'a>,
+    ) -> Result<(u8, MemorySink), AllocError> {
         let sink_fails = Vec::from_slice(alloc, self.sink_fails.as_slice())?;
-        if self.journal {
-            let mut sink = MemorySink::new(alloc, self.piece, sink_fails);
-            let status = run_kept(alloc, &mut self.site, input, &mut sink)?;
-            return Ok((status, sink));
+        let mut sink = MemorySink::new(alloc, self.piece, sink_fails);
+        let mut rest = script.input.as_slice();
+        let mut taken: usize = 0;
+        for place in &script.restarts {
+            let (part, behind) = rest.split_at(place.saturating_sub(taken).min(rest.len()));
+            let _ = self.run_part(alloc, part, &mut sink)?;
+            rest = behind;
+            taken = *place;
         }
+        let status = self.run_part(alloc, rest, &mut sink)?;
+        Ok((status, sink))
+    }
+
+    // One run of the program.
+    fn run_part(
+        &mut self,
+        alloc: Global,
+        input: &[u8],
+        sink: &mut MemorySink,
+    ) -> Result<u8, AllocError> {
         let input = Vec::from_slice(alloc, input)?;
         let source_fails = Vec::from_slice(alloc, self.source_fails.as_slice())?;
         let words = words_of(alloc, self.words)?;
         let mut source = MemorySource::new(input, self.piece.max(1), source_fails);
-        let mut sink = MemorySink::new(alloc, self.piece, sink_fails);
         let mut clock = ScriptClock::new(Vec::new(alloc));
-        let status = top(
+        Ok(top(
             alloc,
             words.as_slice(),
             self.settings.as_bytes(),
             &mut source,
-            &mut sink,
+            sink,
             &mut self.site,
             &mut clock,
-        );
-        Ok((status, sink))
+        ))
     }
 }
 

@@ -1,22 +1,24 @@
 -- The pieces of the input, from the first to the last.
-use Rattle.std.proofs.Common.{◌≡◌, ◌⊎◌, subst, ℕ, min, ◌+◌, ◌-◌, ◌≤◌, ◌<◌, List, [], ◌++◌, length, take, drop, Option, Some, None, refl, sym, ◌∙◌, ap, append-nil, append_assoc, inl, inr, arith, take-append-drop}
+use Rattle.std.proofs.Common.{◌≡◌, ◌⊎◌, subst, ℕ, Bool, true, false, min, ◌+◌, ◌-◌, ◌≤◌, ◌<◌, List, [], ◌++◌, length, take, drop, Option, Some, None, refl, sym, ◌∙◌, ap, append-nil, append_assoc, inl, inr, arith, take-append-drop}
 use Rattle.std.specs.Io.KnownBytes.{Consumes, IsAtEnd, Keeps}
 use Rattle.std.proofs.lemmas.List.{length-append, length-take, length-drop}
+use Rattle.outside.specs.Holding.{Held}
 use Rattle.cache_tier.specs.TierStates.{Settings as TierSettings}
-use Rattle.cache_engine.specs.Beginning.{BeginsAt}
+use Rattle.cache_tier.specs.Worlds.{World}
 use Rattle.command_line.specs.declared.settings.ClockSource.{ClockSource}
 use Rattle.command_line.specs.declared.settings.ClockSource.TheVariants.{Script, System}
 use Rattle.command_line.specs.declared.settings.Settings.{Settings}
+use Rattle.session_cli.specs.declared.answering.Stop.{Stop}
+use Rattle.session_cli.specs.declared.answering.Stop.TheVariants as stop
 use Rattle.session_cli.specs.declared.session.Session.{Session}
 use Rattle.session_cli.specs.declared.serving.Status.{Status}
-use Rattle.session_cli.specs.declared.serving.Status.TheVariants.{Finished, SourceFailed, SinkFailed, SchemaFailed, NoMemory, LineUnchecked, InputTooLong}
+use Rattle.session_cli.specs.declared.serving.Status.TheVariants.{Finished, SourceFailed, SinkFailed, DiskFailed, SchemaFailed, NoMemory, LineUnchecked, Damaged, Differs, InputTooLong}
 use Rattle.session_cli.specs.Cutting.{ended_lines, all_lines}
-use Rattle.session_cli.specs.Ends.{Ended, Gives, Outcome, Runs, Serves, Taken, Untouched}
-use Rattle.session_cli.specs.Opening.{Opens, begins}
+use Rattle.session_cli.specs.Ends.{Ended, Gives, OpenedAndEnded, Outcome, Runs, Serves, Stops, Taken, Unopened, input_limit, status_of, takes_none}
+use Rattle.session_cli.specs.Opening.{begins}
 use Rattle.session_cli.specs.Outside.{Outside}
-use Rattle.session_cli.specs.Serving.{Origin, Serving, Whole, CutShort, IsLeftAlone}
+use Rattle.session_cli.specs.Serving.{BrokenOff, CutShort, Finishes, HasFlushed, IsLeftAlone, Origin, Rests, Serving, StopsAt, Whole}
 use Rattle.session_cli.specs.Timing.{Coming, bases_by, bases_of}
-use Rattle.session_cli.proofs.OpeningLaws.{begins_still, opened_at, serving_new}
 use Rattle.session_cli.proofs.ServingLaws.{left_front, serving_whole}
 
 -- Between two pieces: so much was given and so much is left.
@@ -40,88 +42,55 @@ pub going_new : (o : Origin) (session : Session) (input : List ℕ) (source : Op
 unfolding taking_new
 going_new o session input source now is s = record { taking = taking_new input source is; serving = s }
 
--- no line is answered
-ended_untouched : (status : Status) (o : Origin) (input : List ℕ) (source : Option (List ℕ)) (now : Outside) → (status ≡ SchemaFailed) ⊎ (status ≡ NoMemory) → source ≡ Some input → Untouched o now → Ended status o input source now
-ended_untouched SchemaFailed o input source now is told alone = record { taken = record { given = []; left = input; tells = told; parts = refl; gives = refl }; outcome = alone }
-ended_untouched NoMemory o input source now is told alone = record { taken = record { given = []; left = input; tells = told; parts = refl; gives = refl }; outcome = alone }
-ended_untouched Finished o input source now (inl e) told alone = cc
-ended_untouched Finished o input source now (inr e) told alone = cc
-ended_untouched SourceFailed o input source now (inl e) told alone = cc
-ended_untouched SourceFailed o input source now (inr e) told alone = cc
-ended_untouched SinkFailed o input source now (inl e) told alone = cc
-ended_untouched SinkFailed o input source now (inr e) told alone = cc
-ended_untouched LineUnchecked o input source now (inl e) told alone = cc
-ended_untouched LineUnchecked o input source now (inr e) told alone = cc
-ended_untouched InputTooLong o input source now (inl e) told alone = cc
-ended_untouched InputTooLong o input source now (inr e) told alone = cc
-
--- the opening gave no session
-pub runs_refused : (settings : TierSettings) (status : Status) (source : Option (List ℕ)) (before behind : Outside) → (status ≡ SchemaFailed) ⊎ (status ≡ NoMemory) → BeginsAt before.site behind.site → behind.written ≡ before.written
-    → Runs settings status source before source behind
-runs_refused settings status source before behind is later unwritten = λ input start there is_source is_sink is_site none.
-    let opened = opened_at before.site behind.site before.coming there later is_site none in
-    record {
-      site = behind.site;
-      later = later;
-      opened = opened;
-      ended = λ alone. ended_untouched status (begins settings start opened) input source behind is is_source
-          (record { unwritten = unwritten ∙ is_sink; held = opened.held; tells = opened.told; slots = refl; history = refl });
-    }
-
--- memory was wanting before the opening
-pub runs_unopened : (settings : TierSettings) (source : Option (List ℕ)) (now behind : Outside) → behind.site ≡ now.site → behind.written ≡ now.written → Runs settings NoMemory source now source behind
-runs_unopened settings source now behind site written =
-    runs_refused settings NoMemory source now behind (inr refl) (rw site (begins_still now.site)) written
-
--- after the opening the lines are served
-pub runs_opened : (settings : TierSettings) (propagate_ms : ℕ) (session : Session) (status : Status) (source source' : Option (List ℕ)) (before mid behind : Outside) → settings.propagate_ms ≡ propagate_ms
-    → BeginsAt before.site mid.site → mid.written ≡ before.written → session.line ≡ [] → session.output ≡ [] → Opens propagate_ms before.site mid.site before.coming mid.coming session
-    → Serves session status source mid source' behind → Runs settings status source before source' behind
-runs_opened settings propagate_ms session status source source' before mid behind ms later written line output opens serves = λ input start there is_source is_sink is_site none.
-    let new = opens there settings is_site none ms in
-    record {
-      site = mid.site;
-      later = later;
-      opened = new.opened;
-      ended = λ alone. serves (begins settings start new.opened) input is_source
-          (serving_new there before.site before.coming settings session start mid new line output (written ∙ is_sink)) alone;
-    }
-
 -- how a run ended doesn't go by what the clock would answer then
-whole_then : (o : Origin) (lines : List (List ℕ)) (now : Outside) (coming : Coming) → Whole o lines now → Whole o lines (record now { coming = coming })
-whole_then o lines now coming w = record { replies = w.replies; answered = w.answered; tells = w.tells }
+whole_then : (ends : World → World → Type 0) (o : Origin) (lines : List (List ℕ)) (now : Outside) (coming : Coming) → Whole ends o lines now → Whole ends o lines (record now { coming = coming })
+whole_then ends o lines now coming w = record { replies = w.replies; answered = w.answered; tells = w.tells }
 
-short_then : (o : Origin) (lines : List (List ℕ)) (now : Outside) (coming : Coming) → CutShort o lines now → CutShort o lines (record now { coming = coming })
-short_then o lines now coming c = record { replies = c.replies; answered = c.answered; count = c.count; tells = c.tells }
+stops_then : (why : Stop) (o : Origin) (lines : List (List ℕ)) (now : Outside) (coming : Coming) → StopsAt why o lines now → StopsAt why o lines (record now { coming = coming })
+stops_then stop.Sink o lines now coming c = record { replies = c.replies; answered = c.answered; count = c.count; tells = c.tells }
+stops_then stop.Disk o lines now coming b = record { replies = b.replies; broken = b.broken; tells = b.tells }
 
-untouched_then : (o : Origin) (now : Outside) (coming : Coming) → Untouched o now → Untouched o (record now { coming = coming })
-untouched_then o now coming u = record { unwritten = u.unwritten; held = u.held; tells = u.tells; slots = u.slots; history = u.history }
+stopped_then : (why : Stop) (o : Origin) (given : List ℕ) (now : Outside) (coming : Coming) → Stops why o given now → Stops why o given (record now { coming = coming })
+stopped_then why o given now coming x = record { front = x.front; behind = x.behind; parts = x.parts; answered = by x.answered }
+  where
+    by : StopsAt why o (ended_lines x.front) now ⊎ StopsAt why o (all_lines x.front) now → StopsAt why o (ended_lines x.front) (record now { coming = coming }) ⊎ StopsAt why o (all_lines x.front) (record now { coming = coming })
+    by (inl c) = inl (stops_then why o (ended_lines x.front) now coming c)
+    by (inr c) = inr (stops_then why o (all_lines x.front) now coming c)
 
 outcome_then : (status : Status) (o : Origin) (given : List ℕ) (now : Outside) (coming : Coming) → Outcome status o given now → Outcome status o given (record now { coming = coming })
-outcome_then Finished o given now coming x = whole_then o (all_lines given) now coming x
-outcome_then SourceFailed o given now coming x = whole_then o (ended_lines given) now coming x
-outcome_then InputTooLong o given now coming x = whole_then o (ended_lines given) now coming x
-outcome_then SinkFailed o given now coming x = record { front = x.front; behind = x.behind; parts = x.parts; answered = by x.answered }
-  where
-    by : CutShort o (ended_lines x.front) now ⊎ CutShort o (all_lines x.front) now → CutShort o (ended_lines x.front) (record now { coming = coming }) ⊎ CutShort o (all_lines x.front) (record now { coming = coming })
-    by (inl c) = inl (short_then o (ended_lines x.front) now coming c)
-    by (inr c) = inr (short_then o (all_lines x.front) now coming c)
+outcome_then Finished o given now coming x = whole_then HasFlushed o (all_lines given) now coming x
+outcome_then SourceFailed o given now coming x = whole_then Rests o (ended_lines given) now coming x
+outcome_then InputTooLong o given now coming x = whole_then Rests o (ended_lines given) now coming x
+outcome_then SinkFailed o given now coming x = stopped_then stop.Sink o given now coming x
+outcome_then DiskFailed o given now coming x = stopped_then stop.Disk o given now coming x
 outcome_then LineUnchecked o given now coming x = absurd x
-outcome_then SchemaFailed o given now coming x = untouched_then o now coming x
-outcome_then NoMemory o given now coming x = untouched_then o now coming x
+outcome_then SchemaFailed o given now coming x = absurd x
+outcome_then NoMemory o given now coming x = absurd x
+outcome_then Damaged o given now coming x = absurd x
+outcome_then Differs o given now coming x = absurd x
+
+opened_then : (settings : TierSettings) (status : Status) (there : Held) (start input : List ℕ) (source' : Option (List ℕ)) (before behind : Outside) (coming : Coming)
+    → Unopened status input before source' behind ⊎ OpenedAndEnded status settings there start input before source' behind
+    → Unopened status input before source' (record behind { coming = coming }) ⊎ OpenedAndEnded status settings there start input before source' (record behind { coming = coming })
+opened_then settings status there start input source' before behind coming (inl u) = inl (record { untaken = u.untaken; why = u.why; tells = u.tells; moment = u.moment; failed = u.failed })
+opened_then settings status there start input source' before behind coming (inr x) =
+    inr (record {
+      first = x.first;
+      next = x.next;
+      world = x.world;
+      opens = x.opens;
+      kept = x.kept;
+      later = x.later;
+      shares = x.shares;
+      ended = λ alone.
+          let e = x.ended alone in
+          record { taken = e.taken; outcome = outcome_then status (begins x.world start before.coming) e.taken.given behind coming e.outcome };
+    })
 
 pub runs_then : (settings : TierSettings) (status : Status) (source source' : Option (List ℕ)) (before behind : Outside) (coming : Coming) → Runs settings status source before source' behind
     → Runs settings status source before source' (record behind { coming = coming })
-runs_then settings status source source' before behind coming runs = λ input start there is_source is_sink is_site none.
-    let x = runs input start there is_source is_sink is_site none in
-    record {
-      site = x.site;
-      later = x.later;
-      opened = x.opened;
-      ended = λ alone.
-          let e = x.ended alone in
-          record { taken = e.taken; outcome = outcome_then status (begins settings start x.opened) e.taken.given behind coming e.outcome };
-    }
+runs_then settings status source source' before behind coming runs = λ input start there is_source is_sink is_site have may.
+    opened_then settings status there start input source' before behind coming (runs input start there is_source is_sink is_site have may)
 
 -- the bases of a run are those by its settings
 pub runs_based : (settings : TierSettings) (status : Status) (source source' : Option (List ℕ)) (before behind : Outside) (bases coming : Coming) → before.coming ≡ bases → Runs settings status source before source' behind
@@ -183,16 +152,21 @@ taken_all input room source source' buf n none some space p t =
       gives = (k.ended none space, omega (arith, t.total));
     }
 
--- and the sink failed
-unfoldable pub taken_unwritten : (input : List ℕ) (room : ℕ) (source source' : Option (List ℕ)) (buf : List ℕ) (n : ℕ) → n ≡ 0 → TakeOf source source' n buf → Taking input room source → Taken SinkFailed input source'
-taken_unwritten input room source source' buf n none p t =
+-- what a run that stopped took
+gives_stopped : (why : Stop) (given left : List ℕ) → length given ≤ input_limit → Gives (status_of why) given left
+gives_stopped stop.Sink given left few = few
+gives_stopped stop.Disk given left few = few
+
+-- and the run stopped there
+unfoldable pub taken_stopped : (why : Stop) (input : List ℕ) (room : ℕ) (source source' : Option (List ℕ)) (buf : List ℕ) (n : ℕ) → n ≡ 0 → TakeOf source source' n buf → Taking input room source → Taken (status_of why) input source'
+taken_stopped why input room source source' buf n none p t =
     let k = took source source' t.left buf n t.tells p in
     record {
       given = t.given;
       left = k.left;
       tells = k.tells;
       parts = t.parts ∙ ap (λ l. t.given ++ l) (k.parts ∙ ap (λ i. take i buf ++ k.left) none);
-      gives = omega (arith, t.total);
+      gives = gives_stopped why t.given k.left (omega (arith, t.total));
     }
 
 -- a piece more was given
@@ -208,9 +182,9 @@ taking_on input room room' source source' buf bytes n are len within less p t =
       total = omega (arith, t.total, length-append t.given bytes);
     }
 
--- and the sink failed in it
-unfoldable pub taken_in_piece : (input : List ℕ) (room : ℕ) (source : Option (List ℕ)) → Taking input room source → Taken SinkFailed input source
-taken_in_piece input room source t = record { given = t.given; left = t.left; tells = t.tells; parts = t.parts; gives = omega (arith, t.total) }
+-- and the run stopped in it
+unfoldable pub taken_in_piece : (why : Stop) (input : List ℕ) (room : ℕ) (source : Option (List ℕ)) → Taking input room source → Taken (status_of why) input source
+taken_in_piece why input room source t = record { given = t.given; left = t.left; tells = t.tells; parts = t.parts; gives = gives_stopped why t.given t.left (omega (arith, t.total)) }
 
 pub ended_source : (o : Origin) (input : List ℕ) (room : ℕ) (source source' : Option (List ℕ)) (now : Outside) (session : Session) → session.output ≡ [] → 0 < room → Keeps source source'
     → Going o input room source now session → Ended SourceFailed o input source' now
@@ -229,33 +203,37 @@ ended_long o input room source now session none full g = record {
 }
 
 pub ended_all : (o : Origin) (input : List ℕ) (room : ℕ) (source source' : Option (List ℕ)) (now behind : Outside) (session : Session) (buf : List ℕ) (n : ℕ) → n ≡ 0 → 0 < room → 0 < length buf
-    → TakeOf source source' n buf → (g : Going o input room source now session) → Whole o (all_lines g.taking.given) behind → Ended Finished o input source' behind
+    → TakeOf source source' n buf → (g : Going o input room source now session) → Whole HasFlushed o (all_lines g.taking.given) behind → Ended Finished o input source' behind
 unfolding taken_all
 ended_all o input room source source' now behind session buf n none some space p g whole = record {
   taken = taken_all input room source source' buf n none some space p g.taking;
   outcome = whole;
 }
 
-pub ended_unwritten : (o : Origin) (input : List ℕ) (room : ℕ) (source source' : Option (List ℕ)) (now behind : Outside) (session : Session) (buf : List ℕ) (n : ℕ) → n ≡ 0
-    → TakeOf source source' n buf → (g : Going o input room source now session) → CutShort o (all_lines g.taking.given) behind → Ended SinkFailed o input source' behind
-unfolding taken_unwritten
-ended_unwritten o input room source source' now behind session buf n none p g short = record {
-  taken = taken_unwritten input room source source' buf n none p g.taking;
-  outcome = record { front = g.taking.given; behind = []; parts = sym (append-nil g.taking.given); answered = inr short };
+stops_outcome : (why : Stop) (o : Origin) (given : List ℕ) (now : Outside) → Stops why o given now → Outcome (status_of why) o given now
+stops_outcome stop.Sink o given now x = x
+stops_outcome stop.Disk o given now x = x
+
+pub ended_stopped : (why : Stop) (o : Origin) (input : List ℕ) (room : ℕ) (source source' : Option (List ℕ)) (now behind : Outside) (session : Session) (buf : List ℕ) (n : ℕ) → n ≡ 0
+    → TakeOf source source' n buf → (g : Going o input room source now session) → StopsAt why o (all_lines g.taking.given) behind → Ended (status_of why) o input source' behind
+unfolding taken_stopped
+ended_stopped why o input room source source' now behind session buf n none p g short = record {
+  taken = taken_stopped why input room source source' buf n none p g.taking;
+  outcome = stops_outcome why o g.taking.given behind (record { front = g.taking.given; behind = []; parts = sym (append-nil g.taking.given); answered = inr short });
 }
 
-pub ended_in_piece : (o : Origin) (input : List ℕ) (room room' : ℕ) (source source' : Option (List ℕ)) (now behind : Outside) (session : Session) (buf bytes : List ℕ) (n : ℕ)
+pub ended_in_piece : (why : Stop) (o : Origin) (input : List ℕ) (room room' : ℕ) (source source' : Option (List ℕ)) (now behind : Outside) (session : Session) (buf bytes : List ℕ) (n : ℕ)
     → bytes ≡ take n buf → length bytes ≡ n → n ≤ room → room' ≡ room - n → TakeOf source source' n buf
-    → (g : Going o input room source now session) → (m : ℕ) × CutShort o (ended_lines (g.taking.given ++ take m bytes)) behind → Ended SinkFailed o input source' behind
+    → (g : Going o input room source now session) → (m : ℕ) × StopsAt why o (ended_lines (g.taking.given ++ take m bytes)) behind → Ended (status_of why) o input source' behind
 unfolding taking_on taken_in_piece
-ended_in_piece o input room room' source source' now behind session buf bytes n are len within less p g (m, short) = record {
-  taken = taken_in_piece input room' source' (taking_on input room room' source source' buf bytes n are len within less p g.taking);
-  outcome = record {
+ended_in_piece why o input room room' source source' now behind session buf bytes n are len within less p g (m, short) = record {
+  taken = taken_in_piece why input room' source' (taking_on input room room' source source' buf bytes n are len within less p g.taking);
+  outcome = stops_outcome why o (g.taking.given ++ bytes) behind (record {
     front = g.taking.given ++ take m bytes;
     behind = drop m bytes;
     parts = ap (λ l. g.taking.given ++ l) (sym (take-append-drop m bytes)) ∙ sym (append_assoc g.taking.given (take m bytes) (drop m bytes));
     answered = inl short;
-  };
+  });
 }
 
 pub going_on : (o : Origin) (input : List ℕ) (room room' : ℕ) (source source' : Option (List ℕ)) (now behind : Outside) (session session' : Session) (buf bytes : List ℕ) (n : ℕ)
@@ -282,22 +260,32 @@ keeps_length buf piece want len = omega (arith, length-append buf (drop want pie
 pub taken_unstarted : (input : List ℕ) (source : Option (List ℕ)) → source ≡ Some input → Taken NoMemory input source
 taken_unstarted input source is = record { given = []; left = input; tells = is; parts = refl; gives = refl }
 
-pub taken_unopened : (input : List ℕ) (source : Option (List ℕ)) (status : Status) → (status ≡ SchemaFailed) ⊎ (status ≡ NoMemory) → source ≡ Some input → Taken status input source
-taken_unopened input source status which is = record { given = []; left = input; tells = is; parts = refl; gives = by status which }
+pub taken_none : (input : List ℕ) (source : Option (List ℕ)) (status : Status) → takes_none status ≡ true → source ≡ Some input → Taken status input source
+taken_none input source status which is = record { given = []; left = input; tells = is; parts = refl; gives = by status which }
   where
-    by : (status : Status) → (status ≡ SchemaFailed) ⊎ (status ≡ NoMemory) → Gives status [] input
+    by : (status : Status) → takes_none status ≡ true → Gives status [] input
     by SchemaFailed which = refl
     by NoMemory which = refl
-    by Finished (inl e) = cc
-    by Finished (inr e) = cc
-    by SourceFailed (inl e) = cc
-    by SourceFailed (inr e) = cc
-    by SinkFailed (inl e) = cc
-    by SinkFailed (inr e) = cc
-    by LineUnchecked (inl e) = cc
-    by LineUnchecked (inr e) = cc
-    by InputTooLong (inl e) = cc
-    by InputTooLong (inr e) = cc
+    by Damaged which = refl
+    by Differs which = refl
+    by Finished e = cc
+    by SourceFailed e = cc
+    by SinkFailed e = cc
+    by DiskFailed e = cc
+    by LineUnchecked e = cc
+    by InputTooLong e = cc
+
+-- nothing is taken where no engine is opened
+pub taken_unopened : (input : List ℕ) (source : Option (List ℕ)) (status : Status) → (takes_none status ≡ true) ⊎ ((status ≡ SinkFailed) ⊎ (status ≡ DiskFailed)) → source ≡ Some input → Taken status input source
+taken_unopened input source status (inl none) is = taken_none input source status none is
+taken_unopened input source status (inr (inl sink)) is = subst (λ st. Taken st input source) (sym sink) (record { given = []; left = input; tells = is; parts = refl; gives = zero_few })
+  where
+    zero_few : 0 ≤ input_limit
+    zero_few = omega arith
+taken_unopened input source status (inr (inr disk)) is = subst (λ st. Taken st input source) (sym disk) (record { given = []; left = input; tells = is; parts = refl; gives = zero_few })
+  where
+    zero_few : 0 ≤ input_limit
+    zero_few = omega arith
 
 -- others leave the groups alone in what was given, and in a piece more
 pub alone_given : (o : Origin) (input : List ℕ) (room : ℕ) (source : Option (List ℕ)) (t : Taking input room source) → IsLeftAlone o input → IsLeftAlone o t.given

@@ -3,9 +3,11 @@ pub mod CuttingLaws
 pub mod DigitLaws
 pub mod DrainedLaws
 pub mod EndsLaws
+pub mod FinishLaws
 pub mod FlatMaps
 pub mod OpeningLaws
 pub mod OutputLaws
 pub mod RunLaws
 pub mod ServingLaws
+pub mod StopLaws
 pub mod TopLaws

@@ -1,148 +1,139 @@
 -- The opening of a run.
-use Rattle.std.proofs.Common.{◌≡◌, ◌||◌, ℕ, Bool, true, false, List, [], ◌∷◌, ◌++◌, Option, Some, None, Ok, refl, sym, ◌∙◌, ap, arith, subst, append-nil, append_assoc, lit≤}
-use Rattle.std.specs.Option.{IsSome}
-use Rattle.tier_base.specs.declared.number.Moment.{Moment}
-use Rattle.tier_base.specs.declared.number.TableId.{TableId}
-use Rattle.table_state.specs.declared.history.Entry.{Entry}
-use Rattle.table_state.specs.declared.history.Entry.TheVariants.{Definition, Foreign, Own}
-use Rattle.table_state.specs.Histories.{has_ticket, is_of, state_of}
-use Rattle.table_state.specs.Tables.{TableState}
-use Rattle.table_state.proofs.HistoryLaws.{has_ticket-append}
+use Rattle.std.proofs.Common.{◌≡◌, ◌⊎◌, ◌≤◌, ℕ, true, false, List, [], ◌++◌, take, Option, Some, None, inl, inr, refl, sym, ◌∙◌, ap, arith, subst, append-nil, lit≤}
+use Rattle.std.specs.Io.KnownBytes.{Appends}
+use Rattle.std.proofs.KnownBytes.{Appends-nil}
+use Rattle.outside.specs.Faults.{Rose}
 use Rattle.outside.specs.Holding.{Held}
-use Rattle.outside.specs.Others.{AreOthers}
-use Rattle.order_laws.specs.Commits.{Once}
-use Rattle.order_laws.specs.Steps.{MayBegin}
-use Rattle.cache_tier.specs.TierStates.{Settings as TierSettings}
-use Rattle.cache_engine.specs.Beginning.{BeginsAt}
-use Rattle.cache_engine.specs.Engines.{IsBegunWith}
-use Rattle.cache_engine.specs.declared.engine.Engine.{Engine}
-use Rattle.cache_engine.proofs.EngineLaws.{left_in}
-use Rattle.stored_tier.specs.Performing.{KeepsSlots}
 use Rattle.outside.specs.Sites.{SiteState}
+use Rattle.cache_tier.specs.TierStates.{Settings as TierSettings}
+use Rattle.cache_engine.specs.Opening.{IsBegunOver, OpensOver}
+use Rattle.tier_opening.specs.Telling.{FailsAs}
+use Rattle.cache_engine.specs.declared.engine.Engine.{Engine}
+use Rattle.tier_opening.specs.declared.opening.OpenError.{OpenError}
+use Rattle.tier_opening.specs.declared.opening.OpenError.TheVariants as open_error
+use Rattle.session_cli.specs.declared.serving.Status.{Status}
+use Rattle.session_cli.specs.declared.serving.Status.TheVariants.{DiskFailed, NoMemory, SchemaFailed, SinkFailed}
 use Rattle.session_cli.specs.declared.session.Session.{Session}
-use Rattle.session_cli.specs.Opening.{HasNoTickets, IsNew, Opened, Opens, begins, world_at}
-use Rattle.session_cli.specs.Outside.{Outside}
-use Rattle.session_cli.specs.Serving.{Serving}
+use Rattle.session_cli.specs.Ends.{Runs, Serves, takes_none}
+use Rattle.session_cli.specs.Opening.{TellsLine, TellsWhy, begins, unopened_line}
+use Rattle.session_cli.specs.Outside.{Outside, seen}
+use Rattle.session_cli.specs.Output.{Breaks, Splits}
+use Rattle.session_cli.specs.Serving.{Serving, StandsIn}
 use Rattle.session_cli.specs.Timing.{AreLeft, Coming, IsNext}
 use Rattle.session_cli.proofs.CuttingLaws.{front_short}
-use Rattle.session_cli.proofs.ServingLaws.{kept_slots}
+use Rattle.session_cli.proofs.OutputLaws.{breaks_then, splits_then}
+use Rattle.session_cli.proofs.ServingLaws.{take_rest}
 
--- some moment is the next one, also where none is told
-record SomeNext (told : Option ℕ) : Type 0 where
-  moment : ℕ
-  is : IsNext told moment
+-- A RUN THAT DOESN'T BEGIN
 
-some_next : (told : Option ℕ) → SomeNext told
-some_next None = record { moment = 0; is = tt }
-some_next (Some moment) = record { moment = moment; is = refl }
+pub is_disk : (status : Status) (sink sink' : Option (List ℕ)) (why : OpenError) → TellsWhy status sink sink' why → status ≡ DiskFailed → why ≡ open_error.Disk
+is_disk status sink sink' open_error.Disk tells is = refl
+is_disk status sink sink' open_error.Bank (inl p) is = cc
+is_disk status sink sink' open_error.Bank (inr p) is = cc
+is_disk status sink sink' (open_error.Damaged slot place) (inl p) is = cc
+is_disk status sink sink' (open_error.Damaged slot place) (inr p) is = cc
+is_disk status sink sink' (open_error.Differs table key) (inl p) is = cc
+is_disk status sink sink' (open_error.Differs table key) (inr p) is = cc
+is_disk status sink sink' open_error.Memory (inl p) is = cc
+is_disk status sink sink' open_error.Memory (inr p) is = cc
 
--- transactions of others leave a state, and are no tickets
-others_leave : (shared : List TableId) (h others : List Entry) → AreOthers shared h others → HasNoTickets h → HasNoTickets (h ++ others)
-others_leave shared h [] o none = subst HasNoTickets (sym (append-nil h)) none
-others_leave shared h (Definition def ∷ others) o none = absurd o
-others_leave shared h (Own ticket ops ∷ others) o none = absurd o
-others_leave shared h (Foreign ops ∷ others) o none =
-    subst HasNoTickets (append_assoc h (Foreign ops ∷ []) others)
-    (others_leave shared (h ++ Foreign ops ∷ []) others o.2 (with_one (state_of (h ++ Foreign ops ∷ [])) refl (o.1 none.state none.leaves)))
-  where
-    with_one : (x : Option TableState) → state_of (h ++ Foreign ops ∷ []) ≡ x → IsSome x → HasNoTickets (h ++ Foreign ops ∷ [])
-    with_one None is some = cc
-    with_one (Some state) is some = record {
-      state = state;
-      leaves = is;
-      none = λ t. has_ticket-append t h (Foreign ops ∷ []) ∙ ap (λ b. b || has_ticket t (Foreign ops ∷ [])) (none.none t);
-    }
+pub is_bank : (status : Status) (sink sink' : Option (List ℕ)) (why : OpenError) → TellsWhy status sink sink' why → status ≡ SchemaFailed → why ≡ open_error.Bank
+is_bank status sink sink' open_error.Bank tells is = refl
+is_bank status sink sink' open_error.Disk (inl p) is = cc
+is_bank status sink sink' open_error.Disk (inr p) is = cc
+is_bank status sink sink' (open_error.Damaged slot place) (inl p) is = cc
+is_bank status sink sink' (open_error.Damaged slot place) (inr p) is = cc
+is_bank status sink sink' (open_error.Differs table key) (inl p) is = cc
+is_bank status sink sink' (open_error.Differs table key) (inr p) is = cc
+is_bank status sink sink' open_error.Memory (inl p) is = cc
+is_bank status sink sink' open_error.Memory (inr p) is = cc
 
--- a history without tickets has each once
-none_twice : (h : List Entry) → ((t : ℕ) → has_ticket t h ≡ false) → Once h
-none_twice [] none = tt
-none_twice (Definition def ∷ h) none = none_twice h none
-none_twice (Foreign ops ∷ h) none = none_twice h none
-none_twice (Own ticket ops ∷ h) none = (behind ticket.0, none_twice h behind)
-  where
-    or_none : (a b : Bool) → (a || b) ≡ false → b ≡ false
-    or_none true b is = cc
-    or_none false b is = is
+pub runs_unopened : (settings : TierSettings) (status : Status) (source : Option (List ℕ)) (before behind : Outside) (why : OpenError) → TellsWhy status before.written behind.written why → (moment : ℕ) → FailsAs moment before.site behind.site why
+    → Runs settings status source before source behind
+runs_unopened settings status source before behind why tells moment failed = λ input start there is_source is_sink is_site have may. inl (record { untaken = is_source; why = why; tells = tells; moment = moment; failed = failed })
 
-    behind : (t : ℕ) → has_ticket t h ≡ false
-    behind t = or_none (is_of t (Own ticket ops)) (has_ticket t h) (none t)
+-- nothing is told of want of memory
+pub tells_memory : (sink : Option (List ℕ)) → TellsWhy NoMemory sink sink open_error.Memory
+tells_memory sink = inl (refl, Appends-nil sink)
 
-pub may_begin : (h : List Entry) → HasNoTickets h → MayBegin h 1
-may_begin h none = record {
-  state = none.state;
-  leaves = none.leaves;
-  once = none_twice h none.none;
-  first = lit≤ tt;
-  below = λ t le. none.none t;
-}
+pub tells_bank : (sink : Option (List ℕ)) → TellsWhy SchemaFailed sink sink open_error.Bank
+tells_bank sink = inl (refl, Appends-nil sink)
 
--- the tier was begun, and its session has been given nothing
-pub opens_begun : (before behind : SiteState) (bases left : Coming) (propagate_ms : ℕ) (start : Moment) (engine : Engine) (session : Session) → session.engine ≡ engine → IsNext (bases 0) start.0 → AreLeft bases 1 left
-    → IsBegunWith start propagate_ms before behind (Ok engine) → BeginsAt before behind → Opens propagate_ms before behind bases left session
-opens_begun before behind bases left propagate_ms start engine session is first more begun later = λ there settings told none ms.
-    let b = begun.0 there told in
-    let no : HasNoTickets b.held.history = subst HasNoTickets (sym b.is) (others_leave before.shared there.history b.others b.came none) in
-    record {
-      opened = record {
-        start = start.0;
+pub runs_unstarted : (settings : TierSettings) (source : Option (List ℕ)) (before behind : Outside) → behind.written ≡ before.written → Runs settings NoMemory source before source behind
+runs_unstarted settings source before behind written =
+    runs_unopened settings NoMemory source before behind open_error.Memory (subst (λ w. TellsWhy NoMemory before.written w open_error.Memory) (sym written) (tells_memory before.written)) 0 tt
+
+-- the causes
+
+pub disk_failed : (moment : ℕ) (before behind : SiteState) (why : OpenError) → FailsAs moment before behind why → why ≡ open_error.Disk → Rose before.disk_faults behind.disk_faults
+disk_failed moment before behind why failed is = subst (FailsAs moment before behind) is failed
+
+pub bank_failed : (moment : ℕ) (before behind : SiteState) (why : OpenError) → FailsAs moment before behind why → why ≡ open_error.Bank → Rose before.bank_faults behind.bank_faults
+bank_failed moment before behind why failed is = subst (FailsAs moment before behind) is failed
+
+-- A RUN THAT BEGINS
+
+module _ {D : Type 0} (state : D → SiteState) (possible : D → ℕ → Held → Type 0) where
+  -- at the beginning nothing is given
+  serving_new : (settings : TierSettings) (first : ℕ) (there : Held) (d : D) (e : Engine) (session : Session) (start : List ℕ) (bases coming : Coming) (written : Option (List ℕ)) (x : IsBegunOver state possible settings first there d e)
+      → session.engine ≡ e → session.line ≡ [] → session.output ≡ [] → written ≡ Some start → AreLeft bases 1 coming → Serving (begins x.world start bases) [] (seen written coming state possible d) session
+  serving_new settings first there d e session start bases coming written x engine line output told left = record {
+    world = x.world;
+    replies = [];
+    comes = record { given = []; are = refl; asked = 1; timed = refl; run = refl };
+    at = x.at;
+    stands = subst (λ y. StandsIn (seen written coming state possible d) y x.world) (sym engine) (record { left = x.left; keeps = x.keeps; kept = x.kept });
+    left = left;
+    line = line ∙ sym (front_short [] (lit≤ tt));
+    passed = record { count = 0; written = subst (λ w. Appends (Some start) w []) (sym told) (sym (append-nil start)); waits = output };
+  }
+
+  pub runs_opened : (settings : TierSettings) (propagate_ms first : ℕ) (e : Engine) (session : Session) (status : Status) (source source' written : Option (List ℕ)) (bases coming : Coming) (d m : D) (behind : Outside) → settings.propagate_ms ≡ propagate_ms
+      → session.engine ≡ e → session.line ≡ [] → session.output ≡ [] → IsNext (bases 0) first → AreLeft bases 1 coming → OpensOver state possible first propagate_ms d m e → (state d).bank_faults ≤ (state m).bank_faults → (state m).shared ≡ (state d).shared
+      → Serves session status source (seen written coming state possible m) source' behind → Runs settings status source (seen written bases state possible d) source' behind
+  runs_opened settings propagate_ms first e session status source source' written bases coming d m behind ms engine line output next left opens later shares serves = λ input start there is_source is_sink is_site have may.
+      let x = opens there settings is_site have may ms in
+      inr (record {
         first = first;
-        held = b.held;
-        told = b.told;
-        slots = kept_slots before.held behind.held there b.held told b.told later.slots;
-        others = b.others;
-        came = b.came;
-        is = b.is;
-        state = no.state;
-        leaves = no.leaves;
-      };
-      stands = rw is (left_in engine _ begun.1 begun.2 refl (b.opened settings no.state ms no.leaves (may_begin b.held.history no)));
-      left = more;
-    }
+        next = next;
+        world = x.world;
+        opens = x.opens;
+        kept = x.kept;
+        later = let faults = x.at.faults in omega (arith, later, faults);
+        shares = x.at.shared ∙ shares;
+        ended = λ alone. serves (begins x.world start bases) input is_source (serving_new settings first there m e session start bases coming written x engine line output is_sink left) alone;
+      })
 
--- the site was asked, or wasn't: others came
-pub opened_at : (before behind : SiteState) (bases : Coming) (there : Held) → BeginsAt before behind → before.held ≡ Some there → HasNoTickets there.history → Opened there before behind bases
-opened_at before behind bases there later told none =
-    let o = later.others there told in
-    let no : HasNoTickets o.now.history = subst HasNoTickets (sym o.is) (others_leave before.shared there.history o.others o.came none) in
-    let next = some_next (bases 0) in
-    record {
-      start = next.moment;
-      first = next.is;
-      held = o.now;
-      told = o.told;
-      slots = kept_slots before.held behind.held there o.now told o.told later.slots;
-      others = o.others;
-      came = o.came;
-      is = o.is;
-      state = no.state;
-      leaves = no.leaves;
-    }
+-- THE LINE THAT SAYS WHY
 
--- a site that isn't called begins so
-pub begins_still : (site : SiteState) → BeginsAt site site
-begins_still site = record {
-  later = omega arith;
-  moment = omega arith;
-  shares = refl;
-  slots = slots_still site.held;
-  others = λ there told. record { now = there; told = told; others = []; came = tt; is = sym (append-nil there.history) };
-}
+-- all of it is written
+pub tells_written : (wanted : Status) (sink mid sink' : Option (List ℕ)) (waiting waiting' : List ℕ) (why : OpenError) → Splits sink mid ([] ++ unopened_line why) waiting → Splits mid sink' (waiting ++ []) waiting' → waiting' ≡ [] → TellsLine wanted wanted sink sink' why
+tells_written wanted sink mid sink' waiting waiting' why p q none =
+    let both = splits_then sink mid sink' (unopened_line why) waiting [] waiting' p q in
+    let all : take both.count (unopened_line why ++ []) ≡ unopened_line why = take_rest both.count (unopened_line why ++ []) (sym both.waits ∙ none) ∙ append-nil (unopened_line why) in
+    inl (refl, subst (λ (l : List ℕ). Appends sink sink' l) all both.written)
+
+-- or a front
+pub tells_front : (wanted : Status) (sink sink' : Option (List ℕ)) (why : OpenError) → Breaks sink sink' ([] ++ unopened_line why) → TellsLine SinkFailed wanted sink sink' why
+tells_front wanted sink sink' why p = inr (refl, (p.count, p.written))
+
+pub tells_cut : (wanted : Status) (sink mid sink' : Option (List ℕ)) (waiting : List ℕ) (why : OpenError) → Splits sink mid ([] ++ unopened_line why) waiting → Breaks mid sink' (waiting ++ []) → TellsLine SinkFailed wanted sink sink' why
+tells_cut wanted sink mid sink' waiting why p q =
+    let both = breaks_then sink mid sink' (unopened_line why) waiting [] p q in
+    inr (refl, (both.count, subst (λ (l : List ℕ). Appends sink sink' (take both.count l)) (append-nil (unopened_line why)) both.written))
+
+-- nothing of the source is taken where no engine is opened
+pub kinds_of : (status : Status) (sink sink' : Option (List ℕ)) (why : OpenError) → TellsWhy status sink sink' why → (takes_none status ≡ true) ⊎ ((status ≡ SinkFailed) ⊎ (status ≡ DiskFailed))
+kinds_of status sink sink' why (inr p) = inr (inl p.0)
+kinds_of status sink sink' open_error.Disk (inl p) = inr (inr p.0)
+kinds_of status sink sink' open_error.Bank (inl p) = inl (ap takes_none p.0)
+kinds_of status sink sink' (open_error.Damaged slot place) (inl p) = inl (ap takes_none p.0)
+kinds_of status sink sink' (open_error.Differs table key) (inl p) = inl (ap takes_none p.0)
+kinds_of status sink sink' open_error.Memory (inl p) = inl (ap takes_none p.0)
+
+-- a run whose session was served took something
+pub never_taken : (status other : Status) → takes_none status ≡ false → status ≡ other → takes_none other ≡ true → ⊥
+never_taken status other some is none = never (sym none ∙ ap takes_none (sym is) ∙ some)
   where
-    slots_still : (held : Option Held) → KeepsSlots held held
-    slots_still None = tt
-    slots_still (Some held) = refl
-
--- at the beginning nothing is given
-pub serving_new : (there : Held) (before : SiteState) (bases : Coming) (settings : TierSettings) (session : Session) (start : List ℕ) (now : Outside) (new : IsNew there before now.site bases now.coming settings session)
-    → session.line ≡ [] → session.output ≡ [] → now.written ≡ Some start → Serving (begins settings start new.opened) [] now session
-serving_new there before bases settings session start now new line output written = record {
-  world = world_at settings new.opened;
-  replies = [];
-  comes = record { given = []; are = refl; asked = 1; timed = refl; run = refl };
-  at = record { there = new.opened.held; told = new.opened.told; history = refl; faults = refl; moment = refl; shared = refl };
-  slots = refl;
-  stands = new.stands;
-  left = new.left;
-  line = line ∙ sym (front_short [] (lit≤ tt));
-  passed = record { count = 0; written = rw written (sym (append-nil start)); waits = output };
-}
+    never : true ≡ false → ⊥
+    never e = cc

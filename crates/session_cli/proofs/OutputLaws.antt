@@ -84,3 +84,12 @@ passes_written (Err e) a b w w' xs e1 e' p = rw e1 (record { count = p.0; writte
 -- no bytes pass
 pub splits_none : (a : Option (List ℕ)) (w : List ℕ) → Splits a a (w ++ []) w
 splits_none a w = record { count = 0; written = Appends-nil a; waits = sym (append-nil w) }
+
+-- behind them all that waits is written, or a front of it
+pub splits_flushed : (a b c : Option (List ℕ)) (w w' w'' xs : List ℕ) → Splits a b (w ++ xs) w' → Splits b c (w' ++ []) w'' → w'' ≡ [] → Splits a c (w ++ xs) []
+splits_flushed a b c w w' w'' xs p q none =
+    subst (λ (l : List ℕ). Splits a c (w ++ xs) l) none
+    (subst (λ (l : List ℕ). Splits a c (w ++ l) w'') (append-nil xs) (splits_both a b c w w' w'' xs [] p q))
+
+pub breaks_flushed : (a b c : Option (List ℕ)) (w w' xs : List ℕ) → Splits a b (w ++ xs) w' → Breaks b c (w' ++ []) → Breaks a c (w ++ xs)
+breaks_flushed a b c w w' xs p q = subst (λ (l : List ℕ). Breaks a c (w ++ l)) (append-nil xs) (breaks_behind a b c w w' xs [] p q)

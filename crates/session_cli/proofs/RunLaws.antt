@@ -5,8 +5,9 @@ use Rattle.cache_tier.specs.MoreFacts.{FaultsAreCaused, RunIsCaused}
 use Rattle.cache_tier.specs.Steps.{Asked, Run}
 use Rattle.cache_tier.specs.Worlds.{World}
 use Rattle.cache_tier.specs.declared.reply.Reply.{Reply}
-use Rattle.cache_engine.specs.Requests.{Given, LineRun, LineStep}
-use Rattle.session_cli.specs.Serving.{Comes, Origin, bytes_of}
+use Rattle.kept_journal.specs.Keeping.{is_broken}
+use Rattle.cache_engine.specs.Requests.{Given, LineGoes, LineRun, LineStep}
+use Rattle.session_cli.specs.Serving.{Comes, ComesBroken, Origin, bytes_of}
 use Rattle.session_cli.specs.Timing.{AreLeft, AreTimed, Coming, IsNext, TakesBase, has_base}
 
 -- a step more
@@ -70,6 +71,19 @@ comes_on o lines lines' replies w c now left g r w' is are took step =
         run = run_push o.world c.given replies w g r w' c.run step;
       };
       left = t.left;
+    }
+
+-- it ends with a line that tells a failed call of the journal's disk
+pub broken_on : (o : Origin) (lines lines' : List (List ℕ)) (replies : List (Option Reply)) (w : World) (c : Comes o lines replies w) (now left : Coming) (g : Given) (r : Option Reply) (w' : World) → lines ++ g.bytes ∷ [] ≡ lines'
+    → AreLeft o.bases c.asked now → TakesBase g.bytes now left g.base → LineGoes g.base w g.bytes w' r → is_broken r ≡ true → ComesBroken o lines' (replies ++ r ∷ []) w'
+broken_on o lines lines' replies w c now left g r w' is are took goes fails =
+    let t = timed_one o.bases now left c.asked g are took in
+    record {
+      given = c.given ++ g ∷ [];
+      are = bytes_push c.given g ∙ ap (λ l. l ++ g.bytes ∷ []) c.are ∙ is;
+      asked = t.after;
+      timed = timed_push o.bases 1 c.given c.asked g t.after c.timed t.timed;
+      run = record { before = c.given; told = replies; mid = w; run = c.run; last = g; reply = r; lines_are = refl; replies_are = refl; goes = goes; fails = fails };
     }
 
 -- a run over bytes is a run over what they say

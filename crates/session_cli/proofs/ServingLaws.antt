@@ -1,27 +1,27 @@
 -- A run goes on by lines and bytes.
-use Rattle.std.proofs.Common.{◌≡◌, ◌≢◌, ℕ, zero, suc, ◌+◌, ◌<◌, length, get_or, List, [], ◌∷◌, ◌++◌, take, drop, Option, Some, None, Result, Ok, Err, refl, sym, ◌∙◌, ap, subst, append-nil, append_assoc, lit≤, take-append-drop}
+use Rattle.std.proofs.Common.{◌≡◌, ◌≢◌, ◌⊎◌, ℕ, zero, suc, ◌+◌, ◌<◌, length, get_or, List, [], ◌∷◌, ◌++◌, take, drop, Bool, true, false, Option, Some, None, Result, Ok, Err, inl, inr, refl, sym, ◌∙◌, ap, subst, append-nil, append_assoc, lit≤, take-append-drop}
 use Rattle.std.specs.Io.KnownBytes.{Appends}
-use Rattle.std.specs.Result.{IsErr, OnOk}
-use Rattle.outside.specs.Holding.{Held}
 use Rattle.cache_tier.specs.declared.reply.Reply.{Reply}
 use Rattle.cache_tier.specs.Replying.{reply_bytes, replies_bytes}
 use Rattle.cache_tier.specs.Worlds.{IsUnshared, World}
-use Rattle.stored_tier.specs.Performing.{KeepsSlots}
-use Rattle.cache_engine.specs.Engines.{IsLeftIn}
+use Rattle.kept_journal.specs.Keeping.{is_broken}
 use Rattle.cache_engine.specs.Requests.{Given}
 use Rattle.cache_engine.specs.declared.engine.Engine.{Engine}
-use Rattle.cache_engine.proofs.EngineLaws.{left_known}
+use Rattle.cache_engine.proofs.EngineLaws.{known_of}
+use Rattle.cache_engine.proofs.RequestLaws.{goes_step}
 use Rattle.stored_tier.specs.Sites.{IsAt}
 use Rattle.outside.specs.Sites.{SiteState}
+use Rattle.session_cli.specs.declared.answering.Stop.{Stop}
+use Rattle.session_cli.specs.declared.answering.Stop.TheVariants as stop
 use Rattle.session_cli.specs.declared.session.Session.{Session}
 use Rattle.session_cli.specs.Cutting.{cut, front_of, text_of, ended_lines, all_lines}
 use Rattle.session_cli.specs.Outside.{Outside}
 use Rattle.session_cli.specs.Output.{Splits, Breaks, Passes}
-use Rattle.session_cli.specs.Serving.{Comes, IsLeftAlone, Origin, Responds, Serving, Answered, Whole, CutShort, Feeds, Finishes, Closing, Closes}
+use Rattle.session_cli.specs.Serving.{Answered, Broken, BrokenOff, Closes, Closing, Comes, CutShort, Feeds, Finishes, HasFlushed, IsLeftAlone, LineBroken, Origin, PassesReply, Responds, Rests, Serving, StandsIn, StopsAt, Whole, WritesLast}
 use Rattle.session_cli.proofs.CuttingLaws.{ended_push, rest_ended, ended_same, rest_push, front_push, front_short, text_front, take_one, take_within, all_ended, all_more}
 use Rattle.session_cli.proofs.DrainedLaws.{drained_of}
 use Rattle.session_cli.proofs.OutputLaws.{splits_then, breaks_then}
-use Rattle.session_cli.proofs.RunLaws.{CameOn, comes_on}
+use Rattle.session_cli.proofs.RunLaws.{CameOn, broken_on, comes_on}
 
 pub replies_push : (rs : List (Option Reply)) (r : Option Reply) → replies_bytes (rs ++ r ∷ []) ≡ replies_bytes rs ++ reply_bytes r
 replies_push [] r = append-nil (reply_bytes r)
@@ -31,50 +31,78 @@ pub told_after : (a : List ℕ) (b : Option (List ℕ)) (xs : List ℕ) → Appe
 told_after a None xs p = absurd p
 told_after a (Some b) xs p = ap (λ l. Some l) p
 
+pub take_rest : (n : ℕ) (xs : List ℕ) → drop n xs ≡ [] → take n xs ≡ xs
+take_rest zero [] none = refl
+take_rest zero (x ∷ xs) none = cc
+take_rest (suc n) [] none = refl
+take_rest (suc n) (x ∷ xs) none = ap (λ l. x ∷ l) (take_rest n xs none)
+
+-- nothing is left to write
+pub told_whole : (start : List ℕ) (now : Option (List ℕ)) (bytes : List ℕ) → Splits (Some start) now bytes [] → now ≡ Some (start ++ bytes)
+told_whole start now bytes p = told_after start now (take p.count bytes) p.written ∙ ap (λ l. Some (start ++ l)) (take_rest p.count bytes (sym p.waits))
+
 -- a run has led to a world in which the engine is left so
-pub answered_by : (o : Origin) (lines : List (List ℕ)) (replies : List (Option Reply)) (site : SiteState) (engine : Engine) (w : World) → Comes o lines replies w → (at : IsAt site w) → at.there.slots ≡ o.slots → IsLeftIn engine w
-    → Answered o lines replies site
-answered_by o lines replies site engine w comes at slots left =
-    let known = left_known engine w left in
+pub answered_by : (o : Origin) (lines : List (List ℕ)) (replies : List (Option Reply)) (now : Outside) (engine : Engine) (w : World) → Comes o lines replies w → IsAt now.site w → StandsIn now engine w
+    → Answered Rests o lines replies now.site
+answered_by o lines replies now engine w comes at stands =
+    let known = known_of engine.tier engine.doubt w stands.left in
     record {
-      last = w;
+      ran = w;
       comes = comes;
+      last = w;
+      ended = refl;
       at = at;
-      slots = slots;
       legal = known.legal;
       drained = λ none. drained_of w (known.stands none);
       read = known.read;
     }
 
--- the slots of a site that tells what it holds
-pub kept_slots : (a b : Option Held) (x y : Held) → a ≡ Some x → b ≡ Some y → KeepsSlots a b → y.slots ≡ x.slots
-kept_slots None b x y is is' kept = cc
-kept_slots (Some a) None x y is is' kept = absurd kept
-kept_slots (Some a) (Some b) x y is is' kept =
-    let before : a ≡ x = cc in
-    let behind : b ≡ y = cc in
-    sym (ap (λ (h : Held). h.slots) behind) ∙ kept ∙ ap (λ (h : Held). h.slots) before
+-- A LINE
 
--- the run goes on by a line that was answered
-came_line : {E : Type 0} (res : Result (Unit {0}) E) (o : Origin) (given : List ℕ) (lines : List (List ℕ)) (before behind : Outside) (session : Session) (engine' : Engine) (waiting' line : List ℕ) → ended_lines given ++ line ∷ [] ≡ lines
-    → (s : Serving o given before session) → (r : Responds res before behind session.output waiting' engine' s.world line)
-    → CameOn o lines (s.replies ++ r.reply ∷ []) r.world behind.coming
-came_line res o given lines before behind session engine' waiting' line is s r =
-    let g : Given = record { base = r.base; bytes = line } in
-    comes_on o (ended_lines given) lines s.replies s.world s.comes before.coming behind.coming g r.reply r.world is s.left r.took r.step
+module _ (o : Origin) (given : List ℕ) (lines : List (List ℕ)) (before behind : Outside) (session : Session) (engine' : Engine) (waiting' line : List ℕ) where
+  -- the run goes on by a line that was answered
+  came_line : (res : Result (Unit {0}) Stop) → ended_lines given ++ line ∷ [] ≡ lines → (s : Serving o given before session) → (r : Responds res before behind session.output waiting' engine' s.world line)
+      → is_broken r.reply ≡ false → CameOn o lines (s.replies ++ r.reply ∷ []) r.world behind.coming
+  came_line res is s r whole =
+      let g : Given = record { base = r.base; bytes = line } in
+      comes_on o (ended_lines given) lines s.replies s.world s.comes before.coming behind.coming g r.reply r.world is s.left r.took (goes_step r.base s.world line r.world r.reply whole r.goes)
 
--- the ended lines and one more are answered
-pub answered_line : {E : Type 0} (res : Result (Unit {0}) E) (o : Origin) (given : List ℕ) (lines : List (List ℕ)) (before behind : Outside) (session : Session) (engine' : Engine) (waiting' line : List ℕ) → ended_lines given ++ line ∷ [] ≡ lines
-    → (s : Serving o given before session) → (session.engine.journal ≡ None → KeepsSlots before.site.held behind.site.held) → (r : Responds res before behind session.output waiting' engine' s.world line)
-    → Answered o lines (s.replies ++ r.reply ∷ []) behind.site
-answered_line res o given lines before behind session engine' waiting' line is s kept r =
-    answered_by o lines (s.replies ++ r.reply ∷ []) behind.site engine' r.world
-    (came_line res o given lines before behind session engine' waiting' line is s r).comes r.at
-    (kept_slots before.site.held behind.site.held s.at.there r.at.there s.at.told r.at.told (kept s.stands.journal) ∙ s.slots) r.stands
+  -- the ended lines and one more are answered
+  answered_line : (res : Result (Unit {0}) Stop) → ended_lines given ++ line ∷ [] ≡ lines → (s : Serving o given before session) → (r : Responds res before behind session.output waiting' engine' s.world line)
+      → is_broken r.reply ≡ false → Answered Rests o lines (s.replies ++ r.reply ∷ []) behind.site
+  answered_line res is s r whole = answered_by o lines (s.replies ++ r.reply ∷ []) behind engine' r.world (came_line res is s r whole).comes r.at (r.stands whole)
 
--- a front of the replies is written
-pub cut_short : (o : Origin) (lines : List (List ℕ)) (replies : List (Option Reply)) (now : Outside) → Answered o lines replies now.site → Breaks (Some o.written) now.written (replies_bytes replies) → CutShort o lines now
-cut_short o lines replies now a b = record { replies = replies; answered = a; count = b.count; tells = told_after o.written now.written (take b.count (replies_bytes replies)) b.written }
+  -- or it was the last one
+  broken_line : (res : Result (Unit {0}) Stop) → ended_lines given ++ line ∷ [] ≡ lines → (s : Serving o given before session) → (r : Responds res before behind session.output waiting' engine' s.world line)
+      → is_broken r.reply ≡ true → LineBroken o lines (s.replies ++ r.reply ∷ []) behind.site
+  broken_line res is s r fails =
+      let g : Given = record { base = r.base; bytes = line } in
+      record {
+        last = r.world;
+        comes = broken_on o (ended_lines given) lines s.replies s.world s.comes before.coming behind.coming g r.reply r.world is s.left r.took r.goes fails;
+        at = r.at;
+      }
+
+  -- the run stopped at it
+  stopped_line : (why : Stop) → ended_lines given ++ line ∷ [] ≡ lines → (s : Serving o given before session) → Responds (Err why) before behind session.output waiting' engine' s.world line → StopsAt why o lines behind
+  stopped_line stop.Sink is s r =
+      let b : Breaks (Some o.written) behind.written (replies_bytes s.replies ++ reply_bytes r.reply) = breaks_then (Some o.written) before.written behind.written (replies_bytes s.replies) session.output (reply_bytes r.reply) s.passed r.passed in
+      record {
+        replies = s.replies ++ r.reply ∷ [];
+        answered = by (is_broken r.reply) refl;
+        count = b.count;
+        tells = told_after o.written behind.written (take b.count (replies_bytes s.replies ++ reply_bytes r.reply)) b.written ∙ ap (λ l. Some (o.written ++ take b.count l)) (sym (replies_push s.replies r.reply));
+      }
+    where
+      by : (b : Bool) → is_broken r.reply ≡ b → Answered Rests o lines (s.replies ++ r.reply ∷ []) behind.site ⊎ (Answered HasFlushed o lines (s.replies ++ r.reply ∷ []) behind.site ⊎ Broken o lines (s.replies ++ r.reply ∷ []) behind.site)
+      by true e = inr (inr (inl (broken_line (Err stop.Sink) is s r e)))
+      by false e = inl (answered_line (Err stop.Sink) is s r e)
+  stopped_line stop.Disk is s r = record {
+    replies = s.replies ++ r.reply ∷ [];
+    broken = inl (broken_line (Err stop.Disk) is s r r.tells);
+    tells = told_whole o.written behind.written (replies_bytes s.replies ++ reply_bytes r.reply) (splits_then (Some o.written) before.written behind.written (replies_bytes s.replies) session.output (reply_bytes r.reply) [] s.passed r.passed)
+        ∙ ap (λ l. Some (o.written ++ l)) (sym (replies_push s.replies r.reply));
+  }
 
 -- a line feed ends the line that was given
 ended_by : (given line : List ℕ) (session : Session) → line ≡ text_of session.line → session.line ≡ front_of (cut given).1 → ended_lines given ++ line ∷ [] ≡ ended_lines (given ++ 10 ∷ [])
@@ -83,39 +111,36 @@ ended_by given line session is front =
     ap (λ l. ended_lines given ++ l ∷ []) text ∙ sym (ended_push given)
 
 -- a line feed came, and the reply was passed on
-pub serving_line : {E : Type 0} (o : Origin) (given : List ℕ) (before behind : Outside) (session session' : Session) (line : List ℕ)
-    → line ≡ text_of session.line → session'.line ≡ [] → (session.engine.journal ≡ None → KeepsSlots before.site.held behind.site.held) → (s : Serving o given before session)
-    → Responds {E = E} (Ok tt) before behind session.output session'.output session'.engine s.world line
+pub serving_line : (o : Origin) (given : List ℕ) (before behind : Outside) (session session' : Session) (line : List ℕ)
+    → line ≡ text_of session.line → session'.line ≡ [] → (s : Serving o given before session)
+    → Responds (Ok tt) before behind session.output session'.output session'.engine s.world line
     → Serving o (given ++ 10 ∷ []) behind session'
-serving_line o given before behind session session' line is empty kept s r =
+serving_line o given before behind session session' line is empty s r =
     let lines = ended_by given line session is s.line in
-    let came = came_line _ o given (ended_lines (given ++ 10 ∷ [])) before behind session session'.engine session'.output line lines s r in
+    let came = came_line o given (ended_lines (given ++ 10 ∷ [])) before behind session session'.engine session'.output line (Ok tt) lines s r r.tells in
     record {
       world = r.world;
       replies = s.replies ++ r.reply ∷ [];
       comes = came.comes;
       at = r.at;
-      slots = kept_slots before.site.held behind.site.held s.at.there r.at.there s.at.told r.at.told (kept s.stands.journal) ∙ s.slots;
-      stands = r.stands;
+      stands = r.stands r.tells;
       left = came.left;
       line = empty ∙ sym (ap front_of (rest_ended given) ∙ front_short [] (lit≤ tt));
       passed = rw (replies_push s.replies r.reply) (splits_then (Some o.written) before.written behind.written (replies_bytes s.replies) session.output (reply_bytes r.reply) session'.output s.passed r.passed);
     }
 
--- a line feed came, and the sink failed
-pub cut_short_line : {E : Type 0} (e : E) (o : Origin) (given : List ℕ) (before behind : Outside) (session : Session) (engine' : Engine) (waiting' line : List ℕ)
-    → line ≡ text_of session.line → (session.engine.journal ≡ None → KeepsSlots before.site.held behind.site.held) → (s : Serving o given before session)
-    → Responds (Err e) before behind session.output waiting' engine' s.world line
-    → CutShort o (ended_lines (given ++ 10 ∷ [])) behind
-cut_short_line e o given before behind session engine' waiting' line is kept s r =
-    let lines = ended_by given line session is s.line in
-    let a = answered_line _ o given (ended_lines (given ++ 10 ∷ [])) before behind session engine' waiting' line lines s kept r in
-    cut_short o (ended_lines (given ++ 10 ∷ [])) (s.replies ++ r.reply ∷ []) behind a
-    (rw (replies_push s.replies r.reply) (breaks_then (Some o.written) before.written behind.written (replies_bytes s.replies) session.output (reply_bytes r.reply) s.passed r.passed))
+-- a line feed came, and the run stopped at the line
+pub feeds_stopped : (why : Stop) (o : Origin) (given : List ℕ) (before behind : Outside) (session session' : Session) (engine' : Engine) (waiting' line : List ℕ)
+    → line ≡ text_of session.line → (s : Serving o given before session) → Responds (Err why) before behind session.output waiting' engine' s.world line
+    → Feeds (Err why) o given (10 ∷ []) behind session'
+feeds_stopped why o given before behind session session' engine' waiting' line is s r =
+    (1, stopped_line o given (ended_lines (given ++ 10 ∷ [])) before behind session engine' waiting' line why (ended_by given line session is s.line) s r)
 
 -- other lines of the same run
 comes_same : (o : Origin) (lines lines' : List (List ℕ)) (replies : List (Option Reply)) (w : World) → lines ≡ lines' → Comes o lines replies w → Comes o lines' replies w
 comes_same o lines lines' replies w is c = record { given = c.given; are = c.are ∙ is; asked = c.asked; timed = c.timed; run = c.run }
+
+-- A BYTE
 
 -- another byte came
 pub serving_byte : (o : Origin) (given : List ℕ) (b : ℕ) (now : Outside) (session session' : Session)
@@ -127,31 +152,18 @@ serving_byte o given b now session session' differs tier line output s = record 
   replies = s.replies;
   comes = comes_same o (ended_lines given) (ended_lines (given ++ b ∷ [])) s.replies s.world (sym (ended_same given b differs)) s.comes;
   at = s.at;
-  slots = s.slots;
-  stands = rw tier s.stands;
+  stands = subst (λ e. StandsIn now e s.world) (sym tier) s.stands;
   left = s.left;
   line = line ∙ ap (λ l. front_of (l ++ b ∷ [])) s.line ∙ front_push (cut given).1 b ∙ sym (ap front_of (rest_push given b differs));
   passed = rw output s.passed;
 }
 
--- the sink failed behind a front of the bytes
-pub feeds_failed : {E : Type 0} (r : Result (Unit {0}) E) (o : Origin) (given bytes : List ℕ) (n : ℕ) (now : Outside) (session : Session) → IsErr r
-    → CutShort o (ended_lines (given ++ take n bytes)) now → Feeds r o given bytes now session
-feeds_failed (Ok done) o given bytes n now session is c = cc
-feeds_failed (Err e) o given bytes n now session is c = (n, c)
-
-pub feeds_again : {E F : Type 0} (e : E) (r : Result (Unit {0}) F) (o : Origin) (given bytes : List ℕ) (now : Outside) (session session' : Session) → IsErr r
-    → Feeds (Err e) o given bytes now session → Feeds r o given bytes now session'
-feeds_again e (Ok done) o given bytes now session session' is c = cc
-feeds_again e (Err f) o given bytes now session session' is c = c
-
--- the sink failed at a byte of a piece
-pub feeds_byte_failed : {E F : Type 0} (e : E) (r : Result (Unit {0}) F) (o : Origin) (given bytes : List ℕ) (i : ℕ) (now : Outside) (session session' : Session) → IsErr r → i < length bytes
-    → Feeds (Err e) o (given ++ take i bytes) (get_or bytes i 0 ∷ []) now session → Feeds r o given bytes now session'
-feeds_byte_failed e r o given bytes i now session session' is lt (n, c) =
+-- the run stopped at a byte of a piece
+pub feeds_byte : (why : Stop) (o : Origin) (given bytes : List ℕ) (i : ℕ) (now : Outside) (session session' : Session) → i < length bytes
+    → Feeds (Err why) o (given ++ take i bytes) (get_or bytes i 0 ∷ []) now session → Feeds (Err why) o given bytes now session'
+feeds_byte why o given bytes i now session session' lt (n, c) =
     let w = take_within bytes i n lt in
-    feeds_failed r o given bytes w.0 now session' is
-    (subst (λ (l : List ℕ). CutShort o (ended_lines l) now) (append_assoc given (take i bytes) (take n (get_or bytes i 0 ∷ [])) ∙ ap (λ l. given ++ l) w.1) c)
+    (w.0, subst (λ (l : List ℕ). StopsAt why o (ended_lines l) now) (append_assoc given (take i bytes) (take n (get_or bytes i 0 ∷ [])) ∙ ap (λ l. given ++ l) w.1) c)
 
 -- a byte of a piece was taken in
 pub serving_more : (o : Origin) (given bytes : List ℕ) (i : ℕ) (now : Outside) (session : Session) → i < length bytes
@@ -160,103 +172,85 @@ serving_more o given bytes i now session lt s =
     subst (λ (l : List ℕ). Serving o l now session) (append_assoc given (take i bytes) (get_or bytes i 0 ∷ []) ∙ ap (λ l. given ++ l) (take_one bytes i lt)) s
 
 -- the ended lines are answered
-pub answered_here : (o : Origin) (given : List ℕ) (now : Outside) (session : Session) → (s : Serving o given now session) → Answered o (ended_lines given) s.replies now.site
-answered_here o given now session s = answered_by o (ended_lines given) s.replies now.site session.engine s.world s.comes s.at s.slots s.stands
+pub answered_here : (o : Origin) (given : List ℕ) (now : Outside) (session : Session) → (s : Serving o given now session) → Answered Rests o (ended_lines given) s.replies now.site
+answered_here o given now session s = answered_by o (ended_lines given) s.replies now session.engine s.world s.comes s.at s.stands
 
 pub take_whole : (xs : List ℕ) → take (length xs) xs ≡ xs
 take_whole [] = refl
 take_whole (x ∷ xs) = ap (λ l. x ∷ l) (take_whole xs)
 
--- what waited is written
-pub serving_flushed : {E : Type 0} (r : Result (Unit {0}) E) (o : Origin) (given bytes : List ℕ) (before behind : Outside) (session session' : Session)
-    → behind.coming ≡ before.coming → behind.site ≡ before.site → session'.engine ≡ session.engine → session'.line ≡ session.line
-    → Serving o (given ++ bytes) before session → Passes r before.written behind.written session.output session'.output []
-    → Feeds r o given bytes behind session'
-serving_flushed (Ok done) o given bytes before behind session session' coming site tier line s p =
-    let at : IsAt behind.site s.world = rw site s.at in
-    record {
-      world = s.world;
-      replies = s.replies;
-      comes = s.comes;
-      at = at;
-      slots = same_there s.world before.site behind.site o (sym site) s.at at s.slots;
-      stands = rw tier s.stands;
-      left = rw coming s.left;
-      line = line ∙ s.line;
-      passed = subst (λ (l : List ℕ). Splits (Some o.written) behind.written l session'.output) (append-nil (replies_bytes s.replies))
-          (splits_then (Some o.written) before.written behind.written (replies_bytes s.replies) session.output [] session'.output s.passed p);
-    }
-  where
-    same_there : (w : World) (a b : SiteState) (o : Origin) → a ≡ b → (x : IsAt a w) (y : IsAt b w) → x.there.slots ≡ o.slots → y.there.slots ≡ o.slots
-    same_there w a b o is x y slots =
-        let told : Some x.there ≡ Some y.there = sym x.told ∙ ap (λ (v : SiteState). v.held) is ∙ y.told in
-        let same : x.there ≡ y.there = cc in
-        sym (ap (λ (h : Held). h.slots) same) ∙ slots
-serving_flushed (Err e) o given bytes before behind session session' coming site tier line s p = (
-  length bytes,
-  subst (λ (l : List ℕ). CutShort o (ended_lines (given ++ l)) behind) (sym (take_whole bytes))
-      (cut_short o (ended_lines (given ++ bytes)) s.replies behind (rw site (answered_here o (given ++ bytes) before session s))
-      (subst (λ (l : List ℕ). Breaks (Some o.written) behind.written l) (append-nil (replies_bytes s.replies)) (breaks_then (Some o.written) before.written behind.written (replies_bytes s.replies) session.output [] s.passed p))),
-)
+-- WHAT WAITED IS WRITTEN
+
+pub serving_flushed : (r : Result (Unit {0}) Stop) (o : Origin) (given bytes : List ℕ) (before : Outside) (written : Option (List ℕ)) (session session' : Session)
+    → session'.engine ≡ session.engine → session'.line ≡ session.line → (r ≡ Err stop.Disk → ⊥)
+    → Serving o (given ++ bytes) before session → PassesReply r before.written written session.output session'.output []
+    → Feeds r o given bytes (record before { written = written }) session'
+serving_flushed (Ok done) o given bytes before written session session' tier line sunk s p = record {
+  world = s.world;
+  replies = s.replies;
+  comes = s.comes;
+  at = s.at;
+  stands = subst (λ e. StandsIn (record before { written = written }) e s.world) (sym tier) (record { left = s.stands.left; keeps = s.stands.keeps; kept = s.stands.kept });
+  left = s.left;
+  line = line ∙ s.line;
+  passed = subst (λ (l : List ℕ). Splits (Some o.written) written l session'.output) (append-nil (replies_bytes s.replies))
+      (splits_then (Some o.written) before.written written (replies_bytes s.replies) session.output [] session'.output s.passed p);
+}
+serving_flushed (Err stop.Sink) o given bytes before written session session' tier line sunk s p =
+    let b : Breaks (Some o.written) written (replies_bytes s.replies) = subst (λ (l : List ℕ). Breaks (Some o.written) written l) (append-nil (replies_bytes s.replies)) (breaks_then (Some o.written) before.written written (replies_bytes s.replies) session.output [] s.passed p) in (
+      length bytes,
+      subst (λ (l : List ℕ). CutShort o (ended_lines (given ++ l)) (record before { written = written })) (sym (take_whole bytes))
+          (record {
+            replies = s.replies;
+            answered = inl (answered_here o (given ++ bytes) before session s);
+            count = b.count;
+            tells = told_after o.written written (take b.count (replies_bytes s.replies)) b.written;
+          }),
+    )
+serving_flushed (Err stop.Disk) o given bytes before written session session' tier line sunk s p = absurd (sunk refl)
+
+-- where nothing waits, all replies of the ended lines are written
+pub serving_whole : (o : Origin) (given : List ℕ) (now : Outside) (session : Session) → session.output ≡ [] → Serving o given now session → Whole Rests o (ended_lines given) now
+serving_whole o given now session none s = record {
+  replies = s.replies;
+  answered = answered_here o given now session s;
+  tells = told_whole o.written now.written (replies_bytes s.replies) (subst (λ (w : List ℕ). Splits (Some o.written) now.written (replies_bytes s.replies) w) none s.passed);
+}
+
+-- THE LAST LINE
 
 -- all lines end with a line feed
-pub closes_ended : (o : Origin) (given : List ℕ) (now : Outside) (session : Session) → session.line ≡ [] → Serving o given now session → Closing o (all_lines given) now session.output
+pub closes_ended : (o : Origin) (given : List ℕ) (now : Outside) (session : Session) → session.line ≡ [] → Serving o given now session → Closing o (all_lines given) now session.engine session.output
+unfolding comes_same
 closes_ended o given now session none s = record {
+  world = s.world;
   replies = s.replies;
-  answered = rw (all_ended given (sym s.line ∙ none)) (answered_here o given now session s);
+  comes = comes_same o (ended_lines given) (all_lines given) s.replies s.world (sym (all_ended given (sym s.line ∙ none))) s.comes;
+  at = s.at;
+  stands = s.stands;
   passed = s.passed;
 }
 
 -- the last line is answered
-pub closes_line : {E : Type 0} (r : Result (Unit {0}) E) (o : Origin) (given : List ℕ) (before behind : Outside) (session : Session) (engine' : Engine) (waiting' line : List ℕ)
-    → line ≡ session.line → session.line ≢ [] → (session.engine.journal ≡ None → KeepsSlots before.site.held behind.site.held) → (s : Serving o given before session)
+pub closes_line : (r : Result (Unit {0}) Stop) (o : Origin) (given : List ℕ) (before behind : Outside) (session : Session) (engine' : Engine) (waiting' line : List ℕ)
+    → line ≡ session.line → session.line ≢ [] → (s : Serving o given before session)
     → Responds r before behind session.output waiting' engine' s.world line
-    → Closes r o given behind waiting'
-closes_line (Ok done) o given before behind session engine' waiting' line is some kept s p =
+    → Closes r o given behind engine' waiting'
+closes_line (Ok done) o given before behind session engine' waiting' line is some s p =
     let lines = sym (all_more given line (is ∙ s.line) (λ none. some (sym is ∙ none))) in
     record {
+      world = p.world;
       replies = s.replies ++ p.reply ∷ [];
-      answered = answered_line _ o given (all_lines given) before behind session engine' waiting' line lines s kept p;
+      comes = (came_line o given (all_lines given) before behind session engine' waiting' line (Ok done) lines s p p.tells).comes;
+      at = p.at;
+      stands = p.stands p.tells;
       passed = rw (replies_push s.replies p.reply) (splits_then (Some o.written) before.written behind.written (replies_bytes s.replies) session.output (reply_bytes p.reply) waiting' s.passed p.passed);
     }
-closes_line (Err e) o given before behind session engine' waiting' line is some kept s p =
+closes_line (Err why) o given before behind session engine' waiting' line is some s p =
     let lines = sym (all_more given line (is ∙ s.line) (λ none. some (sym is ∙ none))) in
-    cut_short o (all_lines given) (s.replies ++ p.reply ∷ []) behind (answered_line _ o given (all_lines given) before behind session engine' waiting' line lines s kept p)
-    (rw (replies_push s.replies p.reply) (breaks_then (Some o.written) before.written behind.written (replies_bytes s.replies) session.output (reply_bytes p.reply) s.passed p.passed))
+    stopped_line o given (all_lines given) before behind session engine' waiting' line why lines s p
 
-pub closes_failed : {E F : Type 0} (e : E) (r : Result (Unit {0}) F) (o : Origin) (given : List ℕ) (now : Outside) (waiting : List ℕ) → IsErr r
-    → Closes (Err e) o given now waiting → Finishes r o given now
-closes_failed e (Ok done) o given now waiting is c = cc
-closes_failed e (Err f) o given now waiting is c = c
-
-pub take_rest : (n : ℕ) (xs : List ℕ) → drop n xs ≡ [] → take n xs ≡ xs
-take_rest zero [] none = refl
-take_rest zero (x ∷ xs) none = cc
-take_rest (suc n) [] none = refl
-take_rest (suc n) (x ∷ xs) none = ap (λ l. x ∷ l) (take_rest n xs none)
-
--- nothing is left to write
-all_written : (o : Origin) (lines : List (List ℕ)) (replies : List (Option Reply)) (now : Outside) → Answered o lines replies now.site
-    → Splits (Some o.written) now.written (replies_bytes replies) [] → Whole o lines now
-all_written o lines replies now a p = record {
-  replies = replies;
-  answered = a;
-  tells = told_after o.written now.written (take p.count (replies_bytes replies)) p.written ∙ ap (λ l. Some (o.written ++ l)) (take_rest p.count (replies_bytes replies) (sym p.waits));
-}
-
-pub finishes_closed : {E : Type 0} (r : Result (Unit {0}) E) (o : Origin) (given : List ℕ) (before behind : Outside) (waiting waiting' : List ℕ) → behind.site ≡ before.site
-    → Closing o (all_lines given) before waiting → Passes r before.written behind.written waiting waiting' [] → OnOk r (waiting' ≡ []) → Finishes r o given behind
-finishes_closed (Ok done) o given before behind waiting waiting' site c p none =
-    all_written o (all_lines given) c.replies behind (rw site c.answered)
-    (rw (← none) (subst (λ (l : List ℕ). Splits (Some o.written) behind.written l waiting') (append-nil (replies_bytes c.replies)) (splits_then (Some o.written) before.written behind.written (replies_bytes c.replies) waiting [] waiting' c.passed p)))
-finishes_closed (Err e) o given before behind waiting waiting' site c p none =
-    cut_short o (all_lines given) c.replies behind (rw site c.answered)
-    (subst (λ (l : List ℕ). Breaks (Some o.written) behind.written l) (append-nil (replies_bytes c.replies)) (breaks_then (Some o.written) before.written behind.written (replies_bytes c.replies) waiting [] c.passed p))
-
--- where nothing waits, all replies of the ended lines are written
-pub serving_whole : (o : Origin) (given : List ℕ) (now : Outside) (session : Session) → session.output ≡ [] → Serving o given now session → Whole o (ended_lines given) now
-serving_whole o given now session none s =
-    all_written o (ended_lines given) s.replies now (answered_here o given now session s) (rw (← none) s.passed)
+-- WHAT IS LEFT ALONE
 
 -- what is left alone in all bytes is so in a front of them
 pub left_front : (o : Origin) (bytes more : List ℕ) → IsLeftAlone o (bytes ++ more) → IsLeftAlone o bytes

@@ -1,13 +1,13 @@
 -- A run that doesn't begin.
-use Rattle.std.proofs.Common.{◌≡◌, ◌⊎◌, ℕ, List, refl, sym, ◌∙◌, inl, inr, arith}
+use Rattle.std.proofs.Common.{◌≡◌, ◌≢◌, ◌⊎◌, ◌≤◌, ℕ, List, true, false, refl, sym, ◌∙◌, ap, inl, inr, arith}
 use Rattle.command_line.specs.declared.command.Command.{Command}
 use Rattle.command_line.specs.declared.command.Command.TheVariants.{Run, Check}
 use Rattle.command_line.specs.declared.settings.Settings.{Settings}
 use Rattle.command_line.specs.Keys.{AreBad, IsSetBy}
 use Rattle.command_line.specs.Words.{Asks, Refuses}
 use Rattle.session_cli.specs.declared.serving.Status.{Status}
-use Rattle.session_cli.specs.declared.serving.Status.TheVariants.{Finished, SourceFailed, SinkFailed, SchemaFailed, NoMemory, LineUnchecked, InputTooLong}
-use Rattle.session_cli.specs.Ends.{Unstarted, number_of}
+use Rattle.session_cli.specs.declared.serving.Status.TheVariants.{Finished, SourceFailed, SinkFailed, DiskFailed, SchemaFailed, NoMemory, LineUnchecked, Damaged, Differs, InputTooLong}
+use Rattle.session_cli.specs.Ends.{Unstarted, is_of_site, number_of, takes_none}
 
 pub words_of : (words : List (List ℕ)) (settings : List ℕ) (status : ℕ) → Unstarted words settings status → status ≡ 1 → Refuses words
 words_of words settings status (inl (one, refuses)) is = refuses
@@ -38,20 +38,76 @@ pub none_left_of : (words : List (List ℕ)) (settings : List ℕ) (status : ℕ
 none_left_of words settings status is (inl asks) s set = none_left words settings status is Run asks s set
 none_left_of words settings status is (inr asks) s set = none_left words settings status is Check asks s set
 
-pub no_other : (words : List (List ℕ)) (settings : List ℕ) (status n : ℕ) → Unstarted words settings status → (n ≡ 3) ⊎ (n ≡ 4) → status ≡ n → ⊥
-no_other words settings status n (inl (one, refuses)) (inl three) is = absurd (omega arith)
-no_other words settings status n (inl (one, refuses)) (inr four) is = absurd (omega arith)
-no_other words settings status n (inr (inl (two, asked, bad))) (inl three) is = absurd (omega arith)
-no_other words settings status n (inr (inl (two, asked, bad))) (inr four) is = absurd (omega arith)
-no_other words settings status n (inr (inr seven)) (inl three) is = absurd (omega arith)
-no_other words settings status n (inr (inr seven)) (inr four) is = absurd (omega arith)
+-- no other status comes so
+pub no_other : (words : List (List ℕ)) (settings : List ℕ) (status n : ℕ) → Unstarted words settings status → status ≡ n → 3 ≤ n → n ≢ 7 → ⊥
+no_other words settings status n (inl (one, refuses)) is some other = absurd (omega arith)
+no_other words settings status n (inr (inl (two, asked, bad))) is some other = absurd (omega arith)
+no_other words settings status n (inr (inr seven)) is some other = other (sym is ∙ seven)
 
--- only one status has the number 6
+-- only one status has each of these numbers
+pub is_disk : (status : Status) → number_of status ≡ 5 → status ≡ DiskFailed
+is_disk DiskFailed is = refl
+is_disk Finished is = absurd (omega arith)
+is_disk SourceFailed is = absurd (omega arith)
+is_disk SinkFailed is = absurd (omega arith)
+is_disk SchemaFailed is = absurd (omega arith)
+is_disk NoMemory is = absurd (omega arith)
+is_disk LineUnchecked is = absurd (omega arith)
+is_disk Damaged is = absurd (omega arith)
+is_disk Differs is = absurd (omega arith)
+is_disk InputTooLong is = absurd (omega arith)
+
 pub is_schema : (status : Status) → number_of status ≡ 6 → status ≡ SchemaFailed
+is_schema SchemaFailed is = refl
 is_schema Finished is = absurd (omega arith)
 is_schema SourceFailed is = absurd (omega arith)
 is_schema SinkFailed is = absurd (omega arith)
-is_schema SchemaFailed is = refl
+is_schema DiskFailed is = absurd (omega arith)
 is_schema NoMemory is = absurd (omega arith)
 is_schema LineUnchecked is = absurd (omega arith)
+is_schema Damaged is = absurd (omega arith)
+is_schema Differs is = absurd (omega arith)
 is_schema InputTooLong is = absurd (omega arith)
+
+-- and so it is of those of a damaged journal and of a row that differs
+pub is_damage : (status : Status) → (number_of status ≡ 8) ⊎ (number_of status ≡ 9) → (status ≡ Damaged) ⊎ (status ≡ Differs)
+is_damage Damaged is = inl refl
+is_damage Differs is = inr refl
+is_damage Finished (inl e) = absurd (omega arith)
+is_damage Finished (inr e) = absurd (omega arith)
+is_damage SourceFailed (inl e) = absurd (omega arith)
+is_damage SourceFailed (inr e) = absurd (omega arith)
+is_damage SinkFailed (inl e) = absurd (omega arith)
+is_damage SinkFailed (inr e) = absurd (omega arith)
+is_damage DiskFailed (inl e) = absurd (omega arith)
+is_damage DiskFailed (inr e) = absurd (omega arith)
+is_damage SchemaFailed (inl e) = absurd (omega arith)
+is_damage SchemaFailed (inr e) = absurd (omega arith)
+is_damage NoMemory (inl e) = absurd (omega arith)
+is_damage NoMemory (inr e) = absurd (omega arith)
+is_damage LineUnchecked (inl e) = absurd (omega arith)
+is_damage LineUnchecked (inr e) = absurd (omega arith)
+is_damage InputTooLong (inl e) = absurd (omega arith)
+is_damage InputTooLong (inr e) = absurd (omega arith)
+
+-- nothing of the source is taken then
+pub damage_untaken : (status : Status) → (number_of status ≡ 8) ⊎ (number_of status ≡ 9) → takes_none status ≡ true
+damage_untaken status is = by (is_damage status is)
+  where
+    by : (status ≡ Damaged) ⊎ (status ≡ Differs) → takes_none status ≡ true
+    by (inl e) = ap takes_none e
+    by (inr e) = ap takes_none e
+
+-- and the status is one of a site
+pub damage_of_site : (status : Status) → (number_of status ≡ 8) ⊎ (number_of status ≡ 9) → is_of_site status ≡ true
+damage_of_site status is = by (is_damage status is)
+  where
+    by : (status ≡ Damaged) ⊎ (status ≡ Differs) → is_of_site status ≡ true
+    by (inl e) = ap is_of_site e
+    by (inr e) = ap is_of_site e
+
+pub never_of_site : (status other : Status) → is_of_site status ≡ false → status ≡ other → is_of_site other ≡ true → ⊥
+never_of_site status other none is some = never (sym some ∙ ap is_of_site (sym is) ∙ none)
+  where
+    never : true ≡ false → ⊥
+    never e = cc

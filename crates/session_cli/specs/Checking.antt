@@ -17,7 +17,7 @@ use Rattle.session_cli.specs.declared.checker.CheckFault.{CheckFault}
 use Rattle.session_cli.specs.declared.checker.CheckFault.TheVariants as fault
 use Rattle.session_cli.specs.declared.checker.Checker.{Checker}
 use Rattle.session_cli.specs.declared.serving.Status.{Status}
-use Rattle.session_cli.specs.declared.serving.Status.TheVariants.{Finished, SourceFailed, SinkFailed, SchemaFailed, NoMemory, LineUnchecked, InputTooLong}
+use Rattle.session_cli.specs.declared.serving.Status.TheVariants.{Finished, SourceFailed, SinkFailed, DiskFailed, SchemaFailed, NoMemory, LineUnchecked, Damaged, Differs, InputTooLong}
 use Rattle.session_cli.specs.Cutting.{cut, front_of, ended_lines, all_lines}
 use Rattle.session_cli.specs.Ends.{Taken}
 use Rattle.session_cli.specs.Output.{Splits, Breaks}
@@ -137,6 +137,9 @@ CheckOutcome SinkFailed start given sink = CheckStops start given sink
 CheckOutcome LineUnchecked start given sink = CheckStops start given sink
 -- a run that checks lines doesn't end so
 CheckOutcome SchemaFailed start given sink = ⊥
+CheckOutcome DiskFailed start given sink = ⊥
+CheckOutcome Damaged start given sink = ⊥
+CheckOutcome Differs start given sink = ⊥
 -- nothing is written
 CheckOutcome NoMemory start given sink = sink ≡ Some start
 

@@ -1,26 +1,23 @@
 -- The opening of a run.
 
-use Rattle.std.specs.Prelude.{◌≡◌, ℕ, List, ◌++◌, Some, false}
-use Rattle.table_state.specs.declared.history.Entry.{Entry}
-use Rattle.table_state.specs.Histories.{has_ticket, state_of}
-use Rattle.table_state.specs.Tables.{TableState}
-use Rattle.outside.specs.Holding.{Held}
-use Rattle.outside.specs.Others.{AreOthers}
+use Rattle.std.specs.Prelude.{◌≡◌, ◌⊎◌, ℕ, List, [], ◌∷◌, ◌++◌, Option, Some, codes, take}
+use Rattle.std.specs.Fmt.{decimal}
+use Rattle.std.specs.Io.KnownBytes.{Appends}
+use Rattle.tier_base.specs.declared.code.Code.TheVariants as code
+use Rattle.row_types.specs.declared.rule.Detail.TheVariants as detail
+use Rattle.outside.specs.declared.disk.Slot.{Slot}
+use Rattle.outside.specs.declared.disk.Slot.TheVariants.{First, Second}
 use Rattle.command_line.specs.declared.settings.Settings.{Settings}
+use Rattle.cache_tier.specs.Replying.{last_bytes, reply_bytes}
 use Rattle.cache_tier.specs.TierStates.{Settings as TierSettings}
-use Rattle.cache_engine.specs.Beginning.{opened_world}
-use Rattle.cache_engine.specs.Engines.{IsLeftIn}
-use Rattle.cache_tier.specs.Worlds.{World}
-use Rattle.outside.specs.Sites.{SiteState}
-use Rattle.session_cli.specs.declared.session.Session.{Session}
+use Rattle.cache_tier.specs.Worlds.{World, faulty}
+use Rattle.cache_tier.specs.declared.reply.Last.TheVariants.{Fault}
+use Rattle.tier_opening.specs.declared.opening.OpenError.{OpenError}
+use Rattle.tier_opening.specs.declared.opening.OpenError.TheVariants as open_error
+use Rattle.session_cli.specs.declared.serving.Status.{Status}
+use Rattle.session_cli.specs.declared.serving.Status.TheVariants.{Damaged, Differs, DiskFailed, NoMemory, SchemaFailed, SinkFailed}
 use Rattle.session_cli.specs.Serving.{Origin}
-use Rattle.session_cli.specs.Timing.{AreLeft, Coming, IsNext}
-
--- The history leaves a state, and no transaction of a tier stands in it: definitions and transactions of others may.
-pub record HasNoTickets (history : List Entry) : Type 0 where
-  pub state : TableState
-  pub leaves : state_of history ≡ Some state
-  pub none : (ticket : ℕ) → has_ticket ticket history ≡ false
+use Rattle.session_cli.specs.Timing.{Coming}
 
 -- the settings that act on the tier
 abbrev pub tier_settings : Settings → TierSettings
@@ -33,44 +30,38 @@ tier_settings s = record {
   rotate_bytes = s.rotate_bytes;
 }
 
--- What the opening leaves of a site that held this: no slot changed, and transactions of others alone came. The tier's
--- first moment is the first of the bases.
-pub record Opened (there : Held) (before behind : SiteState) (bases : Coming) : Type 0 where
-  pub start : ℕ
-  pub first : IsNext (bases 0) start
-  pub held : Held
-  pub told : behind.held ≡ Some held
-  pub slots : held.slots ≡ there.slots
-  pub others : List Entry
-  pub came : AreOthers before.shared there.history others
-  pub is : held.history ≡ there.history ++ others
-  pub state : TableState
-  pub leaves : state_of held.history ≡ Some state
+-- where the run of an opened tier begins
+abbrev pub begins : World → List ℕ → Coming → Origin
+begins w written bases = record { world = w; written = written; bases = bases }
 
--- the world of the tier that was opened so, over the schema of the state that the history leaves
-abbrev pub world_at : {there : Held} {before behind : SiteState} {bases : Coming} → TierSettings
-    → Opened there before behind bases → World
-world_at {behind = behind} settings x = opened_world settings x.start x.state x.held.history behind
+-- the number of a slot
+abbrev pub slot_number : Slot → ℕ
+slot_number First = 0
+slot_number Second = 1
 
--- where its run begins
-abbrev pub begins : {there : Held} {before behind : SiteState} {bases : Coming} → TierSettings → List ℕ
-    → Opened there before behind bases → Origin
-begins {bases = bases} settings written x = record {
-  world = world_at settings x;
-  slots = x.held.slots;
-  written = written;
-  bases = bases;
-}
+-- what is written where no engine is opened: `fault 202`, `damaged S P`, `fault 210 TABLE KEY`, or nothing
+abbrev pub unopened_line : OpenError → List ℕ
+unopened_line open_error.Disk = reply_bytes (Some (faulty code.JournalFault))
+unopened_line open_error.Bank = []
+unopened_line (open_error.Damaged slot place) =
+    codes "damaged " ++ (decimal (slot_number slot) ++ (codes " " ++ (decimal place ++ 10 ∷ [])))
+unopened_line (open_error.Differs table key) =
+    last_bytes (Fault (record { code = code.RowDiffers; detail = detail.Row table key }))
+unopened_line open_error.Memory = []
 
--- the engine of a session is left in the world of the opened tier, and of the bases one is taken
-pub record IsNew (there : Held) (before behind : SiteState) (bases coming : Coming) (settings : TierSettings)
-    (session : Session) : Type 0 where
-  pub opened : Opened there before behind bases
-  pub stands : IsLeftIn session.engine (world_at settings opened)
-  pub left : AreLeft bases 1 coming
+-- and with which status the run ends then
+abbrev pub unopened_status : OpenError → Status
+unopened_status open_error.Disk = DiskFailed
+unopened_status open_error.Bank = SchemaFailed
+unopened_status (open_error.Damaged slot place) = Damaged
+unopened_status (open_error.Differs table key) = Differs
+unopened_status open_error.Memory = NoMemory
 
--- so it is where the site tells a history without tickets, and the settings have this span between rounds
-abbrev pub Opens : ℕ → SiteState → SiteState → Coming → Coming → Session → Type 0
-Opens propagate_ms before behind bases left session =
-    (there : Held) (settings : TierSettings) → before.held ≡ Some there → HasNoTickets there.history
-    → settings.propagate_ms ≡ propagate_ms → IsNew there before behind bases left settings session
+-- the line that says why is written, and the run ends with this status; or a front of it, where the sink failed
+abbrev pub TellsLine : Status → Status → Option (List ℕ) → Option (List ℕ) → OpenError → Type 0
+TellsLine status wanted sink sink' why =
+    ((status ≡ wanted) × Appends sink sink' (unopened_line why))
+    ⊎ ((status ≡ SinkFailed) × ((count : ℕ) × Appends sink sink' (take count (unopened_line why))))
+
+abbrev pub TellsWhy : Status → Option (List ℕ) → Option (List ℕ) → OpenError → Type 0
+TellsWhy status sink sink' why = TellsLine status (unopened_status why) sink sink' why

@@ -1,29 +1,33 @@
 -- A run in the middle and at its end.
 
-use Rattle.std.specs.Prelude.{◌≡◌, ℕ, List, [], ◌++◌, Option, Some, None, Result, Ok, Err, length, map, take}
-use Rattle.outside.specs.Holding.{Slots}
+use Rattle.std.specs.Prelude.{◌≡◌, ◌≤◌, ◌⊎◌, ℕ, List, [], ◌∷◌, ◌++◌, true, false, Option, Some, None, Result, Ok, Err, length, map, take}
+use Rattle.std.specs.Result.{IsErrOf}
+use Rattle.outside.specs.Faults.{Rose}
 use Rattle.order_laws.specs.Commits.{KeepsCommitOrder}
+use Rattle.kept_journal.specs.Keeping.{is_broken}
 use Rattle.cache_tier.specs.declared.reply.Reply.{Reply}
 use Rattle.cache_tier.specs.Replying.{reply_bytes, replies_bytes}
 use Rattle.cache_tier.specs.Rounds.{IsDrained}
+use Rattle.cache_tier.specs.Steps as tier_steps
 use Rattle.cache_tier.specs.Worlds.{IsUnshared, World}
 use Rattle.cache_tier.specs.StandingBetween.{AreReadAt}
-use Rattle.cache_engine.specs.Engines.{IsLeftIn}
-use Rattle.cache_engine.specs.Requests.{Given, LineRun, LineStep}
+use Rattle.session_engine.specs.Doubting.{IsLeft}
+use Rattle.cache_engine.specs.Requests.{BrokenRun, Given, LineGoes, LineRun}
 use Rattle.cache_engine.specs.declared.engine.Engine.{Engine}
 use Rattle.stored_tier.specs.Sites.{IsAt}
 use Rattle.outside.specs.Sites.{SiteState}
+use Rattle.session_cli.specs.declared.answering.Stop.{Stop}
+use Rattle.session_cli.specs.declared.answering.Stop.TheVariants as stop
 use Rattle.session_cli.specs.declared.session.Session.{Session}
 use Rattle.session_cli.specs.Cutting.{cut, front_of, ended_lines, all_lines}
-use Rattle.session_cli.specs.Output.{Splits, Passes}
+use Rattle.session_cli.specs.Output.{Breaks, Splits}
 use Rattle.session_cli.specs.Outside.{Outside}
 use Rattle.session_cli.specs.Timing.{AreLeft, AreTimed, Coming, TakesBase}
 
--- Where a run begins: a world, the slots of its site, what the sink holds, and what moments are counted from. The first
--- of these is the opening's, and the others are the lines'.
+-- Where a run begins: a world, what the sink holds, and what moments are counted from. The first of these is the
+-- opening's, and the others are the lines'.
 pub record Origin : Type 0 where
   pub world : World
-  pub slots : Slots
   pub written : List ℕ
   pub bases : Coming
 
@@ -39,6 +43,14 @@ pub record Comes (o : Origin) (lines : List (List ℕ)) (replies : List (Option 
   pub timed : AreTimed o.bases 1 given asked
   pub run : LineRun o.world given replies w
 
+-- The same of a run that ends with the last of the lines, since a failed call of the journal's disk is told.
+pub record ComesBroken (o : Origin) (lines : List (List ℕ)) (replies : List (Option Reply)) (w : World) : Type 0 where
+  pub given : List Given
+  pub are : bytes_of given ≡ lines
+  pub asked : ℕ
+  pub timed : AreTimed o.bases 1 given asked
+  pub run : BrokenRun o.world given replies w
+
 -- Others change no table of a writethrough group: at no end of a line of these bytes, in whatever run, is such a group
 -- over a table that others change.
 abbrev pub IsLeftAlone : Origin → List ℕ → Type 0
@@ -46,75 +58,160 @@ IsLeftAlone o input =
     (given left : List ℕ) (replies : List (Option Reply)) (w : World) → input ≡ given ++ left
     → Comes o (ended_lines given) replies w → IsUnshared w
 
+-- The engine is left so in a world: its tier stands there, or a commit is in doubt. Its journal is kept over the site's
+-- disk, and the world keeps one.
+pub record StandsIn (now : Outside) (e : Engine) (w : World) : Type 0 where
+  pub left : IsLeft e.tier e.doubt w
+  pub keeps : now.keeps e.journal w
+  pub kept : w.journal.kept ≡ true
+
+-- what waits and the last reply of a run are written; or a front of both, where the sink failed
+abbrev pub WritesLast : Stop → Option (List ℕ) → Option (List ℕ) → List ℕ → List ℕ → Type 0
+WritesLast stop.Sink sink sink' waiting bytes = Breaks sink sink' (waiting ++ bytes)
+WritesLast stop.Disk sink sink' waiting bytes = Splits sink sink' (waiting ++ bytes) []
+
+-- a reply is passed on: a front of it may wait, unless it is the last one
+abbrev pub PassesReply : Result (Unit {0}) Stop → Option (List ℕ) → Option (List ℕ) → List ℕ → List ℕ → List ℕ
+    → Type 0
+PassesReply (Ok done) sink sink' waiting waiting' bytes = Splits sink sink' (waiting ++ bytes) waiting'
+PassesReply (Err why) sink sink' waiting waiting' bytes = WritesLast why sink sink' waiting bytes
+
+-- A fault of the journal's disk is told exactly where the run is to end for it, unless the sink failed.
+abbrev pub TellsFault : Result (Unit {0}) Stop → Option Reply → Type 0
+TellsFault (Ok done) reply = is_broken reply ≡ false
+TellsFault (Err stop.Sink) reply = Unit {0}
+TellsFault (Err stop.Disk) reply = is_broken reply ≡ true
+
 -- One line was answered in this world: its base was taken, the request was served, and its reply passed on to the sink.
-pub record Responds {E : Type 0} (result : Result (Unit {0}) E) (before behind : Outside) (waiting waiting' : List ℕ)
+pub record Responds (result : Result (Unit {0}) Stop) (before behind : Outside) (waiting waiting' : List ℕ)
     (engine' : Engine) (w : World) (line : List ℕ) : Type 0 where
   pub base : ℕ
   pub took : TakesBase line before.coming behind.coming base
   pub reply : Option Reply
   pub world : World
   pub at : IsAt behind.site world
-  pub stands : IsLeftIn engine' world
-  pub step : LineStep base w line world reply
-  pub passed : Passes result before.written behind.written waiting waiting' (reply_bytes reply)
+  pub stands : is_broken reply ≡ false → StandsIn behind engine' world
+  pub goes : LineGoes base w line world reply
+  pub tells : TellsFault result reply
+  pub passed : PassesReply result before.written behind.written waiting waiting' (reply_bytes reply)
+
+-- a count of faults rose where a call stopped for this, and it never falls
+pub record HasStopCause {T : Type 0} (why : Stop) (before now : ℕ) (result : Result T Stop) : Type 0 where
+  pub later : before ≤ now
+  pub failed : IsErrOf result why → Rose before now
+
+-- so it is of a stop itself
+pub record IsStopCaused (why : Stop) (before now : ℕ) (result : Stop) : Type 0 where
+  pub later : before ≤ now
+  pub failed : result ≡ why → Rose before now
 
 -- After the bytes given: each line that ended is answered, a front of the replies is written and the others wait, and
 -- of the line that hasn't ended the session keeps the front. The engine is left so in the world to which the run has
--- led: its tier stands there, or a commit is in doubt.
+-- led.
 pub record Serving (o : Origin) (given : List ℕ) (now : Outside) (session : Session) : Type 0 where
   pub world : World
   pub replies : List (Option Reply)
   pub comes : Comes o (ended_lines given) replies world
   pub at : IsAt now.site world
-  pub slots : at.there.slots ≡ o.slots
-  pub stands : IsLeftIn session.engine world
+  pub stands : StandsIn now session.engine world
   pub left : AreLeft o.bases comes.asked now.coming
   pub line : session.line ≡ front_of (cut given).1
   pub passed : Splits (Some o.written) now.written (replies_bytes replies) session.output
 
--- These are the replies of a run over the lines, and at its end the site is as the run's last world says. There each
--- committed transaction stands once at most, and conflicting ones in commit order; where nothing is in doubt and nothing
--- unsettled, as behind a ttDrain that succeeded, each stands once, and the tables of each writethrough group are what all of its
--- transactions make in commit order; and the READONLY groups of one set that have something to show have one position.
-pub record Answered (o : Origin) (lines : List (List ℕ)) (replies : List (Option Reply)) (site : SiteState)
-    : Type 0 where
+-- nothing comes behind the last line
+abbrev pub Rests : World → World → Type 0
+Rests w w' = w' ≡ w
+
+-- the tail of the journal is flushed behind the last line, and nothing waits in it
+pub record HasFlushed (w w' : World) : Type 0 where
+  pub flushed : tier_steps.Finishes w w' None
+  pub kept : w'.journal.kept ≡ true
+  pub empty : w'.journal.tail ≡ []
+
+-- These are the replies of a run over the lines, and at its end, behind what comes there, the site is as the run's last
+-- world says. There each committed transaction stands once at most, and conflicting ones in commit order; where nothing
+-- is in doubt and nothing unsettled, as behind a ttDrain that succeeded, each stands once, and the tables of each
+-- writethrough group are what all of its transactions make in commit order; and the READONLY groups of one set that have
+-- something to show have one position.
+pub record Answered (ends : World → World → Type 0) (o : Origin) (lines : List (List ℕ))
+    (replies : List (Option Reply)) (site : SiteState) : Type 0 where
+  pub ran : World
+  pub comes : Comes o lines replies ran
   pub last : World
-  pub comes : Comes o lines replies last
+  pub ended : ends ran last
   pub at : IsAt site last
-  pub slots : at.there.slots ≡ o.slots
   pub legal : KeepsCommitOrder last.history last.tier.log
   pub drained : last.tier.doubt ≡ None → last.tier.unsettled ≡ [] → IsDrained last
   pub read : AreReadAt (length last.history) last.tier.groups
 
+-- The run ended at the last of the lines, whose reply tells a failed call of the journal's disk.
+pub record LineBroken (o : Origin) (lines : List (List ℕ)) (replies : List (Option Reply)) (site : SiteState)
+    : Type 0 where
+  pub last : World
+  pub comes : ComesBroken o lines replies last
+  pub at : IsAt site last
+
+-- The lines are answered, but the tail of the journal couldn't be flushed behind them. The last reply says so.
+pub record EndBroken (o : Origin) (lines : List (List ℕ)) (replies : List (Option Reply)) (site : SiteState)
+    : Type 0 where
+  pub told : List (Option Reply)
+  pub ran : World
+  pub comes : Comes o lines told ran
+  pub last : World
+  pub reply : Reply
+  pub ended : tier_steps.Finishes ran last (Some reply)
+  pub at : IsAt site last
+  pub are : replies ≡ told ++ Some reply ∷ []
+
+abbrev pub Broken : Origin → List (List ℕ) → List (Option Reply) → SiteState → Type 0
+Broken o lines replies site = LineBroken o lines replies site ⊎ EndBroken o lines replies site
+
 -- The lines are answered, and all replies written.
-pub record Whole (o : Origin) (lines : List (List ℕ)) (now : Outside) : Type 0 where
+pub record Whole (ends : World → World → Type 0) (o : Origin) (lines : List (List ℕ)) (now : Outside) : Type 0 where
   pub replies : List (Option Reply)
-  pub answered : Answered o lines replies now.site
+  pub answered : Answered ends o lines replies now.site
   pub tells : now.written ≡ Some (o.written ++ replies_bytes replies)
 
--- The lines are answered, but only a front of the replies is written.
+-- The run ended by a failed call of the journal's disk, and all replies are written. The last one tells it.
+pub record BrokenOff (o : Origin) (lines : List (List ℕ)) (now : Outside) : Type 0 where
+  pub replies : List (Option Reply)
+  pub broken : Broken o lines replies now.site
+  pub tells : now.written ≡ Some (o.written ++ replies_bytes replies)
+
+-- The lines are answered, or the run ended by a failed call of the journal's disk; but only a front of the replies is
+-- written.
 pub record CutShort (o : Origin) (lines : List (List ℕ)) (now : Outside) : Type 0 where
   pub replies : List (Option Reply)
-  pub answered : Answered o lines replies now.site
+  pub answered : Answered Rests o lines replies now.site
+      ⊎ (Answered HasFlushed o lines replies now.site ⊎ Broken o lines replies now.site)
   pub count : ℕ
   pub tells : now.written ≡ Some (o.written ++ take count (replies_bytes replies))
 
--- More bytes were taken in, or at a fault of the sink a front of them.
-abbrev pub Feeds : {E : Type 0} → Result (Unit {0}) E → Origin → List ℕ → List ℕ → Outside → Session → Type 0
+-- how a run stopped at the last of the lines
+abbrev pub StopsAt : Stop → Origin → List (List ℕ) → Outside → Type 0
+StopsAt stop.Sink o lines now = CutShort o lines now
+StopsAt stop.Disk o lines now = BrokenOff o lines now
+
+-- More bytes were taken in, or the run stopped behind a front of them.
+abbrev pub Feeds : Result (Unit {0}) Stop → Origin → List ℕ → List ℕ → Outside → Session → Type 0
 Feeds (Ok done) o given bytes now session = Serving o (given ++ bytes) now session
-Feeds (Err e) o given bytes now session = (n : ℕ) × CutShort o (ended_lines (given ++ take n bytes)) now
+Feeds (Err why) o given bytes now session = (n : ℕ) × StopsAt why o (ended_lines (given ++ take n bytes)) now
 
 -- The end of the input came: the lines are answered, a front of the replies is written and the others wait.
-pub record Closing (o : Origin) (lines : List (List ℕ)) (now : Outside) (waiting : List ℕ) : Type 0 where
+pub record Closing (o : Origin) (lines : List (List ℕ)) (now : Outside) (engine : Engine) (waiting : List ℕ)
+    : Type 0 where
+  pub world : World
   pub replies : List (Option Reply)
-  pub answered : Answered o lines replies now.site
+  pub comes : Comes o lines replies world
+  pub at : IsAt now.site world
+  pub stands : StandsIn now engine world
   pub passed : Splits (Some o.written) now.written (replies_bytes replies) waiting
 
-abbrev pub Closes : {E : Type 0} → Result (Unit {0}) E → Origin → List ℕ → Outside → List ℕ → Type 0
-Closes (Ok done) o given now waiting = Closing o (all_lines given) now waiting
-Closes (Err e) o given now waiting = CutShort o (all_lines given) now
+abbrev pub Closes : Result (Unit {0}) Stop → Origin → List ℕ → Outside → Engine → List ℕ → Type 0
+Closes (Ok done) o given now engine waiting = Closing o (all_lines given) now engine waiting
+Closes (Err why) o given now engine waiting = StopsAt why o (all_lines given) now
 
--- And all replies are written.
-abbrev pub Finishes : {E : Type 0} → Result (Unit {0}) E → Origin → List ℕ → Outside → Type 0
-Finishes (Ok done) o given now = Whole o (all_lines given) now
-Finishes (Err e) o given now = CutShort o (all_lines given) now
+-- And the tail of the journal is flushed, and all replies are written.
+abbrev pub Finishes : Result (Unit {0}) Stop → Origin → List ℕ → Outside → Type 0
+Finishes (Ok done) o given now = Whole HasFlushed o (all_lines given) now
+Finishes (Err why) o given now = StopsAt why o (all_lines given) now

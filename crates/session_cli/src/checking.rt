@@ -1,9 +1,9 @@
 //! A run of `check` over a whole input.
 
-ghost use Rattle.std.specs.Prelude.{◌≡◌, ◌<◌, length};
+ghost use Rattle.std.specs.Prelude.{◌≡◌, ◌<◌, false, length};
 ghost use Rattle.outside.specs.Faults.{Rose};
 ghost use Rattle.session_cli.specs.Checking.{CheckRuns, IsNewChecker, status_of};
-ghost use Rattle.session_cli.specs.Ends.{Takes};
+ghost use Rattle.session_cli.specs.Ends.{Takes, is_of_site};
 
 use crate::checker::{CheckFault, Checker};
 use crate::serving::Status;
@@ -25,7 +25,7 @@ pub fn check<S: Source, K: Sink>(alloc: Global, source: &mut S, sink: &mut K) ->
     ensures takes { Takes result (S.left source.old) (S.left source.new) }
     ensures read { result ≡ Status.SourceFailed → Rose (S.faults source.old) (S.faults source.new) }
     ensures write { result ≡ Status.SinkFailed → Rose (K.faults sink.old) (K.faults sink.new) }
-    ensures schema { result ≡ Status.SchemaFailed → ⊥ }
+    ensures alone { is_of_site result ≡ false }
 {
     let Ok(mut checker) = Checker::new(alloc) else {
         return Status::NoMemory;
@@ -51,7 +51,7 @@ fn check_pieces<S: Source, K: Sink>(
     ensures takes { Takes result (S.left source.old) (S.left source.new) }
     ensures read { result ≡ Status.SourceFailed → Rose (S.faults source.old) (S.faults source.new) }
     ensures write { result ≡ Status.SinkFailed → Rose (K.faults sink.old) (K.faults sink.new) }
-    ensures schema { result ≡ Status.SchemaFailed → ⊥ }
+    ensures alone { is_of_site result ≡ false }
 {
     let mut room = INPUT_BYTES;
     while room > 0 {
@@ -76,7 +76,7 @@ fn check_pieces<S: Source, K: Sink>(
 /// With which status a run ends at a fault.
 fn status_of(fault: CheckFault) -> Status
     ensures status { result ≡ status_of fault }
-    ensures schema { result ≡ Status.SchemaFailed → ⊥ }
+    ensures alone { is_of_site result ≡ false }
 {
     match fault {
         CheckFault::Sink => Status::SinkFailed,

@@ -15,7 +15,7 @@ pub mod session;
 pub mod timing;
 pub mod values;
 
-pub use answering::respond;
+pub use answering::{Stop, respond};
 pub use checker::{CheckFault, Checker, check_law, check_line};
 pub use checking::check;
 pub use fixed_clock::FixedClock;

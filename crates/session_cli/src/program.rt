@@ -1,6 +1,6 @@
 //! The program's one way in.
 
-ghost use Rattle.std.specs.Prelude.{◌≡◌, ◌⊎◌, ℕ, List, Option, MatchResult};
+ghost use Rattle.std.specs.Prelude.{◌≡◌, ◌⊎◌, ℕ, List, Option, MatchResult, true};
 ghost use Rattle.outside.specs.Faults.{Rose};
 ghost use Rattle.cache_tier.specs.declared.reply.Reply.{Reply};
 ghost use Rattle.cache_tier.specs.MoreFacts.{FaultsAreCaused};
@@ -14,7 +14,7 @@ ghost use Rattle.command_line.specs.Words.{Asks, Refuses, texts};
 ghost use Rattle.script_commands.specs.Commands.{Benches, Makes, number_of as number_of_end};
 ghost use Rattle.script_commands.specs.declared.commands.End.{End};
 ghost use Rattle.session_cli.specs.Checking.{AreChecked, CheckRuns};
-ghost use Rattle.session_cli.specs.Ends.{Runs, Takes, Unstarted, number_of};
+ghost use Rattle.session_cli.specs.Ends.{Runs, Takes, Unstarted, number_of, takes_none};
 ghost use Rattle.session_cli.specs.Opening.{tier_settings};
 ghost use Rattle.session_cli.specs.Outside.{seen};
 ghost use Rattle.session_cli.specs.Timing.{bases_by};
@@ -44,21 +44,28 @@ const NO_MEMORY: u8 = 7;
 
 /// The program, over its words, its settings and the world outside. The answer is its status:
 ///
-/// - 0: the input was read to its end; of `make` and `bench` all was written.
+/// - 0: the input was read to its end, and in `run` nothing waits in the journal's tail; of `make` and `bench` all was
+///   written.
 /// - 1: exactly where `clap` refuses the words for another cause than memory. Nothing else is looked at.
 /// - 2: exactly where the words are taken and the settings are refused for another cause than memory: they are no TOML
 ///   table, or a key isn't known, or a value is of the wrong type or out of its range. Nothing else is looked at.
 /// - 3: the source failed in this call. All lines that ended before are answered.
 /// - 4: the sink failed in this call, or took nothing of something. A front of the replies is written.
-/// - 6: in `run`, the site failed in this call as the tier asked it for its schema at the opening. No line is answered,
-///   and neither source nor sink is touched.
+/// - 5: in `run`, a call of the journal's disk failed. The last line that is written is `fault 202`: at the opening, with
+///   no line answered; at a line, whose reply it ends, and no line behind it is answered; or behind the last line.
+/// - 6: in `run`, the backing database failed in this call as the tier asked it for its schema at the opening. No line
+///   is answered, and neither source nor sink is touched.
 /// - 7: want of memory before the first request, the words', the settings' and the opening's included; no line is
 ///   answered then. In `check` also want of memory for a line. A front of the replies is then written. In `make` and
 ///   `bench` want of memory anywhere outside a request; of the script a front is then written, of the summary nothing.
+/// - 8: in `run`, the journal is damaged: the line `damaged S P` tells the slot, and the byte in it. No line is answered,
+///   and the source isn't touched.
+/// - 9: in `run`, a row of a backing table isn't as an entry of the journal says: the line `fault 210 TABLE KEY` tells
+///   it. No line is answered, and the source isn't touched.
 /// - 10: exactly where 2^32 bytes were taken from the source without an end, and the sink took all replies. All lines
 ///   that ended in them are answered.
 ///
-/// `run` opens a tier over the site and lets it answer each line, and `check` says of each line whether it is spelt
+/// `run` opens a tier over the site, with its journal, and lets it answer each line, and `check` says of each line whether it is spelt
 /// right. `check` calls neither site nor clock. `make` writes the generated script of a number, and `bench` runs that
 /// script on a new site in memory and writes what its run comes to; both touch nothing but the sink.
 ///
@@ -88,8 +95,9 @@ pub fn top<'a, S: Source, K: Sink, P: Site, C: Clock>(
         → (source.new ≡ source.old) × (sink.new ≡ sink.old) × (site.new ≡ site.old) × (clock.new ≡ clock.old) }
     ensures runs { Asks (texts words.entry.now) Task.Run → (s : Set) → IsSetBy settings.now s
         → ((status : Status) × (result ≡ number_of status) × Runs (tier_settings s) status (S.left source.old)
-        (seen (K.written sink.old) (bases_by s (C.coming clock.old)) (P.Disk.state site.old)) (S.left source.new)
-        (seen (K.written sink.new) (bases_by s (C.coming clock.new)) (P.Disk.state site.new))) }
+        (seen (K.written sink.old) (bases_by s (C.coming clock.old)) P.Disk.state P.Disk.possible site.old)
+        (S.left source.new)
+        (seen (K.written sink.new) (bases_by s (C.coming clock.new)) P.Disk.state P.Disk.possible site.new)) }
     ensures checks { Asks (texts words.entry.now) Task.Check → (s : Set) → IsSetBy settings.now s
         → ((status : Status) × (result ≡ number_of status)
         × CheckRuns status (S.left source.old) (K.written sink.old) (S.left source.new) (K.written sink.new)) }
@@ -106,7 +114,9 @@ pub fn top<'a, S: Source, K: Sink, P: Site, C: Clock>(
         → (s : Set) → IsSetBy settings.now s → ((status : Status) × (result ≡ number_of status) × Takes status (S.left source.old) (S.left source.new)) }
     ensures read { result ≡ 3 → Rose (S.faults source.old) (S.faults source.new) }
     ensures write { result ≡ 4 → Rose (K.faults sink.old) (K.faults sink.new) }
+    ensures disk { result ≡ 5 → Rose (P.Disk.state site.old).disk_faults (P.Disk.state site.new).disk_faults }
     ensures unopened { result ≡ 6 → (source.new ≡ source.old) × (sink.new ≡ sink.old) }
+    ensures untaken { (result ≡ 8) ⊎ (result ≡ 9) → source.new ≡ source.old }
     ensures schema { result ≡ 6 → Rose (P.Disk.state site.old).bank_faults (P.Disk.state site.new).bank_faults }
     // In the run that the clause `runs` speaks of, each fault that is told has a failed call of its own.
     ensures caused { (w w' : World) (lines : List Given) (replies : List (Option Reply)) → LineRun w lines replies w'
@@ -142,14 +152,18 @@ fn run<S: Source, K: Sink, P: Site, C: Clock>(
     clock: &mut C,
 ) -> Status
     ensures runs { Runs (tier_settings settings.now) result (S.left source.old)
-        (seen (K.written sink.old) (bases_by settings.now (C.coming clock.old)) (P.Disk.state site.old)) (S.left source.new)
-        (seen (K.written sink.new) (bases_by settings.now (C.coming clock.new)) (P.Disk.state site.new)) }
+        (seen (K.written sink.old) (bases_by settings.now (C.coming clock.old)) P.Disk.state P.Disk.possible site.old)
+        (S.left source.new)
+        (seen (K.written sink.new) (bases_by settings.now (C.coming clock.new)) P.Disk.state P.Disk.possible site.new) }
     ensures takes { Takes result (S.left source.old) (S.left source.new) }
     ensures read { result ≡ Status.SourceFailed → Rose (S.faults source.old) (S.faults source.new) }
     ensures write { result ≡ Status.SinkFailed → Rose (K.faults sink.old) (K.faults sink.new) }
-    ensures unopened { (result ≡ Status.SchemaFailed) ⊎ (result ≡ Status.NoMemory)
-        → (source.new ≡ source.old) × (sink.new ≡ sink.old) }
-    ensures schema { result ≡ Status.SchemaFailed → Rose (P.Disk.state site.old).bank_faults (P.Disk.state site.new).bank_faults }
+    ensures disk { result ≡ Status.DiskFailed
+        → Rose (P.Disk.state site.old).disk_faults (P.Disk.state site.new).disk_faults }
+    ensures untaken { takes_none result ≡ true → source.new ≡ source.old }
+    ensures untold { (result ≡ Status.SchemaFailed) ⊎ (result ≡ Status.NoMemory) → sink.new ≡ sink.old }
+    ensures schema { result ≡ Status.SchemaFailed
+        → Rose (P.Disk.state site.old).bank_faults (P.Disk.state site.new).bank_faults }
     ensures unasked { settings.now.clock ≡ Script → clock.new ≡ clock.old }
 {
     match settings.clock {

@@ -7,12 +7,14 @@ ghost use Rattle.outside.specs.Faults.{HasCause};
 ghost use Rattle.row_types.specs.Printing.{printed_key};
 ghost use Rattle.tier_base.specs.Codes.{number_of};
 ghost use Rattle.cache_tier.specs.Replying.{detail_bytes, last_bytes, letter_byte, note_bytes, reply_bytes, rule_bytes};
+ghost use Rattle.session_cli.specs.Opening.{slot_number, unopened_line};
 ghost use Rattle.session_cli.specs.Output.{Passes};
 
 use crate::output::Output;
 use crate::values::{write_key, write_number};
+use cache_engine::opening::OpenError;
 use cache_tier::reply::{Last, Note, Reply};
-use outside::{Failed, Sink};
+use outside::{Failed, Sink, Slot};
 use row_types::{Detail, Key, Letter, Rule};
 use tier_base::Code;
 
@@ -168,6 +170,96 @@ fn write_detail<K: Sink>(output: &mut Output, sink: &mut K, detail: &Detail) -> 
         Detail::Limit(limit) => write_word(output, sink, limit.word().as_bytes()),
         Detail::NoType => output.put(sink, b" -"),
     }
+}
+
+/// Passes the line on that says why no engine is opened: `fault 202`, `damaged S P`, `fault 210 TABLE KEY`. A failed call
+/// of the backing database and want of memory have no line. (The lines are this project's rule.)
+///
+/// `Failed` only where the sink failed or took nothing of something: a front is then written.
+pub fn write_unopened<K: Sink>(
+    output: &mut Output,
+    sink: &mut K,
+    error: &OpenError,
+) -> Result<(), Failed>
+    ensures bytes { Passes result (K.written sink.old) (K.written sink.new) output.old output.new
+        (unopened_line error.now) }
+    ensures cause { HasCause (K.faults sink.old) (K.faults sink.new) result }
+{
+    match error {
+        OpenError::Disk => output.put(sink, b"fault 202\n"),
+        OpenError::Bank => output.put(sink, b""),
+        OpenError::Damaged(slot, place) => write_damaged(output, sink, *slot, *place),
+        OpenError::Differs(table, key) => write_differing(output, sink, table.as_bytes(), key),
+        OpenError::Memory => output.put(sink, b""),
+    }
+}
+
+// The first damaged place of the journal.
+fn write_damaged<K: Sink>(
+    output: &mut Output,
+    sink: &mut K,
+    slot: Slot,
+    place: u64,
+) -> Result<(), Failed>
+    ensures bytes { Passes result (K.written sink.old) (K.written sink.new) output.old output.new
+        (codes "damaged " ++ (decimal (slot_number slot) ++ (codes " " ++ (decimal place ++ 10 ∷ [])))) }
+    ensures cause { HasCause (K.faults sink.old) (K.faults sink.new) result }
+{
+    output.put(sink, b"damaged ")?;
+    write_number(output, sink, slot_number(slot))?;
+    write_numbered(output, sink, b" ", place)
+}
+
+fn slot_number(slot: Slot) -> u64
+    ensures { result ≡ slot_number slot }
+{
+    match slot {
+        Slot::First => 0,
+        Slot::Second => 1,
+    }
+}
+
+// 210 of a row: its table and its key.
+fn write_differing<K: Sink>(
+    output: &mut Output,
+    sink: &mut K,
+    table: &[u8],
+    key: &Key,
+) -> Result<(), Failed>
+    ensures bytes { Passes result (K.written sink.old) (K.written sink.new) output.old output.new
+        (codes "fault " ++ ((decimal 210 ++ (32 ∷ table.now ++ 32 ∷ printed_key key.now)) ++ 10 ∷ [])) }
+    ensures cause { HasCause (K.faults sink.old) (K.faults sink.new) result }
+{
+    output.put(sink, b"fault ")?;
+    write_coded_row(output, sink, table, key)
+}
+
+fn write_coded_row<K: Sink>(
+    output: &mut Output,
+    sink: &mut K,
+    table: &[u8],
+    key: &Key,
+) -> Result<(), Failed>
+    ensures bytes { Passes result (K.written sink.old) (K.written sink.new) output.old output.new
+        ((decimal 210 ++ (32 ∷ table.now ++ 32 ∷ printed_key key.now)) ++ 10 ∷ []) }
+    ensures cause { HasCause (K.faults sink.old) (K.faults sink.new) result }
+{
+    write_code_and_row(output, sink, table, key)?;
+    output.put(sink, b"\n")
+}
+
+fn write_code_and_row<K: Sink>(
+    output: &mut Output,
+    sink: &mut K,
+    table: &[u8],
+    key: &Key,
+) -> Result<(), Failed>
+    ensures bytes { Passes result (K.written sink.old) (K.written sink.new) output.old output.new
+        (decimal 210 ++ (32 ∷ table.now ++ 32 ∷ printed_key key.now)) }
+    ensures cause { HasCause (K.faults sink.old) (K.faults sink.new) result }
+{
+    write_code(output, sink, Code::RowDiffers)?;
+    write_row(output, sink, table, key)
 }
 
 // A blank and a number.

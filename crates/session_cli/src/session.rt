@@ -1,11 +1,11 @@
 //! A session over the input's bytes as they come.
 
-use crate::answering::respond;
+use crate::answering::{Stop, respond, write_last_reply};
 use crate::line::LineBuffer;
 use crate::output::Output;
-use cache_engine::beginning::begin;
 use cache_engine::engine::Engine;
-use outside::{BankError, Clock, Failed, Sink, Site};
+use cache_engine::finishing::finish as finish_engine;
+use outside::{Clock, Failed, Sink, Site};
 use std::alloc::Global;
 
 /// What is kept between the pieces of the input.
@@ -29,57 +29,18 @@ impl Drop for Session {
 }
 
 impl Session {
-    ghost use Rattle.std.specs.Prelude.{◌≡◌, ◌++◌, ◌∷◌, [], List, ℕ, OnOk, IfOk};
-    ghost use Rattle.outside.specs.Faults.{BankHasCause, HasCause};
-    ghost use Rattle.cache_engine.specs.Beginning.{BeginsAt};
+    ghost use Rattle.std.specs.Prelude.{◌≡◌, ◌++◌, ◌∷◌, [], Err, List, ℕ, OnOk};
     ghost use Rattle.cache_engine.specs.Engines.{IsInOrder};
-    ghost use Rattle.session_cli.specs.Opening.{Opens};
+    ghost use Rattle.session_cli.specs.Cutting.{all_lines};
     ghost use Rattle.session_cli.specs.Outside.{seen};
-    ghost use Rattle.session_cli.specs.Serving.{Closes, Feeds, Finishes, IsLeftAlone, Origin, Serving};
-
-    /// A session over a tier that is opened over the site. All memory of its buffers is taken before. Transactions of
-    /// others may come as the site is asked for its schema. The tier's first moment is the clock's answer.
-    ///
-    /// `Failed` only where the site failed as it was asked for its schema.
-    pub fn open<P: Site, C: Clock>(
-        alloc: Global,
-        site: &mut P,
-        clock: &mut C,
-        propagate_ms: u64,
-    ) -> Result<Session, BankError>
-        ensures opens { IfOk result (Opens propagate_ms
-            (P.Disk.state site.old)
-            (P.Disk.state site.new)
-            (C.coming clock.old) (C.coming clock.new)) }
-        ensures line { IfOk result (λ session. session.line ≡ []) }
-        ensures output { IfOk result (λ session. session.output ≡ []) }
-        ensures order { IfOk result (λ session. IsInOrder session.engine) }
-        ensures cause { BankHasCause (P.Disk.state site.old) (P.Disk.state site.new) result }
-        ensures later { BeginsAt
-            (P.Disk.state site.old)
-            (P.Disk.state site.new) }
-    {
-        let Ok(line) = LineBuffer::new(alloc) else {
-            return Err(BankError::Memory);
-        };
-        let Ok(output) = Output::new(alloc) else {
-            return Err(BankError::Memory);
-        };
-        let start = clock.now();
-        match begin(alloc, site, start, propagate_ms) {
-            Ok(engine) => Ok(Session {
-                engine,
-                line,
-                output,
-            }),
-            Err(error) => Err(error),
-        }
-    }
+    ghost use Rattle.session_cli.specs.Serving.{Closes, Closing, Feeds, Finishes, HasStopCause, IsLeftAlone, Origin, PassesReply, Serving};
+    ghost use Rattle.session_cli.specs.Timing.{Coming};
 
     /// Takes in a piece of the input: the lines that end in it are answered, and their replies written.
     ///
-    /// `Failed` only where the sink failed or took nothing of something: the lines that end in a front of the piece
-    /// are then answered, and a front of the replies is written.
+    /// `Sink` only where the sink failed or took nothing of something: the lines that end in a front of the piece are
+    /// then answered, and a front of the replies is written. `Disk` only where a call of the journal's disk failed: the
+    /// lines that end in a front of the piece are answered, and all replies are written, of which the last tells it.
     pub fn feed<K: Sink, P: Site, C: Clock>(
         &mut self,
         alloc: Global,
@@ -87,41 +48,89 @@ impl Session {
         site: &mut P,
         clock: &mut C,
         bytes: &[u8],
-    ) -> Result<(), Failed>
+    ) -> Result<(), Stop>
         requires { IsInOrder self.old.engine }
         ensures serves { (o : Origin) (given : List ℕ) → IsLeftAlone o (given ++ bytes.now) → Serving o given
-            (seen (K.written sink.old) (C.coming clock.old) (P.Disk.state site.old)) self.old
+            (seen (K.written sink.old) (C.coming clock.old) P.Disk.state P.Disk.possible site.old) self.old
             → Feeds result o given bytes.now
-            (seen (K.written sink.new) (C.coming clock.new) (P.Disk.state site.new)) self.new }
+            (seen (K.written sink.new) (C.coming clock.new) P.Disk.state P.Disk.possible site.new) self.new }
         ensures empty { OnOk result (self.new.output ≡ []) }
         ensures order { IsInOrder self.new.engine }
-        ensures cause { HasCause (K.faults sink.old) (K.faults sink.new) result }
+        ensures cause { HasStopCause Stop.Sink (K.faults sink.old) (K.faults sink.new) result }
+        ensures disk { HasStopCause Stop.Disk (P.Disk.state site.old).disk_faults
+            (P.Disk.state site.new).disk_faults result }
     {
-        self.take_in(alloc, sink, site, clock, bytes)?;
-        self.output.flush(sink)
+        match self.take_in(alloc, sink, site, clock, bytes) {
+            Ok(()) => self.flush(sink),
+            Err(stop) => Err(stop),
+        }
     }
 
-    /// Answers the last line, where the input ended behind no line feed, and writes all replies.
+    /// Answers the last line, where the input ended behind no line feed, flushes what waits in the journal's tail, and
+    /// writes all replies.
     ///
-    /// `Failed` only where the sink failed or took nothing of something: all lines are then answered, and a front of
-    /// the replies is written.
+    /// `Sink` only where the sink failed or took nothing of something: all lines are then answered, and a front of the
+    /// replies is written. `Disk` only where a call of the journal's disk failed, at the last line or at that flush: all
+    /// replies are written, of which the last tells it.
     pub fn finish<K: Sink, P: Site, C: Clock>(
         &mut self,
         alloc: Global,
         sink: &mut K,
         site: &mut P,
         clock: &mut C,
-    ) -> Result<(), Failed>
+    ) -> Result<(), Stop>
         requires { IsInOrder self.old.engine }
         ensures serves { (o : Origin) (given : List ℕ) → IsLeftAlone o given → Serving o given
-            (seen (K.written sink.old) (C.coming clock.old) (P.Disk.state site.old)) self.old
+            (seen (K.written sink.old) (C.coming clock.old) P.Disk.state P.Disk.possible site.old) self.old
             → Finishes result o given
-            (seen (K.written sink.new) (C.coming clock.new) (P.Disk.state site.new)) }
+            (seen (K.written sink.new) (C.coming clock.new) P.Disk.state P.Disk.possible site.new) }
         ensures order { IsInOrder self.new.engine }
-        ensures cause { HasCause (K.faults sink.old) (K.faults sink.new) result }
+        ensures cause { HasStopCause Stop.Sink (K.faults sink.old) (K.faults sink.new) result }
+        ensures disk { HasStopCause Stop.Disk (P.Disk.state site.old).disk_faults
+            (P.Disk.state site.new).disk_faults result }
     {
-        self.end_input(alloc, sink, site, clock)?;
-        self.output.flush(sink)
+        match self.end_input(alloc, sink, site, clock) {
+            Ok(()) => self.end_engine(alloc, sink, site),
+            Err(stop) => Err(stop),
+        }
+    }
+
+    // All lines are answered: flushes what waits in the journal's tail, and writes all replies.
+    fn end_engine<K: Sink, P: Site>(
+        &mut self,
+        alloc: Global,
+        sink: &mut K,
+        site: &mut P,
+    ) -> Result<(), Stop>
+        ensures serves { (o : Origin) (given : List ℕ) (coming : Coming)
+            → Closing o (all_lines given) (seen (K.written sink.old) coming P.Disk.state P.Disk.possible site.old)
+            self.old.engine self.old.output
+            → Finishes result o given (seen (K.written sink.new) coming P.Disk.state P.Disk.possible site.new) }
+        ensures order { IsInOrder self.old.engine → IsInOrder self.new.engine }
+        ensures cause { HasStopCause Stop.Sink (K.faults sink.old) (K.faults sink.new) result }
+        ensures disk { HasStopCause Stop.Disk (P.Disk.state site.old).disk_faults
+            (P.Disk.state site.new).disk_faults result }
+    {
+        match finish_engine(&mut self.engine, alloc, site) {
+            Ok(()) => self.flush(sink),
+            Err(reply) => Err(write_last_reply(&mut self.output, sink, &reply)),
+        }
+    }
+
+    // Writes all that waits.
+    fn flush<K: Sink>(&mut self, sink: &mut K) -> Result<(), Stop>
+        ensures bytes { PassesReply result (K.written sink.old) (K.written sink.new) self.old.output self.new.output
+            [] }
+        ensures sink { result ≡ Err Stop.Disk → ⊥ }
+        ensures empty { OnOk result (self.new.output ≡ []) }
+        ensures engine { self.new.engine ≡ self.old.engine }
+        ensures line { self.new.line ≡ self.old.line }
+        ensures cause { HasStopCause Stop.Sink (K.faults sink.old) (K.faults sink.new) result }
+    {
+        match self.output.flush(sink) {
+            Ok(()) => Ok(()),
+            Err(Failed) => Err(Stop::Sink),
+        }
     }
 
     // The same, but the replies may wait.
@@ -131,14 +140,16 @@ impl Session {
         sink: &mut K,
         site: &mut P,
         clock: &mut C,
-    ) -> Result<(), Failed>
+    ) -> Result<(), Stop>
         requires { IsInOrder self.old.engine }
         ensures serves { (o : Origin) (given : List ℕ) → IsLeftAlone o given → Serving o given
-            (seen (K.written sink.old) (C.coming clock.old) (P.Disk.state site.old)) self.old
+            (seen (K.written sink.old) (C.coming clock.old) P.Disk.state P.Disk.possible site.old) self.old
             → Closes result o given
-            (seen (K.written sink.new) (C.coming clock.new) (P.Disk.state site.new)) self.new.output }
+            (seen (K.written sink.new) (C.coming clock.new) P.Disk.state P.Disk.possible site.new) self.new.engine self.new.output }
         ensures order { IsInOrder self.new.engine }
-        ensures cause { HasCause (K.faults sink.old) (K.faults sink.new) result }
+        ensures cause { HasStopCause Stop.Sink (K.faults sink.old) (K.faults sink.new) result }
+        ensures disk { HasStopCause Stop.Disk (P.Disk.state site.old).disk_faults
+            (P.Disk.state site.new).disk_faults result }
     {
         if self.line.is_empty() {
             return Ok(());
@@ -162,17 +173,22 @@ impl Session {
         site: &mut P,
         clock: &mut C,
         bytes: &[u8],
-    ) -> Result<(), Failed>
+    ) -> Result<(), Stop>
         requires { IsInOrder self.old.engine }
         ensures serves { (o : Origin) (given : List ℕ) → IsLeftAlone o (given ++ bytes.now) → Serving o given
-            (seen (K.written sink.old) (C.coming clock.old) (P.Disk.state site.old)) self.old
+            (seen (K.written sink.old) (C.coming clock.old) P.Disk.state P.Disk.possible site.old) self.old
             → Feeds result o given bytes.now
-            (seen (K.written sink.new) (C.coming clock.new) (P.Disk.state site.new)) self.new }
+            (seen (K.written sink.new) (C.coming clock.new) P.Disk.state P.Disk.possible site.new) self.new }
         ensures order { IsInOrder self.new.engine }
-        ensures cause { HasCause (K.faults sink.old) (K.faults sink.new) result }
+        ensures cause { HasStopCause Stop.Sink (K.faults sink.old) (K.faults sink.new) result }
+        ensures disk { HasStopCause Stop.Disk (P.Disk.state site.old).disk_faults
+            (P.Disk.state site.new).disk_faults result }
     {
         for byte in bytes {
-            self.take_byte(alloc, sink, site, clock, *byte)?;
+            match self.take_byte(alloc, sink, site, clock, *byte) {
+                Ok(()) => {}
+                Err(stop) => return Err(stop),
+            }
         }
         Ok(())
     }
@@ -184,14 +200,16 @@ impl Session {
         site: &mut P,
         clock: &mut C,
         byte: u8,
-    ) -> Result<(), Failed>
+    ) -> Result<(), Stop>
         requires { IsInOrder self.old.engine }
         ensures serves { (o : Origin) (given : List ℕ) → IsLeftAlone o given → Serving o given
-            (seen (K.written sink.old) (C.coming clock.old) (P.Disk.state site.old)) self.old
+            (seen (K.written sink.old) (C.coming clock.old) P.Disk.state P.Disk.possible site.old) self.old
             → Feeds result o given (byte ∷ [])
-            (seen (K.written sink.new) (C.coming clock.new) (P.Disk.state site.new)) self.new }
+            (seen (K.written sink.new) (C.coming clock.new) P.Disk.state P.Disk.possible site.new) self.new }
         ensures order { IsInOrder self.new.engine }
-        ensures cause { HasCause (K.faults sink.old) (K.faults sink.new) result }
+        ensures cause { HasStopCause Stop.Sink (K.faults sink.old) (K.faults sink.new) result }
+        ensures disk { HasStopCause Stop.Disk (P.Disk.state site.old).disk_faults
+            (P.Disk.state site.new).disk_faults result }
     {
         if byte == b'\n' {
             return self.end_line(alloc, sink, site, clock);
@@ -207,25 +225,32 @@ impl Session {
         sink: &mut K,
         site: &mut P,
         clock: &mut C,
-    ) -> Result<(), Failed>
+    ) -> Result<(), Stop>
         requires { IsInOrder self.old.engine }
         ensures serves { (o : Origin) (given : List ℕ) → IsLeftAlone o given → Serving o given
-            (seen (K.written sink.old) (C.coming clock.old) (P.Disk.state site.old)) self.old
+            (seen (K.written sink.old) (C.coming clock.old) P.Disk.state P.Disk.possible site.old) self.old
             → Feeds result o given (10 ∷ [])
-            (seen (K.written sink.new) (C.coming clock.new) (P.Disk.state site.new)) self.new }
+            (seen (K.written sink.new) (C.coming clock.new) P.Disk.state P.Disk.possible site.new) self.new }
         ensures order { IsInOrder self.new.engine }
-        ensures cause { HasCause (K.faults sink.old) (K.faults sink.new) result }
+        ensures cause { HasStopCause Stop.Sink (K.faults sink.old) (K.faults sink.new) result }
+        ensures disk { HasStopCause Stop.Disk (P.Disk.state site.old).disk_faults
+            (P.Disk.state site.new).disk_faults result }
     {
-        respond(
+        let line = self.line.text();
+        match respond(
             alloc,
             &mut self.engine,
             &mut self.output,
             sink,
             site,
             clock,
-            self.line.text(),
-        )?;
-        self.line.clear();
-        Ok(())
+            line,
+        ) {
+            Ok(()) => {
+                self.line.clear();
+                Ok(())
+            }
+            Err(stop) => Err(stop),
+        }
     }
 }

@@ -1,17 +1,53 @@
-use Rattle.std.proofs.Common.{Some, None, rules}
-use Rattle.cache_engine.proofs.RequestLaws.{goes_on}
+use Rattle.std.proofs.Common.{Some, None, ◌∙◌, refl, sym, subst, ◌≤◌, le_refl}
+use Rattle.cache_engine.proofs.RequestLaws.{line_kept}
+use Rattle.session_cli.proofs.OutputLaws.{splits_none}
+use Rattle.session_cli.proofs.StopLaws.{disk_cause, stop_none}
+use Rattle.session_cli.specs.declared.answering.Stop.TheVariants as stop
 use Rattle.session_cli.proofs.answering.respond.Goals as goal
 
 pub returns-in-Some-clause-serves : goal.returns-in-Some-clause-serves
 returns-in-Some-clause-serves g c = λ w at stands unshared.
-    let served = goes_on g.P.Disk.state g.P.Disk.possible c.args.engine.now c.request.new.engine c.args.site.now c.request.new.site
-    c.line_base-base.result.0 c.args.line.now (Some c.in-Some.reply) c.in-Some.ensures.cause c.in-Some.ensures.none c.in-Some.ensures.performs w at
-    stands unshared in
-    record { base = c.line_base-base.result.0; took = c.line_base-base.ensures; reply = Some c.in-Some.reply; world = served.world; at = served.at; stands = served.left; step = served.is; passed = c.write_reply.ensures.bytes }
+    let it = c.in-Some.ensures.performs w at stands.left unshared stands.keeps in
+    record {
+      base = c.line_base-base.result.0;
+      took = c.line_base-base.ensures;
+      reply = Some c.in-Some.reply;
+      world = it.world;
+      at = it.at;
+      stands = λ whole. record {
+        left = it.left whole;
+        keeps = it.keeps whole;
+        kept = line_kept c.heed_law.ensures c.line_base-base.result.0 w c.args.line.now it.world (Some c.in-Some.reply) it.is ∙ stands.kept;
+      };
+      goes = it.is;
+      tells = c.pass_on.ensures.tells;
+      passed = c.pass_on.ensures.bytes;
+    }
+
+pub returns-in-Some-clause-disk : goal.returns-in-Some-clause-disk
+returns-in-Some-clause-disk g c =
+    disk_cause c.pass_on.result c.args.engine.now.journal (g.P.Disk.state c.args.site.now) (g.P.Disk.state c.request.new.site) c.in-Some.reply c.in-Some.ensures.cause c.pass_on.ensures.tells
 
 pub returns-in-None-clause-serves : goal.returns-in-None-clause-serves
 returns-in-None-clause-serves g c = λ w at stands unshared.
-    let served = goes_on g.P.Disk.state g.P.Disk.possible c.args.engine.now c.request.new.engine c.args.site.now c.request.new.site
-    c.line_base-base.result.0 c.args.line.now None c.in-None.ensures.cause c.in-None.ensures.none c.in-None.ensures.performs w at
-    stands unshared in
-    record { base = c.line_base-base.result.0; took = c.line_base-base.ensures; reply = None; world = served.world; at = served.at; stands = served.left; step = served.is; passed = search rules }
+    let it = c.in-None.ensures.performs w at stands.left unshared stands.keeps in
+    record {
+      base = c.line_base-base.result.0;
+      took = c.line_base-base.ensures;
+      reply = None;
+      world = it.world;
+      at = it.at;
+      stands = λ whole. record {
+        left = it.left whole;
+        keeps = it.keeps whole;
+        kept = line_kept c.heed_law.ensures c.line_base-base.result.0 w c.args.line.now it.world None it.is ∙ stands.kept;
+      };
+      goes = it.is;
+      tells = refl;
+      passed = splits_none (g.K.Sink.written c.args.sink.now) c.args.output.now;
+    }
+
+pub returns-in-None-clause-disk : goal.returns-in-None-clause-disk
+returns-in-None-clause-disk g c =
+    stop_none stop.Disk _ _
+    (subst (λ d. (g.P.Disk.state c.args.site.now).disk_faults ≤ (g.P.Disk.state d).disk_faults) (sym (c.in-None.ensures.silent refl)) (le_refl (g.P.Disk.state c.args.site.now).disk_faults))

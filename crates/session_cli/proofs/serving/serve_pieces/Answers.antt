@@ -1,6 +1,9 @@
-use Rattle.std.proofs.Common.{rules, ◌≡◌, ◌≤◌, ◌++◌, ◌∙◌, ap, length, take, drop, refl, arith, lit≤}
+use Rattle.std.proofs.Common.{rules, ◌≡◌, ◌≤◌, ◌++◌, ◌∙◌, ap, length, take, drop, refl, sym, arith, lit≤}
 use Rattle.std.proofs.lemmas.List.{take-append-le, length-take-le}
-use Rattle.session_cli.proofs.EndsLaws.{alone_given, alone_piece, going_new, taking_new, going_on, taking_on, ended_source, ended_long, ended_all, ended_unwritten, ended_in_piece, taken_failed, taken_long, taken_all, taken_unwritten, taken_in_piece, has_room, fits_room, keeps_length}
+use Rattle.session_cli.proofs.EndsLaws.{alone_given, alone_piece, going_new, taking_new, going_on, taking_on, ended_source, ended_long, ended_all, ended_stopped, ended_in_piece, taken_failed, taken_long, taken_all, taken_stopped, taken_in_piece, has_room, fits_room, keeps_length}
+use Rattle.session_cli.specs.declared.answering.Stop.TheVariants as stop
+use Rattle.session_cli.specs.Ends.{takes_none}
+use Rattle.session_cli.proofs.StopLaws.{is_disk, is_sink, not_source, stop_on, takes_some}
 use Rattle.session_cli.proofs.serving.serve_pieces.Goals as goal
 
 pub loop-room-init : goal.loop-room-init
@@ -13,6 +16,7 @@ loop-room-init g c = record {
   space = c.requires.room;
   read = search rules;
   write = search rules;
+  disk = search rules;
 }
 
 pub returns-in_default-clause-serves : goal.returns-in_default-clause-serves
@@ -38,27 +42,53 @@ returns-in-Ok-finish-clause-takes g c = λ input source.
 pub returns-in-Err-clause-serves : goal.returns-in-Err-clause-serves
 returns-in-Err-clause-serves g c = λ o input source new alone.
     let going = c.loop-room.invariant.going o input source new alone in
-    ended_unwritten o input c.loop-room.room _ _ _ _ c.loop-room.session c.take.new.buf c.in-Ok.count c.if-count-eq0.true c.in-Ok.ensures.bytes going (c.in-Err.ensures.serves o going.taking.given (alone_given o input _ _ going.taking alone) going.serving)
+    rw c.status_of.ensures (ended_stopped c.in-Err.stop o input c.loop-room.room _ _ _ _ c.loop-room.session c.take.new.buf c.in-Ok.count c.if-count-eq0.true c.in-Ok.ensures.bytes going (c.in-Err.ensures.serves o going.taking.given (alone_given o input _ _ going.taking alone) going.serving))
 
 pub returns-in-Err-clause-takes : goal.returns-in-Err-clause-takes
-returns-in-Err-clause-takes g c = λ input source. taken_unwritten input c.loop-room.room _ _ c.take.new.buf c.in-Ok.count c.if-count-eq0.true c.in-Ok.ensures.bytes (c.loop-room.invariant.taking input source)
+returns-in-Err-clause-takes g c = λ input source. rw c.status_of.ensures (taken_stopped c.in-Err.stop input c.loop-room.room _ _ c.take.new.buf c.in-Ok.count c.if-count-eq0.true c.in-Ok.ensures.bytes (c.loop-room.invariant.taking input source))
 
-pub returns-in_default-feed-clause-serves : goal.returns-in_default-feed-clause-serves
-returns-in_default-feed-clause-serves g c = λ o input source new alone.
+pub returns-in-Err-clause-write : goal.returns-in-Err-clause-write
+returns-in-Err-clause-write g c = λ is. (stop_on stop.Sink _ _ _ _ c.loop-room.invariant.write c.in-Err.ensures.cause).failed (is_sink c.in-Err.stop (sym c.status_of.ensures ∙ is))
+
+pub returns-in-Err-clause-disk : goal.returns-in-Err-clause-disk
+returns-in-Err-clause-disk g c = λ is. (stop_on stop.Disk _ _ _ _ c.loop-room.invariant.disk c.in-Err.ensures.disk).failed (is_disk c.in-Err.stop (sym c.status_of.ensures ∙ is))
+
+pub returns-in-Err-clause-read : goal.returns-in-Err-clause-read
+returns-in-Err-clause-read g c = λ is. absurd (not_source c.in-Err.stop (sym c.status_of.ensures ∙ is))
+
+pub returns-in-Err-clause-opened : goal.returns-in-Err-clause-opened
+returns-in-Err-clause-opened g c = ap takes_none c.status_of.ensures ∙ takes_some c.in-Err.stop
+
+pub returns-in-Err-feed-clause-serves : goal.returns-in-Err-feed-clause-serves
+returns-in-Err-feed-clause-serves g c = λ o input source new alone.
     let going = c.loop-room.invariant.going o input source new alone in
     let bytes = take c.in-Ok.count (c.take.new.buf ++ drop c.min-want.result c.loop-room.piece) in
     let are : bytes ≡ take c.in-Ok.count c.take.new.buf = take-append-le c.in-Ok.count c.take.new.buf (drop c.min-want.result c.loop-room.piece) c.in-Ok.ensures.bound in
-    ended_in_piece o input c.loop-room.room _ _ _ _ _ c.loop-room.session c.take.new.buf bytes c.in-Ok.count are (ap length are ∙ length-take-le c.in-Ok.count c.take.new.buf c.in-Ok.ensures.bound)
+    rw c.status_of-in-Err-feed.ensures
+    (ended_in_piece c.in-Err-feed.stop o input c.loop-room.room _ _ _ _ _ c.loop-room.session c.take.new.buf bytes c.in-Ok.count are (ap length are ∙ length-take-le c.in-Ok.count c.take.new.buf c.in-Ok.ensures.bound)
     (fits_room c.take.new.buf c.loop-room.piece c.min-want.result c.loop-room.room c.in-Ok.count c.min-want.ensures c.take.auto.buf c.in-Ok.ensures.bound) refl c.in-Ok.ensures.bytes going
-    (c.in_default-feed.ensures.serves o going.taking.given (alone_piece o input _ _ _ c.take.new.buf bytes c.in-Ok.count are c.in-Ok.ensures.bytes going.taking alone) going.serving)
+    (c.in-Err-feed.ensures.serves o going.taking.given (alone_piece o input _ _ _ c.take.new.buf bytes c.in-Ok.count are c.in-Ok.ensures.bytes going.taking alone) going.serving))
 
-pub returns-in_default-feed-clause-takes : goal.returns-in_default-feed-clause-takes
-returns-in_default-feed-clause-takes g c = λ input source.
+pub returns-in-Err-feed-clause-takes : goal.returns-in-Err-feed-clause-takes
+returns-in-Err-feed-clause-takes g c = λ input source.
     let bytes = take c.in-Ok.count (c.take.new.buf ++ drop c.min-want.result c.loop-room.piece) in
     let are : bytes ≡ take c.in-Ok.count c.take.new.buf = take-append-le c.in-Ok.count c.take.new.buf (drop c.min-want.result c.loop-room.piece) c.in-Ok.ensures.bound in
-    taken_in_piece input _ _
+    rw c.status_of-in-Err-feed.ensures
+    (taken_in_piece c.in-Err-feed.stop input _ _
     (taking_on input c.loop-room.room _ _ _ c.take.new.buf bytes c.in-Ok.count are (ap length are ∙ length-take-le c.in-Ok.count c.take.new.buf c.in-Ok.ensures.bound)
-    (fits_room c.take.new.buf c.loop-room.piece c.min-want.result c.loop-room.room c.in-Ok.count c.min-want.ensures c.take.auto.buf c.in-Ok.ensures.bound) refl c.in-Ok.ensures.bytes (c.loop-room.invariant.taking input source))
+    (fits_room c.take.new.buf c.loop-room.piece c.min-want.result c.loop-room.room c.in-Ok.count c.min-want.ensures c.take.auto.buf c.in-Ok.ensures.bound) refl c.in-Ok.ensures.bytes (c.loop-room.invariant.taking input source)))
+
+pub returns-in-Err-feed-clause-write : goal.returns-in-Err-feed-clause-write
+returns-in-Err-feed-clause-write g c = λ is. (stop_on stop.Sink _ _ _ _ c.loop-room.invariant.write c.in-Err-feed.ensures.cause).failed (is_sink c.in-Err-feed.stop (sym c.status_of-in-Err-feed.ensures ∙ is))
+
+pub returns-in-Err-feed-clause-disk : goal.returns-in-Err-feed-clause-disk
+returns-in-Err-feed-clause-disk g c = λ is. (stop_on stop.Disk _ _ _ _ c.loop-room.invariant.disk c.in-Err-feed.ensures.disk).failed (is_disk c.in-Err-feed.stop (sym c.status_of-in-Err-feed.ensures ∙ is))
+
+pub returns-in-Err-feed-clause-read : goal.returns-in-Err-feed-clause-read
+returns-in-Err-feed-clause-read g c = λ is. absurd (not_source c.in-Err-feed.stop (sym c.status_of-in-Err-feed.ensures ∙ is))
+
+pub returns-in-Err-feed-clause-opened : goal.returns-in-Err-feed-clause-opened
+returns-in-Err-feed-clause-opened g c = ap takes_none c.status_of-in-Err-feed.ensures ∙ takes_some c.in-Err-feed.stop
 
 pub loop-room-preserved : goal.loop-room-preserved
 loop-room-preserved g c =
@@ -79,6 +109,7 @@ loop-room-preserved g c =
       space = omega (arith, keeps_length c.take.new.buf c.loop-room.piece c.min-want.result c.take.auto.buf, c.loop-room.invariant.space);
       read = search rules;
       write = search rules;
+      disk = search rules;
     }
 
 pub returns-clause-serves : goal.returns-clause-serves

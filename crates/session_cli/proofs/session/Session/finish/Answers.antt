@@ -1,9 +1,7 @@
-use Rattle.std.proofs.Common.{refl}
-use Rattle.session_cli.proofs.ServingLaws.{closes_failed, finishes_closed}
 use Rattle.session_cli.proofs.session.Session.finish.Goals as goal
 
-pub returns-in_err-end_input-clause-serves : goal.returns-in_err-end_input-clause-serves
-returns-in_err-end_input-clause-serves g c = λ o given alone s. closes_failed c.in_err-end_input.field-0.0 _ o given _ c.end_input.new.self.output c.from_residual.ensures.0 (c.in_err-end_input.ensures.serves o given alone s)
+pub returns-in-Ok-clause-serves : goal.returns-in-Ok-clause-serves
+returns-in-Ok-clause-serves g c = λ o given alone s. c.end_engine.ensures.serves o given (g.C.Clock.coming c.end_input.new.clock) (c.in-Ok.ensures.serves o given alone s)
 
-pub returns-clause-serves : goal.returns-clause-serves
-returns-clause-serves g c = λ o given alone s. finishes_closed _ o given _ _ c.end_input.new.self.output c.flush.new.self refl (c.in_ok-end_input.ensures.serves o given alone s) c.flush.ensures.bytes c.flush.ensures.empty
+pub returns-in-Err-clause-serves : goal.returns-in-Err-clause-serves
+returns-in-Err-clause-serves g c = λ o given alone s. c.in-Err.ensures.serves o given alone s

@@ -1,0 +1,121 @@
+-- The end of the input: what waits in the journal's tail is flushed, and the last replies are written.
+use Rattle.std.proofs.Common.{◌≡◌, ◌⊎◌, ℕ, List, [], ◌∷◌, ◌++◌, take, Bool, true, false, Option, Some, None, Result, Ok, Err, inl, inr, refl, sym, ◌∙◌, ap, subst, append-nil}
+use Rattle.std.specs.Bool.{MatchBool}
+use Rattle.std.specs.Result.{OnOk}
+use Rattle.outside.specs.Holding.{Held}
+use Rattle.outside.specs.Sites.{SiteState}
+use Rattle.table_state.specs.declared.operation.Op.{Op}
+use Rattle.cache_tier.specs.Journals.{Journal, JournalEntry, flushed_batch}
+use Rattle.cache_tier.specs.JournalSteps.{Failing, Flushed, Flushes, FlushesKept, Whole, flush_stop, journal_behind, name_sizes}
+use Rattle.cache_tier.specs.Replying.{replies_bytes, reply_bytes}
+use Rattle.cache_tier.specs.Rounds.{IsDrained}
+use Rattle.cache_tier.specs.Worlds.{Passes, World}
+use Rattle.cache_tier.specs.declared.reply.Reply.{Reply}
+use Rattle.kept_journal.specs.Keeping.{over_disk}
+use Rattle.tier_journal.specs.declared.journal.TierJournal.{TierJournal}
+use Rattle.cache_engine.specs.Finishing.{IsFinished}
+use Rattle.cache_engine.specs.declared.engine.Engine.{Engine}
+use Rattle.cache_engine.proofs.EngineLaws.{known_of}
+use Rattle.session_cli.specs.declared.answering.Stop.{Stop}
+use Rattle.session_cli.specs.declared.answering.Stop.TheVariants as stop
+use Rattle.session_cli.specs.Cutting.{all_lines}
+use Rattle.session_cli.specs.Outside.{Outside, seen}
+use Rattle.session_cli.specs.Output.{Breaks, Splits}
+use Rattle.session_cli.specs.Serving.{Answered, Closing, EndBroken, Finishes, HasFlushed, Origin, PassesReply, WritesLast}
+use Rattle.session_cli.specs.Timing.{Coming}
+use Rattle.session_cli.proofs.DrainedLaws.{drained_of}
+use Rattle.session_cli.proofs.OutputLaws.{breaks_then, splits_then}
+use Rattle.session_cli.proofs.ServingLaws.{replies_push, told_after, told_whole}
+
+-- NOTHING WAITS BEHIND A FLUSH
+
+batch_clears : (name : Op → ℕ) (batch : List JournalEntry) (j : Journal) → batch ≡ j.tail ++ [] → ((flushed_batch name batch j).kept ≡ j.kept) × ((flushed_batch name batch j).tail ≡ [])
+batch_clears name [] j is = (refl, sym (append-nil j.tail) ∙ sym is)
+batch_clears name (e ∷ batch) j is = (refl, refl)
+
+kept_clears : (result : Flushed) (w w' : World) (x : FlushesKept [] w w' None) → x.result ≡ result → (w'.journal.kept ≡ w.journal.kept) × (w'.journal.tail ≡ [])
+kept_clears Whole w w' x is =
+    let journal : w'.journal ≡ flushed_batch (name_sizes w) (w.journal.tail ++ []) w.journal = x.journal ∙ ap (λ r. journal_behind r w []) is in
+    let b = batch_clears (name_sizes w) (w.journal.tail ++ []) w.journal refl in
+    (ap (λ (j : Journal). j.kept) journal ∙ b.0, ap (λ (j : Journal). j.tail) journal ∙ b.1)
+kept_clears Failing w w' x is =
+    let never : None ≡ flush_stop Failing = x.end ∙ ap flush_stop is in
+    absurd (no_stop never)
+  where
+    no_stop : {X : Type 0} {y : X} → (None ≡ Some y) → ⊥
+    no_stop e = cc
+
+flush_clears : (w w' : World) → w.journal.kept ≡ true → Flushes [] w w' None → HasFlushed w w'
+flush_clears w w' kept flushed =
+    let x : FlushesKept [] w w' None = subst (λ b. MatchBool b (FlushesKept [] w w' None) (Passes w w' None)) kept flushed in
+    let c = kept_clears x.result w w' x refl in
+    record { flushed = flushed; kept = c.0 ∙ kept; empty = c.1 }
+
+-- that all is drained asks for no journal and no count
+drained_over : (w : World) (j : Journal) (faults moment : ℕ) → IsDrained w → IsDrained (over_disk j faults moment w)
+drained_over w j faults moment x = record { settled = x.settled; ordered = x.ordered }
+
+module _ {D : Type 0} (state : D → SiteState) (possible : D → ℕ → Held → Type 0) (o : Origin) (given : List ℕ) (written written' : Option (List ℕ)) (coming : Coming) (d d' : D) (engine : Engine) (k' : Option TierJournal) (waiting : List ℕ)
+    (c : Closing o (all_lines given) (seen written coming state possible d) engine waiting) where
+  -- the tail is flushed
+  flushed_here : IsFinished state possible k' d' None c.world → Answered HasFlushed o (all_lines given) c.replies (state d')
+  flushed_here x =
+      let known = known_of engine.tier engine.doubt c.world c.stands.left in
+      record {
+        ran = c.world;
+        comes = c.comes;
+        last = over_disk x.journal x.faults (state d').moment c.world;
+        ended = flush_clears c.world (over_disk x.journal x.faults (state d').moment c.world) c.stands.kept x.is;
+        at = x.at;
+        legal = known.legal;
+        drained = λ none settled. drained_over c.world x.journal x.faults (state d').moment (drained_of c.world (known.stands none) settled);
+        read = known.read;
+      }
+
+  pub finishes_flushed : (r : Result (Unit {0}) Stop) (waiting' : List ℕ) → (r ≡ Err stop.Disk → ⊥) → IsFinished state possible k' d' None c.world → PassesReply r written written' waiting waiting' [] → OnOk r (waiting' ≡ [])
+      → Finishes r o given (seen written' coming state possible d')
+  finishes_flushed (Ok done) waiting' sunk x p none = record {
+    replies = c.replies;
+    answered = flushed_here x;
+    tells = told_whole o.written written' (replies_bytes c.replies)
+        (subst (λ (w : List ℕ). Splits (Some o.written) written' (replies_bytes c.replies) w) none
+        (subst (λ (l : List ℕ). Splits (Some o.written) written' l waiting') (append-nil (replies_bytes c.replies)) (splits_then (Some o.written) written written' (replies_bytes c.replies) waiting [] waiting' c.passed p)));
+  }
+  finishes_flushed (Err stop.Sink) waiting' sunk x p none =
+      let b : Breaks (Some o.written) written' (replies_bytes c.replies) = subst (λ (l : List ℕ). Breaks (Some o.written) written' l) (append-nil (replies_bytes c.replies)) (breaks_then (Some o.written) written written' (replies_bytes c.replies) waiting [] c.passed p) in
+      record {
+        replies = c.replies;
+        answered = inr (inl (flushed_here x));
+        count = b.count;
+        tells = told_after o.written written' (take b.count (replies_bytes c.replies)) b.written;
+      }
+  finishes_flushed (Err stop.Disk) waiting' sunk x p none = absurd (sunk refl)
+
+  -- it couldn't be flushed
+  broken_here : (reply : Reply) → IsFinished state possible k' d' (Some reply) c.world → EndBroken o (all_lines given) (c.replies ++ Some reply ∷ []) (state d')
+  broken_here reply x = record {
+    told = c.replies;
+    ran = c.world;
+    comes = c.comes;
+    last = over_disk x.journal x.faults (state d').moment c.world;
+    reply = reply;
+    ended = x.is;
+    at = x.at;
+    are = refl;
+  }
+
+  pub finishes_broken : (why : Stop) (reply : Reply) → IsFinished state possible k' d' (Some reply) c.world → WritesLast why written written' waiting (reply_bytes (Some reply)) → Finishes (Err why) o given (seen written' coming state possible d')
+  finishes_broken stop.Sink reply x p =
+      let b : Breaks (Some o.written) written' (replies_bytes c.replies ++ reply_bytes (Some reply)) = breaks_then (Some o.written) written written' (replies_bytes c.replies) waiting (reply_bytes (Some reply)) c.passed p in
+      record {
+        replies = c.replies ++ Some reply ∷ [];
+        answered = inr (inr (inr (broken_here reply x)));
+        count = b.count;
+        tells = told_after o.written written' (take b.count (replies_bytes c.replies ++ reply_bytes (Some reply))) b.written ∙ ap (λ l. Some (o.written ++ take b.count l)) (sym (replies_push c.replies (Some reply)));
+      }
+  finishes_broken stop.Disk reply x p = record {
+    replies = c.replies ++ Some reply ∷ [];
+    broken = inr (broken_here reply x);
+    tells = told_whole o.written written' (replies_bytes c.replies ++ reply_bytes (Some reply)) (splits_then (Some o.written) written written' (replies_bytes c.replies) waiting (reply_bytes (Some reply)) [] c.passed p)
+        ∙ ap (λ l. Some (o.written ++ l)) (sym (replies_push c.replies (Some reply)));
+  }

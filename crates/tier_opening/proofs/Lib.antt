@@ -1,0 +1,4 @@
+pub mod BeginLaws
+pub mod FoundLaws
+pub mod KeepLaws
+pub mod NewLaws

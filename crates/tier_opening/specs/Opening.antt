@@ -1,0 +1,101 @@
+-- A tier that is opened over the journal and the backing database that a site holds. (TimesTen Cache User's Guide,
+-- "Recovery"; the journal is this project's.)
+
+use Rattle.std.specs.Prelude.{◌≡◌, ℕ, List, ◌++◌, Some, None, false}
+use Rattle.table_defs.specs.declared.definition.TableDef.{TableDef}
+use Rattle.table_state.specs.declared.history.Entry.{Entry}
+use Rattle.tier_base.specs.declared.number.TableId.{TableId}
+use Rattle.table_state.specs.Histories.{has_ticket, state_of}
+use Rattle.table_state.specs.Tables.{TableState}
+use Rattle.outside.specs.Holding.{Held, Slots}
+use Rattle.outside.specs.Others.{AreOthers}
+use Rattle.outside.specs.Sites.{SiteState}
+use Rattle.commit_journal.specs.Layout.{Placed, Reads}
+use Rattle.commit_journal.specs.Opening.{HaveBytes, IsBlank}
+use Rattle.cache_tier.specs.Journals.{Journal, JournalEntry}
+use Rattle.cache_tier.specs.TierStates.{Settings, Tier, opened}
+use Rattle.cache_tier.specs.Worlds.{IsUnshared, World}
+use Rattle.tier_journal.specs.declared.journal.TierJournal.{TierJournal}
+use Rattle.tier_journal.specs.Opening.{StandForAll, opened_journal}
+use Rattle.kept_journal.specs.Keeping.{IsOver}
+use Rattle.recovery.specs.Recalling.{AreMatched, RecallsAll, recalled}
+use Rattle.recovery.specs.Reopening.{Reopens, with_sets_begun}
+use Rattle.stored_tier.specs.declared.tier.Tier.{Tier as Stored}
+use Rattle.stored_tier.specs.Performing.{StandsFor}
+use Rattle.stored_tier.specs.Sites.{IsAt}
+
+-- the slots of the disk say these entries, whose tables are the schema's
+pub record Say (schema : List TableDef) (slots : Slots) (entries : List JournalEntry) : Type 0 where
+  pub placed : List Placed
+  pub reads : Reads slots placed None
+  pub stand : StandForAll schema entries placed
+
+-- the tier that the entries leave over the history, as it begins
+abbrev pub begun_tier : List TableDef → List JournalEntry → List Entry → Tier → Tier
+begun_tier schema entries history catalog = with_sets_begun (recalled schema entries history catalog)
+
+-- a tier in its world, beside a site in this state
+abbrev pub world_of : Tier → List Entry → Journal → SiteState → World
+world_of tier history journal site =
+    record {
+      tier = tier;
+      history = history;
+      journal = journal;
+      bank_faults = site.bank_faults;
+      disk_faults = site.disk_faults;
+      moment = site.moment;
+      shared = site.shared;
+    }
+
+-- The world in which the tier begins: transactions of others have come to the history that was held; the journal has the
+-- entries that the slots say; and the tier is what they leave.
+pub record BeginsIn (settings : Settings) (moment : ℕ) (o : Held) (k : TierJournal) (w : World) : Type 0 where
+  pub others : List Entry
+  pub came : AreOthers w.shared o.history others
+  pub history : w.history ≡ o.history ++ others
+  pub schema : List TableDef
+  pub known : (s : TableState) → state_of w.history ≡ Some s → s.schema ≡ schema
+  pub entries : List JournalEntry
+  pub say : Say schema o.slots entries
+  pub journal : w.journal ≡ opened_journal k entries
+  pub catalog : Tier
+  pub recalls : RecallsAll entries (opened settings moment schema) catalog
+  pub tier : w.tier ≡ begun_tier schema entries w.history catalog
+
+-- The tier was opened again: it stands for this world, at the site, and the journal is kept over the disk.
+pub record IsOpenedIn {D : Type 0} (state : D → SiteState) (possible : D → ℕ → Held → Type 0) (begun : World)
+    (t : Stored) (k : TierJournal) (d : D) : Type 0 where
+  pub world : World
+  pub at : IsAt (state d) world
+  pub stands : StandsFor t world
+  pub keeps : IsOver state possible d k world
+  pub reopens : Reopens begun world None
+
+-- So it is where the entries and the history belong together, and others change no table of a writethrough group.
+pub record IsOpened {D : Type 0} (state : D → SiteState) (possible : D → ℕ → Held → Type 0) (settings : Settings)
+    (moment : ℕ) (shared : List TableId) (o : Held) (t : Stored) (k : TierJournal) (d : D) : Type 0 where
+  pub begun : World
+  pub shares : begun.shared ≡ shared
+  pub begins : BeginsIn settings moment o k begun
+  pub opened : AreMatched begins.entries begun.history → IsUnshared begun → IsOpenedIn state possible begun t k d
+
+-- the same for each settings with this span between rounds, where the site tells what it holds
+abbrev pub Opens : {D : Type 0} → (D → SiteState) → (D → ℕ → Held → Type 0) → ℕ → ℕ → D → D → Stored → TierJournal
+    → Type 0
+Opens state possible moment propagate_ms d d' t k =
+    (o : Held) (settings : Settings) → (state d).held ≡ Some o → HaveBytes o.slots
+    → settings.propagate_ms ≡ propagate_ms → IsOpened state possible settings moment (state d).shared o t k d'
+
+-- Journal and history belong together: whatever others do in the opening, the entries that the slots say match the
+-- history, and others change no table of a writethrough group that they leave.
+abbrev pub MayOpen : List TableId → Held → Type 0
+MayOpen shared o =
+    (settings : Settings) (moment : ℕ) (k : TierJournal) (w : World) (b : BeginsIn settings moment o k w)
+    → w.shared ≡ shared → AreMatched b.entries w.history × IsUnshared w
+
+-- no slot is live, and no transaction of a tier stands in the history, which leaves a state
+pub record IsNewSite (o : Held) : Type 0 where
+  pub blank : IsBlank o.slots
+  pub state : TableState
+  pub leaves : state_of o.history ≡ Some state
+  pub none : (ticket : ℕ) → has_ticket ticket o.history ≡ false
