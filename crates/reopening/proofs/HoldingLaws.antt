@@ -224,22 +224,28 @@ unwanted t seen place not_so w at stands apart = record {
   is = λ g there. subst (λ b. MatchBool b (HoldsAgainAt place w w None) (Passes w w None)) (sym (ap is_held_at (sym (seen_there t w place g stands there)) ∙ not_so)) (refl, refl);
 }
 
+some_held : (o : Option Group) → is_held_at o ≡ true → (seen : Group) × (o ≡ Some seen) × (is_held_again seen ≡ true)
+some_held None e = cc
+some_held (Some g) e = (g, refl, e)
+
+wanted_with : (old new : Stored) (before after : SiteState) (place : ℕ) (seen : Group) (stop : Option Reply) → slice_get (groups_in old.catalog) place ≡ Some seen → is_held_again seen ≡ true
+    → Performs old new before after (λ w w'. HoldsAgainAt place w w' stop) → Performs old new before after (λ w w'. HoldsIfWanted place w w' stop)
+wanted_with old new before after place seen stop there wanted does w at stands apart =
+    let r = does w at stands apart in
+    record {
+      world = r.world;
+      at = r.at;
+      stands = r.stands;
+      is = λ g spot.
+          let same : without_list g ≡ seen = same_some (sym (seen_there old w place g stands spot) ∙ there) in
+          subst (λ b. MatchBool b (HoldsAgainAt place w r.world stop) (Passes w r.world stop)) (sym (ap is_held_again same ∙ wanted)) r.is;
+    }
+
 pub wanted_so : (old new : Stored) (before after : SiteState) (place : ℕ) (stop : Option Reply) → is_held_at (slice_get (groups_in old.catalog) place) ≡ true
     → ((seen : Group) → slice_get (groups_in old.catalog) place ≡ Some seen → is_held_again seen ≡ true → Performs old new before after (λ w w'. HoldsAgainAt place w w' stop)) → Performs old new before after (λ w w'. HoldsIfWanted place w w' stop)
-wanted_so old new before after place stop wanted does = by (slice_get (groups_in old.catalog) place) refl wanted
-  where
-    by : (o : Option Group) → slice_get (groups_in old.catalog) place ≡ o → is_held_at o ≡ true → Performs old new before after (λ w w'. HoldsIfWanted place w w' stop)
-    by None there yes_it = cc
-    by (Some seen) there yes_it = λ w at stands apart.
-        let r = does seen there yes_it w at stands apart in
-        record {
-          world = r.world;
-          at = r.at;
-          stands = r.stands;
-          is = λ g spot.
-              let same : without_list g ≡ seen = same_some (sym (seen_there old w place g stands spot) ∙ there) in
-              subst (λ b. MatchBool b (HoldsAgainAt place w r.world stop) (Passes w r.world stop)) (sym (ap is_held_again same ∙ yes_it)) r.is;
-        }
+wanted_so old new before after place stop wanted does =
+    let (seen, there, held) = some_held (slice_get (groups_in old.catalog) place) wanted in
+    wanted_with old new before after place seen stop there held (does seen there held)
 
 -- one after the other
 

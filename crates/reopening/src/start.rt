@@ -46,7 +46,9 @@ impl Drop for Start {
 impl Start {
     // The schema, the groups and the commits.
     pub(crate) fn into_parts(self) -> (BackingSchema, Catalog, VecDeque<Sealed>)
-        ensures { result ≡ (self.schema, self.catalog, self.commits) }
+        ensures schema { result.0 ≡ self.schema }
+        ensures catalog { result.1 ≡ self.catalog }
+        ensures commits { result.2 ≡ self.commits }
     {
         let Self {
             schema,
