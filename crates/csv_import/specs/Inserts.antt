@@ -7,6 +7,7 @@ use Rattle.std.specs.List.{list_all, list_any}
 use Rattle.std.specs.Option.{option_map}
 use Rattle.std.specs.Str.{is_utf8}
 use Rattle.csv.specs.Reading.{default_config, records, strip_bom}
+use Rattle.csv.specs.Records.{Row, fields_of}
 use Rattle.tier_base.specs.Limits.{greatest}
 use Rattle.tier_base.specs.Names.{spells}
 use Rattle.tier_base.specs.declared.code.Code.TheVariants as code
@@ -141,3 +142,7 @@ PutsAll r (Err refused.Memory) old new = Unit {0}
 -- the fields from a place on begin with this one
 abbrev pub BeginsFrom : List (List ℕ) → ℕ → Bor (List ℕ) → Type 0
 BeginsFrom fields place field = drop place fields ≡ field.now ∷ drop (place + 1) fields
+
+-- this text has the fields, a field for each column
+abbrev pub IsRecord : List Column → List (List ℕ) → Row → Type 0
+IsRecord columns fields text = (is_record columns fields ≡ true) × (fields_of text ≡ fields)

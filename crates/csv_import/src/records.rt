@@ -1,12 +1,12 @@
 //! The records of a file.
 
-ghost use Rattle.std.specs.Prelude.{◌≡◌, ◌+◌, ◌-◌, ◌^◌, ◌≤◌, [], Err, Ok, IfSome, MatchOption, drop};
+ghost use Rattle.std.specs.Prelude.{◌≡◌, ◌+◌, ◌-◌, ◌^◌, ◌≤◌, [], IfOk, IfSome, MatchOption, drop, false, vec_items};
 ghost use Rattle.csv.specs.Records.{fields_of};
 ghost use Rattle.row_types.specs.declared.rule.Refused.TheVariants as refused;
 ghost use Rattle.tier_base.specs.declared.code.Code.TheVariants as code;
 ghost use Rattle.tier_base.specs.Names.{spells};
-ghost use Rattle.evaluator.specs.Rules.{Gives, about};
-ghost use Rattle.csv_import.specs.Inserts.{BeginsFrom, PutsAll, given_by, insert_in, literal_of, literals_in, name_columns, value_in, wrong_record};
+ghost use Rattle.evaluator.specs.Rules.{Gives, about, then_do};
+ghost use Rattle.csv_import.specs.Inserts.{BeginsFrom, GivesAll, IsRecord, PutsAll, given_by, insert_in, is_record, kept_insert, literal_of, literals_in, name_columns, value_in, wrong_record};
 
 use crate::fields::value_in;
 use csv::{ByteRecord, StringRecord};
@@ -15,7 +15,7 @@ use evaluator::refusing::over_limit;
 use evaluator::{Action, Change};
 use expressions::{Expr, NoColumns};
 use row_types::{Column, Detail, Refused, Rule};
-use std::alloc::Global;
+use std::alloc::{AllocError, Global};
 use tier_base::{Code, Limit, Name, Seq, TableId};
 
 /// Takes the record of a number: the header is number 0, and any other one's INSERT comes behind those before it.
@@ -63,19 +63,54 @@ fn insert_in(
 ) -> Result<Change, Refused>
     ensures { Gives (insert_in table columns.now number (fields_of raw)) result }
 {
-    if raw.len() != columns.len() {
-        return Err(wrong_record(number));
+    match text_record(columns, raw) {
+        None => Err(wrong_record(number)),
+        Some(text) => kept_insert(alloc, table, columns, text.as_byte_record()),
     }
-    let Ok(text) = StringRecord::from_byte_record(raw) else {
-        return Err(wrong_record(number));
-    };
-    let mut values = Vec::with_capacity(alloc, columns.len())?;
-    read_values(alloc, columns, text.as_byte_record(), 0, &mut values)?;
+}
+
+/// The record, where it has a field for each column and all its fields are UTF-8.
+#[tactic(auto, using(crate::proofs::FieldLaws::all_text, crate::proofs::FieldLaws::some_no_text))]
+fn text_record(columns: &[Column], raw: ByteRecord) -> Option<StringRecord>
+    ensures { MatchOption result (is_record columns.now (fields_of raw) ≡ false) (IsRecord columns.now (fields_of raw)) }
+{
+    if raw.len() != columns.len() {
+        return None;
+    }
+    match StringRecord::from_byte_record(raw) {
+        Ok(text) => Some(text),
+        Err(_) => None,
+    }
+}
+
+/// The INSERT of a record's fields, one for each column.
+fn kept_insert(
+    alloc: Global,
+    table: TableId,
+    columns: &[Column],
+    raw: &ByteRecord,
+) -> Result<Change, Refused>
+    ensures { Gives (then_do (kept_insert table columns.now) (literals_in columns.now (fields_of raw.now))) result }
+{
+    let values = literals_in(alloc, columns, raw)?;
     build_row(alloc, columns, values.as_slice(), &NoColumns)?;
     Ok(Change {
         table,
         action: Action::Insert(Seq::from_vec(values)),
     })
+}
+
+/// The values of a record's fields, one for each column.
+fn literals_in(
+    alloc: Global,
+    columns: &[Column],
+    raw: &ByteRecord,
+) -> Result<Vec<Expr>, Refused>
+    ensures { GivesAll vec_items (literals_in columns.now (fields_of raw.now)) result }
+{
+    let mut values = Vec::with_capacity(alloc, columns.len())?;
+    read_values(alloc, columns, raw, 0, &mut values)?;
+    Ok(values)
 }
 
 /// Puts the values of the fields from a place on, one for each column, behind those before.
@@ -105,7 +140,7 @@ fn literal_of(alloc: Global, column: &Column, field: &[u8]) -> Result<Expr, Refu
     ensures { Gives (literal_of column.now.name (value_in column.now.ty field.now)) result }
 {
     match value_in(alloc, column.ty, field)? {
-        None => Err(unread(alloc, &column.name)),
+        None => Err(Refused::Rule(unread(alloc, &column.name)?)),
         Some(value) => Ok(Expr::Literal(value)),
     }
 }
@@ -155,15 +190,15 @@ pub(crate) fn wrong_record(number: u64) -> Refused
     })
 }
 
-/// 105 of a column, or want of memory for its name.
-fn unread(alloc: Global, name: &Name) -> Refused
-    ensures { Gives (Err (about code.OutOfRange name.now)) (Err result) }
+/// 105 of a column.
+///
+/// The error is want of memory for its name.
+fn unread(alloc: Global, name: &Name) -> Result<Rule, AllocError>
+    ensures { IfOk result (λ rule. rule ≡ about code.OutOfRange name.now) }
 {
-    match name.copied(alloc) {
-        Err(_) => Refused::Memory,
-        Ok(name) => Refused::Rule(Rule {
-            code: Code::OutOfRange,
-            detail: Detail::Name(name),
-        }),
-    }
+    let name = name.copied(alloc)?;
+    Ok(Rule {
+        code: Code::OutOfRange,
+        detail: Detail::Name(name),
+    })
 }
