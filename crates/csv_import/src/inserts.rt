@@ -43,7 +43,14 @@ pub fn read_inserts(
         let Ok(raw) = row else {
             return Err(Refused::Memory);
         };
-        take_record(alloc, table, def.columns.as_slice(), number, raw, &mut inserts)?;
+        take_record(
+            alloc,
+            table,
+            def.columns.as_slice(),
+            number,
+            raw,
+            &mut inserts,
+        )?;
         number += 1;
     }
     if number == 0 {

@@ -101,11 +101,7 @@ fn kept_insert(
 }
 
 /// The values of a record's fields, one for each column.
-fn literals_in(
-    alloc: Global,
-    columns: &[Column],
-    raw: &ByteRecord,
-) -> Result<Vec<Expr>, Refused>
+fn literals_in(alloc: Global, columns: &[Column], raw: &ByteRecord) -> Result<Vec<Expr>, Refused>
     ensures { GivesAll vec_items (literals_in columns.now (fields_of raw.now)) result }
 {
     let mut values = Vec::with_capacity(alloc, columns.len())?;
