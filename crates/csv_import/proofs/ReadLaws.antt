@@ -22,7 +22,8 @@ use Rattle.tier_base.specs.declared.limit.Limit.TheVariants.{Operations}
 use Rattle.evaluator.specs.declared.change.Change.{Change}
 use Rattle.evaluator.specs.Rules.{added, limit}
 use Rattle.evaluator.proofs.RuleLaws.{added-assoc, added-nil, nil-added}
-use Rattle.csv_import.specs.Inserts.{GivesAll, PutsAll, given_by, insert_in, inserts_from, listed, name_columns, records_in, wrong_record}
+use Rattle.csv_import.specs.Reading.{PutsAll}
+use Rattle.csv_import.specs.Inserts.{GivesAll, given_by, insert_in, inserts_from, listed, name_columns, records_in, wrong_record}
 
 -- a record that ends leaves no field at hand
 after_line : (t : Terminator) (c : ℕ) → ends_at_end (after_end t c) ≡ false

@@ -1,13 +1,11 @@
--- The INSERTs of a CSV file. (What a record and a field are is told by RFC 4180 and the crate csv; codes and their order are
--- this project's rule.)
+-- The INSERTs of a CSV file. (RFC 4180 and the crate csv say what a record and a field are; codes and their order are this
+-- project's rule.)
 
-use Rattle.std.specs.Prelude.{◌≡◌, ℕ, ◌+◌, ◌==◌, nat_le, nat_lt, Bool, true, false, ◌&&◌, ◌||◌, not, if◌then◌else◌, List, [], ◌∷◌, ◌++◌, length, drop, Option, Some, None, Result, Ok, Err}
-use Rattle.std.specs.Borrow.{Bor}
+use Rattle.std.specs.Prelude.{◌≡◌, ℕ, ◌+◌, ◌==◌, nat_le, nat_lt, Bool, true, false, ◌&&◌, ◌||◌, not, if◌then◌else◌, List, [], ◌∷◌, length, Option, Some, None, Result, Ok, Err}
 use Rattle.std.specs.List.{list_all, list_any}
 use Rattle.std.specs.Option.{option_map}
 use Rattle.std.specs.Str.{is_utf8}
 use Rattle.csv.specs.Reading.{default_config, records, strip_bom}
-use Rattle.csv.specs.Records.{Row, fields_of}
 use Rattle.tier_base.specs.Limits.{greatest}
 use Rattle.tier_base.specs.Names.{spells}
 use Rattle.tier_base.specs.declared.code.Code.TheVariants as code
@@ -32,8 +30,8 @@ use Rattle.evaluator.specs.declared.change.Change.{Change}
 use Rattle.evaluator.specs.Rules.{about, added, limit, then_do}
 use Rattle.evaluator.specs.Writes.{built}
 
--- the records of a file, each as its fields: those that csv reads with its defaults, the first record among them; lines
--- without bytes are none
+-- the records of a file, each as its fields: those that csv reads with its defaults, the first one among them; a line
+-- without bytes is none
 abbrev pub records_in : List ℕ → List (List (List ℕ))
 records_in bytes = records default_config (strip_bom bytes)
 
@@ -60,8 +58,8 @@ is_text_byte b = (b == 9) || (nat_le 32 b && not (b == 127))
 abbrev pub plain_text : List ℕ → Option Value
 plain_text field = if list_all is_text_byte field then Some (Text field) else None
 
--- the value that a field with bytes writes for a column of this type: a number as a literal writes it, without a point for a
--- column of integers; a text as it stands; a time as it is printed
+-- the value that a field with bytes writes for a column of this type: a number as a literal writes it, without a point
+-- for a column of integers; a text as it stands; a time as it is printed
 abbrev pub value_written : Ty → List ℕ → Option Value
 value_written ty.TtInteger field = whole_value field
 value_written ty.TtBigint field = whole_value field
@@ -90,7 +88,7 @@ literals_in (column ∷ columns) [] = Ok []
 literals_in (column ∷ columns) (field ∷ fields) =
     added (listed (literal_of column.name (value_in column.ty field))) (literals_in columns fields)
 
--- the INSERT of these values into the whole row
+-- an INSERT of these values, one for each column of the table
 abbrev pub insert_of : TableId → List Expr → Change
 insert_of table values = record { table = table; action = Insert values }
 
@@ -102,15 +100,15 @@ kept_insert table columns values = then_do (λ row. Ok (insert_of table values))
 abbrev pub is_record : List Column → List (List ℕ) → Bool
 is_record columns fields = (length fields == length columns) && list_all is_utf8 fields
 
--- the INSERT of the record of this number: 101 of the record, then 105 of a field that doesn't read, then 105 and 106 of what
--- was read
+-- the INSERT of the record of this number: 101 of the record, then 105 of a field that doesn't read, then 105 and 106 of
+-- what was read
 abbrev pub insert_in : TableId → List Column → ℕ → List (List ℕ) → Result Change Rule
 insert_in table columns number fields =
     if is_record columns fields then then_do (kept_insert table columns) (literals_in columns fields)
     else Err (wrong_record number)
 
--- what the record of this number gives: nothing of the header, which is number 0 and names the columns; the INSERT of another
--- one, of which a transaction has so many
+-- what the record of this number gives: number 0 is the header, which names the columns and gives nothing; a record past
+-- the number of operations that a transaction may have is 119; any other one gives its INSERT
 abbrev pub given_by : TableId → List Column → ℕ → List (List ℕ) → Result (List Change) Rule
 given_by table columns number fields =
     if number == 0 then (if name_columns columns fields then Ok [] else Err (wrong_record 0))
@@ -132,17 +130,3 @@ abbrev pub GivesAll : {A V : Type 0} → (V → List A) → Result (List A) Rule
 GivesAll items r (Ok v) = r ≡ Ok (items v)
 GivesAll items r (Err (refused.Rule e)) = r ≡ Err e
 GivesAll items r (Err refused.Memory) = Unit {0}
-
--- what a call puts behind a list, or the broken rule; memory may be wanting at any time
-abbrev pub PutsAll : {A : Type 0} → Result (List A) Rule → Result (Unit {0}) Refused → List A → List A → Type 0
-PutsAll {A} r (Ok u) old new = (more : List A) × (r ≡ Ok more) × (new ≡ old ++ more)
-PutsAll r (Err (refused.Rule e)) old new = r ≡ Err e
-PutsAll r (Err refused.Memory) old new = Unit {0}
-
--- the fields from a place on begin with this one
-abbrev pub BeginsFrom : List (List ℕ) → ℕ → Bor (List ℕ) → Type 0
-BeginsFrom fields place field = drop place fields ≡ field.now ∷ drop (place + 1) fields
-
--- this text has the fields, a field for each column
-abbrev pub IsRecord : List Column → List (List ℕ) → Row → Type 0
-IsRecord columns fields text = (is_record columns fields ≡ true) × (fields_of text ≡ fields)

@@ -6,7 +6,8 @@ ghost use Rattle.row_types.specs.declared.rule.Refused.TheVariants as refused;
 ghost use Rattle.tier_base.specs.declared.code.Code.TheVariants as code;
 ghost use Rattle.tier_base.specs.Names.{spells};
 ghost use Rattle.evaluator.specs.Rules.{Gives, about, then_do};
-ghost use Rattle.csv_import.specs.Inserts.{BeginsFrom, GivesAll, IsRecord, PutsAll, given_by, insert_in, is_record, kept_insert, literal_of, literals_in, name_columns, value_in, wrong_record};
+ghost use Rattle.csv_import.specs.Inserts.{GivesAll, given_by, insert_in, is_record, kept_insert, literal_of, literals_in, name_columns, value_in, wrong_record};
+ghost use Rattle.csv_import.specs.Reading.{BeginsFrom, IsRecord, PutsAll};
 
 use crate::fields::value_in;
 use csv::{ByteRecord, StringRecord};
@@ -20,8 +21,8 @@ use tier_base::{Code, Limit, Name, Seq, TableId};
 
 /// Takes the record of a number: the header is number 0, and any other one's INSERT comes behind those before it.
 ///
-/// The refusal is 101 of a header that doesn't name the columns, 119 of a record past the greatest number of operations of a
-/// transaction, or what `insert_in` tells; or memory was wanting.
+/// The refusal is 101 of a header that doesn't name the columns, 119 of a record past the greatest number of operations
+/// of a transaction, or what `insert_in` tells; or memory was wanting. The INSERTs before stay then.
 pub(crate) fn take_record(
     alloc: Global,
     table: TableId,
@@ -51,9 +52,9 @@ pub(crate) fn take_record(
 
 /// The INSERT of a record.
 ///
-/// The refusal is 101 of a record with another number of fields than columns or with a field that isn't UTF-8, then 105 of
-/// the first column whose field doesn't read, then 105 of the first column that can't hold its value, then 106 of the first
-/// that refuses NULL; or memory was wanting.
+/// The refusal is 101 of a record with another number of fields than columns or with a field that isn't UTF-8, then 105
+/// of the first column whose field doesn't read, then 105 of the first column that can't hold its value, then 106 of the
+/// first that refuses NULL; or memory was wanting.
 fn insert_in(
     alloc: Global,
     table: TableId,
@@ -72,7 +73,8 @@ fn insert_in(
 /// The record, where it has a field for each column and all its fields are UTF-8.
 #[tactic(auto, using(crate::proofs::FieldLaws::all_text, crate::proofs::FieldLaws::some_no_text))]
 fn text_record(columns: &[Column], raw: ByteRecord) -> Option<StringRecord>
-    ensures { MatchOption result (is_record columns.now (fields_of raw) ≡ false) (IsRecord columns.now (fields_of raw)) }
+    ensures { MatchOption result (is_record columns.now (fields_of raw) ≡ false)
+        (IsRecord columns.now (fields_of raw)) }
 {
     if raw.len() != columns.len() {
         return None;
@@ -117,7 +119,8 @@ fn read_values(
     place: usize,
     values: &mut Vec<Expr>,
 ) -> Result<(), Refused>
-    ensures { PutsAll (literals_in columns.now (drop place (fields_of raw.now))) result values.old.items values.new.items }
+    ensures { PutsAll (literals_in columns.now (drop place (fields_of raw.now))) result
+        values.old.items values.new.items }
 {
     match (columns.split_first(), field_from(raw, place)) {
         (Some((column, columns)), Some(field)) => {
@@ -157,7 +160,8 @@ fn name_columns(columns: &[Column], raw: &ByteRecord, place: usize) -> bool
 /// The field at a place, with which those from there on begin.
 #[tactic(auto, using(crate::proofs::FieldLaws::field_begins, crate::proofs::FieldLaws::none_left))]
 fn field_from(raw: &ByteRecord, place: usize) -> Option<&[u8]>
-    ensures begins { MatchOption result (drop place (fields_of raw.now) ≡ []) (BeginsFrom (fields_of raw.now) place) }
+    ensures begins { MatchOption result (drop place (fields_of raw.now) ≡ [])
+        (BeginsFrom (fields_of raw.now) place) }
     ensures bound { IfSome result (λ field. place + 1 ≤ 2 ^ 64 - 1) }
 {
     raw.get(place)
