@@ -22,7 +22,7 @@ use tier_base::{Code, Limit, Name, Seq, TableId};
 /// Takes the record of a number: the header is number 0, and any other one's INSERT comes behind those before it.
 ///
 /// The refusal is 101 of a header that doesn't name the columns, 119 of a record past the greatest number of operations
-/// of a transaction, or what `insert_in` tells; or memory was wanting. The INSERTs before stay then.
+/// of a transaction, or what `insert_in` tells; or memory was wanting.
 pub(crate) fn take_record(
     alloc: Global,
     table: TableId,
