@@ -5,18 +5,19 @@ use Rattle.std.proofs.lemmas.Int.{ints}
 use Rattle.std.proofs.Math.Facts.{to_z_pos}
 use borrow.Author.Gap.{read_sfits}
 use mir.Val.{SFits as FitsSigned}
+use Rattle.std.specs.Borrow.{Bor}
 use Rattle.std.specs.Char.{digit_value}
 use Rattle.std.specs.Option.{option_and_then}
 use Rattle.std.specs.Str.{bytes_eq}
 use Rattle.std.specs.Str.Parse.{digits_value, signed_digits_value, without_leading_plus, without_leading_sign}
-use Rattle.clap.specs.Words.{IsSignedIn, Row, Text, one_of, subcommand_of}
+use Rattle.clap.specs.Words.{IsSignedIn, Row, Text, first_of as first_text, one_of, subcommand_of}
 use Rattle.clap.specs.Lexer.{strip_byte}
 use Rattle.clap.specs.ValueTests.{accepts}
 use Rattle.clap.specs.declared.builder.value_parser.ValueParser.TheVariants as parse
 use Rattle.clap.proofs.OnLiterals.{clap_on_literals}
 use Rattle.clap.proofs.ValueTestLemmas.{Accepts-accepts}
-use Rattle.command_line.specs.declared.command.Command.TheVariants.{Make, Bench}
-use Rattle.command_line.specs.Words.{Asks, IsNumberText, program}
+use Rattle.command_line.specs.declared.command.Command.TheVariants.{Import, Make, Bench}
+use Rattle.command_line.specs.Words.{Asks, IsNumberText, IsUnhyphened, program}
 
 -- what `clap` sees of such a text
 pub record IsPlain (text : Text) (n : ℕ) : Type 0 where
@@ -85,3 +86,17 @@ bench_form name text n is =
     bench_text : (name text : Text) → strip_byte 45 text ≡ None → bytes_eq text (45 ∷ 45 ∷ []) ≡ false
         → option_and_then (λ (named : Text × List Row). one_of (codes "N") named.1) (subcommand_of program (name ∷ codes "bench" ∷ text ∷ [])) ≡ Some text
     bench_text name text a b = simp (a, b) refl
+
+no_hyphen : (text : Text) → IsUnhyphened text → (strip_byte 45 text ≡ None) × (bytes_eq text (45 ∷ 45 ∷ []) ≡ false)
+no_hyphen [] is = (refl, refl)
+no_hyphen (c ∷ cs) is = let other = ne_eqb c 45 is in (rw other refl, rw other refl)
+
+pub import_form : (name : Text) (table : Bor Text) → IsUnhyphened table.now → Asks (name ∷ codes "import" ∷ table.now ∷ []) (Import table)
+unfolding clap_on_literals
+import_form name table is =
+    let (a, b) = no_hyphen table.now is in
+    (simp (a, b) refl, refl, λ t told. let same : Some table.now ≡ Some t = sym (table_text name table.now a b) ∙ told in cc)
+  where
+    table_text : (name text : Text) → strip_byte 45 text ≡ None → bytes_eq text (45 ∷ 45 ∷ []) ≡ false
+        → option_and_then (λ (named : Text × List Row). first_text (codes "TABLE") named.1) (subcommand_of program (name ∷ codes "import" ∷ text ∷ [])) ≡ Some text
+    table_text name text a b = simp (a, b) refl

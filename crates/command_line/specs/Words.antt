@@ -1,24 +1,33 @@
 -- What the words of the program ask for, by the rules of `clap`. (The commands are this project's.)
 
-use Rattle.std.specs.Prelude.{◌≡◌, ◌≢◌, ◌⊎◌, ◌<◌, ◌≤◌, ◌^◌, ℕ, List, [], map, codes, Some, option_map, pos, true}
+use Rattle.std.specs.Prelude.{◌≡◌, ◌≢◌, ◌⊎◌, ◌<◌, ◌≤◌, ◌^◌, ℕ, List, [], ◌∷◌, map, codes, Some, option_map, pos, true}
 use Rattle.std.specs.Borrow.{Bor}
 use Rattle.std.specs.Option.{IfSome}
 use Rattle.std.specs.Str.Parse.{IsNumeral, digits_value, without_leading_plus}
-use Rattle.clap.specs.Words.{App, Row, Rule, Text, fault_of, new_app, new_rule, one_of, subcommand_of, with_rule, with_subcommand}
+use Rattle.clap.specs.Words.{App, Row, Rule, Text, fault_of, first_of as first_text, new_app, new_rule, one_of, subcommand_of, with_rule, with_subcommand}
 use Rattle.clap.specs.declared.builder.action.ArgAction.TheVariants.{Set}
 use Rattle.clap.specs.declared.builder.value_parser.ValueParser.TheVariants as parse
 use Rattle.command_line.specs.declared.command.Command.{Command}
-use Rattle.command_line.specs.declared.command.Command.TheVariants.{Run, Check, Make, Bench}
+use Rattle.command_line.specs.declared.command.Command.TheVariants.{Run, Check, Import, Make, Bench}
 
 -- the word of a command
 abbrev pub word_of : Command → Text
 word_of Run = codes "run"
 word_of Check = codes "check"
+word_of (Import table) = codes "import"
 word_of (Make n) = codes "make"
 word_of (Bench n) = codes "bench"
 
 abbrev pub IsWord : Text → Type 0
-IsWord word = (word ≡ codes "run") ⊎ ((word ≡ codes "check") ⊎ ((word ≡ codes "make") ⊎ (word ≡ codes "bench")))
+IsWord word =
+    (word ≡ codes "run") ⊎ ((word ≡ codes "check") ⊎ ((word ≡ codes "import") ⊎ ((word ≡ codes "make") ⊎ (word ≡ codes "bench"))))
+
+-- the name of a table must stand behind the word, which may be any text
+abbrev pub table_rule : Rule
+table_rule = record (new_rule (codes "TABLE")) { required = true; action = Some Set }
+
+abbrev pub importing : App
+importing = with_rule (new_app (codes "import")) table_rule
 
 -- a number must stand behind the word, from 0 to 1,000,000
 abbrev pub number_rule : Rule
@@ -31,15 +40,17 @@ counting word = with_rule (new_app word) number_rule
 abbrev pub wanting : App → App
 wanting app = record app { top = record app.top { subcommand_required = true; disable_help_subcommand = true } }
 
--- the command line: the program's name, then the word of one of its commands, with what stands behind it
-abbrev pub program : App
-program =
+-- the program's name, and the words of the commands that read what is given to the program
+abbrev pub given_lines : App
+given_lines =
     with_subcommand
-    (with_subcommand
     (with_subcommand (with_subcommand (wanting (new_app (codes "ttcache"))) (new_app (codes "run")).top)
     (new_app (codes "check")).top)
-    (counting (codes "make")).top)
-    (counting (codes "bench")).top
+    importing.top
+
+-- the command line: the program's name, then the word of one of its commands, with what stands behind it
+abbrev pub program : App
+program = with_subcommand (with_subcommand given_lines (counting (codes "make")).top) (counting (codes "bench")).top
 
 -- `clap` refuses the words: it names a kind of error for them. Help that is asked for is one of these kinds, want of
 -- memory is none.
@@ -52,12 +63,22 @@ IsCount rows n =
     (t : Text) → one_of (codes "N") rows ≡ Some t → IsNumeral 10 (without_leading_plus t)
     → digits_value 10 (without_leading_plus t) < 2 ^ 32 → n ≡ digits_value 10 (without_leading_plus t)
 
+-- the text is the one that is read of TABLE
+abbrev pub IsTableText : List Row → Text → Type 0
+IsTableText rows table = (t : Text) → first_text (codes "TABLE") rows ≡ Some t → table ≡ t
+
 -- what stands behind the word of a command
 abbrev pub HasValues : Command → List Row → Type 0
 HasValues Run rows = Unit {0}
 HasValues Check rows = Unit {0}
+HasValues (Import table) rows = IsTableText rows table.now
 HasValues (Make n) rows = IsCount rows n
 HasValues (Bench n) rows = IsCount rows n
+
+-- no hyphen stands first, so `clap` takes the text for no option
+abbrev pub IsUnhyphened : Text → Type 0
+IsUnhyphened [] = Unit {0}
+IsUnhyphened (b ∷ text) = b ≢ 45
 
 -- digits that are a number in the range of N, and nothing else
 pub record IsNumberText (text : Text) (n : ℕ) : Type 0 where

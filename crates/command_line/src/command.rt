@@ -1,10 +1,11 @@
 //! The words of the program.
 
 ghost use Rattle.std.specs.Prelude.{◌≡◌, ◌∷◌, [], ℕ, Some, Err, IfOk, codes, is_some, true, false};
+ghost use Rattle.std.specs.Borrow.{Bor};
 ghost use Rattle.std.specs.Option.{IfSome};
 ghost use Rattle.clap.specs.Words.{App, Text, app_of, fault_of, found_of, new_app, rows_of, subcommand_of, subcommand_rows_of, with_subcommand};
 ghost use Rattle.clap.specs.declared.builder.command.Command.TheViews.{out-Command};
-ghost use Rattle.command_line.specs.Words.{Asks, HasValues, IsCount, IsNumberText, IsWord, Refuses, counting, program, texts, wanting, word_of};
+ghost use Rattle.command_line.specs.Words.{Asks, HasValues, IsCount, IsNumberText, IsTableText, IsUnhyphened, IsWord, Refuses, counting, given_lines, importing, program, texts, wanting, word_of};
 
 use clap::error::ErrorKind;
 use clap::{Arg, ArgAction, ArgMatches, Command as ClapCommand, value_parser};
@@ -13,11 +14,13 @@ use thiserror::Error;
 
 /// What the program is to do.
 #[derive(Clone, Copy, Debug, PartialEq, Eq)]
-pub enum Command {
+pub enum Command<'a> {
     /// Answers each request line.
     Run,
     /// Reads each request line, and says whether it is spelt right.
     Check,
+    /// Puts the records of a CSV file into the table of this name, which may be any text.
+    Import(&'a str),
     /// Writes the generated script of the number.
     Make(u32),
     /// Runs that script on a new site in memory, and writes what its run comes to.
@@ -38,7 +41,7 @@ pub enum CommandError {
 /// The command that the words name, behind the program's name.
 ///
 /// `Refused` exactly where `clap` refuses the words for another cause than memory.
-pub fn read_command<'a>(alloc: Global, words: &'a [&'a str]) -> Result<Command, CommandError>
+pub fn read_command<'a>(alloc: Global, words: &'a [&'a str]) -> Result<Command<'a>, CommandError>
     ensures asks { IfOk result (Asks (texts words.entry.now)) }
     ensures refused { result ≡ Err CommandError.Refused → Refuses (texts words.entry.now) }
 {
@@ -73,12 +76,22 @@ fn command_line<'a>(alloc: Global) -> Result<ClapCommand<'a>, AllocError>
     ensures required { IfOk result (λ c. (out-Command c).subcommand_required ≡ true) }
     ensures local { IfOk result (λ c. (out-Command c).has_globals ≡ false) }
 {
-    let run = ClapCommand::new(alloc, "run");
-    let check = ClapCommand::new(alloc, "check");
+    let command = given_lines(alloc)?;
     let make = counting(alloc, "make")?;
     let bench = counting(alloc, "bench")?;
-    let command = with_word(with_word(wanting(alloc), run)?, check)?;
     with_word(with_word(command, make)?, bench)
+}
+
+/// The part of the command line whose commands read what is given to the program.
+fn given_lines<'a>(alloc: Global) -> Result<ClapCommand<'a>, AllocError>
+    ensures app { IfOk result (λ c. app_of c ≡ given_lines) }
+    ensures local { IfOk result (λ c. (out-Command c).has_globals ≡ false) }
+{
+    let run = ClapCommand::new(alloc, "run");
+    let check = ClapCommand::new(alloc, "check");
+    let import = importing(alloc)?;
+    let command = with_word(with_word(wanting(alloc), run)?, check)?;
+    with_word(command, import)
 }
 
 /// The program's name alone, behind which a command must stand.
@@ -116,8 +129,19 @@ fn counting<'a>(alloc: Global, word: &'a str) -> Result<ClapCommand<'a>, AllocEr
     ClapCommand::new(alloc, word).arg(number)
 }
 
+/// The command with the name of a table behind its word.
+fn importing<'a>(alloc: Global) -> Result<ClapCommand<'a>, AllocError>
+    ensures app { IfOk result (λ c. app_of c ≡ importing) }
+    ensures local { IfOk result (λ c. (out-Command c).has_globals ≡ false) }
+{
+    let table = Arg::new(alloc, "TABLE")
+        .required(true)
+        .action(ArgAction::Set);
+    ClapCommand::new(alloc, "import").arg(table)
+}
+
 /// The command that is named.
-fn named_command(matches: &ArgMatches<'_>) -> Command
+fn named_command<'a>(matches: &ArgMatches<'a>) -> Command<'a>
     ensures named { IfSome (subcommand_rows_of matches.now) (λ named. IsWord named.0 → word_of result ≡ named.0) }
     ensures values { IfSome (subcommand_rows_of matches.now) (λ named. HasValues result named.1) }
 {
@@ -128,12 +152,15 @@ fn named_command(matches: &ArgMatches<'_>) -> Command
 }
 
 /// The command of a word, with what stands behind it.
-fn command_of(word: &str, values: &ArgMatches<'_>) -> Command
+fn command_of<'a>(word: &str, values: &ArgMatches<'a>) -> Command<'a>
     ensures named { IsWord word.now → word_of result ≡ word.now }
     ensures values { HasValues result (rows_of (found_of values.now)) }
 {
     if word == "check" {
         return Command::Check;
+    }
+    if word == "import" {
+        return Command::Import(table_in(values));
     }
     if word == "make" {
         return Command::Make(count_in(values));
@@ -151,10 +178,19 @@ fn count_in(values: &ArgMatches<'_>) -> u32
     values.get_one("N").unwrap_or(0)
 }
 
+/// The name behind the word.
+fn table_in<'a>(values: &ArgMatches<'a>) -> &'a str
+    ensures { IsTableText (rows_of (found_of values.now)) result.now }
+{
+    values.get_str("TABLE").unwrap_or("")
+}
+
 /// The program's name, the word of a command and what stands behind it are taken, and name that command.
 pub fn forms_law()
     ensures run { (name : Text) → Asks (name ∷ codes "run" ∷ []) Command.Run }
     ensures check { (name : Text) → Asks (name ∷ codes "check" ∷ []) Command.Check }
+    ensures import { (name : Text) (table : Bor Text) → IsUnhyphened table.now
+        → Asks (name ∷ codes "import" ∷ table.now ∷ []) (Command.Import table) }
     ensures make { (name number : Text) (n : ℕ) → IsNumberText number n
         → Asks (name ∷ codes "make" ∷ number ∷ []) (Command.Make n) }
     ensures bench { (name number : Text) (n : ℕ) → IsNumberText number n

@@ -8,7 +8,7 @@ use std::test::Fail;
 
 #[test]
 fn the_commands_are_taken_and_all_else_is_refused(rt: HostRuntime) -> Result<(), Fail> {
-    let rows: [(&[&str], Result<Command, CommandError>); 28] = [
+    let rows: [(&[&str], Result<Command<'_>, CommandError>); 33] = [
         (&["ttcache", "run"], Ok(Command::Run)),
         (&["ttcache", "check"], Ok(Command::Check)),
         (&["other", "run"], Ok(Command::Run)),
@@ -27,7 +27,15 @@ fn the_commands_are_taken_and_all_else_is_refused(rt: HostRuntime) -> Result<(),
         (&["ttcache", "-V"], Err(CommandError::Refused)),
         (&["ttcache", "--"], Err(CommandError::Refused)),
         (&["ttcache", "--", "run"], Err(CommandError::Refused)),
-        (&["ttcache", "import", "A"], Err(CommandError::Refused)),
+        (&["ttcache", "import", "A"], Ok(Command::Import("A"))),
+        (&["ttcache", "import", ""], Ok(Command::Import(""))),
+        (
+            &["ttcache", "import", "--", "-x"],
+            Ok(Command::Import("-x")),
+        ),
+        (&["ttcache", "import"], Err(CommandError::Refused)),
+        (&["ttcache", "import", "-x"], Err(CommandError::Refused)),
+        (&["ttcache", "import", "A", "B"], Err(CommandError::Refused)),
         (&["ttcache", "make", "0"], Ok(Command::Make(0))),
         (
             &["ttcache", "bench", "1000000"],

@@ -137,6 +137,7 @@ pub fn top<'a, S: Source, K: Sink, P: Site, C: Clock>(
     match asked.command {
         Command::Run => run(alloc, &asked.settings, source, sink, site, clock).number(),
         Command::Check => check(alloc, source, sink).number(),
+        Command::Import(_) => NO_MEMORY,
         Command::Make(number) => make(alloc, sink, number).number(),
         Command::Bench(number) => tell_bench(alloc, sink, number).number(),
     }
@@ -177,14 +178,14 @@ fn run<S: Source, K: Sink, P: Site, C: Clock>(
 
 /// What the program is asked to do.
 #[derive(Clone, Copy, Debug)]
-struct AskedTask {
+struct AskedTask<'a> {
     // the command that the words name
-    command: Command,
+    command: Command<'a>,
     settings: Settings,
 }
 
 /// The command that the words name, with the settings, where these are good too; else the status.
-fn asked_task<'a>(alloc: Global, words: &'a [&'a str], settings: &[u8]) -> Result<AskedTask, u8>
+fn asked_task<'a>(alloc: Global, words: &'a [&'a str], settings: &[u8]) -> Result<AskedTask<'a>, u8>
     ensures { MatchResult result
         (λ asked. Asks (texts words.entry.now) asked.command × IsSetBy settings.now asked.settings)
         (Unstarted (texts words.entry.now) settings.now) }

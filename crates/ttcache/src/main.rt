@@ -49,7 +49,7 @@ fn status(rt: &HostRuntime) -> u8 {
 fn meaning(status: u8) -> Option<&'static str> {
     match status {
         0 => None,
-        WRONG_WORDS => Some("usage: ttcache run | check | make N | bench N"),
+        WRONG_WORDS => Some("usage: ttcache run | check | import TABLE | make N | bench N"),
         2 => Some("ttcache: ttcache.toml has an unknown key, a wrong type or a value out of range"),
         3 => Some("ttcache: standard input failed"),
         4 => Some("ttcache: standard output failed"),
