@@ -1,5 +1,5 @@
 -- A tier that is built without rows: its parts, and that it stands for one that shows nothing.
-use Rattle.std.proofs.Common.{◌≡◌, ◌≤◌, ◌+◌, ℕ, zero, suc, Bool, true, false, cond, Option, Some, None, is_some, List, [], ◌∷◌, ◌++◌, find, length, map, filter, slice_get, take, unwrap_or, refl, sym, ap, ◌∙◌, subst, arith}
+use Rattle.std.proofs.Common.{◌≡◌, ◌≤◌, ◌+◌, ℕ, zero, suc, Bool, true, false, cond, Option, Some, None, is_some, List, [], ◌∷◌, ◌++◌, find, length, map, filter, slice_get, take, unwrap_or, refl, sym, ap, ◌∙◌, subst}
 use Rattle.std.proofs.lemmas.List.{append-nil, map-append}
 use Rattle.std.specs.FinMap.{empty}
 use Rattle.std.specs.List.{list_all}
@@ -14,21 +14,20 @@ use Rattle.instances.specs.Trees.{place_of}
 use Rattle.instances.specs.Views.{kept_at}
 use Rattle.order_laws.specs.Commits.{RiseBetween, virtual_state}
 use Rattle.pending_writes.specs.Noting.{TellsWriters}
-use Rattle.open_sessions.specs.Opening.{AreSessions, seen_all}
+use Rattle.open_sessions.specs.Opening.{AreSessions}
 use Rattle.group_catalog.specs.Catalogs.{groups_in}
 use Rattle.group_catalog.specs.Kept.{groups_seen}
 use Rattle.group_catalog.specs.declared.kept.KeptGroup.{KeptGroup}
 use Rattle.group_store.specs.Stores.{Kept}
 use Rattle.tier_statements.specs.Seen.{session_seen}
-use Rattle.cache_tier.specs.Groups.{Group, covers, group_over, is_read_only}
+use Rattle.cache_tier.specs.Groups.{Group, covers, is_read_only}
 use Rattle.cache_tier.specs.Shown.{shown, shown_state, shown_where, table_of_group}
 use Rattle.cache_tier.specs.StandingBetween.{Each, Stands}
-use Rattle.cache_tier.specs.TierStates.{SetState, Tier, cut}
+use Rattle.cache_tier.specs.TierStates.{SetState, Tier}
 use Rattle.cache_tier.specs.Worlds.{World}
 use Rattle.cache_tier.proofs.DefineLaws.{shows_nothing}
 use Rattle.cache_tier.proofs.GroupTables.{over_is_found}
 use Rattle.cache_tier.proofs.ShownTables.{no_table_shown, table_shown}
-use Rattle.recovery.specs.Reopening.{sets_begun}
 use Rattle.stored_tier.specs.declared.moments.SetMoment.{SetMoment}
 use Rattle.stored_tier.specs.declared.tier.Tier.{Tier as Stored}
 use Rattle.stored_tier.specs.Grouping.{IsBareStore}

@@ -1,12 +1,11 @@
 -- A writethrough group that holds all its instances again, and one such group after the other.
-use Rattle.std.proofs.Common.{◌≡◌, ◌≤◌, ◌<◌, ◌⊎◌, inl, inr, ℕ, zero, suc, ◌+◌, Bool, true, false, not, cond, ◌&&◌, ◌||◌, nat_eq, Option, Some, None, List, [], ◌∷◌, drop, length, map, slice_get, refl, sym, ap, subst, ◌∙◌, arith}
-use Rattle.std.specs.Prelude.{Result, Ok, Err}
+use Rattle.std.proofs.Common.{◌≡◌, ◌≤◌, ◌<◌, inl, inr, ℕ, zero, suc, ◌+◌, Bool, true, false, cond, ◌&&◌, ◌||◌, nat_eq, Option, Some, None, List, [], ◌∷◌, drop, length, map, slice_get, refl, sym, ap, subst, ◌∙◌, arith}
+use Rattle.std.specs.Prelude.{Ok, Err}
 use Rattle.std.specs.Bool.{MatchBool}
 use Rattle.std.specs.FinMap as fm
 use Rattle.std.proofs.lemmas.Bool.{eqb-true}
 use Rattle.row_types.specs.declared.rule.Refused.{Refused}
 use Rattle.row_types.specs.declared.rule.Refused.TheVariants as refused
-use Rattle.row_types.specs.declared.value.Value.{Value}
 use Rattle.tier_base.specs.declared.number.TableId.{TableId}
 use Rattle.indexed_rows.specs.Rows.{Table}
 use Rattle.table_state.specs.Tables.{TableState}
@@ -27,7 +26,7 @@ use Rattle.cache_tier.specs.Reading.{TellsPosition, backing_at}
 use Rattle.cache_tier.specs.Sets.{alone, changed, changed_from}
 use Rattle.cache_tier.specs.Targets.{Target, matching, with_flag}
 use Rattle.cache_tier.specs.TierStates.{Tier}
-use Rattle.cache_tier.specs.Worlds.{BankCall, IsUnshared, OnlyWhere, Passes, World, bank_fault, faulty}
+use Rattle.cache_tier.specs.Worlds.{BankCall, IsUnshared, Passes, World, bank_fault}
 use Rattle.cache_tier.specs.Events.{with_tier}
 use Rattle.recovery.specs.Reopening.{HoldAgain, HoldsAgainAt, all_roots, holding, is_held_again}
 use Rattle.stored_tier.specs.declared.tier.Tier.{Tier as Stored}
@@ -41,7 +40,7 @@ use Rattle.group_engine.specs.Loaded.{whole_target}
 use Rattle.group_engine.specs.Taking.{AsksTree, IsOfTarget, IsSameButRoom, IsSettledAt, TakesIn, TakesMatching}
 use Rattle.group_engine.proofs.ReadLaws.{not_called, read_failed, snapshot_grows, unmapped, was_read}
 use Rattle.group_engine.proofs.TakenLaws as taken
-use Rattle.group_engine.proofs.TakenParts.{matching_sound, rows_room, stored_room}
+use Rattle.group_engine.proofs.TakenParts.{rows_room, stored_room}
 use Rattle.reopening.specs.Reloading.{HoldsIfWanted, IsHeldTo, IsQuiet, IsStillHeld, all_instances, held_again, is_held_at}
 use Rattle.reopening.proofs.ViewingLaws.{IsSameBut, still_held, still_passed}
 

@@ -1,5 +1,5 @@
 -- A tier that is opened again: the round, and then its rows.
-use Rattle.std.proofs.Common.{◌≡◌, ℕ, suc, Bool, Option, Some, None, List, [], ◌∷◌, length, refl, sym, ap, subst, ◌∙◌}
+use Rattle.std.proofs.Common.{◌≡◌, ℕ, suc, Option, Some, None, List, [], ◌∷◌, refl, ap, subst, ◌∙◌}
 use Rattle.std.specs.Prelude.{Result, Ok, Err}
 use Rattle.std.specs.Bool.{MatchBool}
 use Rattle.tier_base.specs.declared.code.Code.TheVariants as code
@@ -11,17 +11,14 @@ use Rattle.group_catalog.specs.Catalogs.{groups_in}
 use Rattle.cache_tier.specs.declared.reply.Reply.{Reply}
 use Rattle.cache_tier.specs.Groups.{Group}
 use Rattle.cache_tier.specs.Rounds.{Applies, Wanting, round_stop}
-use Rattle.cache_tier.specs.StandingBetween.{Stands}
-use Rattle.cache_tier.specs.TierStates.{Tier}
-use Rattle.cache_tier.specs.Worlds.{IsUnshared, Passes, StageFollows, World, bank_fault, faulty}
+use Rattle.cache_tier.specs.Worlds.{Passes, StageFollows, World, bank_fault, faulty}
 use Rattle.recovery.specs.Reopening.{HoldAgain, HoldsAgainAt, Reloads, Reopens, ViewsAgain, is_held_again}
 use Rattle.stored_tier.specs.declared.tier.Tier.{Tier as Stored}
-use Rattle.stored_tier.specs.Performing.{IsPerformed, Performs, StandsFor}
-use Rattle.stored_tier.specs.Sites.{IsAt}
+use Rattle.stored_tier.specs.Performing.{Performs}
 use Rattle.stored_tier.specs.Stored.{IsSound}
 use Rattle.reopening.specs.Building.{IsBuilt, IsSettled, SettlesCommits, settled_tier}
 use Rattle.reopening.specs.Reloading.{held_again}
-use Rattle.reopening.specs.Starting.{BeginsAs, IsLeft, OpensAgain, Refilled, Refills, ReopensFrom, end_told, fault_of}
+use Rattle.reopening.specs.Starting.{OpensAgain, Refilled, Refills, ReopensFrom, end_told, fault_of}
 use Rattle.reopening.specs.declared.start.ReopenError.{ReopenError}
 use Rattle.reopening.specs.declared.start.ReopenError.TheVariants as error
 use Rattle.reopening.specs.declared.start.Start.{Start}

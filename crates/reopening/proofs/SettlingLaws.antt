@@ -1,6 +1,6 @@
 -- The round with which a tier is opened again: it is the abstract tier's, behind which that stands.
-use Rattle.std.proofs.Common.{◌≡◌, ◌≤◌, ℕ, ◌+◌, ◌-◌, ◌^◌, min, not, Option, Some, None, List, [], length, filter, refl, sym, ap, subst, arith, inl, inr}
-use Rattle.std.specs.Prelude.{Result, Ok, Err}
+use Rattle.std.proofs.Common.{◌≡◌, ◌≤◌, ℕ, ◌+◌, ◌-◌, ◌^◌, min, not, List, length, filter, refl, sym, ap, subst, inl, inr}
+use Rattle.std.specs.Prelude.{Result, Err}
 use Rattle.table_state.specs.declared.history.Sealed.{Sealed}
 use Rattle.order_laws.specs.Commits.{RiseBetween}
 use Rattle.order_laws.specs.Standing.{live_tables}

@@ -1,8 +1,8 @@
 -- READONLY groups whose flag is set are read from one snapshot, and what such stages leave.
-use Rattle.std.proofs.Common.{◌≡◌, ◌⊎◌, inl, inr, ℕ, zero, suc, ◌+◌, Bool, true, false, cond, ◌&&◌, ◌||◌, nat_eq, Option, Some, None, List, [], ◌∷◌, drop, length, map, slice_get, refl, sym, ap, subst, ◌∙◌, arith}
+use Rattle.std.proofs.Common.{◌≡◌, inl, inr, ℕ, suc, ◌+◌, Bool, true, false, cond, ◌&&◌, ◌||◌, nat_eq, Option, Some, None, List, [], ◌∷◌, map, slice_get, refl, sym, ap, subst, ◌∙◌, arith}
 use Rattle.std.specs.Prelude.{Result, Ok, Err}
 use Rattle.std.specs.Bool.{MatchBool}
-use Rattle.std.specs.List.{list_all, list_any}
+use Rattle.std.specs.List.{list_any}
 use Rattle.std.specs.Option.{is_none}
 use Rattle.table_state.specs.Tables.{TableState}
 use Rattle.tier_base.specs.declared.number.TableId.{TableId}
@@ -17,13 +17,12 @@ use Rattle.cache_tier.specs.Groups.{Group, covers, is_explicit, is_on, is_read_o
 use Rattle.cache_tier.specs.Reading.{ReadsFirst, StageFollowsAt, as_it_was, backing_at}
 use Rattle.cache_tier.specs.Sets.{Choice, OnePosition, alone, at_position, changed, changed_from, has_something, is_in_set, refreshed, shows_in_set}
 use Rattle.cache_tier.specs.TierStates.{Tier}
-use Rattle.cache_tier.specs.Worlds.{Becomes, IsUnshared, OnlyWhere, Passes, World, bank_fault}
+use Rattle.cache_tier.specs.Worlds.{Becomes, IsUnshared, Passes, World, bank_fault}
 use Rattle.cache_tier.proofs.SetLaws.{came}
 use Rattle.recovery.specs.Reopening.{ViewsAgain, is_held_again, is_viewed_again}
 use Rattle.stored_tier.specs.declared.tier.Tier.{Tier as Stored}
 use Rattle.stored_tier.specs.Performing.{Performs, StandsFor}
-use Rattle.stored_tier.specs.Refreshing.{end_of, is_filled, is_shown_again, positioned}
-use Rattle.stored_tier.specs.Sites.{IsAt}
+use Rattle.stored_tier.specs.Refreshing.{is_filled, is_shown_again, positioned}
 use Rattle.stored_tier.specs.Stored.{IsSound, IsStoredAs, is_plain, without_list}
 use Rattle.group_engine.specs.declared.fresh.Fresh.{Fresh}
 use Rattle.group_engine.specs.Fresh.{AreFresh, ReadsFresh}

@@ -1,6 +1,6 @@
 -- A tier as it is built from what entries leave, and what its commits do at the bank before. (This project's model.)
 
-use Rattle.std.specs.Prelude.{◌≡◌, ℕ, List, [], ◌∷◌, None, false, map, Result, Ok, Err}
+use Rattle.std.specs.Prelude.{◌≡◌, ℕ, List, [], ◌∷◌, false, map, Result, Ok, Err}
 use Rattle.std.specs.List.{filter}
 use Rattle.table_defs.specs.declared.definition.TableDef.{TableDef}
 use Rattle.table_state.specs.declared.history.Sealed.{Sealed}

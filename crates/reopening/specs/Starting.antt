@@ -1,11 +1,9 @@
 -- What a tier is opened again with, the abstract tier that begins so, and what opening it leaves. (TimesTen Cache User's
 -- Guide, "Recovery"; that sets count from the opening, and that no session is open, is this project's rule.)
 
-use Rattle.std.specs.Prelude.{◌≡◌, ◌⊎◌, ℕ, ◌≤◌, List, [], Option, None, Some, true, false, Result, Ok, Err}
+use Rattle.std.specs.Prelude.{◌≡◌, ◌⊎◌, ◌≤◌, [], None, true, false, Result, Ok, Err}
 use Rattle.std.specs.List.{list_all}
 use Rattle.std.specs.Result.{IsErrOf}
-use Rattle.row_types.specs.declared.value.Value.{Value}
-use Rattle.tier_base.specs.declared.number.TableId.{TableId}
 use Rattle.outside.specs.Faults.{Rose}
 use Rattle.outside.specs.Sites.{SiteState}
 use Rattle.outside.specs.declared.fault.BankError.{BankError}

@@ -10,15 +10,15 @@ use Rattle.reopening.proofs.opening.reopen.Goals as goal
 pub returns-in-Err-built_tier-clause-reopens : goal.returns-in-Err-built_tier-clause-reopens
 returns-in-Err-built_tier-clause-reopens g c =
     not_built c.args.start c.settle_commits.new.commits.items _ _
-    (subst (λ l. SettlesCommits l c.settle_commits.new.commits.items _ _ (let r : Result (Unit {0}) ReopenError = Ok tt in r)) (ap (λ x. x.items) c.into_parts-commits.ensures.commits) c.in-Ok.ensures.settles)
+    (subst (λ l. SettlesCommits l c.settle_commits.new.commits.items (g.P.Disk.state c.args.site.now) (g.P.Disk.state c.settle_commits.new.site) (let r : Result (Unit {0}) ReopenError = Ok tt in r)) (ap (λ x. x.items) c.into_parts-schema.ensures.commits) c.in-Ok.ensures.settles)
 
 pub returns-clause-reopens : goal.returns-clause-reopens
 returns-clause-reopens g c =
     opened_with c.args.start c.settle_commits.new.commits.items _ _ _ c.in-Ok-built_tier.tier c.refill.result
-    (subst (λ l. SettlesCommits l c.settle_commits.new.commits.items _ _ (let r : Result (Unit {0}) ReopenError = Ok tt in r)) (ap (λ x. x.items) c.into_parts-commits.ensures.commits) c.in-Ok.ensures.settles)
+    (subst (λ l. SettlesCommits l c.settle_commits.new.commits.items (g.P.Disk.state c.args.site.now) (g.P.Disk.state c.settle_commits.new.site) (let r : Result (Unit {0}) ReopenError = Ok tt in r)) (ap (λ x. x.items) c.into_parts-schema.ensures.commits) c.in-Ok.ensures.settles)
     c.in-Ok.ensures.all
-    (subst (λ s. IsBuilt c.in-Ok-built_tier.tier s (groups_in c.args.start.catalog) c.args.start.next c.args.start.now.0 c.args.start.propagate_ms) c.into_parts-commits.ensures.schema
-    (subst (λ k. IsBuilt c.in-Ok-built_tier.tier c.into_parts-commits.result.0 (groups_in k) c.args.start.next c.args.start.now.0 c.args.start.propagate_ms) c.into_parts-commits.ensures.catalog c.in-Ok-built_tier.ensures.built))
+    (subst (λ s. IsBuilt c.in-Ok-built_tier.tier s (groups_in c.args.start.catalog) c.args.start.next c.args.start.now.0 c.args.start.propagate_ms) c.into_parts-schema.ensures.schema
+    (subst (λ k. IsBuilt c.in-Ok-built_tier.tier c.into_parts-schema.result.0 (groups_in k) c.args.start.next c.args.start.now.0 c.args.start.propagate_ms) c.into_parts-schema.ensures.catalog c.in-Ok-built_tier.ensures.built))
     c.in-Ok-built_tier.ensures.sound c.refill.ensures.refills
 
 pub returns-clause-certain : goal.returns-clause-certain

@@ -1,4 +1,4 @@
-use Rattle.std.proofs.Common.{◌≡◌, ◌+◌, ◌∙◌, ◌||◌, ap, drop, sym}
+use Rattle.std.proofs.Common.{◌+◌, ◌∙◌, ◌||◌, ap, drop, sym}
 use Rattle.std.specs.List.{list_any}
 use Rattle.group_catalog.specs.Catalogs.{groups_in}
 use Rattle.group_catalog.specs.Kept.{group_seen}

@@ -1,4 +1,4 @@
-use Rattle.std.proofs.Common.{◌≡◌, arith}
+use Rattle.std.proofs.Common.{arith}
 use Rattle.cache_tier.specs.Rounds.{Drained}
 use Rattle.stored_tier.proofs.SettlingLaws.{doubt_rose, few_doubts}
 use Rattle.reopening.proofs.SettlingLaws.{settled_told, settled_with}
