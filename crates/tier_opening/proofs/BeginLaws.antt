@@ -1,5 +1,5 @@
 -- The tier that the entries leave, as it begins.
-use Rattle.std.proofs.Common.{◌≡◌, ◌∙◌, ◌≤◌, ℕ, Option, Some, None, List, [], ◌∷◌, ◌++◌, true, false, refl, sym, ap, subst}
+use Rattle.std.proofs.Common.{◌≡◌, ◌∙◌, ℕ, List, [], ◌∷◌, refl, sym, ap, subst}
 use Rattle.table_defs.specs.declared.definition.TableDef.{TableDef}
 use Rattle.table_state.specs.declared.history.Entry.{Entry}
 use Rattle.order_laws.specs.Commits.{RiseBetween}
@@ -8,7 +8,7 @@ use Rattle.cache_tier.specs.Events.{with_tier}
 use Rattle.cache_tier.specs.Groups.{Group}
 use Rattle.cache_tier.specs.Journals.{Commits, Defines, Drops, JournalEntry, Marks, Numbers, Prepares, SetsLoaded, SetsState, next_behind}
 use Rattle.cache_tier.specs.StandingBetween.{Each, Stands}
-use Rattle.cache_tier.specs.TierStates.{Settings, Tier, cut, opened}
+use Rattle.cache_tier.specs.TierStates.{Settings, Tier, opened}
 use Rattle.cache_tier.specs.Worlds.{World}
 use Rattle.group_catalog.specs.Catalogs.{groups_in}
 use Rattle.recovery.specs.Recalling.{AreMatched, Recalls, RecallsAll, notes_of, recalled}

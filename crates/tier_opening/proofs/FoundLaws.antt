@@ -1,13 +1,11 @@
 -- The opening of a tier, call by call: the schema, the journal, what its entries leave, and the tier opened again.
-use Rattle.std.proofs.Common.{◌≡◌, ◌∙◌, ◌≤◌, ℕ, Option, Some, None, List, [], ◌∷◌, ◌++◌, Ok, Err, refl, sym, ap, subst}
+use Rattle.std.proofs.Common.{◌≡◌, ◌∙◌, ℕ, Some, None, List, Ok, refl, sym, subst}
 use Rattle.std.specs.Global.{Vec}
-use Rattle.table_defs.specs.declared.definition.TableDef.{TableDef}
-use Rattle.table_state.specs.declared.history.Entry.{Entry}
 use Rattle.table_state.specs.Histories.{state_of}
 use Rattle.table_state.specs.Tables.{TableState}
 use Rattle.outside.specs.Bank.{TellsSchema}
 use Rattle.outside.specs.Calls as site
-use Rattle.outside.specs.Holding.{Held, Slots}
+use Rattle.outside.specs.Holding.{Held}
 use Rattle.outside.specs.Others.{AreOthers}
 use Rattle.outside.specs.Sites.{SiteState}
 use Rattle.order_laws.specs.Commits.{RiseBetween}
@@ -15,10 +13,9 @@ use Rattle.commit_journal.specs.Layout.{Reads}
 use Rattle.commit_journal.specs.Opening.{HaveBytes}
 use Rattle.propagators.specs.Certainty.{KeepsCertain}
 use Rattle.recovery_laws.specs.Notes.{commits_in}
-use Rattle.cache_tier.specs.Groups.{Group}
-use Rattle.cache_tier.specs.Journals.{Journal, JournalEntry, next_behind}
+use Rattle.cache_tier.specs.Journals.{JournalEntry, next_behind}
 use Rattle.cache_tier.specs.StandingBetween.{Each, Stands}
-use Rattle.cache_tier.specs.TierStates.{Settings, Tier, opened}
+use Rattle.cache_tier.specs.TierStates.{Settings, opened}
 use Rattle.cache_tier.specs.Worlds.{IsUnshared, World}
 use Rattle.group_catalog.specs.Catalogs.{groups_in}
 use Rattle.tier_journal.specs.declared.journal.TierJournal.{TierJournal}

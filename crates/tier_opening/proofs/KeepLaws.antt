@@ -1,6 +1,5 @@
 -- A tier that is opened again leaves the world's journal and the tier's schema.
-use Rattle.std.proofs.Common.{◌≡◌, ◌∙◌, ℕ, suc, Option, Some, None, List, [], ◌∷◌, Bool, true, false, Ok, Err, refl, sym, ap, inl, inr}
-use Rattle.std.specs.Bool.{MatchBool}
+use Rattle.std.proofs.Common.{◌≡◌, ◌∙◌, ℕ, suc, Option, Some, None, List, [], ◌∷◌, Bool, true, false, Ok, Err, refl, ap, inl, inr}
 use Rattle.cache_tier.specs.declared.reply.Reply.{Reply}
 use Rattle.cache_tier.specs.Groups.{Group}
 use Rattle.cache_tier.specs.Reading.{ReadsFirst, as_it_was, backing_at}

@@ -1,7 +1,7 @@
 -- A new site: its journal has no entry, and so does its history.
-use Rattle.std.proofs.Common.{◌≡◌, ◌∙◌, ◌≤◌, ◌^◌, ℕ, Option, Some, None, List, [], ◌∷◌, ◌++◌, Bool, true, false, ◌||◌, refl, sym, ap, subst, inl, inr, arith, append-nil, append_assoc}
+use Rattle.std.proofs.Common.{◌≡◌, ◌∙◌, ℕ, Option, Some, None, List, [], ◌∷◌, ◌++◌, Bool, true, false, ◌||◌, refl, sym, ap, subst, arith, append-nil, append_assoc}
 use Rattle.std.specs.Option.{IsSome}
-use Rattle.std.proofs.lemmas.Bool.{eqb-refl}
+use Rattle.std.proofs.lemmas.Bool.{eq-eqb}
 use Rattle.tier_base.specs.declared.number.TableId.{TableId}
 use Rattle.table_defs.specs.declared.definition.TableDef.{TableDef}
 use Rattle.table_state.specs.declared.history.Entry.{Entry}
@@ -11,7 +11,7 @@ use Rattle.table_state.specs.Histories.{has_ticket, state_of}
 use Rattle.table_state.specs.Tables.{TableState}
 use Rattle.outside.specs.Holding.{Held, Slots}
 use Rattle.outside.specs.Others.{AreOthers}
-use Rattle.order_laws.specs.Commits.{HasOps, IsLegal, KeepsOrder, Once, conflicting}
+use Rattle.order_laws.specs.Commits.{HasOps, KeepsOrder, Once, conflicting}
 use Rattle.commit_journal.specs.Layout.{Placed, Reads, new}
 use Rattle.commit_journal.specs.Opening.{IsBlank}
 use Rattle.commit_journal.proofs.OneJournal.{one_journal}
@@ -22,7 +22,7 @@ use Rattle.tier_journal.specs.declared.journal.TierJournal.{TierJournal}
 use Rattle.tier_journal.specs.Opening.{StandForAll}
 use Rattle.recovery_laws.specs.Matching.{IsMatched}
 use Rattle.recovery.specs.Recalling.{AreMatched, RecallsAll}
-use Rattle.tier_opening.specs.Opening.{BeginsIn, IsNewSite, MayOpen, begun_tier}
+use Rattle.tier_opening.specs.Opening.{BeginsIn, IsNewSite, MayOpen}
 
 no_entries : (schema : List TableDef) (entries : List JournalEntry) (placed : List Placed) → placed ≡ [] → StandForAll schema entries placed → entries ≡ []
 no_entries schema [] placed e h = refl
@@ -35,13 +35,18 @@ none_said schema slots entries placed blank reads stand =
     no_entries schema entries placed x.entries_same stand
 
 -- others leave a state, and bring no ticket
+left_more : {Y : Type 0} (h : List Entry) → IsSome (state_of h) → ((x : TableState) → state_of h ≡ Some x → Y) → Y
+left_more {Y = Y} h some next = by (state_of h) refl some
+  where
+    by : (o : Option TableState) → state_of h ≡ o → IsSome o → Y
+    by None e is = cc
+    by (Some x) e is = next x e
+
 left_by : (shared : List TableId) (entries h : List Entry) (s : TableState) → state_of h ≡ Some s → AreOthers shared h entries → (x : TableState) × (state_of (h ++ entries) ≡ Some x)
 left_by shared [] h s is a = (s, ap state_of (append-nil h) ∙ is)
-left_by shared (Foreign ops ∷ entries) h s is a = by (state_of (h ++ Foreign ops ∷ [])) refl (a.1 s is)
-  where
-    by : (o : Option TableState) → state_of (h ++ Foreign ops ∷ []) ≡ o → IsSome o → (x : TableState) × (state_of (h ++ Foreign ops ∷ entries) ≡ Some x)
-    by None e some = absurd some
-    by (Some x) e some = subst (λ l. (y : TableState) × (state_of l ≡ Some y)) (append_assoc h (Foreign ops ∷ []) entries) (left_by shared entries (h ++ Foreign ops ∷ []) x e a.2)
+left_by shared (Foreign ops ∷ entries) h s is a =
+    left_more (h ++ Foreign ops ∷ []) (a.1 s is)
+    (λ x e. subst (λ l. (y : TableState) × (state_of l ≡ Some y)) (append_assoc h (Foreign ops ∷ []) entries) (left_by shared entries (h ++ Foreign ops ∷ []) x e a.2))
 left_by shared (Definition def ∷ entries) h s is a = absurd a
 left_by shared (Own ticket ops ∷ entries) h s is a = absurd a
 
@@ -51,15 +56,15 @@ ticket_of_others shared (Foreign ops ∷ entries) front t a = ticket_of_others s
 ticket_of_others shared (Definition def ∷ entries) front t a = absurd a
 ticket_of_others shared (Own ticket ops ∷ entries) front t a = absurd a
 
+either_more : (b x y z : Bool) → x ≡ (y || z) → (b || x) ≡ ((b || y) || z)
+either_more true x y z e = refl
+either_more false x y z e = e
+
 ticket_in : (t : ℕ) (xs ys : List Entry) → has_ticket t (xs ++ ys) ≡ (has_ticket t xs || has_ticket t ys)
 ticket_in t [] ys = refl
 ticket_in t (Definition def ∷ xs) ys = ticket_in t xs ys
 ticket_in t (Foreign ops ∷ xs) ys = ticket_in t xs ys
-ticket_in t (Own ticket ops ∷ xs) ys = by (Rattle.std.specs.Prelude.nat_eq ticket.0 t)
-  where
-    by : (b : Bool) → (b || has_ticket t (xs ++ ys)) ≡ ((b || has_ticket t xs) || has_ticket t ys)
-    by true = refl
-    by false = ticket_in t xs ys
+ticket_in t (Own ticket ops ∷ xs) ys = either_more (Rattle.std.specs.Prelude.nat_eq ticket.0 t) (has_ticket t (xs ++ ys)) (has_ticket t xs) (has_ticket t ys) (ticket_in t xs ys)
 
 -- a history without tickets is in order for each log without transactions
 abbrev HasNone : List Entry → Type 0
@@ -70,7 +75,7 @@ no_own ticket h true e is = cc
 no_own ticket h false e is = cc
 
 rest_none : (h : List Entry) (ticket : Rattle.tier_base.specs.declared.number.Ticket.Ticket) (ops : List Rattle.table_state.specs.declared.operation.Op.Op) → HasNone (Own ticket ops ∷ h) → ⊥
-rest_none h ticket ops none = no_own ticket.0 h (Rattle.std.specs.Prelude.nat_eq ticket.0 ticket.0) (none ticket.0) (eqb-refl ticket.0)
+rest_none h ticket ops none = no_own ticket.0 h (Rattle.std.specs.Prelude.nat_eq ticket.0 ticket.0) (none ticket.0) (eq-eqb ticket.0 ticket.0 refl)
 
 once_none : (h : List Entry) → HasNone h → Once h
 once_none [] none = tt

@@ -1,7 +1,7 @@
 -- Why a tier isn't opened. (This project's rule.)
 
 use Rattle.std.specs.Global.{Vec}
-use Rattle.std.specs.Prelude.{◌≡◌, ◌⊎◌, ℕ, ◌≤◌, List, Option, Some, None, Result, Ok, Err}
+use Rattle.std.specs.Prelude.{◌≡◌, ◌⊎◌, ℕ, ◌≤◌, List, Some, None, Result, Ok, Err}
 use Rattle.row_types.specs.declared.value.Value.{Value}
 use Rattle.reopening.specs.declared.start.ReopenError.{ReopenError}
 use Rattle.reopening.specs.declared.start.ReopenError.TheVariants as reopen

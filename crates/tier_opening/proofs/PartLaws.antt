@@ -1,0 +1,113 @@
+-- What the fold of the entries gives to the opening, and what it is damaged by.
+use Rattle.std.proofs.Common.{◌≡◌, ◌∙◌, ◌≤◌, ◌+◌, ℕ, Option, Some, None, List, [], ◌∷◌, Ok, refl, sym, ap, subst, arith, inr}
+use Rattle.std.specs.Global.{Vec}
+use Rattle.std.specs.List.{list_all}
+use Rattle.table_defs.specs.declared.definition.TableDef.{TableDef}
+use Rattle.table_state.specs.declared.history.Sealed.{Sealed}
+use Rattle.outside.specs.declared.disk.Slot.{Slot}
+use Rattle.outside.specs.Bank.{TellsSchema}
+use Rattle.outside.specs.Calls as site
+use Rattle.outside.specs.Holding.{Held, Slots}
+use Rattle.outside.specs.Sites.{SiteState}
+use Rattle.order_laws.specs.Commits.{RiseBetween}
+use Rattle.journal_entries.specs.declared.entry.Entry.{Entry}
+use Rattle.commit_journal.specs.Layout.{Placed, Reads, entries_of}
+use Rattle.commit_journal.specs.Opening.{HaveBytes}
+use Rattle.commit_journal.specs.Resting.{AtRest}
+use Rattle.propagators.specs.Certainty.{KeepsCertain}
+use Rattle.recovery_laws.specs.Notes.{commits_in}
+use Rattle.cache_tier.specs.Journals.{JournalEntry, next_behind}
+use Rattle.cache_tier.specs.StandingBetween.{Each}
+use Rattle.cache_tier.specs.TierStates.{Settings}
+use Rattle.group_catalog.specs.Catalogs.{groups_in}
+use Rattle.tier_journal.specs.declared.journal.TierJournal.{TierJournal}
+use Rattle.tier_journal.specs.declared.record.Record.{Record}
+use Rattle.tier_journal.specs.declared.opening.Found.TheVariants.{Whole}
+use Rattle.tier_journal.specs.Keeping.{slot_in, version_in}
+use Rattle.tier_journal.specs.Opening.{Finds, StandForAll, meanings}
+use Rattle.tier_journal.specs.Writing.{written, written_all}
+use Rattle.recovery.specs.Recalling.{notes_of}
+use Rattle.recalling.specs.Recalled.{AreInOrder, IsBare, IsFirstUnfit, IsRecalled}
+use Rattle.recalling.specs.declared.recalled.Recalled.{Recalled}
+use Rattle.reopening.specs.Starting.{IsInOrder, ReopensFrom}
+use Rattle.reopening.specs.declared.start.Start.{Start}
+use Rattle.stored_tier.specs.declared.tier.Tier.{Tier as Stored}
+use Rattle.stored_tier.specs.Stored.{HaveOwnNames, is_plain}
+use Rattle.stored_tier.proofs.BankLaws.{TellsBehind, told_behind}
+use Rattle.tier_opening.specs.Opening.{Opens}
+use Rattle.tier_opening.specs.Telling.{IsDamage, IsUnfound}
+use Rattle.tier_opening.proofs.BeginLaws.{RecalledLaw}
+use Rattle.tier_opening.proofs.FoundLaws.{opens}
+
+rise_le : (low : ℕ) (xs : List Sealed) (high : ℕ) → RiseBetween low xs high → low ≤ high
+rise_le low [] high r = r
+rise_le low (s ∷ xs) high r =
+    let rest = rise_le (s.ticket.0 + 1) xs high r.1 in
+    let first = r.0 in
+    omega (arith, first, rest)
+
+-- what the fold gave is in order, as the tier that is opened again asks
+pub in_order : (start : Start) (r : Recalled) (schema : List TableDef) → start.catalog ≡ r.catalog → start.next ≡ r.next → AreInOrder schema (groups_in r.catalog) → RiseBetween 1 r.commits.items r.next → IsInOrder start
+in_order start r schema catalog next order rise = record {
+  plain = ap (λ k. list_all is_plain (groups_in k)) catalog ∙ order.plain;
+  named = subst (λ k. HaveOwnNames (groups_in k)) (sym catalog) order.named;
+  first = subst (λ n. 1 ≤ n) (sym next) (rise_le 1 r.commits.items r.next rise);
+}
+
+pub opens_by : {D : Type 0} (state : D → SiteState) (possible : D → ℕ → Held → Type 0) (d d1 d2 d3 : D) (start : Start) (r : Recalled) (k : TierJournal) (records : Vec (ℕ × Record)) (t : Stored)
+    → start.catalog ≡ r.catalog → start.next ≡ r.next → start.commits ≡ r.commits
+    → site.Told (state d).held (state d1).held (site.BankCall (state d).shared (TellsSchema (Ok start.schema))) → (state d2).shared ≡ (state d).shared
+    → ((o : Held) → (state d1).held ≡ Some o → HaveBytes o.slots → Finds state possible d2 start.schema o (Whole k records)) → version_in k ≡ 2
+    → ((settings : Settings) → IsRecalled settings start.now.0 start.schema (meanings records.items) (groups_in r.catalog)) → AreInOrder start.schema (groups_in r.catalog)
+    → r.commits.items ≡ commits_in (notes_of start.schema (meanings records.items)) → r.next ≡ next_behind (meanings records.items) → RiseBetween 1 r.commits.items r.next
+    → ReopensFrom start (state d2) (state d3) (Ok t) → KeepsCertain state possible d2 d3 → RecalledLaw → Opens state possible start.now.0 start.propagate_ms d d3 t k
+opens_by state possible d d1 d2 d3 start r k records t catalog next commits told shared found two recalls order commits_are next_is rise reopens certain law =
+    opens state possible d d1 d2 d3 start k records t told shared found two
+    (λ settings. subst (λ c. IsRecalled settings start.now.0 start.schema (meanings records.items) (groups_in c)) (sym catalog) (recalls settings))
+    (subst (λ c. Each IsBare (groups_in c)) (sym catalog) order.bare)
+    (ap (λ x. x.items) commits ∙ commits_are) (next ∙ next_is)
+    (subst (λ n. RiseBetween 1 start.commits.items n) (sym next) (subst (λ x. RiseBetween 1 x.items r.next) (sym commits) rise))
+    reopens certain law
+
+-- ---- damage
+
+stand_written : (schema : List TableDef) (entries : List JournalEntry) (placed : List Placed) → StandForAll schema entries placed → entries_of placed ≡ written_all schema entries
+stand_written schema [] [] h = refl
+stand_written schema [] (p ∷ placed) h = absurd h
+stand_written schema (x ∷ entries) [] h = absurd h
+stand_written schema (x ∷ entries) (p ∷ placed) h =
+    ap (λ (e : Entry). e ∷ entries_of placed) (sym h.0.is) ∙ ap (λ (l : List Entry). written schema x ∷ l) (stand_written schema entries placed h.1)
+
+pub unfit_at : {D : Type 0} (state : D → SiteState) (possible : D → ℕ → Held → Type 0) (moment : ℕ) (d d1 d2 : D) (schema : List TableDef) (k : TierJournal) (records : Vec (ℕ × Record)) (slot : Slot) (place : ℕ)
+    → site.Told (state d).held (state d1).held (site.BankCall (state d).shared (TellsSchema (Ok schema)))
+    → ((o : Held) → (state d1).held ≡ Some o → HaveBytes o.slots → Finds state possible d2 schema o (Whole k records)) → slot ≡ slot_in k
+    → ((settings : Settings) → IsFirstUnfit settings moment schema records.items place)
+    → (o : Held) → (state d).held ≡ Some o → HaveBytes o.slots → IsDamage moment o slot place
+unfit_at state possible moment d d1 d2 schema k records slot place told found same first o held bytes =
+    let now : TellsBehind o (state d1).held (site.BankCall (state d).shared (TellsSchema (Ok schema))) = told_behind o (state d).held (state d1).held (site.BankCall (state d).shared (TellsSchema (Ok schema))) held told in
+    let f : Finds state possible d2 schema now.there (Whole k records) = found now.there now.told (subst HaveBytes (sym now.is.slots) bytes) in
+    let rests : AtRest k.journal f.now.slots (entries_of f.shows.0) [] =
+    subst (λ l. AtRest k.journal f.now.slots l []) (sym (stand_written schema (meanings records.items) f.shows.0 f.shows.2)) f.shows.4.rests in
+    record {
+      schema = schema;
+      now = f.now.slots;
+      is = inr (record {
+        placed = f.shows.0;
+        reads = subst (λ x. Reads x f.shows.0 None) now.is.slots f.shows.1;
+        records = records.items;
+        stand = f.shows.2;
+        places = f.shows.3;
+        counts = (k.journal, rests, sym same);
+        first = first;
+      });
+    }
+
+-- the journal's own damage, behind the question for the schema
+pub unfound_behind : {D : Type 0} (state : D → SiteState) (moment : ℕ) (d d1 : D) (schema : List TableDef) (slot : Slot) (place : ℕ)
+    → site.Told (state d).held (state d1).held (site.BankCall (state d).shared (TellsSchema (Ok schema)))
+    → ((o : Held) → (state d1).held ≡ Some o → HaveBytes o.slots → (now : Slots) × IsUnfound schema o.slots now slot place)
+    → (o : Held) → (state d).held ≡ Some o → HaveBytes o.slots → IsDamage moment o slot place
+unfound_behind state moment d d1 schema slot place told found o held bytes =
+    let now : TellsBehind o (state d1).held (site.BankCall (state d).shared (TellsSchema (Ok schema))) = told_behind o (state d).held (state d1).held (site.BankCall (state d).shared (TellsSchema (Ok schema))) held told in
+    let x = found now.there now.told (subst HaveBytes (sym now.is.slots) bytes) in
+    record { schema = schema; now = x.0; is = Rattle.std.proofs.Common.inl (subst (λ s. IsUnfound schema s x.0 slot place) now.is.slots x.1) }

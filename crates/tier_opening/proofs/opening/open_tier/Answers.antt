@@ -1,0 +1,35 @@
+use Rattle.std.proofs.Common.{◌≡◌, ◌∙◌, ℕ, ap, arith, refl, subst, sym}
+use Rattle.recalling.specs.declared.recalled.RecallError.{RecallError}
+use Rattle.recalling.specs.Recalled.{IsRefusedFor}
+use Rattle.tier_journal.specs.Opening.{Finds}
+use Rattle.tier_opening.specs.Telling.{IsDamage}
+use Rattle.tier_opening.proofs.PartLaws.{in_order, opens_by, unfit_at}
+use Rattle.tier_opening.proofs.opening.open_tier.Goals as goal
+
+pub returns-in-Err-Unfit-clause-cause : goal.returns-in-Err-Unfit-clause-cause
+returns-in-Err-Unfit-clause-cause g c = record {
+  bank_later = (let le = c.in-Ok.ensures.cause.later in let same = c.in_ok-journal.ensures.cause.bank in omega (arith, le, same));
+  disk_later = (let same = c.in-Ok.ensures.cause.disk in let le = c.in_ok-journal.ensures.cause.later in omega (arith, same, le));
+  shares = c.in_ok-journal.ensures.cause.shared ∙ c.in-Ok.ensures.cause.shared;
+  failed = λ o held bytes.
+      subst (λ (p : ℕ). IsDamage c.args.start.0 o c.slot.result p) (sym c.in-Err-Unfit.place-is) (
+      unfit_at g.P.Disk.state g.P.Disk.possible c.args.start.0 c.args.site.now c.schema.new.self c.found_journal.new.site c.in-Ok.schema c.in_ok-journal.journal c.in_ok-journal.records c.slot.result _
+      c.in-Ok.ensures.told
+      (subst (λ s. (o : Rattle.outside.specs.Holding.Held) → (g.P.Disk.state c.schema.new.self).held ≡ Rattle.std.proofs.Common.Some o → Rattle.commit_journal.specs.Opening.HaveBytes o.slots → Finds g.P.Disk.state g.P.Disk.possible c.found_journal.new.site s o (Rattle.tier_journal.specs.declared.opening.Found.TheVariants.Whole c.in_ok-journal.journal c.in_ok-journal.records)) c.as_slice.ensures c.in_ok-journal.ensures.found)
+      c.slot.ensures
+      (λ settings. subst (λ (e : RecallError). IsRefusedFor settings c.args.start.0 c.in-Ok.schema c.in_ok-journal.records.items e) c.in-Err-Unfit.field-0-is (c.in-Err-Unfit.ensures.unfit settings))
+      o held bytes);
+}
+
+pub reopen-requires : goal.reopen-requires
+reopen-requires g c =
+    in_order _ c.in-Ok-recall.recalled c.in-Ok.schema (ap (λ p. p.0) c.into_parts-catalog.ensures) (ap (λ p. p.1) c.into_parts-catalog.ensures) c.in-Ok-recall.ensures.order c.in-Ok-recall.ensures.rise
+
+pub returns-in-Ok-reopen-clause-opens : goal.returns-in-Ok-reopen-clause-opens
+returns-in-Ok-reopen-clause-opens g c =
+    opens_by g.P.Disk.state g.P.Disk.possible c.args.site.now c.schema.new.self c.found_journal.new.site c.reopen.new.site _ c.in-Ok-recall.recalled c.in_ok-journal.journal c.in_ok-journal.records c.in-Ok-reopen.tier
+    (ap (λ p. p.0) c.into_parts-catalog.ensures) (ap (λ p. p.1) c.into_parts-catalog.ensures) (ap (λ p. p.2) c.into_parts-catalog.ensures)
+    c.in-Ok.ensures.told (c.in_ok-journal.ensures.cause.shared ∙ c.in-Ok.ensures.cause.shared)
+    (subst (λ s. (o : Rattle.outside.specs.Holding.Held) → (g.P.Disk.state c.schema.new.self).held ≡ Rattle.std.proofs.Common.Some o → Rattle.commit_journal.specs.Opening.HaveBytes o.slots → Finds g.P.Disk.state g.P.Disk.possible c.found_journal.new.site s o (Rattle.tier_journal.specs.declared.opening.Found.TheVariants.Whole c.in_ok-journal.journal c.in_ok-journal.records)) c.as_slice.ensures c.in_ok-journal.ensures.found)
+    c.in_ok-journal.ensures.version c.in-Ok-recall.ensures.recalls c.in-Ok-recall.ensures.order c.in-Ok-recall.ensures.commits c.in-Ok-recall.ensures.next c.in-Ok-recall.ensures.rise
+    c.in-Ok-reopen.ensures.reopens c.in-Ok-reopen.ensures.certain c.recalled_law.ensures.stands
