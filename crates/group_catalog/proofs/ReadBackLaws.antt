@@ -118,4 +118,4 @@ stands_read_back schema groups d tree a first now = record {
     apart t there =
         sym (any_defs (is_defined_on t) groups)
         ∙ not_grouped (definitions_of groups) ps t (no_d schema (definitions_of groups) ps letters.1)
-          (tree_inside ps tree t a.is ∙ sym (place_one tree t) ∙ there)
+        (tree_inside ps tree t a.is ∙ sym (place_one tree t) ∙ there)
