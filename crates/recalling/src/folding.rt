@@ -20,8 +20,8 @@ use table_state::Sealed;
 use tier_base::{Moment, Ticket};
 use tier_journal::Record;
 
-// What entries leave: the groups, one above their greatest ticket, the next ticket, which is at least their marks, and
-// the transactions that they commit.
+// What entries leave: the groups, one above their greatest ticket, the next ticket, which is at least their marks,
+// and the transactions that they commit.
 pub(crate) struct Fold {
     pub(crate) catalog: Catalog,
     pub(crate) above: u64,
@@ -91,23 +91,19 @@ impl Fold {
             → fits schema.now (groups_in self.old.catalog) self.old.above (meaning entry) ≡ false) }
     {
         match entry.into_commit() {
-            Ok(sealed) => self.take_commit(schema, now, sealed),
+            Ok(sealed) => self.take_commit(schema, sealed),
             Err(entry) => match entry.into_definition() {
                 Ok((declared, _)) => self.take_definition(alloc, schema, now, declared),
-                Err(entry) => Ok(self.take_other(schema, now, &entry)),
+                Err(entry) => Ok(self.take_other(schema, &entry)),
             },
         }
     }
 
-    fn take_commit(
-        &mut self,
-        schema: &BackingSchema,
-        now: Moment,
-        sealed: Sealed,
-    ) -> Result<bool, AllocError>
+    // An asynchronous transaction, which waits behind those before it.
+    fn take_commit(&mut self, schema: &BackingSchema, sealed: Sealed) -> Result<bool, AllocError>
         requires own { HaveOwnTables (groups_in self.old.catalog) }
-        ensures taken { IfOk result (λ fit. fit ≡ true
-            → IsTaken schema.now now.0 (Commits sealed) self.old self.new) }
+        ensures taken { (moment : ℕ) → IfOk result (λ fit. fit ≡ true
+            → IsTaken schema.now moment (Commits sealed) self.old self.new) }
         ensures unfit { IfOk result (λ fit. fit ≡ false
             → fits schema.now (groups_in self.old.catalog) self.old.above (Commits sealed) ≡ false) }
     {
@@ -118,6 +114,7 @@ impl Fold {
         Ok(true)
     }
 
+    // The definition of a group, which comes behind the others.
     fn take_definition(
         &mut self,
         alloc: Global,
@@ -146,12 +143,13 @@ impl Fold {
     }
 
     // An entry that is no commit and no definition.
-    fn take_other(&mut self, schema: &BackingSchema, now: Moment, entry: &Record) -> bool
+    fn take_other(&mut self, schema: &BackingSchema, entry: &Record) -> bool
         requires own { HaveOwnTables (groups_in self.old.catalog) }
         requires named { AreNamedApart (groups_in self.old.catalog) }
         requires commit { is_commit entry.now ≡ false }
         requires definition { is_definition entry.now ≡ false }
-        ensures taken { result ≡ true → IsTaken schema.now now.0 (meaning entry.now) self.old self.new }
+        ensures taken { (moment : ℕ) → result ≡ true
+            → IsTaken schema.now moment (meaning entry.now) self.old self.new }
         ensures unfit { result ≡ false
             → fits schema.now (groups_in self.old.catalog) self.old.above (meaning entry.now) ≡ false }
     {

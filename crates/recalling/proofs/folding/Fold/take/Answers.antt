@@ -11,3 +11,8 @@ returns-in-Ok-into_definition-clause-taken c =
     let is : meaning c.args.entry ≡ Defines d.declared d.field-0-1 = ap meaning (sym c.in-Err.ensures.same ∙ d.ensures.definition) in
     subst (λ m. IfOk c.take_definition.result (λ fit. fit ≡ true → IsTaken c.args.schema.now c.args.now.0 m c.args.self.now c.take_definition.new.self)) (sym is)
     (c.take_definition.ensures.taken d.field-0-1)
+
+pub returns-clause-taken : goal.returns-clause-taken
+returns-clause-taken c = λ fit.
+    subst (λ r. IsTaken c.args.schema.now c.args.now.0 (meaning r) c.args.self.now c.take_other.new.self)
+    (c.in-Err-into_definition.ensures.same ∙ c.in-Err.ensures.same) (c.take_other.ensures.taken c.args.now.0 fit)
