@@ -1,6 +1,7 @@
 -- The rows that come back when a tier is opened again. (This project's model.)
 
-use Rattle.std.specs.Prelude.{◌≡◌, ℕ, List, [], Bool, false, Some, None, Option, Result, Ok, drop, map, slice_get, length}
+use Rattle.std.specs.Prelude.{◌≡◌, ℕ, List, [], Bool, false, Some, None, Option, Result, Ok, drop, map, slice_get}
+use Rattle.std.specs.Prelude.{length}
 use Rattle.group_catalog.specs.Catalogs.{groups_in}
 use Rattle.group_catalog.specs.declared.which.ResolvedWhich.{ResolvedWhich}
 use Rattle.outside.specs.declared.fault.BankError.{BankError}

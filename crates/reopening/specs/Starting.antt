@@ -1,5 +1,5 @@
--- What a tier is opened again with, the abstract tier that begins so, and what opening it leaves. (TimesTen Cache User's
--- Guide, "Recovery"; that sets count from the opening, and that no session is open, is this project's rule.)
+-- What a tier is opened again with, the abstract tier that begins so, and what opening it leaves. (TimesTen Cache
+-- User's Guide, "Recovery"; that sets count from the opening, and that no session is open, is this project's rule.)
 
 use Rattle.std.specs.Prelude.{◌≡◌, ◌⊎◌, ◌≤◌, [], None, true, false, Result, Ok, Err}
 use Rattle.std.specs.List.{list_all}
@@ -88,7 +88,8 @@ abbrev pub ReopensFrom : Start → SiteState → SiteState → Result Stored Reo
 ReopensFrom start before behind result =
     (w : World) → IsAt before w → Stands w → IsUnshared w → BeginsAs start w.tier → OpensAgain behind w result
 
--- The same of the rows that come back behind the round: the tier stands for a world behind, or that came to its end early.
+-- The same of the rows that come back behind the round: the tier stands for a world behind, or that came to its end
+-- early.
 abbrev pub Refilled : SiteState → World → Result Stored ReopenError → Type 0
 Refilled behind w (Ok t) = IsPerformed t behind (λ w'. Reloads w w' None)
 Refilled behind w (Err e) = IsLeft behind (λ w'. Reloads w w' (round_stop w.tier (end_told e)))

@@ -24,8 +24,8 @@ use stored_tier::tier::Tier;
 use table_defs::{BackingSchema, TableDef};
 use tier_base::{Limit, Moment};
 
-// The tier with this schema and these groups, in which nothing is unsettled, no session is open, and no row is kept. Its
-// sets count from this moment. It fails for want of memory alone.
+// The tier with this schema and these groups, in which nothing is unsettled, no session is open, and no row is kept.
+// Its sets count from this moment. It fails for want of memory alone.
 pub(crate) fn built_tier(
     alloc: Global,
     schema: BackingSchema,
@@ -98,11 +98,7 @@ fn begun_clock(
 }
 
 // The set of each READONLY group counts from this moment on.
-fn begun_sets(
-    alloc: Global,
-    catalog: &Catalog,
-    opened: u64,
-) -> Result<Vec<SetMoment>, AllocError>
+fn begun_sets(alloc: Global, catalog: &Catalog, opened: u64) -> Result<Vec<SetMoment>, AllocError>
     ensures { IfOk result (λ sets. map set_seen sets.items ≡ sets_from opened (groups_in catalog.now)) }
 {
     let mut sets = Vec::new(alloc);

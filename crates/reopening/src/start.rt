@@ -19,8 +19,8 @@ pub struct Start {
     pub schema: BackingSchema,
     /// The groups, with their STATEs and flags.
     pub catalog: Catalog,
-    /// The committed transactions whose receipt isn't known, in ticket order. Those of groups that were dropped since are
-    /// among them.
+    /// The committed transactions whose receipt isn't known, in ticket order. Those of groups that were dropped since
+    /// are among them.
     pub commits: VecDeque<Sealed>,
     /// The next ticket.
     pub next: u64,
