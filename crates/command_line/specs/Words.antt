@@ -20,7 +20,8 @@ word_of (Bench n) = codes "bench"
 
 abbrev pub IsWord : Text → Type 0
 IsWord word =
-    (word ≡ codes "run") ⊎ ((word ≡ codes "check") ⊎ ((word ≡ codes "import") ⊎ ((word ≡ codes "make") ⊎ (word ≡ codes "bench"))))
+    (word ≡ codes "run") ⊎ ((word ≡ codes "check") ⊎ ((word ≡ codes "import")
+    ⊎ ((word ≡ codes "make") ⊎ (word ≡ codes "bench"))))
 
 -- the name of a table must stand behind the word, which may be any text
 abbrev pub table_rule : Rule

@@ -1,5 +1,5 @@
--- The INSERTs of a CSV file. (RFC 4180 and the crate csv say what a record and a field are; codes and their order are this
--- project's rule.)
+-- The INSERTs of a CSV file. (RFC 4180 and the crate csv say what a record and a field are; codes and their order are
+-- this project's rule.)
 
 use Rattle.std.specs.Prelude.{◌≡◌, ℕ, ◌+◌, ◌==◌, nat_le, nat_lt, Bool, true, false, ◌&&◌, ◌||◌, not, if◌then◌else◌, List, [], ◌∷◌, length, Option, Some, None, Result, Ok, Err}
 use Rattle.std.specs.List.{list_all, list_any}
@@ -100,15 +100,15 @@ kept_insert table columns values = then_do (λ row. Ok (insert_of table values))
 abbrev pub is_record : List Column → List (List ℕ) → Bool
 is_record columns fields = (length fields == length columns) && list_all is_utf8 fields
 
--- the INSERT of the record of this number: 101 of the record, then 105 of a field that doesn't read, then 105 and 106 of
--- what was read
+-- the INSERT of the record of this number: 101 of the record, then 105 of a field that doesn't read, then 105 and 106
+-- of what was read
 abbrev pub insert_in : TableId → List Column → ℕ → List (List ℕ) → Result Change Rule
 insert_in table columns number fields =
     if is_record columns fields then then_do (kept_insert table columns) (literals_in columns fields)
     else Err (wrong_record number)
 
--- what the record of this number gives: number 0 is the header, which names the columns and gives nothing; a record past
--- the number of operations that a transaction may have is 119; any other one gives its INSERT
+-- what the record of this number gives: number 0 is the header, which names the columns and gives nothing; a record
+-- past the number of operations that a transaction may have is 119; any other one gives its INSERT
 abbrev pub given_by : TableId → List Column → ℕ → List (List ℕ) → Result (List Change) Rule
 given_by table columns number fields =
     if number == 0 then (if name_columns columns fields then Ok [] else Err (wrong_record 0))

@@ -53,8 +53,8 @@ pub(crate) fn take_record(
 /// The INSERT of a record.
 ///
 /// The refusal is 101 of a record with another number of fields than columns or with a field that isn't UTF-8, then 105
-/// of the first column whose field doesn't read, then 105 of the first column that can't hold its value, then 106 of the
-/// first that refuses NULL; or memory was wanting.
+/// of the first column whose field doesn't read, then 105 of the first column that can't hold its value, then 106 of
+/// the first that refuses NULL; or memory was wanting.
 fn insert_in(
     alloc: Global,
     table: TableId,
