@@ -1,5 +1,5 @@
 -- An engine that is opened with its journal.
-use Rattle.std.proofs.Common.{◌≡◌, ◌||◌, ◌≤◌, ◌+◌, ℕ, Bool, true, false, Option, Some, None, Result, Ok, Err, List, [], ◌∷◌, ◌++◌, length, refl, sym, ap, ◌∙◌, subst, arith, append-nil, append_assoc, le_refl, lit≤}
+use Rattle.std.proofs.Common.{◌≡◌, ◌||◌, ◌≤◌, ℕ, Bool, true, false, Option, Some, None, Ok, List, [], ◌∷◌, ◌++◌, length, refl, sym, ap, ◌∙◌, subst, arith, append-nil, append_assoc, lit≤}
 use Rattle.std.specs.Option.{IsSome}
 use Rattle.std.specs.Global.{Vec}
 use Rattle.tier_base.specs.declared.number.Moment.{Moment}
@@ -12,15 +12,10 @@ use Rattle.table_state.specs.Tables.{TableState}
 use Rattle.table_state.proofs.HistoryLaws.{has_ticket-append}
 use Rattle.order_laws.specs.Commits.{Once}
 use Rattle.order_laws.specs.Steps.{MayBegin}
-use Rattle.outside.specs.Faults.{BankHasCause, Rose}
 use Rattle.outside.specs.Holding.{Held}
 use Rattle.outside.specs.Others.{AreOthers}
 use Rattle.outside.specs.Sites.{SiteState}
-use Rattle.outside.specs.declared.fault.BankError.{BankError}
-use Rattle.outside.specs.declared.fault.BankError.TheVariants.{Failed}
-use Rattle.commit_journal.specs.Causes.{OpenHasCause}
 use Rattle.commit_journal.specs.Opening.{HaveBytes, IsBlank}
-use Rattle.commit_journal.specs.declared.fault.OpenError.{OpenError as JournalError}
 use Rattle.cache_tier.specs.Journals.{new_journal}
 use Rattle.cache_tier.specs.Worlds.{World}
 use Rattle.tier_journal.specs.Keeping.{Keeps, version_in}
@@ -35,9 +30,7 @@ use Rattle.stored_tier.proofs.OverLaws.{stands_written}
 use Rattle.session_engine.specs.Doubting.{IsLeft}
 use Rattle.cache_engine.specs.Beginning.{BeginsAt, opened_world}
 use Rattle.cache_engine.specs.Engines.{IsBegunWith}
-use Rattle.cache_engine.specs.Opening.{GetsJournal, HasNoTickets, IsNewOver, JournalFailed, JournalFailsAs, JournalIsCaused, OpenFailed, OpenIsCaused, OpensOver, has_journal}
-use Rattle.cache_engine.specs.declared.opening.OpenError.{OpenError}
-use Rattle.cache_engine.specs.declared.opening.OpenError.TheVariants as open_error
+use Rattle.cache_engine.specs.Opening.{GetsJournal, HasNoTickets, IsNewOver, JournalIsCaused, OpensOver}
 use Rattle.cache_engine.specs.declared.engine.Engine.{Engine}
 
 -- A HISTORY WITHOUT TICKETS
@@ -161,46 +154,3 @@ module _ {D : Type 0} (state : D → SiteState) (possible : D → ℕ → Held �
           journal = refl;
         };
       }
-
-pub kept_there : (e : Engine) (t : TierJournal) → e.journal ≡ Some t → has_journal e.journal ≡ true
-kept_there e t is = ap has_journal is
-
--- THE CAUSES
-
--- the disk isn't called, and memory is wanting
-pub journal_still : (site : SiteState) → JournalIsCaused {T = Unit {0}} site site (Err open_error.Memory)
-journal_still site = record { later = le_refl site.disk_faults; bank = refl; shares = refl; failed = tt }
-
-pub journal_caused : {X : Type 0} (a b : SiteState) (told : Result X JournalError) (result : Result (Unit {0}) OpenError) → OpenHasCause a b told → JournalFailsAs a b result → JournalIsCaused a b result
-journal_caused a b told result p failed = record { later = p.later; bank = p.bank; shares = p.shared; failed = failed }
-
--- the bank failed, or memory was wanting there
-pub open_bank : {T X : Type 0} (a b : SiteState) → BankHasCause {T = X} a b (Err Failed) → BeginsAt a b → OpenIsCaused {T = T} a b (Err open_error.Bank)
-open_bank a b p begins = record { bank_later = p.later; disk_later = (let same = p.disk in omega (arith, same)); shares = p.shared; failed = (p.failed refl, begins) }
-
-pub open_wanting : {T X : Type 0} (a b : SiteState) (told : Result X BankError) → BankHasCause a b told → OpenIsCaused {T = T} a b (Err open_error.Memory)
-open_wanting a b told p = record { bank_later = p.later; disk_later = (let same = p.disk in omega (arith, same)); shares = p.shared; failed = tt }
-
--- the bank told, and then the journal was opened, or wasn't
-pub open_done : {T X : Type 0} (a m b : SiteState) (told : Result X BankError) (engine : T) → BankHasCause a m told → JournalIsCaused {T = Unit {0}} m b (Ok tt) → OpenIsCaused {T = T} a b (Ok engine)
-open_done a m b told engine p q = record {
-  bank_later = (let same = q.bank in let le = p.later in omega (arith, same, le));
-  disk_later = (let same = p.disk in let le = q.later in omega (arith, same, le));
-  shares = q.shares ∙ p.shared;
-  failed = tt;
-}
-
-failed_on : (a m b : SiteState) (error : OpenError) → m.disk_faults ≡ a.disk_faults → JournalFailed m b error → OpenFailed a b error
-failed_on a m b open_error.Disk same f = subst (λ n. Rose n b.disk_faults) same f
-failed_on a m b open_error.Bank same f = absurd f
-failed_on a m b (open_error.Damaged slot place) same f = tt
-failed_on a m b (open_error.Differs table key) same f = tt
-failed_on a m b open_error.Memory same f = tt
-
-pub open_failed : {T X : Type 0} (a m b : SiteState) (told : Result X BankError) (error : OpenError) → BankHasCause a m told → JournalIsCaused {T = Unit {0}} m b (Err error) → OpenIsCaused {T = T} a b (Err error)
-open_failed a m b told error p q = record {
-  bank_later = (let same = q.bank in let le = p.later in omega (arith, same, le));
-  disk_later = (let same = p.disk in let le = q.later in omega (arith, same, le));
-  shares = q.shares ∙ p.shared;
-  failed = failed_on a m b error p.disk q.failed;
-}

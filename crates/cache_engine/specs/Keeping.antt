@@ -1,6 +1,6 @@
 -- An engine that gets a journal without entries. (This project's rule.)
 
-use Rattle.std.specs.Prelude.{◌≡◌, ℕ, Option, Some}
+use Rattle.std.specs.Prelude.{◌≡◌, ℕ, Some}
 use Rattle.outside.specs.Holding.{Held}
 use Rattle.outside.specs.Sites.{SiteState}
 use Rattle.commit_journal.specs.Opening.{HaveBytes}
