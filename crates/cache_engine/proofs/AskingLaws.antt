@@ -1,5 +1,5 @@
 -- The question for the schema.
-use Rattle.std.proofs.Common.{◌≡◌, ◌≤◌, ℕ, Bool, true, false, not, cond, ◌&&◌, ◌||◌, Option, Some, None, List, [], ◌∷◌, ◌++◌, map, refl, sym, ap, ◌∙◌, subst}
+use Rattle.std.proofs.Common.{◌≡◌, ◌≤◌, ℕ, Bool, true, false, not, ◌&&◌, ◌||◌, Option, Some, None, List, [], ◌∷◌, ◌++◌, map, refl, sym, ap, ◌∙◌, subst}
 use Rattle.std.specs.Prelude.{Result, Ok, Err}
 use Rattle.std.specs.Bool.{MatchBool}
 use Rattle.std.specs.List.{flat_map, list_any}
@@ -12,26 +12,23 @@ use Rattle.table_state.specs.Histories.{state_of}
 use Rattle.table_state.specs.Tables.{TableState}
 use Rattle.outside.specs.Bank.{Grows, TellsSchema}
 use Rattle.outside.specs.Calls as site
-use Rattle.outside.specs.Holding.{Held}
-use Rattle.outside.specs.Others.{AreOthers, Around}
+use Rattle.outside.specs.Others.{Around}
 use Rattle.outside.specs.declared.fault.BankError.{BankError}
 use Rattle.sql_subset.specs.declared.request.Line.{Line}
 use Rattle.group_catalog.specs.Catalogs.{groups_in}
 use Rattle.cache_tier.specs.ConsoleSteps.{Asked, AsksSchema, asks_schema, is_cached_name, names_of_line, told}
 use Rattle.cache_tier.specs.declared.reply.Reply.{Reply}
 use Rattle.cache_tier.specs.Groups.{Group, covers, definitions_of, is_defined_on, is_table_of}
-use Rattle.cache_tier.specs.Shown.{shown_state}
 use Rattle.cache_tier.specs.TierStates.{Tier}
-use Rattle.cache_tier.specs.Worlds.{BankCall, IsUnshared, Passes, World, bank_fault}
+use Rattle.cache_tier.specs.Worlds.{IsUnshared, Passes, World, bank_fault}
 use Rattle.cache_tier.specs.Defining.{ShowsSchema, with_tables}
 use Rattle.cache_tier.specs.Events.{StaysShown, at_history, with_tier}
 use Rattle.cache_tier.specs.StandingBetween.{Stands}
 use Rattle.stored_tier.specs.declared.tier.Tier.{Tier as Stored}
 use Rattle.cache_engine.specs.Growing.{Learns, has_to_ask, misses}
 use Rattle.stored_tier.specs.Performing.{Performs}
-use Rattle.stored_tier.specs.Sites.{IsAt}
 use Rattle.outside.specs.Sites.{SiteState}
-use Rattle.stored_tier.specs.Stored.{IsStoredAs, rows_of, without_list}
+use Rattle.stored_tier.specs.Stored.{IsStoredAs, without_list}
 use Rattle.stored_tier.proofs.BankLaws.{behind, call_behind, told_behind}
 use Rattle.stored_tier.proofs.NamingLaws.{cached_seen}
 use Rattle.session_engine.proofs.OthersLaws.{only_reads, schema_told}

@@ -1,8 +1,7 @@
 -- A tier that begins.
-use Rattle.std.proofs.Common.{◌≡◌, ◌≤◌, ℕ, suc, true, false, Option, Some, None, List, [], ◌∷◌, ◌++◌, length, map, slice_get, refl, sym, ap, ◌∙◌, subst, arith}
+use Rattle.std.proofs.Common.{◌≡◌, ◌≤◌, ℕ, suc, true, false, Some, List, [], ◌∷◌, map, slice_get, refl, sym, ap, ◌∙◌, subst, arith}
 use Rattle.std.specs.List.{list_all}
 use Rattle.tier_base.specs.declared.number.Moment.{Moment}
-use Rattle.tier_base.specs.declared.number.TableId.{TableId}
 use Rattle.table_defs.specs.declared.definition.TableDef.{TableDef}
 use Rattle.table_state.specs.declared.history.Entry.{Entry}
 use Rattle.table_state.specs.Histories.{state_of}
@@ -11,13 +10,10 @@ use Rattle.order_laws.specs.Commits.{RiseBetween}
 use Rattle.order_laws.specs.Steps.{MayBegin}
 use Rattle.outside.specs.Bank.{Grows, TellsSchema}
 use Rattle.outside.specs.Calls as site
-use Rattle.outside.specs.Holding.{Held}
-use Rattle.outside.specs.Others.{Around}
-use Rattle.std.specs.Prelude.{Result, Ok, Err}
-use Rattle.open_sessions.specs.Opening.{AreSessions, seen_all}
+use Rattle.std.specs.Prelude.{Ok}
+use Rattle.open_sessions.specs.Opening.{AreSessions}
 use Rattle.group_catalog.specs.Catalogs.{groups_in}
 use Rattle.group_store.specs.Shown.{shown_by, stored_rows, tables_by}
-use Rattle.group_store.specs.Stores.{Kept}
 use Rattle.tier_statements.specs.Seen.{session_seen}
 use Rattle.cache_tier.specs.Shown.{shown_state, shown_table, tables_from}
 use Rattle.cache_tier.specs.TierStates.{Settings, Tier, opened}
@@ -26,12 +22,11 @@ use Rattle.cache_tier.specs.Events.{with_tier}
 use Rattle.cache_tier.specs.StandingBetween.{Stands}
 use Rattle.stored_tier.specs.declared.tier.Tier.{Tier as Stored}
 use Rattle.stored_tier.specs.declared.clock.TierClock.{TierClock}
-use Rattle.cache_engine.specs.Beginning.{Begins, BeginsAt, IsBegun, IsFresh, IsNewClock, IsOpened, OthersCame, opened_world}
+use Rattle.cache_engine.specs.Beginning.{Begins, BeginsAt, IsFresh, IsNewClock, IsOpened, opened_world}
 use Rattle.stored_tier.specs.Naming.{AreNamed}
-use Rattle.stored_tier.specs.Performing.{KeepsSlots, StandsFor}
 use Rattle.outside.specs.Sites.{SiteState}
 use Rattle.pending_writes.specs.Noting.{TellsWriters}
-use Rattle.stored_tier.specs.Stored.{AreKept, HaveOwnNames, IsSound, IsStoredAs, KeepsTime, are_later, first_unsettled, is_plain, rows_of, without_list}
+use Rattle.stored_tier.specs.Stored.{AreKept, IsSound, IsStoredAs, KeepsTime, are_later, first_unsettled, is_plain, rows_of}
 use Rattle.stored_tier.specs.Moments.{refreshed_in, set_seen}
 use Rattle.stored_tier.proofs.BankLaws.{told_behind}
 use Rattle.session_engine.proofs.OthersLaws.{came_by, schema_told}

@@ -1,5 +1,5 @@
 -- What a CALL does, over what is stored.
-use Rattle.std.proofs.Common.{◌≡◌, ℕ, cond, ◌+◌, Option, Some, None, Result, Ok, Err, List, [], ◌∷◌, codes, count_by, map, refl, sym, ap, subst, ◌∙◌, inl, inr}
+use Rattle.std.proofs.Common.{◌≡◌, ℕ, cond, ◌+◌, Option, Some, None, Ok, Err, List, [], ◌∷◌, codes, count_by, map, refl, sym, ap, subst, ◌∙◌, inl, inr}
 use Rattle.std.specs.List.{fold}
 use Rattle.std.specs.Option.{option_map}
 use Rattle.tier_base.specs.Names.{folded, is_name}
@@ -34,13 +34,12 @@ use Rattle.tier_journal.specs.declared.journal.TierJournal.{TierJournal}
 use Rattle.cache_tier.specs.Reading.{Answers}
 use Rattle.cache_tier.specs.SessionSteps.{flag_answer}
 use Rattle.cache_tier.specs.Worlds.{Follows, Quiet}
-use Rattle.stored_tier.specs.Performing.{Executes, Performs, PerformsIn, PerformsInOver, PerformsOver, StaysWritten, reply_of}
+use Rattle.stored_tier.specs.Performing.{Executes, Performs, PerformsInOver, PerformsOver, StaysWritten, reply_of}
 use Rattle.stored_tier.proofs.OverLaws.{over_here, over_so}
 use Rattle.cache_engine.proofs.StillLaws.{over_still, quiet_still, refresh_still, still_on, still_same}
 use Rattle.outside.specs.Sites.{SiteState}
 use Rattle.stored_tier.specs.Stored.{HasSession, IsStoredAs, without_list}
 use Rattle.session_engine.proofs.NamedLaws.{named_seen}
-use Rattle.cache_engine.proofs.WantLaws.{executes_wanting}
 
 -- what it asks for, beside the groups of the catalog
 

@@ -1,7 +1,7 @@
 -- The console's writes over the worlds for which the tier stands.
 use Rattle.std.proofs.Common.{◌≡◌, ◌≤◌, ℕ, Bool, true, false, Option, Some, None, List, [], ◌∷◌, ◌++◌, map, refl, sym, ap, ◌∙◌, subst, inl, inr}
-use Rattle.std.specs.Prelude.{Result, Ok, Err, ◌⊎◌}
-use Rattle.std.specs.Option.{option_and_then, option_or}
+use Rattle.std.specs.Prelude.{Result, Ok, Err}
+use Rattle.std.specs.Option.{option_and_then}
 use Rattle.std.specs.Result.{IsErrOf}
 use Rattle.std.proofs.lemmas.List.{append-nil}
 use Rattle.tier_base.specs.declared.code.Code.TheVariants as code
@@ -13,7 +13,7 @@ use Rattle.row_types.specs.declared.rule.Refused.TheVariants as refused
 use Rattle.table_state.specs.declared.history.Entry.{Entry}
 use Rattle.table_state.specs.declared.history.Entry.TheVariants.{Foreign}
 use Rattle.table_state.specs.declared.operation.Op.{Op}
-use Rattle.table_state.specs.Histories.{state_from, state_of}
+use Rattle.table_state.specs.Histories.{state_from}
 use Rattle.table_state.specs.Operations.{applied_all}
 use Rattle.table_state.specs.Tables.{TableState}
 use Rattle.table_state.proofs.HistoryLaws.{state_of-append}
@@ -23,7 +23,7 @@ use Rattle.order_laws.specs.Events.{Others}
 use Rattle.evaluator.specs.declared.change.Change.{Change}
 use Rattle.transactions.specs.Transactions.{Done}
 use Rattle.outside.specs.Bank.{Grows}
-use Rattle.outside.specs.Console.{IsDone, WritesForeign, Writes as BankWrites}
+use Rattle.outside.specs.Console.{WritesForeign, Writes as BankWrites}
 use Rattle.outside.specs.Faults.{Rose}
 use Rattle.outside.specs.Others.{Around}
 use Rattle.outside.specs.declared.fault.BankError.{BankError}
@@ -39,15 +39,14 @@ use Rattle.cache_tier.specs.PassedSteps.{passed_reply}
 use Rattle.cache_tier.specs.Rules.{rule_in}
 use Rattle.cache_tier.specs.Shown.{shown_state}
 use Rattle.cache_tier.specs.TierStates.{Tier}
-use Rattle.cache_tier.specs.Worlds.{IsUnshared, Tries, Unless, World, faulty, only}
-use Rattle.cache_tier.specs.declared.reply.Last.TheVariants.{No}
+use Rattle.cache_tier.specs.Worlds.{IsUnshared, Tries, Unless, World, faulty}
 use Rattle.cache_tier.specs.declared.reply.Reply.{Reply}
 use Rattle.cache_tier.specs.Events.{StaysShown, at_history}
 use Rattle.cache_tier.specs.StandingBetween.{Stands, live_groups_of}
 use Rattle.tier_statements.specs.Replies.{reply_to}
 use Rattle.stored_tier.specs.declared.tier.Tier.{Tier as Stored}
 use Rattle.stored_tier.specs.Performing.{AreLast, IsCaused, Performs, StandsFor}
-use Rattle.stored_tier.specs.Sites.{IsAt, Serves}
+use Rattle.stored_tier.specs.Sites.{Serves}
 use Rattle.outside.specs.Sites.{SiteState}
 use Rattle.stored_tier.specs.Stored.{rows_of}
 use Rattle.cache_engine.proofs.AskingLaws.{CalledAt}

@@ -1,33 +1,28 @@
 -- CREATE TABLE at the bank.
-use Rattle.std.proofs.Common.{◌≡◌, ◌≤◌, ℕ, Bool, true, false, cond, Option, Some, None, List, [], ◌∷◌, ◌++◌, refl, sym, ap, ◌∙◌, subst, inl, inr, append_assoc}
-use Rattle.std.specs.Prelude.{Result, Ok, Err, ◌⊎◌}
+use Rattle.std.proofs.Common.{◌≡◌, ℕ, Bool, true, false, cond, Option, Some, None, List, [], ◌∷◌, ◌++◌, refl, sym, ap, ◌∙◌, subst, inl, inr}
+use Rattle.std.specs.Prelude.{Result, Ok, Err}
 use Rattle.std.specs.Option.{option_map, option_or}
 use Rattle.tier_base.specs.declared.code.Code.TheVariants as code
-use Rattle.tier_base.specs.declared.number.TableId.{TableId}
 use Rattle.row_types.specs.declared.declaration.ForeignKeyDeclaration.{ForeignKeyDeclaration}
 use Rattle.row_types.specs.declared.declaration.TableDeclaration.{TableDeclaration}
 use Rattle.row_types.specs.declared.rule.Rule.{Rule}
 use Rattle.row_types.specs.declared.rule.Refused.{Refused}
 use Rattle.row_types.specs.declared.rule.Refused.TheVariants as refused
 use Rattle.table_defs.specs.Declarations.{Tells, broken_at, fault_of, limit_of, resolved, resolved_reference}
-use Rattle.table_defs.specs.declared.definition.ForeignKey.{ForeignKey}
 use Rattle.table_defs.specs.declared.definition.TableDef.{TableDef}
 use Rattle.table_state.specs.declared.history.Entry.{Entry}
 use Rattle.table_state.specs.declared.history.Entry.TheVariants.{Definition}
-use Rattle.outside.specs.Bank.{Defines, Grows}
+use Rattle.outside.specs.Bank.{Defines}
 use Rattle.outside.specs.Calls as site
 use Rattle.outside.specs.Faults.{Rose}
-use Rattle.outside.specs.Holding.{Held}
-use Rattle.outside.specs.Others.{AreOthers, Around}
+use Rattle.outside.specs.Others.{AreOthers}
 use Rattle.outside.specs.declared.fault.BankError.{BankError}
 use Rattle.outside.specs.declared.fault.BankError.TheVariants.{Failed, Memory}
-use Rattle.cache_tier.specs.ConsoleSteps.{Creates, CreatesTable, after_define, define_reply, refers_to_writethrough, table_fault}
-use Rattle.cache_tier.specs.Groups.{is_table_of, is_writethrough}
+use Rattle.cache_tier.specs.ConsoleSteps.{Creates, CreatesTable, define_reply, refers_to_writethrough, table_fault}
 use Rattle.cache_tier.specs.Rules.{past}
-use Rattle.cache_tier.specs.Shown.{shown_state}
 use Rattle.cache_tier.specs.Steps.{tells}
 use Rattle.cache_tier.specs.TierStates.{Tier}
-use Rattle.cache_tier.specs.Worlds.{BankCall, IsUnshared, Part, Quiet, Tries, Unless, World, faulty, only}
+use Rattle.cache_tier.specs.Worlds.{IsUnshared, Tries, Unless, World, faulty, only}
 use Rattle.cache_tier.specs.declared.reply.Last.TheVariants.{Done, No}
 use Rattle.cache_tier.specs.declared.reply.Reply.{Reply}
 use Rattle.cache_tier.specs.Defining.{ShowsTable, with_tables}
@@ -35,8 +30,7 @@ use Rattle.cache_tier.specs.Events.{StaysShown, at_history, with_tier}
 use Rattle.cache_tier.specs.StandingBetween.{Stands}
 use Rattle.stored_tier.specs.declared.tier.Tier.{Tier as Stored}
 use Rattle.cache_engine.specs.Growing.{Learns}
-use Rattle.stored_tier.specs.Performing.{IsCaused, IsPerformed, Performs, StandsFor, reply_of}
-use Rattle.stored_tier.specs.Sites.{IsAt}
+use Rattle.stored_tier.specs.Performing.{IsCaused, Performs, reply_of}
 use Rattle.outside.specs.Sites.{SiteState}
 use Rattle.stored_tier.specs.Stored.{IsSound, IsStoredAs, rows_of}
 use Rattle.cache_engine.proofs.AskingLaws.{AroundLaw, CalledAt}

@@ -1,13 +1,8 @@
 -- What is due, by the stored clock.
-use Rattle.std.proofs.Common.{◌≡◌, ℕ, ◌+◌, max, Bool, true, false, cond, not, ◌&&◌, ◌||◌, nat_eq, is_none, find, filter, Option, Some, None, List, [], ◌∷◌, ◌++◌, map, unwrap_or, refl, sym, ap, subst, ◌∙◌, arith}
+use Rattle.std.proofs.Common.{◌≡◌, ℕ, ◌+◌, max, true, false, cond, ◌&&◌, is_none, filter, Option, Some, None, List, [], ◌∷◌, ◌++◌, map, refl, sym, ap, subst, ◌∙◌}
 use Rattle.std.specs.Prelude.{Err}
 use Rattle.std.specs.Bool.{MatchBool}
 use Rattle.std.specs.List.{list_all}
-use Rattle.std.specs.Option.{option_map}
-use Rattle.std.proofs.lemmas.Bool.{eqb-true}
-use Rattle.std.proofs.lemmas.List.{append-nil}
-use Rattle.tier_base.specs.declared.code.Code.TheVariants as code
-use Rattle.outside.specs.declared.fault.BankError.{BankError}
 use Rattle.outside.specs.declared.fault.BankError.TheVariants.{Failed}
 use Rattle.order_laws.proofs.TruthLaws.{both_true}
 use Rattle.sql_subset.specs.declared.request.Line.{Line}
@@ -17,18 +12,16 @@ use Rattle.table_state.specs.declared.history.Entry.{Entry}
 use Rattle.cache_tier.specs.CommitSteps.{after_applied, sealed_own}
 use Rattle.cache_tier.specs.PassedSteps.{with_ticket}
 use Rattle.cache_tier.specs.Aging.{aged, is_aged_by, is_aging_due, is_over}
-use Rattle.cache_tier.specs.DueWork.{DueAging, DueRound, DueSets, DueSetsOf, DueWork, Item, Noted, ThenItem, due_sets, intervals, is_round_due, noted, stopped, with_number}
+use Rattle.cache_tier.specs.DueWork.{DueAging, DueRound, DueSets, DueSetsOf, DueWork, Noted, ThenItem, due_sets, intervals, is_round_due, noted, stopped, with_number}
 use Rattle.cache_tier.specs.Groups.{Group, definitions_of, is_explicit, is_on, is_read_only}
 use Rattle.cache_tier.specs.Rounds.{Round}
-use Rattle.cache_tier.specs.Sets.{RefreshesIfShown, RefreshesSet, has_something, holds_some, is_in_set, shows_something}
 use Rattle.cache_tier.specs.Steps.{added_by, at_moment, with_moment}
-use Rattle.cache_tier.specs.TierStates.{SetState, Tier, cut, is_of_interval, refresh_tried}
-use Rattle.cache_tier.specs.Worlds.{OnlyWhere, Passes, World, bank_fault, faulty}
+use Rattle.cache_tier.specs.TierStates.{Tier, cut}
+use Rattle.cache_tier.specs.Worlds.{OnlyWhere, Passes, World}
 use Rattle.cache_tier.specs.declared.reply.Note.{Note}
 use Rattle.cache_tier.specs.declared.reply.Reply.{Reply}
 use Rattle.group_catalog.specs.Catalogs.{groups_in}
 use Rattle.cache_tier.specs.Events.{with_tier}
-use Rattle.cache_tier.specs.StandingBetween.{Stands}
 use Rattle.stored_tier.specs.declared.clock.TierClock.{TierClock}
 use Rattle.stored_tier.specs.declared.tier.Tier.{Tier as Stored}
 use Rattle.cache_engine.specs.DueItems.{DoesItem, DueRest, Footing, KeepsSets, due_at, is_due_at, note_of, round_is_due}
@@ -38,7 +31,7 @@ use Rattle.stored_tier.specs.Performing.{IsStopCausedOver, PerformsOver, StandsF
 use Rattle.stored_tier.specs.Refreshing.{has_moment, moment_in}
 use Rattle.outside.specs.Sites.{SiteState}
 use Rattle.stored_tier.specs.Stored.{IsSound, IsStoredAs, KeepsTime, is_plain, without_list}
-use Rattle.cache_engine.proofs.DueItemLaws.{as_item, idle_item, noted_item, since_none, stopped_item, then_items}
+use Rattle.cache_engine.proofs.DueItemLaws.{as_item, idle_item, noted_item, stopped_item, then_items}
 use Rattle.stored_tier.proofs.OverLaws.{keeps_tier}
 use Rattle.stored_tier.proofs.QuietLaws.{at_still}
 use Rattle.group_engine.proofs.RefreshedSets.{stands_clocked, stored_clocked}

@@ -21,9 +21,9 @@ use Rattle.own_rows.specs.Knowing.{Knows}
 use Rattle.open_sessions.specs.declared.sessions.Sessions.{Sessions}
 use Rattle.open_sessions.specs.Opening.{AreSessions}
 use Rattle.group_catalog.specs.Catalogs.{groups_in}
-use Rattle.group_store.specs.Keeping.{IsFor, layer_for, primary_of}
-use Rattle.group_store.specs.Shown.{AreHoused, IsOver, foreign_key_of, home_from, home_of, homes_from, homes_of, kept_rows, shown_by, stored_rows, tables_by}
-use Rattle.group_store.specs.Stores.{Kept, foreign_columns, place_in}
+use Rattle.group_store.specs.Keeping.{IsFor, layer_for}
+use Rattle.group_store.specs.Shown.{IsOver, home_from, home_of, homes_from, homes_of, kept_rows, shown_by, stored_rows, tables_by}
+use Rattle.group_store.specs.Stores.{Kept, place_in}
 use Rattle.group_store.specs.Trees.{Layer}
 use Rattle.group_store.specs.declared.directory.Home.{Home}
 use Rattle.cache_tier.specs.Groups.{Group, covers, is_asynchronous, is_table_of}

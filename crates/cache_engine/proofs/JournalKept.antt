@@ -1,7 +1,7 @@
 -- Whether a journal is kept stays over its ways.
 use Rattle.std.proofs.Common.{◌≡◌, List, [], ◌∷◌, ◌∙◌}
 use Rattle.cache_tier.specs.Journals.{Journal}
-use Rattle.cache_tier.specs.JournalWays.{GoesOn, Leads, Renewal}
+use Rattle.cache_tier.specs.JournalWays.{Leads, Renewal}
 use Rattle.cache_tier.specs.WayFacts.{IsLed}
 
 leads_kept : (renewals : List Renewal) (old new : Journal) → Leads old renewals new → new.kept ≡ old.kept

@@ -1,5 +1,5 @@
 -- How the parts of a line make its step.
-use Rattle.std.proofs.Common.{◌≡◌, ◌∙◌, ◌||◌, ℕ, ◌+◌, Bool, true, false, not, cond, Option, Some, None, Result, Err, List, [], ◌∷◌, length, refl, sym, ap, subst, inl, inr, find}
+use Rattle.std.proofs.Common.{◌≡◌, ◌∙◌, ◌||◌, ℕ, Bool, true, false, not, cond, Option, Some, None, Result, Err, List, [], ◌∷◌, length, refl, sym, ap, subst, inl, inr, find}
 use Rattle.std.specs.Bool.{MatchBool}
 use Rattle.std.specs.List.{list_any}
 use Rattle.std.specs.Option.{is_none, option_or}
@@ -10,7 +10,6 @@ use Rattle.tier_base.specs.declared.limit.Limit.TheVariants as limit
 use Rattle.tier_base.specs.declared.number.SessionId.{SessionId}
 use Rattle.row_types.specs.declared.rule.Refused.{Refused}
 use Rattle.row_types.specs.declared.rule.Refused.TheVariants as refused
-use Rattle.row_types.specs.declared.rule.Rule.{Rule}
 use Rattle.table_defs.specs.Declarations.{IsRefusedBy}
 use Rattle.sql_subset.specs.declared.request.ConsoleRequest.{ConsoleRequest}
 use Rattle.sql_subset.specs.declared.request.Line.{Line}
@@ -39,7 +38,7 @@ use Rattle.propagators.proofs.CertainLaws.{same_certain}
 use Rattle.tier_journal.specs.declared.journal.TierJournal.{TierJournal}
 use Rattle.kept_journal.specs.Keeping.{is_broken}
 use Rattle.stored_tier.proofs.OverLaws.{over_here, over_so}
-use Rattle.stored_tier.specs.Performing.{ClosesSession, Executes, OpensSession, Performs, PerformsIn, PerformsOver, StandsFor, StaysWritten, reply_of}
+use Rattle.stored_tier.specs.Performing.{ClosesSession, Executes, OpensSession, Performs, PerformsIn, PerformsOver, StaysWritten, reply_of}
 use Rattle.cache_engine.specs.Serving.{AsksAndDoes, DoesAdmitted, IsAdmitted, WorksAndAnswers}
 use Rattle.outside.specs.Sites.{SiteState}
 use Rattle.stored_tier.specs.Stored.{IsStoredAs}

@@ -1,5 +1,5 @@
 -- What a line does, by its bytes.
-use Rattle.std.proofs.Common.{◌≡◌, ◌∙◌, ◌+◌, ◌⊎◌, ℕ, Bool, true, false, cond, count_by, is_some, Option, Some, None, Err, List, refl, sym, ap, subst, inl, inr}
+use Rattle.std.proofs.Common.{◌≡◌, ◌∙◌, ◌⊎◌, ℕ, Bool, true, false, cond, count_by, is_some, Option, Some, None, Err, List, refl, sym, ap, subst, inl, inr}
 use Rattle.std.specs.Bool.{MatchBool}
 use Rattle.tier_base.specs.declared.code.Code.TheVariants as code
 use Rattle.tier_base.specs.declared.limit.Limit.TheVariants as limit
@@ -8,9 +8,7 @@ use Rattle.row_types.specs.declared.rule.Refused.TheVariants as refused
 use Rattle.outside.specs.Holding.{Held}
 use Rattle.tier_journal.specs.declared.journal.TierJournal.{TierJournal}
 use Rattle.kept_journal.specs.Keeping.{KeepsOver, is_broken}
-use Rattle.cache_tier.specs.Journals.{Journal}
 use Rattle.cache_tier.specs.Worlds.{IsUnshared, World}
-use Rattle.cache_tier.specs.WayFacts.{IsLed}
 use Rattle.cache_engine.proofs.JournalKept.{led_kept}
 use Rattle.sql_subset.specs.Lines as line
 use Rattle.sql_subset.specs.declared.request.Line.{Line}

@@ -1,36 +1,31 @@
 -- What writes nothing to the journal, and where it is kept behind it.
-use Rattle.std.proofs.Common.{◌≡◌, ◌≤◌, ℕ, Bool, true, false, Option, Some, None, List, [], ◌∷◌, ◌++◌, Result, Ok, Err, refl, sym, ap, subst, ◌∙◌, inl, inr}
-use Rattle.std.specs.Bool.{MatchBool}
-use Rattle.row_types.specs.declared.rule.Refused.{Refused}
+use Rattle.std.proofs.Common.{◌≡◌, ℕ, Bool, true, false, Option, Some, None, List, Result, Ok, Err, refl, sym, ap, subst, ◌∙◌, inl, inr}
 use Rattle.row_types.specs.declared.rule.Rule.{Rule}
 use Rattle.table_defs.specs.declared.definition.TableDef.{TableDef}
-use Rattle.tier_base.specs.declared.number.SessionId.{SessionId}
 use Rattle.outside.specs.Holding.{Held}
 use Rattle.outside.specs.Sites.{SiteState}
 use Rattle.outside.specs.declared.fault.BankError.{BankError}
-use Rattle.outside.specs.declared.fault.BankError.TheVariants as bank
 use Rattle.propagators.specs.Certainty.{KeepsCertain}
 use Rattle.tier_journal.specs.declared.journal.TierJournal.{TierJournal}
 use Rattle.tier_journal.specs.Keeping.{Keeps}
 use Rattle.tier_journal.proofs.KeepLaws.{kept_grown}
-use Rattle.kept_journal.specs.Keeping.{IsOver, KeepsOver, is_broken}
+use Rattle.kept_journal.specs.Keeping.{KeepsOver}
 use Rattle.kept_journal.specs.Drafts.{StaysKept}
 use Rattle.sql_subset.specs.declared.request.ConsoleRequest.{ConsoleRequest}
 use Rattle.sql_subset.specs.declared.request.ConsoleRequest.TheVariants as console
 use Rattle.sql_subset.specs.declared.request.Line.{Line}
-use Rattle.cache_tier.specs.ConsoleSteps.{Asked, AsksSchema, Creates, CreatesTable, DoesConsole, WritesAll, asks_schema}
+use Rattle.cache_tier.specs.ConsoleSteps.{Asked, AsksSchema, Creates, DoesConsole, WritesAll, asks_schema}
 use Rattle.cache_tier.specs.DoubtSteps.{SettlesDoubt, settled, settled_committed, settled_rolled_back, stood}
 use Rattle.cache_tier.specs.Reading.{StageFollowsAt, backing_at}
 use Rattle.cache_tier.specs.Sets.{RefreshesIfShown, RefreshesSet, of_set, refreshed, shows_something}
 use Rattle.cache_tier.specs.TierStates.{ACommit, APassedWrite, Doubt, Doubted, Tier}
-use Rattle.cache_tier.specs.Worlds.{Answer, Becomes, OnlyWhere, Part, Quiet, Refuses, Stage, Tries, Unless, World}
+use Rattle.cache_tier.specs.Worlds.{Answer, Becomes, OnlyWhere, Part, Quiet, Stage, Tries, Unless, World}
 use Rattle.cache_tier.specs.declared.reply.Note.{Note}
 use Rattle.cache_tier.specs.declared.reply.Reply.{Reply}
 use Rattle.stored_tier.specs.declared.tier.Tier.{Tier as Stored}
-use Rattle.stored_tier.specs.Performing.{Performs, PerformsOver, StandsFor, StaysWritten}
-use Rattle.stored_tier.specs.Sites.{IsAt}
+use Rattle.stored_tier.specs.Performing.{Performs, PerformsOver, StaysWritten}
 use Rattle.stored_tier.proofs.OverLaws.{keeps_called, over_quiet}
-use Rattle.session_engine.specs.Doubting.{IsEndedOver, IsLeft, Leads, LeadsOver}
+use Rattle.session_engine.specs.Doubting.{Leads, LeadsOver}
 use Rattle.session_engine.specs.declared.doubt.Doubt as kept
 use Rattle.cache_engine.specs.Growing.{BeginsWith}
 

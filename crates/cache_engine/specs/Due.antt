@@ -1,9 +1,9 @@
 -- What the outside is asked by work that is due. (This project's rule.)
 
-use Rattle.std.specs.Prelude.{◌≡◌, ◌≤◌, ◌+◌, ℕ, Option, Some, None, false, count_by}
+use Rattle.std.specs.Prelude.{◌≡◌, ◌≤◌, ◌+◌, ℕ, Option, Some, None, count_by}
 use Rattle.tier_base.specs.declared.code.Code.{Code}
 use Rattle.tier_base.specs.declared.code.Code.TheVariants as code
-use Rattle.cache_tier.specs.Steps.{Rose, faults_in, note_tells, tells}
+use Rattle.cache_tier.specs.Steps.{Rose, faults_in, note_tells}
 use Rattle.cache_tier.specs.declared.reply.Reply.{Reply}
 use Rattle.cache_engine.specs.declared.due.Due.{Due}
 use Rattle.stored_tier.specs.Performing.{KeepsSlots}

@@ -1,6 +1,6 @@
 -- The end of the input. (This project's rule: what waits in the journal's tail is flushed.)
 
-use Rattle.std.specs.Prelude.{◌≡◌, ◌≤◌, ℕ, [], false, Option, Some, None, Result}
+use Rattle.std.specs.Prelude.{◌≡◌, ℕ, false, Option}
 use Rattle.outside.specs.Holding.{Held}
 use Rattle.outside.specs.Sites.{SiteState}
 use Rattle.cache_tier.specs.Journals.{Journal}
