@@ -1,6 +1,6 @@
 //! A session over the input's bytes as they come.
 
-use crate::answering::{Stop, respond, write_last_reply};
+use crate::answering::{Stop, pass_on, respond};
 use crate::line::LineBuffer;
 use crate::output::Output;
 use cache_engine::engine::Engine;
@@ -113,7 +113,7 @@ impl Session {
     {
         match finish_engine(&mut self.engine, alloc, site) {
             Ok(()) => self.flush(sink),
-            Err(reply) => Err(write_last_reply(&mut self.output, sink, &reply)),
+            Err(reply) => pass_on(&mut self.output, sink, &reply),
         }
     }
 
