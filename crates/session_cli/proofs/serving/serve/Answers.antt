@@ -1,9 +1,6 @@
-use Rattle.std.proofs.Common.{◌≡◌, ◌+◌, ◌∙◌, ap, arith, refl, sym, inl, inr}
-use Rattle.cache_engine.specs.Opening.{OpenFailed}
-use Rattle.cache_engine.specs.declared.opening.OpenError.TheVariants as open_error
+use Rattle.std.proofs.Common.{◌≡◌, ◌+◌, ◌∙◌, ap, arith, refl, inl, inr}
 use Rattle.session_cli.specs.declared.serving.Status.TheVariants.{NoMemory, SchemaFailed}
 use Rattle.session_cli.specs.declared.session.Session.{Session}
-use Rattle.session_cli.specs.Outside.{seen}
 use Rattle.session_cli.specs.Timing.{AreLeft}
 use Rattle.session_cli.proofs.EndsLaws.{taken_unopened}
 use Rattle.session_cli.proofs.OpeningLaws.{bank_failed, bank_kept, disk_failed, is_bank, is_disk, kinds_of, never_taken, not_source, rose_behind, runs_opened, runs_unopened, runs_unstarted}
