@@ -1,5 +1,5 @@
 -- The pieces of the input, from the first to the last.
-use Rattle.std.proofs.Common.{◌≡◌, ◌⊎◌, subst, ℕ, Bool, true, false, min, ◌+◌, ◌-◌, ◌≤◌, ◌<◌, List, [], ◌++◌, length, take, drop, Option, Some, None, refl, sym, ◌∙◌, ap, append-nil, append_assoc, inl, inr, arith, take-append-drop}
+use Rattle.std.proofs.Common.{◌≡◌, ◌⊎◌, subst, ℕ, true, min, ◌+◌, ◌-◌, ◌≤◌, ◌<◌, List, [], ◌++◌, length, take, drop, Option, Some, None, refl, sym, ◌∙◌, ap, append-nil, append_assoc, inl, inr, arith, take-append-drop}
 use Rattle.std.specs.Io.KnownBytes.{Consumes, IsAtEnd, Keeps}
 use Rattle.std.proofs.lemmas.List.{length-append, length-take, length-drop}
 use Rattle.outside.specs.Holding.{Held}
@@ -14,10 +14,10 @@ use Rattle.session_cli.specs.declared.session.Session.{Session}
 use Rattle.session_cli.specs.declared.serving.Status.{Status}
 use Rattle.session_cli.specs.declared.serving.Status.TheVariants.{Finished, SourceFailed, SinkFailed, DiskFailed, SchemaFailed, NoMemory, LineUnchecked, Damaged, Differs, InputTooLong}
 use Rattle.session_cli.specs.Cutting.{ended_lines, all_lines}
-use Rattle.session_cli.specs.Ends.{Ended, Gives, OpenedAndEnded, Outcome, Runs, Serves, Stops, Taken, Unopened, input_limit, status_of, takes_none}
+use Rattle.session_cli.specs.Ends.{Ended, Gives, OpenedAndEnded, Outcome, Runs, Stops, Taken, Unopened, input_limit, status_of, takes_none}
 use Rattle.session_cli.specs.Opening.{begins}
 use Rattle.session_cli.specs.Outside.{Outside}
-use Rattle.session_cli.specs.Serving.{BrokenOff, CutShort, Finishes, HasFlushed, IsLeftAlone, Origin, Rests, Serving, StopsAt, Whole}
+use Rattle.session_cli.specs.Serving.{HasFlushed, IsLeftAlone, Origin, Rests, Serving, StopsAt, Whole}
 use Rattle.session_cli.specs.Timing.{Coming, bases_by, bases_of}
 use Rattle.session_cli.proofs.ServingLaws.{left_front, serving_whole}
 

@@ -1,5 +1,5 @@
 -- The end of the input: what waits in the journal's tail is flushed, and the last replies are written.
-use Rattle.std.proofs.Common.{◌≡◌, ◌⊎◌, ℕ, List, [], ◌∷◌, ◌++◌, take, Bool, true, false, Option, Some, None, Result, Ok, Err, inl, inr, refl, sym, ◌∙◌, ap, subst, append-nil}
+use Rattle.std.proofs.Common.{◌≡◌, ℕ, List, [], ◌∷◌, ◌++◌, take, true, Option, Some, None, Result, Ok, Err, inl, inr, refl, sym, ◌∙◌, ap, subst, append-nil}
 use Rattle.std.specs.Bool.{MatchBool}
 use Rattle.std.specs.Result.{OnOk}
 use Rattle.outside.specs.Holding.{Held}
@@ -20,7 +20,7 @@ use Rattle.cache_engine.proofs.EngineLaws.{known_of}
 use Rattle.session_cli.specs.declared.answering.Stop.{Stop}
 use Rattle.session_cli.specs.declared.answering.Stop.TheVariants as stop
 use Rattle.session_cli.specs.Cutting.{all_lines}
-use Rattle.session_cli.specs.Outside.{Outside, seen}
+use Rattle.session_cli.specs.Outside.{seen}
 use Rattle.session_cli.specs.Output.{Breaks, Splits}
 use Rattle.session_cli.specs.Serving.{Answered, Closing, EndBroken, Finishes, HasFlushed, Origin, PassesReply, TellsFault, WritesLast}
 use Rattle.session_cli.specs.Timing.{Coming}

@@ -1,5 +1,5 @@
 -- The opening of a run.
-use Rattle.std.proofs.Common.{◌≡◌, ◌⊎◌, ◌≤◌, ℕ, true, false, List, [], ◌++◌, take, Option, Some, None, inl, inr, refl, sym, ◌∙◌, ap, arith, subst, append-nil, lit≤}
+use Rattle.std.proofs.Common.{◌≡◌, ◌⊎◌, ◌≤◌, ℕ, true, false, List, [], ◌++◌, take, Option, Some, inl, inr, refl, sym, ◌∙◌, ap, arith, subst, append-nil, lit≤}
 use Rattle.std.specs.Io.KnownBytes.{Appends}
 use Rattle.std.proofs.KnownBytes.{Appends-nil}
 use Rattle.outside.specs.Faults.{Rose}

@@ -10,14 +10,13 @@ use Rattle.cache_engine.specs.declared.engine.Engine.{Engine}
 use Rattle.cache_engine.proofs.EngineLaws.{known_of}
 use Rattle.cache_engine.proofs.RequestLaws.{goes_step}
 use Rattle.stored_tier.specs.Sites.{IsAt}
-use Rattle.outside.specs.Sites.{SiteState}
 use Rattle.session_cli.specs.declared.answering.Stop.{Stop}
 use Rattle.session_cli.specs.declared.answering.Stop.TheVariants as stop
 use Rattle.session_cli.specs.declared.session.Session.{Session}
 use Rattle.session_cli.specs.Cutting.{cut, front_of, text_of, ended_lines, all_lines}
 use Rattle.session_cli.specs.Outside.{Outside}
-use Rattle.session_cli.specs.Output.{Splits, Breaks, Passes}
-use Rattle.session_cli.specs.Serving.{Answered, Broken, BrokenOff, Closes, Closing, Comes, CutShort, Feeds, Finishes, HasFlushed, IsLeftAlone, LineBroken, Origin, PassesReply, Responds, Rests, Serving, StandsIn, StopsAt, Whole, WritesLast}
+use Rattle.session_cli.specs.Output.{Splits, Breaks}
+use Rattle.session_cli.specs.Serving.{Answered, Broken, Closes, Closing, Comes, CutShort, Feeds, HasFlushed, IsLeftAlone, LineBroken, Origin, PassesReply, Responds, Rests, Serving, StandsIn, StopsAt, Whole}
 use Rattle.session_cli.proofs.CuttingLaws.{ended_push, rest_ended, ended_same, rest_push, front_push, front_short, text_front, take_one, take_within, all_ended, all_more}
 use Rattle.session_cli.proofs.DrainedLaws.{drained_of}
 use Rattle.session_cli.proofs.OutputLaws.{splits_then, breaks_then}

@@ -1,10 +1,10 @@
 -- Why a run stops, and the causes of that.
-use Rattle.std.proofs.Common.{◌≡◌, ◌≤◌, ◌+◌, ◌-◌, ◌^◌, ℕ, min, Bool, true, false, cond, count_by, Option, Some, None, Result, Ok, Err, refl, sym, ap, arith, le_refl}
+use Rattle.std.proofs.Common.{◌≡◌, ◌≤◌, ◌+◌, ◌-◌, ◌^◌, ℕ, min, true, false, cond, count_by, Option, Some, Result, Ok, Err, refl, ap, arith}
 use Rattle.std.specs.Result.{IsErrOf}
 use Rattle.tier_base.specs.declared.code.Code.TheVariants as code
 use Rattle.outside.specs.Faults.{Rose}
 use Rattle.outside.specs.Sites.{SiteState}
-use Rattle.cache_tier.specs.Steps.{faults_in, note_tells, tells}
+use Rattle.cache_tier.specs.Steps.{faults_in, note_tells}
 use Rattle.cache_tier.specs.declared.reply.Reply.{Reply}
 use Rattle.kept_journal.specs.Keeping.{DiskIsCaused, is_broken}
 use Rattle.tier_journal.specs.declared.journal.TierJournal.{TierJournal}

@@ -145,7 +145,8 @@ impl Session {
         ensures serves { (o : Origin) (given : List ℕ) → IsLeftAlone o given → Serving o given
             (seen (K.written sink.old) (C.coming clock.old) P.Disk.state P.Disk.possible site.old) self.old
             → Closes result o given
-            (seen (K.written sink.new) (C.coming clock.new) P.Disk.state P.Disk.possible site.new) self.new.engine self.new.output }
+            (seen (K.written sink.new) (C.coming clock.new) P.Disk.state P.Disk.possible site.new)
+            self.new.engine self.new.output }
         ensures order { IsInOrder self.new.engine }
         ensures cause { HasStopCause Stop.Sink (K.faults sink.old) (K.faults sink.new) result }
         ensures disk { HasStopCause Stop.Disk (P.Disk.state site.old).disk_faults

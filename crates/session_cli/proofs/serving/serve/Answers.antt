@@ -1,8 +1,6 @@
 use Rattle.std.proofs.Common.{◌≡◌, ◌+◌, ◌∙◌, ap, arith, refl, sym, inl, inr}
-use Rattle.tier_opening.specs.declared.opening.OpenError.TheVariants as open_error
 use Rattle.session_cli.specs.declared.serving.Status.TheVariants.{NoMemory, SchemaFailed}
 use Rattle.session_cli.specs.declared.session.Session.{Session}
-use Rattle.session_cli.specs.Outside.{seen}
 use Rattle.session_cli.specs.Timing.{AreLeft}
 use Rattle.session_cli.proofs.EndsLaws.{taken_unopened}
 use Rattle.session_cli.proofs.OpeningLaws.{bank_failed, disk_failed, is_bank, is_disk, kinds_of, never_taken, not_source, rose_behind, runs_opened, runs_unopened, runs_unstarted}
@@ -33,10 +31,10 @@ pub returns-clause-takes : goal.returns-clause-takes
 returns-clause-takes g c = λ input source. taken_unopened input _ c.end_unopened.result (kinds_of c.end_unopened.result _ _ c.in-Err.error c.end_unopened.ensures.tells) source
 
 pub returns-clause-disk : goal.returns-clause-disk
-returns-clause-disk g c = λ is. disk_failed c.now-start.result.0 _ _ c.in-Err.error c.in-Err.ensures.cause.failed (is_disk c.end_unopened.result _ _ c.in-Err.error c.end_unopened.ensures.tells is)
+returns-clause-disk g c = λ is. disk_failed c.now-start.result.0 (g.P.Disk.state c.args.site.now) (g.P.Disk.state c.open.new.site) c.in-Err.error c.in-Err.ensures.cause.failed (is_disk c.end_unopened.result _ _ c.in-Err.error c.end_unopened.ensures.tells is)
 
 pub returns-clause-schema : goal.returns-clause-schema
-returns-clause-schema g c = λ is. bank_failed c.now-start.result.0 _ _ c.in-Err.error c.in-Err.ensures.cause.failed (is_bank c.end_unopened.result _ _ c.in-Err.error c.end_unopened.ensures.tells is)
+returns-clause-schema g c = λ is. bank_failed c.now-start.result.0 (g.P.Disk.state c.args.site.now) (g.P.Disk.state c.open.new.site) c.in-Err.error c.in-Err.ensures.cause.failed (is_bank c.end_unopened.result _ _ c.in-Err.error c.end_unopened.ensures.tells is)
 
 pub returns-clause-read : goal.returns-clause-read
 returns-clause-read g c = λ is. absurd (not_source c.end_unopened.result _ _ c.in-Err.error c.end_unopened.ensures.tells is)
