@@ -1,0 +1,1 @@
+-- A list of lines, and what a crash leaves behind each of them. (This project's rule.)
