@@ -17,10 +17,11 @@ use Rattle.cache_tier.specs.CommitSteps.{CommitsLater, committed_unsettled, seal
 use Rattle.cache_tier.specs.declared.reply.Reply.{Reply}
 use Rattle.cache_tier.specs.declared.reply.Last.TheVariants.{Done}
 use Rattle.cache_tier.specs.DefineSteps.{CreatesGroup, define_answer, with_new_group}
-use Rattle.cache_tier.specs.Definitions.{IsTreeOf, placed_tables, text_of}
+use Rattle.cache_tier.specs.Defining.{IsNewGroup}
+use Rattle.cache_tier.specs.Definitions.{definition_names, IsTreeOf, placed_tables, text_of}
 use Rattle.cache_tier.specs.Dropping.{MayDrop}
 use Rattle.cache_tier.specs.DropSteps.{DropsGroup, DropsRest, drop_answer, drop_fault, without_group}
-use Rattle.cache_tier.specs.Groups.{Group, covers, is_called, is_writethrough}
+use Rattle.cache_tier.specs.Groups.{definitions_of, Group, covers, is_called, is_writethrough}
 use Rattle.cache_tier.specs.JournalSteps.{Flushes, FlushesSome, NotesKept, Records, journal_fault}
 use Rattle.cache_tier.specs.Journals.{Commits, Defines, Drops}
 use Rattle.cache_tier.specs.Locks.{locked_by, writes_on}
@@ -35,6 +36,7 @@ use Rattle.cache_tier.proofs.GroupTables.{in_tree}
 use Rattle.cache_tier.proofs.SessionLists.{none_passes}
 use Rattle.cache_tier.proofs.UnloadStatements.{map_nothing}
 use Rattle.tier_base.specs.declared.code.Code.TheVariants as code
+use Rattle.recovery.specs.Recalling.{group_of}
 use Rattle.recovery.specs.Journalled.{IsJournalled, IsJournalledOn, IsQuiet, with_commit_noted, with_flushed_entry}
 use Rattle.recovery.proofs.CatalogLaws.{define_kept}
 use Rattle.recovery.proofs.DroppedLaws.{drop_kept}
@@ -91,26 +93,34 @@ commits_later_kept s w w' early reply stands j apart there p q ok = by _ q
 
 -- ---- CREATE
 
-created : (d : CreateGroup) (tree : Tree) (w mid : World) (early : List Sealed) → Stands w → IsJournalled w early → MayCreate d w → IsTreeOf (placed_tables w.tier.schema d) tree → IsWhole (Defines d (text_of d) ∷ []) w mid
-    → IsJournalledOn (record mid { tier = with_new_group d tree mid.tier }) early
-created d tree w mid early stands j may tree_is is =
+created : (d : CreateGroup) (tree : Tree) (w mid : World) (early : List Sealed) → Stands w → IsJournalled w early → definition_names w.tier.schema (definitions_of w.tier.groups) d ≡ None → IsNewGroup w (group_of w.tier d tree) → IsTreeOf (placed_tables w.tier.schema d) tree
+    → IsWhole (Defines d (text_of d) ∷ []) w mid → IsJournalledOn (record mid { tier = with_new_group d tree mid.tier }) early
+created d tree w mid early stands j names new tree_is is =
     one_journalled_on (with_flushed_entry (with_new_group d tree mid.tier) mid.journal w) (record mid { tier = with_new_group d tree mid.tier }) early (record { tier = refl; history = is.history; journal = refl })
-    (define_kept w early d (text_of d) tree (with_new_group d tree mid.tier) mid.journal stands j tree_is may.names (may.new tree tree_is)
+    (define_kept w early d (text_of d) tree (with_new_group d tree mid.tier) mid.journal stands j tree_is names new
     (record { kept = is.journal.kept ∙ j.kept; flushed = is.journal.flushed; tail = is.journal.tail })
     (subst (λ t. IsQuiet (with_new_group d tree t) (with_new_group d tree mid.tier)) is.tier (still_quiet (with_new_group d tree mid.tier))))
 
-pub creates_kept : (d : CreateGroup) → KeepsJournalWhere (MayCreate d) (CreatesGroup d)
-creates_kept d w w' early reply stands j apart may q ok = by (journal_fault w (Defines d (text_of d) ∷ [])) q.does
+-- where the group that comes is one that may come
+pub creates_made : (d : CreateGroup) (w w' : World) (early : List Sealed) (reply : Reply) → Stands w → IsJournalled w early → definition_names w.tier.schema (definitions_of w.tier.groups) d ≡ None → (q : CreatesGroup d w w' reply)
+    → (w'.history ≡ w.history → w'.tier ≡ with_new_group d q.tree w.tier → IsNewGroup w (group_of w.tier d q.tree)) → tells code.JournalFault reply.last ≡ false → IsJournalledOn w' early
+creates_made d w w' early reply stands j names q new ok = by (journal_fault w (Defines d (text_of d) ∷ [])) q.does
   where
     by : (o : Option Rule) → Unless o (Then (Flushes (Defines d (text_of d) ∷ [])) (Answers (define_answer d q.tree))) w w' reply → IsJournalledOn w' early
     by (Some rule) q = same_on w w' early q.0 j
     by None t = go t.stop t.first t.next
       where
         go : (stop : Option Reply) → Flushes (Defines d (text_of d) ∷ []) w t.mid stop → Follows stop (Answers (define_answer d q.tree)) t.mid w' reply → IsJournalledOn w' early
-        go None first next = subst (λ x. IsJournalledOn x early) (sym next.0) (created d q.tree w t.mid early stands j may q.is (kept_flushes (Defines d (text_of d) ∷ []) w t.mid None j.kept first refl).0)
+        go None first next =
+            let is = (kept_flushes (Defines d (text_of d) ∷ []) w t.mid None j.kept first refl).0 in
+            let made : w'.tier ≡ with_new_group d q.tree w.tier = ap (λ (x : World). x.tier) next.0 ∙ ap (with_new_group d q.tree) is.tier in
+            subst (λ x. IsJournalledOn x early) (sym next.0) (created d q.tree w t.mid early stands j names (new (ap (λ (x : World). x.history) next.0 ∙ is.history) made) q.is is)
         go (Some r) first next =
             let bad : Some r ≡ None = (kept_flushes (Defines d (text_of d) ∷ []) w t.mid (Some r) j.kept first (ap (λ (x : Reply). tells code.JournalFault x.last) (sym next.1) ∙ ok)).1 in
             Prim.cc
+
+pub creates_kept : (d : CreateGroup) → KeepsJournalWhere (MayCreate d) (CreatesGroup d)
+creates_kept d w w' early reply stands j apart may q ok = creates_made d w w' early reply stands j may.names q (λ h e. may.new q.tree q.is) ok
 
 -- ---- DROP
 

@@ -437,11 +437,11 @@ doubt_leads : (o : Option Doubt) → ItemLeads (SettlesDoubt o)
 doubt_leads None w w' notes stop q = same w w' q.0
 doubt_leads (Some d) w w' notes stop q = recorded_leads d w w' notes stop q
 
-item_follows_leads : (end : Option Reply) (item : Item) → ItemLeads item → ItemLeads (ItemFollows end item)
+pub item_follows_leads : (end : Option Reply) (item : Item) → ItemLeads item → ItemLeads (ItemFollows end item)
 item_follows_leads None item p w w' notes stop q = p w w' notes stop q
 item_follows_leads (Some end) item p w w' notes stop q = same w w' q.0
 
-then_item_leads : (one other : Item) → ItemLeads one → ItemLeads other → ItemLeads (ThenItem one other)
+pub then_item_leads : (one other : Item) → ItemLeads one → ItemLeads other → ItemLeads (ThenItem one other)
 then_item_leads one other p r w w' notes stop q = on w q.mid w' (p w q.mid q.before q.end q.first) (item_follows_leads q.end other r q.mid w' q.behind stop q.next)
 
 pub due_round_leads : ItemLeads DueRound

@@ -5,3 +5,8 @@ pub mod AtOnceLaws
 pub mod DoubtLaws
 pub mod ReadyLaws
 pub mod DueLaws
+pub mod OffLaws
+pub mod RefusalLaws
+pub mod CreateLaws
+pub mod StatementLaws
+pub mod LineLaws

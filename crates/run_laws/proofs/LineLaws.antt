@@ -1,0 +1,219 @@
+-- A whole line keeps the journal the tier's.
+use Rattle.std.proofs.Common.{◌≡◌, ◌⊎◌, inl, inr, ℕ, ◌+◌, ◌≤◌, Bool, true, false, cond, ◌&&◌, ◌||◌, Option, Some, None, Result, Ok, Err, List, [], ◌∷◌, ◌++◌, refl, sym, ap, subst, ◌∙◌, arith}
+use Rattle.std.specs.Bool.{MatchBool}
+use Rattle.tier_base.specs.declared.code.Code.TheVariants as code
+use Rattle.row_types.specs.declared.rule.Rule.{Rule}
+use Rattle.table_state.specs.declared.history.Sealed.{Sealed}
+use Rattle.outside.specs.declared.fault.BankError.{BankError}
+use Rattle.sql_subset.specs.declared.request.Line.{Line}
+use Rattle.sql_subset.specs.declared.request.Line.TheVariants as says
+use Rattle.cache_tier.specs.CommitSteps.{after_applied, sealed_own}
+use Rattle.cache_tier.specs.ConsoleSteps.{Asked, AsksSchema, asks_schema, told, told_stop}
+use Rattle.cache_tier.specs.declared.reply.Note.{Note}
+use Rattle.cache_tier.specs.declared.reply.Reply.{Reply}
+use Rattle.cache_tier.specs.DoubtSteps.{AsksRecorded, SettlesDoubt, settled, settled_stop}
+use Rattle.cache_tier.specs.DueWork.{DueAging, DueDoubt, DueRound, DueSets, DueWork, ItemFollows, ThenItem}
+use Rattle.cache_tier.specs.PassedSteps.{with_ticket}
+use Rattle.cache_tier.specs.StandingBetween.{Stands}
+use Rattle.cache_tier.specs.Steps.{Answered, Does, GoesThrough, Heeds, Parts, Saying, Says, Silent, Step, TooDeep, TooLong, WrongAt, added_by, at_moment, early_fault, tells, with_moment}
+use Rattle.cache_tier.specs.TierStates.{Doubt, Session, Tier}
+use Rattle.cache_tier.specs.Undone.{is_undone}
+use Rattle.cache_tier.specs.Worlds.{BankCall, Follows, IsUnshared, OnlyWhere, Refuses, Then, Tries, Unless, WantsMemory, World}
+use Rattle.cache_tier.proofs.LeadLaws.{then_leads, tries_leads}
+use Rattle.recovery.specs.Journalled.{IsJournalled, IsJournalledOn, IsQuiet}
+use Rattle.recovery.proofs.JournalledLaws.{alike_commit, alike_self, quiet_kept}
+use Rattle.recovery.proofs.OthersLaws.{on_then}
+use Rattle.line_laws.specs.Keeping.{RenewsSettled, is_broken}
+use Rattle.line_laws.proofs.DueStatements.{due_aging_kept, due_doubt_kept}
+use Rattle.line_laws.proofs.PartWords.{same_on, stays_on}
+use Rattle.run_laws.specs.Lines.{IsInDoubt, IsLeft, IsLeftBy, KeepsSlot, MayBegin}
+use Rattle.run_laws.proofs.DoubtLaws.{doubt_is, doubt_settles, in_doubt}
+use Rattle.run_laws.proofs.DueLaws.{asks_ready, due_aging_ready, due_round_ready, due_sets_ready}
+use Rattle.run_laws.proofs.LeadStatements.{asks_schema_leads, does_leads, due_aging_leads, due_doubt_leads, due_round_leads, due_sets_leads, item_follows_leads, slots_rise, then_item_leads}
+use Rattle.run_laws.proofs.ReadyLaws.{Moves, Ready, ReadyOn, each_rested, ready_moved, ready_same, ready_stays, ready_then}
+use Rattle.run_laws.proofs.StandLaws.{IsSeenAs, seen_self, stands_seen}
+use Rattle.run_laws.proofs.StatementLaws.{does_kept}
+
+-- ---- the moment of a line
+
+added_same : (l : Line) (t u : Tier) → u.added ≡ t.added → added_by l u ≡ added_by l t
+added_same (says.Session label request) t u e = e
+added_same (says.Console request) t u e = e
+added_same (says.Clock ms) t u e = ap (λ n. n + ms) e
+
+moment_seen : (base : ℕ) (l : Line) (t : Tier) → IsSeenAs t (at_moment base l t)
+moment_seen base l t = record { schema = refl; stale = refl; groups = refl; log = refl; unsettled = refl; sessions = refl; next = refl }
+
+moment_stands : (base : ℕ) (l : Line) (w : World) → Stands w → Stands (with_moment base l w)
+moment_stands base l w x = stands_seen w (with_moment base l w) (moment_seen base l w.tier) refl x
+
+-- the moment of a tier with a doubt is that of the tier before
+moment_doubted : (base : ℕ) (l : Line) (o : Option Doubt) (t : Tier) → at_moment base l (record t { doubt = o }) ≡ record (at_moment base l t) { doubt = o }
+moment_doubted base l o t =
+    let same = added_same l t (record t { doubt = o }) refl in
+    λ i. record t { doubt = o; added = same i; now = Rattle.cache_tier.specs.TierStates.cut (Rattle.std.specs.Prelude.max t.now (base + same i)) }
+
+moment_drawn : (base : ℕ) (l : Line) (t : Tier) → at_moment base l (with_ticket t) ≡ with_ticket (at_moment base l t)
+moment_drawn base l t =
+    let same = added_same l t (with_ticket t) refl in
+    λ i. record (with_ticket t) { added = same i; now = Rattle.cache_tier.specs.TierStates.cut (Rattle.std.specs.Prelude.max t.now (base + same i)) }
+
+moment_in_doubt : (base : ℕ) (l : Line) (w : World) → IsInDoubt w → IsInDoubt (with_moment base l w)
+moment_in_doubt base l w x = record {
+  was = with_moment base l x.was;
+  stands = moment_stands base l x.was x.stands;
+  unshared = x.unshared;
+  later = x.later;
+  session = x.session;
+  there = x.there;
+  on = x.on;
+  room = x.room;
+  call = record { history = x.call.history; journal = x.call.journal; faults = x.call.faults; disk = x.call.disk; moment = x.call.moment; shared = x.call.shared };
+  tier =
+      ap (at_moment base l) x.tier
+      ∙ moment_doubted base l (Some (record { ticket = x.was.tier.next; session = x.session.label; of = Rattle.cache_tier.specs.TierStates.ACommit })) (with_ticket x.was.tier)
+      ∙ ap (λ (t : Tier). record t { doubt = Some (record { ticket = x.was.tier.next; session = x.session.label; of = Rattle.cache_tier.specs.TierStates.ACommit }) }) (moment_drawn base l x.was.tier);
+}
+
+moment_left : (base : ℕ) (l : Line) (w : World) → IsLeft w → IsLeft (with_moment base l w)
+moment_left base l w x = by w.tier.doubt x
+  where
+    by : (o : Option Doubt) → IsLeftBy o w → IsLeftBy o (with_moment base l w)
+    by None x = moment_stands base l w x
+    by (Some d) x = moment_in_doubt base l w x
+
+moment_begins : (base : ℕ) (l : Line) (w : World) → MayBegin w → MayBegin (with_moment base l w)
+moment_begins base l w m = record { left = moment_left base l w m.left; unshared = m.unshared; ageless = m.ageless; kinds = record { later = m.kinds.later; own = m.kinds.own } }
+
+moment_journalled : (base : ℕ) (l : Line) (w : World) (early : List Sealed) → IsJournalled w early → IsJournalled (with_moment base l w) early
+moment_journalled base l w early j = quiet_kept w early (at_moment base l w.tier) j (record { log = refl; next = omega arith; groups = alike_self w.tier.groups })
+
+-- ---- the doubt
+
+-- where the line goes on the doubt is settled
+record Settled (w : World) (stop : Option Reply) (early : List Sealed) : Type 0 where
+  on : IsJournalledOn w early
+  ready : stop ≡ None → ReadyOn w early
+
+doubt_done : (w w' : World) (early : List Sealed) (notes : List Note) (stop : Option Reply) → MayBegin w → IsJournalled w early → DueDoubt w w' notes stop → is_broken stop ≡ false → Settled w' stop early
+doubt_done w w' early notes stop m j q ok = record { on = on; ready = λ end. by w.tier.doubt refl m.left q end }
+  where
+    on : IsJournalledOn w' early
+    on = due_doubt_kept w w' early notes stop j m.unshared q ok
+
+    in_it : (x : IsInDoubt w) → AsksRecorded (in_doubt w x) w w' notes stop → stop ≡ None → ReadyOn w' early
+    in_it x a end = answered a.result a.call a.tier a.end
+      where
+        answered : (result : Result Bool BankError) → BankCall (Rattle.outside.specs.Bank.TellsRecorded x.was.tier.next result) w w' → w'.tier ≡ settled (in_doubt w x) w'.history result w.tier → stop ≡ settled_stop result → ReadyOn w' early
+        answered (Err e) call tier is = let bad : Some (Rattle.cache_tier.specs.Worlds.bank_fault e) ≡ None = sym is ∙ end in Prim.cc
+        answered (Ok true) call tier is =
+            ready_moved w w' early m.unshared m.ageless (record {
+              shared = call.shared;
+              alike = subst (λ (t : Tier). Rattle.recovery.specs.Journalled.AreAlike w.tier.groups t.groups) (sym tier)
+                  (alike_commit (Rattle.cache_tier.specs.Shown.no_rows w.tier) (Rattle.cache_tier.specs.DoubtSteps.stood (in_doubt w x) w'.history).ops w.tier.groups w.tier.groups (alike_self w.tier.groups));
+              later = ap (λ (t : Tier). Rattle.run_laws.specs.Lines.are_later w.tier.groups t.unsettled) tier ∙ m.kinds.later;
+              own = subst (λ (t : Tier). Rattle.cache_tier.specs.StandingBetween.Each (λ (s : Session). Rattle.run_laws.specs.Lines.IsOfOneKind w.tier.groups s.own) t.sessions) (sym tier)
+                  (each_rested w.tier.groups x.session.label w.tier.sessions m.kinds.own);
+            }) (doubt_settles w x w' true call tier) on
+        answered (Ok false) call tier is =
+            ready_moved w w' early m.unshared m.ageless (record {
+              shared = call.shared;
+              alike = subst (λ (t : Tier). Rattle.recovery.specs.Journalled.AreAlike w.tier.groups t.groups) (sym tier) (alike_self w.tier.groups);
+              later = ap (λ (t : Tier). Rattle.run_laws.specs.Lines.are_later w.tier.groups t.unsettled) tier ∙ m.kinds.later;
+              own = subst (λ (t : Tier). Rattle.cache_tier.specs.StandingBetween.Each (λ (s : Session). Rattle.run_laws.specs.Lines.IsOfOneKind w.tier.groups s.own) t.sessions) (sym tier)
+                  (each_rested w.tier.groups x.session.label w.tier.sessions m.kinds.own);
+            }) (doubt_settles w x w' false call tier) on
+
+    by : (o : Option Doubt) → w.tier.doubt ≡ o → IsLeftBy o w → SettlesDoubt o w w' notes stop → stop ≡ None → ReadyOn w' early
+    by None e x q end = ready_same w w' early q.0 (record { journalled = j; stands = x; unshared = m.unshared; ageless = m.ageless; kinds = m.kinds })
+    by (Some d) e x q end = in_it x (subst (λ (y : Doubt). AsksRecorded y w w' notes stop) (Rattle.order_laws.proofs.TruthLaws.same_some (sym e ∙ doubt_is w x)) q) end
+
+-- ---- all that is due
+
+-- the slot stays between two worlds of a line
+slot_between : (a b : ℕ) → a ≤ b → b ≤ a → b ≡ a
+slot_between a b up down = omega (arith, up, down)
+
+due_done : (w due : World) (early : List Sealed) (notes : List Note) (stop : Option Reply) → MayBegin w → IsJournalled w early → DueWork w due notes stop → due.journal.generation ≤ w.journal.generation → is_broken stop ≡ false → Settled due stop early
+due_done w due early notes stop m j q slot ok = first q.end q.first q.next
+  where
+    first : (end : Option Reply) → DueDoubt w q.mid q.before end → ItemFollows end (ThenItem DueRound (ThenItem DueSets DueAging)) q.mid due q.behind stop → Settled due stop early
+    first (Some e) d next =
+        let x = doubt_done w q.mid early q.before (Some e) m j d (ap is_broken (sym next.2) ∙ ok) in
+        record { on = subst (λ v. IsJournalledOn v early) (sym next.0) x.on; ready = λ none. (let bad : Some e ≡ None = sym next.2 ∙ none in Prim.cc) }
+    first None d next = record { on = made.on; ready = made.ready }
+      where
+        a : ReadyOn q.mid early
+        a = (doubt_done w q.mid early q.before None m j d refl).ready refl
+
+        up : w.journal.generation ≤ q.mid.journal.generation
+        up = slots_rise w q.mid (due_doubt_leads w q.mid q.before None d)
+
+        second : (end : Option Reply) → DueRound q.mid next.mid next.before end → ItemFollows end (ThenItem DueSets DueAging) next.mid due next.behind stop → Settled due stop a.now
+        second end r more = go end r more
+          where
+            above : next.mid.journal.generation ≤ due.journal.generation
+            above = slots_rise next.mid due (item_follows_leads end (ThenItem DueSets DueAging) (then_item_leads DueSets DueAging due_sets_leads due_aging_leads) next.mid due next.behind stop more)
+
+            renews : RenewsSettled q.mid next.mid
+            renews =
+                let rise = slots_rise q.mid next.mid (due_round_leads q.mid next.mid next.before end r) in
+                inl (omega (arith, rise, above, up, slot))
+
+            go : (end : Option Reply) → DueRound q.mid next.mid next.before end → ItemFollows end (ThenItem DueSets DueAging) next.mid due next.behind stop → Settled due stop a.now
+            go (Some e) r more =
+                let b = due_round_ready q.mid next.mid a.now next.before (Some e) a.is r renews (ap is_broken (sym more.2) ∙ ok) in
+                record { on = subst (λ v. IsJournalledOn v a.now) (sym more.0) (record { now = b.now; is = b.is.journalled; more = b.more; grows = b.grows }); ready = λ none. (let bad : Some e ≡ None = sym more.2 ∙ none in Prim.cc) }
+            go None r more = third (due_round_ready q.mid next.mid a.now next.before None a.is r renews refl) more
+              where
+                third : (b : ReadyOn next.mid a.now) → ThenItem DueSets DueAging next.mid due next.behind stop → Settled due stop a.now
+                third b s = last s.end s.first s.next
+                  where
+                    last : (end : Option Reply) → DueSets next.mid s.mid s.before end → ItemFollows end DueAging s.mid due s.behind stop → Settled due stop a.now
+                    last (Some e) sets aging =
+                        let c = due_sets_ready next.mid s.mid b.now s.before (Some e) b.is sets (ap is_broken (sym aging.2) ∙ ok) in
+                        let on = on_then s.mid a.now b.now b.more b.grows (record { now = c.now; is = c.is.journalled; more = c.more; grows = c.grows }) in
+                        record { on = subst (λ v. IsJournalledOn v a.now) (sym aging.0) on; ready = λ none. (let bad : Some e ≡ None = sym aging.2 ∙ none in Prim.cc) }
+                    last None sets aging =
+                        let c = due_sets_ready next.mid s.mid b.now s.before None b.is sets refl in
+                        let f = due_aging_ready s.mid due c.now s.behind stop c.is aging in
+                        let all = ready_then due a.now b.now b.more b.grows (ready_then due b.now c.now c.more c.grows f) in
+                        record { on = record { now = all.now; is = all.is.journalled; more = all.more; grows = all.grows }; ready = λ none. all }
+
+        behind : Settled due stop a.now
+        behind = second next.end next.first next.next
+
+        made : Settled due stop early
+        made = record { on = on_then due early a.now a.more a.grows behind.on; ready = λ none. ready_then due early a.now a.more a.grows (behind.ready none) }
+
+-- ---- the line
+
+asks_none : (l : Line) (w w' : World) → AsksSchema l w w' None → asks_schema w'.tier l ≡ false
+asks_none l w w' q = by (asks_schema w.tier l) refl q
+  where
+    by : (b : Bool) → asks_schema w.tier l ≡ b → OnlyWhere b Asked w w' None → asks_schema w'.tier l ≡ false
+    by false e q = ap (λ (x : World). asks_schema x.tier l) q.0 ∙ e
+    by true e q = answered q.result q.tier q.end
+      where
+        answered : (result : Result (List Rattle.table_defs.specs.declared.definition.TableDef.TableDef) BankError) → w'.tier ≡ told result w.tier → None ≡ told_stop result → asks_schema w'.tier l ≡ false
+        answered (Ok schema) tier end = ap (λ (t : Tier). asks_schema t l) tier
+        answered (Err x) tier end = Prim.cc
+
+through : (l : Line) (due w' : World) (early : List Sealed) (last : Reply) → Ready due early → Stands w' → Then (AsksSchema l) (Tries (Does l)) due w' last → w'.journal.generation ≤ due.journal.generation → tells code.JournalFault last.last ≡ false → IsJournalledOn w' early
+through l due w' early last r after q slot ok = by q.stop q.first q.next
+  where
+    by : (stop : Option Reply) → AsksSchema l due q.mid stop → Follows stop (Tries (Does l)) q.mid w' last → IsJournalledOn w' early
+    by (Some e) first next =
+        let a = asks_ready l due q.mid early (Some e) r first (ap (λ (x : Reply). tells code.JournalFault x.last) (sym next.1) ∙ ok) in
+        subst (λ v. IsJournalledOn v early) (sym next.0) (record { now = a.now; is = a.is.journalled; more = a.more; grows = a.grows })
+    by None first next = on_then w' early a.now a.more a.grows (does next)
+      where
+        a : ReadyOn q.mid early
+        a = asks_ready l due q.mid early None r first refl
+
+        does : Tries (Does l) q.mid w' last → IsJournalledOn w' a.now
+        does (inr wants) = same_on q.mid w' a.now wants.0 a.is.journalled
+        does (inl d) =
+            let up = slots_rise due q.mid (asks_schema_leads l due q.mid None first) in
+            let rise = slots_rise q.mid w' (does_leads l q.mid w' last d) in
+            does_kept q.mid w' a.now last a.is (inl (omega (arith, up, rise, slot))) ok after l (asks_none l due q.mid first) d
