@@ -13,7 +13,7 @@ use Rattle.table_state.specs.declared.history.Sealed.{Sealed}
 use Rattle.table_state.specs.Histories.{state_of}
 use Rattle.order_laws.specs.Commits.{LiveGroup}
 use Rattle.order_laws.specs.Sides.{IsClosed}
-use Rattle.order_laws.specs.Standing.{GroupsAreOrdered}
+use Rattle.order_laws.specs.Standing.{AreClosed, GroupsAreOrdered}
 use Rattle.order_laws.proofs.TruthLaws.{never_both}
 use Rattle.instances.specs.declared.tree.Tree.{Tree}
 use Rattle.sql_subset.specs.declared.request.Line.TheVariants as says
@@ -32,12 +32,13 @@ use Rattle.cache_tier.specs.Order.{refusal}
 use Rattle.cache_tier.specs.Routes.{is_cached}
 use Rattle.cache_tier.specs.StandingBetween.{Each, HasNoTableOf, HaveOwnTables, IsCatalogued, Stands, live_groups_of}
 use Rattle.cache_tier.specs.Steps.{tells}
-use Rattle.cache_tier.specs.TierStates.{Session, Tier}
+use Rattle.cache_tier.specs.TierStates.{Doubt, Session, Tier}
 use Rattle.cache_tier.specs.Worlds.{World}
 use Rattle.cache_tier.proofs.HistoryKeeps.{root_covers}
 use Rattle.recovery.specs.Journalled.{IsJournalledOn}
 use Rattle.recovery.specs.Recalling.{group_of}
 use Rattle.line_laws.proofs.CommitStatements.{creates_made}
+use Rattle.run_laws.specs.Lines.{IsLeft, IsLeftBy}
 use Rattle.run_laws.proofs.ReadyLaws.{Ready}
 
 -- ---- the last of the groups
@@ -67,14 +68,42 @@ apart_last (h ∷ gs) g own t here =
         let none = any_last (covers t) gs g (own.0 t e) in
         absurd (never_both (covers t g) here none)
 
-closed_last : (gs : List Group) (g : Group) (h : List Entry) (log : List Sealed) (schema : List TableDef) (next : ℕ) → is_writethrough g ≡ true → GroupsAreOrdered (map live_group (filter is_writethrough (gs ++ g ∷ []))) h log schema next → IsClosed (tables_of g.def.tree) schema
-closed_last [] g h log schema next through ordered = (subst (λ b. GroupsAreOrdered (map live_group (cond b (g ∷ []) [])) h log schema next) through ordered).0.closed
-closed_last (x ∷ gs) g h log schema next through ordered = by (is_writethrough x) ordered (closed_last gs g h log schema next through)
+closed_last : (gs : List Group) (g : Group) (schema : List TableDef) → is_writethrough g ≡ true → AreClosed (live_groups_of (gs ++ g ∷ [])) schema → IsClosed (tables_of g.def.tree) schema
+closed_last [] g schema through closed = (subst (λ b. AreClosed (map live_group (cond b (g ∷ []) [])) schema) through closed).0
+closed_last (x ∷ gs) g schema through closed = by (is_writethrough x) closed (closed_last gs g schema through)
   where
-    by : (b : Bool) → GroupsAreOrdered (map live_group (cond b (x ∷ filter is_writethrough (gs ++ g ∷ [])) (filter is_writethrough (gs ++ g ∷ [])))) h log schema next
-        → (GroupsAreOrdered (map live_group (filter is_writethrough (gs ++ g ∷ []))) h log schema next → IsClosed (tables_of g.def.tree) schema) → IsClosed (tables_of g.def.tree) schema
+    by : (b : Bool) → AreClosed (map live_group (cond b (x ∷ filter is_writethrough (gs ++ g ∷ [])) (filter is_writethrough (gs ++ g ∷ [])))) schema
+        → (AreClosed (live_groups_of (gs ++ g ∷ [])) schema → IsClosed (tables_of g.def.tree) schema) → IsClosed (tables_of g.def.tree) schema
     by true are rest = rest are.1
     by false are rest = rest are
+
+-- ---- the catalog of a tier that stands, or of which a commit is in doubt
+
+pub record IsInOrder (t : Tier) : Type 0 where
+  pub each : Each (IsCatalogued t.schema) t.groups
+  pub apart : HaveOwnTables t.groups
+  pub closed : t.stale ≡ false → AreClosed (live_groups_of t.groups) t.schema
+
+all_closed : (groups : List LiveGroup) (h : List Entry) (log : List Sealed) (schema : List TableDef) (next : ℕ) → GroupsAreOrdered groups h log schema next → AreClosed groups schema
+all_closed [] h log schema next ordered = tt
+all_closed (g ∷ groups) h log schema next ordered = (ordered.0.closed, all_closed groups h log schema next ordered.1)
+
+order_stands : (w : World) → Stands w → IsInOrder w.tier
+order_stands w x = record {
+  each = x.catalog.each;
+  apart = x.catalog.apart;
+  closed = λ fresh. subst (AreClosed (live_groups_of w.tier.groups)) (x.schema.whole x.flow.stand.over.backing fresh x.flow.stand.over.leaves)
+      (all_closed (live_groups_of w.tier.groups) w.history w.tier.log x.flow.stand.over.backing.schema w.tier.next x.flow.stand.over.ordered);
+}
+
+pub order_left : (w : World) → IsLeft w → IsInOrder w.tier
+order_left w x = by w.tier.doubt x
+  where
+    by : (o : Option Doubt) → IsLeftBy o w → IsInOrder w.tier
+    by None x = order_stands w x
+    by (Some d) x =
+        let o = order_stands x.was x.stands in
+        subst IsInOrder (sym x.tier) (record { each = o.each; apart = o.apart; closed = o.closed })
 
 -- ---- the tables of a definition that the tier asks for
 
@@ -158,14 +187,14 @@ named_free t s d e = by (definition_names t.schema (definitions_of t.groups) d) 
     by (Some rule) rest e = Prim.cc
 
 -- behind the definition the tier stands: the group was one that may come
-came_new : (w w' : World) (label : List ℕ) (d : CreateGroup) (tree : Tree) → Stands w → Stands w' → asks_schema w.tier (says.Session label (asks_for.Statement (statement.CreateGroup d))) ≡ false → IsTreeOf (placed_tables w.tier.schema d) tree
-    → w'.history ≡ w.history → w'.tier ≡ with_new_group d tree w.tier → IsNewGroup w (group_of w.tier d tree)
-came_new w w' label d tree x y asked is history made = record {
+came_new : (w w' : World) (label : List ℕ) (d : CreateGroup) (tree : Tree) → IsInOrder w'.tier → asks_schema w.tier (says.Session label (asks_for.Statement (statement.CreateGroup d))) ≡ false → IsTreeOf (placed_tables w.tier.schema d) tree
+    → w'.tier ≡ with_new_group d tree w.tier → IsNewGroup w (group_of w.tier d tree)
+came_new w w' label d tree y asked is made = record {
   told = fresh;
-  sound = subst (λ schema. IsCatalogued schema g) (ap (λ (t : Tier). t.schema) made) (each_last (IsCatalogued w'.tier.schema) w.tier.groups g (subst (Each (IsCatalogued w'.tier.schema)) groups y.catalog.each));
+  sound = subst (λ schema. IsCatalogued schema g) (ap (λ (t : Tier). t.schema) made) (each_last (IsCatalogued w'.tier.schema) w.tier.groups g (subst (Each (IsCatalogued w'.tier.schema)) groups y.each));
   apart = apart;
-  closed = λ through. subst (IsClosed (tables_of tree)) schema (closed_last w.tier.groups g w'.history w'.tier.log y.flow.stand.over.backing.schema w'.tier.next through
-      (subst (λ gs. GroupsAreOrdered (live_groups_of gs) w'.history w'.tier.log y.flow.stand.over.backing.schema w'.tier.next) groups y.flow.stand.over.ordered));
+  closed = λ through. closed_last w.tier.groups g w.tier.schema through
+      (subst (λ (t : Tier). AreClosed (live_groups_of t.groups) t.schema) made (y.closed (ap (λ (t : Tier). t.stale) made ∙ fresh)));
   first = refl;
   keys = refl;
   unloaded = refl;
@@ -179,15 +208,12 @@ came_new w w' label d tree x y asked is history made = record {
     groups = ap (λ (t : Tier). t.groups) made
 
     apart : HasNoTableOf w.tier.groups (group_of w.tier d tree)
-    apart = apart_last w.tier.groups (group_of w.tier d tree) (subst HaveOwnTables groups y.catalog.apart)
+    apart = apart_last w.tier.groups (group_of w.tier d tree) (subst HaveOwnTables groups y.apart)
 
     fresh : w.tier.stale ≡ false
     fresh = told w.tier label d tree asked is (apart tree.root.table (root_covers (group_of w.tier d tree)))
 
-    schema : y.flow.stand.over.backing.schema ≡ w.tier.schema
-    schema = x.schema.whole y.flow.stand.over.backing fresh (ap state_of (sym history) ∙ y.flow.stand.over.leaves)
-
-pub creates_line : (w w' : World) (early : List Sealed) (reply : Reply) (label : List ℕ) (s : Session) (d : CreateGroup) → Ready w early → Stands w' → asks_schema w.tier (says.Session label (asks_for.Statement (statement.CreateGroup d))) ≡ false
+pub creates_line : (w w' : World) (early : List Sealed) (reply : Reply) (label : List ℕ) (s : Session) (d : CreateGroup) → Ready w early → IsInOrder w'.tier → asks_schema w.tier (says.Session label (asks_for.Statement (statement.CreateGroup d))) ≡ false
     → refusal w.tier s (statement.CreateGroup d) ≡ None → CreatesGroup d w w' reply → tells code.JournalFault reply.last ≡ false → IsJournalledOn w' early
 creates_line w w' early reply label s d r y asked free q ok =
-    creates_made d w w' early reply r.stands r.journalled (named_free w.tier s d free) q (λ history made. came_new w w' label d q.tree r.stands y asked q.is history made) ok
+    creates_made d w w' early reply r.stands r.journalled (named_free w.tier s d free) q (λ history made. came_new w w' label d q.tree y asked q.is made) ok

@@ -461,8 +461,12 @@ due_aging_leads w w' notes stop q = subst (λ x. LeadsTo w x) (sym q.0) (tiered 
 pub due_doubt_leads : ItemLeads DueDoubt
 due_doubt_leads w w' notes stop q = doubt_leads w.tier.doubt w w' notes stop q
 
-due_work_leads : ItemLeads DueWork
+pub due_work_leads : ItemLeads DueWork
 due_work_leads = then_item_leads _ _ due_doubt_leads (then_item_leads _ _ due_round_leads (then_item_leads _ _ due_sets_leads due_aging_leads))
+
+pub goes_through_leads : (o : Option Reply) (l : Line) → PartLeads (GoesThrough o l)
+goes_through_leads None l w w' reply q = tries_leads _ (then_leads _ _ (asks_schema_leads l) (tries_leads _ (does_leads l))) w w' reply q
+goes_through_leads (Some stop) l w w' reply q = same w w' q.0
 
 -- ---- slots
 

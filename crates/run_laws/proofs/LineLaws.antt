@@ -26,10 +26,12 @@ use Rattle.recovery.proofs.OthersLaws.{on_then}
 use Rattle.line_laws.specs.Keeping.{RenewsSettled, is_broken}
 use Rattle.line_laws.proofs.DueStatements.{due_aging_kept, due_doubt_kept}
 use Rattle.line_laws.proofs.PartWords.{same_on, stays_on}
+use Rattle.run_laws.specs.Runs.{StepKeepsJournal}
 use Rattle.run_laws.specs.Lines.{IsInDoubt, IsLeft, IsLeftBy, KeepsSlot, MayBegin}
+use Rattle.run_laws.proofs.CreateLaws.{IsInOrder, order_left}
 use Rattle.run_laws.proofs.DoubtLaws.{doubt_is, doubt_settles, in_doubt}
 use Rattle.run_laws.proofs.DueLaws.{asks_ready, due_aging_ready, due_round_ready, due_sets_ready}
-use Rattle.run_laws.proofs.LeadStatements.{asks_schema_leads, does_leads, due_aging_leads, due_doubt_leads, due_round_leads, due_sets_leads, item_follows_leads, slots_rise, then_item_leads}
+use Rattle.run_laws.proofs.LeadStatements.{asks_schema_leads, does_leads, due_aging_leads, due_doubt_leads, due_round_leads, due_sets_leads, due_work_leads, goes_through_leads, item_follows_leads, slots_rise, then_item_leads}
 use Rattle.run_laws.proofs.ReadyLaws.{Moves, Ready, ReadyOn, each_rested, ready_moved, ready_same, ready_stays, ready_then}
 use Rattle.run_laws.proofs.StandLaws.{IsSeenAs, seen_self, stands_seen}
 use Rattle.run_laws.proofs.StatementLaws.{does_kept}
@@ -199,7 +201,7 @@ asks_none l w w' q = by (asks_schema w.tier l) refl q
         answered (Ok schema) tier end = ap (λ (t : Tier). asks_schema t l) tier
         answered (Err x) tier end = Prim.cc
 
-through : (l : Line) (due w' : World) (early : List Sealed) (last : Reply) → Ready due early → Stands w' → Then (AsksSchema l) (Tries (Does l)) due w' last → w'.journal.generation ≤ due.journal.generation → tells code.JournalFault last.last ≡ false → IsJournalledOn w' early
+through : (l : Line) (due w' : World) (early : List Sealed) (last : Reply) → Ready due early → IsInOrder w'.tier → Then (AsksSchema l) (Tries (Does l)) due w' last → w'.journal.generation ≤ due.journal.generation → tells code.JournalFault last.last ≡ false → IsJournalledOn w' early
 through l due w' early last r after q slot ok = by q.stop q.first q.next
   where
     by : (stop : Option Reply) → AsksSchema l due q.mid stop → Follows stop (Tries (Does l)) q.mid w' last → IsJournalledOn w' early
@@ -217,3 +219,52 @@ through l due w' early last r after q slot ok = by q.stop q.first q.next
             let up = slots_rise due q.mid (asks_schema_leads l due q.mid None first) in
             let rise = slots_rise q.mid w' (does_leads l q.mid w' last d) in
             does_kept q.mid w' a.now last a.is (inl (omega (arith, up, rise, slot))) ok after l (asks_none l due q.mid first) d
+
+goes_through : (stop : Option Reply) (l : Line) (due w' : World) (early : List Sealed) (last : Reply) → Settled due stop early → IsInOrder w'.tier → GoesThrough stop l due w' last → w'.journal.generation ≤ due.journal.generation → tells code.JournalFault last.last ≡ false → IsJournalledOn w' early
+goes_through (Some e) l due w' early last x after q slot ok = subst (λ v. IsJournalledOn v early) (sym q.0) x.on
+goes_through None l due w' early last x after (inr wants) slot ok = subst (λ v. IsJournalledOn v early) (sym wants.0) x.on
+goes_through None l due w' early last x after (inl q) slot ok =
+    let r = x.ready refl in
+    on_then w' early r.now r.more r.grows (through l due w' r.now last r.is after q slot ok)
+
+-- a reply that tells no fault of the journal: what ended the due work told none
+stop_unbroken : (stop : Option Reply) (l : Line) (due w' : World) (last : Reply) → GoesThrough stop l due w' last → tells code.JournalFault last.last ≡ false → is_broken stop ≡ false
+stop_unbroken None l due w' last q ok = refl
+stop_unbroken (Some e) l due w' last q ok = ap (λ (x : Reply). tells code.JournalFault x.last) (sym q.1) ∙ ok
+
+parts_kept : (base : ℕ) (l : Line) (w w' : World) (early : List Sealed) (reply : Reply) → MayBegin w → IsJournalled w early → IsLeft w' → KeepsSlot w w' → Parts base l w w' reply → tells code.JournalFault reply.last ≡ false → IsJournalledOn w' early
+parts_kept base l w w' early reply m j after slot q ok =
+    let whole : tells code.JournalFault q.last.last ≡ false = ap (λ (x : Reply). tells code.JournalFault x.last) (sym q.answer) ∙ ok in
+    let works_up = slots_rise (with_moment base l w) q.due (due_work_leads (with_moment base l w) q.due q.notes q.stop q.works) in
+    let does_up = slots_rise q.due w' (goes_through_leads q.stop l q.due w' q.last q.does) in
+    goes_through q.stop l q.due w' early q.last
+    (due_done (with_moment base l w) q.due early q.notes q.stop (moment_begins base l w m) (moment_journalled base l w early j) q.works (omega (arith, does_up, slot)) (stop_unbroken q.stop l q.due w' q.last q.does whole))
+    (order_left w' after) q.does (omega (arith, works_up, slot)) whole
+
+answered_kept : (base : ℕ) (l : Line) (w w' : World) (early : List Sealed) (reply : Reply) → MayBegin w → IsJournalled w early → IsLeft w' → KeepsSlot w w' → Answered base l w w' reply → tells code.JournalFault reply.last ≡ false → IsJournalledOn w' early
+answered_kept base l w w' early reply m j after slot (inr wants) ok = same_on w w' early wants.0 j
+answered_kept base l w w' early reply m j after slot (inl q) ok = by (early_fault base l w.tier) q
+  where
+    by : (o : Option Rule) → Unless o (Parts base l) w w' reply → IsJournalledOn w' early
+    by (Some rule) q = same_on w w' early q.0 j
+    by None q = parts_kept base l w w' early reply m j after slot q ok
+
+refused_kept : (rule : Rule) (w w' : World) (early : List Sealed) (reply : Reply) → IsJournalled w early → Tries (Refuses rule) w w' reply → IsJournalledOn w' early
+refused_kept rule w w' early reply j (inl q) = same_on w w' early q.0 j
+refused_kept rule w w' early reply j (inr q) = same_on w w' early q.0 j
+
+heeds_kept : (base : ℕ) (said : Saying) (w w' : World) (early : List Sealed) (reply : Reply) → MayBegin w → IsJournalled w early → IsLeft w' → KeepsSlot w w' → Heeds base said w w' reply → tells code.JournalFault reply.last ≡ false → IsJournalledOn w' early
+heeds_kept base Silent w w' early reply m j after slot q ok = absurd q
+heeds_kept base (Says l) w w' early reply m j after slot q ok = by (is_undone l) q
+  where
+    by : (b : Bool) → MatchBool b (Tries (Refuses (Rattle.cache_tier.specs.Rules.wrong_at 0)) w w' reply) (Answered base l w w' reply) → IsJournalledOn w' early
+    by true q = refused_kept (Rattle.cache_tier.specs.Rules.wrong_at 0) w w' early reply j q
+    by false q = answered_kept base l w w' early reply m j after slot q ok
+heeds_kept base (WrongAt place) w w' early reply m j after slot q ok = refused_kept _ w w' early reply j q
+heeds_kept base TooDeep w w' early reply m j after slot q ok = refused_kept _ w w' early reply j q
+heeds_kept base TooLong w w' early reply m j after slot q ok = same_on w w' early q.0 j
+
+-- a line, be it silent or not
+pub step_kept : StepKeepsJournal
+step_kept base w w' said None early m j after slot whole q = same_on w w' early q.1 j
+step_kept base w w' said (Some reply) early m j after slot whole q = heeds_kept base said w w' early reply m j after slot q.1 whole

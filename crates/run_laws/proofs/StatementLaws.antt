@@ -49,7 +49,7 @@ use Rattle.line_laws.proofs.PartWords.{same_on}
 use Rattle.line_laws.proofs.PassedStatements.{passes_on_kept}
 use Rattle.line_laws.proofs.QueryStatements.{selects_kept, writes_cached_kept}
 use Rattle.line_laws.proofs.QuietStatements.{clock_kept, closes_kept, opens_kept, rolls_back_kept, sets_level_kept}
-use Rattle.run_laws.proofs.CreateLaws.{creates_line}
+use Rattle.run_laws.proofs.CreateLaws.{IsInOrder, creates_line}
 use Rattle.run_laws.proofs.RefusalLaws.{console_off, dropper_rests, its_own, meets, passed, refers_not}
 use Rattle.run_laws.proofs.ReadyLaws.{Ready}
 
@@ -69,7 +69,7 @@ module _ (w w' : World) (early : List Sealed) (reply : Reply) (r : Ready w early
   calls s (Ok (RefreshSet interval)) q = refreshes_called interval w w' early reply r.stands r.journalled r.unshared q ok
   calls s (Ok (SetLevel level)) q = sets_level_kept s.label level w w' early reply r.stands r.journalled r.unshared q ok
 
-  module _ (after : Stands w') where
+  module _ (after : IsInOrder w'.tier) where
     states : (label : List ℕ) (s : Session) (st : Stmt) → asks_schema w.tier (says.Session label (asks_for.Statement st)) ≡ false → session_of w.tier s.label ≡ Some s → refusal w.tier s st ≡ None → DoesStatement s st w w' reply → IsJournalledOn w' early
     states label s (statement.Select query) asked there free q = selects_kept s query w w' early reply r.stands r.journalled r.unshared q settled ok
     states label s (statement.Write write) asked there free q = writes_placed s _ q

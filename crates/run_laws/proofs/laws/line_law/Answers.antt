@@ -1,4 +1,5 @@
+use Rattle.run_laws.proofs.LineLaws.{step_kept}
 use Rattle.run_laws.proofs.laws.line_law.Goals as goal
 
 pub returns : goal.returns
-returns c = λ w m. m.left
+returns c = step_kept
