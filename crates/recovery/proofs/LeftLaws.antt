@@ -13,8 +13,7 @@ use Rattle.cache_tier.specs.DropSteps.{without_group}
 use Rattle.cache_tier.specs.Groups.{Group}
 use Rattle.cache_tier.specs.Definitions.{defined_by, definition_names, new_group}
 use Rattle.cache_tier.specs.Journals.{Commits, Defines, Drops, JournalEntry, Marks, Numbers, Prepares, SetsLoaded, SetsState, next_behind, next_with}
-use Rattle.cache_tier.specs.StandingBetween.{HasNoTableOf, IsCatalogued}
-use Rattle.cache_tier.specs.StandingBetween as between
+use Rattle.cache_tier.specs.StandingBetween.{IsCatalogued}
 use Rattle.cache_tier.specs.TierStates.{Settings, Tier, opened, with_group}
 use Rattle.cache_tier.specs.Worlds.{World}
 use Rattle.recovery.specs.Journalled.{AreAlike, CrashLeaves, IsAlike, IsJournalled}
@@ -104,8 +103,8 @@ next_rises n (s ∷ late) =
     let more = next_rises (max n (s.ticket.0 + 1)) late in
     omega (arith, up, more)
 
-pub crash_leaves : (w : World) (early : List Sealed) (settings : Settings) (moment : ℕ) → between.Stands w → IsJournalled w early → CrashLeaves w early settings moment
-crash_leaves w early settings moment stands j = record {
+pub crash_leaves : (w : World) (early : List Sealed) (settings : Settings) (moment : ℕ) → w.tier.next ≤ 2 ^ 63 → IsJournalled w early → CrashLeaves w early settings moment
+crash_leaves w early settings moment cap j = record {
   matched = record { backing = j.backing; leaves = j.leaves; matched = left.matched; last = omega (arith, up, below, cap) };
   catalog = other.left;
   recalls = other.recalls;
@@ -132,6 +131,3 @@ crash_leaves w early settings moment stands j = record {
 
     below : next_behind (w.journal.flushed ++ w.journal.tail) ≤ w.tier.next
     below = j.next
-
-    cap : w.tier.next ≤ 2 ^ 63
-    cap = stands.flow.last

@@ -10,3 +10,4 @@ pub mod RefusalLaws
 pub mod CreateLaws
 pub mod StatementLaws
 pub mod LineLaws
+pub mod RunKeeps

@@ -1,8 +1,26 @@
 //! Laws of whole lines, each on the contract of a function that does nothing. They are this project's rules.
 
-ghost use Rattle.run_laws.specs.Runs.{StepKeepsJournal};
+ghost use Rattle.std.specs.Prelude.{ℕ, List, Option};
+ghost use Rattle.table_state.specs.declared.history.Sealed.{Sealed};
+ghost use Rattle.cache_tier.specs.declared.reply.Reply.{Reply};
+ghost use Rattle.cache_tier.specs.Steps.{Asked};
+ghost use Rattle.cache_tier.specs.TierStates.{Settings};
+ghost use Rattle.cache_tier.specs.Worlds.{World};
+ghost use Rattle.recovery.specs.Journalled.{IsJournalled};
+ghost use Rattle.run_laws.specs.Lines.{IsLeft, MayBegin};
+ghost use Rattle.run_laws.specs.Runs.{KeepsThrough, RunsOn, StepKeepsJournal, Survives};
 
-/// A line keeps the journal the tier's.
+/// A line, whatever it says, keeps the journal the tier's, and what was held is held.
 pub fn line_law()
     ensures { StepKeepsJournal }
+{}
+
+/// Where the tier stands or a commit is in doubt, and the journal is the tier's, a crash leaves entries whose tier stands
+/// over the history (`survives`). So it is behind each line of a run, and all that was held before is held
+/// (`keeps_through`).
+pub fn run_law()
+    ensures survives { (w : World) (early : List Sealed) (settings : Settings) (moment : ℕ) → IsLeft w
+        → IsJournalled w early → Survives w early settings moment }
+    ensures keeps_through { (w w' : World) (lines : List Asked) (replies : List (Option Reply)) (early : List Sealed)
+        → MayBegin w → IsJournalled w early → RunsOn w lines replies w' → KeepsThrough w early lines replies w' }
 {}

@@ -4,4 +4,4 @@
 
 mod laws;
 
-pub use laws::line_law;
+pub use laws::{line_law, run_law};
