@@ -73,7 +73,7 @@ turn_tier w w' stop q = by (is_long w) q
     by false q = ap (λ (x : World). x.tier) q.0
 
 -- what is unsettled behind a round was so before
-round_all : (p : Sealed → Bool) (w w' : World) (stop : Option Reply) → Round w w' stop → list_all p w.tier.unsettled ≡ true → list_all p w'.tier.unsettled ≡ true
+pub round_all : (p : Sealed → Bool) (w w' : World) (stop : Option Reply) → Round w w' stop → list_all p w.tier.unsettled ≡ true → list_all p w'.tier.unsettled ≡ true
 round_all p w w' stop q all = by q.stop q.next
   where
     before : list_all p q.mid.tier.unsettled ≡ true
@@ -85,6 +85,21 @@ round_all p w w' stop q all = by q.stop q.next
         ap (λ (t : Tier). list_all p t.unsettled) (turn_tier next.mid w' next.turned next.rotates)
         ∙ ap (λ (t : Tier). list_all p t.unsettled) next.applies.tier
         ∙ kept_all p (λ s. not (next.applies.left s)) q.mid.tier.unsettled before
+
+-- what else of the tier a round leaves as it was
+pub round_sits : (w w' : World) (stop : Option Reply) → Round w w' stop → (left : List Sealed × ℕ) × (w'.tier ≡ record w.tier { unsettled = left.0; round = left.1 })
+round_sits w w' stop q = by q.stop q.next
+  where
+    first : q.mid.tier ≡ w.tier
+    first = flush_tier w q.mid q.stop q.first
+
+    by : (end : Option Reply) → StageFollows end AppliesAndRotates q.mid w' stop → (left : List Sealed × ℕ) × (w'.tier ≡ record w.tier { unsettled = left.0; round = left.1 })
+    by (Some r) next = ((w.tier.unsettled, w.tier.round), ap (λ (x : World). x.tier) next.0 ∙ first)
+    by None next =
+        let rest : List Sealed = filter (λ s. not (next.applies.left s)) q.mid.tier.unsettled in (
+          (rest, q.mid.tier.now),
+          turn_tier next.mid w' next.turned next.rotates ∙ next.applies.tier ∙ ap (λ (t : Tier). record t { unsettled = rest; round = q.mid.tier.now }) first,
+        )
 
 pub round_ready : (w w' : World) (early : List Sealed) (stop : Option Reply) → Ready w early → Round w w' stop → (stop ≡ None) ⊎ RenewsSettled w w' → is_broken stop ≡ false → ReadyOn w' early
 round_ready w w' early stop r q settled ok =

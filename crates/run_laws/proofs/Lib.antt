@@ -5,6 +5,8 @@ pub mod AtOnceLaws
 pub mod DoubtLaws
 pub mod ReadyLaws
 pub mod DueLaws
+pub mod SitsLaws
+pub mod SitsStatements
 pub mod OffLaws
 pub mod RefusalLaws
 pub mod CreateLaws

@@ -1,3 +1,4 @@
+use Rattle.run_laws.proofs.SitsStatements.{drains_sits}
 use Rattle.run_laws.proofs.RunKeeps.{run_kept, survives}
 use Rattle.run_laws.proofs.laws.run_law.Goals as goal
 
