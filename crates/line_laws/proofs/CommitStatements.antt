@@ -124,13 +124,13 @@ creates_kept d w w' early reply stands j apart may q ok = creates_made d w w' ea
 
 -- ---- DROP
 
-ops_off : (g : Group) (ops : List Op) → writes_on g ops ≡ false → are_off (tables_of g.def.tree) ops ≡ true
+pub ops_off : (g : Group) (ops : List Op) → writes_on g ops ≡ false → are_off (tables_of g.def.tree) ops ≡ true
 ops_off g [] e = refl
 ops_off g (op ∷ ops) e =
     let (first, rest) = or_none (covers (table_of op) g) (writes_on g ops) e in
     (λ i. not ((in_tree g.def.tree (table_of op) ∙ first) i) && ops_off g ops rest i)
 
-owns_off : (g : Group) (sessions : List Session) → list_any (λ (s : Session). writes_on g s.own) sessions ≡ false → list_all (are_off (tables_of g.def.tree)) (own_writes sessions) ≡ true
+pub owns_off : (g : Group) (sessions : List Session) → list_any (λ (s : Session). writes_on g s.own) sessions ≡ false → list_all (are_off (tables_of g.def.tree)) (own_writes sessions) ≡ true
 owns_off g [] e = refl
 owns_off g (s ∷ sessions) e =
     let (first, rest) = or_none (writes_on g s.own) (list_any (λ (r : Session). writes_on g r.own) sessions) e in
@@ -152,14 +152,14 @@ one_place (x ∷ gs) (suc i) zero g h apart at there same =
 one_place (x ∷ gs) (suc i) (suc k) g h apart at there same = ap suc (one_place gs i k g h apart.1 at there same)
 
 -- what the rest of a DROP asks
-record MayGo (s : Session) (place : ℕ) (g : Group) (w : World) : Type 0 where
-  stands : Stands w
-  session : session_of w.tier s.label ≡ Some s
-  rests : s.own ≡ []
-  there : slice_get w.tier.groups place ≡ Some g
-  settled : is_writethrough g ≡ true → w.tier.unsettled ≡ []
+pub record MayGo (s : Session) (place : ℕ) (g : Group) (w : World) : Type 0 where
+  pub stands : Stands w
+  pub session : session_of w.tier s.label ≡ Some s
+  pub rests : s.own ≡ []
+  pub there : slice_get w.tier.groups place ≡ Some g
+  pub settled : is_writethrough g ≡ true → w.tier.unsettled ≡ []
 
-may_drop : (s : Session) (place : ℕ) (g : Group) (w : World) (early : List Sealed) → IsJournalled w early → MayGo s place g w → drop_fault s g w ≡ None → MayDrop w g.def.name g
+pub may_drop : (s : Session) (place : ℕ) (g : Group) (w : World) (early : List Sealed) → IsJournalled w early → MayGo s place g w → drop_fault s g w ≡ None → MayDrop w g.def.name g
 may_drop s place g w early j may unlocked =
     let split = split_of (is_called g.def.name) w.tier.groups place g may.there (nat_list_eq_equiv.refl g.def.name) (λ i h at same. one_place w.tier.groups place i g h (names_apart w early j) may.there at same) in
     let writes : Session → Bool = λ r. writes_on g r.own in

@@ -55,7 +55,7 @@ any_last : {X : Type 0} (p : X → Bool) (xs : List X) (x : X) → list_any p (x
 any_last p [] x e = (or_false (p x) false e).0
 any_last p (y ∷ xs) x e = any_last p xs x (or_false (p y) (list_any p (xs ++ x ∷ [])) e).1
 
-apart_last : (gs : List Group) (g : Group) → HaveOwnTables (gs ++ g ∷ []) → HasNoTableOf gs g
+pub apart_last : (gs : List Group) (g : Group) → HaveOwnTables (gs ++ g ∷ []) → HasNoTableOf gs g
 apart_last [] g own t here = refl
 apart_last (h ∷ gs) g own t here =
     let rest = apart_last gs g own.1 t here in
@@ -84,7 +84,7 @@ pub record IsInOrder (t : Tier) : Type 0 where
   pub apart : HaveOwnTables t.groups
   pub closed : t.stale ≡ false → AreClosed (live_groups_of t.groups) t.schema
 
-all_closed : (groups : List LiveGroup) (h : List Entry) (log : List Sealed) (schema : List TableDef) (next : ℕ) → GroupsAreOrdered groups h log schema next → AreClosed groups schema
+pub all_closed : (groups : List LiveGroup) (h : List Entry) (log : List Sealed) (schema : List TableDef) (next : ℕ) → GroupsAreOrdered groups h log schema next → AreClosed groups schema
 all_closed [] h log schema next ordered = tt
 all_closed (g ∷ groups) h log schema next ordered = (ordered.0.closed, all_closed groups h log schema next ordered.1)
 

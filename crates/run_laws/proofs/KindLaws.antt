@@ -27,11 +27,11 @@ and_false : (b : Bool) → (b && false) ≡ false
 and_false true = refl
 and_false false = refl
 
-neither : (a b : Bool) → (a || b) ≡ false → (a ≡ false) × (b ≡ false)
+pub neither : (a b : Bool) → (a || b) ≡ false → (a ≡ false) × (b ≡ false)
 neither true b e = cc
 neither false b e = (refl, e)
 
-none_of : (p : Group → Bool) (groups : List Group) (t : TableId) → list_any (covers t) groups ≡ false → is_table_of p groups t ≡ false
+pub none_of : (p : Group → Bool) (groups : List Group) (t : TableId) → list_any (covers t) groups ≡ false → is_table_of p groups t ≡ false
 none_of p [] t none = refl
 none_of p (g ∷ groups) t none =
     let both = neither (covers t g) (list_any (covers t) groups) none in

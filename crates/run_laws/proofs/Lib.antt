@@ -8,8 +8,11 @@ pub mod DueLaws
 pub mod SitsLaws
 pub mod SitsStatements
 pub mod OffLaws
+pub mod KindParts
 pub mod RefusalLaws
 pub mod CreateLaws
+pub mod KindStatements
+pub mod KindWrites
 pub mod StatementLaws
 pub mod LineLaws
 pub mod RunKeeps

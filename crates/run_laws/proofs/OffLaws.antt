@@ -46,19 +46,23 @@ use Rattle.cache_tier.specs.TierStates.{Tier}
 use Rattle.cache_tier.specs.StandingBetween.{live_groups_of}
 use Rattle.cache_tier.proofs.GroupTables.{live_table}
 
-module _ (live : List TableId) where
-  abbrev pub IsOff : List Op → Type 0
-  IsOff ops = are_off live ops ≡ true
+-- both ends of each foreign key are on one side
+abbrev pub IsSideOf : (TableId → Bool) → List TableDef → Type 0
+IsSideOf side schema = (t : TableId) (def : TableDef) (foreign : ForeignKey) → slice_get schema t.0 ≡ Some def → def.foreign_key ≡ Some foreign → side foreign.parent ≡ side t
 
-  -- the table isn't live
+module _ (side : TableId → Bool) where
+  abbrev pub IsOff : List Op → Type 0
+  IsOff ops = list_all (λ op. side (Rattle.table_state.specs.Operations.table_of op)) ops ≡ true
+
+  -- the table is on this side
   abbrev pub IsApart : TableId → Type 0
-  IsApart t = is_one_of live t ≡ false
+  IsApart t = side t ≡ true
 
   off_both : (xs ys : List Op) → IsOff xs → IsOff ys → IsOff (xs ++ ys)
   off_both xs ys one other = list_all-append _ xs ys ∙ (λ i. one i && other i)
 
   off_one : (o : Op) → IsApart (Rattle.table_state.specs.Operations.table_of o) → IsOff (o ∷ [])
-  off_one o apart = ap (λ b. not b && true) apart
+  off_one o apart = ap (λ b. b && true) apart
 
   off_flat : {X : Type 0} (f : X → List Op) (xs : List X) → ((x : X) → IsOff (f x)) → IsOff (flat_map f xs)
   off_flat f [] off = refl
@@ -78,10 +82,10 @@ module _ (live : List TableId) where
   off_children f [] apart off = refl
   off_children f (t ∷ ts) apart off = off_both (f t) (flat_map f ts) (off t apart.0) (off_children f ts apart.1 off)
 
-  one_child : (schema : List TableDef) → IsClosed live schema → (parent : TableId) → IsApart parent → (place : ℕ) (def : TableDef) → slice_get schema place ≡ Some def → AllApart (child_at parent place def)
+  one_child : (schema : List TableDef) → IsSideOf side schema → (parent : TableId) → IsApart parent → (place : ℕ) (def : TableDef) → slice_get schema place ≡ Some def → AllApart (child_at parent place def)
   one_child schema closed parent apart place def at = by def.foreign_key refl
     where
-      same_id : (t : TableId) → is_one_of live t ≡ is_one_of live (record { 0 = t.0 })
+      same_id : (t : TableId) → side t ≡ side (record { 0 = t.0 })
       same_id t = refl
 
       listed : (o : Option TableId) → ((t : TableId) → o ≡ Some t → IsApart t) → AllApart (Rattle.std.specs.Prelude.option_to_list o)
@@ -93,7 +97,7 @@ module _ (live : List TableId) where
       id_is false t e = cc
 
       chosen : (b : Bool) → (b ≡ true → IsApart (record { 0 = place })) → AllApart (cond b (Rattle.std.specs.Prelude.option_to_list (table_id place)) [])
-      chosen true all = listed (table_id place) (λ t is. ap (is_one_of live) (id_is _ t is) ∙ all refl)
+      chosen true all = listed (table_id place) (λ t is. ap (side) (id_is _ t is) ∙ all refl)
       chosen false all = tt
 
       by : (o : Option ForeignKey) → def.foreign_key ≡ o → AllApart (child_at parent place def)
@@ -105,10 +109,10 @@ module _ (live : List TableId) where
           both_true true b e = e
           both_true false b e = cc
 
-          parents : (f : ForeignKey) → cascades_from parent (Some f) ≡ true → is_one_of live f.parent ≡ is_one_of live parent
-          parents f cascades = ap (λ (n : ℕ). is_one_of live (record { 0 = n })) (eqb-true f.parent.0 parent.0 (both_true f.cascade _ cascades))
+          parents : (f : ForeignKey) → cascades_from parent (Some f) ≡ true → side f.parent ≡ side parent
+          parents f cascades = ap (λ (n : ℕ). side (record { 0 = n })) (eqb-true f.parent.0 parent.0 (both_true f.cascade _ cascades))
 
-  all_children : (schema : List TableDef) → IsClosed live schema → (parent : TableId) → IsApart parent → (place : ℕ) (defs : List TableDef) → ((i : ℕ) (def : TableDef) → slice_get defs i ≡ Some def → slice_get schema (place + i) ≡ Some def) → AllApart (children_from parent place defs)
+  all_children : (schema : List TableDef) → IsSideOf side schema → (parent : TableId) → IsApart parent → (place : ℕ) (defs : List TableDef) → ((i : ℕ) (def : TableDef) → slice_get defs i ≡ Some def → slice_get schema (place + i) ≡ Some def) → AllApart (children_from parent place defs)
   all_children schema closed parent apart place [] there = tt
   all_children schema closed parent apart place (def ∷ defs) there =
       let here : place + 0 ≡ place = omega arith in
@@ -117,7 +121,7 @@ module _ (live : List TableId) where
       (all_children schema closed parent apart (suc place) defs
       (λ i d at. let next : place + suc i ≡ suc place + i = omega arith in ap (slice_get schema) (sym next) ∙ there (suc i) d at))
 
-  off_deleted : (n : ℕ) (s : TableState) → IsClosed live s.schema → (t : TableId) (row : List Value) → IsApart t → IsOff (deleted n s t row)
+  off_deleted : (n : ℕ) (s : TableState) → IsSideOf side s.schema → (t : TableId) (row : List Value) → IsApart t → IsOff (deleted n s t row)
   off_deleted zero s closed t row apart = refl
   off_deleted (suc n) s closed t row apart =
       off_both (flat_map (λ child. flat_map (deleted n s child) (referring s (key_in (slice_get s.schema t.0) row) child)) (children_from t 0 s.schema)) (op.Delete t row ∷ [])
@@ -128,7 +132,7 @@ module _ (live : List TableId) where
 
   -- what one write does
 
-  abbrev GivesOff : Result (List Op) Rule → Type 0
+  abbrev pub GivesOff : Result (List Op) Rule → Type 0
   GivesOff r = (ops : List Op) → r ≡ Ok ops → IsOff ops
 
   gives_ok : (xs : List Op) → IsOff xs → GivesOff (Ok xs)
@@ -156,7 +160,7 @@ module _ (live : List TableId) where
   gives_chosen None r off ops e = cc
   gives_chosen (Some t) r off ops e = gives_true t r off ops e
 
-  gives_in : (s : TableState) → IsClosed live s.schema → (t : TableId) → IsApart t → (def : TableDef) (action : Action) → GivesOff (done_in s t def action)
+  gives_in : (s : TableState) → IsSideOf side s.schema → (t : TableId) → IsApart t → (def : TableDef) (action : Action) → GivesOff (done_in s t def action)
   gives_in s closed t apart def (Insert es) = gives_row (op.Insert t) (built def.columns es []) (λ row. off_one (op.Insert t row) apart)
   gives_in s closed t apart def (Update es filter) = gives_each (done_on s t def (Update es filter)) (values (table_at s t))
       (λ row. gives_chosen (selects filter row) (done_to s t def (Update es filter) row) (gives_row (op.Update t row) (built def.columns es row) (λ new. off_one (op.Update t row new) apart)))
@@ -168,7 +172,7 @@ module _ (live : List TableId) where
   gives_limited false true x y r off ops e = cc
   gives_limited false false x y r off ops e = gives_ok r off ops e
 
-  gives_effects : (room : ℕ) (change : Change) (s : TableState) → IsClosed live s.schema → IsApart change.table → GivesOff (effects_of room change s)
+  pub gives_effects : (room : ℕ) (change : Change) (s : TableState) → IsSideOf side s.schema → IsApart change.table → GivesOff (effects_of room change s)
   gives_effects room change s closed apart = by (slice_get s.schema change.table.0)
     where
       within : (r : Result (List Op) Rule) → GivesOff r → GivesOff (then_do (within_limits room s change) r)
@@ -206,7 +210,7 @@ module _ (live : List TableId) where
   one_applied change s (Err rule) done off e = cc
   one_applied change s (Ok ops) done off e = one_left change s ops (broken_by_all ops s) done (off ops refl) e
 
-  one_written : (room : ℕ) (change : Change) (s : TableState) (done : Done) → IsClosed live s.schema → IsApart change.table → written_by room change s ≡ Ok done → IsOffBehind s done
+  one_written : (room : ℕ) (change : Change) (s : TableState) (done : Done) → IsSideOf side s.schema → IsApart change.table → written_by room change s ≡ Ok done → IsOffBehind s done
   one_written room change s done closed apart e = one_applied change s (effects_of room change s) done (gives_effects room change s closed apart) e
 
   joined_off : (first : Done) (r : Result Done ApplyError) (done : Done) → IsOff first.written.ops → ((more : Done) → r ≡ Ok more → IsOff more.written.ops) → behind first.written r ≡ Ok done → IsOff done.written.ops
@@ -215,7 +219,7 @@ module _ (live : List TableId) where
       let same : record { written = joined first.written more.written; state = more.state } ≡ done = cc in
       subst (λ (d : Done). IsOff d.written.ops) same (off_both first.written.ops more.written.ops off (rest more refl))
 
-  pub written_off : (changes : List Change) (room : ℕ) (s : TableState) (done : Done) → IsClosed live s.schema → AreApart changes → written_in room changes s ≡ Ok done → IsOff done.written.ops
+  pub written_off : (changes : List Change) (room : ℕ) (s : TableState) (done : Done) → IsSideOf side s.schema → AreApart changes → written_in room changes s ≡ Ok done → IsOff done.written.ops
   written_off [] room s done closed apart e =
       let same : record { written = nothing; state = s } ≡ done = cc in
       subst (λ (d : Done). IsOff d.written.ops) same refl
@@ -223,12 +227,12 @@ module _ (live : List TableId) where
       by (written_by room change s) refl e (λ n x d c is. written_off changes n x d c apart.1 is)
     where
       by : (r : Result Done ApplyError) → written_by room change s ≡ r → and_then (λ first. behind first.written (written_in (room - length first.written.ops) changes first.state)) r ≡ Ok done
-          → ((n : ℕ) (x : TableState) (d : Done) → IsClosed live x.schema → written_in n changes x ≡ Ok d → IsOff d.written.ops) → IsOff done.written.ops
+          → ((n : ℕ) (x : TableState) (d : Done) → IsSideOf side x.schema → written_in n changes x ≡ Ok d → IsOff d.written.ops) → IsOff done.written.ops
       by (Err x) is e rest = cc
       by (Ok first) is e rest =
           let one = one_written room change s first closed apart.0 is in
           joined_off first (written_in (room - length first.written.ops) changes first.state) done one.off
-          (λ more go. rest (room - length first.written.ops) first.state more (subst (IsClosed live) (sym one.schema) closed) go) e
+          (λ more go. rest (room - length first.written.ops) first.state more (subst (IsSideOf side) (sym one.schema) closed) go) e
 
 -- the tables that writes are on
 
@@ -290,10 +294,14 @@ placed_apart a (w ∷ writes) found ps is sound none =
     let on = on_named a.schema w each.0 (parts.2 ∙ ap (λ r. Ok r) each.2) in
     subst (PlacedApart (live_of a)) each.4 (not_through a w each.0 on first.0, placed_apart a writes parts.1 each.1 parts.3 each.3 first.1)
 
-seen_apart : (live : List TableId) (changes : List Change) → PlacedApart live (map change_seen changes) → AreApart live changes
-seen_apart live [] apart = tt
-seen_apart live (change ∷ changes) apart = (apart.0, seen_apart live changes apart.1)
+-- a table that isn't live
+abbrev pub off_live : List TableId → TableId → Bool
+off_live live t = not (is_one_of live t)
 
-pub resolved_apart : (a : Tier) (writes : List Write) (changes : List Change) (r : Result (List (Result PlacedChange Rule)) Rule) → named_writes a.schema writes ≡ r → then_do all_sound r ≡ Ok (map change_seen changes) → first_writethrough a writes ≡ None → AreApart (live_of a) changes
+seen_apart : (live : List TableId) (changes : List Change) → PlacedApart live (map change_seen changes) → AreApart (off_live live) changes
+seen_apart live [] apart = tt
+seen_apart live (change ∷ changes) apart = (ap not apart.0, seen_apart live changes apart.1)
+
+pub resolved_apart : (a : Tier) (writes : List Write) (changes : List Change) (r : Result (List (Result PlacedChange Rule)) Rule) → named_writes a.schema writes ≡ r → then_do all_sound r ≡ Ok (map change_seen changes) → first_writethrough a writes ≡ None → AreApart (off_live (live_of a)) changes
 resolved_apart a writes changes (Err x) is sound none = cc
 resolved_apart a writes changes (Ok found) is sound none = seen_apart (live_of a) changes (placed_apart a writes found (map change_seen changes) is sound none)

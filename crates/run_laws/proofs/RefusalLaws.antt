@@ -1,5 +1,5 @@
 -- What the refusals of statements see to.
-use Rattle.std.proofs.Common.{◌≡◌, ◌⊎◌, inl, inr, ℕ, Bool, true, false, cond, ◌&&◌, ◌||◌, nat_eq, Option, Some, None, Result, Ok, Err, List, [], ◌∷◌, ◌++◌, map, find, slice_get, refl, sym, ap, subst, ◌∙◌}
+use Rattle.std.proofs.Common.{◌≡◌, ◌⊎◌, inl, inr, ℕ, Bool, true, false, not, cond, ◌&&◌, ◌||◌, nat_eq, Option, Some, None, Result, Ok, Err, List, [], ◌∷◌, ◌++◌, map, find, slice_get, refl, sym, ap, subst, ◌∙◌}
 use Rattle.std.specs.Prelude.{nat_lt}
 use Rattle.std.specs.List.{list_any}
 use Rattle.std.specs.Option.{option_and_then, option_map, option_or}
@@ -41,7 +41,7 @@ use Rattle.cache_tier.proofs.GroupTables.{live_table}
 use Rattle.line_laws.specs.Keeping.{AreOffLive, IsOffLive, MeetsIfAtOnce}
 use Rattle.run_laws.specs.Lines.{IsOfOneKind}
 use Rattle.run_laws.proofs.KindLaws.{none_conflicts}
-use Rattle.run_laws.proofs.OffLaws.{AreApart, live_of, resolved_apart, written_off}
+use Rattle.run_laws.proofs.OffLaws.{AreApart, live_of, off_live, resolved_apart, written_off}
 use Rattle.run_laws.proofs.ReadyLaws.{Ready}
 
 -- ---- a session by its label
@@ -72,7 +72,7 @@ its_own t label s e =
     let same : s.label ≡ label = names_one s.label label (found_passes (is_labelled label) t.sessions s e) in
     ap (session_of t) same ∙ e
 
-each_found : (P : Session → Type 0) (p : Session → Bool) (ss : List Session) (s : Session) → Each P ss → find p ss ≡ Some s → P s
+pub each_found : (P : Session → Type 0) (p : Session → Bool) (ss : List Session) (s : Session) → Each P ss → find p ss ≡ Some s → P s
 each_found P p [] s each e = Prim.cc
 each_found P p (x ∷ ss) s each e = by (p x) e (each_found P p ss s each.1)
   where
@@ -99,17 +99,17 @@ none_behind None other none = none
 none_behind (Some rule) other none = Prim.cc
 
 -- writes on tables that aren't live do nothing on live ones
-off_live : (w : World) (changes : List Change) (ops : List Op) (rows : ℕ) (b s : TableState) → Stands w → AreApart (live_of w.tier) changes → state_of w.history ≡ Some b → s.schema ≡ b.schema → IsDone changes ops rows s → are_off (live_of w.tier) ops ≡ true
-off_live w changes ops rows b s x apart leaves same done =
+ops_off : (w : World) (changes : List Change) (ops : List Op) (rows : ℕ) (b s : TableState) → Stands w → AreApart (off_live (live_of w.tier)) changes → state_of w.history ≡ Some b → s.schema ≡ b.schema → IsDone changes ops rows s → are_off (live_of w.tier) ops ≡ true
+ops_off w changes ops rows b s x apart leaves same done =
     let backing : x.flow.stand.over.backing ≡ b = same_some (sym x.flow.stand.over.leaves ∙ leaves) in
     let schema : s.schema ≡ x.flow.stand.over.backing.schema = same ∙ ap (λ (y : TableState). y.schema) (sym backing) in
     let closed = all_closed (live_groups_of w.tier.groups) w.history w.tier.log x.flow.stand.over.backing.schema w.tier.next x.flow.stand.over.ordered in
     let what : Written = record { written = record { ops = ops; rows = rows }; state = done.left } in
-    written_off (live_of w.tier) changes (greatest Operations) s what (subst (IsClosed (live_of w.tier)) (sym schema) closed) apart done.written
+    written_off (off_live (live_of w.tier)) changes (greatest Operations) s what (λ t def foreign at key. ap not (subst (IsClosed (live_of w.tier)) (sym schema) closed t def foreign at key)) apart done.written
 
 pub console_off : (w : World) (writes : List Write) → Stands w → writes_fault w.tier writes ≡ None → AreOffLive writes w
 console_off w writes x free changes ops rows b s resolves leaves same done =
-    off_live w changes ops rows b s x
+    ops_off w changes ops rows b s x
     (resolved_apart w.tier writes changes (named_writes w.tier.schema writes) refl resolves
     (none_behind (rule_in (resolved_writes w.tier.schema writes)) (first_writethrough w.tier writes) (none_behind (rule_in (named_writes w.tier.schema writes)) _ free)))
     leaves same done
@@ -129,7 +129,7 @@ passed_apart a level t e = live_table a.groups t ∙ by (is_written_through a t)
 pub passed : (w : World) (level : ℕ) (placed : PlacedChange) → Stands w → write_route level w.tier placed.table ≡ Ok PassedOn → IsOffLive placed w
 passed w level placed x route change ops rows b s seen leaves same done =
     let table : change.table ≡ placed.table = ap (λ (p : PlacedChange). p.table) seen in
-    off_live w (change ∷ []) ops rows b s x (ap (is_one_of (live_of w.tier)) table ∙ passed_apart w.tier level placed.table route, tt) leaves same done
+    ops_off w (change ∷ []) ops rows b s x (ap (off_live (live_of w.tier)) table ∙ ap not (passed_apart w.tier level placed.table route), tt) leaves same done
 
 -- the foreign key of a table that is defined refers to none of a writethrough group
 no_parent : (b : Bool) (f : ForeignKeyDeclaration) (rest : Option Rule) → option_or (cond b (broken_at code.WritethroughTable (Some f.parent)) None) rest ≡ None → b ≡ false
