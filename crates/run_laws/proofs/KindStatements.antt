@@ -84,7 +84,7 @@ each_changed P (x ∷ before) s n behind one each = (each.0, each_changed P befo
 
 -- ---- COMMIT
 
-commit_defs : (rows : TableState) (ops : List Op) (gs : List Group) → definitions_of (map (with_commit rows ops) gs) ≡ definitions_of gs
+pub commit_defs : (rows : TableState) (ops : List Op) (gs : List Group) → definitions_of (map (with_commit rows ops) gs) ≡ definitions_of gs
 commit_defs rows ops gs = alike_defs gs (map (with_commit rows ops) gs) (alike_commit rows ops gs gs (alike_self gs))
 
 applied_kinds : (t : Tier) (x : Sealed) (label : List ℕ) (result : Result Applied BankError) → AreOfKinds t → AreOfKinds (after_applied x label result t)

@@ -13,6 +13,8 @@ pub mod RefusalLaws
 pub mod CreateLaws
 pub mod KindStatements
 pub mod KindWrites
+pub mod KindGroups
+pub mod KindLines
 pub mod StatementLaws
 pub mod LineLaws
 pub mod RunKeeps

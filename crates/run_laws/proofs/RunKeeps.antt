@@ -10,7 +10,7 @@ use Rattle.recovery.proofs.LeftLaws.{crash_leaves}
 use Rattle.recovery.proofs.RecalledLaws.{stands_recalled}
 use Rattle.run_laws.specs.Lines.{IsLeft, IsLeftBy, MayBegin}
 use Rattle.run_laws.specs.Runs.{Keeps, KeepsThrough, Passes, RunsOn, Survives}
-use Rattle.run_laws.proofs.LineLaws.{step_kept}
+use Rattle.run_laws.proofs.LineLaws.{step_kept, step_kinds}
 
 -- a ticket is left
 ticket_left : (w : World) → IsLeft w → w.tier.next ≤ 2 ^ 63
@@ -30,10 +30,12 @@ run_kept w w' [] [] early m j e = e
 run_kept w w' [] (reply ∷ replies) early m j q = absurd q
 run_kept w w' (line ∷ lines) [] early m j q = absurd q
 run_kept w w' (line ∷ lines) (reply ∷ replies) early m j (mid, p, rest) =
-    let on = step_kept line.base w mid line.said reply early m j p.begins.left p.slot p.whole p.does in (
+    let on = step_kept line.base w mid line.said reply early m j p.goes_on.left p.slot p.whole p.does in
+    let kinds = step_kinds line.base w mid line.said reply early m j p.goes_on.left p.slot p.whole p.does in
+    let begins : MayBegin mid = record { left = p.goes_on.left; unshared = p.goes_on.unshared; ageless = p.goes_on.ageless; kinds = kinds } in (
       mid,
       on.now,
       p.does,
-      record { more = on.more; grows = on.grows; journalled = on.is; survives = λ settings moment. survives mid on.now settings moment p.begins.left on.is },
-      run_kept mid w' lines replies on.now p.begins on.is rest,
+      record { more = on.more; grows = on.grows; journalled = on.is; survives = λ settings moment. survives mid on.now settings moment p.goes_on.left on.is },
+      run_kept mid w' lines replies on.now begins on.is rest,
     )

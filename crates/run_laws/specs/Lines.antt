@@ -59,8 +59,15 @@ IsLeftBy (Some d) w = IsInDoubt w
 abbrev pub IsLeft : World → Type 0
 IsLeft w = IsLeftBy w.tier.doubt w
 
--- What is asked of a world where a line begins: the tier stands, or a commit is in doubt; others change no table of a
--- live writethrough group; no group ages; and what is unsettled, and what sessions have written, is of one kind each.
+-- What is asked of a world between two lines: the tier stands, or a commit is in doubt; others change no table of a live
+-- writethrough group; and no group ages.
+pub record MayGoOn (w : World) : Type 0 where
+  pub left : IsLeft w
+  pub unshared : IsUnshared w
+  pub ageless : are_ageless w.tier.groups ≡ true
+
+-- What is asked of a world where a line begins: this, and what is unsettled, and what sessions have written, is of one
+-- kind each.
 pub record MayBegin (w : World) : Type 0 where
   pub left : IsLeft w
   pub unshared : IsUnshared w

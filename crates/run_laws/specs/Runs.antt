@@ -12,7 +12,7 @@ use Rattle.cache_tier.specs.Worlds.{World}
 use Rattle.line_laws.specs.Keeping.{is_broken}
 use Rattle.recovery.specs.Journalled.{CrashLeaves, IsJournalled, IsJournalledOn}
 use Rattle.recovery.specs.Recalling.{recalled}
-use Rattle.run_laws.specs.Lines.{IsLeft, KeepsSlot, MayBegin}
+use Rattle.run_laws.specs.Lines.{AreOfKinds, IsLeft, KeepsSlot, MayBegin, MayGoOn}
 
 -- Where a line may begin and the journal is the tier's, and behind it the tier stands or a commit is in doubt: the
 -- journal is the tier's then, and what was held is held, unless a call of its disk failed.
@@ -22,6 +22,13 @@ StepKeepsJournal =
     → IsJournalled w early → IsLeft w' → KeepsSlot w w' → is_broken reply ≡ false → Step base w said w' reply
     → IsJournalledOn w' early
 
+-- Behind it what is unsettled is on tables of asynchronous groups still, and each session has written tables of one kind.
+abbrev pub StepKeepsKinds : Type 0
+StepKeepsKinds =
+    (base : ℕ) (w w' : World) (said : Saying) (reply : Option Reply) (early : List Sealed) → MayBegin w
+    → IsJournalled w early → IsLeft w' → KeepsSlot w w' → is_broken reply ≡ false → Step base w said w' reply
+    → AreOfKinds w'.tier
+
 -- What a crash leaves in this world: the entries that are flushed belong to the history, they leave the tier's catalog,
 -- and all commits that were held are held; and the tier of these entries stands over the history.
 pub record Survives (w : World) (early : List Sealed) (settings : Settings) (moment : ℕ) : Type 0 where
@@ -29,10 +36,10 @@ pub record Survives (w : World) (early : List Sealed) (settings : Settings) (mom
   pub stands :
       Stands (with_tier (recalled crash.matched.backing.schema w.journal.flushed w.history crash.catalog) w)
 
--- One line of a run: behind it another line may begin, no slot was begun anew, and no call of the journal's disk failed.
+-- One line of a run: behind it another one may come, no slot was begun anew, and no call of the journal's disk failed.
 pub record Passes (line : Asked) (w w' : World) (reply : Option Reply) : Type 0 where
   pub does : Step line.base w line.said w' reply
-  pub begins : MayBegin w'
+  pub goes_on : MayGoOn w'
   pub slot : KeepsSlot w w'
   pub whole : is_broken reply ≡ false
 

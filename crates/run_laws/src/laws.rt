@@ -8,11 +8,14 @@ ghost use Rattle.cache_tier.specs.TierStates.{Settings};
 ghost use Rattle.cache_tier.specs.Worlds.{World};
 ghost use Rattle.recovery.specs.Journalled.{IsJournalled};
 ghost use Rattle.run_laws.specs.Lines.{IsLeft, MayBegin};
-ghost use Rattle.run_laws.specs.Runs.{KeepsThrough, RunsOn, StepKeepsJournal, Survives};
+ghost use Rattle.run_laws.specs.Runs.{KeepsThrough, RunsOn, StepKeepsJournal, StepKeepsKinds, Survives};
 
-/// A line, whatever it says, keeps the journal the tier's, and what was held is held.
+/// A line, whatever it says, keeps the journal the tier's, and what was held is held (`journal`). What is unsettled is on
+/// tables of asynchronous groups behind it, and each session has written tables of synchronous groups alone, or of none
+/// (`kinds`).
 pub fn line_law()
-    ensures { StepKeepsJournal }
+    ensures journal { StepKeepsJournal }
+    ensures kinds { StepKeepsKinds }
 {}
 
 /// Where the tier stands or a commit is in doubt, and the journal is the tier's, a crash leaves entries whose tier stands

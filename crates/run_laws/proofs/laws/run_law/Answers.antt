@@ -1,7 +1,3 @@
-use Rattle.run_laws.proofs.KindWrites.{writes_kinds}
-use Rattle.run_laws.proofs.KindStatements.{wrote_kinds}
-use Rattle.run_laws.proofs.KindParts.{waits}
-use Rattle.run_laws.proofs.SitsStatements.{drains_sits}
 use Rattle.run_laws.proofs.RunKeeps.{run_kept, survives}
 use Rattle.run_laws.proofs.laws.run_law.Goals as goal
 
