@@ -1,11 +1,10 @@
 -- What a definition that is read back doesn't break.
-use Rattle.std.proofs.Common.{◌≡◌, ◌∙◌, ℕ, List, [], ◌∷◌, Option, Some, None, Bool, true, false, ◌&&◌, ◌||◌, not, is_some, is_none, ap, refl, sym, slice_get, map, length}
+use Rattle.std.proofs.Common.{◌≡◌, ◌∙◌, List, [], ◌∷◌, Option, Some, None, Bool, true, false, ◌&&◌, ◌||◌, not, is_some, is_none, ap, refl, sym, length}
 use Rattle.std.specs.List.{list_all, list_any}
 use Rattle.std.specs.Option.{option_or, option_and_then}
 use Rattle.tier_base.specs.declared.code.Code.TheVariants as code
 use Rattle.tier_base.specs.declared.limit.Limit.TheVariants as limit
 use Rattle.row_types.specs.declared.rule.Letter.TheVariants as letter
-use Rattle.row_types.specs.declared.rule.Rule.{Rule}
 use Rattle.table_defs.specs.declared.definition.ForeignKey.{ForeignKey}
 use Rattle.table_defs.specs.declared.definition.TableDef.{TableDef}
 use Rattle.instances.specs.declared.tree.Child.{Child}
@@ -15,13 +14,12 @@ use Rattle.sql_subset.specs.declared.stmt.GroupKind.{GroupKind}
 use Rattle.sql_subset.specs.declared.stmt.GroupKind.TheVariants as kind
 use Rattle.cache_tier.specs.declared.group.GroupDef.{GroupDef}
 use Rattle.cache_tier.specs.Definitions.{IsTreeOf, Placed, clauses_fault, column_fault, first_fault, first_unknown, table_names, defined_by, definition_names, definition_types, has_filter, is_read_only_kind, new_group, placed_tables, tables_fault}
-use Rattle.cache_tier.specs.Groups.{Group, covers, defines_name, definitions_of, is_defined_on, is_read_only, is_writethrough}
+use Rattle.cache_tier.specs.Groups.{Group, defines_name, definitions_of, is_defined_on, is_read_only, is_writethrough}
 use Rattle.cache_tier.specs.Rules.{at_limit, broken_if, lettered, named, plain}
 use Rattle.cache_tier.specs.StandingBetween.{HasNoTableOf, foreign_key_in, has_no_where}
-use Rattle.group_catalog.specs.ReadBack.{IsReadBack, StandsReadBack, broken_beside, has_own_parent, root_refers}
+use Rattle.group_catalog.specs.ReadBack.{StandsReadBack, broken_beside, has_own_parent, root_refers}
 use Rattle.group_catalog.specs.Sound.{AreUnfiltered, IsUnfiltered}
 use Rattle.group_catalog.proofs.AcceptedLaws.{asked, no_d, no_f, with_f}
-use Rattle.group_catalog.proofs.ListLaws.{any_map}
 use Rattle.group_catalog.proofs.SoundLaws.{StandAt, all_stand, not_grouped, or_none, place_one, tree_inside, tree_unfiltered, unbroken}
 
 -- names, 114 of the tables, and of the clauses beside no other table
@@ -36,7 +34,8 @@ no_letters schema groups d e =
     let one = or_none (definition_names schema groups d) (option_or (broken_if false (plain code.TransactionOpen)) rest) e in
     let two = or_none (broken_if false (plain code.TransactionOpen)) rest one.1 in
     let three = or_none (definition_types schema d) (option_or letters count) two.1 in
-    (one.0, or_none (tables_fault schema groups ps) (clauses_fault [] d ps) (or_none letters count three.1).0)
+    let four = or_none (tables_fault schema groups ps) (clauses_fault [] d ps) (or_none letters count three.1).0 in
+    (one.0, four.0, four.1)
 
 read_only_is : (g : Group) → is_read_only g ≡ is_read_only_kind g.def.kind
 read_only_is g = by g.def.kind
@@ -89,10 +88,10 @@ stands_read_back schema groups d tree a first now = record {
   named = new_name schema (definitions_of groups) d letters.0;
 }
   where
-    abbrev ps : List Placed
+    ps : List Placed
     ps = placed_tables schema d
 
-    abbrev g : Group
+    g : Group
     g = new_group first now d (defined_by schema d tree)
 
     two : (broken_beside [] schema (definitions_of groups) false d ≡ None) × (broken_if (has_own_parent schema d) (lettered letter.J) ≡ None)
@@ -119,4 +118,4 @@ stands_read_back schema groups d tree a first now = record {
     apart t there =
         sym (any_defs (is_defined_on t) groups)
         ∙ not_grouped (definitions_of groups) ps t (no_d schema (definitions_of groups) ps letters.1)
-          (tree_inside ps tree t a.is ∙ sym (place_one tree t) ∙ there)
+        (tree_inside ps tree t a.is ∙ sym (place_one tree t) ∙ there)

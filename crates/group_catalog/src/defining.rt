@@ -119,12 +119,8 @@ impl Accepted {
 }
 
 // The definition of this tree with this rule of aging.
-fn made_of(
-    alloc: Global,
-    declared: CreateGroup,
-    found: Accepted,
-) -> Result<GroupDef, Refused>
-    ensures { IfOk result (λ def. (schema : List OneTable)
+fn made_of(alloc: Global, declared: CreateGroup, found: Accepted) -> Result<GroupDef, Refused>
+    ensures made { IfOk result (λ def. (schema : List OneTable)
         → found.aging ≡ root_aging declared (placed_tables schema declared)
         → def ≡ defined_by schema declared found.tree) }
     ensures memory { IfErr result (λ error. error ≡ refused.Memory) }

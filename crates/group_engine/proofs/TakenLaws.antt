@@ -155,16 +155,16 @@ flag_seen more g writes = ap (λ b. without_list (cond (b || is_explicit g) (rec
 module _ {D : Type 0} (state : D → SiteState) (possible : D → ℕ → Held → Type 0) (old : Stored) (k : Option TierJournal) (d d' : D) (place : ℕ) (which : ResolvedWhich) (refreshes : Bool) (x : Target) (of : IsOfTarget x place which) (writes : is_writethrough x.group ≡ true) (sound : IsSound old) (asked : List TableId) (asks : AsksTree old place asked) (snapshot : Snapshot)
     (told : site.Told (state d).held (state d').held (site.BankCall (state d).shared (TakesSnapshot asked (Ok snapshot)))) (faults : (state d).bank_faults ≤ (state d').bank_faults) (moment : (state d).moment ≤ (state d').moment) (shares : (state d').shared ≡ (state d).shared)
     (certain : KeepsCertain state possible d d') (w : World) (at : IsAt (state d) w) (stands : StandsFor old w) (apart : IsUnshared w) (keeps : KeepsOver state possible d k w) (here : IsSettledAt place x.group w) where
-  now : TellsBehind at.there (state d').held (site.BankCall (state d).shared (TakesSnapshot asked (Ok snapshot)))
+  pub now : TellsBehind at.there (state d').held (site.BankCall (state d).shared (TakesSnapshot asked (Ok snapshot)))
   now = told_behind at.there (state d).held (state d').held (site.BankCall (state d).shared (TakesSnapshot asked (Ok snapshot))) at.told told
 
-  abbrev n : ℕ
+  abbrev pub n : ℕ
   n = snapshot.position.0
 
-  abbrev c : TableState
+  abbrev pub c : TableState
   c = snapshot.tables
 
-  abbrev tree : Tree
+  abbrev pub tree : Tree
   tree = x.group.def.tree
 
   covered_asked : (u : TableId) → covers u x.group ≡ true → is_one_of asked u ≡ true
@@ -179,16 +179,16 @@ module _ {D : Type 0} (state : D → SiteState) (possible : D → ℕ → Held �
           ap (λ l. is_one_of l u) (asks.is ∙ ap (λ (d : GroupDef). d.tree.root.table ∷ map (λ (k : Child). k.table) d.tree.children) def)
           ∙ tree_asked tree u p is
 
-  abbrev later : List Entry
+  abbrev pub later : List Entry
   later = now.there.history
 
-  abbrev mid : World
+  abbrev pub mid : World
   mid = behind w w.tier now.there (state d')
 
   call : BankCall (TakesSnapshot asked (Ok snapshot)) w mid
   call = call_behind w w.tier (state d) (state d') now.there (TakesSnapshot asked (Ok snapshot)) at now.is faults moment
 
-  reads_call : BankCall (TellsPosition (Ok n)) w mid
+  pub reads_call : BankCall (TellsPosition (Ok n)) w mid
   reads_call = record {
     history = record {
       before = call.history.before;
@@ -206,16 +206,16 @@ module _ {D : Type 0} (state : D → SiteState) (possible : D → ℕ → Held �
     shared = call.shared;
   }
 
-  read : IsRead w later x.group n c
+  pub read : IsRead w later x.group n c
   read = is_read w stands.stands apart here.settled place x.group here.there writes asked covered_asked snapshot later call.history
 
-  abbrev root : TableId
+  abbrev pub root : TableId
   root = tree.root.table
 
-  abbrev R : Table
+  abbrev pub R : Table
   R = table_at read.v root
 
-  abbrev M : Table
+  abbrev pub M : Table
   M = chosen (matches_at which) R
 
   backing_is : backing_at mid n ≡ read.read
@@ -279,7 +279,7 @@ module _ {D : Type 0} (state : D → SiteState) (possible : D → ℕ → Held �
   wanted true = record { result = Ok n; mid = mid; call = reads_call; tier = refl; goes_on = inr (refl, refl) }
 
   -- a journal is kept over the call
-  at_mid : IsAt (state d') mid
+  pub at_mid : IsAt (state d') mid
   at_mid = behind_at w w.tier (state d) (state d') now.there at now.told shares
 
   keeps_mid : KeepsOver state possible d' k mid
@@ -320,7 +320,7 @@ module _ {D : Type 0} (state : D → SiteState) (possible : D → ℕ → Held �
         filled_shown old w sound stands place x.group here.there writes took.store took.kept later n c read which took.filled rows_in
         ∙ shown_alike read.v x.group R roots_v (λ q. is_key keys q || passes (comes which took.store q) (fm.get R q)) test (all_shown R keys took.store which has)
 
-    matched_n : matching (backing_at mid n) x ≡ M
+    pub matched_n : matching (backing_at mid n) x ≡ M
     matched_n =
         ap (λ (s : TableState). matching s x) backing_is
         ∙ matching_is read.read x R (has_roots old w sound stands place x.group here.there writes took.store took.kept later n c read read.read read.schema (read.rows root (root_covers x.group))) place which of
@@ -341,7 +341,7 @@ module _ {D : Type 0} (state : D → SiteState) (possible : D → ℕ → Held �
           whole = refl;
         }))
 
-    abbrev T : Tier
+    abbrev pub T : Tier
     T = tier_with w x M
 
     abbrev F : Group → Group
@@ -410,7 +410,7 @@ module _ {D : Type 0} (state : D → SiteState) (possible : D → ℕ → Held �
     shown_rows : rows_of new ≡ shown_state later T
     shown_rows = shows_kept new (with_tier T ended) (stands.stored.schema ∙ sym took.rest.schema) (are_kept new T sound_new stored) keep
 
-    stands_done : StandsFor new (with_tier T mid)
+    pub stands_done : StandsFor new (with_tier T mid)
     stands_done = record { stored = stored; shows = shown_rows; stands = stands_behind w T now.there (state d') shows_keys.stands; waits = stands.waits }
 
     coming_is : coming_in c took.group.def.tree took.store which ≡ chosen (comes which took.store) R

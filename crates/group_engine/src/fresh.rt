@@ -20,7 +20,7 @@ use stored_tier::tier::Tier;
 use tier_base::Position;
 
 /// What was read for a refresh.
-pub(crate) struct Fresh {
+pub struct Fresh {
     // the position in the backing history
     pub(crate) position: Position,
     // the stores of the groups that get one
@@ -45,11 +45,11 @@ impl Fresh {
     }
 }
 
-// The tables of the chosen groups are read from one snapshot, and stores are made that show the views of those that are
-// loaded, or are so from now on. Nothing changes.
-//
-// It is `Failed` where the call failed, and `Memory` where memory was wanting.
-pub(crate) fn read_fresh<P: Site>(
+/// The tables of the chosen groups are read from one snapshot, and stores are made that show the views of those that are
+/// loaded, or are so from now on. Nothing changes.
+///
+/// It is `Failed` where the call failed, and `Memory` where memory was wanting.
+pub fn read_fresh<P: Site>(
     tier: &Tier,
     alloc: Global,
     site: &mut P,
@@ -88,9 +88,9 @@ pub(crate) fn read_fresh<P: Site>(
     }
 }
 
-// What was read is shown: the stores come in the place of the old ones, and the chosen groups are at the position. It
-// takes no memory.
-pub(crate) fn show_fresh(tier: &mut Tier, chosen: Chosen, fresh: Fresh)
+/// What was read is shown: the stores come in the place of the old ones, and the chosen groups are at the position. It
+/// takes no memory.
+pub fn show_fresh(tier: &mut Tier, chosen: Chosen, fresh: Fresh)
     requires sound { IsSound tier.old }
     requires formed { AreFormed tier.old.schema (groups_in tier.old.catalog) fresh.made.items }
     ensures shown { IsExchanged tier.old tier.new (choice_of chosen) fresh.position.0 fresh.made.items }

@@ -57,11 +57,7 @@ fn keep_store(tier: &mut Tier, alloc: Global, store: Store) -> Result<(), AllocE
 ///
 /// It fails for want of memory. Where a child's foreign key hadn't as many columns as its parent's key, as no schema has
 /// it, memory would be told wanting.
-pub(crate) fn bare_store(
-    alloc: Global,
-    schema: &[TableDef],
-    tree: &Tree,
-) -> Result<Store, AllocError>
+pub fn bare_store(alloc: Global, schema: &[TableDef], tree: &Tree) -> Result<Store, AllocError>
     ensures { IfOk result (IsBareStore schema.now tree.now) }
 {
     let root = tree.root.table;

@@ -115,8 +115,8 @@ fn judge_full(
     }
 }
 
-// The tables of the group at a place.
-fn tables_of_tree(tier: &Tier, alloc: Global, place: usize) -> Result<Vec<TableId>, Refused>
+/// The tables of the group at a place. It fails for want of memory alone.
+pub fn tables_of_tree(tier: &Tier, alloc: Global, place: usize) -> Result<Vec<TableId>, Refused>
     ensures { IfOk result (λ asked. AsksTree tier.now place asked.items) }
 {
     match tier.catalog.get(place) {
@@ -125,8 +125,11 @@ fn tables_of_tree(tier: &Tier, alloc: Global, place: usize) -> Result<Vec<TableI
     }
 }
 
-// The group at a place takes in what matches of these tables, and is loaded; all memory comes first.
-fn take_matching(
+/// The writethrough group at a place takes in what matches of these tables, and is loaded; all memory comes first. The
+/// reply tells how many came, or for a refresh how many match.
+///
+/// It is 120 where the condition is so on some root row of the tables; or memory was wanting.
+pub fn take_matching(
     tier: &mut Tier,
     alloc: Global,
     place: usize,

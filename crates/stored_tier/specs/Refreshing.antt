@@ -12,7 +12,7 @@ use Rattle.outside.specs.declared.fault.BankError.{BankError}
 use Rattle.group_store.specs.Stores.{Kept, SameButSpare}
 use Rattle.cache_tier.specs.declared.reply.Reply.{Reply}
 use Rattle.cache_tier.specs.Commits.{tables_of}
-use Rattle.cache_tier.specs.Groups.{Group}
+use Rattle.cache_tier.specs.Groups.{Group, is_explicit, is_read_only}
 use Rattle.cache_tier.specs.Sets.{Choice, alone, loaded_state, of_set}
 use Rattle.sql_subset.specs.declared.stmt.RefreshState.{RefreshState}
 use Rattle.sql_subset.specs.declared.stmt.RefreshState.TheVariants.{On, Off, Paused}
@@ -21,14 +21,22 @@ use Rattle.instances.specs.Views.{kept_at}
 use Rattle.cache_tier.specs.Worlds.{bank_fault}
 use Rattle.stored_tier.specs.declared.moments.SetMoment.{SetMoment}
 use Rattle.stored_tier.specs.declared.refreshing.Chosen.{Chosen}
-use Rattle.stored_tier.specs.declared.refreshing.Chosen.TheVariants.{Joined, OneAlone}
+use Rattle.stored_tier.specs.declared.refreshing.Chosen.TheVariants.{Joined, OneAlone, Reloaded}
 use Rattle.stored_tier.specs.Filling.{viewed_store}
 use Rattle.stored_tier.specs.Moments.{refreshed_in, set_seen}
+
+-- an explicit group whose flag is set: its rows come back when the tier is opened again
+abbrev pub is_reloaded : Group → Bool
+is_reloaded g = is_explicit g && g.loaded
+
+abbrev pub is_shown_again : Group → Bool
+is_shown_again g = is_read_only g && is_reloaded g
 
 -- which groups these are
 abbrev pub choice_of : Chosen → Choice
 choice_of (Joined interval joining) = of_set interval joining
 choice_of (OneAlone place) = alone place
+choice_of Reloaded = λ place g. is_shown_again g
 
 -- of the groups those whose store is made anew: they are chosen, and are loaded, or are so from now on
 abbrev pub is_filled : Choice → Option ℕ → Choice

@@ -8,7 +8,7 @@ ghost use Rattle.cache_tier.specs.Groups.{is_explicit, is_on, is_read_only};
 ghost use Rattle.cache_tier.specs.Sets.{changed_from, is_in_set, shows_something};
 ghost use Rattle.group_catalog.specs.Catalogs.{groups_in};
 ghost use Rattle.group_catalog.specs.Kept.{group_seen};
-ghost use Rattle.stored_tier.specs.Refreshing.{AreMade, IsMade, choice_of, exchanged, has_moment, is_chosen_in, is_filled, is_off, moment_in, moments_with, positioned, put_at, tables_read};
+ghost use Rattle.stored_tier.specs.Refreshing.{AreMade, IsMade, choice_of, exchanged, has_moment, is_chosen_in, is_filled, is_off, is_reloaded, is_shown_again, moment_in, moments_with, positioned, put_at, tables_read};
 
 use crate::filling::viewed_store;
 use crate::moments::SetMoment;
@@ -28,6 +28,8 @@ pub enum Chosen {
     Joined(u64, Option<usize>),
     /// The group at a place.
     OneAlone(usize),
+    /// All that are explicit and whose flag is set, of which the rows come back when the tier is opened again.
+    Reloaded,
 }
 
 // Whether the group at a place is one of them.
@@ -39,7 +41,22 @@ pub(crate) fn is_chosen(chosen: Chosen, place: usize, group: &KeptGroup) -> bool
             is_in_set(interval, group) || is_place(place, joining)
         }
         Chosen::OneAlone(other) => place == other,
+        Chosen::Reloaded => is_shown_again(group),
     }
+}
+
+/// Whether the group is READONLY, and its rows come back when the tier is opened again.
+pub fn is_shown_again(group: &KeptGroup) -> bool
+    ensures { result ≡ is_shown_again (group_seen group.now) }
+{
+    is_read_only(group) && is_reloaded(group)
+}
+
+/// Whether the group is explicit and its flag is set, so that its rows come back when the tier is opened again.
+pub fn is_reloaded(group: &KeptGroup) -> bool
+    ensures { result ≡ is_reloaded (group_seen group.now) }
+{
+    !group.def.dynamic && group.loaded
 }
 
 // Whether the group is in the set of an interval.

@@ -3,6 +3,7 @@
 use Rattle.std.specs.Prelude.{◌≡◌, ℕ, ◌+◌, ◌-◌, true, List, ◌++◌, length}
 use Rattle.std.specs.List.{AllByRecursion}
 use Rattle.table_defs.specs.declared.definition.TableDef.{TableDef}
+use Rattle.outside.specs.declared.disk.Slot.{Slot}
 use Rattle.outside.specs.Holding.{Slots, Held}
 use Rattle.outside.specs.Calls.{Certain}
 use Rattle.outside.specs.Sites.{SiteState}
@@ -41,6 +42,10 @@ tail_size t = length t.journal.staged.items - 4
 -- the length of the live slot, up to its closed gate
 abbrev pub slot_size : TierJournal → ℕ
 slot_size t = t.journal.gate + 1
+
+-- the slot that counts
+abbrev pub slot_in : TierJournal → Slot
+slot_in t = t.journal.slot
 
 abbrev pub generation_in : TierJournal → ℕ
 generation_in t = t.journal.generation

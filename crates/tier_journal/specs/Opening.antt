@@ -1,6 +1,6 @@
 -- What an opening finds, in the tier's words. (This project's rule.)
 
-use Rattle.std.specs.Prelude.{◌≡◌, ◌⊎◌, ℕ, true, Option, Some, None, List, [], ◌∷◌, ◌++◌, map}
+use Rattle.std.specs.Prelude.{◌≡◌, ◌⊎◌, ℕ, Bool, true, false, Option, Some, None, List, [], ◌∷◌, ◌++◌, map}
 use Rattle.table_defs.specs.declared.definition.TableDef.{TableDef}
 use Rattle.sql_subset.specs.Lines as lines
 use Rattle.sql_subset.specs.declared.stmt.Stmt.TheVariants as statements
@@ -34,6 +34,28 @@ meaning (record_of.Loaded g flag) = SetsLoaded g flag
 
 abbrev pub meanings : List (ℕ × Record) → List JournalEntry
 meanings records = map (λ r. meaning r.1) records
+
+-- it is a commit
+abbrev pub is_commit : Record → Bool
+is_commit (record_of.Commit s) = true
+is_commit (record_of.Prepare s) = false
+is_commit (record_of.Number t) = false
+is_commit (record_of.Mark t) = false
+is_commit (record_of.Define d text) = false
+is_commit (record_of.Drop g) = false
+is_commit (record_of.State g state) = false
+is_commit (record_of.Loaded g flag) = false
+
+-- it is the definition of a group
+abbrev pub is_definition : Record → Bool
+is_definition (record_of.Commit s) = false
+is_definition (record_of.Prepare s) = false
+is_definition (record_of.Number t) = false
+is_definition (record_of.Mark t) = false
+is_definition (record_of.Define d text) = true
+is_definition (record_of.Drop g) = false
+is_definition (record_of.State g state) = false
+is_definition (record_of.Loaded g flag) = false
 
 -- the places at which they begin
 abbrev pub places_of : {X : Type 0} → List (ℕ × X) → List ℕ

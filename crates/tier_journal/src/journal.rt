@@ -4,9 +4,10 @@ ghost use Rattle.std.specs.Prelude.{◌≡◌, ◌↔◌, ◌<◌, List, nat_lt}
 ghost use Rattle.table_defs.specs.declared.definition.TableDef.{TableDef as OneTable};
 ghost use Rattle.outside.specs.Holding.{Slots};
 ghost use Rattle.cache_tier.specs.Journals.{Journal as OneJournal};
-ghost use Rattle.tier_journal.specs.Keeping.{Keeps, generation_in, slot_size, tail_size, version_in};
+ghost use Rattle.tier_journal.specs.Keeping.{Keeps, generation_in, slot_in, slot_size, tail_size, version_in};
 
 use commit_journal::Journal;
+use outside::Slot;
 
 /// The tier's journal: the commit journal, of which clauses see how long its tail and its slot are, the slot's
 /// generation and version, and what may stand behind its last entry.
@@ -29,6 +30,13 @@ impl TierJournal {
             → result ≡ nat_lt rotate_bytes j.written }
     {
         rotate_bytes <= self.journal.gate()
+    }
+
+    /// The slot that counts.
+    pub fn slot(&self) -> Slot
+        ensures { result ≡ slot_in self.now }
+    {
+        self.journal.slot()
     }
 
     /// The generation of the live slot.

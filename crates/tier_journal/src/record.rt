@@ -1,5 +1,7 @@
 //! Entries of the journal, in the tier's words.
 
+ghost use Rattle.std.specs.Prelude.{◌≡◌, IfErr, IfOk, false};
+
 use journal_entries::Bytes;
 use sql_subset::stmt::{CreateGroup, RefreshState};
 use table_state::Sealed;
@@ -37,6 +39,47 @@ impl Drop for Record {
             Self::Drop(_) => {}
             Self::State(_, _) => {}
             Self::Loaded(_, _) => {}
+        }
+    }
+}
+
+impl Record {
+    ghost use Rattle.tier_journal.specs.declared.record.Record.TheVariants as record_of;
+    ghost use Rattle.tier_journal.specs.Opening.{is_commit, is_definition};
+
+    /// The transaction of a commit; any other record as it is.
+    pub fn into_commit(self) -> Result<Sealed, Record>
+        ensures commit { IfOk result (λ sealed. self ≡ record_of.Commit sealed) }
+        ensures same { IfErr result (λ other. other ≡ self) }
+        ensures other { IfErr result (λ other. is_commit other ≡ false) }
+    {
+        match self {
+            Self::Commit(sealed) => Ok(sealed),
+            Self::Prepare(sealed) => Err(Self::Prepare(sealed)),
+            Self::Number(ticket) => Err(Self::Number(ticket)),
+            Self::Mark(next) => Err(Self::Mark(next)),
+            Self::Define(declared, text) => Err(Self::Define(declared, text)),
+            Self::Drop(name) => Err(Self::Drop(name)),
+            Self::State(name, state) => Err(Self::State(name, state)),
+            Self::Loaded(name, loaded) => Err(Self::Loaded(name, loaded)),
+        }
+    }
+
+    /// The definition of a group, and its text; any other record as it is.
+    pub fn into_definition(self) -> Result<(CreateGroup, Bytes), Record>
+        ensures definition { IfOk result (λ parts. self ≡ record_of.Define parts.0 parts.1) }
+        ensures same { IfErr result (λ other. other ≡ self) }
+        ensures other { IfErr result (λ other. is_definition other ≡ false) }
+    {
+        match self {
+            Self::Commit(sealed) => Err(Self::Commit(sealed)),
+            Self::Prepare(sealed) => Err(Self::Prepare(sealed)),
+            Self::Number(ticket) => Err(Self::Number(ticket)),
+            Self::Mark(next) => Err(Self::Mark(next)),
+            Self::Define(declared, text) => Ok((declared, text)),
+            Self::Drop(name) => Err(Self::Drop(name)),
+            Self::State(name, state) => Err(Self::State(name, state)),
+            Self::Loaded(name, loaded) => Err(Self::Loaded(name, loaded)),
         }
     }
 }

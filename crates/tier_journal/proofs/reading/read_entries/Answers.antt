@@ -18,6 +18,6 @@ loop-place-preserved c =
     StandForAll c.args.schema.now (meanings l) (take (c.loop-place.place-index + 1) c.args.entries.now)
     × (places_of l ≡ places_of (take (c.loop-place.place-index + 1) c.args.entries.now))) (sym c.in_ok-push-in-Some.ensures.items) (
       stand_more c.args.schema.now c.loop-place.records.items (c.loop-place-item.result.0, c.in-Some.record) c.args.entries.now c.loop-place.place-index c.loop-place-item.result lt c.loop-place-item.is c.loop-place.invariant.0
-      (subst (λ (r : Option Record). IsRead c.args.schema.now c.loop-place-item.result.1 r) c.in-Some.is c.in_ok-read_entry.ensures),
+          (subst (λ (r : Option Record). IsRead c.args.schema.now c.loop-place-item.result.1 r) c.in-Some.is c.in_ok-read_entry.ensures),
       places_more c.loop-place.records.items c.in-Some.record c.args.entries.now c.loop-place.place-index c.loop-place-item.result lt c.loop-place-item.is c.loop-place.invariant.1,
     )

@@ -1,0 +1,70 @@
+#!/usr/bin/env bash
+# real.sh PROGRAM [ROUNDS]: the program over real files. What a run leaves the next one finds: behind its end, behind a
+# change that `sqlite3` made in between, and behind a kill in the middle of durable commits, ROUNDS times (10).
+# It prints a line for each of its three parts, and ends with 1 where one isn't as it has to be.
+set -u
+program=$1 rounds=${2:-10} wrong=0
+complain() {
+  printf 'real: %s\n' "$*"
+  wrong=1
+}
+folder=$(mktemp -d)
+trap 'rm -rf "$folder"' EXIT
+cd "$folder" || exit 1
+
+# Lets the program answer these lines, and compares what it writes.
+answers() {
+  local wanted=$1 got
+  got=$(printf '%s\n' "${@:2}" | "$program" run) || complain "status $? of: ${*:2}"
+  [ "$got" = "$wanted" ] || complain "wanted '$wanted', got '$got' of: ${*:2}"
+}
+
+table='(ID TT_INTEGER, N TT_INTEGER, PRIMARY KEY (ID))'
+answers $'ok 0\nok 0\nok 0\nok 0\nok 1\nok 1\nok 1' \
+  "backing: CREATE TABLE A $table" 's1: OPEN' \
+  "s1: CREATE ASYNCHRONOUS WRITETHROUGH CACHE GROUP GA FROM A $table" 's1: LOAD CACHE GROUP GA' \
+  's1: INSERT INTO A VALUES (3, 30)' 's1: COMMIT' 's1: CALL ttDrain'
+answers $'ok 0\n= 3|30\nok 1\nok 1\nok 2' \
+  's1: OPEN' 's1: SELECT * FROM A' 's1: INSERT INTO A VALUES (4, 40)' 's1: COMMIT'
+answers $'ok 0\n= 3|30\n= 4|40\nok 2' 's1: OPEN' 's1: SELECT * FROM A'
+printf 'real: what a run leaves is found\n'
+
+if command -v sqlite3 >/dev/null; then
+  rows=$(sqlite3 ttcache.db 'SELECT ID, N FROM A ORDER BY ID') || complain 'sqlite3 fails'
+  [ "$rows" = $'3|30\n4|40' ] || complain "sqlite3 reads '$rows'"
+  answers $'ok 0\nok 0\nok 0' "backing: CREATE TABLE B $table" 's1: OPEN' \
+    "s1: CREATE READONLY CACHE GROUP GB AUTOREFRESH INTERVAL 5 SECONDS FROM B $table"
+  sqlite3 ttcache.db 'INSERT INTO B VALUES (7, 70)' || complain 'sqlite3 writes nothing'
+  answers $'ok 0\nok 1\n= 7|70\nok 1' 's1: OPEN' 's1: LOAD CACHE GROUP GB' 's1: SELECT * FROM B'
+  sqlite3 ttcache.db 'UPDATE B SET N = 71' || complain 'sqlite3 updates nothing'
+  answers $'ok 0\n= 7|71\nok 1' 's1: OPEN' 's1: SELECT * FROM B'
+  printf 'real: sqlite3 reads what was drained, and what it writes is loaded\n'
+else
+  printf 'real: no sqlite3 here, so nothing is said of it\n'
+fi
+
+# A run of durable commits is killed in the middle: each that was answered is there, in order, and none twice.
+rm -f ttcache.*
+answers $'ok 0\nok 0\nok 0\nok 0' "backing: CREATE TABLE A $table" 's1: OPEN' \
+  "s1: CREATE ASYNCHRONOUS WRITETHROUGH CACHE GROUP GA FROM A $table" 's1: LOAD CACHE GROUP GA'
+kept=0
+for ((round = 1; round <= rounds; round++)); do
+  {
+    printf 's1: OPEN DURABLE 1\n'
+    for ((i = 1; i <= 20000; i++)); do printf 's1: INSERT INTO A VALUES (%s, %s)\ns1: COMMIT\n' $((kept + i)) "$round"; done
+  } >lines
+  "$program" run <lines >replies &
+  sleep "0.0$((RANDOM % 9))$((RANDOM % 10))"
+  kill -9 $! 2>/dev/null
+  wait $! 2>/dev/null
+  # (the first reply is that of OPEN; then two for each commit, the last of which may be cut)
+  answered=$((($(grep -c '^ok [0-9]*$' replies) - 1) / 2))
+  [ "$answered" -ge 0 ] || answered=0
+  found=$(printf 's1: OPEN\ns1: SELECT COUNT(*), MAX(ID) FROM A\n' | "$program" run | sed -n 's/^= //p')
+  count=${found%|*}
+  [ "$count" -ge $((kept + answered)) ] || complain "round $round: $((kept + answered)) were answered, $count are there"
+  [ "$count" = 0 ] || [ "${found#*|}" = "$count" ] || complain "round $round: $count rows up to ${found#*|}"
+  kept=$count
+done
+printf 'real: %s kills, %s commits, none that was answered is lost\n' "$rounds" "$kept"
+exit "$wrong"
