@@ -25,18 +25,18 @@ use Rattle.recovery.proofs.JournalledLaws.{alike_kind, alike_trans, alike_turned
 -- ---- the same entries over another tier
 
 -- two tiers with one schema and one next ticket, whose groups are alike
-record AreSame (t n : Tier) : Type 0 where
-  schema : n.schema ≡ t.schema
-  next : n.next ≡ t.next
-  groups : AreAlike t.groups n.groups
+pub record AreSame (t n : Tier) : Type 0 where
+  pub schema : n.schema ≡ t.schema
+  pub next : n.next ≡ t.next
+  pub groups : AreAlike t.groups n.groups
 
 -- what the entries leave of another tier that is the same
-record Leaves (entries : List JournalEntry) (n t' : Tier) : Type 0 where
-  left : Tier
-  recalls : RecallsAll entries n left
-  same : AreSame t' left
+pub record Leaves (entries : List JournalEntry) (n t' : Tier) : Type 0 where
+  pub left : Tier
+  pub recalls : RecallsAll entries n left
+  pub same : AreSame t' left
 
-alike_back : (gs hs : List Group) → AreAlike gs hs → AreAlike hs gs
+pub alike_back : (gs hs : List Group) → AreAlike gs hs → AreAlike hs gs
 alike_back [] [] are = tt
 alike_back (g ∷ gs) (h ∷ hs) are = (record { def = sym are.0.def; state = λ r. sym (are.0.state (sym (alike_kind g h are.0) ∙ r)); loaded = sym are.0.loaded }, alike_back gs hs are.1)
 alike_back [] (h ∷ hs) are = absurd are
@@ -71,7 +71,7 @@ step_same (SetsState name state) t n t' same is =
 step_same (SetsLoaded name flag) t n t' same is =
     (with_group name (with_loaded flag) n, refl, subst (λ x. AreSame x (with_group name (with_loaded flag) n)) (sym is) (record { schema = same.schema; next = same.next; groups = alike_turned name (with_loaded flag) (loaded_steady flag) t.groups n.groups same.groups }))
 
-all_same : (entries : List JournalEntry) (t n t' : Tier) → AreSame t n → RecallsAll entries t t' → Leaves entries n t'
+pub all_same : (entries : List JournalEntry) (t n t' : Tier) → AreSame t n → RecallsAll entries t t' → Leaves entries n t'
 all_same [] t n t' same is = record { left = n; recalls = refl; same = subst (λ x. AreSame x n) (sym is) same }
 all_same (e ∷ entries) t n t' same (mid, first, rest) =
     let (next, one, then) = step_same e t n mid same first in

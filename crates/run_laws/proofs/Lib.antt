@@ -18,3 +18,4 @@ pub mod KindLines
 pub mod StatementLaws
 pub mod LineLaws
 pub mod RunKeeps
+pub mod ReopenLaws

@@ -1,14 +1,15 @@
 -- A line, and a list of lines, with a journal that is the tier's; and what a crash leaves behind each of them. (This
 -- project's rule, over recovery as the TimesTen Cache User's Guide tells of it.)
 
-use Rattle.std.specs.Prelude.{◌≡◌, ℕ, false, List, [], ◌∷◌, ◌++◌, Option, Some, None}
+use Rattle.std.specs.Prelude.{◌≡◌, ℕ, true, false, List, [], ◌∷◌, ◌++◌, Option, Some, None}
 use Rattle.table_state.specs.declared.history.Sealed.{Sealed}
 use Rattle.cache_tier.specs.declared.reply.Reply.{Reply}
 use Rattle.cache_tier.specs.Events.{with_tier}
+use Rattle.cache_tier.specs.Journals.{Journal, JournalEntry}
 use Rattle.cache_tier.specs.StandingBetween.{Stands}
 use Rattle.cache_tier.specs.Steps.{Asked, Saying, Step}
 use Rattle.cache_tier.specs.TierStates.{Settings}
-use Rattle.cache_tier.specs.Worlds.{World}
+use Rattle.cache_tier.specs.Worlds.{IsUnshared, World}
 use Rattle.line_laws.specs.Keeping.{is_broken}
 use Rattle.recovery.specs.Journalled.{CrashLeaves, IsJournalled, IsJournalledOn}
 use Rattle.recovery.specs.Recalling.{recalled}
@@ -66,3 +67,16 @@ KeepsThrough w early (line ∷ lines) (reply ∷ replies) w' =
     × KeepsThrough mid now lines replies w'
 KeepsThrough w early [] (reply ∷ replies) w' = ⊥
 KeepsThrough w early (line ∷ lines) [] w' = ⊥
+
+-- A journal has these entries, all of them flushed.
+pub record IsKeptOf (entries : List JournalEntry) (j : Journal) : Type 0 where
+  pub kept : j.kept ≡ true
+  pub flushed : j.flushed ≡ entries
+  pub tail : j.tail ≡ []
+
+-- A tier that was opened again: its journal is its own, and what was held is held; others change no table of a live
+-- writethrough group still; and what is written is of one kind.
+pub record Reopened (w : World) (early : List Sealed) : Type 0 where
+  pub on : IsJournalledOn w early
+  pub unshared : IsUnshared w
+  pub kinds : AreOfKinds w.tier

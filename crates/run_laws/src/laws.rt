@@ -1,14 +1,18 @@
 //! Laws of whole lines, each on the contract of a function that does nothing. They are this project's rules.
 
-ghost use Rattle.std.specs.Prelude.{ℕ, List, Option};
+ghost use Rattle.std.specs.Prelude.{ℕ, List, Option, None};
 ghost use Rattle.table_state.specs.declared.history.Sealed.{Sealed};
 ghost use Rattle.cache_tier.specs.declared.reply.Reply.{Reply};
+ghost use Rattle.cache_tier.specs.Journals.{JournalEntry};
 ghost use Rattle.cache_tier.specs.Steps.{Asked};
 ghost use Rattle.cache_tier.specs.TierStates.{Settings};
-ghost use Rattle.cache_tier.specs.Worlds.{World};
+ghost use Rattle.cache_tier.specs.Worlds.{IsUnshared, World};
 ghost use Rattle.recovery.specs.Journalled.{IsJournalled};
+ghost use Rattle.recovery.specs.Recalling.{notes_of};
+ghost use Rattle.recovery.specs.Reopening.{IsReopened};
+ghost use Rattle.recovery_laws.specs.Crashes.{AreHeld};
 ghost use Rattle.run_laws.specs.Lines.{IsLeft, MayBegin};
-ghost use Rattle.run_laws.specs.Runs.{KeepsThrough, RunsOn, StepKeepsJournal, StepKeepsKinds, Survives};
+ghost use Rattle.run_laws.specs.Runs.{IsKeptOf, KeepsThrough, Reopened, RunsOn, StepKeepsJournal, StepKeepsKinds, Survives};
 
 /// A line, whatever it says, keeps the journal the tier's, and what was held is held (`journal`). What is unsettled is on
 /// tables of asynchronous groups behind it, and each session has written tables of synchronous groups alone, or of none
@@ -26,4 +30,12 @@ pub fn run_law()
         → IsJournalled w early → Survives w early settings moment }
     ensures keeps_through { (w w' : World) (lines : List Asked) (replies : List (Option Reply)) (early : List Sealed)
         → MayBegin w → IsJournalled w early → RunsOn w lines replies w' → KeepsThrough w early lines replies w' }
+{}
+
+/// The tier that is opened again over a journal whose entries are all flushed keeps it: the journal is its own behind the
+/// opening, which writes nothing to it, and what the entries and the history hold is held. So a run may begin there.
+pub fn reopened_law()
+    ensures { (settings : Settings) (moment : ℕ) (entries : List JournalEntry) (w w' : World) (early : List Sealed)
+        (x : IsReopened settings moment entries w w' None) → IsKeptOf entries w.journal
+        → AreHeld (notes_of x.matched.backing.schema entries) w.history early → IsUnshared w → Reopened w' early }
 {}
