@@ -91,8 +91,8 @@ pub fn console_line_law()
     ensures writes { (writes : List Write) → KeepsJournalWhere (AreOffLive writes) (WritesAll writes) }
 {}
 
-/// The journal stays the tier's behind each item of due work: the doubt, where the bank tells whether its ticket stands,
-/// whether the tier stands or not (`doubt`), the round (`round`), the sets (`sets`), aging (`aging`).
+/// The journal stays the tier's behind each item of due work: the doubt, where the bank tells whether its ticket
+/// stands, whether the tier stands or not (`doubt`), the round (`round`), the sets (`sets`), aging (`aging`).
 pub fn due_line_law()
     ensures doubt { KeepsJournalInDoubt DueDoubt }
     ensures round { KeepsSettledJournalDue DueRound }

@@ -107,9 +107,9 @@ pub fn journalled_law()
         → IsJournalled (record w { tier = t }) early }
 {}
 
-/// What a crash leaves between two events, whether the tier stands or a commit is in doubt: the entries that are flushed
-/// belong to the history, they leave the tier's catalog, and all commits that were held are held. By `recalled_law` the
-/// tier of these entries stands.
+/// What a crash leaves between two events, whether the tier stands or a commit is in doubt: the entries that are
+/// flushed belong to the history, they leave the tier's catalog, and all commits that were held are held. By
+/// `recalled_law` the tier of these entries stands.
 pub fn crash_leaves_law()
     ensures { (w : World) (early : List Sealed) (settings : Settings) (moment : ℕ) → w.tier.next ≤ 2 ^ 63
         → IsJournalled w early → CrashLeaves w early settings moment }

@@ -249,4 +249,3 @@ pub stands_within : (h rest : List Entry) (x : Sealed) → has_ticket x.ticket.0
 stands_within h rest x =
     has_ticket-append x.ticket.0 (h ++ entry_of x ∷ []) rest
     ∙ left_true (has_ticket x.ticket.0 (h ++ entry_of x ∷ [])) (has_ticket x.ticket.0 rest) (stands_last h x)
-

@@ -1,7 +1,7 @@
 -- A group that is defined, where the tier stands behind the definition: it is one that may come.
-use Rattle.std.proofs.Common.{◌≡◌, ℕ, Bool, true, false, cond, ◌&&◌, ◌||◌, not, Option, Some, None, List, [], ◌∷◌, ◌++◌, map, filter, length, slice_get, refl, sym, ap, subst, ◌∙◌}
+use Rattle.std.proofs.Common.{◌≡◌, ℕ, Bool, true, false, cond, ◌&&◌, ◌||◌, not, Option, Some, None, List, [], ◌∷◌, ◌++◌, map, filter, slice_get, refl, sym, ap, subst, ◌∙◌}
 use Rattle.std.specs.List.{flat_map, list_any}
-use Rattle.std.specs.Option.{option_or, option_map}
+use Rattle.std.specs.Option.{option_or}
 use Rattle.tier_base.specs.declared.code.Code.TheVariants as code
 use Rattle.tier_base.specs.declared.number.TableId.{TableId}
 use Rattle.row_types.specs.declared.declaration.TableDeclaration.{TableDeclaration}
@@ -10,7 +10,6 @@ use Rattle.table_defs.specs.Names.{place_of_table}
 use Rattle.table_defs.specs.declared.definition.TableDef.{TableDef}
 use Rattle.table_state.specs.declared.history.Entry.{Entry}
 use Rattle.table_state.specs.declared.history.Sealed.{Sealed}
-use Rattle.table_state.specs.Histories.{state_of}
 use Rattle.order_laws.specs.Commits.{LiveGroup}
 use Rattle.order_laws.specs.Sides.{IsClosed}
 use Rattle.order_laws.specs.Standing.{AreClosed, GroupsAreOrdered}
@@ -27,9 +26,8 @@ use Rattle.cache_tier.specs.declared.reply.Reply.{Reply}
 use Rattle.cache_tier.specs.Defining.{IsNewGroup}
 use Rattle.cache_tier.specs.DefineSteps.{CreatesGroup, with_new_group}
 use Rattle.cache_tier.specs.Definitions.{IsTreeOf, Placed, definition_names, names_in, placed_from, placed_if, placed_tables, table_names}
-use Rattle.cache_tier.specs.Groups.{Group, covers, definitions_of, is_table_of, is_writethrough}
+use Rattle.cache_tier.specs.Groups.{Group, covers, definitions_of, is_writethrough}
 use Rattle.cache_tier.specs.Order.{refusal}
-use Rattle.cache_tier.specs.Routes.{is_cached}
 use Rattle.cache_tier.specs.StandingBetween.{Each, HasNoTableOf, HaveOwnTables, IsCatalogued, Stands, live_groups_of}
 use Rattle.cache_tier.specs.Steps.{tells}
 use Rattle.cache_tier.specs.TierStates.{Doubt, Session, Tier}

@@ -7,26 +7,26 @@ use Rattle.table_state.specs.declared.history.Sealed.{Sealed}
 use Rattle.table_state.specs.Histories.{state_at, state_of}
 use Rattle.table_state.specs.Tables.{TableState}
 use Rattle.order_laws.proofs.TruthLaws.{both_true}
-use Rattle.outside.specs.Bank.{Grows, TellsRecorded, TellsSchema}
+use Rattle.outside.specs.Bank.{Grows, TellsSchema}
 use Rattle.outside.specs.Others.{Around}
 use Rattle.outside.specs.declared.fault.BankError.{BankError}
 use Rattle.table_defs.specs.declared.definition.TableDef.{TableDef}
 use Rattle.sql_subset.specs.declared.request.Line.{Line}
-use Rattle.cache_tier.specs.Aging.{after_aging, aged, is_aged_by, is_aging_due}
-use Rattle.cache_tier.specs.ConsoleSteps.{Asked, AsksSchema, asks_schema, told, told_stop}
+use Rattle.cache_tier.specs.Aging.{aged, is_aged_by, is_aging_due}
+use Rattle.cache_tier.specs.ConsoleSteps.{Asked, AsksSchema, asks_schema, told}
 use Rattle.cache_tier.specs.declared.reply.Note.{Note}
 use Rattle.cache_tier.specs.declared.reply.Reply.{Reply}
-use Rattle.cache_tier.specs.DoubtSteps.{AsksRecorded, SettlesDoubt, settled, settled_stop}
-use Rattle.cache_tier.specs.DueWork.{DueAging, DueDoubt, DueRound, DueSets, DueSetsOf, ItemFollows, Noted, due_sets, is_round_due, stopped}
+use Rattle.cache_tier.specs.DoubtSteps.{settled}
+use Rattle.cache_tier.specs.DueWork.{DueAging, DueRound, DueSets, DueSetsOf, ItemFollows, Noted, due_sets, is_round_due}
 use Rattle.cache_tier.specs.Events.{at_history, with_tier}
 use Rattle.cache_tier.specs.Groups.{Group, is_read_only}
 use Rattle.cache_tier.specs.JournalSteps.{Flushes, FlushesKept}
 use Rattle.cache_tier.specs.Reading.{StageFollowsAt, TellsPosition, backing_at, state_or_none}
 use Rattle.cache_tier.specs.Rotations.{Rotates, RotatesIfLong, is_long}
-use Rattle.cache_tier.specs.Rounds.{Applies, AppliesAndRotates, Round}
-use Rattle.cache_tier.specs.Sets.{RefreshesIfShown, RefreshesSet, is_in_set, of_set, refreshed, shows_something}
+use Rattle.cache_tier.specs.Rounds.{AppliesAndRotates, Round}
+use Rattle.cache_tier.specs.Sets.{RefreshesIfShown, RefreshesSet, of_set, refreshed, shows_something}
 use Rattle.cache_tier.specs.StandingBetween.{Each, Stands}
-use Rattle.cache_tier.specs.TierStates.{Doubt, Session, Tier, refresh_tried}
+use Rattle.cache_tier.specs.TierStates.{Session, Tier, refresh_tried}
 use Rattle.cache_tier.specs.Worlds.{Becomes, IsUnshared, OnlyWhere, StageFollows, World}
 use Rattle.cache_tier.proofs.HistoryKeeps.{around_goes_on, others_go_on}
 use Rattle.cache_tier.proofs.RefreshLaws.{groups_refresh}
@@ -36,14 +36,13 @@ use Rattle.recovery.specs.Journalled.{AreAlike, IsJournalledOn}
 use Rattle.recovery.proofs.JournalledLaws.{alike_self}
 use Rattle.line_laws.specs.Keeping.{RenewsSettled, is_broken}
 use Rattle.line_laws.proofs.AskedLaws.{asks_kept}
-use Rattle.line_laws.proofs.DueStatements.{due_aging_kept, due_doubt_kept, not_broken}
+use Rattle.line_laws.proofs.DueStatements.{not_broken}
 use Rattle.line_laws.proofs.GroupStatements.{refreshes_if_shown}
 use Rattle.line_laws.proofs.OtherLaws.{others_schema}
-use Rattle.line_laws.proofs.PartWords.{Any}
 use Rattle.line_laws.proofs.QuietTiers.{refreshed_quiet}
 use Rattle.line_laws.proofs.RoundLaws.{round_goes}
 use Rattle.run_laws.specs.Lines.{IsOfOneKind, are_ageless, are_later}
-use Rattle.run_laws.proofs.ReadyLaws.{Moves, Ready, ReadyOn, ready_moved, ready_same, ready_stays, ready_then}
+use Rattle.run_laws.proofs.ReadyLaws.{Moves, Ready, ReadyOn, ready_moved, ready_same, ready_then}
 use Rattle.run_laws.proofs.StandLaws.{IsSeenAs, seen_as, seen_self, stands_seen}
 
 -- ---- a round

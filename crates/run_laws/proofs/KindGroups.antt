@@ -1,8 +1,7 @@
 -- Groups that come and go: what is written stays on tables of one kind.
-use Rattle.std.proofs.Common.{◌≡◌, ◌⊎◌, inl, inr, ℕ, Bool, true, false, cond, not, ◌&&◌, ◌||◌, Option, Some, None, List, [], ◌∷◌, ◌++◌, map, filter, find, slice_get, refl, sym, ap, subst, ◌∙◌}
+use Rattle.std.proofs.Common.{◌≡◌, inl, inr, ℕ, Bool, true, false, not, Option, Some, None, List, [], ◌∷◌, ◌++◌, slice_get, refl, sym, ap, subst, ◌∙◌}
 use Rattle.std.specs.Bool.{MatchBool}
-use Rattle.std.specs.List.{list_all, list_any}
-use Rattle.tier_base.specs.declared.code.Code.TheVariants as code
+use Rattle.std.specs.List.{list_all}
 use Rattle.tier_base.specs.declared.number.TableId.{TableId}
 use Rattle.row_types.specs.declared.rule.Rule.{Rule}
 use Rattle.table_state.specs.declared.history.Sealed.{Sealed}
@@ -13,24 +12,21 @@ use Rattle.cache_tier.specs.declared.reply.Reply.{Reply}
 use Rattle.cache_tier.specs.DefineSteps.{CreatesGroup, define_answer, with_new_group}
 use Rattle.cache_tier.specs.Definitions.{text_of}
 use Rattle.cache_tier.specs.Dropping.{MayDrop}
-use Rattle.cache_tier.specs.DropSteps.{DropsAt, DropsGroup, DropsRest, drop_answer, drop_fault, without_group}
-use Rattle.cache_tier.specs.Groups.{Group, covers, is_asynchronous, is_called, is_synchronous, is_table_of, is_writethrough}
+use Rattle.cache_tier.specs.DropSteps.{DropsGroup, DropsRest, drop_answer, drop_fault, without_group}
+use Rattle.cache_tier.specs.Groups.{Group, covers, is_asynchronous, is_synchronous, is_table_of, is_writethrough}
 use Rattle.cache_tier.specs.JournalSteps.{Flushes, FlushesSome, journal_fault}
 use Rattle.cache_tier.specs.Journals.{Defines, Drops}
-use Rattle.cache_tier.specs.Locks.{writes_on}
 use Rattle.cache_tier.specs.Reading.{Answers}
 use Rattle.cache_tier.specs.Rounds.{Round}
 use Rattle.cache_tier.specs.StandingBetween.{Each, HasNoTableOf, HaveOwnTables, are_written_through, own_writes}
-use Rattle.cache_tier.specs.Steps.{tells}
 use Rattle.cache_tier.specs.TierStates.{Session, Tier, session_of}
 use Rattle.cache_tier.specs.Worlds.{Follows, Then, Tries, Unless, World}
 use Rattle.recovery.specs.Recalling.{group_of}
-use Rattle.line_laws.specs.Keeping.{is_broken}
 use Rattle.line_laws.proofs.CommitStatements.{MayGo, may_drop}
 use Rattle.run_laws.specs.Lines.{AreOfKinds, IsOfOneKind, are_later, are_on_kind}
 use Rattle.run_laws.proofs.CreateLaws.{IsInOrder, apart_last}
 use Rattle.run_laws.proofs.DueLaws.{round_ready, round_sits}
-use Rattle.run_laws.proofs.KindParts.{AreSameAt, covered, each_all, each_so, each_tested, kind_same, last_same, later_same, not_its, reads_not, without_same}
+use Rattle.run_laws.proofs.KindParts.{AreSameAt, covered, each_tested, kind_same, last_same, later_same, not_its, reads_not, without_same}
 use Rattle.run_laws.proofs.KindStatements.{kinds_of, kinds_sit, through_all}
 use Rattle.run_laws.proofs.ReadyLaws.{Ready, ReadyOn}
 use Rattle.run_laws.proofs.SitsLaws.{Sits, flushes_sits, flushes_some_sits}

@@ -1,5 +1,5 @@
 -- Tables of synchronous groups, and of asynchronous ones: what is on these doesn't meet what is on those.
-use Rattle.std.proofs.Common.{◌≡◌, ℕ, Bool, true, false, cond, not, ◌&&◌, ◌||◌, nat_eq, List, [], ◌∷◌, ◌++◌, map, refl, sym, ap, ◌∙◌, eqb-true}
+use Rattle.std.proofs.Common.{◌≡◌, ℕ, Bool, true, false, cond, not, ◌&&◌, ◌||◌, nat_eq, List, [], ◌∷◌, ◌++◌, map, refl, sym, ap, ◌∙◌}
 use Rattle.std.specs.List.{filter, list_all, list_any}
 use Rattle.std.proofs.lemmas.List.Folds.{list_any-append}
 use Rattle.tier_base.specs.declared.number.TableId.{TableId}
@@ -14,7 +14,7 @@ use Rattle.order_laws.specs.Sides.{IsClosed, all_on, are_on as on_tables}
 use Rattle.order_laws.specs.Standing.{GroupsAreOrdered, live_tables}
 use Rattle.order_laws.proofs.AtOnceLaws.{sides_conflict_not}
 use Rattle.order_laws.proofs.SideLaws.{OnSide}
-use Rattle.order_laws.proofs.TruthLaws.{both_true, never_both, untrue}
+use Rattle.order_laws.proofs.TruthLaws.{both_true, never_both}
 use Rattle.cache_tier.specs.Commits.{live_group, tables_of}
 use Rattle.cache_tier.specs.Groups.{Group, covers, is_asynchronous, is_synchronous, is_table_of, is_writethrough}
 use Rattle.cache_tier.specs.StandingBetween.{HaveOwnTables}

@@ -1,5 +1,5 @@
 -- What is written is on tables of one kind behind what a line does.
-use Rattle.std.proofs.Common.{◌≡◌, ◌⊎◌, inl, inr, ℕ, Bool, true, false, cond, not, Option, Some, None, Result, Ok, Err, List, [], ◌∷◌, ◌++◌, map, filter, refl, sym, ap, subst, ◌∙◌}
+use Rattle.std.proofs.Common.{◌≡◌, ℕ, not, Option, Some, None, Result, Ok, Err, List, refl, ap}
 use Rattle.row_types.specs.declared.rule.Rule.{Rule}
 use Rattle.table_defs.specs.Declarations.{resolved}
 use Rattle.table_state.specs.declared.history.Sealed.{Sealed}
@@ -23,9 +23,9 @@ use Rattle.cache_tier.specs.ConsoleSteps.{Creates, DoesConsole, WritesAll, after
 use Rattle.cache_tier.specs.Order.{refusal}
 use Rattle.cache_tier.specs.SessionSteps.{close_answer, flag_answer, new_session, open_answer}
 use Rattle.cache_tier.specs.Steps.{Does, DoesCalled, DoesRequest, DoesStatement, ForSession}
-use Rattle.cache_tier.specs.TierStates.{Session, Tier, is_labelled, session_of}
+use Rattle.cache_tier.specs.TierStates.{Session, is_labelled, session_of}
 use Rattle.cache_tier.specs.Worlds.{Unless, World}
-use Rattle.run_laws.specs.Lines.{AreOfKinds, IsOfOneKind}
+use Rattle.run_laws.specs.Lines.{AreOfKinds}
 use Rattle.run_laws.proofs.CreateLaws.{IsInOrder}
 use Rattle.run_laws.proofs.KindGroups.{creates_kinds, drops_kinds}
 use Rattle.run_laws.proofs.KindParts.{kinds_by}

@@ -1,7 +1,7 @@
 -- Tables of one kind, where groups come, go and stay.
-use Rattle.std.proofs.Common.{◌≡◌, ℕ, Bool, true, false, cond, not, ◌&&◌, ◌||◌, Option, Some, None, List, [], ◌∷◌, ◌++◌, map, filter, find, slice_get, refl, sym, ap, subst, ◌∙◌}
+use Rattle.std.proofs.Common.{◌≡◌, Bool, true, false, cond, not, ◌&&◌, ◌||◌, None, List, [], ◌∷◌, ◌++◌, map, filter, refl, sym, ap, ◌∙◌}
 use Rattle.std.specs.List.{list_all, list_any}
-use Rattle.std.proofs.lemmas.List.Folds.{list_all-append, list_any-append}
+use Rattle.std.proofs.lemmas.List.Folds.{list_any-append}
 use Rattle.tier_base.specs.declared.number.TableId.{TableId}
 use Rattle.table_defs.specs.declared.definition.TableDef.{TableDef}
 use Rattle.table_state.specs.declared.history.Sealed.{Sealed}
@@ -15,7 +15,7 @@ use Rattle.sql_subset.specs.declared.stmt.GroupKind.TheVariants as kind
 use Rattle.sql_subset.specs.declared.stmt.RefreshState.TheVariants.{Off}
 use Rattle.cache_tier.specs.declared.group.GroupDef.{GroupDef}
 use Rattle.cache_tier.specs.Commits.{live_group}
-use Rattle.cache_tier.specs.Groups.{Group, covers, definitions_of, is_asynchronous, is_defined_on, is_read_only, is_synchronous, is_table_of, is_writethrough}
+use Rattle.cache_tier.specs.Groups.{Group, covers, definitions_of, is_asynchronous, is_defined_on, is_synchronous, is_table_of, is_writethrough}
 use Rattle.cache_tier.specs.StandingBetween.{Each, HasNoTableOf, HaveOwnTables, are_written_through, live_groups_of}
 use Rattle.cache_tier.specs.TierStates.{Session, Tier}
 use Rattle.cache_tier.proofs.GroupTables.{in_tree}

@@ -1,13 +1,11 @@
 -- Sessions write tables of one kind, and what is unsettled is on tables of asynchronous groups: behind each statement.
-use Rattle.std.proofs.Common.{◌≡◌, ◌⊎◌, inl, inr, ℕ, Bool, true, false, cond, not, ◌&&◌, ◌||◌, Option, Some, None, Result, Ok, Err, List, [], ◌∷◌, ◌++◌, map, filter, find, slice_get, refl, sym, ap, subst, ◌∙◌}
+use Rattle.std.proofs.Common.{◌≡◌, ◌⊎◌, inl, inr, ℕ, Bool, true, false, cond, ◌&&◌, Option, Some, None, Result, Ok, Err, List, [], ◌∷◌, ◌++◌, map, filter, refl, sym, ap, subst, ◌∙◌}
 use Rattle.std.specs.Bool.{MatchBool}
-use Rattle.std.specs.List.{list_all, list_any}
-use Rattle.std.specs.Option.{option_or}
-use Rattle.std.proofs.lemmas.List.Folds.{list_all-append, list_any-append}
+use Rattle.std.specs.List.{list_all}
+use Rattle.std.proofs.lemmas.List.Folds.{list_all-append}
 use Rattle.tier_base.specs.declared.number.TableId.{TableId}
 use Rattle.row_types.specs.declared.rule.Rule.{Rule}
 use Rattle.row_types.specs.declared.value.Value.{Value}
-use Rattle.table_state.specs.declared.history.Entry.{Entry}
 use Rattle.table_state.specs.declared.history.Sealed.{Sealed}
 use Rattle.table_state.specs.declared.operation.Op.{Op}
 use Rattle.table_state.specs.declared.operation.Op.TheVariants.{Insert, Update, Delete}
@@ -19,21 +17,21 @@ use Rattle.outside.specs.declared.site.Applied.{Applied}
 use Rattle.outside.specs.declared.site.Applied.TheVariants.{Now, Before, NotReady, Differs}
 use Rattle.cache_tier.specs.declared.reply.Reply.{Reply}
 use Rattle.cache_tier.specs.CommitSteps.{AppliesNow, CommitsAll, CommitsLater, CommitsNow, CommitsOwn, after_applied, committed, committed_unsettled, is_synchronous_own, sealed_own}
-use Rattle.cache_tier.specs.Groups.{Group, definitions_of, is_asynchronous, is_synchronous, is_table_of, is_writethrough}
+use Rattle.cache_tier.specs.Groups.{Group, definitions_of, is_asynchronous}
 use Rattle.cache_tier.specs.InsertSteps.{Finds, Inserts, insert_answer, insert_fault}
 use Rattle.cache_tier.specs.ChangeSteps.{Changes}
-use Rattle.cache_tier.specs.OwnWrites.{apply_fault, room_of, written}
+use Rattle.cache_tier.specs.OwnWrites.{apply_fault, written}
 use Rattle.cache_tier.specs.PassedSteps.{with_ticket}
-use Rattle.cache_tier.specs.Recency.{after_writes, with_commit}
+use Rattle.cache_tier.specs.Recency.{with_commit}
 use Rattle.cache_tier.specs.Shown.{no_rows, over, seen_by}
 use Rattle.cache_tier.specs.StandingBetween.{Each, are_written_through, own_writes}
-use Rattle.cache_tier.specs.TierStates.{Session, Tier, at_rest, is_labelled, session_of, with_writes}
+use Rattle.cache_tier.specs.TierStates.{Session, Tier, is_labelled, session_of, with_writes}
 use Rattle.cache_tier.specs.Worlds.{Answer, Follows, Unless, World, unless}
 use Rattle.cache_tier.specs.WriteSteps.{WritesOps}
 use Rattle.cache_tier.proofs.SessionLists.{among_sessions, changed_session}
 use Rattle.recovery.proofs.JournalledLaws.{alike_commit, alike_self}
 use Rattle.line_laws.proofs.QuietTiers.{writes_quiet}
-use Rattle.run_laws.specs.Lines.{AreOfKinds, IsOfOneKind, are_later, are_on_kind}
+use Rattle.run_laws.specs.Lines.{AreOfKinds, IsOfOneKind, are_on_kind}
 use Rattle.run_laws.proofs.KindParts.{all_wait, defs_same, each_all, each_so, kind_same, kinds_by}
 use Rattle.run_laws.proofs.ReadyLaws.{Ready, each_rested}
 use Rattle.run_laws.proofs.RefusalLaws.{each_found}

@@ -1,12 +1,11 @@
 -- A write in the cache is of the kind that the session has written before.
-use Rattle.std.proofs.Common.{◌≡◌, ◌⊎◌, inl, inr, ℕ, Bool, true, false, cond, not, ◌&&◌, ◌||◌, Option, Some, None, Result, Ok, Err, List, [], ◌∷◌, ◌++◌, map, find, refl, sym, ap, subst, ◌∙◌}
+use Rattle.std.proofs.Common.{◌≡◌, inl, inr, ℕ, Bool, true, false, cond, not, ◌&&◌, ◌||◌, Option, Some, None, Result, Ok, Err, List, [], ◌∷◌, ◌++◌, find, refl, sym, ap, subst, ◌∙◌}
 use Rattle.std.specs.List.{list_all, list_any}
 use Rattle.std.specs.Option.{option_or}
 use Rattle.std.proofs.lemmas.List.Folds.{list_all-append, list_any-append}
 use Rattle.tier_base.specs.declared.number.TableId.{TableId}
 use Rattle.row_types.specs.declared.rule.Rule.{Rule}
 use Rattle.tier_base.specs.declared.code.Code.TheVariants as code
-use Rattle.table_defs.specs.declared.definition.TableDef.{TableDef}
 use Rattle.table_state.specs.declared.operation.Op.{Op}
 use Rattle.table_state.specs.declared.operation.Op.TheVariants.{Insert, Update, Delete}
 use Rattle.table_state.specs.declared.history.Sealed.{Sealed}
@@ -15,11 +14,11 @@ use Rattle.table_state.specs.Tables.{TableState}
 use Rattle.evaluator.specs.declared.change.Change.{Change}
 use Rattle.evaluator.specs.Rules.{then_do}
 use Rattle.evaluator.specs.Writes.{effects_of}
-use Rattle.resolution.specs.Writes.{PlacedChange, change_seen, named_write, resolved_write}
+use Rattle.resolution.specs.Writes.{PlacedChange, named_write, resolved_write}
 use Rattle.sql_query.specs.declared.write.Write.{Write}
 use Rattle.sql_subset.specs.declared.stmt.Stmt.TheVariants as statement
 use Rattle.cache_tier.specs.declared.reply.Reply.{Reply}
-use Rattle.cache_tier.specs.Groups.{Group, is_synchronous, is_table_of}
+use Rattle.cache_tier.specs.Groups.{is_synchronous, is_table_of}
 use Rattle.cache_tier.specs.Locks.{lock_fault}
 use Rattle.cache_tier.specs.Order.{change_broken, first_broken, is_of_other_kind, mixes_kinds, refusal, write_broken}
 use Rattle.cache_tier.specs.OwnWrites.{room_of}
@@ -36,7 +35,7 @@ use Rattle.order_laws.proofs.TruthLaws.{never_both}
 use Rattle.run_laws.specs.Lines.{AreOfKinds, IsOfOneKind, are_on_kind}
 use Rattle.run_laws.proofs.CreateLaws.{all_closed}
 use Rattle.run_laws.proofs.KindLaws.{neither}
-use Rattle.run_laws.proofs.KindParts.{any_same, defs_same, each_all, front_side, kind_same, kind_side, on_same}
+use Rattle.run_laws.proofs.KindParts.{defs_same, each_all, front_side, kind_same, kind_side}
 use Rattle.run_laws.proofs.KindStatements.{kinds_of, kinds_sit, ops_wrote, wrote_kinds}
 use Rattle.run_laws.proofs.OffLaws.{IsSideOf, gives_effects}
 use Rattle.run_laws.proofs.ReadyLaws.{Ready}

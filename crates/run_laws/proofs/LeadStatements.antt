@@ -66,13 +66,12 @@ use Rattle.cache_tier.specs.Rounds.{Drains, Round}
 use Rattle.cache_tier.specs.Routes.{Cached, PassedOn, Route}
 use Rattle.cache_tier.specs.SelectSteps.{SelectsBy, SelectsOn, SelectsPlaced, plan_of, query_answer}
 use Rattle.cache_tier.specs.Sets.{Choice, RefreshesIfShown, RefreshesSet, set_tried, shows_something}
-use Rattle.cache_tier.specs.Steps.{Answered, Does, DoesCalled, DoesRequest, DoesStatement, ForSession, GoesThrough, Heeds, Parts, Saying, Says, Silent, TooDeep, TooLong, WrongAt, at_moment, early_fault}
+use Rattle.cache_tier.specs.Steps.{Does, DoesCalled, DoesRequest, DoesStatement, ForSession, GoesThrough}
 use Rattle.cache_tier.specs.Targets.{OnTarget, Settles, Target, backing_roots, held_roots, load_entries, view_roots, whole_answer}
 use Rattle.cache_tier.specs.TierStates.{ACommit, APassedWrite, Doubt, Doubted, Session, Tier}
 use Rattle.cache_tier.specs.UnloadSteps.{Unloads, unload_answer, unload_entries, unload_fault}
 use Rattle.cache_tier.specs.Wants.{Want, loaded_want}
 use Rattle.cache_tier.specs.WriteSteps.{WritesBy, WritesEffects, WritesOps, WritesPlaced, WritesShown}
-use Rattle.cache_tier.specs.Undone.{is_undone}
 use Rattle.cache_tier.specs.Worlds.{Answer, Becomes, Part, ThenStage, World, unless}
 use Rattle.cache_tier.proofs.LeadLaws.{PartLeads, StageLeads, answers_leads, bank_leads, becomes_leads, either_leads, flushes_leads, flushes_some_leads, next_of, on, only_where_leads, passes_leads, quiet, reads_first_leads, reads_leads, records_leads, refuses_leads, round_if_unsettled_leads, round_leads, same, same_number, then_leads, then_stage_leads, tiered, tries_leads, unless_leads}
 

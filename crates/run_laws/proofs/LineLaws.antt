@@ -1,5 +1,5 @@
 -- A whole line keeps the journal the tier's.
-use Rattle.std.proofs.Common.{◌≡◌, ◌⊎◌, inl, inr, ℕ, ◌+◌, ◌≤◌, Bool, true, false, cond, ◌&&◌, ◌||◌, Option, Some, None, Result, Ok, Err, List, [], ◌∷◌, ◌++◌, refl, sym, ap, subst, ◌∙◌, arith}
+use Rattle.std.proofs.Common.{◌≡◌, inl, inr, ℕ, ◌+◌, ◌≤◌, Bool, true, false, Option, Some, None, Result, Ok, Err, List, ◌++◌, refl, sym, ap, subst, ◌∙◌, arith}
 use Rattle.std.specs.Bool.{MatchBool}
 use Rattle.tier_base.specs.declared.code.Code.TheVariants as code
 use Rattle.row_types.specs.declared.rule.Rule.{Rule}
@@ -7,7 +7,6 @@ use Rattle.table_state.specs.declared.history.Sealed.{Sealed}
 use Rattle.outside.specs.declared.fault.BankError.{BankError}
 use Rattle.sql_subset.specs.declared.request.Line.{Line}
 use Rattle.sql_subset.specs.declared.request.Line.TheVariants as says
-use Rattle.cache_tier.specs.CommitSteps.{after_applied, sealed_own}
 use Rattle.cache_tier.specs.ConsoleSteps.{Asked, AsksSchema, asks_schema, told, told_stop}
 use Rattle.cache_tier.specs.declared.reply.Note.{Note}
 use Rattle.cache_tier.specs.declared.reply.Reply.{Reply}
@@ -21,22 +20,21 @@ use Rattle.cache_tier.specs.Steps.{Answered, Does, GoesThrough, Heeds, Parts, Sa
 use Rattle.cache_tier.specs.TierStates.{Doubt, Session, Tier}
 use Rattle.cache_tier.specs.Undone.{is_undone}
 use Rattle.cache_tier.specs.Worlds.{BankCall, Follows, IsUnshared, OnlyWhere, Refuses, Then, Tries, Unless, WantsMemory, World}
-use Rattle.cache_tier.proofs.LeadLaws.{then_leads, tries_leads}
 use Rattle.order_laws.proofs.TruthLaws.{same_some}
-use Rattle.recovery.specs.Journalled.{AreAlike, IsJournalled, IsJournalledOn, IsQuiet}
+use Rattle.recovery.specs.Journalled.{AreAlike, IsJournalled, IsJournalledOn}
 use Rattle.recovery.proofs.JournalledLaws.{alike_commit, alike_self, quiet_kept}
 use Rattle.recovery.proofs.OthersLaws.{on_then}
 use Rattle.line_laws.specs.Keeping.{RenewsSettled, is_broken}
-use Rattle.line_laws.proofs.DueStatements.{due_aging_kept, due_doubt_kept}
-use Rattle.line_laws.proofs.PartWords.{same_on, stays_on}
+use Rattle.line_laws.proofs.DueStatements.{due_doubt_kept}
+use Rattle.line_laws.proofs.PartWords.{stays_on}
 use Rattle.run_laws.specs.Runs.{StepKeepsJournal, StepKeepsKinds}
 use Rattle.run_laws.specs.Lines.{AreOfKinds, IsInDoubt, IsLeft, IsLeftBy, IsOfOneKind, KeepsSlot, MayBegin, are_later}
 use Rattle.run_laws.proofs.CreateLaws.{IsInOrder, order_left}
 use Rattle.run_laws.proofs.DoubtLaws.{doubt_is, doubt_settles, in_doubt}
 use Rattle.run_laws.proofs.DueLaws.{asks_ready, due_aging_ready, due_round_ready, due_sets_ready}
 use Rattle.run_laws.proofs.LeadStatements.{asks_schema_leads, does_leads, due_aging_leads, due_doubt_leads, due_round_leads, due_sets_leads, due_work_leads, goes_through_leads, item_follows_leads, slots_rise, then_item_leads}
-use Rattle.run_laws.proofs.ReadyLaws.{Moves, Ready, ReadyOn, each_rested, ready_moved, ready_same, ready_stays, ready_then}
-use Rattle.run_laws.proofs.StandLaws.{IsSeenAs, seen_self, stands_seen}
+use Rattle.run_laws.proofs.ReadyLaws.{Ready, ReadyOn, each_rested, ready_moved, ready_same, ready_then}
+use Rattle.run_laws.proofs.StandLaws.{IsSeenAs, stands_seen}
 use Rattle.run_laws.proofs.KindLines.{does_kinds}
 use Rattle.run_laws.proofs.KindParts.{kinds_by}
 use Rattle.run_laws.proofs.KindStatements.{commit_defs, kinds_of}
@@ -91,7 +89,10 @@ moment_left base l w x = by w.tier.doubt x
     by (Some d) x = moment_in_doubt base l w x
 
 moment_begins : (base : ℕ) (l : Line) (w : World) → MayBegin w → MayBegin (with_moment base l w)
-moment_begins base l w m = record { left = moment_left base l w m.left; unshared = m.unshared; ageless = m.ageless; kinds = record { later = m.kinds.later; own = m.kinds.own } }
+moment_begins base l w m = record {
+  goes_on = record { left = moment_left base l w m.goes_on.left; unshared = m.goes_on.unshared; ageless = m.goes_on.ageless };
+  kinds = record { later = m.kinds.later; own = m.kinds.own };
+}
 
 moment_journalled : (base : ℕ) (l : Line) (w : World) (early : List Sealed) → IsJournalled w early → IsJournalled (with_moment base l w) early
 moment_journalled base l w early j = quiet_kept w early (at_moment base l w.tier) j (record { log = refl; next = omega arith; groups = alike_self w.tier.groups })
@@ -119,10 +120,10 @@ left_then : (w : World) (early mid more : List Sealed) → mid ≡ early ++ more
 left_then w early mid more e x = record { on = on_then w early mid more e x.on; kinds = x.kinds }
 
 doubt_done : (w w' : World) (early : List Sealed) (notes : List Note) (stop : Option Reply) → MayBegin w → IsJournalled w early → DueDoubt w w' notes stop → is_broken stop ≡ false → Settled w' stop early
-doubt_done w w' early notes stop m j q ok = record { on = on; kinds = kinds w.tier.doubt refl m.left q; ready = λ end. by w.tier.doubt refl m.left q end }
+doubt_done w w' early notes stop m j q ok = record { on = on; kinds = kinds w.tier.doubt refl m.goes_on.left q; ready = λ end. by w.tier.doubt refl m.goes_on.left q end }
   where
     on : IsJournalledOn w' early
-    on = due_doubt_kept w w' early notes stop j m.unshared q ok
+    on = due_doubt_kept w w' early notes stop j m.goes_on.unshared q ok
 
     in_it : (x : IsInDoubt w) → AsksRecorded (in_doubt w x) w w' notes stop → stop ≡ None → ReadyOn w' early
     in_it x a end = answered a.result a.call a.tier a.end
@@ -130,7 +131,7 @@ doubt_done w w' early notes stop m j q ok = record { on = on; kinds = kinds w.ti
         answered : (result : Result Bool BankError) → BankCall (Rattle.outside.specs.Bank.TellsRecorded x.was.tier.next result) w w' → w'.tier ≡ settled (in_doubt w x) w'.history result w.tier → stop ≡ settled_stop result → ReadyOn w' early
         answered (Err e) call tier is = let bad : Some (Rattle.cache_tier.specs.Worlds.bank_fault e) ≡ None = sym is ∙ end in Prim.cc
         answered (Ok true) call tier is =
-            ready_moved w w' early m.unshared m.ageless (record {
+            ready_moved w w' early m.goes_on.unshared m.goes_on.ageless (record {
               shared = call.shared;
               alike = subst (λ (t : Tier). AreAlike w.tier.groups t.groups) (sym tier)
                   (alike_commit (no_rows w.tier) (stood (in_doubt w x) w'.history).ops w.tier.groups w.tier.groups (alike_self w.tier.groups));
@@ -139,7 +140,7 @@ doubt_done w w' early notes stop m j q ok = record { on = on; kinds = kinds w.ti
                   (each_rested w.tier.groups x.session.label w.tier.sessions m.kinds.own);
             }) (doubt_settles w x w' true call tier) on
         answered (Ok false) call tier is =
-            ready_moved w w' early m.unshared m.ageless (record {
+            ready_moved w w' early m.goes_on.unshared m.goes_on.ageless (record {
               shared = call.shared;
               alike = subst (λ (t : Tier). AreAlike w.tier.groups t.groups) (sym tier) (alike_self w.tier.groups);
               later = ap (λ (t : Tier). are_later w.tier.groups t.unsettled) tier ∙ m.kinds.later;
@@ -163,7 +164,7 @@ doubt_done w w' early notes stop m j q ok = record { on = on; kinds = kinds w.ti
         told_kinds x a.result a.tier
 
     by : (o : Option Doubt) → w.tier.doubt ≡ o → IsLeftBy o w → SettlesDoubt o w w' notes stop → stop ≡ None → ReadyOn w' early
-    by None e x q end = ready_same w w' early q.0 (record { journalled = j; stands = x; unshared = m.unshared; ageless = m.ageless; kinds = m.kinds })
+    by None e x q end = ready_same w w' early q.0 (record { journalled = j; stands = x; unshared = m.goes_on.unshared; ageless = m.goes_on.ageless; kinds = m.kinds })
     by (Some d) e x q end = in_it x (subst (λ (y : Doubt). AsksRecorded y w w' notes stop) (same_some (sym e ∙ doubt_is w x)) q) end
 
 -- ---- all that is due

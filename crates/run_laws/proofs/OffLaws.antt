@@ -1,11 +1,10 @@
 -- Writes on tables of no live writethrough group touch none.
-use Rattle.std.proofs.Common.{◌≡◌, ℕ, zero, suc, ◌+◌, Bool, true, false, not, cond, ◌&&◌, Option, Some, None, List, [], ◌∷◌, ◌++◌, map, slice_get, unwrap_or, refl, sym, ap, ◌∙◌, subst, arith, inl, inr, append_assoc}
+use Rattle.std.proofs.Common.{◌≡◌, ℕ, zero, suc, ◌+◌, Bool, true, false, not, cond, ◌&&◌, Option, Some, None, List, [], ◌∷◌, ◌++◌, map, slice_get, unwrap_or, refl, sym, ap, ◌∙◌, subst, arith}
 use Rattle.std.specs.Prelude.{Result, Ok, Err, ◌-◌, nat_lt, length, ◌⊎◌}
 use Rattle.std.specs.List.{filter, flat_map, list_all}
 use Rattle.std.specs.Option.{option_and_then}
 use Rattle.std.specs.FinMap.{values}
 use Rattle.std.proofs.lemmas.Bool.{eqb-true}
-use Rattle.std.proofs.lemmas.List.{append-nil}
 use Rattle.std.proofs.lemmas.List.Folds.{list_all-append}
 use Rattle.tier_base.specs.declared.number.TableId.{TableId}
 use Rattle.tier_base.specs.declared.limit.Limit.TheVariants.{Rows, Operations}
@@ -19,12 +18,10 @@ use Rattle.table_defs.specs.declared.definition.TableDef.{TableDef}
 use Rattle.table_state.specs.declared.operation.Op.{Op}
 use Rattle.table_state.specs.declared.operation.Op.TheVariants as op
 use Rattle.table_state.specs.declared.refusal.ApplyError.{ApplyError}
-use Rattle.table_state.specs.declared.refusal.ApplyError.TheVariants as error
 use Rattle.table_state.specs.Copies.{is_one_of}
 use Rattle.table_state.specs.Operations.{applied_all}
 use Rattle.table_state.specs.Refusals.{broken_by_all}
 use Rattle.table_state.specs.Tables.{TableState, table_at}
-use Rattle.order_laws.specs.Sides.{IsClosed, are_off}
 use Rattle.order_laws.proofs.NextLaws.{all_defined}
 use Rattle.evaluator.specs.declared.change.Action.{Action}
 use Rattle.evaluator.specs.declared.change.Action.TheVariants.{Insert, Update, Delete}
@@ -36,9 +33,9 @@ use Rattle.transactions.specs.Transactions.{Done, and_then, applied_to, behind, 
 use Rattle.sql_query.specs.declared.write.Write.{Write}
 use Rattle.table_defs.specs.Names.{place_of_table}
 use Rattle.resolution.specs.Results.{both, then_make}
-use Rattle.resolution.specs.Writes.{PlacedAction, PlacedChange, all_sound, change_of, change_seen, named_action, named_at, named_on, named_write, named_writes, resolved_writes, table_of}
+use Rattle.resolution.specs.Writes.{PlacedAction, PlacedChange, all_sound, change_of, change_seen, named_action, named_at, named_on, named_write, named_writes, table_of}
 use Rattle.order_laws.specs.Standing.{live_tables}
-use Rattle.cache_tier.specs.ConsoleSteps.{first_writethrough, is_name_of, writes_fault}
+use Rattle.cache_tier.specs.ConsoleSteps.{first_writethrough, is_name_of}
 use Rattle.cache_tier.specs.Routes.{is_written_through}
 use Rattle.cache_tier.specs.Rules.{named}
 use Rattle.tier_base.specs.declared.code.Code.TheVariants as code

@@ -1,13 +1,13 @@
 -- What holds of a world where the next part of a line begins, and what a part moves.
 use Rattle.std.proofs.Common.{◌≡◌, Bool, true, false, cond, ◌&&◌, ◌||◌, not, Option, None, List, [], ◌∷◌, ◌++◌, map, refl, sym, ap, subst, ◌∙◌, is_none}
-use Rattle.std.specs.List.{list_all, list_any}
+use Rattle.std.specs.List.{list_any}
 use Rattle.tier_base.specs.declared.number.TableId.{TableId}
 use Rattle.table_state.specs.declared.history.Sealed.{Sealed}
 use Rattle.table_state.specs.declared.operation.Op.{Op}
 use Rattle.table_state.specs.Operations.{table_of}
 use Rattle.cache_tier.specs.Groups.{Group, covers, is_asynchronous, is_synchronous, is_table_of}
 use Rattle.cache_tier.specs.StandingBetween.{Each, Stands}
-use Rattle.cache_tier.specs.TierStates.{Session, Tier, at_rest, is_labelled}
+use Rattle.cache_tier.specs.TierStates.{Session, at_rest, is_labelled}
 use Rattle.cache_tier.specs.Worlds.{IsUnshared, World}
 use Rattle.recovery.specs.Journalled.{AreAlike, IsAlike, IsJournalled, IsJournalledOn}
 use Rattle.line_laws.proofs.PartWords.{unshared_still}

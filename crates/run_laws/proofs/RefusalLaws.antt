@@ -1,7 +1,6 @@
 -- What the refusals of statements see to.
-use Rattle.std.proofs.Common.{◌≡◌, ◌⊎◌, inl, inr, ℕ, Bool, true, false, not, cond, ◌&&◌, ◌||◌, nat_eq, Option, Some, None, Result, Ok, Err, List, [], ◌∷◌, ◌++◌, map, find, slice_get, refl, sym, ap, subst, ◌∙◌}
+use Rattle.std.proofs.Common.{◌≡◌, ℕ, Bool, true, false, not, cond, ◌&&◌, nat_eq, Option, Some, None, Ok, Err, List, [], ◌∷◌, find, slice_get, refl, sym, ap, subst, ◌∙◌}
 use Rattle.std.specs.Prelude.{nat_lt}
-use Rattle.std.specs.List.{list_any}
 use Rattle.std.specs.Option.{option_and_then, option_map, option_or}
 use Rattle.std.proofs.lemmas.Bool.{eqb-true}
 use Rattle.tier_base.specs.declared.code.Code.TheVariants as code
@@ -25,10 +24,10 @@ use Rattle.order_laws.proofs.TruthLaws.{same_some}
 use Rattle.evaluator.specs.declared.change.Change.{Change}
 use Rattle.transactions.specs.Transactions.{Done as Written}
 use Rattle.outside.specs.Console.{IsDone}
-use Rattle.resolution.specs.Writes.{PlacedChange, change_seen, named_writes, resolved_writes}
+use Rattle.resolution.specs.Writes.{PlacedChange, named_writes, resolved_writes}
 use Rattle.sql_query.specs.declared.write.Write.{Write}
 use Rattle.sql_subset.specs.declared.stmt.Stmt.TheVariants as statement
-use Rattle.cache_tier.specs.CommitSteps.{is_synchronous_own, sealed_own}
+use Rattle.cache_tier.specs.CommitSteps.{sealed_own}
 use Rattle.cache_tier.specs.ConsoleSteps.{first_writethrough, refers_to_writethrough, table_fault, writes_fault}
 use Rattle.cache_tier.specs.Groups.{Group, group_at, place_called}
 use Rattle.cache_tier.specs.Order.{Broken, drop_broken, first_broken, nothing_broken, of_group, refusal}

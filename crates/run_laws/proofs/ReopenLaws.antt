@@ -1,7 +1,6 @@
 -- The tier that is opened again keeps its journal, from which it was opened.
-use Rattle.std.proofs.Common.{◌≡◌, ◌⊎◌, inl, inr, ℕ, suc, ◌+◌, ◌≤◌, Bool, true, false, cond, Option, Some, None, Result, Ok, Err, List, [], ◌∷◌, ◌++◌, map, filter, refl, sym, ap, subst, ◌∙◌, arith, append-nil}
+use Rattle.std.proofs.Common.{◌≡◌, ℕ, suc, ◌≤◌, Bool, true, false, Option, Some, None, List, [], ◌∷◌, ◌++◌, refl, sym, ap, subst, ◌∙◌, arith, append-nil}
 use Rattle.std.specs.List.{list_all, list_any}
-use Rattle.table_state.specs.declared.history.Entry.{Entry}
 use Rattle.table_state.specs.declared.history.Sealed.{Sealed}
 use Rattle.table_state.specs.Tables.{TableState}
 use Rattle.order_laws.specs.Commits.{pending}
@@ -9,19 +8,18 @@ use Rattle.recovery_laws.specs.Crashes.{AreHeld}
 use Rattle.recovery_laws.specs.Notes.{Note, log_in}
 use Rattle.cache_tier.specs.declared.reply.Reply.{Reply}
 use Rattle.cache_tier.specs.Events.{with_tier}
-use Rattle.cache_tier.specs.Groups.{Group, with_keys}
-use Rattle.cache_tier.specs.Journals.{Journal, JournalEntry, next_behind}
+use Rattle.cache_tier.specs.Groups.{Group}
+use Rattle.cache_tier.specs.Journals.{JournalEntry, next_behind}
 use Rattle.cache_tier.specs.JournalWays.{given}
 use Rattle.cache_tier.specs.Reading.{ReadsFirst, as_it_was, backing_at}
 use Rattle.cache_tier.specs.Rounds.{Applies}
 use Rattle.cache_tier.specs.Sets.{alone, changed, changed_from, refreshed}
 use Rattle.cache_tier.specs.StandingBetween.{Each, Stands}
 use Rattle.cache_tier.specs.TierStates.{Session, Settings, Tier, opened}
-use Rattle.cache_tier.specs.Worlds.{Becomes, IsUnshared, OnlyWhere, Stage, StageFollows, ThenStage, World}
-use Rattle.recovery.specs.Journalled.{AreAlike, IsAlike, IsJournalled, IsJournalledOn, IsQuiet}
-use Rattle.recovery.specs.Recalling.{AreMatched, RecallsAll, notes_of, recalled}
-use Rattle.recovery.specs.Reopening.{HoldAgain, HoldsAgainAt, IsReopened, Reloads, Reopens, ViewsAgain, holding, is_held_again, is_viewed_again, with_sets_begun}
-use Rattle.recovery.proofs.JournalledLaws.{alike_trans}
+use Rattle.cache_tier.specs.Worlds.{Becomes, IsUnshared, OnlyWhere, StageFollows, World}
+use Rattle.recovery.specs.Journalled.{AreAlike, IsJournalled, IsQuiet}
+use Rattle.recovery.specs.Recalling.{RecallsAll, notes_of, recalled}
+use Rattle.recovery.specs.Reopening.{HoldAgain, HoldsAgainAt, IsReopened, Reloads, ViewsAgain, holding, is_held_again, is_viewed_again, with_sets_begun}
 use Rattle.recovery.proofs.LeftLaws.{Leaves, all_same, alike_back}
 use Rattle.recovery.proofs.OthersLaws.{on_then}
 use Rattle.recovery.proofs.RecalledLaws.{folded, stands_recalled}
@@ -29,8 +27,11 @@ use Rattle.line_laws.proofs.PartWords.{Any, Goes, GoesStage, becomes_goes, only_
 use Rattle.line_laws.proofs.QuietTiers.{alike_changed, quiet_groups, refreshed_quiet}
 use Rattle.line_laws.proofs.RoundLaws.{Rounded, applied, drained_end}
 use Rattle.line_laws.proofs.LoadStatements.{round_unshared}
-use Rattle.run_laws.specs.Lines.{AreOfKinds, IsOfOneKind, are_later}
+use Rattle.order_laws.proofs.TruthLaws.{same_some}
+use Rattle.table_state.specs.Histories.{state_of}
+use Rattle.run_laws.specs.Lines.{IsLeft, IsOfOneKind, are_later}
 use Rattle.run_laws.specs.Runs.{IsKeptOf, Reopened}
+use Rattle.run_laws.proofs.RunKeeps.{survives}
 use Rattle.run_laws.proofs.SitsLaws.{Sits, StageSits, becomes_sits, changed_sits, kept, only_where_sits, passes_sits, reads_first_sits, then_stage_sits}
 use Rattle.run_laws.proofs.StandLaws.{IsSeenAs, seen_as, stands_seen}
 
@@ -155,3 +156,13 @@ module _ (settings : Settings) (moment : ℕ) (entries : List JournalEntry) (w w
 
 pub reopened_kept : (settings : Settings) (moment : ℕ) (entries : List JournalEntry) (w w' : World) (early : List Sealed) (x : IsReopened settings moment entries w w' None) → IsKeptOf entries w.journal → AreHeld (notes_of x.matched.backing.schema entries) w.history early → IsUnshared w → Reopened w' early
 reopened_kept settings moment entries w w' early x j held apart = reopened settings moment entries w w' early x j held apart
+
+-- after a crash between two lines
+pub begun_again : (w v v' : World) (early : List Sealed) (settings : Settings) (moment : ℕ) → IsLeft w → IsJournalled w early → v.history ≡ w.history → IsKeptOf w.journal.flushed v.journal → IsUnshared v → IsReopened settings moment w.journal.flushed v v' None → Reopened v' early
+begun_again w v v' early settings moment left j same kept apart x =
+    let c = (survives w early settings moment left j).crash in
+    let backing : c.matched.backing ≡ x.matched.backing = same_some (sym c.matched.leaves ∙ ap state_of (sym same) ∙ x.matched.leaves) in
+    let there : AreHeld (notes_of c.matched.backing.schema w.journal.flushed) v.history c.left.front = subst (λ h. AreHeld (notes_of c.matched.backing.schema w.journal.flushed) h c.left.front) (sym same) c.left.held in
+    let held : AreHeld (notes_of x.matched.backing.schema w.journal.flushed) v.history c.left.front = subst (λ (b : TableState). AreHeld (notes_of b.schema w.journal.flushed) v.history c.left.front) backing there in
+    let r = reopened_kept settings moment w.journal.flushed v v' c.left.front x kept held apart in
+    record { on = on_then v' early c.left.front c.left.more c.left.durable_are r.on; unshared = r.unshared; kinds = r.kinds }

@@ -1,5 +1,5 @@
 -- A list of lines keeps the journal the tier's, and behind each a crash leaves what the tier needs that is opened again.
-use Rattle.std.proofs.Common.{◌≡◌, ℕ, ◌+◌, ◌≤◌, ◌^◌, Option, Some, None, List, [], ◌∷◌, ◌++◌, sym, ap, subst, arith}
+use Rattle.std.proofs.Common.{ℕ, ◌≤◌, ◌^◌, Option, Some, None, List, [], ◌∷◌, sym, subst}
 use Rattle.table_state.specs.declared.history.Sealed.{Sealed}
 use Rattle.cache_tier.specs.declared.reply.Reply.{Reply}
 use Rattle.cache_tier.specs.Steps.{Asked}
@@ -9,7 +9,7 @@ use Rattle.recovery.specs.Journalled.{IsJournalled}
 use Rattle.recovery.proofs.LeftLaws.{crash_leaves}
 use Rattle.recovery.proofs.RecalledLaws.{stands_recalled}
 use Rattle.run_laws.specs.Lines.{IsLeft, IsLeftBy, MayBegin}
-use Rattle.run_laws.specs.Runs.{Keeps, KeepsThrough, Passes, RunsOn, Survives}
+use Rattle.run_laws.specs.Runs.{KeepsThrough, RunsOn, Survives}
 use Rattle.run_laws.proofs.LineLaws.{step_kept, step_kinds}
 
 -- a ticket is left
@@ -32,7 +32,7 @@ run_kept w w' (line ∷ lines) [] early m j q = absurd q
 run_kept w w' (line ∷ lines) (reply ∷ replies) early m j (mid, p, rest) =
     let on = step_kept line.base w mid line.said reply early m j p.goes_on.left p.slot p.whole p.does in
     let kinds = step_kinds line.base w mid line.said reply early m j p.goes_on.left p.slot p.whole p.does in
-    let begins : MayBegin mid = record { left = p.goes_on.left; unshared = p.goes_on.unshared; ageless = p.goes_on.ageless; kinds = kinds } in (
+    let begins : MayBegin mid = record { goes_on = p.goes_on; kinds = kinds } in (
       mid,
       on.now,
       p.does,

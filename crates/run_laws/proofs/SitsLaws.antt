@@ -1,19 +1,18 @@
 -- Parts that leave the definitions of groups, the schema and the sessions as they are, and add nothing unsettled.
-use Rattle.std.proofs.Common.{◌≡◌, ◌⊎◌, inl, inr, ℕ, suc, Bool, true, false, cond, not, Option, Some, None, Result, Ok, Err, List, [], ◌∷◌, ◌++◌, map, filter, refl, sym, ap, subst, ◌∙◌}
+use Rattle.std.proofs.Common.{◌≡◌, inl, inr, ℕ, suc, Bool, true, false, cond, Option, Some, None, Result, Ok, Err, List, [], ◌∷◌, refl, sym, ap, subst, ◌∙◌}
 use Rattle.std.specs.Bool.{MatchBool}
 use Rattle.std.specs.List.{list_all}
 use Rattle.row_types.specs.declared.rule.Rule.{Rule}
-use Rattle.table_defs.specs.declared.definition.TableDef.{TableDef}
 use Rattle.table_state.specs.declared.history.Sealed.{Sealed}
 use Rattle.outside.specs.declared.fault.BankError.{BankError}
 use Rattle.cache_tier.specs.declared.reply.Reply.{Reply}
 use Rattle.cache_tier.specs.Groups.{Group, definitions_of}
-use Rattle.cache_tier.specs.JournalSteps.{Flushes, FlushesFitting, FlushesKept, FlushesSome, Notes, NotesKept, Records, has_entries, journal_full}
+use Rattle.cache_tier.specs.JournalSteps.{Flushes, FlushesFitting, FlushesKept, FlushesSome, NotesKept, Records, has_entries, journal_full}
 use Rattle.cache_tier.specs.Journals.{JournalEntry}
 use Rattle.cache_tier.specs.Reading.{Answers, FollowsAt, Reads, ReadsFirst, StageFollowsAt}
 use Rattle.cache_tier.specs.Rounds.{Round, RoundIfUnsettled, is_unsettled}
 use Rattle.cache_tier.specs.Sets.{Choice, changed, changed_from}
-use Rattle.cache_tier.specs.TierStates.{Session, Tier}
+use Rattle.cache_tier.specs.TierStates.{Tier}
 use Rattle.cache_tier.specs.Worlds.{Answer, Becomes, Follows, OnlyWhere, Part, Passes, Quiet, Refuses, Stage, StageFollows, Then, ThenStage, Tries, Unless, World}
 use Rattle.recovery.specs.Journalled.{AreAlike}
 use Rattle.run_laws.proofs.DueLaws.{round_all, round_sits}

@@ -1,89 +1,48 @@
 -- Statements that leave the definitions of groups, the schema and the sessions as they are.
-use Rattle.tier_base.specs.declared.limit.Limit.TheVariants as limit
-use Rattle.cache_tier.specs.Rules.{at_limit}
 use Rattle.std.specs.Option.{option_or}
-use Rattle.std.proofs.Common.{◌≡◌, inl, inr, ℕ, List, [], ◌∷◌, ◌++◌, Bool, true, false, cond, Option, Some, None, Result, Ok, Err, sym, ap, subst, arith, refl, ◌∙◌, ◌<◌, ◌+◌, ◌⊎◌, zero, suc, ◌||◌, length}
+use Rattle.std.proofs.Common.{◌≡◌, ℕ, List, [], ◌∷◌, Bool, true, false, cond, Option, Some, None, Result, Ok, Err, refl, ◌∙◌}
 use Rattle.row_types.specs.declared.rule.Rule.{Rule}
 use Rattle.row_types.specs.declared.value.Value.{Value}
-use Rattle.tier_base.specs.declared.number.TableId.{TableId}
-use Rattle.table_defs.specs.declared.definition.TableDef.{TableDef}
-use Rattle.table_state.specs.declared.history.Entry.{Entry}
-use Rattle.table_state.specs.declared.history.Sealed.{Sealed}
 use Rattle.table_state.specs.declared.operation.Op.{Op}
-use Rattle.table_state.specs.declared.operation.Op.TheVariants.{Insert, Update, Delete}
 use Rattle.table_state.specs.Tables.{TableState}
-use Rattle.evaluator.specs.declared.change.Change.{Change}
 use Rattle.evaluator.specs.declared.plan.Plan.{Plan}
-use Rattle.outside.specs.Bank.{AppliesOnce, Defines, TellsRecorded, TellsRow, TellsSchema}
-use Rattle.outside.specs.Console.{WritesForeign}
 use Rattle.outside.specs.declared.fault.BankError.{BankError}
 use Rattle.outside.specs.declared.fault.BankError.TheVariants.{Failed, Memory}
-use Rattle.outside.specs.declared.site.Applied.{Applied}
-use Rattle.outside.specs.declared.site.Applied.TheVariants.{Now, Before, NotReady, Differs}
 use Rattle.outside.specs.declared.site.Done.{Done as Wrote}
 use Rattle.outside.specs.declared.site.Done.TheVariants.{Rows, Broken}
 use Rattle.resolution.specs.Queries.{PlacedQuery}
 use Rattle.resolution.specs.Writes.{PlacedChange}
-use Rattle.sql_query.specs.declared.write.Write.{Write}
-use Rattle.cache_tier.specs.declared.reply.Note.{Note}
-use Rattle.cache_tier.specs.declared.reply.Last.TheVariants.{Done}
-use Rattle.cache_tier.specs.declared.reply.Reply.{Reply}
 use Rattle.sql_subset.specs.declared.stmt.Alter.{Alter}
-use Rattle.sql_subset.specs.declared.request.ConsoleRequest.{ConsoleRequest}
-use Rattle.sql_subset.specs.declared.request.ConsoleRequest.TheVariants as console
-use Rattle.sql_subset.specs.declared.stmt.CreateGroup.{CreateGroup}
-use Rattle.sql_subset.specs.declared.request.Line.{Line}
-use Rattle.sql_subset.specs.declared.request.Line.TheVariants as says
 use Rattle.sql_subset.specs.declared.stmt.Load.{Load}
 use Rattle.sql_subset.specs.declared.stmt.OfGroup.{OfGroup}
 use Rattle.sql_subset.specs.declared.stmt.RefreshState.{RefreshState}
 use Rattle.sql_subset.specs.declared.stmt.RefreshState.TheVariants.{On, Off, Paused}
-use Rattle.sql_subset.specs.declared.request.Request.{Request}
-use Rattle.sql_subset.specs.declared.request.Request.TheVariants as asks_for
-use Rattle.sql_subset.specs.declared.stmt.Stmt.{Stmt}
-use Rattle.sql_subset.specs.declared.stmt.Stmt.TheVariants as statement
 use Rattle.sql_subset.specs.declared.stmt.Which.{Which}
 use Rattle.cache_tier.specs.AlterSteps.{Alters, AltersTo, SetsStateAlone, SetsStateRefreshed, altered_entries, joins_something, refreshed_state, state_answer, with_state}
-use Rattle.cache_tier.specs.declared.called.Called.{Called}
-use Rattle.cache_tier.specs.declared.called.Called.TheVariants.{Drain, RefreshSet, SetLevel}
-use Rattle.cache_tier.specs.ChangeSteps.{Changes}
-use Rattle.cache_tier.specs.CommitSteps.{AppliesNow, committed_unsettled, sealed_own, CommitsLater, CommitsNow, CommitsOwn, after_applied, is_synchronous_own}
 use Rattle.cache_tier.specs.Conditions.{asks_all, overflow_fault}
-use Rattle.cache_tier.specs.ConsoleSteps.{Asked, AsksSchema, Creates, DoesConsole, WritesAll, after_define, asks_schema, told}
-use Rattle.cache_tier.specs.DefineSteps.{CreatesGroup, define_answer}
-use Rattle.cache_tier.specs.DoubtSteps.{AsksRecorded, SettlesDoubt, settled}
-use Rattle.cache_tier.specs.DropSteps.{DropsAt, DropsGroup, DropsRest, drop_answer}
-use Rattle.cache_tier.specs.DueWork.{DueAging, DueDoubt, DueRound, DueSets, DueSetsOf, DueWork, Item, ItemFollows, ThenItem, due_sets, is_round_due}
 use Rattle.cache_tier.specs.DynamicLoads.{Brings, BringsAt, BringsInto, BringsReadOnly, BringsWritethrough, LoadsWanted, joined_tier, state_entries, state_loaded, with_found, with_found_at}
-use Rattle.cache_tier.specs.Groups.{Group, is_explicit, is_read_only, is_writethrough, with_keys, without_keys}
-use Rattle.cache_tier.specs.InsertSteps.{Finds, Inserts, insert_answer, insert_fault}
-use Rattle.cache_tier.specs.JournalSteps.{Flushes, FlushesKept, NotesKept, Records, journal_fault}
-use Rattle.cache_tier.specs.Journals.{Drops, JournalEntry, Numbers, Commits, Prepares}
+use Rattle.cache_tier.specs.Groups.{Group, is_explicit, is_read_only, with_keys, without_keys}
+use Rattle.cache_tier.specs.JournalSteps.{journal_fault}
+use Rattle.cache_tier.specs.Journals.{Numbers}
 use Rattle.cache_tier.specs.LoadSteps.{Loads, LoadsReadOnly, LoadsWritethrough, added_answer, gained_answer, gains}
-use Rattle.cache_tier.specs.Locks.{lock_fault}
-use Rattle.cache_tier.specs.PassedSteps.{PassesOn, PassesWrite, WritesPassed, after_passed, with_ticket, ticket_fault}
-use Rattle.cache_tier.specs.Reading.{Answers, backing_at}
+use Rattle.cache_tier.specs.PassedSteps.{PassesOn, after_passed, with_ticket, ticket_fault}
+use Rattle.cache_tier.specs.Reading.{backing_at}
 use Rattle.cache_tier.specs.RefreshSteps.{Refreshes, RefreshesReadOnly, RefreshesWritethrough, held_answer, judged_roots, refreshed_answer}
-use Rattle.cache_tier.specs.Rounds.{Drains, Round}
+use Rattle.cache_tier.specs.Rounds.{Drains}
 use Rattle.cache_tier.specs.Routes.{Cached, PassedOn, Route}
 use Rattle.cache_tier.specs.SelectSteps.{SelectsBy, SelectsOn, SelectsPlaced, plan_of, query_answer}
 use Rattle.cache_tier.specs.Sets.{Choice, RefreshesIfShown, RefreshesSet, alone, at_position, changed, loaded_with, of_set, refreshed, set_tried, shows_something}
-use Rattle.cache_tier.specs.Steps.{Answered, Does, DoesCalled, DoesRequest, DoesStatement, ForSession, GoesThrough, Heeds, Parts, RefreshesCalled, Saying, Says, Silent, TooDeep, TooLong, WrongAt, at_moment, early_fault}
+use Rattle.cache_tier.specs.Steps.{RefreshesCalled}
 use Rattle.cache_tier.specs.Targets.{OnTarget, Settles, Target, backing_roots, has_flag, held_roots, load_entries, loaded_tier, matching, matching_past, view_roots, whole_answer, with_flag}
-use Rattle.cache_tier.specs.TierStates.{ACommit, APassedWrite, Doubt, Doubted, Session, Tier, refresh_tried}
+use Rattle.cache_tier.specs.TierStates.{Session, Tier, refresh_tried}
 use Rattle.cache_tier.specs.UnloadSteps.{Unloads, gone_keys, unload_answer, unload_entries, unload_fault, unloaded}
 use Rattle.cache_tier.specs.Wants.{Want, loaded_want}
-use Rattle.cache_tier.specs.WriteSteps.{WritesBy, WritesEffects, WritesOps, WritesPlaced, WritesShown}
-use Rattle.cache_tier.specs.Undone.{is_undone}
-use Rattle.cache_tier.specs.Worlds.{Answer, Becomes, Follows, OnlyWhere, StageFollows, Part, ThenStage, World, unless, Unless, Then, only}
-use Rattle.std.proofs.lemmas.List.Elements.{Contains-append_cases}
-use Rattle.std.specs.List.{Contains}
+use Rattle.cache_tier.specs.Worlds.{Answer, Part, World}
 use Rattle.cache_tier.specs.Recency.{after_use}
 use Rattle.table_state.specs.declared.footprint.RowKey.{RowKey}
 use Rattle.std.specs.FinMap.{keys}
-use Rattle.recovery.specs.Journalled.{IsQuiet}
-use Rattle.line_laws.proofs.QuietTiers.{use_quiet, writes_quiet}
-use Rattle.run_laws.proofs.SitsLaws.{PartSits, Sits, StageSits, alike_defs, answers_sits, becomes_sits, changed_sits, either_sits, flushes_sits, flushes_some_sits, kept, of_tier, only_where_sits, passes_sits, quiet, reads_first_sits, reads_sits, refuses_sits, regrouped, round_if_unsettled_sits, rounds_sit, same, sits_on, then_sits, then_stage_sits, tries_sits, unless_sits}
+use Rattle.line_laws.proofs.QuietTiers.{use_quiet}
+use Rattle.run_laws.proofs.SitsLaws.{PartSits, Sits, StageSits, alike_defs, answers_sits, becomes_sits, changed_sits, either_sits, flushes_sits, flushes_some_sits, kept, of_tier, only_where_sits, passes_sits, quiet, reads_first_sits, reads_sits, refuses_sits, round_if_unsettled_sits, rounds_sit, same, sits_on, then_sits, then_stage_sits, tries_sits, unless_sits}
 
 -- ---- what is changed of groups
 

@@ -1,44 +1,31 @@
 -- What a line does behind what is due keeps the journal the tier's.
-use Rattle.std.proofs.Common.{◌≡◌, ◌⊎◌, inl, inr, ℕ, Bool, true, false, cond, ◌&&◌, ◌||◌, nat_eq, Option, Some, None, Result, Ok, Err, List, [], ◌∷◌, ◌++◌, map, find, refl, sym, ap, subst, ◌∙◌}
-use Rattle.std.specs.List.{list_any}
-use Rattle.std.specs.Option.{option_or}
-use Rattle.std.proofs.lemmas.Bool.{eqb-true}
+use Rattle.std.proofs.Common.{◌≡◌, ℕ, false, Option, Some, None, Result, Ok, Err, List, refl}
 use Rattle.tier_base.specs.declared.code.Code.TheVariants as code
 use Rattle.row_types.specs.declared.rule.Rule.{Rule}
-use Rattle.table_defs.specs.Names.{same_name}
-use Rattle.table_defs.specs.declared.definition.TableDef.{TableDef}
 use Rattle.table_state.specs.declared.history.Sealed.{Sealed}
-use Rattle.table_state.specs.declared.operation.Op.{Op}
-use Rattle.order_laws.proofs.TruthLaws.{same_some}
 use Rattle.resolution.specs.Writes.{PlacedChange}
-use Rattle.sql_query.specs.declared.write.Write.{Write}
 use Rattle.sql_subset.specs.declared.request.ConsoleRequest.{ConsoleRequest}
 use Rattle.sql_subset.specs.declared.request.ConsoleRequest.TheVariants as console
 use Rattle.sql_subset.specs.declared.request.Line.{Line}
 use Rattle.sql_subset.specs.declared.request.Line.TheVariants as says
 use Rattle.sql_subset.specs.declared.request.Request.{Request}
 use Rattle.sql_subset.specs.declared.request.Request.TheVariants as asks_for
-use Rattle.sql_subset.specs.declared.stmt.CreateGroup.{CreateGroup}
 use Rattle.sql_subset.specs.declared.stmt.Stmt.{Stmt}
 use Rattle.sql_subset.specs.declared.stmt.Stmt.TheVariants as statement
 use Rattle.cache_tier.specs.declared.called.Called.{Called}
 use Rattle.cache_tier.specs.declared.called.Called.TheVariants.{Drain, RefreshSet, SetLevel}
 use Rattle.cache_tier.specs.declared.reply.Reply.{Reply}
 use Rattle.cache_tier.specs.Called.{called}
-use Rattle.cache_tier.specs.CommitSteps.{is_synchronous_own, sealed_own}
 use Rattle.cache_tier.specs.ConsoleSteps.{Creates, DoesConsole, WritesAll, asks_schema, table_fault, writes_fault}
-use Rattle.cache_tier.specs.DefineSteps.{CreatesGroup}
 use Rattle.table_defs.specs.Declarations.{resolved}
-use Rattle.cache_tier.specs.Groups.{Group, is_called, is_synchronous, is_table_of}
 use Rattle.cache_tier.specs.Order.{refusal}
-use Rattle.cache_tier.specs.Routes.{Cached, PassedOn, Route, visible, write_route}
-use Rattle.cache_tier.specs.StandingBetween.{Each, Stands}
+use Rattle.cache_tier.specs.Routes.{Cached, PassedOn, Route, write_route}
 use Rattle.cache_tier.specs.Steps.{Does, DoesCalled, DoesRequest, DoesStatement, ForSession, tells}
-use Rattle.cache_tier.specs.TierStates.{Session, Tier, is_labelled, level_of, session_of}
+use Rattle.cache_tier.specs.TierStates.{Session, level_of, session_of}
 use Rattle.cache_tier.specs.Worlds.{Unless, World}
 use Rattle.cache_tier.specs.WriteSteps.{WritesBy, WritesPlaced}
 use Rattle.recovery.specs.Journalled.{IsJournalledOn}
-use Rattle.line_laws.specs.Keeping.{AreOffLive, IsOffLive, MeetsIfAtOnce, RenewsSettled}
+use Rattle.line_laws.specs.Keeping.{RenewsSettled}
 use Rattle.line_laws.proofs.AtOnceStatements.{commits_kept}
 use Rattle.line_laws.proofs.CommitStatements.{drops_kept}
 use Rattle.line_laws.proofs.ConsoleStatements.{console_kept}

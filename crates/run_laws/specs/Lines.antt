@@ -1,7 +1,7 @@
 -- A tier with its journal between two lines: it stands, or the commit of a session is in doubt. (This project's rule,
 -- over the synchronous writethrough cache groups of the TimesTen Cache User's Guide.)
 
-use Rattle.std.specs.Prelude.{◌≡◌, ◌+◌, ◌^◌, ◌≤◌, ℕ, Bool, true, false, is_none, Option, Some, None, List, [], Err}
+use Rattle.std.specs.Prelude.{◌≡◌, ◌+◌, ◌^◌, ◌≤◌, Bool, true, is_none, Option, Some, None, List, [], Err}
 use Rattle.std.specs.List.{list_all, list_any}
 use Rattle.table_state.specs.declared.history.Sealed.{Sealed}
 use Rattle.table_state.specs.declared.operation.Op.{Op}
@@ -26,7 +26,8 @@ are_later groups unsettled = list_all (λ (x : Sealed). are_on_kind is_asynchron
 -- Where one of the operations is on a table of a synchronous group, all are.
 abbrev pub IsOfOneKind : List Group → List Op → Type 0
 IsOfOneKind groups ops =
-    list_any (λ op. is_table_of is_synchronous groups (table_of op)) ops ≡ true → are_on_kind is_synchronous groups ops ≡ true
+    list_any (λ op. is_table_of is_synchronous groups (table_of op)) ops ≡ true
+    → are_on_kind is_synchronous groups ops ≡ true
 
 -- What is unsettled is on tables of asynchronous groups, and each open session has written tables of one kind.
 pub record AreOfKinds (t : Tier) : Type 0 where
@@ -59,8 +60,8 @@ IsLeftBy (Some d) w = IsInDoubt w
 abbrev pub IsLeft : World → Type 0
 IsLeft w = IsLeftBy w.tier.doubt w
 
--- What is asked of a world between two lines: the tier stands, or a commit is in doubt; others change no table of a live
--- writethrough group; and no group ages.
+-- What is asked of a world between two lines: the tier stands, or a commit is in doubt; others change no table of a
+-- live writethrough group; and no group ages.
 pub record MayGoOn (w : World) : Type 0 where
   pub left : IsLeft w
   pub unshared : IsUnshared w
@@ -69,9 +70,7 @@ pub record MayGoOn (w : World) : Type 0 where
 -- What is asked of a world where a line begins: this, and what is unsettled, and what sessions have written, is of one
 -- kind each.
 pub record MayBegin (w : World) : Type 0 where
-  pub left : IsLeft w
-  pub unshared : IsUnshared w
-  pub ageless : are_ageless w.tier.groups ≡ true
+  pub goes_on : MayGoOn w
   pub kinds : AreOfKinds w.tier
 
 -- no slot was begun anew

@@ -1,7 +1,7 @@
 -- A line, and a list of lines, with a journal that is the tier's; and what a crash leaves behind each of them. (This
 -- project's rule, over recovery as the TimesTen Cache User's Guide tells of it.)
 
-use Rattle.std.specs.Prelude.{◌≡◌, ℕ, true, false, List, [], ◌∷◌, ◌++◌, Option, Some, None}
+use Rattle.std.specs.Prelude.{◌≡◌, ℕ, true, false, List, [], ◌∷◌, ◌++◌, Option}
 use Rattle.table_state.specs.declared.history.Sealed.{Sealed}
 use Rattle.cache_tier.specs.declared.reply.Reply.{Reply}
 use Rattle.cache_tier.specs.Events.{with_tier}
@@ -23,7 +23,8 @@ StepKeepsJournal =
     → IsJournalled w early → IsLeft w' → KeepsSlot w w' → is_broken reply ≡ false → Step base w said w' reply
     → IsJournalledOn w' early
 
--- Behind it what is unsettled is on tables of asynchronous groups still, and each session has written tables of one kind.
+-- Behind it what is unsettled is on tables of asynchronous groups still, and each session has written tables of one
+-- kind.
 abbrev pub StepKeepsKinds : Type 0
 StepKeepsKinds =
     (base : ℕ) (w w' : World) (said : Saying) (reply : Option Reply) (early : List Sealed) → MayBegin w

@@ -1,6 +1,6 @@
 //! Laws of whole lines, each on the contract of a function that does nothing. They are this project's rules.
 
-ghost use Rattle.std.specs.Prelude.{ℕ, List, Option, None};
+ghost use Rattle.std.specs.Prelude.{◌≡◌, ℕ, List, Option, None};
 ghost use Rattle.table_state.specs.declared.history.Sealed.{Sealed};
 ghost use Rattle.cache_tier.specs.declared.reply.Reply.{Reply};
 ghost use Rattle.cache_tier.specs.Journals.{JournalEntry};
@@ -14,16 +14,16 @@ ghost use Rattle.recovery_laws.specs.Crashes.{AreHeld};
 ghost use Rattle.run_laws.specs.Lines.{IsLeft, MayBegin};
 ghost use Rattle.run_laws.specs.Runs.{IsKeptOf, KeepsThrough, Reopened, RunsOn, StepKeepsJournal, StepKeepsKinds, Survives};
 
-/// A line, whatever it says, keeps the journal the tier's, and what was held is held (`journal`). What is unsettled is on
-/// tables of asynchronous groups behind it, and each session has written tables of synchronous groups alone, or of none
-/// (`kinds`).
+/// A line, whatever it says, keeps the journal the tier's, and what was held is held (`journal`). What is unsettled is
+/// on tables of asynchronous groups behind it, and each session has written tables of synchronous groups alone, or of
+/// none (`kinds`).
 pub fn line_law()
     ensures journal { StepKeepsJournal }
     ensures kinds { StepKeepsKinds }
 {}
 
-/// Where the tier stands or a commit is in doubt, and the journal is the tier's, a crash leaves entries whose tier stands
-/// over the history (`survives`). So it is behind each line of a run, and all that was held before is held
+/// Where the tier stands or a commit is in doubt, and the journal is the tier's, a crash leaves entries whose tier
+/// stands over the history (`survives`). So it is behind each line of a run, and all that was held before is held
 /// (`keeps_through`).
 pub fn run_law()
     ensures survives { (w : World) (early : List Sealed) (settings : Settings) (moment : ℕ) → IsLeft w
@@ -32,10 +32,15 @@ pub fn run_law()
         → MayBegin w → IsJournalled w early → RunsOn w lines replies w' → KeepsThrough w early lines replies w' }
 {}
 
-/// The tier that is opened again over a journal whose entries are all flushed keeps it: the journal is its own behind the
-/// opening, which writes nothing to it, and what the entries and the history hold is held. So a run may begin there.
+/// The tier that is opened again over a journal whose entries are all flushed keeps it: the journal is its own behind
+/// the opening, which writes nothing to it, and what the entries and the history hold is held (`reopens`). So it is
+/// after a crash between two lines, over the entries that were flushed then: all that was held is held (`again`). A run
+/// may begin there.
 pub fn reopened_law()
-    ensures { (settings : Settings) (moment : ℕ) (entries : List JournalEntry) (w w' : World) (early : List Sealed)
-        (x : IsReopened settings moment entries w w' None) → IsKeptOf entries w.journal
+    ensures reopens { (settings : Settings) (moment : ℕ) (entries : List JournalEntry) (w w' : World)
+        (early : List Sealed) (x : IsReopened settings moment entries w w' None) → IsKeptOf entries w.journal
         → AreHeld (notes_of x.matched.backing.schema entries) w.history early → IsUnshared w → Reopened w' early }
+    ensures again { (w v v' : World) (early : List Sealed) (settings : Settings) (moment : ℕ) → IsLeft w
+        → IsJournalled w early → v.history ≡ w.history → IsKeptOf w.journal.flushed v.journal → IsUnshared v
+        → IsReopened settings moment w.journal.flushed v v' None → Reopened v' early }
 {}
