@@ -60,6 +60,11 @@ pub record Keeps (w : World) (early now : List Sealed) : Type 0 where
   pub journalled : IsJournalled w now
   pub survives : (settings : Settings) (moment : ℕ) → Survives w now settings moment
 
+-- so it is, for some of them
+pub record KeepsOn (w : World) (early : List Sealed) : Type 0 where
+  pub now : List Sealed
+  pub keeps : Keeps w early now
+
 -- so it is behind each line of a run
 abbrev pub KeepsThrough : World → List Sealed → List Asked → List (Option Reply) → World → Type 0
 KeepsThrough w early [] [] w' = w' ≡ w

@@ -1,18 +1,19 @@
 //! Laws of whole lines, each on the contract of a function that does nothing. They are this project's rules.
 
-ghost use Rattle.std.specs.Prelude.{◌≡◌, ℕ, List, Option, None};
+ghost use Rattle.std.specs.Prelude.{◌≡◌, false, ℕ, List, Option, None};
 ghost use Rattle.table_state.specs.declared.history.Sealed.{Sealed};
 ghost use Rattle.cache_tier.specs.declared.reply.Reply.{Reply};
-ghost use Rattle.cache_tier.specs.Journals.{JournalEntry};
-ghost use Rattle.cache_tier.specs.Steps.{Asked};
+ghost use Rattle.cache_tier.specs.Journals.{Journal, JournalEntry};
+ghost use Rattle.cache_tier.specs.Steps.{Asked, Finishes};
 ghost use Rattle.cache_tier.specs.TierStates.{Settings};
 ghost use Rattle.cache_tier.specs.Worlds.{IsUnshared, World};
-ghost use Rattle.recovery.specs.Journalled.{IsJournalled};
+ghost use Rattle.recovery.specs.Journalled.{IsFlushed, IsJournalled};
 ghost use Rattle.recovery.specs.Recalling.{notes_of};
 ghost use Rattle.recovery.specs.Reopening.{IsReopened};
 ghost use Rattle.recovery_laws.specs.Crashes.{AreHeld};
+ghost use Rattle.line_laws.specs.Keeping.{is_broken};
 ghost use Rattle.run_laws.specs.Lines.{IsLeft, MayBegin};
-ghost use Rattle.run_laws.specs.Runs.{IsKeptOf, KeepsThrough, Reopened, RunsOn, StepKeepsJournal, StepKeepsKinds, Survives};
+ghost use Rattle.run_laws.specs.Runs.{IsKeptOf, KeepsOn, KeepsThrough, Reopened, RunsOn, StepKeepsJournal, StepKeepsKinds, Survives};
 
 /// A line, whatever it says, keeps the journal the tier's, and what was held is held (`journal`). What is unsettled is
 /// on tables of asynchronous groups behind it, and each session has written tables of synchronous groups alone, or of
@@ -30,6 +31,15 @@ pub fn run_law()
         → IsJournalled w early → Survives w early settings moment }
     ensures keeps_through { (w w' : World) (lines : List Asked) (replies : List (Option Reply)) (early : List Sealed)
         → MayBegin w → IsJournalled w early → RunsOn w lines replies w' → KeepsThrough w early lines replies w' }
+{}
+
+/// A flush of the tail comes whole or not at all. Before it a crash leaves what is needed, as `run_law` tells; so it does
+/// behind it (`flushed`), and behind the flush at the end of the input (`ended`), whether a commit is in doubt or not.
+pub fn flush_law()
+    ensures flushed { (w : World) (early : List Sealed) (new : Journal) → IsLeft w → IsJournalled w early
+        → IsFlushed w.journal new → KeepsOn (record w { journal = new }) early }
+    ensures ended { (w w' : World) (early : List Sealed) (stop : Option Reply) → IsLeft w → IsJournalled w early
+        → Finishes w w' stop → is_broken stop ≡ false → KeepsOn w' early }
 {}
 
 /// The tier that is opened again over a journal whose entries are all flushed keeps it: the journal is its own behind

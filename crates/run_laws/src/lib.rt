@@ -4,4 +4,4 @@
 
 mod laws;
 
-pub use laws::{line_law, reopened_law, run_law};
+pub use laws::{flush_law, line_law, reopened_law, run_law};
