@@ -33,8 +33,9 @@ pub fn run_law()
         → MayBegin w → IsJournalled w early → RunsOn w lines replies w' → KeepsThrough w early lines replies w' }
 {}
 
-/// A flush of the tail comes whole or not at all. Before it a crash leaves what is needed, as `run_law` tells; so it does
-/// behind it (`flushed`), and behind the flush at the end of the input (`ended`), whether a commit is in doubt or not.
+/// A flush of the tail comes whole or not at all. Before it a crash leaves what is needed, as `run_law` tells; so it
+/// does behind it (`flushed`), and behind the flush at the end of the input (`ended`), whether a commit is in doubt or
+/// not.
 pub fn flush_law()
     ensures flushed { (w : World) (early : List Sealed) (new : Journal) → IsLeft w → IsJournalled w early
         → IsFlushed w.journal new → KeepsOn (record w { journal = new }) early }
