@@ -17,10 +17,11 @@ use Rattle.cache_tier.specs.CommitSteps.{CommitsLater, committed_unsettled, seal
 use Rattle.cache_tier.specs.declared.reply.Reply.{Reply}
 use Rattle.cache_tier.specs.declared.reply.Last.TheVariants.{Done}
 use Rattle.cache_tier.specs.DefineSteps.{CreatesGroup, define_answer, with_new_group}
-use Rattle.cache_tier.specs.Definitions.{IsTreeOf, placed_tables, text_of}
+use Rattle.cache_tier.specs.Defining.{IsNewGroup}
+use Rattle.cache_tier.specs.Definitions.{definition_names, IsTreeOf, placed_tables, text_of}
 use Rattle.cache_tier.specs.Dropping.{MayDrop}
 use Rattle.cache_tier.specs.DropSteps.{DropsGroup, DropsRest, drop_answer, drop_fault, without_group}
-use Rattle.cache_tier.specs.Groups.{Group, covers, is_called, is_writethrough}
+use Rattle.cache_tier.specs.Groups.{definitions_of, Group, covers, is_called, is_writethrough}
 use Rattle.cache_tier.specs.JournalSteps.{Flushes, FlushesSome, NotesKept, Records, journal_fault}
 use Rattle.cache_tier.specs.Journals.{Commits, Defines, Drops}
 use Rattle.cache_tier.specs.Locks.{locked_by, writes_on}
@@ -35,6 +36,7 @@ use Rattle.cache_tier.proofs.GroupTables.{in_tree}
 use Rattle.cache_tier.proofs.SessionLists.{none_passes}
 use Rattle.cache_tier.proofs.UnloadStatements.{map_nothing}
 use Rattle.tier_base.specs.declared.code.Code.TheVariants as code
+use Rattle.recovery.specs.Recalling.{group_of}
 use Rattle.recovery.specs.Journalled.{IsJournalled, IsJournalledOn, IsQuiet, with_commit_noted, with_flushed_entry}
 use Rattle.recovery.proofs.CatalogLaws.{define_kept}
 use Rattle.recovery.proofs.DroppedLaws.{drop_kept}
@@ -91,36 +93,44 @@ commits_later_kept s w w' early reply stands j apart there p q ok = by _ q
 
 -- ---- CREATE
 
-created : (d : CreateGroup) (tree : Tree) (w mid : World) (early : List Sealed) → Stands w → IsJournalled w early → MayCreate d w → IsTreeOf (placed_tables w.tier.schema d) tree → IsWhole (Defines d (text_of d) ∷ []) w mid
-    → IsJournalledOn (record mid { tier = with_new_group d tree mid.tier }) early
-created d tree w mid early stands j may tree_is is =
+created : (d : CreateGroup) (tree : Tree) (w mid : World) (early : List Sealed) → Stands w → IsJournalled w early → definition_names w.tier.schema (definitions_of w.tier.groups) d ≡ None → IsNewGroup w (group_of w.tier d tree) → IsTreeOf (placed_tables w.tier.schema d) tree
+    → IsWhole (Defines d (text_of d) ∷ []) w mid → IsJournalledOn (record mid { tier = with_new_group d tree mid.tier }) early
+created d tree w mid early stands j names new tree_is is =
     one_journalled_on (with_flushed_entry (with_new_group d tree mid.tier) mid.journal w) (record mid { tier = with_new_group d tree mid.tier }) early (record { tier = refl; history = is.history; journal = refl })
-    (define_kept w early d (text_of d) tree (with_new_group d tree mid.tier) mid.journal stands j tree_is may.names (may.new tree tree_is)
+    (define_kept w early d (text_of d) tree (with_new_group d tree mid.tier) mid.journal stands j tree_is names new
     (record { kept = is.journal.kept ∙ j.kept; flushed = is.journal.flushed; tail = is.journal.tail })
     (subst (λ t. IsQuiet (with_new_group d tree t) (with_new_group d tree mid.tier)) is.tier (still_quiet (with_new_group d tree mid.tier))))
 
-pub creates_kept : (d : CreateGroup) → KeepsJournalWhere (MayCreate d) (CreatesGroup d)
-creates_kept d w w' early reply stands j apart may q ok = by (journal_fault w (Defines d (text_of d) ∷ [])) q.does
+-- where the group that comes is one that may come
+pub creates_made : (d : CreateGroup) (w w' : World) (early : List Sealed) (reply : Reply) → Stands w → IsJournalled w early → definition_names w.tier.schema (definitions_of w.tier.groups) d ≡ None → (q : CreatesGroup d w w' reply)
+    → (w'.history ≡ w.history → w'.tier ≡ with_new_group d q.tree w.tier → IsNewGroup w (group_of w.tier d q.tree)) → tells code.JournalFault reply.last ≡ false → IsJournalledOn w' early
+creates_made d w w' early reply stands j names q new ok = by (journal_fault w (Defines d (text_of d) ∷ [])) q.does
   where
     by : (o : Option Rule) → Unless o (Then (Flushes (Defines d (text_of d) ∷ [])) (Answers (define_answer d q.tree))) w w' reply → IsJournalledOn w' early
     by (Some rule) q = same_on w w' early q.0 j
     by None t = go t.stop t.first t.next
       where
         go : (stop : Option Reply) → Flushes (Defines d (text_of d) ∷ []) w t.mid stop → Follows stop (Answers (define_answer d q.tree)) t.mid w' reply → IsJournalledOn w' early
-        go None first next = subst (λ x. IsJournalledOn x early) (sym next.0) (created d q.tree w t.mid early stands j may q.is (kept_flushes (Defines d (text_of d) ∷ []) w t.mid None j.kept first refl).0)
+        go None first next =
+            let is = (kept_flushes (Defines d (text_of d) ∷ []) w t.mid None j.kept first refl).0 in
+            let made : w'.tier ≡ with_new_group d q.tree w.tier = ap (λ (x : World). x.tier) next.0 ∙ ap (with_new_group d q.tree) is.tier in
+            subst (λ x. IsJournalledOn x early) (sym next.0) (created d q.tree w t.mid early stands j names (new (ap (λ (x : World). x.history) next.0 ∙ is.history) made) q.is is)
         go (Some r) first next =
             let bad : Some r ≡ None = (kept_flushes (Defines d (text_of d) ∷ []) w t.mid (Some r) j.kept first (ap (λ (x : Reply). tells code.JournalFault x.last) (sym next.1) ∙ ok)).1 in
             Prim.cc
 
+pub creates_kept : (d : CreateGroup) → KeepsJournalWhere (MayCreate d) (CreatesGroup d)
+creates_kept d w w' early reply stands j apart may q ok = creates_made d w w' early reply stands j may.names q (λ h e. may.new q.tree q.is) ok
+
 -- ---- DROP
 
-ops_off : (g : Group) (ops : List Op) → writes_on g ops ≡ false → are_off (tables_of g.def.tree) ops ≡ true
+pub ops_off : (g : Group) (ops : List Op) → writes_on g ops ≡ false → are_off (tables_of g.def.tree) ops ≡ true
 ops_off g [] e = refl
 ops_off g (op ∷ ops) e =
     let (first, rest) = or_none (covers (table_of op) g) (writes_on g ops) e in
     (λ i. not ((in_tree g.def.tree (table_of op) ∙ first) i) && ops_off g ops rest i)
 
-owns_off : (g : Group) (sessions : List Session) → list_any (λ (s : Session). writes_on g s.own) sessions ≡ false → list_all (are_off (tables_of g.def.tree)) (own_writes sessions) ≡ true
+pub owns_off : (g : Group) (sessions : List Session) → list_any (λ (s : Session). writes_on g s.own) sessions ≡ false → list_all (are_off (tables_of g.def.tree)) (own_writes sessions) ≡ true
 owns_off g [] e = refl
 owns_off g (s ∷ sessions) e =
     let (first, rest) = or_none (writes_on g s.own) (list_any (λ (r : Session). writes_on g r.own) sessions) e in
@@ -142,14 +152,14 @@ one_place (x ∷ gs) (suc i) zero g h apart at there same =
 one_place (x ∷ gs) (suc i) (suc k) g h apart at there same = ap suc (one_place gs i k g h apart.1 at there same)
 
 -- what the rest of a DROP asks
-record MayGo (s : Session) (place : ℕ) (g : Group) (w : World) : Type 0 where
-  stands : Stands w
-  session : session_of w.tier s.label ≡ Some s
-  rests : s.own ≡ []
-  there : slice_get w.tier.groups place ≡ Some g
-  settled : is_writethrough g ≡ true → w.tier.unsettled ≡ []
+pub record MayGo (s : Session) (place : ℕ) (g : Group) (w : World) : Type 0 where
+  pub stands : Stands w
+  pub session : session_of w.tier s.label ≡ Some s
+  pub rests : s.own ≡ []
+  pub there : slice_get w.tier.groups place ≡ Some g
+  pub settled : is_writethrough g ≡ true → w.tier.unsettled ≡ []
 
-may_drop : (s : Session) (place : ℕ) (g : Group) (w : World) (early : List Sealed) → IsJournalled w early → MayGo s place g w → drop_fault s g w ≡ None → MayDrop w g.def.name g
+pub may_drop : (s : Session) (place : ℕ) (g : Group) (w : World) (early : List Sealed) → IsJournalled w early → MayGo s place g w → drop_fault s g w ≡ None → MayDrop w g.def.name g
 may_drop s place g w early j may unlocked =
     let split = split_of (is_called g.def.name) w.tier.groups place g may.there (nat_list_eq_equiv.refl g.def.name) (λ i h at same. one_place w.tier.groups place i g h (names_apart w early j) may.there at same) in
     let writes : Session → Bool = λ r. writes_on g r.own in

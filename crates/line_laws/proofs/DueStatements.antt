@@ -33,7 +33,7 @@ use Rattle.recovery.specs.Journalled.{AreAlike, IsJournalled, IsJournalledOn, Is
 use Rattle.recovery.proofs.JournalledLaws.{alike_commit, alike_self, alike_trans}
 use Rattle.recovery.proofs.OthersLaws.{on_then, one_journalled_on, others_kept}
 use Rattle.recovery.proofs.TablesLaws.{table_kept}
-use Rattle.line_laws.specs.Keeping.{KeepsJournalDue, KeepsJournalWhere, KeepsSettledJournalDue, RefersToNone, is_broken}
+use Rattle.line_laws.specs.Keeping.{KeepsJournalDue, KeepsJournalInDoubt, KeepsJournalWhere, KeepsSettledJournalDue, RefersToNone, is_broken}
 use Rattle.line_laws.proofs.GroupStatements.{refreshes_if_shown}
 use Rattle.line_laws.proofs.OtherLaws.{others_tickets}
 use Rattle.line_laws.proofs.PartWords.{Any, Goes, call_goes, quiet_on, same_on, stays_on, still_quiet}
@@ -149,8 +149,8 @@ asks_goes d w w' early notes stop j apart q =
     a : Answered w'.history w.tier w'.tier
     a = subst (Answered w'.history w.tier) (sym q.tier) (by q.result q.call.history)
 
-pub due_doubt_kept : KeepsJournalDue DueDoubt
-due_doubt_kept w w' early notes stop stands j apart q ok = by w.tier.doubt q
+pub due_doubt_kept : KeepsJournalInDoubt DueDoubt
+due_doubt_kept w w' early notes stop j apart q ok = by w.tier.doubt q
   where
     by : (o : Option Doubt) → SettlesDoubt o w w' notes stop → IsJournalledOn w' early
     by None q = same_on w w' early q.0 j
@@ -175,7 +175,7 @@ noted_other (Fault rule) c e = other_number (number_of rule.code) (by (is_noted 
     by false e = Prim.cc
 
 -- a fault that is noted isn't the disk's
-not_broken : (end : Option Reply) → is_broken (stopped end) ≡ false → is_broken end ≡ false
+pub not_broken : (end : Option Reply) → is_broken (stopped end) ≡ false → is_broken end ≡ false
 not_broken None e = refl
 not_broken (Some reply) e = by (noted_code reply.last) refl e
   where

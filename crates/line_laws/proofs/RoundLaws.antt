@@ -74,7 +74,7 @@ pub record Rounded (w w' : World) (early : List Sealed) : Type 0 where
   pub tier : w'.tier ≡ record w.tier { unsettled = left; round = moment }
   pub shared : w'.shared ≡ w.shared
 
-applied : (w w' : World) (early : List Sealed) (stop : Option Reply) → Stands w → IsJournalled w early → IsUnshared w → w.journal.tail ≡ [] → Applies w w' stop → Rounded w w' early
+pub applied : (w w' : World) (early : List Sealed) (stop : Option Reply) → Stands w → IsJournalled w early → IsUnshared w → w.journal.tail ≡ [] → Applies w w' stop → Rounded w w' early
 applied w w' early stop x j apart none a = record {
   on = one_journalled_on (record base { tier = w'.tier }) w' early (record { tier = refl; history = refl; journal = a.journal })
       (on_then (record base { tier = w'.tier }) early round.now round.more round.grows
@@ -105,7 +105,7 @@ applied w w' early stop x j apart none a = record {
     quiet : IsQuiet w.tier w'.tier
     quiet = subst (IsQuiet w.tier) (sym a.tier) (record { log = refl; next = omega arith; groups = alike_self w.tier.groups })
 
-drained_end : (t : Tier) (result : RoundEnd) (rest : List Sealed) → AllLeft result rest → round_stop t result ≡ None → rest ≡ []
+pub drained_end : (t : Tier) (result : RoundEnd) (rest : List Sealed) → AllLeft result rest → round_stop t result ≡ None → rest ≡ []
 drained_end t Drained rest all e = all
 drained_end t Failing rest all e = Prim.cc
 drained_end t Wanting rest all e = Prim.cc

@@ -49,6 +49,12 @@ KeepsJournalDue item =
     (w w' : World) (early : List Sealed) (notes : List Note) (stop : Option Reply) → Stands w → IsJournalled w early
     → IsUnshared w → item w w' notes stop → is_broken stop ≡ false → IsJournalledOn w' early
 
+-- the same, whether the tier stands or not, as where a commit is in doubt
+abbrev pub KeepsJournalInDoubt : Item → Type 0
+KeepsJournalInDoubt item =
+    (w w' : World) (early : List Sealed) (notes : List Note) (stop : Option Reply) → IsJournalled w early → IsUnshared w
+    → item w w' notes stop → is_broken stop ≡ false → IsJournalledOn w' early
+
 -- no slot was begun anew, or nothing is unsettled
 abbrev pub RenewsSettled : World → World → Type 0
 RenewsSettled w w' = (w'.journal.generation ≡ w.journal.generation) ⊎ (w'.tier.unsettled ≡ [])

@@ -30,7 +30,7 @@ ghost use Rattle.cache_tier.specs.TierStates.{Session};
 ghost use Rattle.cache_tier.specs.UnloadSteps.{Unloads};
 ghost use Rattle.cache_tier.specs.Worlds.{Quiet};
 ghost use Rattle.cache_tier.specs.WriteSteps.{WritesBy};
-ghost use Rattle.line_laws.specs.Keeping.{Anything, AreOffLive, HasNoWrites, IsOffLive, KeepsJournal, KeepsJournalAt, KeepsJournalDue, KeepsJournalOf, KeepsJournalWhere, KeepsSettledJournal, KeepsSettledJournalDue, KeepsSettledJournalOf, MayCreate, MeetsIfAtOnce, MeetsNone, RefersToNone};
+ghost use Rattle.line_laws.specs.Keeping.{Anything, AreOffLive, HasNoWrites, IsOffLive, KeepsJournal, KeepsJournalAt, KeepsJournalDue, KeepsJournalInDoubt, KeepsJournalOf, KeepsJournalWhere, KeepsSettledJournal, KeepsSettledJournalDue, KeepsSettledJournalOf, MayCreate, MeetsIfAtOnce, MeetsNone, RefersToNone};
 
 /// The journal stays the tier's where a line changes nothing that an entry tells: OPEN (`opens`), CLOSE (`closes`),
 /// ttOptSetFlag (`sets_level`), ROLLBACK (`rolls_back`), the clock (`clock`), the question for the schema (`asks`).
@@ -91,10 +91,10 @@ pub fn console_line_law()
     ensures writes { (writes : List Write) → KeepsJournalWhere (AreOffLive writes) (WritesAll writes) }
 {}
 
-/// The journal stays the tier's behind each item of due work: the doubt, where the bank tells whether its ticket stands
-/// (`doubt`), the round (`round`), the sets (`sets`), aging (`aging`).
+/// The journal stays the tier's behind each item of due work: the doubt, where the bank tells whether its ticket
+/// stands, whether the tier stands or not (`doubt`), the round (`round`), the sets (`sets`), aging (`aging`).
 pub fn due_line_law()
-    ensures doubt { KeepsJournalDue DueDoubt }
+    ensures doubt { KeepsJournalInDoubt DueDoubt }
     ensures round { KeepsSettledJournalDue DueRound }
     ensures sets { KeepsJournalDue DueSets }
     ensures aging { KeepsJournalDue DueAging }

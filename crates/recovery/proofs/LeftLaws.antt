@@ -13,8 +13,7 @@ use Rattle.cache_tier.specs.DropSteps.{without_group}
 use Rattle.cache_tier.specs.Groups.{Group}
 use Rattle.cache_tier.specs.Definitions.{defined_by, definition_names, new_group}
 use Rattle.cache_tier.specs.Journals.{Commits, Defines, Drops, JournalEntry, Marks, Numbers, Prepares, SetsLoaded, SetsState, next_behind, next_with}
-use Rattle.cache_tier.specs.StandingBetween.{HasNoTableOf, IsCatalogued}
-use Rattle.cache_tier.specs.StandingBetween as between
+use Rattle.cache_tier.specs.StandingBetween.{IsCatalogued}
 use Rattle.cache_tier.specs.TierStates.{Settings, Tier, opened, with_group}
 use Rattle.cache_tier.specs.Worlds.{World}
 use Rattle.recovery.specs.Journalled.{AreAlike, CrashLeaves, IsAlike, IsJournalled}
@@ -26,18 +25,18 @@ use Rattle.recovery.proofs.JournalledLaws.{alike_kind, alike_trans, alike_turned
 -- ---- the same entries over another tier
 
 -- two tiers with one schema and one next ticket, whose groups are alike
-record AreSame (t n : Tier) : Type 0 where
-  schema : n.schema ≡ t.schema
-  next : n.next ≡ t.next
-  groups : AreAlike t.groups n.groups
+pub record AreSame (t n : Tier) : Type 0 where
+  pub schema : n.schema ≡ t.schema
+  pub next : n.next ≡ t.next
+  pub groups : AreAlike t.groups n.groups
 
 -- what the entries leave of another tier that is the same
-record Leaves (entries : List JournalEntry) (n t' : Tier) : Type 0 where
-  left : Tier
-  recalls : RecallsAll entries n left
-  same : AreSame t' left
+pub record Leaves (entries : List JournalEntry) (n t' : Tier) : Type 0 where
+  pub left : Tier
+  pub recalls : RecallsAll entries n left
+  pub same : AreSame t' left
 
-alike_back : (gs hs : List Group) → AreAlike gs hs → AreAlike hs gs
+pub alike_back : (gs hs : List Group) → AreAlike gs hs → AreAlike hs gs
 alike_back [] [] are = tt
 alike_back (g ∷ gs) (h ∷ hs) are = (record { def = sym are.0.def; state = λ r. sym (are.0.state (sym (alike_kind g h are.0) ∙ r)); loaded = sym are.0.loaded }, alike_back gs hs are.1)
 alike_back [] (h ∷ hs) are = absurd are
@@ -72,7 +71,7 @@ step_same (SetsState name state) t n t' same is =
 step_same (SetsLoaded name flag) t n t' same is =
     (with_group name (with_loaded flag) n, refl, subst (λ x. AreSame x (with_group name (with_loaded flag) n)) (sym is) (record { schema = same.schema; next = same.next; groups = alike_turned name (with_loaded flag) (loaded_steady flag) t.groups n.groups same.groups }))
 
-all_same : (entries : List JournalEntry) (t n t' : Tier) → AreSame t n → RecallsAll entries t t' → Leaves entries n t'
+pub all_same : (entries : List JournalEntry) (t n t' : Tier) → AreSame t n → RecallsAll entries t t' → Leaves entries n t'
 all_same [] t n t' same is = record { left = n; recalls = refl; same = subst (λ x. AreSame x n) (sym is) same }
 all_same (e ∷ entries) t n t' same (mid, first, rest) =
     let (next, one, then) = step_same e t n mid same first in
@@ -104,8 +103,8 @@ next_rises n (s ∷ late) =
     let more = next_rises (max n (s.ticket.0 + 1)) late in
     omega (arith, up, more)
 
-pub crash_leaves : (w : World) (early : List Sealed) (settings : Settings) (moment : ℕ) → between.Stands w → IsJournalled w early → CrashLeaves w early settings moment
-crash_leaves w early settings moment stands j = record {
+pub crash_leaves : (w : World) (early : List Sealed) (settings : Settings) (moment : ℕ) → w.tier.next ≤ 2 ^ 63 → IsJournalled w early → CrashLeaves w early settings moment
+crash_leaves w early settings moment cap j = record {
   matched = record { backing = j.backing; leaves = j.leaves; matched = left.matched; last = omega (arith, up, below, cap) };
   catalog = other.left;
   recalls = other.recalls;
@@ -132,6 +131,3 @@ crash_leaves w early settings moment stands j = record {
 
     below : next_behind (w.journal.flushed ++ w.journal.tail) ≤ w.tier.next
     below = j.next
-
-    cap : w.tier.next ≤ 2 ^ 63
-    cap = stands.flow.last

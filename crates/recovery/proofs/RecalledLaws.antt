@@ -71,7 +71,7 @@ not_read : (size : ℕ) (g : Group) → IsFresh g → IsReadWithin size g
 not_read size g fresh n e = let wrong : None ≡ Some n = sym fresh.1 ∙ e in Prim.cc
 
 -- the catalog, from the first entry on
-folded : (entries : List JournalEntry) (h : List Entry) (settings : Settings) (moment : ℕ) (t : Tier) (m : AreMatched entries h) → RecallsAll entries (opened settings moment m.backing.schema) t
+pub folded : (entries : List JournalEntry) (h : List Entry) (settings : Settings) (moment : ℕ) (t : Tier) (m : AreMatched entries h) → RecallsAll entries (opened settings moment m.backing.schema) t
     → IsFolded m.backing.schema t (catalog_of (notes_of m.backing.schema entries))
 folded entries h settings moment t m is =
     folds m.backing.schema h [] entries (opened settings moment m.backing.schema) t empty_catalog

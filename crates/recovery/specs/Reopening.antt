@@ -2,7 +2,7 @@
 -- Cache User's Guide, "Recovery"; that explicit groups whose flag is set hold all their instances again, and all READONLY
 -- ones at one position, is this project's rule.)
 
-use Rattle.std.specs.Prelude.{◌≡◌, ℕ, suc, true, List, [], ◌∷◌, Bool, ◌&&◌, Option, map, if◌then◌else◌}
+use Rattle.std.specs.Prelude.{◌≡◌, ℕ, suc, true, List, [], ◌∷◌, Bool, ◌&&◌, Option, map}
 use Rattle.std.specs.List.{filter, list_any}
 use Rattle.std.specs.FinMap.{keys}
 use Rattle.indexed_rows.specs.Rows.{Table}

@@ -1,7 +1,7 @@
 //! Laws of recovery, each on the contract of a function that does nothing. They are this project's rules, over recovery
 //! as the TimesTen Cache User's Guide tells of it.
 
-ghost use Rattle.std.specs.Prelude.{◌≡◌, ◌++◌, ◌∷◌, Bool, ℕ, List, [], None, Some, false, true};
+ghost use Rattle.std.specs.Prelude.{◌≡◌, ◌≤◌, ◌^◌, ◌++◌, ◌∷◌, Bool, ℕ, List, [], None, Some, false, true};
 ghost use Rattle.table_defs.specs.declared.definition.TableDef.{TableDef};
 ghost use Rattle.table_state.specs.declared.history.Entry.{Entry};
 ghost use Rattle.table_state.specs.declared.history.Entry.TheVariants.{Definition};
@@ -107,9 +107,10 @@ pub fn journalled_law()
         → IsJournalled (record w { tier = t }) early }
 {}
 
-/// What a crash leaves between two events: the entries that are flushed belong to the history, they leave the tier's
-/// catalog, and all commits that were held are held. By `recalled_law` the tier of these entries stands.
+/// What a crash leaves between two events, whether the tier stands or a commit is in doubt: the entries that are
+/// flushed belong to the history, they leave the tier's catalog, and all commits that were held are held. By
+/// `recalled_law` the tier of these entries stands.
 pub fn crash_leaves_law()
-    ensures { (w : World) (early : List Sealed) (settings : Settings) (moment : ℕ) → Stands w → IsJournalled w early
-        → CrashLeaves w early settings moment }
+    ensures { (w : World) (early : List Sealed) (settings : Settings) (moment : ℕ) → w.tier.next ≤ 2 ^ 63
+        → IsJournalled w early → CrashLeaves w early settings moment }
 {}

@@ -1,0 +1,168 @@
+-- The tier that is opened again keeps its journal, from which it was opened.
+use Rattle.std.proofs.Common.{◌≡◌, ℕ, suc, ◌≤◌, Bool, true, false, Option, Some, None, List, [], ◌∷◌, ◌++◌, refl, sym, ap, subst, ◌∙◌, arith, append-nil}
+use Rattle.std.specs.List.{list_all, list_any}
+use Rattle.table_state.specs.declared.history.Sealed.{Sealed}
+use Rattle.table_state.specs.Tables.{TableState}
+use Rattle.order_laws.specs.Commits.{pending}
+use Rattle.recovery_laws.specs.Crashes.{AreHeld}
+use Rattle.recovery_laws.specs.Notes.{Note, log_in}
+use Rattle.cache_tier.specs.declared.reply.Reply.{Reply}
+use Rattle.cache_tier.specs.Events.{with_tier}
+use Rattle.cache_tier.specs.Groups.{Group}
+use Rattle.cache_tier.specs.Journals.{JournalEntry, next_behind}
+use Rattle.cache_tier.specs.JournalWays.{given}
+use Rattle.cache_tier.specs.Reading.{ReadsFirst, as_it_was, backing_at}
+use Rattle.cache_tier.specs.Rounds.{Applies}
+use Rattle.cache_tier.specs.Sets.{alone, changed, changed_from, refreshed}
+use Rattle.cache_tier.specs.StandingBetween.{Each, Stands}
+use Rattle.cache_tier.specs.TierStates.{Session, Settings, Tier, opened}
+use Rattle.cache_tier.specs.Worlds.{Becomes, IsUnshared, OnlyWhere, StageFollows, World}
+use Rattle.recovery.specs.Journalled.{AreAlike, IsJournalled, IsQuiet}
+use Rattle.recovery.specs.Recalling.{RecallsAll, notes_of, recalled}
+use Rattle.recovery.specs.Reopening.{HoldAgain, HoldsAgainAt, IsReopened, Reloads, ViewsAgain, holding, is_held_again, is_viewed_again, with_sets_begun}
+use Rattle.recovery.proofs.LeftLaws.{Leaves, all_same, alike_back}
+use Rattle.recovery.proofs.OthersLaws.{on_then}
+use Rattle.recovery.proofs.RecalledLaws.{folded, stands_recalled}
+use Rattle.line_laws.proofs.PartWords.{Any, Goes, GoesStage, becomes_goes, only_where_goes, passes_goes, reads_first_goes, still_quiet, then_stage_goes}
+use Rattle.line_laws.proofs.QuietTiers.{alike_changed, quiet_groups, refreshed_quiet}
+use Rattle.line_laws.proofs.RoundLaws.{Rounded, applied, drained_end}
+use Rattle.line_laws.proofs.LoadStatements.{round_unshared}
+use Rattle.order_laws.proofs.TruthLaws.{same_some}
+use Rattle.table_state.specs.Histories.{state_of}
+use Rattle.run_laws.specs.Lines.{IsLeft, IsOfOneKind, are_later}
+use Rattle.run_laws.specs.Runs.{IsKeptOf, Reopened}
+use Rattle.run_laws.proofs.RunKeeps.{survives}
+use Rattle.run_laws.proofs.SitsLaws.{Sits, StageSits, becomes_sits, changed_sits, kept, only_where_sits, passes_sits, reads_first_sits, then_stage_sits}
+use Rattle.run_laws.proofs.StandLaws.{IsSeenAs, seen_as, stands_seen}
+
+-- ---- what the tier begins with
+
+module _ (settings : Settings) (moment : ℕ) (entries : List JournalEntry) (w w' : World) (early : List Sealed) (x : IsReopened settings moment entries w w' None) (j : IsKeptOf entries w.journal) (held : AreHeld (notes_of x.matched.backing.schema entries) w.history early) (apart : IsUnshared w) where
+  abbrev base : Tier
+  base = recalled x.matched.backing.schema entries w.history x.catalog
+
+  begun : IsSeenAs (recalled x.matched.backing.schema entries w.history x.catalog) w.tier
+  begun = seen_as (recalled x.matched.backing.schema entries w.history x.catalog) w.tier (with_sets_begun (recalled x.matched.backing.schema entries w.history x.catalog)) x.tier
+      (record { schema = refl; stale = refl; groups = refl; log = refl; unsettled = refl; sessions = refl; next = refl })
+
+  stands : Stands w
+  stands = stands_seen (with_tier (recalled x.matched.backing.schema entries w.history x.catalog) w) w begun refl (stands_recalled w entries settings moment x.catalog x.matched x.recalls)
+
+  -- all entries are flushed
+  all_given : given w.journal ≡ entries
+  all_given = (λ i. j.flushed i ++ j.tail i) ∙ append-nil entries
+
+  other : Leaves entries (opened settings 0 x.matched.backing.schema) x.catalog
+  other = all_same entries (opened settings moment x.matched.backing.schema) (opened settings 0 x.matched.backing.schema) x.catalog (record { schema = refl; next = refl; groups = tt }) x.recalls
+
+  journalled : IsJournalled w early
+  journalled = record {
+    kept = j.kept;
+    backing = x.matched.backing;
+    leaves = x.matched.leaves;
+    late = [];
+    tail = j.tail;
+    stands =
+        subst (λ l. Rattle.recovery_laws.specs.Crashes.Stands (record { flushed = notes_of x.matched.backing.schema l; late = []; history = w.history; commits = early ++ [] }) early) (sym j.flushed)
+        (record {
+          matched = subst (λ (n : List Note). Rattle.recovery_laws.specs.Matching.IsMatched n w.history) (sym (append-nil (notes_of x.matched.backing.schema entries))) x.matched.matched;
+          ahead = tt;
+          are = refl;
+          held = held;
+        });
+    settings = settings;
+    catalog = other.left;
+    recalls = subst (λ l. RecallsAll l (opened settings 0 x.matched.backing.schema) other.left) (sym all_given) other.recalls;
+    alike = subst (AreAlike other.left.groups) (sym begun.groups) (alike_back x.catalog.groups other.left.groups other.same.groups);
+    tie =
+        ap (pending w.history) begun.log
+        ∙ ap (λ l. pending w.history (log_in w.history (notes_of x.matched.backing.schema l))) (sym all_given);
+    next = subst (λ n. n ≤ w.tier.next) (ap next_behind (sym all_given)) (subst (λ n. next_behind entries ≤ n) (sym begun.next) (omega arith));
+  }
+
+  -- ---- behind the round, and with the rows that come back
+
+  keys_stage : (choice : World → Tier) → ((v : World) → IsQuiet v.tier (choice v)) → GoesStage Any Any (Becomes choice)
+  keys_stage choice quiet = becomes_goes Any Any choice (λ v p. quiet v) (λ v p. tt)
+
+  views : GoesStage Any Any ViewsAgain
+  views v v' early stop j apart p q ok =
+      only_where_goes Any (list_any (is_viewed_again 0) v.tier.groups) (ReadsFirst as_it_was (λ n. Becomes (λ v. refreshed is_viewed_again n (backing_at v n) v.tier)))
+      (reads_first_goes Any Any Any as_it_was (λ n. Becomes (λ v. refreshed is_viewed_again n (backing_at v n) v.tier)) still_quiet (λ a b p e. tt) (λ a p. tt)
+      (λ n. keys_stage (λ v. refreshed is_viewed_again n (backing_at v n) v.tier) (λ v. refreshed_quiet is_viewed_again n (backing_at v n) v.tier))) v v' early stop j apart p q ok
+
+  held_quiet : (place : ℕ) (s : TableState) (t : Tier) → IsQuiet t (changed (alone place) (holding s) t)
+  held_quiet place s t = quiet_groups t (changed_from (alone place) (holding s) 0 t.groups) (alike_changed (alone place) (holding s) (λ g. record { def = refl; state = λ r. refl; loaded = refl }) 0 t.groups)
+
+  holds_at : (place : ℕ) → GoesStage Any Any (HoldsAgainAt place)
+  holds_at place =
+      reads_first_goes Any Any Any as_it_was (λ n. Becomes (λ v. changed (alone place) (holding (backing_at v n)) v.tier)) still_quiet (λ a b p e. tt) (λ a p. tt)
+      (λ n. keys_stage (λ v. changed (alone place) (holding (backing_at v n)) v.tier) (λ v. held_quiet place (backing_at v n) v.tier))
+
+  hold : (place : ℕ) (groups : List Group) → GoesStage Any Any (HoldAgain place groups)
+  hold place [] = passes_goes Any
+  hold place (g ∷ groups) = then_stage_goes Any Any Any (OnlyWhere (is_held_again g) (HoldsAgainAt place)) (HoldAgain (suc place) groups) (λ v p. tt) (only_where_goes Any (is_held_again g) (HoldsAgainAt place) (holds_at place)) (hold (suc place) groups)
+
+  reloads : GoesStage Any Any Reloads
+  reloads v v' early stop j apart p q ok = then_stage_goes Any Any Any ViewsAgain (HoldAgain 0 v.tier.groups) (λ a p. tt) views (hold 0 v.tier.groups) v v' early stop j apart p q ok
+
+  -- ---- sessions and what is unsettled
+
+  views_sit : StageSits ViewsAgain
+  views_sit v v' stop q = only_where_sits (list_any (is_viewed_again 0) v.tier.groups) _ (reads_first_sits as_it_was _ (λ t. kept t) (λ n. becomes_sits _ (λ v. changed_sits is_viewed_again _ (λ g. refl) v.tier))) v v' stop q
+
+  hold_sits : (place : ℕ) (groups : List Group) → StageSits (HoldAgain place groups)
+  hold_sits place [] = passes_sits
+  hold_sits place (g ∷ groups) = then_stage_sits _ _ (only_where_sits (is_held_again g) _ (reads_first_sits as_it_was _ (λ t. kept t) (λ n. becomes_sits _ (λ v. changed_sits (alone place) (holding (backing_at v n)) (λ g. refl) v.tier)))) (hold_sits (suc place) groups)
+
+  reloads_sit : StageSits Reloads
+  reloads_sit v v' stop q = then_stage_sits ViewsAgain (HoldAgain 0 v.tier.groups) views_sit (hold_sits 0 v.tier.groups) v v' stop q
+
+  idle : w.tier.sessions ≡ []
+  idle = begun.sessions ∙ (folded entries w.history settings moment x.catalog x.matched x.recalls).idle
+
+  none_left : (p : Sealed → Bool) (us vs : List Sealed) → us ≡ [] → ((q : Sealed → Bool) → list_all q us ≡ true → list_all q vs ≡ true) → vs ≡ []
+  none_left p us [] e sits = refl
+  none_left p us (v ∷ vs) e sits =
+      let all : list_all (λ s. false) us ≡ true = ap (list_all (λ s. false)) e in
+      let bad : false ≡ true = sits (λ s. false) all in
+      Prim.cc
+
+  reopened : Reopened w' early
+  reopened = by x.does.stop x.does.first x.does.next
+    where
+      by : (stop : Option Reply) → Applies w x.does.mid stop → StageFollows stop Reloads x.does.mid w' None → Reopened w' early
+      by (Some r) first next = let bad : None ≡ Some r = next.1 in Prim.cc
+      by None first next = record {
+        on = on_then w' early round.on.now round.on.more round.on.grows goes.on;
+        unshared = goes.unshared;
+        kinds = record {
+          later = ap (are_later w'.tier.groups) (none_left (λ s. true) x.does.mid.tier.unsettled w'.tier.unsettled drained sits.unsettled);
+          own = subst (λ ss. Each (λ (s : Session). IsOfOneKind w'.tier.groups s.own) ss) (sym (sits.sessions ∙ ap (λ (t : Tier). t.sessions) round.tier ∙ idle)) tt;
+        };
+      }
+        where
+          round : Rounded w x.does.mid early
+          round = applied w x.does.mid early None stands journalled apart j.tail first
+
+          drained : x.does.mid.tier.unsettled ≡ []
+          drained = drained_end w.tier first.result x.does.mid.tier.unsettled first.all (sym first.end)
+
+          goes : Goes Any w' round.on.now
+          goes = reloads x.does.mid w' round.on.now None round.on.is (round_unshared w x.does.mid early apart round) tt next refl
+
+          sits : Sits x.does.mid.tier w'.tier
+          sits = reloads_sit x.does.mid w' None next
+
+pub reopened_kept : (settings : Settings) (moment : ℕ) (entries : List JournalEntry) (w w' : World) (early : List Sealed) (x : IsReopened settings moment entries w w' None) → IsKeptOf entries w.journal → AreHeld (notes_of x.matched.backing.schema entries) w.history early → IsUnshared w → Reopened w' early
+reopened_kept settings moment entries w w' early x j held apart = reopened settings moment entries w w' early x j held apart
+
+-- after a crash between two lines
+pub begun_again : (w v v' : World) (early : List Sealed) (settings : Settings) (moment : ℕ) → IsLeft w → IsJournalled w early → v.history ≡ w.history → IsKeptOf w.journal.flushed v.journal → IsUnshared v → IsReopened settings moment w.journal.flushed v v' None → Reopened v' early
+begun_again w v v' early settings moment left j same kept apart x =
+    let c = (survives w early settings moment left j).crash in
+    let backing : c.matched.backing ≡ x.matched.backing = same_some (sym c.matched.leaves ∙ ap state_of (sym same) ∙ x.matched.leaves) in
+    let there : AreHeld (notes_of c.matched.backing.schema w.journal.flushed) v.history c.left.front = subst (λ h. AreHeld (notes_of c.matched.backing.schema w.journal.flushed) h c.left.front) (sym same) c.left.held in
+    let held : AreHeld (notes_of x.matched.backing.schema w.journal.flushed) v.history c.left.front = subst (λ (b : TableState). AreHeld (notes_of b.schema w.journal.flushed) v.history c.left.front) backing there in
+    let r = reopened_kept settings moment w.journal.flushed v v' c.left.front x kept held apart in
+    record { on = on_then v' early c.left.front c.left.more c.left.durable_are r.on; unshared = r.unshared; kinds = r.kinds }

@@ -1,0 +1,8 @@
+use Rattle.run_laws.proofs.RunKeeps.{ended_kept, flushed_kept}
+use Rattle.run_laws.proofs.laws.flush_law.Goals as goal
+
+pub returns-clause-flushed : goal.returns-clause-flushed
+returns-clause-flushed c = flushed_kept
+
+pub returns-clause-ended : goal.returns-clause-ended
+returns-clause-ended c = ended_kept

@@ -1,0 +1,8 @@
+use Rattle.run_laws.proofs.LineLaws.{step_kept, step_kinds}
+use Rattle.run_laws.proofs.laws.line_law.Goals as goal
+
+pub returns-clause-journal : goal.returns-clause-journal
+returns-clause-journal c = step_kept
+
+pub returns-clause-kinds : goal.returns-clause-kinds
+returns-clause-kinds c = step_kinds
