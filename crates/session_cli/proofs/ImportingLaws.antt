@@ -75,11 +75,11 @@ pub puts_by : {E : Type 0} (r : Result (Unit {0}) E) (a b c : Option (List ℕ))
 puts_by (Ok done) a b c w w' w'' xs none p q empty = puts_all a c w xs none (splits_flushed a b c w w' w'' xs p q empty)
 puts_by (Err e) a b c w w' w'' xs none p q empty = puts_front a c w xs none (breaks_flushed a b c w w' xs p q)
 
-pub imported : {E : Type 0} (r : Result (Unit {0}) E) (word input : List ℕ) (t : Stored) (before after : SiteState) (reply : Reply) (sink sink' : Option (List ℕ)) → Serves t t before after (λ w w'. Tries (Imports word input) w w' reply) → Puts r sink sink' (reply_bytes (Some reply))
+pub imported : {E : Type 0} (r : Result (Unit {0}) E) (word bytes_of input : List ℕ) (t : Stored) (before after : SiteState) (reply : Reply) (sink sink' : Option (List ℕ)) → bytes_of ≡ word → Serves t t before after (λ w w'. Tries (Imports bytes_of input) w w' reply) → Puts r sink sink' (reply_bytes (Some reply))
     → (w : World) → IsAt before w → IsStoredAs t w.tier → Imported r word input w sink sink' after
-imported r word input t before after reply sink sink' serves puts w at stored =
+imported r word bytes_of input t before after reply sink sink' same serves puts w at stored =
     let x = serves w at stored in
-    record { world = x.world; at = x.at; reply = reply; is = x.is; puts = puts }
+    record { world = x.world; at = x.at; reply = reply; is = subst (λ (b : List ℕ). Tries (Imports b input) w x.world reply) same x.is; puts = puts }
 
 -- only whether it went well counts
 pub imported_well : {E T : Type 0} (r : Result (Unit {0}) E) (done : Unit {0}) (word input bytes : List ℕ) (w : World) (sink sink' : Option (List ℕ)) (site : SiteState) → r ≡ Ok done → bytes ≡ input → Imported r word bytes w sink sink' site → Imported {E = T} (Ok tt) word input w sink sink' site

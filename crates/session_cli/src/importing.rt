@@ -167,6 +167,8 @@ fn import_and_tell<K: Sink, P: Site>(
     ensures cause { HasCause (K.faults sink.old) (K.faults sink.new) result }
 {
     let reply = import_rows(engine, alloc, site, word.as_bytes(), bytes);
-    write_reply(output, sink, &reply)?;
+    let Ok(()) = write_reply(output, sink, &reply) else {
+        return Err(Failed);
+    };
     output.flush(sink)
 }

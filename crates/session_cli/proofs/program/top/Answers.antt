@@ -8,7 +8,8 @@ use Rattle.session_cli.specs.declared.serving.Status.TheVariants.{NoMemory}
 use Rattle.session_cli.specs.Opening.{tier_settings}
 use Rattle.session_cli.proofs.EndsLaws.{runs_unopened, taken_unstarted}
 use Rattle.session_cli.proofs.CheckLaws.{check_unstarted}
-use Rattle.session_cli.proofs.TopLaws.{words_of, refused_of, settings_of, bad_of, is_schema, none_left, none_left_of, no_other}
+use Rattle.session_cli.proofs.ImportingLaws.{import_unstarted}
+use Rattle.session_cli.proofs.TopLaws.{words_of, refused_of, settings_of, bad_of, is_damage, is_schema, none_left, none_left_of, no_other}
 use Rattle.session_cli.proofs.program.top.Goals as goal
 
 pub returns-in-Err-clause-words : goal.returns-in-Err-clause-words
@@ -37,6 +38,9 @@ returns-in-Err-clause-makes g c = λ m asks s set. (m, asks, end.NoMemory, none_
 
 pub returns-in-Err-clause-benches : goal.returns-in-Err-clause-benches
 returns-in-Err-clause-benches g c = λ m asks s set. (m, asks, end.NoMemory, none_left (texts c.args.words.now) c.args.settings.now c.in-Err.status c.in-Err.ensures (command.Bench m) asks s set, refl)
+
+pub returns-in-Err-clause-imports : goal.returns-in-Err-clause-imports
+returns-in-Err-clause-imports g c = λ any asks s set. (any, asks, NoMemory, none_left (texts c.args.words.now) c.args.settings.now c.in-Err.status c.in-Err.ensures (command.Import any) asks s set, import_unstarted (tier_settings s) any.now _ _ _ refl)
 
 pub returns-in-Err-clause-read : goal.returns-in-Err-clause-read
 returns-in-Err-clause-read g c = λ three. absurd (no_other (texts c.args.words.now) c.args.settings.now c.in-Err.status 3 c.in-Err.ensures (inl refl) three)
@@ -92,6 +96,15 @@ returns-in-Make-clause-unread g c = λ auto. elim auto [
 
 pub returns-in-Bench-clause-unread : goal.returns-in-Bench-clause-unread
 returns-in-Bench-clause-unread g c = λ auto. elim auto [
+  | inl refuses ↦ absurd (refuses c.in-Ok.ensures.0.0)
+  | inr bad ↦ absurd (bad c.in-Ok.asked.settings c.in-Ok.ensures.1)
+]
+
+pub returns-in-Import-clause-bad : goal.returns-in-Import-clause-bad
+returns-in-Import-clause-bad g c = λ task asks bad. absurd (bad c.in-Ok.asked.settings c.in-Ok.ensures.1)
+
+pub returns-in-Import-clause-unread : goal.returns-in-Import-clause-unread
+returns-in-Import-clause-unread g c = λ auto. elim auto [
   | inl refuses ↦ absurd (refuses c.in-Ok.ensures.0.0)
   | inr bad ↦ absurd (bad c.in-Ok.asked.settings c.in-Ok.ensures.1)
 ]
