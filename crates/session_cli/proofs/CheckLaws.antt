@@ -1,6 +1,6 @@
 -- Checking goes on by lines and bytes.
 use Rattle.std.proofs.Common.{◌≡◌, ◌≢◌, ℕ, ◌+◌, ◌-◌, ◌≤◌, ◌<◌, length, get_or, List, [], ◌∷◌, ◌++◌, take, drop, Option, Some, Result, Ok, Err, Bool, true, false, refl, sym, ◌∙◌, ap, ap₂, subst, append-nil, append_assoc, lit≤, inl, inr, take-append-drop}
-use Rattle.std.specs.Result.{IsErr, OnOk}
+use Rattle.std.specs.Result.{IsErr}
 use Rattle.std.specs.Io.KnownBytes.{Keeps}
 use Rattle.cache_tier.specs.declared.reply.Reply.{Reply}
 use Rattle.cache_tier.specs.Replying.{reply_bytes, replies_bytes}
@@ -13,7 +13,7 @@ use Rattle.session_cli.specs.declared.serving.Status.TheVariants.{Finished, Sour
 use Rattle.session_cli.specs.Cutting.{cut, front_of, text_of, ended_lines, all_lines}
 use Rattle.session_cli.specs.Ends.{Taken}
 use Rattle.session_cli.specs.Output.{Splits, Breaks, Passes}
-use Rattle.session_cli.specs.Checking.{Checks, ChecksOr, check_reply, AreChecked, CheckedWhole, CheckedShort, Tells, Checking, CheckFeeds, CheckClosing, CheckBreaks, CheckCloses, CheckFinishes, CheckEnded, CheckStops, IsNewChecker, status_of}
+use Rattle.session_cli.specs.Checking.{Checks, ChecksOr, check_reply, AreChecked, CheckedWhole, CheckedShort, Tells, Checking, CheckFeeds, CheckClosing, CheckBreaks, CheckCloses, CheckFinishes, CheckEnded, IsNewChecker, status_of}
 use Rattle.session_cli.proofs.CuttingLaws.{ended_push, rest_ended, ended_same, rest_push, front_push, front_short, text_front, take_one, take_within, all_ended, all_more}
 use Rattle.session_cli.proofs.OutputLaws.{splits_then, breaks_then}
 use Rattle.session_cli.proofs.ServingLaws.{replies_push, told_after, take_rest, take_whole}

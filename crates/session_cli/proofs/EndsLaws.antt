@@ -1,5 +1,5 @@
 -- The pieces of the input, from the first to the last.
-use Rattle.std.proofs.Common.{◌≡◌, ◌⊎◌, subst, ℕ, Bool, true, false, min, ◌+◌, ◌-◌, ◌≤◌, ◌<◌, List, [], ◌++◌, length, take, drop, Option, Some, None, refl, sym, ◌∙◌, ap, append-nil, append_assoc, inl, inr, arith, take-append-drop}
+use Rattle.std.proofs.Common.{◌≡◌, ◌⊎◌, subst, ℕ, true, min, ◌+◌, ◌-◌, ◌≤◌, ◌<◌, List, [], ◌++◌, length, take, drop, Option, Some, None, refl, sym, ◌∙◌, ap, append-nil, append_assoc, inl, inr, arith, take-append-drop}
 use Rattle.std.specs.Io.KnownBytes.{Consumes, IsAtEnd, Keeps}
 use Rattle.std.proofs.lemmas.List.{length-append, length-take, length-drop}
 use Rattle.outside.specs.Holding.{Held}
@@ -14,10 +14,10 @@ use Rattle.session_cli.specs.declared.session.Session.{Session}
 use Rattle.session_cli.specs.declared.serving.Status.{Status}
 use Rattle.session_cli.specs.declared.serving.Status.TheVariants.{Finished, SourceFailed, SinkFailed, DiskFailed, SchemaFailed, NoMemory, LineUnchecked, Damaged, Differs, InputTooLong}
 use Rattle.session_cli.specs.Cutting.{ended_lines, all_lines}
-use Rattle.session_cli.specs.Ends.{Ended, Gives, OpenedAndEnded, Outcome, Runs, Serves, Stops, Taken, Unopened, input_limit, status_of, takes_none}
+use Rattle.session_cli.specs.Ends.{Ended, Gives, OpenedAndEnded, Outcome, Runs, Stops, Taken, Unopened, input_limit, status_of, takes_none}
 use Rattle.session_cli.specs.Opening.{begins}
 use Rattle.session_cli.specs.Outside.{Outside}
-use Rattle.session_cli.specs.Serving.{BrokenOff, CutShort, Finishes, HasFlushed, IsLeftAlone, Origin, Rests, Serving, StopsAt, Whole}
+use Rattle.session_cli.specs.Serving.{HasFlushed, IsLeftAlone, Origin, Rests, Serving, StopsAt, Whole}
 use Rattle.session_cli.specs.Timing.{Coming, bases_by, bases_of}
 use Rattle.session_cli.proofs.ServingLaws.{left_front, serving_whole}
 
@@ -152,8 +152,24 @@ taken_all input room source source' buf n none some space p t =
       gives = (k.ended none space, omega (arith, t.total));
     }
 
+-- and the sink failed
+unfoldable pub taken_unwritten : (input : List ℕ) (room : ℕ) (source source' : Option (List ℕ)) (buf : List ℕ) (n : ℕ) → n ≡ 0 → TakeOf source source' n buf → Taking input room source → Taken SinkFailed input source'
+taken_unwritten input room source source' buf n none p t =
+    let k = took source source' t.left buf n t.tells p in
+    record {
+      given = t.given;
+      left = k.left;
+      tells = k.tells;
+      parts = t.parts ∙ ap (λ l. t.given ++ l) (k.parts ∙ ap (λ i. take i buf ++ k.left) none);
+      gives = omega (arith, t.total);
+    }
+
+-- and the sink failed in it
+unfoldable pub taken_in_piece : (input : List ℕ) (room : ℕ) (source : Option (List ℕ)) → Taking input room source → Taken SinkFailed input source
+taken_in_piece input room source t = record { given = t.given; left = t.left; tells = t.tells; parts = t.parts; gives = omega (arith, t.total) }
+
 -- what a run that stopped took
-gives_stopped : (why : Stop) (given left : List ℕ) → length given ≤ input_limit → Gives (status_of why) given left
+pub gives_stopped : (why : Stop) (given left : List ℕ) → length given ≤ input_limit → Gives (status_of why) given left
 gives_stopped stop.Sink given left few = few
 gives_stopped stop.Disk given left few = few
 
@@ -183,8 +199,8 @@ taking_on input room room' source source' buf bytes n are len within less p t =
     }
 
 -- and the run stopped in it
-unfoldable pub taken_in_piece : (why : Stop) (input : List ℕ) (room : ℕ) (source : Option (List ℕ)) → Taking input room source → Taken (status_of why) input source
-taken_in_piece why input room source t = record { given = t.given; left = t.left; tells = t.tells; parts = t.parts; gives = gives_stopped why t.given t.left (omega (arith, t.total)) }
+unfoldable pub taken_stopped_in_piece : (why : Stop) (input : List ℕ) (room : ℕ) (source : Option (List ℕ)) → Taking input room source → Taken (status_of why) input source
+taken_stopped_in_piece why input room source t = record { given = t.given; left = t.left; tells = t.tells; parts = t.parts; gives = gives_stopped why t.given t.left (omega (arith, t.total)) }
 
 pub ended_source : (o : Origin) (input : List ℕ) (room : ℕ) (source source' : Option (List ℕ)) (now : Outside) (session : Session) → session.output ≡ [] → 0 < room → Keeps source source'
     → Going o input room source now session → Ended SourceFailed o input source' now
@@ -225,9 +241,9 @@ ended_stopped why o input room source source' now behind session buf n none p g 
 pub ended_in_piece : (why : Stop) (o : Origin) (input : List ℕ) (room room' : ℕ) (source source' : Option (List ℕ)) (now behind : Outside) (session : Session) (buf bytes : List ℕ) (n : ℕ)
     → bytes ≡ take n buf → length bytes ≡ n → n ≤ room → room' ≡ room - n → TakeOf source source' n buf
     → (g : Going o input room source now session) → (m : ℕ) × StopsAt why o (ended_lines (g.taking.given ++ take m bytes)) behind → Ended (status_of why) o input source' behind
-unfolding taking_on taken_in_piece
+unfolding taking_on taken_stopped_in_piece
 ended_in_piece why o input room room' source source' now behind session buf bytes n are len within less p g (m, short) = record {
-  taken = taken_in_piece why input room' source' (taking_on input room room' source source' buf bytes n are len within less p g.taking);
+  taken = taken_stopped_in_piece why input room' source' (taking_on input room room' source source' buf bytes n are len within less p g.taking);
   outcome = stops_outcome why o (g.taking.given ++ bytes) behind (record {
     front = g.taking.given ++ take m bytes;
     behind = drop m bytes;

@@ -1,5 +1,5 @@
 -- The end of the input: what waits in the journal's tail is flushed, and the last replies are written.
-use Rattle.std.proofs.Common.{◌≡◌, ◌⊎◌, ℕ, List, [], ◌∷◌, ◌++◌, take, Bool, true, false, Option, Some, None, Result, Ok, Err, inl, inr, refl, sym, ◌∙◌, ap, subst, append-nil}
+use Rattle.std.proofs.Common.{◌≡◌, ℕ, List, [], ◌∷◌, ◌++◌, take, true, Option, Some, None, Result, Ok, Err, inl, inr, refl, sym, ◌∙◌, ap, subst, append-nil}
 use Rattle.std.specs.Bool.{MatchBool}
 use Rattle.std.specs.Result.{OnOk}
 use Rattle.outside.specs.Holding.{Held}
@@ -11,7 +11,8 @@ use Rattle.cache_tier.specs.Replying.{replies_bytes, reply_bytes}
 use Rattle.cache_tier.specs.Rounds.{IsDrained}
 use Rattle.cache_tier.specs.Worlds.{Passes, World}
 use Rattle.cache_tier.specs.declared.reply.Reply.{Reply}
-use Rattle.kept_journal.specs.Keeping.{over_disk}
+use Rattle.kept_journal.specs.Keeping.{is_broken, over_disk}
+use Rattle.stored_tier.proofs.OverLaws.{flush_breaks, never_both}
 use Rattle.tier_journal.specs.declared.journal.TierJournal.{TierJournal}
 use Rattle.cache_engine.specs.Finishing.{IsFinished}
 use Rattle.cache_engine.specs.declared.engine.Engine.{Engine}
@@ -19,9 +20,9 @@ use Rattle.cache_engine.proofs.EngineLaws.{known_of}
 use Rattle.session_cli.specs.declared.answering.Stop.{Stop}
 use Rattle.session_cli.specs.declared.answering.Stop.TheVariants as stop
 use Rattle.session_cli.specs.Cutting.{all_lines}
-use Rattle.session_cli.specs.Outside.{Outside, seen}
+use Rattle.session_cli.specs.Outside.{seen}
 use Rattle.session_cli.specs.Output.{Breaks, Splits}
-use Rattle.session_cli.specs.Serving.{Answered, Closing, EndBroken, Finishes, HasFlushed, Origin, PassesReply, WritesLast}
+use Rattle.session_cli.specs.Serving.{Answered, Closing, EndBroken, Finishes, HasFlushed, Origin, PassesReply, TellsFault, WritesLast}
 use Rattle.session_cli.specs.Timing.{Coming}
 use Rattle.session_cli.proofs.DrainedLaws.{drained_of}
 use Rattle.session_cli.proofs.OutputLaws.{breaks_then, splits_then}
@@ -104,7 +105,7 @@ module _ {D : Type 0} (state : D → SiteState) (possible : D → ℕ → Held �
     are = refl;
   }
 
-  pub finishes_broken : (why : Stop) (reply : Reply) → IsFinished state possible k' d' (Some reply) c.world → WritesLast why written written' waiting (reply_bytes (Some reply)) → Finishes (Err why) o given (seen written' coming state possible d')
+  finishes_broken : (why : Stop) (reply : Reply) → IsFinished state possible k' d' (Some reply) c.world → WritesLast why written written' waiting (reply_bytes (Some reply)) → Finishes (Err why) o given (seen written' coming state possible d')
   finishes_broken stop.Sink reply x p =
       let b : Breaks (Some o.written) written' (replies_bytes c.replies ++ reply_bytes (Some reply)) = breaks_then (Some o.written) written written' (replies_bytes c.replies) waiting (reply_bytes (Some reply)) c.passed p in
       record {
@@ -119,3 +120,9 @@ module _ {D : Type 0} (state : D → SiteState) (possible : D → ℕ → Held �
     tells = told_whole o.written written' (replies_bytes c.replies ++ reply_bytes (Some reply)) (splits_then (Some o.written) written written' (replies_bytes c.replies) waiting (reply_bytes (Some reply)) [] c.passed p)
         ∙ ap (λ l. Some (o.written ++ l)) (sym (replies_push c.replies (Some reply)));
   }
+
+  -- the reply that says so is the last one
+  pub finishes_passed : (r : Result (Unit {0}) Stop) (reply : Reply) (waiting' : List ℕ) → IsFinished state possible k' d' (Some reply) c.world → TellsFault r (Some reply) → PassesReply r written written' waiting waiting' (reply_bytes (Some reply))
+      → Finishes r o given (seen written' coming state possible d')
+  finishes_passed (Ok done) reply waiting' x whole p = absurd (never_both (is_broken (Some reply)) (flush_breaks [] c.world (over_disk x.journal x.faults (state d').moment c.world) reply x.is) whole)
+  finishes_passed (Err why) reply waiting' x told p = finishes_broken why reply x p

@@ -1,5 +1,5 @@
 -- The opening of a run.
-use Rattle.std.proofs.Common.{◌≡◌, ◌⊎◌, ◌≤◌, ℕ, true, false, List, [], ◌++◌, take, Option, Some, None, inl, inr, refl, sym, ◌∙◌, ap, arith, subst, append-nil, lit≤}
+use Rattle.std.proofs.Common.{◌≡◌, ◌⊎◌, ◌≤◌, ℕ, true, false, List, [], ◌++◌, take, Option, Some, inl, inr, refl, sym, ◌∙◌, ap, arith, subst, append-nil, lit≤}
 use Rattle.std.specs.Io.KnownBytes.{Appends}
 use Rattle.std.proofs.KnownBytes.{Appends-nil}
 use Rattle.outside.specs.Faults.{Rose}
@@ -12,7 +12,7 @@ use Rattle.cache_engine.specs.declared.engine.Engine.{Engine}
 use Rattle.tier_opening.specs.declared.opening.OpenError.{OpenError}
 use Rattle.tier_opening.specs.declared.opening.OpenError.TheVariants as open_error
 use Rattle.session_cli.specs.declared.serving.Status.{Status}
-use Rattle.session_cli.specs.declared.serving.Status.TheVariants.{DiskFailed, NoMemory, SchemaFailed, SinkFailed}
+use Rattle.session_cli.specs.declared.serving.Status.TheVariants.{DiskFailed, NoMemory, SchemaFailed, SinkFailed, SourceFailed}
 use Rattle.session_cli.specs.declared.session.Session.{Session}
 use Rattle.session_cli.specs.Ends.{Runs, Serves, takes_none}
 use Rattle.session_cli.specs.Opening.{TellsLine, TellsWhy, begins, unopened_line}
@@ -28,25 +28,25 @@ use Rattle.session_cli.proofs.ServingLaws.{take_rest}
 
 pub is_disk : (status : Status) (sink sink' : Option (List ℕ)) (why : OpenError) → TellsWhy status sink sink' why → status ≡ DiskFailed → why ≡ open_error.Disk
 is_disk status sink sink' open_error.Disk tells is = refl
-is_disk status sink sink' open_error.Bank (inl p) is = cc
-is_disk status sink sink' open_error.Bank (inr p) is = cc
-is_disk status sink sink' (open_error.Damaged slot place) (inl p) is = cc
-is_disk status sink sink' (open_error.Damaged slot place) (inr p) is = cc
-is_disk status sink sink' (open_error.Differs table key) (inl p) is = cc
-is_disk status sink sink' (open_error.Differs table key) (inr p) is = cc
-is_disk status sink sink' open_error.Memory (inl p) is = cc
-is_disk status sink sink' open_error.Memory (inr p) is = cc
+is_disk status sink sink' open_error.Bank (inl (e, told)) is = cc
+is_disk status sink sink' open_error.Bank (inr (e, told)) is = cc
+is_disk status sink sink' (open_error.Damaged slot place) (inl (e, told)) is = cc
+is_disk status sink sink' (open_error.Damaged slot place) (inr (e, told)) is = cc
+is_disk status sink sink' (open_error.Differs table key) (inl (e, told)) is = cc
+is_disk status sink sink' (open_error.Differs table key) (inr (e, told)) is = cc
+is_disk status sink sink' open_error.Memory (inl (e, told)) is = cc
+is_disk status sink sink' open_error.Memory (inr (e, told)) is = cc
 
 pub is_bank : (status : Status) (sink sink' : Option (List ℕ)) (why : OpenError) → TellsWhy status sink sink' why → status ≡ SchemaFailed → why ≡ open_error.Bank
 is_bank status sink sink' open_error.Bank tells is = refl
-is_bank status sink sink' open_error.Disk (inl p) is = cc
-is_bank status sink sink' open_error.Disk (inr p) is = cc
-is_bank status sink sink' (open_error.Damaged slot place) (inl p) is = cc
-is_bank status sink sink' (open_error.Damaged slot place) (inr p) is = cc
-is_bank status sink sink' (open_error.Differs table key) (inl p) is = cc
-is_bank status sink sink' (open_error.Differs table key) (inr p) is = cc
-is_bank status sink sink' open_error.Memory (inl p) is = cc
-is_bank status sink sink' open_error.Memory (inr p) is = cc
+is_bank status sink sink' open_error.Disk (inl (e, told)) is = cc
+is_bank status sink sink' open_error.Disk (inr (e, told)) is = cc
+is_bank status sink sink' (open_error.Damaged slot place) (inl (e, told)) is = cc
+is_bank status sink sink' (open_error.Damaged slot place) (inr (e, told)) is = cc
+is_bank status sink sink' (open_error.Differs table key) (inl (e, told)) is = cc
+is_bank status sink sink' (open_error.Differs table key) (inr (e, told)) is = cc
+is_bank status sink sink' open_error.Memory (inl (e, told)) is = cc
+is_bank status sink sink' open_error.Memory (inr (e, told)) is = cc
 
 pub runs_unopened : (settings : TierSettings) (status : Status) (source : Option (List ℕ)) (before behind : Outside) (why : OpenError) → TellsWhy status before.written behind.written why → (moment : ℕ) → FailsAs moment before.site behind.site why
     → Runs settings status source before source behind
@@ -137,3 +137,18 @@ never_taken status other some is none = never (sym none ∙ ap takes_none (sym i
   where
     never : true ≡ false → ⊥
     never e = cc
+
+-- a run that doesn't begin isn't ended by the source
+pub not_source : (status : Status) (sink sink' : Option (List ℕ)) (why : OpenError) → TellsWhy status sink sink' why → status ≡ SourceFailed → ⊥
+not_source status sink sink' why tells is = by (kinds_of status sink sink' why tells)
+  where
+    by : (takes_none status ≡ true) ⊎ ((status ≡ SinkFailed) ⊎ (status ≡ DiskFailed)) → ⊥
+    by (inl none) = let never : false ≡ true = sym (ap takes_none is) ∙ none in never_true never
+      where
+        never_true : false ≡ true → ⊥
+        never_true e = cc
+    by (inr (inl sunk)) = cc
+    by (inr (inr failed)) = cc
+
+pub rose_behind : (a b c : ℕ) → a ≤ b → Rose b c → Rose a c
+rose_behind a b c le rose = omega (arith, le, rose)

@@ -1,5 +1,5 @@
 -- A run goes on by lines and bytes.
-use Rattle.std.proofs.Common.{◌≡◌, ◌≢◌, ◌⊎◌, ℕ, zero, suc, ◌+◌, ◌<◌, length, get_or, List, [], ◌∷◌, ◌++◌, take, drop, Bool, true, false, Option, Some, None, Result, Ok, Err, inl, inr, refl, sym, ◌∙◌, ap, subst, append-nil, append_assoc, lit≤, take-append-drop}
+use Rattle.std.proofs.Common.{◌≡◌, ◌≢◌, ◌⊎◌, ℕ, zero, suc, ◌+◌, ◌<◌, ◌≤◌, length, get_or, List, [], ◌∷◌, ◌++◌, take, drop, Bool, true, false, Option, Some, None, Result, Ok, Err, inl, inr, refl, sym, ◌∙◌, ap, subst, append-nil, append_assoc, arith, lit≤, take-append-drop}
 use Rattle.std.specs.Io.KnownBytes.{Appends}
 use Rattle.cache_tier.specs.declared.reply.Reply.{Reply}
 use Rattle.cache_tier.specs.Replying.{reply_bytes, replies_bytes}
@@ -10,14 +10,13 @@ use Rattle.cache_engine.specs.declared.engine.Engine.{Engine}
 use Rattle.cache_engine.proofs.EngineLaws.{known_of}
 use Rattle.cache_engine.proofs.RequestLaws.{goes_step}
 use Rattle.stored_tier.specs.Sites.{IsAt}
-use Rattle.outside.specs.Sites.{SiteState}
 use Rattle.session_cli.specs.declared.answering.Stop.{Stop}
 use Rattle.session_cli.specs.declared.answering.Stop.TheVariants as stop
 use Rattle.session_cli.specs.declared.session.Session.{Session}
 use Rattle.session_cli.specs.Cutting.{cut, front_of, text_of, ended_lines, all_lines}
 use Rattle.session_cli.specs.Outside.{Outside}
-use Rattle.session_cli.specs.Output.{Splits, Breaks, Passes}
-use Rattle.session_cli.specs.Serving.{Answered, Broken, BrokenOff, Closes, Closing, Comes, CutShort, Feeds, Finishes, HasFlushed, IsLeftAlone, LineBroken, Origin, PassesReply, Responds, Rests, Serving, StandsIn, StopsAt, Whole, WritesLast}
+use Rattle.session_cli.specs.Output.{Splits, Breaks}
+use Rattle.session_cli.specs.Serving.{Answered, Broken, Closes, Closing, Comes, CutShort, Feeds, HasFlushed, IsLeftAlone, LineBroken, Origin, PassesReply, Responds, Rests, Serving, StandsIn, StopsAt, Whole}
 use Rattle.session_cli.proofs.CuttingLaws.{ended_push, rest_ended, ended_same, rest_push, front_push, front_short, text_front, take_one, take_within, all_ended, all_more}
 use Rattle.session_cli.proofs.DrainedLaws.{drained_of}
 use Rattle.session_cli.proofs.OutputLaws.{splits_then, breaks_then}
@@ -178,6 +177,19 @@ answered_here o given now session s = answered_by o (ended_lines given) s.replie
 pub take_whole : (xs : List ℕ) → take (length xs) xs ≡ xs
 take_whole [] = refl
 take_whole (x ∷ xs) = ap (λ l. x ∷ l) (take_whole xs)
+
+-- all bytes of a piece were taken in
+take_past : (xs : List ℕ) (n : ℕ) → length xs ≤ n → take n xs ≡ xs
+take_past [] zero le = refl
+take_past [] (suc n) le = refl
+take_past (x ∷ xs) zero le = absurd (none le)
+  where
+    none : suc (length xs) ≤ 0 → ⊥
+    none le = let never : ⊥ = omega (arith, le) in never
+take_past (x ∷ xs) (suc n) le = ap (λ l. x ∷ l) (take_past xs n (omega (arith, le)))
+
+pub serving_end : (o : Origin) (given bytes : List ℕ) (i : ℕ) (now : Outside) (session : Session) → length bytes ≤ i → Serving o (given ++ take i bytes) now session → Serving o (given ++ bytes) now session
+serving_end o given bytes i now session le s = subst (λ (l : List ℕ). Serving o (given ++ l) now session) (take_past bytes i le) s
 
 -- WHAT WAITED IS WRITTEN
 

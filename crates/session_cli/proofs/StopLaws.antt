@@ -1,12 +1,12 @@
 -- Why a run stops, and the causes of that.
-use Rattle.std.proofs.Common.{◌≡◌, ◌≤◌, ◌+◌, ◌-◌, ◌^◌, ℕ, min, Bool, true, false, cond, count_by, Option, Some, None, Result, Ok, Err, refl, sym, ap, arith, le_refl}
+use Rattle.std.proofs.Common.{◌≡◌, ◌≤◌, ◌+◌, ◌-◌, ◌^◌, ℕ, min, true, false, cond, count_by, Option, Some, Result, Ok, Err, refl, ap, arith}
 use Rattle.std.specs.Result.{IsErrOf}
 use Rattle.tier_base.specs.declared.code.Code.TheVariants as code
 use Rattle.outside.specs.Faults.{Rose}
 use Rattle.outside.specs.Sites.{SiteState}
-use Rattle.cache_tier.specs.Steps.{faults_in, note_tells, tells}
+use Rattle.cache_tier.specs.Steps.{faults_in, note_tells}
 use Rattle.cache_tier.specs.declared.reply.Reply.{Reply}
-use Rattle.kept_journal.specs.Keeping.{is_broken}
+use Rattle.kept_journal.specs.Keeping.{DiskIsCaused, is_broken}
 use Rattle.tier_journal.specs.declared.journal.TierJournal.{TierJournal}
 use Rattle.cache_engine.specs.Requests.{IsLineCaused}
 use Rattle.session_cli.specs.declared.answering.Stop.{Stop}
@@ -41,6 +41,15 @@ disk_cause result k before behind reply caused told = record { later = (caused.d
     by (Err stop.Disk) t is =
         let one : faults_in code.JournalFault reply ≡ count_by (note_tells code.JournalFault) reply.notes + 1 = ap (λ b. count_by (note_tells code.JournalFault) reply.notes + cond b 1 0) t in
         rose_more before.disk_faults (faults_in code.JournalFault reply) (count_by (note_tells code.JournalFault) reply.notes) behind.disk_faults one (caused.disk reply refl).1
+
+-- or that the flush at the end tells
+pub end_cause : (result : Result (Unit {0}) Stop) (k : Option TierJournal) (before behind : SiteState) (reply : Reply) → DiskIsCaused k before behind (Some reply) → TellsFault result (Some reply) → HasStopCause stop.Disk before.disk_faults behind.disk_faults result
+end_cause result k before behind reply caused told = record { later = caused.later; failed = by result told }
+  where
+    by : (r : Result (Unit {0}) Stop) → TellsFault r (Some reply) → IsErrOf r stop.Disk → Rose before.disk_faults behind.disk_faults
+    by (Ok done) t is = cc
+    by (Err stop.Sink) t is = cc
+    by (Err stop.Disk) t is = caused.failed t
 
 -- the status of a run that stopped tells why
 

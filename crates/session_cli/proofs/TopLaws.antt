@@ -1,5 +1,5 @@
 -- A run that doesn't begin.
-use Rattle.std.proofs.Common.{◌≡◌, ◌≢◌, ◌⊎◌, ◌≤◌, ℕ, List, true, false, refl, sym, ◌∙◌, ap, inl, inr, arith}
+use Rattle.std.proofs.Common.{◌≡◌, ◌⊎◌, ◌≤◌, ℕ, List, true, false, refl, sym, ◌∙◌, ap, inl, inr, arith}
 use Rattle.command_line.specs.declared.command.Command.{Command}
 use Rattle.command_line.specs.declared.command.Command.TheVariants.{Run, Check}
 use Rattle.command_line.specs.declared.settings.Settings.{Settings}
@@ -39,10 +39,15 @@ none_left_of words settings status is (inl asks) s set = none_left words setting
 none_left_of words settings status is (inr asks) s set = none_left words settings status is Check asks s set
 
 -- no other status comes so
-pub no_other : (words : List (List ℕ)) (settings : List ℕ) (status n : ℕ) → Unstarted words settings status → status ≡ n → 3 ≤ n → n ≢ 7 → ⊥
-no_other words settings status n (inl (one, refuses)) is some other = absurd (omega arith)
-no_other words settings status n (inr (inl (two, asked, bad))) is some other = absurd (omega arith)
-no_other words settings status n (inr (inr seven)) is some other = other (sym is ∙ seven)
+pub no_low : (words : List (List ℕ)) (settings : List ℕ) (status n : ℕ) → Unstarted words settings status → status ≡ n → 3 ≤ n → n ≤ 6 → ⊥
+no_low words settings status n (inl (one, refuses)) is some few = absurd (omega arith)
+no_low words settings status n (inr (inl (two, asked, bad))) is some few = absurd (omega arith)
+no_low words settings status n (inr (inr seven)) is some few = absurd (omega arith)
+
+pub no_high : (words : List (List ℕ)) (settings : List ℕ) (status n : ℕ) → Unstarted words settings status → status ≡ n → 8 ≤ n → ⊥
+no_high words settings status n (inl (one, refuses)) is some = absurd (omega arith)
+no_high words settings status n (inr (inl (two, asked, bad))) is some = absurd (omega arith)
+no_high words settings status n (inr (inr seven)) is some = absurd (omega arith)
 
 -- only one status has each of these numbers
 pub is_disk : (status : Status) → number_of status ≡ 5 → status ≡ DiskFailed
@@ -111,3 +116,6 @@ never_of_site status other none is some = never (sym some ∙ ap is_of_site (sym
   where
     never : true ≡ false → ⊥
     never e = cc
+
+pub never_both : true ≡ false → ⊥
+never_both e = cc

@@ -21,7 +21,7 @@ use Rattle.session_cli.specs.Cutting.{ended_lines, all_lines}
 use Rattle.session_cli.specs.Opening.{TellsWhy, begins}
 use Rattle.session_cli.specs.Outside.{Outside}
 use Rattle.session_cli.specs.Serving.{HasFlushed, IsLeftAlone, Origin, Rests, Serving, StopsAt, Whole}
-use Rattle.session_cli.specs.Timing.{Coming, IsNext}
+use Rattle.session_cli.specs.Timing.{IsNext}
 
 -- at most this many bytes are taken without an end
 abbrev pub input_limit : ℕ

@@ -1,17 +1,14 @@
 -- The opening of a run.
 
-use Rattle.std.specs.Prelude.{◌≡◌, ◌⊎◌, ℕ, List, [], ◌∷◌, ◌++◌, Option, Some, codes, take}
+use Rattle.std.specs.Prelude.{◌≡◌, ◌⊎◌, ℕ, List, [], ◌∷◌, ◌++◌, Option, codes, take}
 use Rattle.std.specs.Fmt.{decimal}
 use Rattle.std.specs.Io.KnownBytes.{Appends}
-use Rattle.tier_base.specs.declared.code.Code.TheVariants as code
-use Rattle.row_types.specs.declared.rule.Detail.TheVariants as detail
+use Rattle.row_types.specs.Printing.{printed_key}
 use Rattle.outside.specs.declared.disk.Slot.{Slot}
 use Rattle.outside.specs.declared.disk.Slot.TheVariants.{First, Second}
 use Rattle.command_line.specs.declared.settings.Settings.{Settings}
-use Rattle.cache_tier.specs.Replying.{last_bytes, reply_bytes}
 use Rattle.cache_tier.specs.TierStates.{Settings as TierSettings}
-use Rattle.cache_tier.specs.Worlds.{World, faulty}
-use Rattle.cache_tier.specs.declared.reply.Last.TheVariants.{Fault}
+use Rattle.cache_tier.specs.Worlds.{World}
 use Rattle.tier_opening.specs.declared.opening.OpenError.{OpenError}
 use Rattle.tier_opening.specs.declared.opening.OpenError.TheVariants as open_error
 use Rattle.session_cli.specs.declared.serving.Status.{Status}
@@ -41,12 +38,12 @@ slot_number Second = 1
 
 -- what is written where no engine is opened: `fault 202`, `damaged S P`, `fault 210 TABLE KEY`, or nothing
 abbrev pub unopened_line : OpenError → List ℕ
-unopened_line open_error.Disk = reply_bytes (Some (faulty code.JournalFault))
+unopened_line open_error.Disk = codes "fault 202\n"
 unopened_line open_error.Bank = []
 unopened_line (open_error.Damaged slot place) =
     codes "damaged " ++ (decimal (slot_number slot) ++ (codes " " ++ (decimal place ++ 10 ∷ [])))
 unopened_line (open_error.Differs table key) =
-    last_bytes (Fault (record { code = code.RowDiffers; detail = detail.Row table key }))
+    codes "fault 210 " ++ (table ++ (32 ∷ (printed_key key ++ 10 ∷ [])))
 unopened_line open_error.Memory = []
 
 -- and with which status the run ends then

@@ -66,8 +66,11 @@ pub fn respond<K: Sink, P: Site, C: Clock>(
     }
 }
 
-// Passes the reply on; where it tells a failed call of the journal's disk, it is the last.
-fn pass_on<K: Sink>(output: &mut Output, sink: &mut K, reply: &Reply) -> Result<(), Stop>
+/// Passes a reply on; where it tells a failed call of the journal's disk, it is the last one.
+///
+/// `Disk` exactly where it tells that and is written, with all that waited; `Sink` only where the sink failed or took
+/// nothing of something, and a front is written.
+pub(crate) fn pass_on<K: Sink>(output: &mut Output, sink: &mut K, reply: &Reply) -> Result<(), Stop>
     ensures bytes { PassesReply result (K.written sink.old) (K.written sink.new) output.old output.new
         (reply_bytes (Some reply.now)) }
     ensures tells { TellsFault result (Some reply.now) }
@@ -82,10 +85,9 @@ fn pass_on<K: Sink>(output: &mut Output, sink: &mut K, reply: &Reply) -> Result<
     }
 }
 
-/// Writes all that waits, and behind it the last reply of a run, which tells a failed call of the journal's disk.
-///
-/// `Sink` only where the sink failed or took nothing of something, and a front is written; else it is `Disk`.
-pub(crate) fn write_last_reply<K: Sink>(output: &mut Output, sink: &mut K, reply: &Reply) -> Stop
+// Writes all that waits, and behind it the last reply of a run, which tells a failed call of the journal's disk. It is
+// `Sink` only where the sink failed or took nothing of something, and a front is written.
+fn write_last_reply<K: Sink>(output: &mut Output, sink: &mut K, reply: &Reply) -> Stop
     ensures bytes { WritesLast result (K.written sink.old) (K.written sink.new) output.old
         (reply_bytes (Some reply.now)) }
     ensures cause { IsStopCaused Stop.Sink (K.faults sink.old) (K.faults sink.new) result }
@@ -110,8 +112,8 @@ fn is_disk_fault(last: &Last) -> bool
     }
 }
 
-fn is_journal_fault(code: Code) -> bool
-    ensures { result ≡ nat_eq (number_of code) (number_of code.JournalFault) }
+fn is_journal_fault(told: Code) -> bool
+    ensures { result ≡ nat_eq (number_of told) (number_of code.JournalFault) }
 {
-    code.number() == Code::JournalFault.number()
+    told.number() == Code::JournalFault.number()
 }

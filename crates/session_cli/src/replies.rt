@@ -227,39 +227,23 @@ fn write_differing<K: Sink>(
     key: &Key,
 ) -> Result<(), Failed>
     ensures bytes { Passes result (K.written sink.old) (K.written sink.new) output.old output.new
-        (codes "fault " ++ ((decimal 210 ++ (32 ∷ table.now ++ 32 ∷ printed_key key.now)) ++ 10 ∷ [])) }
+        (codes "fault 210 " ++ (table.now ++ (32 ∷ (printed_key key.now ++ 10 ∷ [])))) }
     ensures cause { HasCause (K.faults sink.old) (K.faults sink.new) result }
 {
-    output.put(sink, b"fault ")?;
-    write_coded_row(output, sink, table, key)
+    output.put(sink, b"fault 210 ")?;
+    output.put(sink, table)?;
+    write_key_line(output, sink, key)
 }
 
-fn write_coded_row<K: Sink>(
-    output: &mut Output,
-    sink: &mut K,
-    table: &[u8],
-    key: &Key,
-) -> Result<(), Failed>
+// A blank and a key, which end the line.
+fn write_key_line<K: Sink>(output: &mut Output, sink: &mut K, key: &Key) -> Result<(), Failed>
     ensures bytes { Passes result (K.written sink.old) (K.written sink.new) output.old output.new
-        ((decimal 210 ++ (32 ∷ table.now ++ 32 ∷ printed_key key.now)) ++ 10 ∷ []) }
+        (32 ∷ (printed_key key.now ++ 10 ∷ [])) }
     ensures cause { HasCause (K.faults sink.old) (K.faults sink.new) result }
 {
-    write_code_and_row(output, sink, table, key)?;
+    output.put(sink, b" ")?;
+    write_key(output, sink, key)?;
     output.put(sink, b"\n")
-}
-
-fn write_code_and_row<K: Sink>(
-    output: &mut Output,
-    sink: &mut K,
-    table: &[u8],
-    key: &Key,
-) -> Result<(), Failed>
-    ensures bytes { Passes result (K.written sink.old) (K.written sink.new) output.old output.new
-        (decimal 210 ++ (32 ∷ table.now ++ 32 ∷ printed_key key.now)) }
-    ensures cause { HasCause (K.faults sink.old) (K.faults sink.new) result }
-{
-    write_code(output, sink, Code::RowDiffers)?;
-    write_row(output, sink, table, key)
 }
 
 // A blank and a number.

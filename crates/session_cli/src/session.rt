@@ -1,6 +1,6 @@
 //! A session over the input's bytes as they come.
 
-use crate::answering::{Stop, respond, write_last_reply};
+use crate::answering::{Stop, pass_on, respond};
 use crate::line::LineBuffer;
 use crate::output::Output;
 use cache_engine::engine::Engine;
@@ -113,7 +113,7 @@ impl Session {
     {
         match finish_engine(&mut self.engine, alloc, site) {
             Ok(()) => self.flush(sink),
-            Err(reply) => Err(write_last_reply(&mut self.output, sink, &reply)),
+            Err(reply) => pass_on(&mut self.output, sink, &reply),
         }
     }
 
@@ -145,7 +145,8 @@ impl Session {
         ensures serves { (o : Origin) (given : List ℕ) → IsLeftAlone o given → Serving o given
             (seen (K.written sink.old) (C.coming clock.old) P.Disk.state P.Disk.possible site.old) self.old
             → Closes result o given
-            (seen (K.written sink.new) (C.coming clock.new) P.Disk.state P.Disk.possible site.new) self.new.engine self.new.output }
+            (seen (K.written sink.new) (C.coming clock.new) P.Disk.state P.Disk.possible site.new)
+            self.new.engine self.new.output }
         ensures order { IsInOrder self.new.engine }
         ensures cause { HasStopCause Stop.Sink (K.faults sink.old) (K.faults sink.new) result }
         ensures disk { HasStopCause Stop.Disk (P.Disk.state site.old).disk_faults

@@ -12,12 +12,12 @@ ghost use Rattle.tier_opening.specs.Telling.{FindHasCause, IsTold, OpenIsCaused}
 
 use outside::{BankError, Site, Slot};
 use recalling::{RecallError, recall};
+use recovery::recalled_law;
 use reopening::reopen;
 use reopening::start::{ReopenError, Start};
 use row_types::Key;
 use std::alloc::{AllocError, Global};
 use stored_tier::tier::Tier;
-use recovery::recalled_law;
 use table_defs::{BackingSchema, TableDef, copied_schema};
 use tier_base::{Moment, Name, TableId};
 use tier_journal::{OpenError as JournalError, Record, TierJournal, open};

@@ -2,14 +2,20 @@
 //!
 //! `ttcache run` reads request lines from standard input and writes replies to standard output; `ttcache check` says of
 //! each line whether it is spelt right. `ttcache make N` writes the generated script of a number, and `ttcache bench N`
-//! runs that script on a new site in memory and writes what its run comes to. It ends with the status that `session_cli::top` answers, or with 11 where the
+//! runs that script on a new site in memory and writes what its run comes to.
+//!
+//! `run` works on files in the working folder: the journal's slots `ttcache.j0` and `ttcache.j1`, and the backing database
+//! `ttcache.db`. It ends with the status that `session_cli::top` answers, or with 11 where a file can't be opened or the
 //! settings can't be read. Of each status other than 0 it says on standard error in one line what happened.
 #![tactic(auto)]
 
+mod files;
 mod streams;
 mod system_clock;
 
 use backing_gate::MemorySite;
+use files::{SiteError, open_site};
+use outside::Site;
 use session_cli::top;
 use std::alloc::{AllocError, Global};
 use std::io::ErrorKind;
@@ -35,14 +41,22 @@ fn main(rt: HostRuntime) -> ExitCode {
 }
 
 fn status(rt: &HostRuntime) -> u8 {
-    let status = match settings(rt) {
+    let end = match settings(rt) {
         Some(settings) => run(rt, settings.as_slice()),
-        None => CANNOT_OPEN,
+        None => Err(SETTINGS),
     };
-    if let Some(meaning) = meaning(status) {
-        let _ = eprintln!(rt; "{meaning}");
+    match end {
+        Err(name) => {
+            let _ = eprintln!(rt; "ttcache: cannot open {name}");
+            CANNOT_OPEN
+        }
+        Ok(status) => {
+            if let Some(meaning) = meaning(status) {
+                let _ = eprintln!(rt; "{meaning}");
+            }
+            status
+        }
     }
-    status
 }
 
 // What a status other than 0 says.
@@ -54,12 +68,11 @@ fn meaning(status: u8) -> Option<&'static str> {
         3 => Some("ttcache: standard input failed"),
         4 => Some("ttcache: standard output failed"),
         5 => Some("ttcache: the journal's disk failed"),
-        6 => Some("ttcache: the backing database failed as it was asked for its tables"),
+        6 => Some("ttcache: the backing database failed as the tier was opened"),
         NO_MEMORY => Some("ttcache: memory is wanting"),
         8 => Some("ttcache: the journal is damaged"),
         9 => Some("ttcache: a row of the backing database isn't as the journal says"),
         10 => Some("ttcache: standard input is longer than 4294967296 bytes"),
-        CANNOT_OPEN => Some("ttcache: cannot open ttcache.toml"),
         _ => Some("ttcache: unknown status"),
     }
 }
@@ -77,36 +90,58 @@ fn settings(rt: &HostRuntime) -> Option<Vec<u8>> {
     }
 }
 
-// Calls the program with the real objects.
-fn run(rt: &HostRuntime, settings: &[u8]) -> u8 {
+// Calls the program with the words that it was called with, over the site that they want. The error is the name of a file
+// that can't be opened.
+fn run(rt: &HostRuntime, settings: &[u8]) -> Result<u8, &'static str> {
     let args = match env::args(rt) {
         Ok(args) => args,
         Err(error) => {
             if error.kind() == ErrorKind::OutOfMemory {
-                return NO_MEMORY;
+                return Ok(NO_MEMORY);
             }
-            return WRONG_WORDS;
+            return Ok(WRONG_WORDS);
         }
     };
     let Ok(args) = args.collect::<Vec<String>>(rt.alloc()) else {
-        return NO_MEMORY;
+        return Ok(NO_MEMORY);
     };
     let Ok(words) = words_of(rt.alloc(), args.as_slice()) else {
-        return NO_MEMORY;
+        return Ok(NO_MEMORY);
     };
+    let words = words.as_slice();
+    if wants_files(words) {
+        return match open_site(rt) {
+            Ok(mut site) => Ok(call(rt, words, settings, &mut site)),
+            Err(SiteError::Memory) => Ok(NO_MEMORY),
+            Err(SiteError::Unopened(name)) => Err(name),
+        };
+    }
+    match MemorySite::new(rt.alloc()) {
+        Ok(mut site) => Ok(call(rt, words, settings, &mut site)),
+        Err(_) => Ok(NO_MEMORY),
+    }
+}
+
+// Whether these words are those of a command that works on files.
+fn wants_files(words: &[&str]) -> bool {
+    match words.get(1) {
+        Some(word) => *word == "run",
+        None => false,
+    }
+}
+
+// Calls the program with the real streams and the real clock, over this site.
+fn call<P: Site>(rt: &HostRuntime, words: &[&str], settings: &[u8], site: &mut P) -> u8 {
     let mut source = ReaderSource::new(rt.stdin());
     let mut sink = WriterSink::new(rt.stdout());
-    let Ok(mut site) = MemorySite::new(rt.alloc()) else {
-        return NO_MEMORY;
-    };
     let mut clock = SystemClock::new(*rt);
     top(
         rt.alloc(),
-        words.as_slice(),
+        words,
         settings,
         &mut source,
         &mut sink,
-        &mut site,
+        site,
         &mut clock,
     )
 }

@@ -1,15 +1,17 @@
-use Rattle.std.proofs.Common.{refl, inl, inr, sym, ◌∙◌, ap}
+use Rattle.std.proofs.Common.{refl, inl, inr, sym, ◌∙◌, ap, lit≤}
 use Rattle.command_line.specs.declared.command.Command.TheVariants as command
 use Rattle.command_line.specs.declared.settings.Settings.{Settings}
 use Rattle.command_line.specs.Words.{texts}
 use Rattle.script_commands.specs.declared.commands.End.TheVariants as end
 use Rattle.std.proofs.KnownBytes.{Appends-nil}
-use Rattle.session_cli.specs.declared.serving.Status.TheVariants.{NoMemory}
+use Rattle.session_cli.specs.declared.serving.Status.TheVariants.{DiskFailed, NoMemory, SchemaFailed}
+use Rattle.session_cli.specs.Ends.{takes_none}
 use Rattle.session_cli.specs.Opening.{tier_settings}
-use Rattle.session_cli.proofs.EndsLaws.{runs_unopened, taken_unstarted}
+use Rattle.session_cli.proofs.EndsLaws.{taken_unstarted}
+use Rattle.session_cli.proofs.OpeningLaws.{runs_unstarted}
 use Rattle.session_cli.proofs.CheckLaws.{check_unstarted}
 use Rattle.session_cli.proofs.ImportingLaws.{import_unstarted}
-use Rattle.session_cli.proofs.TopLaws.{words_of, refused_of, settings_of, bad_of, is_damage, is_schema, none_left, none_left_of, no_other}
+use Rattle.session_cli.proofs.TopLaws.{words_of, refused_of, settings_of, bad_of, damage_of_site, damage_untaken, is_damage, is_disk, is_schema, never_both, never_of_site, no_low, none_left, none_left_of}
 use Rattle.session_cli.proofs.program.top.Goals as goal
 
 pub returns-in-Err-clause-words : goal.returns-in-Err-clause-words
@@ -25,7 +27,7 @@ pub returns-in-Err-clause-bad : goal.returns-in-Err-clause-bad
 returns-in-Err-clause-bad g c = λ task asks bad. bad_of (texts c.args.words.now) c.args.settings.now c.in-Err.status c.in-Err.ensures task asks
 
 pub returns-in-Err-clause-runs : goal.returns-in-Err-clause-runs
-returns-in-Err-clause-runs g c = λ asks s set. (NoMemory, none_left (texts c.args.words.now) c.args.settings.now c.in-Err.status c.in-Err.ensures command.Run asks s set, runs_unopened (tier_settings s) _ _ _ refl refl)
+returns-in-Err-clause-runs g c = λ asks s set. (NoMemory, none_left (texts c.args.words.now) c.args.settings.now c.in-Err.status c.in-Err.ensures command.Run asks s set, runs_unstarted (tier_settings s) _ _ _ refl)
 
 pub returns-in-Err-clause-checks : goal.returns-in-Err-clause-checks
 returns-in-Err-clause-checks g c = λ asks s set. (NoMemory, none_left (texts c.args.words.now) c.args.settings.now c.in-Err.status c.in-Err.ensures command.Check asks s set, λ input start source sink. check_unstarted input start _ _ source sink)
@@ -43,10 +45,10 @@ pub returns-in-Err-clause-imports : goal.returns-in-Err-clause-imports
 returns-in-Err-clause-imports g c = λ any asks s set. (any, asks, NoMemory, none_left (texts c.args.words.now) c.args.settings.now c.in-Err.status c.in-Err.ensures (command.Import any) asks s set, import_unstarted (tier_settings s) any.now _ _ _ refl)
 
 pub returns-in-Err-clause-read : goal.returns-in-Err-clause-read
-returns-in-Err-clause-read g c = λ three. absurd (no_other (texts c.args.words.now) c.args.settings.now c.in-Err.status 3 c.in-Err.ensures (inl refl) three)
+returns-in-Err-clause-read g c = λ three. absurd (no_low (texts c.args.words.now) c.args.settings.now c.in-Err.status 3 c.in-Err.ensures three (lit≤ tt) (lit≤ tt))
 
 pub returns-in-Err-clause-write : goal.returns-in-Err-clause-write
-returns-in-Err-clause-write g c = λ four. absurd (no_other (texts c.args.words.now) c.args.settings.now c.in-Err.status 4 c.in-Err.ensures (inr refl) four)
+returns-in-Err-clause-write g c = λ four. absurd (no_low (texts c.args.words.now) c.args.settings.now c.in-Err.status 4 c.in-Err.ensures four (lit≤ tt) (lit≤ tt))
 
 pub returns-in-Run-clause-runs : goal.returns-in-Run-clause-runs
 returns-in-Run-clause-runs g c = λ asks s set.
@@ -76,11 +78,37 @@ returns-in-Check-clause-unread g c = λ auto. elim auto [
   | inr bad ↦ absurd (bad c.in-Ok.asked.settings c.in-Ok.ensures.1)
 ]
 
+pub returns-in-Err-clause-disk : goal.returns-in-Err-clause-disk
+returns-in-Err-clause-disk g c = λ five. absurd (no_low (texts c.args.words.now) c.args.settings.now c.in-Err.status 5 c.in-Err.ensures five (lit≤ tt) (lit≤ tt))
+
+pub returns-in-Run-clause-disk : goal.returns-in-Run-clause-disk
+returns-in-Run-clause-disk g c = λ five. c.run.ensures.disk (is_disk c.run.result (sym c.number.ensures ∙ five))
+
+pub returns-in-Run-clause-unopened : goal.returns-in-Run-clause-unopened
+returns-in-Run-clause-unopened g c = λ six.
+    let is = is_schema c.run.result (sym c.number.ensures ∙ six) in
+    (c.run.ensures.untaken (ap takes_none is), c.run.ensures.untold (inl is))
+
+pub returns-in-Run-clause-untaken : goal.returns-in-Run-clause-untaken
+returns-in-Run-clause-untaken g c = λ either. c.run.ensures.untaken (damage_untaken c.run.result (elim either [
+  | inl eight ↦ inl (sym c.number.ensures ∙ eight)
+  | inr nine ↦ inr (sym c.number.ensures ∙ nine)
+]))
+
+pub returns-in-Check-clause-disk : goal.returns-in-Check-clause-disk
+returns-in-Check-clause-disk g c = λ five. absurd (never_of_site c.check.result DiskFailed c.check.ensures.alone (is_disk c.check.result (sym c.number-in-Check.ensures ∙ five)) refl)
+
 pub returns-in-Check-clause-unopened : goal.returns-in-Check-clause-unopened
-returns-in-Check-clause-unopened g c = λ six. absurd (c.check.ensures.schema (is_schema c.check.result (sym c.number-in-Check.ensures ∙ six)))
+returns-in-Check-clause-unopened g c = λ six. absurd (never_of_site c.check.result SchemaFailed c.check.ensures.alone (is_schema c.check.result (sym c.number-in-Check.ensures ∙ six)) refl)
 
 pub returns-in-Check-clause-schema : goal.returns-in-Check-clause-schema
-returns-in-Check-clause-schema g c = λ six. absurd (c.check.ensures.schema (is_schema c.check.result (sym c.number-in-Check.ensures ∙ six)))
+returns-in-Check-clause-schema g c = λ six. absurd (never_of_site c.check.result SchemaFailed c.check.ensures.alone (is_schema c.check.result (sym c.number-in-Check.ensures ∙ six)) refl)
+
+pub returns-in-Check-clause-untaken : goal.returns-in-Check-clause-untaken
+returns-in-Check-clause-untaken g c = λ either. absurd (never_both (sym (damage_of_site c.check.result (elim either [
+  | inl eight ↦ inl (sym c.number-in-Check.ensures ∙ eight)
+  | inr nine ↦ inr (sym c.number-in-Check.ensures ∙ nine)
+])) ∙ c.check.ensures.alone))
 
 pub returns-in-Make-clause-bad : goal.returns-in-Make-clause-bad
 returns-in-Make-clause-bad g c = λ task asks bad. absurd (bad c.in-Ok.asked.settings c.in-Ok.ensures.1)

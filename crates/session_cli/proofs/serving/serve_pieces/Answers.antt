@@ -1,6 +1,6 @@
 use Rattle.std.proofs.Common.{rules, ◌≡◌, ◌≤◌, ◌++◌, ◌∙◌, ap, length, take, drop, refl, sym, arith, lit≤}
 use Rattle.std.proofs.lemmas.List.{take-append-le, length-take-le}
-use Rattle.session_cli.proofs.EndsLaws.{alone_given, alone_piece, going_new, taking_new, going_on, taking_on, ended_source, ended_long, ended_all, ended_stopped, ended_in_piece, taken_failed, taken_long, taken_all, taken_stopped, taken_in_piece, has_room, fits_room, keeps_length}
+use Rattle.session_cli.proofs.EndsLaws.{alone_given, alone_piece, going_new, taking_new, going_on, taking_on, ended_source, ended_long, ended_all, ended_stopped, ended_in_piece, taken_failed, taken_long, taken_all, taken_stopped, taken_stopped_in_piece, has_room, fits_room, keeps_length}
 use Rattle.session_cli.specs.declared.answering.Stop.TheVariants as stop
 use Rattle.session_cli.specs.Ends.{takes_none}
 use Rattle.session_cli.proofs.StopLaws.{is_disk, is_sink, not_source, stop_on, takes_some}
@@ -74,7 +74,7 @@ returns-in-Err-feed-clause-takes g c = λ input source.
     let bytes = take c.in-Ok.count (c.take.new.buf ++ drop c.min-want.result c.loop-room.piece) in
     let are : bytes ≡ take c.in-Ok.count c.take.new.buf = take-append-le c.in-Ok.count c.take.new.buf (drop c.min-want.result c.loop-room.piece) c.in-Ok.ensures.bound in
     rw c.status_of-in-Err-feed.ensures
-    (taken_in_piece c.in-Err-feed.stop input _ _
+    (taken_stopped_in_piece c.in-Err-feed.stop input _ _
     (taking_on input c.loop-room.room _ _ _ c.take.new.buf bytes c.in-Ok.count are (ap length are ∙ length-take-le c.in-Ok.count c.take.new.buf c.in-Ok.ensures.bound)
     (fits_room c.take.new.buf c.loop-room.piece c.min-want.result c.loop-room.room c.in-Ok.count c.min-want.ensures c.take.auto.buf c.in-Ok.ensures.bound) refl c.in-Ok.ensures.bytes (c.loop-room.invariant.taking input source)))
 

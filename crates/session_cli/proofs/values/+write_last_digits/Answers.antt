@@ -1,5 +1,4 @@
-use Rattle.std.proofs.Common.{ℕ, zero, suc, ◌<◌, ◌≡◌, ◌+◌, ◌-◌, ◌/◌, ◌%◌, ◌++◌, ◌∷◌, [], List, sym, subst, Option, arith}
-use Rattle.numbers.specs.NumberTexts.{last_digits}
+use Rattle.std.proofs.Common.{ℕ, List, sym, subst, arith}
 use Rattle.session_cli.specs.Output.{Passes}
 use Rattle.session_cli.proofs.OutputLaws.{passes_failed, passes_then}
 use Rattle.session_cli.proofs.DigitLaws.{last_digits_more}

@@ -9,8 +9,7 @@ returns-then-version-ne2-clause-cause g c = record {
   bank = c.open.ensures.cause.bank;
   shared = c.open.ensures.cause.shared;
   failed = λ o told bytes.
-      let f = subst (λ (x : Found). Finds g.P.Disk.state g.P.Disk.possible c.open.new.d c.args.schema.now o x) c.in-Ok-into_whole.ensures.whole (c.in-Ok.ensures.found o told bytes) in
-      (
+      let f = subst (λ (x : Found). Finds g.P.Disk.state g.P.Disk.possible c.open.new.d c.args.schema.now o x) c.in-Ok-into_whole.ensures.whole (c.in-Ok.ensures.found o told bytes) in (
         f.now.slots,
         inr (record {
           journal = c.in-Ok-into_whole.journal;

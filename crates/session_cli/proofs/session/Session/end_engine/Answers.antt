@@ -1,14 +1,19 @@
-use Rattle.session_cli.proofs.FinishLaws.{finishes_broken, finishes_flushed}
+use Rattle.session_cli.proofs.FinishLaws.{finishes_flushed, finishes_passed}
+use Rattle.session_cli.proofs.StopLaws.{end_cause}
 use Rattle.session_cli.proofs.session.Session.end_engine.Goals as goal
 
 pub returns-in-Ok-clause-serves : goal.returns-in-Ok-clause-serves
 returns-in-Ok-clause-serves g c = λ o given coming closing.
-    finishes_flushed g.P.Disk.state g.P.Disk.possible o given (g.K.Sink.written c.args.sink.now) (g.K.Sink.written c.flush.new.sink) coming c.args.site.now c.finish_engine.new.site
-    c.args.self.now.engine c.finish_engine.new.engine.journal c.args.self.now.output closing c.flush.result c.flush.new.self.output c.flush.ensures.sink
+    finishes_flushed g.P.Disk.state g.P.Disk.possible o given (g.K.Sink.written c.args.sink.now) (g.K.Sink.written c.flush.new.sink) coming c.args.site.now c.finish.new.site
+    c.args.self.now.engine c.finish.new.engine.journal c.args.self.now.output closing c.flush.result c.flush.new.self.output c.flush.ensures.sink
     (c.in-Ok.ensures.finishes closing.world closing.at closing.stands.keeps) c.flush.ensures.bytes c.flush.ensures.empty
 
 pub returns-in-Err-clause-serves : goal.returns-in-Err-clause-serves
 returns-in-Err-clause-serves g c = λ o given coming closing.
-    finishes_broken g.P.Disk.state g.P.Disk.possible o given (g.K.Sink.written c.args.sink.now) (g.K.Sink.written c.write_last_reply.new.sink) coming c.args.site.now c.finish_engine.new.site
-    c.args.self.now.engine c.finish_engine.new.engine.journal c.args.self.now.output closing c.write_last_reply.result c.in-Err.reply
-    (c.in-Err.ensures.finishes closing.world closing.at closing.stands.keeps) c.write_last_reply.ensures.bytes
+    finishes_passed g.P.Disk.state g.P.Disk.possible o given (g.K.Sink.written c.args.sink.now) (g.K.Sink.written c.pass_on.new.sink) coming c.args.site.now c.finish.new.site
+    c.args.self.now.engine c.finish.new.engine.journal c.args.self.now.output closing c.pass_on.result c.in-Err.reply c.pass_on.new.output
+    (c.in-Err.ensures.finishes closing.world closing.at closing.stands.keeps) c.pass_on.ensures.tells c.pass_on.ensures.bytes
+
+pub returns-in-Err-clause-disk : goal.returns-in-Err-clause-disk
+returns-in-Err-clause-disk g c =
+    end_cause c.pass_on.result c.args.self.now.engine.journal (g.P.Disk.state c.args.site.now) (g.P.Disk.state c.finish.new.site) c.in-Err.reply c.in-Err.ensures.cause c.pass_on.ensures.tells
