@@ -28,7 +28,7 @@ use Rattle.session_cli.specs.Outside.{Outside, seen}
 use Rattle.session_cli.specs.Output.{Breaks, Passes, Splits}
 use Rattle.session_cli.specs.Timing.{Coming, IsNext}
 use Rattle.session_cli.proofs.EndsLaws.{TakeOf, took}
-use Rattle.session_cli.proofs.OpeningLaws.{is_bank, is_disk, tells_memory}
+use Rattle.session_cli.proofs.OpeningLaws.{is_bank, is_disk, not_source, tells_memory}
 use Rattle.session_cli.proofs.OutputLaws.{breaks_flushed, splits_flushed}
 use Rattle.session_cli.proofs.ServingLaws.{take_rest}
 
@@ -123,6 +123,16 @@ import_bank status sink sink' open_error.Bank tells is = refl
 import_bank status sink sink' (open_error.Damaged slot place) tells is = is_bank status sink sink' (open_error.Damaged slot place) tells is
 import_bank status sink sink' (open_error.Differs table key) tells is = is_bank status sink sink' (open_error.Differs table key) tells is
 import_bank status sink sink' open_error.Memory tells is = is_bank status sink sink' open_error.Memory tells is
+
+pub import_not_source : (status : Status) (sink sink' : Option (List ℕ)) (why : OpenError) → TellsImport status sink sink' why → status ≡ SourceFailed → ⊥
+import_not_source status sink sink' open_error.Disk tells is = never (sym tells.0 ∙ is)
+  where
+    never : DiskFailed ≡ SourceFailed → ⊥
+    never e = cc
+import_not_source status sink sink' open_error.Bank tells is = not_source status sink sink' open_error.Bank tells is
+import_not_source status sink sink' (open_error.Damaged slot place) tells is = not_source status sink sink' (open_error.Damaged slot place) tells is
+import_not_source status sink sink' (open_error.Differs table key) tells is = not_source status sink sink' (open_error.Differs table key) tells is
+import_not_source status sink sink' open_error.Memory tells is = not_source status sink sink' open_error.Memory tells is
 
 module _ {D : Type 0} (state : D → SiteState) (possible : D → ℕ → Held → Type 0) where
   pub import_opened : (settings : TierSettings) (propagate_ms first : ℕ) (e : Engine) (status : Status) (word : List ℕ) (source source' written : Option (List ℕ)) (bases : Coming) (d m : D) (behind : Outside) → settings.propagate_ms ≡ propagate_ms

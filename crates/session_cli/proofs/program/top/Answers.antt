@@ -136,3 +136,27 @@ returns-in-Import-clause-unread g c = λ auto. elim auto [
   | inl refuses ↦ absurd (refuses c.in-Ok.ensures.0.0)
   | inr bad ↦ absurd (bad c.in-Ok.asked.settings c.in-Ok.ensures.1)
 ]
+
+pub returns-in-Import-clause-disk : goal.returns-in-Import-clause-disk
+returns-in-Import-clause-disk g c = λ five. c.import.ensures.disk (is_disk c.import.result (sym c.number-in-Import.ensures ∙ five))
+
+pub returns-in-Import-clause-unopened : goal.returns-in-Import-clause-unopened
+returns-in-Import-clause-unopened g c = λ six.
+    let is = is_schema c.import.result (sym c.number-in-Import.ensures ∙ six) in
+    (c.import.ensures.untaken (inl is), c.import.ensures.untold is)
+
+pub returns-in-Import-clause-untaken : goal.returns-in-Import-clause-untaken
+returns-in-Import-clause-untaken g c = λ either. c.import.ensures.untaken (inr (is_damage c.import.result (elim either [
+  | inl eight ↦ inl (sym c.number-in-Import.ensures ∙ eight)
+  | inr nine ↦ inr (sym c.number-in-Import.ensures ∙ nine)
+])))
+
+pub returns-in-Import-clause-unasked : goal.returns-in-Import-clause-unasked
+returns-in-Import-clause-unasked g c = λ s set script.
+    let same = c.settings_law.ensures.one c.args.settings.now s c.in-Ok.asked.settings set c.in-Ok.ensures.1 in
+    c.import.ensures.unasked (sym (ap (λ (x : Settings). x.clock) same) ∙ script)
+
+pub returns-in-Import-clause-imports : goal.returns-in-Import-clause-imports
+returns-in-Import-clause-imports g c = λ any asks s set.
+    let same = c.settings_law.ensures.one c.args.settings.now s c.in-Ok.asked.settings set c.in-Ok.ensures.1 in
+    (c.in-Import.word, c.in-Ok.ensures.0, c.import.result, c.number-in-Import.ensures, rw same c.import.ensures.imports)
