@@ -13,6 +13,7 @@ pub mod EarlyLaws
 pub mod EngineLaws
 pub mod FinishingLaws
 pub mod GrowingLaws
+pub mod ImportingLaws
 pub mod JournalKept
 pub mod LineLaws
 pub mod OpeningLaws

@@ -4,6 +4,7 @@ pub mod DueItems
 pub mod Engines
 pub mod Finishing
 pub mod Growing
+pub mod Importing
 pub mod Opening
 pub mod Requests
 pub mod Serving

@@ -111,7 +111,7 @@ fn table_of(write: &Write) -> &Name
 }
 
 // The reply to what became of them at the bank.
-fn reply_to_writes(alloc: Global, end: Result<Done, BankError>) -> Reply
+pub(crate) fn reply_to_writes(alloc: Global, end: Result<Done, BankError>) -> Reply
     ensures { result ≡ passed_reply end }
 {
     match end {

@@ -13,6 +13,7 @@ pub mod early;
 pub mod engine;
 pub mod finishing;
 pub mod growing;
+pub mod importing;
 pub mod opening;
 pub mod request;
 pub mod schema;

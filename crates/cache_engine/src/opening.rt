@@ -1,6 +1,6 @@
 //! How an engine is opened with its journal.
 
-ghost use Rattle.std.specs.Prelude.{◌≡◌, IfOk, true};
+ghost use Rattle.std.specs.Prelude.{◌≡◌, IfOk, None, true};
 ghost use Rattle.cache_engine.specs.Engines.{IsInOrder};
 ghost use Rattle.cache_engine.specs.Opening.{OpensOver, has_journal};
 ghost use Rattle.tier_opening.specs.Telling.{OpenIsCaused};
@@ -24,6 +24,7 @@ pub fn open<P: Site>(
     propagate_ms: u64,
 ) -> Result<Engine, OpenError>
     ensures opens { IfOk result (OpensOver P.Disk.state P.Disk.possible start.0 propagate_ms site.old site.new) }
+    ensures doubt { IfOk result (λ engine. engine.doubt ≡ None) }
     ensures order { IfOk result IsInOrder }
     ensures journal { IfOk result (λ engine. has_journal engine.journal ≡ true) }
     ensures cause { OpenIsCaused start.0 (P.Disk.state site.old) (P.Disk.state site.new) result }

@@ -5,6 +5,7 @@ pub mod DrainedLaws
 pub mod EndsLaws
 pub mod FinishLaws
 pub mod FlatMaps
+pub mod ImportingLaws
 pub mod OpeningLaws
 pub mod OutputLaws
 pub mod RunLaws

@@ -1,6 +1,7 @@
 pub mod Checking
 pub mod Cutting
 pub mod Ends
+pub mod Importing
 pub mod Opening
 pub mod Output
 pub mod Outside

@@ -1,6 +1,7 @@
 //! The program's one way in.
 
 ghost use Rattle.std.specs.Prelude.{◌≡◌, ◌⊎◌, ℕ, List, Option, MatchResult, true};
+ghost use Rattle.std.specs.Borrow.{Bor};
 ghost use Rattle.outside.specs.Faults.{Rose};
 ghost use Rattle.cache_tier.specs.declared.reply.Reply.{Reply};
 ghost use Rattle.cache_tier.specs.MoreFacts.{FaultsAreCaused};
@@ -15,6 +16,7 @@ ghost use Rattle.script_commands.specs.Commands.{Benches, Makes, number_of as nu
 ghost use Rattle.script_commands.specs.declared.commands.End.{End};
 ghost use Rattle.session_cli.specs.Checking.{AreChecked, CheckRuns};
 ghost use Rattle.session_cli.specs.Ends.{Runs, Takes, Unstarted, number_of, takes_none};
+ghost use Rattle.session_cli.specs.Importing.{ImportRuns};
 ghost use Rattle.session_cli.specs.Opening.{tier_settings};
 ghost use Rattle.session_cli.specs.Outside.{seen};
 ghost use Rattle.session_cli.specs.Timing.{bases_by};
@@ -22,6 +24,7 @@ ghost use Rattle.session_cli.specs.Timing.{bases_by};
 use crate::checker::check_law;
 use crate::checking::check;
 use crate::fixed_clock::FixedClock;
+use crate::importing::import;
 use crate::laws::caused_law;
 use crate::serving::{Status, serve};
 use command_line::{
@@ -44,34 +47,38 @@ const NO_MEMORY: u8 = 7;
 
 /// The program, over its words, its settings and the world outside. The answer is its status:
 ///
-/// - 0: the input was read to its end, and in `run` nothing waits in the journal's tail; of `make` and `bench` all was
-///   written.
+/// - 0: the input was read to its end, and in `run` nothing waits in the journal's tail; of `import` the reply is written,
+///   which may refuse the file; of `make` and `bench` all was written.
 /// - 1: exactly where `clap` refuses the words for another cause than memory. Nothing else is looked at.
 /// - 2: exactly where the words are taken and the settings are refused for another cause than memory: they are no TOML
 ///   table, or a key isn't known, or a value is of the wrong type or out of its range. Nothing else is looked at.
-/// - 3: the source failed in this call. All lines that ended before are answered.
+/// - 3: the source failed in this call. All lines that ended before are answered; in `import` nothing is done.
 /// - 4: the sink failed in this call, or took nothing of something. A front of the replies is written.
 /// - 5: in `run`, a call of the journal's disk failed. The last line that is written is `fault 202`: at the opening, with
-///   no line answered; at a line, whose reply it ends, and no line behind it is answered; or behind the last line.
-/// - 6: in `run`, the backing database failed in this call as the tier asked it for its schema at the opening. No line
-///   is answered, and neither source nor sink is touched.
+///   no line answered; at a line, whose reply it ends, and no line behind it is answered; or behind the last line. In
+///   `import` such a call failed at the opening, and nothing is written.
+/// - 6: in `run` and `import`, the backing database failed in this call as the tier asked it for its schema at the
+///   opening. No line is answered, and neither source nor sink is touched.
 /// - 7: want of memory before the first request, the words', the settings' and the opening's included; no line is
-///   answered then. In `check` also want of memory for a line. A front of the replies is then written. In `make` and
-///   `bench` want of memory anywhere outside a request; of the script a front is then written, of the summary nothing.
-/// - 8: in `run`, the journal is damaged: the line `damaged S P` tells the slot, and the byte in it. No line is answered,
-///   and the source isn't touched.
-/// - 9: in `run`, a row of a backing table isn't as an entry of the journal says: the line `fault 210 TABLE KEY` tells
-///   it. No line is answered, and the source isn't touched.
+///   answered then. In `import` also before the file is read whole; nothing is done then. In `check` also want of memory
+///   for a line. A front of the replies is then written. In `make` and `bench` want of memory anywhere outside a request;
+///   of the script a front is then written, of the summary nothing.
+/// - 8: in `run` and `import`, the journal is damaged: the line `damaged S P` tells the slot, and the byte in it. No line
+///   is answered, and the source isn't touched.
+/// - 9: in `run` and `import`, a row of a backing table isn't as an entry of the journal says: the line
+///   `fault 210 TABLE KEY` tells it. No line is answered, and the source isn't touched.
 /// - 10: exactly where 2^32 bytes were taken from the source without an end, and the sink took all replies. All lines
-///   that ended in them are answered.
+///   that ended in them are answered; in `import` nothing is done.
 ///
-/// `run` opens a tier over the site, with its journal, and lets it answer each line, and `check` says of each line whether it is spelt
-/// right. `check` calls neither site nor clock. `make` writes the generated script of a number, and `bench` runs that
-/// script on a new site in memory and writes what its run comes to; both touch nothing but the sink.
+/// `run` opens a tier over the site, with its journal, and lets it answer each line, and `check` says of each line whether
+/// it is spelt right. `check` calls neither site nor clock. `import` opens a tier as `run` does, takes the whole source,
+/// and inserts its rows into the backing table that the words name, as one transaction of the console. `make` writes the
+/// generated script of a number, and `bench` runs that script on a new site in memory and writes what its run comes to;
+/// both touch nothing but the sink.
 ///
-/// Of the settings three act in `run`. The moments of the opening and of each line that isn't empty or a comment are
-/// counted from `start_ms` where `clock` is `"script"`, and the clock isn't asked; where it is `"system"`, each from an
-/// answer of the clock, in their order. After `propagate_ms` milliseconds a round of propagation is due.
+/// Of the settings three act in `run` and `import`. The moments of the opening and of each line that isn't empty or a
+/// comment are counted from `start_ms` where `clock` is `"script"`, and the clock isn't asked; where it is `"system"`,
+/// each from an answer of the clock, in their order. After `propagate_ms` milliseconds a round of propagation is due.
 ///
 /// Others may change tables of the backing database in each of the site's calls. Of `run` something is said where no
 /// writethrough group is over a table that others change in the run: those are the tier's to write.
@@ -101,6 +108,15 @@ pub fn top<'a, S: Source, K: Sink, P: Site, C: Clock>(
     ensures checks { Asks (texts words.entry.now) Task.Check → (s : Set) → IsSetBy settings.now s
         → ((status : Status) × (result ≡ number_of status)
         × CheckRuns status (S.left source.old) (K.written sink.old) (S.left source.new) (K.written sink.new)) }
+    // The word is the one that the words give.
+    ensures imports { (any : Bor (List ℕ)) → Asks (texts words.entry.now) (Task.Import any)
+        → (s : Set) → IsSetBy settings.now s
+        → ((word : Bor (List ℕ)) × Asks (texts words.entry.now) (Task.Import word)
+        × (status : Status) × (result ≡ number_of status)
+        × ImportRuns (tier_settings s) word.now status (S.left source.old)
+        (seen (K.written sink.old) (bases_by s (C.coming clock.old)) P.Disk.state P.Disk.possible site.old)
+        (S.left source.new)
+        (seen (K.written sink.new) (bases_by s (C.coming clock.new)) P.Disk.state P.Disk.possible site.new)) }
     // The number is the one that the words give.
     ensures makes { (m : ℕ) → Asks (texts words.entry.now) (Task.Make m) → (s : Set) → IsSetBy settings.now s
         → ((n : ℕ) × Asks (texts words.entry.now) (Task.Make n) × (end : End) × (result ≡ number_of_end end)
@@ -137,7 +153,9 @@ pub fn top<'a, S: Source, K: Sink, P: Site, C: Clock>(
     match asked.command {
         Command::Run => run(alloc, &asked.settings, source, sink, site, clock).number(),
         Command::Check => check(alloc, source, sink).number(),
-        Command::Import(_) => NO_MEMORY,
+        Command::Import(word) => {
+            import(alloc, word, &asked.settings, source, sink, site, clock).number()
+        }
         Command::Make(number) => make(alloc, sink, number).number(),
         Command::Bench(number) => tell_bench(alloc, sink, number).number(),
     }

@@ -10,7 +10,8 @@ use Rattle.session_cli.specs.Opening.{tier_settings}
 use Rattle.session_cli.proofs.EndsLaws.{taken_unstarted}
 use Rattle.session_cli.proofs.OpeningLaws.{runs_unstarted}
 use Rattle.session_cli.proofs.CheckLaws.{check_unstarted}
-use Rattle.session_cli.proofs.TopLaws.{words_of, refused_of, settings_of, bad_of, damage_of_site, damage_untaken, is_disk, is_schema, never_both, never_of_site, no_low, none_left, none_left_of}
+use Rattle.session_cli.proofs.ImportingLaws.{import_unstarted}
+use Rattle.session_cli.proofs.TopLaws.{words_of, refused_of, settings_of, bad_of, damage_of_site, damage_untaken, is_damage, is_disk, is_schema, never_both, never_of_site, no_low, none_left, none_left_of}
 use Rattle.session_cli.proofs.program.top.Goals as goal
 
 pub returns-in-Err-clause-words : goal.returns-in-Err-clause-words
@@ -39,6 +40,9 @@ returns-in-Err-clause-makes g c = λ m asks s set. (m, asks, end.NoMemory, none_
 
 pub returns-in-Err-clause-benches : goal.returns-in-Err-clause-benches
 returns-in-Err-clause-benches g c = λ m asks s set. (m, asks, end.NoMemory, none_left (texts c.args.words.now) c.args.settings.now c.in-Err.status c.in-Err.ensures (command.Bench m) asks s set, refl)
+
+pub returns-in-Err-clause-imports : goal.returns-in-Err-clause-imports
+returns-in-Err-clause-imports g c = λ any asks s set. (any, asks, NoMemory, none_left (texts c.args.words.now) c.args.settings.now c.in-Err.status c.in-Err.ensures (command.Import any) asks s set, import_unstarted (tier_settings s) any.now _ _ _ refl)
 
 pub returns-in-Err-clause-read : goal.returns-in-Err-clause-read
 returns-in-Err-clause-read g c = λ three. absurd (no_low (texts c.args.words.now) c.args.settings.now c.in-Err.status 3 c.in-Err.ensures three (lit≤ tt) (lit≤ tt))
@@ -123,3 +127,36 @@ returns-in-Bench-clause-unread g c = λ auto. elim auto [
   | inl refuses ↦ absurd (refuses c.in-Ok.ensures.0.0)
   | inr bad ↦ absurd (bad c.in-Ok.asked.settings c.in-Ok.ensures.1)
 ]
+
+pub returns-in-Import-clause-bad : goal.returns-in-Import-clause-bad
+returns-in-Import-clause-bad g c = λ task asks bad. absurd (bad c.in-Ok.asked.settings c.in-Ok.ensures.1)
+
+pub returns-in-Import-clause-unread : goal.returns-in-Import-clause-unread
+returns-in-Import-clause-unread g c = λ auto. elim auto [
+  | inl refuses ↦ absurd (refuses c.in-Ok.ensures.0.0)
+  | inr bad ↦ absurd (bad c.in-Ok.asked.settings c.in-Ok.ensures.1)
+]
+
+pub returns-in-Import-clause-disk : goal.returns-in-Import-clause-disk
+returns-in-Import-clause-disk g c = λ five. c.import.ensures.disk (is_disk c.import.result (sym c.number-in-Import.ensures ∙ five))
+
+pub returns-in-Import-clause-unopened : goal.returns-in-Import-clause-unopened
+returns-in-Import-clause-unopened g c = λ six.
+    let is = is_schema c.import.result (sym c.number-in-Import.ensures ∙ six) in
+    (c.import.ensures.untaken (inl is), c.import.ensures.untold is)
+
+pub returns-in-Import-clause-untaken : goal.returns-in-Import-clause-untaken
+returns-in-Import-clause-untaken g c = λ either. c.import.ensures.untaken (inr (is_damage c.import.result (elim either [
+  | inl eight ↦ inl (sym c.number-in-Import.ensures ∙ eight)
+  | inr nine ↦ inr (sym c.number-in-Import.ensures ∙ nine)
+])))
+
+pub returns-in-Import-clause-unasked : goal.returns-in-Import-clause-unasked
+returns-in-Import-clause-unasked g c = λ s set script.
+    let same = c.settings_law.ensures.one c.args.settings.now s c.in-Ok.asked.settings set c.in-Ok.ensures.1 in
+    c.import.ensures.unasked (sym (ap (λ (x : Settings). x.clock) same) ∙ script)
+
+pub returns-in-Import-clause-imports : goal.returns-in-Import-clause-imports
+returns-in-Import-clause-imports g c = λ any asks s set.
+    let same = c.settings_law.ensures.one c.args.settings.now s c.in-Ok.asked.settings set c.in-Ok.ensures.1 in
+    (c.in-Import.word, c.in-Ok.ensures.0, c.import.result, c.number-in-Import.ensures, rw same c.import.ensures.imports)

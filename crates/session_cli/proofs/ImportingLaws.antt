@@ -1,0 +1,154 @@
+-- The command `import`.
+use Rattle.std.proofs.Common.{◌≡◌, ◌⊎◌, ◌≤◌, ◌<◌, ℕ, true, false, List, [], ◌++◌, take, drop, length, Option, Some, None, Result, Ok, Err, inl, inr, refl, sym, ◌∙◌, ap, arith, subst, append-nil, append_assoc}
+use Rattle.std.specs.Io.KnownBytes.{Appends}
+use Rattle.std.specs.Result.{OnOk}
+use Rattle.outside.specs.Holding.{Held}
+use Rattle.outside.specs.Sites.{SiteState}
+use Rattle.cache_tier.specs.Replying.{reply_bytes}
+use Rattle.cache_tier.specs.TierStates.{Settings as TierSettings}
+use Rattle.cache_tier.specs.Worlds.{Tries, World}
+use Rattle.cache_tier.specs.declared.reply.Reply.{Reply}
+use Rattle.stored_tier.specs.declared.tier.Tier.{Tier as Stored}
+use Rattle.stored_tier.specs.Performing.{StandsFor}
+use Rattle.stored_tier.specs.Sites.{IsAt, Serves}
+use Rattle.stored_tier.specs.Stored.{IsStoredAs}
+use Rattle.session_engine.specs.Doubting.{IsLeft}
+use Rattle.session_engine.specs.declared.doubt.Doubt.{Doubt}
+use Rattle.tier_opening.specs.Telling.{FailsAs}
+use Rattle.tier_opening.specs.declared.opening.OpenError.{OpenError}
+use Rattle.tier_opening.specs.declared.opening.OpenError.TheVariants as open_error
+use Rattle.cache_engine.specs.Importing.{Imports}
+use Rattle.cache_engine.specs.Opening.{IsBegunOver, OpensOver}
+use Rattle.cache_engine.specs.declared.engine.Engine.{Engine}
+use Rattle.session_cli.specs.declared.serving.Status.{Status}
+use Rattle.session_cli.specs.declared.serving.Status.TheVariants.{DiskFailed, NoMemory, SchemaFailed, SourceFailed}
+use Rattle.session_cli.specs.Importing.{ImportEnds, ImportRuns, ImportUnopened, Imported, OpenedAndImported, Puts, TakesAll, TellsImport}
+use Rattle.session_cli.specs.Opening.{TellsWhy}
+use Rattle.session_cli.specs.Outside.{Outside, seen}
+use Rattle.session_cli.specs.Output.{Breaks, Passes, Splits}
+use Rattle.session_cli.specs.Timing.{Coming, IsNext}
+use Rattle.session_cli.proofs.EndsLaws.{TakeOf, took}
+use Rattle.session_cli.proofs.OpeningLaws.{is_bank, is_disk, not_source, tells_memory}
+use Rattle.session_cli.proofs.OutputLaws.{breaks_flushed, splits_flushed}
+use Rattle.session_cli.proofs.ServingLaws.{take_rest}
+
+-- THE SOURCE
+
+-- between two pieces: these bytes were taken
+pub record Reading (input bytes : List ℕ) (source : Option (List ℕ)) : Type 0 where
+  pub left : List ℕ
+  pub tells : source ≡ Some left
+  pub parts : input ≡ bytes ++ left
+
+pub reading_new : (input bytes : List ℕ) (source : Option (List ℕ)) → bytes ≡ [] → source ≡ Some input → Reading input bytes source
+reading_new input bytes source none is = record { left = input; tells = is; parts = ap (λ l. l ++ input) (sym none) }
+
+pub reading_on : (input bytes more bytes' : List ℕ) (source source' : Option (List ℕ)) (buf : List ℕ) (n : ℕ) → bytes' ≡ bytes ++ more → more ≡ take n buf → TakeOf source source' n buf → Reading input bytes source → Reading input bytes' source'
+reading_on input bytes more bytes' source source' buf n is are p r =
+    let k = took source source' r.left buf n r.tells p in
+    record {
+      left = k.left;
+      tells = k.tells;
+      parts = r.parts ∙ ap (λ l. bytes ++ l) (k.parts ∙ ap (λ l. l ++ k.left) (sym are)) ∙ sym (append_assoc bytes more k.left) ∙ ap (λ l. l ++ k.left) (sym is);
+    }
+
+-- the source is at its end
+pub reads_all : (input bytes : List ℕ) (source source' : Option (List ℕ)) (buf : List ℕ) (n : ℕ) → n ≡ 0 → 0 < length buf → TakeOf source source' n buf → Reading input bytes source → TakesAll input bytes source'
+reads_all input bytes source source' buf n none space p r =
+    let k = took source source' r.left buf n r.tells p in
+    let rest : r.left ≡ [] = k.parts ∙ ap (λ i. take i buf ++ k.left) none ∙ k.ended none space in
+    record {
+      bytes_are = sym (append-nil bytes) ∙ ap (λ l. bytes ++ l) (sym rest) ∙ sym r.parts;
+      whole = k.tells ∙ ap Some (k.ended none space);
+    }
+
+-- THE REPLY
+
+pub puts_all : (a c : Option (List ℕ)) (w xs : List ℕ) → w ≡ [] → Splits a c (w ++ xs) [] → Appends a c xs
+puts_all a c w xs none p = subst (λ (l : List ℕ). Appends a c l) (take_rest p.count (w ++ xs) (sym p.waits) ∙ ap (λ l. l ++ xs) none) p.written
+
+pub puts_front : (a c : Option (List ℕ)) (w xs : List ℕ) → w ≡ [] → Breaks a c (w ++ xs) → (count : ℕ) × Appends a c (take count xs)
+puts_front a c w xs none p = (p.count, subst (λ (l : List ℕ). Appends a c (take p.count l)) (ap (λ l. l ++ xs) none) p.written)
+
+-- it waits, and then all that waits is written
+pub puts_by : {E : Type 0} (r : Result (Unit {0}) E) (a b c : Option (List ℕ)) (w w' w'' xs : List ℕ) → w ≡ [] → Splits a b (w ++ xs) w' → Passes r b c w' w'' [] → OnOk r (w'' ≡ []) → Puts r a c xs
+puts_by (Ok done) a b c w w' w'' xs none p q empty = puts_all a c w xs none (splits_flushed a b c w w' w'' xs p q empty)
+puts_by (Err e) a b c w w' w'' xs none p q empty = puts_front a c w xs none (breaks_flushed a b c w w' xs p q)
+
+pub imported : {E : Type 0} (r : Result (Unit {0}) E) (word bytes_of input : List ℕ) (t : Stored) (before after : SiteState) (reply : Reply) (sink sink' : Option (List ℕ)) → bytes_of ≡ word → Serves t t before after (λ w w'. Tries (Imports bytes_of input) w w' reply) → Puts r sink sink' (reply_bytes (Some reply))
+    → (w : World) → IsAt before w → IsStoredAs t w.tier → Imported r word input w sink sink' after
+imported r word bytes_of input t before after reply sink sink' same serves puts w at stored =
+    let x = serves w at stored in
+    record { world = x.world; at = x.at; reply = reply; is = subst (λ (b : List ℕ). Tries (Imports b input) w x.world reply) same x.is; puts = puts }
+
+-- only whether it went well counts
+pub imported_well : {E T : Type 0} (r : Result (Unit {0}) E) (done : Unit {0}) (word input bytes : List ℕ) (w : World) (sink sink' : Option (List ℕ)) (site : SiteState) → r ≡ Ok done → bytes ≡ input → Imported r word bytes w sink sink' site → Imported {E = T} (Ok tt) word input w sink sink' site
+imported_well (Ok d) done word input bytes w sink sink' site is same x =
+    record { world = x.world; at = x.at; reply = x.reply; is = subst (λ (b : List ℕ). Tries (Imports word b) w x.world x.reply) same x.is; puts = x.puts }
+imported_well (Err e) done word input bytes w sink sink' site is same x = absurd (never is)
+  where
+    never : Err e ≡ Ok done → ⊥
+    never e = cc
+
+pub imported_cut : {E : Type 0} (r : Result (Unit {0}) E) (e : E) (word input bytes : List ℕ) (w : World) (sink sink' : Option (List ℕ)) (site : SiteState) → r ≡ Err e → bytes ≡ input → Imported r word bytes w sink sink' site → Imported {E = Unit {0}} (Err tt) word input w sink sink' site
+imported_cut (Ok d) e word input bytes w sink sink' site is same x = absurd (never is)
+  where
+    never : Ok d ≡ Err e → ⊥
+    never e = cc
+imported_cut (Err f) e word input bytes w sink sink' site is same x =
+    record { world = x.world; at = x.at; reply = x.reply; is = subst (λ (b : List ℕ). Tries (Imports word b) w x.world x.reply) same x.is; puts = x.puts }
+
+-- THE ENGINE
+
+pub import_unopened : (settings : TierSettings) (word : List ℕ) (status : Status) (source : Option (List ℕ)) (before behind : Outside) (why : OpenError) → TellsImport status before.written behind.written why → (moment : ℕ) → FailsAs moment before.site behind.site why
+    → ImportRuns settings word status source before source behind
+import_unopened settings word status source before behind why tells moment failed = λ input there is_source is_site have may.
+    inl (record { untaken = is_source; why = why; tells = tells; moment = moment; failed = failed })
+
+pub import_unstarted : (settings : TierSettings) (word : List ℕ) (source : Option (List ℕ)) (before behind : Outside) → behind.written ≡ before.written → ImportRuns settings word NoMemory source before source behind
+import_unstarted settings word source before behind written =
+    import_unopened settings word NoMemory source before behind open_error.Memory
+    (subst (λ w. TellsWhy NoMemory before.written w open_error.Memory) (sym written) (tells_memory before.written)) 0 tt
+
+pub import_disk : (status : Status) (sink sink' : Option (List ℕ)) (why : OpenError) → TellsImport status sink sink' why → status ≡ DiskFailed → why ≡ open_error.Disk
+import_disk status sink sink' open_error.Disk tells is = refl
+import_disk status sink sink' open_error.Bank tells is = is_disk status sink sink' open_error.Bank tells is
+import_disk status sink sink' (open_error.Damaged slot place) tells is = is_disk status sink sink' (open_error.Damaged slot place) tells is
+import_disk status sink sink' (open_error.Differs table key) tells is = is_disk status sink sink' (open_error.Differs table key) tells is
+import_disk status sink sink' open_error.Memory tells is = is_disk status sink sink' open_error.Memory tells is
+
+pub import_bank : (status : Status) (sink sink' : Option (List ℕ)) (why : OpenError) → TellsImport status sink sink' why → status ≡ SchemaFailed → why ≡ open_error.Bank
+import_bank status sink sink' open_error.Disk tells is = cc
+import_bank status sink sink' open_error.Bank tells is = refl
+import_bank status sink sink' (open_error.Damaged slot place) tells is = is_bank status sink sink' (open_error.Damaged slot place) tells is
+import_bank status sink sink' (open_error.Differs table key) tells is = is_bank status sink sink' (open_error.Differs table key) tells is
+import_bank status sink sink' open_error.Memory tells is = is_bank status sink sink' open_error.Memory tells is
+
+pub import_not_source : (status : Status) (sink sink' : Option (List ℕ)) (why : OpenError) → TellsImport status sink sink' why → status ≡ SourceFailed → ⊥
+import_not_source status sink sink' open_error.Disk tells is = never (sym tells.0 ∙ is)
+  where
+    never : DiskFailed ≡ SourceFailed → ⊥
+    never e = cc
+import_not_source status sink sink' open_error.Bank tells is = not_source status sink sink' open_error.Bank tells is
+import_not_source status sink sink' (open_error.Damaged slot place) tells is = not_source status sink sink' (open_error.Damaged slot place) tells is
+import_not_source status sink sink' (open_error.Differs table key) tells is = not_source status sink sink' (open_error.Differs table key) tells is
+import_not_source status sink sink' open_error.Memory tells is = not_source status sink sink' open_error.Memory tells is
+
+module _ {D : Type 0} (state : D → SiteState) (possible : D → ℕ → Held → Type 0) where
+  pub import_opened : (settings : TierSettings) (propagate_ms first : ℕ) (e : Engine) (status : Status) (word : List ℕ) (source source' written : Option (List ℕ)) (bases : Coming) (d m : D) (behind : Outside) → settings.propagate_ms ≡ propagate_ms
+      → IsNext (bases 0) first → OpensOver state possible first propagate_ms d m e → e.doubt ≡ None → (state d).bank_faults ≤ (state m).bank_faults → (state m).shared ≡ (state d).shared
+      → ((w : World) (input : List ℕ) → IsAt (state m) w → IsStoredAs e.tier w.tier → source ≡ Some input → ImportEnds status word input w (seen written bases state possible d) source' behind)
+      → ImportRuns settings word status source (seen written bases state possible d) source' behind
+  import_opened settings propagate_ms first e status word source source' written bases d m behind ms next opens doubt later shares ends = λ input there is_source is_site have may.
+      let x = opens there settings is_site have may ms in
+      let stands : StandsFor e.tier x.world = subst (λ (o : Option Doubt). IsLeft e.tier o x.world) doubt x.left in
+      inr (record {
+        first = first;
+        next = next;
+        world = x.world;
+        opens = x.opens;
+        kept = x.kept;
+        later = let faults = x.at.faults in omega (arith, later, faults);
+        shares = x.at.shared ∙ shares;
+        ended = ends x.world input x.at stands.stored is_source;
+      })
