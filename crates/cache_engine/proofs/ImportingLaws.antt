@@ -71,7 +71,7 @@ module _ (t : Stored) (word bytes name : List ℕ) (good : is_name word ≡ true
   table_found table def e d b through a is =
       ap (λ o. inserts_into a word o bytes) (asked_so a is (Some table) e ∙ def_so table (Some def) d)
       ∙ ap (λ x. inserts_behind x word (record { id = table; def = def }) bytes)
-          (sym (ap (λ gs. is_table_of is_writethrough gs table) (sym is.groups) ∙ written_seen a.groups table) ∙ through)
+      (sym (ap (λ gs. is_table_of is_writethrough gs table) (sym is.groups) ∙ written_seen a.groups table) ∙ through)
 
   pub table_grouped : (table : TableId) (def : TableDef) → place_of_table t.schema name ≡ Some table → slice_get t.schema table.0 ≡ Some def → is_table_of is_writethrough (groups_in t.catalog) table ≡ true
       → (a : Tier) → IsStoredAs t a → inserts_for a word bytes ≡ Err (named code.WritethroughTable name)

@@ -60,7 +60,12 @@ pub fn import_rows<P: Site>(
 }
 
 // The INSERTs of the file into the table of the word.
-fn inserts_for(tier: &Tier, alloc: Global, word: &[u8], bytes: &[u8]) -> Result<Vec<Change>, Refused>
+fn inserts_for(
+    tier: &Tier,
+    alloc: Global,
+    word: &[u8],
+    bytes: &[u8],
+) -> Result<Vec<Change>, Refused>
     ensures { (a : AbstractTier) → IsStoredAs tier.now a → FindsInserts a word.now bytes.now result }
 {
     let name = match Name::new(alloc, word) {

@@ -143,7 +143,12 @@ fn end_unopened<K: Sink>(output: &mut Output, sink: &mut K, error: &OpenError) -
 }
 
 /// Writes the line. The status is the one that is given, unless the sink failed.
-pub(crate) fn end_told<K: Sink>(output: &mut Output, sink: &mut K, error: &OpenError, status: Status) -> Status
+pub(crate) fn end_told<K: Sink>(
+    output: &mut Output,
+    sink: &mut K,
+    error: &OpenError,
+    status: Status,
+) -> Status
     requires { output.old ≡ [] }
     ensures tells { TellsLine result status (K.written sink.old) (K.written sink.new) error.now }
     ensures write { result ≡ Status.SinkFailed

@@ -125,7 +125,7 @@ fn run(rt: &HostRuntime, settings: &[u8]) -> Result<u8, &'static str> {
 // Whether these words are those of a command that works on files.
 fn wants_files(words: &[&str]) -> bool {
     match words.get(1) {
-        Some(word) => *word == "run",
+        Some(word) => *word == "run" || *word == "import",
         None => false,
     }
 }
