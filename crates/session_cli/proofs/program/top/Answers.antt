@@ -1,7 +1,8 @@
-use Rattle.std.proofs.Common.{refl, inl, inr, sym, ◌∙◌, ap, lit≤}
+use Rattle.std.proofs.Common.{subst, refl, inl, inr, sym, ◌∙◌, ap, lit≤}
 use Rattle.command_line.specs.declared.command.Command.TheVariants as command
 use Rattle.command_line.specs.declared.settings.Settings.{Settings}
-use Rattle.command_line.specs.Words.{texts}
+use Rattle.command_line.specs.declared.command.Command.{Command}
+use Rattle.command_line.specs.Words.{Asks, texts}
 use Rattle.script_commands.specs.declared.commands.End.TheVariants as end
 use Rattle.std.proofs.KnownBytes.{Appends-nil}
 use Rattle.session_cli.specs.declared.serving.Status.TheVariants.{DiskFailed, NoMemory, SchemaFailed}
@@ -159,4 +160,4 @@ returns-in-Import-clause-unasked g c = λ s set script.
 pub returns-in-Import-clause-imports : goal.returns-in-Import-clause-imports
 returns-in-Import-clause-imports g c = λ any asks s set.
     let same = c.settings_law.ensures.one c.args.settings.now s c.in-Ok.asked.settings set c.in-Ok.ensures.1 in
-    (c.in-Import.word, c.in-Ok.ensures.0, c.import.result, c.number-in-Import.ensures, rw same c.import.ensures.imports)
+    (c.in-Import.word, subst (λ (task : Command). Asks (texts c.args.words.now) task) c.in-Import.is c.in-Ok.ensures.0, c.import.result, c.number-in-Import.ensures, rw same c.import.ensures.imports)
