@@ -48,19 +48,19 @@ returns-in-Ok-import_and_tell-clause-imports g c =
     import_opened g.P.Disk.state g.P.Disk.possible (tier_settings c.args.settings.now) c.args.settings.now.propagate_ms c.first_moment-start.result.0 c.in-Ok-open.engine Finished c.args.word.now _ _ (g.K.Sink.written c.args.sink.now)
     (bases_by c.args.settings.now (g.C.Clock.coming c.args.clock.now)) c.args.site.now c.open.new.site _ refl c.first_moment-start.ensures.next c.in-Ok-open.ensures.opens c.in-Ok-open.ensures.doubt c.in-Ok-open.ensures.cause.bank_later c.in-Ok-open.ensures.cause.shares
     (λ w input at stored is.
-      let t = c.in-Ok-take_all.ensures.all input is in
-      record {
-        whole = t.whole;
-        imported = imported_well c.import_and_tell.result _ c.args.word.now input c.as_slice-bytes.result.now w _ _ _ c.in-Ok-import_and_tell.is (c.as_slice-bytes.ensures.value ∙ t.bytes_are) (c.import_and_tell.ensures.imports w at stored);
-      })
+    let t = c.in-Ok-take_all.ensures.all input is in
+    record {
+      whole = t.whole;
+      imported = imported_well c.import_and_tell.result _ c.args.word.now input c.as_slice-bytes.result.now w _ _ _ c.in-Ok-import_and_tell.is (c.as_slice-bytes.ensures.value ∙ t.bytes_are) (c.import_and_tell.ensures.imports w at stored);
+    })
 
 pub returns-clause-imports : goal.returns-clause-imports
 returns-clause-imports g c =
     import_opened g.P.Disk.state g.P.Disk.possible (tier_settings c.args.settings.now) c.args.settings.now.propagate_ms c.first_moment-start.result.0 c.in-Ok-open.engine SinkFailed c.args.word.now _ _ (g.K.Sink.written c.args.sink.now)
     (bases_by c.args.settings.now (g.C.Clock.coming c.args.clock.now)) c.args.site.now c.open.new.site _ refl c.first_moment-start.ensures.next c.in-Ok-open.ensures.opens c.in-Ok-open.ensures.doubt c.in-Ok-open.ensures.cause.bank_later c.in-Ok-open.ensures.cause.shares
     (λ w input at stored is.
-      let t = c.in-Ok-take_all.ensures.all input is in
-      record {
-        whole = t.whole;
-        imported = imported_cut c.import_and_tell.result _ c.args.word.now input c.as_slice-bytes.result.now w _ _ _ c.in-Err-import_and_tell.is (c.as_slice-bytes.ensures.value ∙ t.bytes_are) (c.import_and_tell.ensures.imports w at stored);
-      })
+    let t = c.in-Ok-take_all.ensures.all input is in
+    record {
+      whole = t.whole;
+      imported = imported_cut c.import_and_tell.result _ c.args.word.now input c.as_slice-bytes.result.now w _ _ _ c.in-Err-import_and_tell.is (c.as_slice-bytes.ensures.value ∙ t.bytes_are) (c.import_and_tell.ensures.imports w at stored);
+    })
