@@ -1,5 +1,5 @@
 -- The command `import`.
-use Rattle.std.proofs.Common.{◌≡◌, ◌⊎◌, ◌≤◌, ◌<◌, ℕ, true, false, List, [], ◌++◌, take, drop, length, Option, Some, None, Result, Ok, Err, inl, inr, refl, sym, ◌∙◌, ap, arith, subst, append-nil, append_assoc}
+use Rattle.std.proofs.Common.{◌≡◌, ◌⊎◌, ◌≤◌, ◌<◌, ℕ, List, [], ◌++◌, take, length, Option, Some, None, Result, Ok, Err, inl, inr, refl, sym, ◌∙◌, ap, arith, subst, append-nil, append_assoc}
 use Rattle.std.specs.Io.KnownBytes.{Appends}
 use Rattle.std.specs.Result.{OnOk}
 use Rattle.outside.specs.Holding.{Held}
@@ -18,11 +18,11 @@ use Rattle.tier_opening.specs.Telling.{FailsAs}
 use Rattle.tier_opening.specs.declared.opening.OpenError.{OpenError}
 use Rattle.tier_opening.specs.declared.opening.OpenError.TheVariants as open_error
 use Rattle.cache_engine.specs.Importing.{Imports}
-use Rattle.cache_engine.specs.Opening.{IsBegunOver, OpensOver}
+use Rattle.cache_engine.specs.Opening.{OpensOver}
 use Rattle.cache_engine.specs.declared.engine.Engine.{Engine}
 use Rattle.session_cli.specs.declared.serving.Status.{Status}
 use Rattle.session_cli.specs.declared.serving.Status.TheVariants.{DiskFailed, NoMemory, SchemaFailed, SourceFailed}
-use Rattle.session_cli.specs.Importing.{ImportEnds, ImportRuns, ImportUnopened, Imported, OpenedAndImported, Puts, TakesAll, TellsImport}
+use Rattle.session_cli.specs.Importing.{ImportEnds, ImportRuns, Imported, Puts, TakesAll, TellsImport}
 use Rattle.session_cli.specs.Opening.{TellsWhy}
 use Rattle.session_cli.specs.Outside.{Outside, seen}
 use Rattle.session_cli.specs.Output.{Breaks, Passes, Splits}
