@@ -54,7 +54,7 @@ for ((round = 1; round <= rounds; round++)); do
     for ((i = 1; i <= 20000; i++)); do printf 's1: INSERT INTO A VALUES (%s, %s)\ns1: COMMIT\n' $((kept + i)) "$round"; done
   } >lines
   "$program" run <lines >replies &
-  sleep "0.0$((RANDOM % 9))$((RANDOM % 10))"
+  sleep "0.$((RANDOM % 4))$((RANDOM % 10))"
   kill -9 $! 2>/dev/null
   wait $! 2>/dev/null
   # (the first reply is that of OPEN; then two for each commit, the last of which may be cut)
