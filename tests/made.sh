@@ -2,7 +2,12 @@
 # Writes scripts that are too many or too long to keep, each with what it gives, into the folder that is named: NAME.ttc or
 # NAME.drill, NAME.expected, and NAME.status where the status isn't 0.
 set -eu
+here=$(cd "$(dirname "$0")" && pwd)
 cd "$1"
+
+# Runs that crash, and journals that are made by hand.
+bash "$here/crashes.sh" .
+bash "$here/journals.sh" .
 
 table='backing: CREATE TABLE A (ID TT_BIGINT PRIMARY KEY)'
 group='s1: CREATE ASYNCHRONOUS WRITETHROUGH CACHE GROUP GA FROM A (ID TT_BIGINT PRIMARY KEY)'
@@ -318,3 +323,64 @@ BEGIN {
   }
 }'
 cat history >>three_writes.expected
+
+# A journal of more than rotate_bytes is begun anew by the drain behind it, in the other slot: with the mark, the definitions, the
+# STATE and the flag, and what is committed later stands behind them. 150 rows get a text of 3,600 bytes, and lose it again: of
+# the first commit the updates alone take more than 2^20 bytes.
+text() { printf %s "$1" | od -An -v -tx1 | tr -d ' \n'; }
+spelt() { printf '05%08x' ${#1}; text "$1"; }
+long_text=$(many x 3600)
+{
+  printf '! note A journal that is long is begun anew by the drain, and goes on.\n! settings rotate_bytes = 1048576\n! slots\n'
+  echo 'backing: CREATE TABLE A (K TT_INTEGER, V VARCHAR2(4000), PRIMARY KEY (K))'
+  echo 'backing: CREATE TABLE B (K TT_INTEGER, PRIMARY KEY (K))'
+  echo 's1: OPEN'
+  echo 's1: CREATE ASYNCHRONOUS WRITETHROUGH CACHE GROUP G FROM A (K TT_INTEGER, V VARCHAR2(4000), PRIMARY KEY (K))'
+  echo 's1: CREATE READONLY CACHE GROUP R AUTOREFRESH MODE FULL INTERVAL 5 SECONDS FROM B (K TT_INTEGER, PRIMARY KEY (K))'
+  echo 's1: LOAD CACHE GROUP G'
+  seq -f "s1: INSERT INTO A VALUES (%.0f, 'a')" 1 150
+  printf 's1: UPDATE A SET V = '"'%s'"' WHERE K > 0\n' "$long_text" b
+  printf 's1: %s\n' COMMIT 'CALL ttDrain' "INSERT INTO A VALUES (200, 'c')" COMMIT 'CALL ttDrain'
+} >a_long_journal_is_begun_anew.drill
+number() { printf '01%016x' "$1"; }
+told_text() { printf '02%04x' ${#1}; text "$1"; }
+begun_group=$(spelt 'CREATE ASYNCHRONOUS WRITETHROUGH CACHE GROUP G FROM A ( K TT_INTEGER NOT NULL , V VARCHAR2 ( 4000 ) , PRIMARY KEY ( K ) )')
+begun_other=$(spelt 'CREATE READONLY CACHE GROUP R AUTOREFRESH MODE FULL INTERVAL 5000 MILLISECONDS STATE PAUSED FROM B ( K TT_INTEGER NOT NULL , PRIMARY KEY ( K ) )')
+batch() { printf '01%08x%s' $((${#1} / 2)) "$1"; }
+first_commit() {
+  printf '01%016x%04x' 1 450
+  for ((k = 1; k <= 150; k++)); do printf '01014102%s%s' "$(number $k)" "$(told_text a)"; done
+  # (the told bytes end within the updates)
+  printf '020141'
+  printf '02%s%s02%s%s' "$(number 1)" "$(told_text a)" "$(number 1)" "$(told_text "$long_text")"
+}
+committed=$(first_commit)
+lengths=$((11 + 150 * 17 + 150 * (3 + 14 + 12 + 3600 + 1) + 150 * (3 + 12 + 3600 + 1 + 14)))
+{
+  printf 'ok 0\n%.0s' 1 2 3 4 5 6
+  printf 'ok 1\n%.0s' $(seq 150)
+  printf 'ok 150\nok 150\nok 1\nok 1\nok 1\nok 2\nok 1\n'
+  printf -- '-- history\n1 definition of A\n2 definition of B\n3 ticket 1\n'
+  seq -f "  insert A %.0f|'a'" 1 150
+  for ((k = 1; k <= 150; k++)); do printf "  update A %s|'a' to %s|'%s'\n" $k $k "$long_text"; done
+  for ((k = 1; k <= 150; k++)); do printf "  update A %s|'%s' to %s|'b'\n" $k "$long_text" $k; done
+  printf "4 ticket 2\n  insert A 200|'c'\n-- tables\nA\n"
+  seq -f "= %.0f|'b'" 1 150
+  printf "= 200|'c'\nB\n-- slot 0\n"
+  {
+    printf '00020000000000000001'
+    batch "$begun_group"
+    batch "$begun_other"
+    batch '08014701'
+    printf '01%08x' "$lengths"
+    printf %s "$committed"
+  } | head -c 8192 | fold -w 64
+  printf -- '\n-- slot 1\n'
+  {
+    printf '01020000000000000002'
+    batch "04$(printf %016x 2)$begun_group${begun_other}0701520108014701"
+    batch "01$(printf %016x%04x 2 1)01014102$(number 200)$(told_text c)"
+    printf 00
+  } | fold -w 64
+  printf '\n'
+} >a_long_journal_is_begun_anew.expected

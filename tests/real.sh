@@ -1,7 +1,7 @@
 #!/usr/bin/env bash
 # real.sh PROGRAM [ROUNDS]: the program over real files. What a run leaves the next one finds: behind its end, behind a
-# change that `sqlite3` made in between, and behind a kill in the middle of durable commits, ROUNDS times (10).
-# It prints a line for each of its three parts, and ends with 1 where one isn't as it has to be.
+# change that `sqlite3` made in between, behind rotations, and behind a kill in the middle of durable commits, ROUNDS times (10).
+# It prints a line for each of its four parts, and ends with 1 where one isn't as it has to be.
 set -u
 program=$1 rounds=${2:-10} wrong=0
 complain() {
@@ -42,6 +42,29 @@ if command -v sqlite3 >/dev/null; then
 else
   printf 'real: no sqlite3 here, so nothing is said of it\n'
 fi
+
+# Durable commits of 80,000 bytes with drains between: both slots stay short, and the next run has rows and tickets.
+rm -f ttcache.*
+printf 'rotate_bytes = 1048576\n' >ttcache.toml
+wide='(ID TT_INTEGER, N TT_INTEGER, V VARCHAR2(4000), PRIMARY KEY (ID))'
+long_text=$(head -c 2000 /dev/zero | tr '\0' x)
+{
+  printf '%s\n' "backing: CREATE TABLE A $wide" 's1: OPEN DURABLE 1' \
+    "s1: CREATE ASYNCHRONOUS WRITETHROUGH CACHE GROUP GA FROM A $wide" 's1: LOAD CACHE GROUP GA'
+  seq -f "s1: INSERT INTO A VALUES (%.0f, 0, 'x')" 1 20
+  for ((i = 1; i <= 60; i++)); do
+    printf 's1: %s\n' "UPDATE A SET N = $i, V = '$long_text' WHERE ID > 0" COMMIT 'CALL ttDrain'
+  done
+} >lines
+"$program" run <lines >replies || complain "status $? of rotations"
+[ "$(grep -c '^ok [0-9]*$' replies)" = $(wc -l <lines) ] || complain 'a line behind a rotation is refused'
+for slot in ttcache.j0 ttcache.j1; do
+  [ "$(wc -c <"$slot")" -le 1200000 ] || complain "$slot has $(wc -c <"$slot") bytes"
+done
+answers $'ok 0\n= 20|60|60\nok 1\nok 1\nok 61' \
+  's1: OPEN' 's1: SELECT COUNT(*), MIN(N), MAX(N) FROM A' 's1: INSERT INTO A VALUES (21, 61, NULL)' 's1: COMMIT'
+rm -f ttcache.toml
+printf 'real: a journal that is begun anew stays short, and nothing of it is lost\n'
 
 # A run of durable commits is killed in the middle: each that was answered is there, in order, and none twice.
 rm -f ttcache.*

@@ -8,12 +8,14 @@ use Rattle.outside.specs.Calls.{BankCall, GoesOn}
 use Rattle.outside.specs.Faults.{BankHasCause, Rose}
 use Rattle.outside.specs.declared.fault.BankError.{BankError}
 use Rattle.outside.specs.declared.fault.BankError.TheVariants.{Failed, Memory}
+use Rattle.outside.specs.declared.site.Done.{Done}
 use Rattle.backing_gate.specs.Calling.{Begins, Ends, Unmarks, heeded, marked, wanting}
 use Rattle.backing_gate.specs.Heeding.{BankState, Goes, HasEffect, Heeds, IsMoment, MayVisit, bank_of}
 use Rattle.memory_disk.specs.declared.memory_disk.MemoryDisk.{MemoryDisk}
 use Rattle.memory_disk.specs.Possible.{held_of as disk_held}
 use Rattle.backing_gate.specs.Memory.{MemoryState, held_of, now_of, possible_of, site_state}
 use Rattle.backing_gate.specs.declared.mark.Mark.{Mark}
+use Rattle.backing_gate.specs.PassedOn.{IsPassed, PassesAs}
 use Rattle.backing_gate.specs.Plans.{after_call}
 use Rattle.backing_gate.specs.Visits.{Visiting, after_bank_call, next_visit, visit_at}
 use Rattle.backing_gate.specs.declared.memory_site.Begun.{Begun}
@@ -51,6 +53,13 @@ without_mark begun plan is none = is ∙ ap (λ (m : Option Mark). heeded m plan
 
 pub idle_all : {T : Type 0} (begun : Begun) (plan : Option Outcome) (old new : BankState) (result : Result T BankError) (effect : Type 0) → begun.outcome ≡ heeded begun.mark plan → Heeds begun.outcome old new result effect → begun.mark ≡ None → new.history ≡ old.history
 idle_all {T} begun plan old new result effect is h none = idle {T = T} plan old new result effect (subst (λ (o : Option Outcome). Heeds {T = T} o old new result effect) (without_mark begun plan is none) h)
+
+-- a write that is passed on
+pub passes_all : (begun : Begun) (plan : Option Outcome) (ticket : ℕ) (change : Change) (old new : BankState) (result : Result Done BankError) → begun.outcome ≡ heeded begun.mark plan → PassesAs begun.outcome ticket change old new result → PassesAs plan ticket change old new result
+passes_all begun plan ticket change old new result is h = record {
+  fresh = λ fresh. heeds_all begun plan old new result (IsPassed ticket change old.history new.history) is (h.fresh fresh);
+  known = h.known;
+}
 
 no_effect : (plan : Option Outcome) → HasEffect (wanting plan) → ⊥
 no_effect None h = h

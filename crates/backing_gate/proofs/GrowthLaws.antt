@@ -5,12 +5,13 @@ use Rattle.tier_base.specs.declared.number.TableId.{TableId}
 use Rattle.tier_base.specs.declared.number.Ticket.{Ticket}
 use Rattle.table_defs.specs.declared.definition.TableDef.{TableDef}
 use Rattle.table_state.specs.declared.history.Entry.{Entry}
-use Rattle.table_state.specs.declared.history.Entry.TheVariants.{Definition, Foreign}
+use Rattle.table_state.specs.declared.history.Entry.TheVariants.{Definition, Foreign, Own}
 use Rattle.table_state.specs.declared.history.Sealed.{Sealed}
 use Rattle.table_state.specs.Histories.{entry_of}
 use Rattle.evaluator.specs.declared.change.Change.{Change}
 use Rattle.outside.specs.Bank.{AppliesOnce, Defines, TellsRecorded, TellsRow, TellsSchema, WaitsForOne}
 use Rattle.outside.specs.Console.{TakesSnapshot, WritesForeign}
+use Rattle.outside.specs.Passing.{CommitsAlone}
 use Rattle.outside.specs.declared.fault.BankError.{BankError}
 use Rattle.outside.specs.declared.fault.BankError.TheVariants.{Failed, Memory}
 use Rattle.outside.specs.declared.site.Applied.{Applied}
@@ -58,6 +59,12 @@ foreign_grows changes (Ok (Rows n)) old new h = (Foreign h.ops ∷ [], h.grows)
 foreign_grows changes (Ok (Broken rule)) old new h = ([], h.0)
 foreign_grows changes (Err Memory) old new h = ([], h)
 foreign_grows changes (Err Failed) old new h = elim h [ inl e ↦ ([], e) | inr writes ↦ (Foreign writes.1.ops ∷ [], writes.1.grows) ]
+
+pub passed_grows : (ticket : ℕ) (change : Change) (result : Result Done BankError) (old new : List Entry) → CommitsAlone ticket change result old new → Extends old new
+passed_grows ticket change (Ok (Rows n)) old new h = (Own (record { 0 = ticket }) h.ops ∷ [], h.passes.grows)
+passed_grows ticket change (Ok (Broken rule)) old new h = ([], h.passes.0)
+passed_grows ticket change (Err Memory) old new h = ([], h.passes)
+passed_grows ticket change (Err Failed) old new h = elim h.passes [ inl e ↦ ([], e) | inr writes ↦ (Own (record { 0 = ticket }) h.ops ∷ [], writes.1.grows) ]
 
 pub snapshot_grows : (asked : List TableId) (result : Result Snapshot BankError) (old new : List Entry) → TakesSnapshot asked result old new → Extends old new
 snapshot_grows asked (Ok snapshot) old new h = ([], h.0)

@@ -9,7 +9,7 @@ use Rattle.std.specs.declared.cmp.Ordering.TheVariants.{Less, Equal, Greater}
 use Rattle.tier_base.specs.declared.number.Ticket.{Ticket}
 use Rattle.table_state.specs.declared.operation.Op.{Op}
 use Rattle.table_state.specs.declared.history.Entry.{Entry}
-use Rattle.table_state.specs.declared.history.Entry.TheVariants.{Foreign, Own}
+use Rattle.table_state.specs.declared.history.Entry.TheVariants.{Own}
 use Rattle.table_state.specs.declared.history.Sealed.{Sealed}
 use Rattle.table_state.specs.Histories.{entry_of, has_ticket, is_of, position_of}
 use Rattle.table_state.proofs.PositionLaws.{has_position, position_of-append}
@@ -42,6 +42,10 @@ or_none (Some n) = refl
 
 pub position_same : (q : ℕ) (h : List Entry) (e : Entry) → is_of q e ≡ false → position_of q (h ++ e ∷ []) ≡ position_of q h
 position_same q h e other = position_push q h e ∙ ap (λ b. option_or (position_of q h) (cond b (Some (length h + 1)) None)) other ∙ or_none (position_of q h)
+
+-- the positions stay where the last entry has the ticket of another
+pub position_like : (q : ℕ) (h : List Entry) (a b : Entry) → is_of q a ≡ is_of q b → position_of q (h ++ a ∷ []) ≡ position_of q (h ++ b ∷ [])
+position_like q h a b like = position_push q h a ∙ ap (λ b. option_or (position_of q h) (cond b (Some (length h + 1)) None)) like ∙ sym (position_push q h b)
 
 -- the tests of keys and of tickets
 same_test : (k q : ℕ) → is_eq (nat_cmp k q) ≡ nat_eq k q
@@ -95,14 +99,18 @@ pub same : (h : List Entry) → h ≡ h ++ []
 same [] = refl
 same (x ∷ h) = ap (λ l. x ∷ l) (same h)
 
+-- no ticket is both in the history and not
+pub known_fresh : (ticket : ℕ) (h : List Entry) → has_ticket ticket h ≡ true → has_ticket ticket h ≡ false → ⊥
+known_fresh ticket h is_there is_new = cc
+
 -- the last entry is replaced
 set_last : (front : List Entry) (before entry : Entry) → set (front ++ before ∷ []) (length front) entry ≡ front ++ entry ∷ []
 set_last [] before entry = refl
 set_last (x ∷ front) before entry = ap (λ l. x ∷ l) (set_last front before entry)
 
-pub filled : (old items new : List Entry) (long : ℕ) (ops : List Op) → items ≡ old → long ≡ length items → new ≡ set items (long - 1) (Foreign ops) → (front : List Entry) (before : List Op) → old ≡ front ++ Foreign before ∷ [] → new ≡ front ++ Foreign ops ∷ []
-filled old items new long ops same count made front before is =
-    let all : items ≡ front ++ Foreign before ∷ [] = same ∙ is in
-    let whole : long ≡ length front + 1 = count ∙ ap length all ∙ length-append front (Foreign before ∷ []) in
-    let last : long - 1 ≡ length front = omega arith in
-    made ∙ ap (λ (l : List Entry). set l (long - 1) (Foreign ops)) all ∙ ap (λ (n : ℕ). set (front ++ Foreign before ∷ []) n (Foreign ops)) last ∙ set_last front (Foreign before) (Foreign ops)
+pub replaced : (old items new : List Entry) (long : ℕ) (entry : Entry) → items ≡ old → long ≡ length items → new ≡ set items (long - 1) entry → (front : List Entry) (last : Entry) → old ≡ front ++ last ∷ [] → new ≡ front ++ entry ∷ []
+replaced old items new long entry same count made front last is =
+    let all : items ≡ front ++ last ∷ [] = same ∙ is in
+    let whole : long ≡ length front + 1 = count ∙ ap length all ∙ length-append front (last ∷ []) in
+    let place : long - 1 ≡ length front = omega arith in
+    made ∙ ap (λ (l : List Entry). set l (long - 1) entry) all ∙ ap (λ (n : ℕ). set (front ++ last ∷ []) n entry) place ∙ set_last front last entry

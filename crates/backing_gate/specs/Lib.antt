@@ -2,6 +2,7 @@ pub mod Calling
 pub mod Heeding
 pub mod Marks
 pub mod Memory
+pub mod PassedOn
 pub mod Plans
 pub mod SiteCode
 pub mod SiteLaws

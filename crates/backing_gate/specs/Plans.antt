@@ -3,7 +3,7 @@
 use Rattle.std.specs.Prelude.{ℕ, ◌+◌, ◌-◌, ◌^◌, List, [], ◌∷◌, ◌++◌, Option, Bool, true, false, ◌&&◌, ◌==◌, min, find}
 use Rattle.std.specs.Option.{option_map}
 use Rattle.backing_gate.specs.declared.plan.CallKind.{CallKind}
-use Rattle.backing_gate.specs.declared.plan.CallKind.TheVariants.{Schema, Define, ApplyOnce, Recorded, Find, Foreign, Snapshot, Len, ReadAt, WriteAt, Cut, Sync}
+use Rattle.backing_gate.specs.declared.plan.CallKind.TheVariants.{Schema, Define, ApplyOnce, Recorded, Find, Foreign, Passed, Snapshot, Len, ReadAt, WriteAt, Cut, Sync}
 use Rattle.backing_gate.specs.declared.plan.CallCounts.{CallCounts}
 use Rattle.backing_gate.specs.declared.plan.Outcome.{Outcome}
 use Rattle.backing_gate.specs.declared.plan.Plan.{Plan}
@@ -21,6 +21,7 @@ no_calls = record {
   recorded = 0;
   find = 0;
   foreign = 0;
+  passed = 0;
   snapshot = 0;
   len = 0;
   read_at = 0;
@@ -39,6 +40,7 @@ number_of ApplyOnce calls = calls.apply_once
 number_of Recorded calls = calls.recorded
 number_of Find calls = calls.find
 number_of Foreign calls = calls.foreign
+number_of Passed calls = calls.passed
 number_of Snapshot calls = calls.snapshot
 number_of Len calls = calls.len
 number_of ReadAt calls = calls.read_at
@@ -57,6 +59,7 @@ counted ApplyOnce calls = record calls { apply_once = one_more calls.apply_once 
 counted Recorded calls = record calls { recorded = one_more calls.recorded }
 counted Find calls = record calls { find = one_more calls.find }
 counted Foreign calls = record calls { foreign = one_more calls.foreign }
+counted Passed calls = record calls { passed = one_more calls.passed }
 counted Snapshot calls = record calls { snapshot = one_more calls.snapshot }
 counted Len calls = record calls { len = one_more calls.len }
 counted ReadAt calls = record calls { read_at = one_more calls.read_at }
@@ -71,6 +74,7 @@ same_kind ApplyOnce ApplyOnce = true
 same_kind Recorded Recorded = true
 same_kind Find Find = true
 same_kind Foreign Foreign = true
+same_kind Passed Passed = true
 same_kind Snapshot Snapshot = true
 same_kind Len Len = true
 same_kind ReadAt ReadAt = true

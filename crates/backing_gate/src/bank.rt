@@ -1,6 +1,6 @@
 //! Tables with the history that they come of.
 
-ghost use Rattle.std.specs.Prelude.{◌≡◌, ◌≤◌, [], ◌∷◌, ◌++◌, false, length, take, IfErr, IfOk, IfSome, IsSome, None, Ok, OnErr, OnOk, Some};
+ghost use Rattle.std.specs.Prelude.{◌≡◌, ◌≤◌, [], ◌∷◌, ◌++◌, false, length, take, true, IfErr, IfOk, IfSome, IsErr, IsSome, None, Ok, OnErr, OnOk, Some};
 ghost use Rattle.std.specs.Result.{IsErrOf};
 ghost use Rattle.std.specs.FinMap.{get};
 ghost use Rattle.table_state.specs.declared.history.Entry.{Entry};
@@ -10,9 +10,12 @@ ghost use Rattle.table_state.specs.Refusals.{IsFault, SaysNone, broken_by_all};
 ghost use Rattle.outside.specs.Bank.{AppliesOnce, HasAll};
 ghost use Rattle.outside.specs.Console.{IsCopyOf, Writes, WritesForeign};
 ghost use Rattle.outside.specs.Others.{are_on_shared, is_shared};
+ghost use Rattle.outside.specs.Passing.{CommitsAlone};
 ghost use Rattle.outside.specs.declared.fault.BankError.{BankError};
+ghost use Rattle.outside.specs.declared.site.Done.{Done};
 ghost use Rattle.transactions.specs.Transactions.{Tells, written_by_all};
 ghost use Rattle.backing_gate.specs.Heeding.{MayVisit, NoneDiffers};
+ghost use Rattle.backing_gate.specs.PassedOn.{IsFresh};
 ghost use Rattle.backing_gate.specs.Sharing.{WritesOnShared};
 ghost use Rattle.table_state.specs.Keyed.{IsKeyed};
 ghost use Rattle.backing_gate.specs.Tickets.{FirstMissing};
@@ -24,6 +27,7 @@ use outside::{Applied, BankError, Done, Receipt, Snapshot};
 use row_types::{Key, Row};
 use std::alloc::{AllocError, Global};
 use std::marker::Model;
+use std::slice::from_ref;
 use table_defs::{BackingSchema, TableDef};
 use table_state::{ApplyError, Entry, History, Op, Sealed, Tables, UndoLog, copied_ops};
 use tier_base::{Position, Seq, TableId, Ticket};
@@ -210,7 +214,64 @@ impl MemoryBank {
         match write_all(alloc, &mut self.tables, changes) {
             Ok(written) => {
                 let rows = written.rows;
-                self.ledger.fill(alloc, written.ops);
+                self.ledger.replace_last(alloc, Entry::Foreign(written.ops));
+                return Ok(rows);
+            }
+            Err(error) => {
+                self.ledger.take_back();
+                return Err(error);
+            }
+        }
+    }
+
+    /// Does one write of a session that is passed on, and puts it behind the history with its ticket, also where it
+    /// writes no row.
+    ///
+    /// `BankError::Failed` where the ticket is recorded already, and where an operation meets a row that isn't there as
+    /// it says; for want of memory `BankError::Memory`. Nothing changes then.
+    pub(crate) fn passed(
+        &mut self,
+        alloc: Global,
+        ticket: Ticket,
+        change: &Change,
+    ) -> Result<Done, BankError>
+        ensures written { CommitsAlone ticket.0 change.now result self.old self.new }
+        ensures known { has_ticket ticket.0 self.old ≡ true → IsErr result }
+        ensures failed { IsErrOf result BankError.Failed → IsFresh ticket.0 change.now self.old → ⊥ }
+        ensures unchanged { OnErr result (self.new ≡ self.old) }
+    {
+        // The history leaves the tables.
+        let _ = &self.tables;
+        if self.ledger.position_of(ticket).is_some() {
+            return Err(BankError::Failed);
+        }
+        match self.write_own(alloc, ticket, change) {
+            Ok(rows) => return Ok(Done::Rows(rows as u64)),
+            Err(ApplyError::Rule(rule)) => return Ok(Done::Broken(rule)),
+            Err(ApplyError::Differs(_, _, _)) => return Err(BankError::Failed),
+            Err(ApplyError::Memory) => return Err(BankError::Memory),
+        }
+    }
+
+    // The same of a ticket that is new, with how many rows were written. The entry is put in empty first here too.
+    fn write_own(
+        &mut self,
+        alloc: Global,
+        ticket: Ticket,
+        change: &Change,
+    ) -> Result<usize, ApplyError>
+        requires { has_ticket ticket.0 self.old ≡ false }
+        ensures ok { IfOk result (λ rows. CommitsAlone ticket.0 change.now (Ok (Done.Rows rows)) self.old self.new) }
+        ensures refused { IfErr result (λ error. (s : TableState) → state_of self.old ≡ Some s
+            → Tells (written_by_all (change.now ∷ []) s) error) }
+        ensures unchanged { OnErr result (self.new ≡ self.old) }
+    {
+        self.ledger.push_own(ticket, Seq::new(alloc))?;
+        match write_all(alloc, &mut self.tables, from_ref(change)) {
+            Ok(written) => {
+                let rows = written.rows;
+                self.ledger
+                    .replace_last(alloc, Entry::Own(ticket, written.ops));
                 return Ok(rows);
             }
             Err(error) => {
@@ -230,7 +291,7 @@ impl MemoryBank {
             Err(_) => {}
             Ok(()) => match write_on_shared(alloc, &mut self.tables, shared, changes) {
                 None => self.ledger.take_back(),
-                Some(written) => self.ledger.fill(alloc, written.ops),
+                Some(written) => self.ledger.replace_last(alloc, Entry::Foreign(written.ops)),
             },
         }
     }

@@ -2,9 +2,8 @@
 
 ghost use Rattle.std.specs.Prelude.{◌≡◌, [], ◌∷◌, ◌++◌, false, length, List, OnErr, OnOk};
 ghost use Rattle.table_state.specs.declared.history.Entry.{Entry};
-ghost use Rattle.table_state.specs.declared.operation.Op.{Op};
 ghost use Rattle.table_state.specs.Histories.{has_ticket, position_of};
-ghost use Rattle.backing_gate.specs.Tickets.{EndsForeign, IsNewIn};
+ghost use Rattle.backing_gate.specs.Tickets.{EndsLike, IsNewIn};
 
 use std::alloc::{AllocError, Global};
 use std::collections::BTreeMap;
@@ -102,16 +101,16 @@ impl Ledger {
         }
     }
 
-    /// The last entry becomes one of others with these operations. A condition is that it is one of others. It takes no
+    /// This entry comes in place of the last one. A condition is that both have the same ticket, or none. It takes no
     /// memory.
-    pub(crate) fn fill(&mut self, alloc: Global, ops: Ops)
-        requires { EndsForeign self.old }
-        ensures { (front : List Entry) (before : List Op) → self.old ≡ front ++ Entry.Foreign before ∷ []
-            → self.new ≡ front ++ Entry.Foreign ops ∷ [] }
+    pub(crate) fn replace_last(&mut self, alloc: Global, entry: Entry)
+        requires { EndsLike entry self.old }
+        ensures { (front : List Entry) (last : Entry) → self.old ≡ front ++ last ∷ []
+            → self.new ≡ front ++ entry ∷ [] }
     {
         let mut entries = std::mem::replace(&mut self.entries, Seq::new(alloc)).into_vec();
         let last = entries.len() - 1;
-        entries[last] = Entry::Foreign(ops);
+        entries[last] = entry;
         self.entries = Seq::from_vec(entries);
     }
 

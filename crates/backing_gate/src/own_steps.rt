@@ -5,9 +5,11 @@ ghost use Rattle.table_state.specs.declared.history.Entry.{Entry};
 ghost use Rattle.outside.specs.Bank.{AppliesOnce, Defines, Grows, TellsRecorded, TellsRow, TellsSchema};
 ghost use Rattle.outside.specs.Console.{TakesSnapshot, WritesForeign};
 ghost use Rattle.outside.specs.Faults.{BankHasCause, Rose};
+ghost use Rattle.outside.specs.Passing.{CommitsAlone};
 ghost use Rattle.backing_gate.specs.Plans.{one_more};
-ghost use Rattle.backing_gate.specs.Heeding.{HasEffect, HeedsAs, IsWritten, MustCome, NoneDiffers};
+ghost use Rattle.backing_gate.specs.Heeding.{HasEffect, HeedsAs, IsWritten, MustCome, NoneDiffers, bank_of};
 ghost use Rattle.backing_gate.specs.Memory.{site_state};
+ghost use Rattle.backing_gate.specs.PassedOn.{PassesAs};
 
 use crate::memory_site::MemorySite;
 use crate::plan::{Outcome, When};
@@ -216,6 +218,50 @@ impl MemorySite {
             },
             Some(Outcome::Refused) => return Err(BankError::Memory),
             None => match self.bank.foreign(self.alloc, changes) {
+                Ok(done) => return Ok(done),
+                Err(BankError::Failed) => {
+                    self.count_failure();
+                    return Err(BankError::Failed);
+                }
+                Err(BankError::Memory) => return Err(BankError::Memory),
+            },
+        }
+    }
+
+    /// Does one write of a session that is passed on. It fails, though nothing is planned, where its ticket is recorded
+    /// already, and where an operation meets a row that isn't there as it says.
+    pub(crate) fn passed_as(
+        &mut self,
+        outcome: Option<Outcome>,
+        ticket: Ticket,
+        change: &Change,
+    ) -> Result<Done, BankError>
+        ensures own { CommitsAlone ticket.0 change.now result self.old.history self.new.history }
+        ensures heeds { PassesAs outcome ticket.0 change.now (bank_of self.old) (bank_of self.new) result }
+        ensures idle { HasEffect outcome ⊎ (self.new.history ≡ self.old.history) }
+        ensures cause { BankHasCause (site_state self.old) (site_state self.new) result }
+        ensures kept { self.new ≡ record self.old { history = self.new.history; bank_faults = self.new.bank_faults } }
+    {
+        match outcome {
+            Some(Outcome::Failed(When::Before)) => {
+                self.count_failure();
+                return Err(BankError::Failed);
+            }
+            Some(Outcome::Failed(When::After)) => {
+                match self.bank.passed(self.alloc, ticket, change) {
+                    Ok(_) => {
+                        self.count_failure();
+                        return Err(BankError::Failed);
+                    }
+                    Err(BankError::Failed) => {
+                        self.count_failure();
+                        return Err(BankError::Failed);
+                    }
+                    Err(BankError::Memory) => return Err(BankError::Memory),
+                }
+            }
+            Some(Outcome::Refused) => return Err(BankError::Memory),
+            None => match self.bank.passed(self.alloc, ticket, change) {
                 Ok(done) => return Ok(done),
                 Err(BankError::Failed) => {
                     self.count_failure();

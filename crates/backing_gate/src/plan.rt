@@ -21,6 +21,8 @@ pub enum CallKind {
     Find,
     /// `foreign`.
     Foreign,
+    /// `passed`.
+    Passed,
     /// `snapshot`.
     Snapshot,
     /// `len` of the disk.
@@ -79,6 +81,8 @@ pub struct CallCounts {
     pub find: u64,
     /// Of `foreign`.
     pub foreign: u64,
+    /// Of `passed`.
+    pub passed: u64,
     /// Of `snapshot`.
     pub snapshot: u64,
     /// Of `len`.
@@ -105,6 +109,7 @@ impl CallCounts {
             CallKind::Recorded => self.recorded,
             CallKind::Find => self.find,
             CallKind::Foreign => self.foreign,
+            CallKind::Passed => self.passed,
             CallKind::Snapshot => self.snapshot,
             CallKind::Len => self.len,
             CallKind::ReadAt => self.read_at,
@@ -125,6 +130,7 @@ impl CallCounts {
             CallKind::Recorded => self.recorded = self.recorded.saturating_add(1),
             CallKind::Find => self.find = self.find.saturating_add(1),
             CallKind::Foreign => self.foreign = self.foreign.saturating_add(1),
+            CallKind::Passed => self.passed = self.passed.saturating_add(1),
             CallKind::Snapshot => self.snapshot = self.snapshot.saturating_add(1),
             CallKind::Len => self.len = self.len.saturating_add(1),
             CallKind::ReadAt => self.read_at = self.read_at.saturating_add(1),
@@ -169,6 +175,7 @@ impl Plans {
                 recorded: 0,
                 find: 0,
                 foreign: 0,
+                passed: 0,
                 snapshot: 0,
                 len: 0,
                 read_at: 0,

@@ -9,6 +9,7 @@ use crate::catalog::open_catalog;
 use crate::defining::define;
 use crate::fault::{OpenError, StoreFault};
 use crate::foreign::{foreign, snapshot};
+use crate::passing::passed;
 use crate::reading::{find, recorded};
 use crate::shelf::Shelf;
 use evaluator::Change;
@@ -150,6 +151,14 @@ impl SqliteBank {
         ensures counts { Counts self.old self.new result }
     {
         let done = foreign(self.alloc, &mut self.conn, &self.shelf, changes);
+        self.answer(done)
+    }
+
+    /// Does one write of a session that is passed on, and records it with its ticket.
+    pub fn passed(&mut self, ticket: Ticket, change: &Change) -> Result<Done, BankError>
+        ensures counts { Counts self.old self.new result }
+    {
+        let done = passed(self.alloc, &mut self.conn, &self.shelf, ticket, change);
         self.answer(done)
     }
 

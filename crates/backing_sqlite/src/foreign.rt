@@ -14,8 +14,7 @@ use table_state::{ApplyError, Op};
 use tier_base::{Position, TableId};
 use transactions::write_all;
 
-/// Does the writes of a transaction of the console, all of them or none, in one transaction of the store. They are judged
-/// on copies of their tables, and of those that refer to these or are referred to.
+/// Does the writes of a transaction of the console, all of them or none, in one transaction of the store.
 pub(crate) fn foreign<S: Alter>(
     alloc: Global,
     conn: &mut Connection<S>,
@@ -37,6 +36,24 @@ pub(crate) fn foreign<S: Alter>(
 }
 
 fn foreign_in<S: Alter>(
+    alloc: Global,
+    tx: &mut Transaction<'_, S>,
+    shelf: &Shelf,
+    changes: &[Change],
+) -> Result<Done, StoreFault> {
+    let done = write_in(alloc, tx, shelf, changes)?;
+    match &done {
+        Done::Broken(_) => Ok(done),
+        Done::Rows(_) => {
+            let _ = add_entry(tx)?;
+            Ok(done)
+        }
+    }
+}
+
+/// Does writes, all of them or none. They are judged on copies of their tables, and of those that refer to these or are
+/// referred to. After an error what was done is still to be taken back.
+pub(crate) fn write_in<S: Alter>(
     alloc: Global,
     tx: &mut Transaction<'_, S>,
     shelf: &Shelf,
@@ -68,7 +85,6 @@ fn write_ops<S: Alter>(
     for op in ops {
         do_op(alloc, tx, shelf, op)?;
     }
-    let _ = add_entry(tx)?;
     Ok(())
 }
 

@@ -10,6 +10,7 @@ mod fault;
 mod foreign;
 mod judging;
 mod loading;
+mod passing;
 mod reading;
 pub mod real_site;
 mod schema_rows;

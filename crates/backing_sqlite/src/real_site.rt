@@ -98,6 +98,10 @@ impl<D: Disk> Site for RealSite<D> {
         self.bank.foreign(changes)
     }
 
+    fn passed(&mut self, ticket: Ticket, change: &Change) -> Result<Done, BankError> {
+        self.bank.passed(ticket, change)
+    }
+
     fn snapshot(&mut self, tables: &[TableId]) -> Result<Snapshot, BankError> {
         self.bank.snapshot(tables)
     }

@@ -100,6 +100,26 @@ pub fn apply<T: Site>(
     }
 }
 
+/// Does one write that is passed on, with this ticket.
+pub fn passed<T: Site>(
+    alloc: Global,
+    site: &mut T,
+    ticket: u64,
+    write: &str,
+    line: usize,
+    out: &mut Vec<u8>,
+) -> Result<(), DrillError> {
+    let known = site.schema()?;
+    let changes = changes_of(alloc, &known, write, line)?;
+    match changes.as_slice() {
+        [change] => match site.passed(Ticket(ticket), change) {
+            Ok(done) => tell_done(out, &done),
+            Err(error) => tell_bank_error(out, error),
+        },
+        _ => Err(DrillError::Line(line)),
+    }
+}
+
 /// Tells the row at a key.
 pub fn find<T: Site>(
     alloc: Global,

@@ -9,6 +9,8 @@ pub enum Command<'a> {
     Seal(u64, &'a str),
     /// `!apply TICKET` or `!apply TICKET OTHER ..`: the transaction is applied once, behind those of the other tickets.
     Apply(u64, &'a str),
+    /// `!passed TICKET WRITE`: the write of a session is passed on with this ticket.
+    Passed(u64, &'a str),
     /// `!find TABLE VALUE,..`: the row at a key.
     Find(&'a str, &'a str),
     /// `!schema`: the definitions.
@@ -53,6 +55,11 @@ fn parse_call(text: &str) -> Option<Command<'_>> {
             let (ticket, after) = first_word(rest);
             let ticket = ticket.parse::<u64>().ok()?;
             Some(Command::Apply(ticket, after))
+        }
+        "passed" => {
+            let (ticket, write) = first_word(rest);
+            let ticket = ticket.parse::<u64>().ok()?;
+            Some(Command::Passed(ticket, write))
         }
         "find" => {
             let (table, key) = first_word(rest);

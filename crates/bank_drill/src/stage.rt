@@ -1,7 +1,7 @@
 //! The site, and what a script keeps beside it.
 
 use crate::answers::{tell_bank_error, tell_lines, tell_opening};
-use crate::calls::{apply, console, find, schema, seal, snapshot};
+use crate::calls::{apply, console, find, passed, schema, seal, snapshot};
 use crate::command::Command;
 use crate::error::DrillError;
 use backing_sqlite::{RealSite, SqliteBank};
@@ -93,6 +93,9 @@ impl Stage {
                     line,
                     out,
                 )
+            }
+            Command::Passed(ticket, write) => {
+                passed(alloc, &mut self.site, ticket, write, line, out)
             }
             Command::Find(table, key) => find(alloc, &mut self.site, table, key, line, out),
             Command::Schema => schema(&mut self.site, out),

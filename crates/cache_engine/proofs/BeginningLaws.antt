@@ -26,16 +26,18 @@ use Rattle.cache_engine.specs.Beginning.{Begins, BeginsAt, IsFresh, IsNewClock, 
 use Rattle.stored_tier.specs.Naming.{AreNamed}
 use Rattle.outside.specs.Sites.{SiteState}
 use Rattle.pending_writes.specs.Noting.{TellsWriters}
-use Rattle.stored_tier.specs.Stored.{AreKept, IsSound, IsStoredAs, KeepsTime, are_later, first_unsettled, is_plain, rows_of}
+use Rattle.stored_tier.specs.Stored.{AreKept, IsSound, IsStoredAs, KeepsTime, are_later, first_unsettled, rows_of, pace_of}
+use Rattle.group_catalog.specs.Catalogs.{is_plain}
 use Rattle.stored_tier.specs.Moments.{refreshed_in, set_seen}
 use Rattle.stored_tier.proofs.BankLaws.{told_behind}
 use Rattle.session_engine.proofs.OthersLaws.{came_by, schema_told}
 use Rattle.stored_tier.proofs.StandingLaws.{slots_kept}
+use Rattle.stored_tier.specs.declared.clock.Pace.{Pace}
 
 -- what is stored
 
-time_fresh : (c : TierClock) (start propagate_ms : ℕ) (settings : Settings) → settings.propagate_ms ≡ propagate_ms → IsNewClock c start propagate_ms → KeepsTime c (opened settings start []).now 0 (opened settings start []).now [] settings
-time_fresh c start propagate_ms settings due new = record {
+time_fresh : (c : TierClock) (start : ℕ) (pace : Pace) (settings : Settings) → pace_of settings ≡ pace → IsNewClock c start pace → KeepsTime c (opened settings start []).now 0 (opened settings start []).now [] settings
+time_fresh c start pace settings due new = record {
   moment = sym new.now;
   additions = sym new.added;
   tried = sym new.round;
@@ -43,8 +45,8 @@ time_fresh c start propagate_ms settings due new = record {
   due = due ∙ sym new.due;
 }
 
-pub stored_fresh : (t : Stored) (schema : List TableDef) (start propagate_ms : ℕ) (settings : Settings) (s : TableState) → settings.propagate_ms ≡ propagate_ms → s.schema ≡ schema → IsFresh t schema start propagate_ms → IsStoredAs t (opened settings start s.schema)
-stored_fresh t schema start propagate_ms settings s due same new = record {
+pub stored_fresh : (t : Stored) (schema : List TableDef) (start : ℕ) (pace : Pace) (settings : Settings) (s : TableState) → pace_of settings ≡ pace → s.schema ≡ schema → IsFresh t schema start pace → IsStoredAs t (opened settings start s.schema)
+stored_fresh t schema start pace settings s due same new = record {
   schema = same ∙ sym new.schema_is;
   stale = sym new.told;
   groups = sym new.groups;
@@ -52,7 +54,7 @@ stored_fresh t schema start propagate_ms settings s due same new = record {
   unsettled = sym new.unsettled;
   next = sym new.next;
   doubt = refl;
-  time = time_fresh t.clock start propagate_ms settings due new.clock;
+  time = time_fresh t.clock start pace settings due new.clock;
 }
 
 none_shown : (history : List Entry) (a : Tier) (place : ℕ) (defs : List TableDef) → a.groups ≡ [] → tables_by (stored_rows []) place defs ≡ tables_from (shown_table history a) place defs
@@ -61,8 +63,8 @@ none_shown history a place (def ∷ defs) none =
     ap (λ (t : List Rattle.indexed_rows.specs.Rows.Table). t) (ap (λ gs. Rattle.cache_tier.specs.Shown.table_of_group history a.log (record { 0 = place }) (Rattle.cache_tier.specs.Groups.group_over gs (record { 0 = place })) ∷ tables_by (stored_rows []) (suc place) defs) (sym none))
     ∙ ap (λ ts. shown_table history a (record { 0 = place }) ∷ ts) (none_shown history a (suc place) defs none)
 
-shows_fresh : (t : Stored) (schema : List TableDef) (start propagate_ms : ℕ) (settings : Settings) (s : TableState) (history : List Entry) → s.schema ≡ schema → IsFresh t schema start propagate_ms → rows_of t ≡ shown_state history (opened settings start s.schema)
-shows_fresh t schema start propagate_ms settings s history same new =
+shows_fresh : (t : Stored) (schema : List TableDef) (start : ℕ) (pace : Pace) (settings : Settings) (s : TableState) (history : List Entry) → s.schema ≡ schema → IsFresh t schema start pace → rows_of t ≡ shown_state history (opened settings start s.schema)
+shows_fresh t schema start pace settings s history same new =
     ap (shown_by t.schema) new.stores
     ∙ ap (λ defs. shown_by defs []) (new.schema_is ∙ sym same)
     ∙ ap (λ ts. let z : TableState = record { schema = s.schema; tables = ts } in z) (none_shown history (opened settings start s.schema) 0 s.schema refl)
@@ -73,8 +75,8 @@ none_there : {X : Type 0} (xs : List X) (k : ℕ) (x : X) → xs ≡ [] → slic
 none_there [] k x none at = cc
 none_there (y ∷ xs) k x none at = cc
 
-pub sound_fresh : (t : Stored) (schema : List TableDef) (start propagate_ms : ℕ) → IsFresh t schema start propagate_ms → AreSessions t.schema t.sessions → AreNamed (groups_in t.catalog) t.stores.items t.schema t.visible t.directory → IsSound t
-sound_fresh t schema start propagate_ms new sessions named = record {
+pub sound_fresh : (t : Stored) (schema : List TableDef) (start : ℕ) (pace : Pace) → IsFresh t schema start pace → AreSessions t.schema t.sessions → AreNamed (groups_in t.catalog) t.stores.items t.schema t.visible t.directory → IsSound t
+sound_fresh t schema start pace new sessions named = record {
   sessions = sessions;
   stores = record { homes = named.directory; over = λ k s at. absurd (none_there t.stores.items k s new.stores at) };
   kept = subst (λ gs. AreKept t.schema gs t.stores.items) (sym new.groups) (subst (AreKept t.schema []) (sym new.stores) tt);
@@ -94,16 +96,16 @@ OpenedLaw =
     (w : World) (settings : Settings) (moment : ℕ) (s : TableState) → state_of w.history ≡ Some s
     → MayBegin w.history 1 → Stands (with_tier (opened settings moment s.schema) w)
 
-opened_there : OpenedLaw → (t : Stored) (schema : List TableDef) (start : Moment) (propagate_ms : ℕ) (history : List Entry) (seen : SiteState) → ((s : TableState) → state_of history ≡ Some s → s.schema ≡ schema) → IsFresh t schema start.0 propagate_ms → IsOpened t start propagate_ms history seen
-opened_there law t schema start propagate_ms history seen told new settings s due is may = record {
-  stored = stored_fresh t schema start.0 propagate_ms settings s due (told s is) new;
-  shows = shows_fresh t schema start.0 propagate_ms settings s history (told s is) new;
+opened_there : OpenedLaw → (t : Stored) (schema : List TableDef) (start : Moment) (pace : Pace) (history : List Entry) (seen : SiteState) → ((s : TableState) → state_of history ≡ Some s → s.schema ≡ schema) → IsFresh t schema start.0 pace → IsOpened t start pace history seen
+opened_there law t schema start pace history seen told new settings s due is may = record {
+  stored = stored_fresh t schema start.0 pace settings s due (told s is) new;
+  shows = shows_fresh t schema start.0 pace settings s history (told s is) new;
   stands = law (opened_world settings start.0 s history seen) settings start.0 s is may;
   waits = record { settled = []; behind = []; is = refl; waits = refl };
 }
 
-pub begun : OpenedLaw → (t : Stored) (schema : List TableDef) (start : Moment) (propagate_ms : ℕ) (before after : SiteState) → site.Told before.held after.held (site.BankCall before.shared (TellsSchema (Ok schema))) → IsFresh t schema start.0 propagate_ms → Begins start propagate_ms before after (Ok t)
-begun law t schema start propagate_ms before after told new there was =
+pub begun : OpenedLaw → (t : Stored) (schema : List TableDef) (start : Moment) (pace : Pace) (before after : SiteState) → site.Told before.held after.held (site.BankCall before.shared (TellsSchema (Ok schema))) → IsFresh t schema start.0 pace → Begins start pace before after (Ok t)
+begun law t schema start pace before after told new there was =
     let now = told_behind there before.held after.held (site.BankCall before.shared (TellsSchema (Ok schema))) was told in
     let came = came_by before.shared (TellsSchema (Ok schema)) there.history now.there.history (λ a b tells. tells.0) now.is.history in
     record {
@@ -112,7 +114,7 @@ begun law t schema start propagate_ms before after told new there was =
       others = came.entries;
       came = came.others;
       is = came.is;
-      opened = opened_there law t schema start propagate_ms now.there.history after
+      opened = opened_there law t schema start pace now.there.history after
           (λ s is. schema_told before.shared schema there.history now.there.history s now.is.history is) new;
     }
 

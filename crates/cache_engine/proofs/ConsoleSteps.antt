@@ -50,7 +50,8 @@ use Rattle.stored_tier.specs.Sites.{Serves}
 use Rattle.outside.specs.Sites.{SiteState}
 use Rattle.stored_tier.specs.Stored.{rows_of}
 use Rattle.cache_engine.proofs.AskingLaws.{CalledAt}
-use Rattle.cache_engine.proofs.ConsoleLaws.{AreApart, live_of, resolved_apart, written_off}
+use Rattle.session_engine.proofs.OffLaws.{AreApart, written_off}
+use Rattle.cache_engine.proofs.ConsoleLaws.{live_of, resolved_apart}
 use Rattle.cache_engine.proofs.CreatingLaws.{EntriesLaw, call_caused, none_behind, others_behind}
 use Rattle.stored_tier.proofs.SettlingLaws.{ShownLaw}
 use Rattle.cache_engine.proofs.WantLaws.{slots_stay}

@@ -10,13 +10,13 @@ use Rattle.sql_subset.specs.declared.request.Line.TheVariants as says
 use Rattle.table_state.specs.declared.history.Sealed.{Sealed}
 use Rattle.table_state.specs.declared.history.Entry.{Entry}
 use Rattle.cache_tier.specs.CommitSteps.{after_applied, sealed_own}
-use Rattle.cache_tier.specs.PassedSteps.{with_ticket}
+use Rattle.cache_tier.specs.PassedSteps.{after_passed, with_ticket}
 use Rattle.cache_tier.specs.Aging.{aged, is_aged_by, is_aging_due, is_over}
 use Rattle.cache_tier.specs.DueWork.{DueAging, DueRound, DueSets, DueSetsOf, DueWork, Noted, ThenItem, due_sets, intervals, is_round_due, noted, stopped, with_number}
 use Rattle.cache_tier.specs.Groups.{Group, definitions_of, is_explicit, is_on, is_read_only}
 use Rattle.cache_tier.specs.Rounds.{Round}
 use Rattle.cache_tier.specs.Steps.{added_by, at_moment, with_moment}
-use Rattle.cache_tier.specs.TierStates.{Tier, cut}
+use Rattle.cache_tier.specs.TierStates.{Session, Tier, cut}
 use Rattle.cache_tier.specs.Worlds.{OnlyWhere, Passes, World}
 use Rattle.cache_tier.specs.declared.reply.Note.{Note}
 use Rattle.cache_tier.specs.declared.reply.Reply.{Reply}
@@ -30,13 +30,17 @@ use Rattle.tier_journal.specs.declared.journal.TierJournal.{TierJournal}
 use Rattle.stored_tier.specs.Performing.{IsStopCausedOver, PerformsOver, StandsFor}
 use Rattle.stored_tier.specs.Refreshing.{has_moment, moment_in}
 use Rattle.outside.specs.Sites.{SiteState}
-use Rattle.stored_tier.specs.Stored.{IsSound, IsStoredAs, KeepsTime, is_plain, without_list}
+use Rattle.stored_tier.specs.Stored.{IsSound, IsStoredAs, KeepsTime, without_list}
+use Rattle.group_catalog.specs.Catalogs.{is_plain}
 use Rattle.cache_engine.proofs.DueItemLaws.{as_item, idle_item, noted_item, stopped_item, then_items}
 use Rattle.stored_tier.proofs.OverLaws.{keeps_tier}
 use Rattle.stored_tier.proofs.QuietLaws.{at_still}
 use Rattle.group_engine.proofs.RefreshedSets.{stands_clocked, stored_clocked}
-use Rattle.session_engine.specs.Doubting.{IsInDoubt, IsLeft, LeadsOver}
+use Rattle.session_engine.specs.Doubting.{CommitIsInDoubt, IsInDoubt, IsLeft, LeadsOver, WriteIsInDoubt}
 use Rattle.session_engine.specs.declared.doubt.Doubt.{Doubt}
+use Rattle.session_engine.specs.declared.doubt.Doubted.{Doubted}
+use Rattle.session_engine.specs.declared.doubt.Doubted.TheVariants.{Commit, PassedWrite}
+use Rattle.table_state.specs.declared.operation.Op.{Op}
 
 -- which sets are due
 
@@ -49,8 +53,8 @@ due_stored t a is =
     (λ j. filter (λ i. is_over (is.time.moment j) (is.time.refreshes i j) i) (intervals a.groups))
     ∙ ap (filter (is_due_at t.clock.now t.clock.sets.items)) (sym (intervals_bare a.groups) ∙ ap intervals is.groups)
 
-pub round_stored : (t : Stored) (a : Tier) → IsStoredAs t a → is_round_due a ≡ round_is_due t.clock.now t.clock.round t.clock.propagate_ms
-round_stored t a is = λ j. round_is_due (is.time.moment j) (is.time.tried j) (is.time.due j)
+pub round_stored : (t : Stored) (a : Tier) → IsStoredAs t a → is_round_due a ≡ round_is_due t.clock.now t.clock.round t.clock.pace.propagate_ms
+round_stored t a is = λ j. round_is_due (is.time.moment j) (is.time.tried j) ((is.time.due j).propagate_ms)
 
 -- aging does nothing where no group ages
 
@@ -99,7 +103,7 @@ module _ {D : Type 0} (state : D → SiteState) (possible : D → ℕ → Held �
 
   -- a round that isn't due
 
-  pub round_passes : (t : Stored) (b : Footing D) (notes : List Note) → round_is_due t.clock.now t.clock.round t.clock.propagate_ms ≡ false → DoesItem state possible DueRound t t b b notes notes None
+  pub round_passes : (t : Stored) (b : Footing D) (notes : List Note) → round_is_due t.clock.now t.clock.round t.clock.pace.propagate_ms ≡ false → DoesItem state possible DueRound t t b b notes notes None
   round_passes t b notes not_so = idle_item state possible DueRound t b notes (λ w is. record {
     end = None;
     does = subst (λ x. MatchBool x (Round w w None) (Passes w w None)) (sym (round_stored t w.tier is.stored ∙ not_so)) (refl, refl);
@@ -107,7 +111,7 @@ module _ {D : Type 0} (state : D → SiteState) (possible : D → ℕ → Held �
     ends = refl;
   })
 
-  pub round_wanted : (t new : Stored) (b a : Footing D) (end : Option Reply) → round_is_due t.clock.now t.clock.round t.clock.propagate_ms ≡ true → PerformsOver state possible t new b.journal a.journal b.disk a.disk end (λ w w'. Round w w' end)
+  pub round_wanted : (t new : Stored) (b a : Footing D) (end : Option Reply) → round_is_due t.clock.now t.clock.round t.clock.pace.propagate_ms ≡ true → PerformsOver state possible t new b.journal a.journal b.disk a.disk end (λ w w'. Round w w' end)
       → PerformsOver state possible t new b.journal a.journal b.disk a.disk end (λ w w'. OnlyWhere (is_round_due w.tier) Round w w' end)
   round_wanted t new b a end so performs w at stands apart keeps =
       let p = performs w at stands apart keeps in
@@ -123,7 +127,7 @@ module _ {D : Type 0} (state : D → SiteState) (possible : D → ℕ → Held �
   pub sets_kept : (old new : Stored) → new ≡ record old { unsettled = new.unsettled; clock = new.clock } → new.clock ≡ record (old.clock) { round = old.clock.now } → KeepsSets old new
   sets_kept old new same clock = record { catalog = ap (λ (t : Stored). t.catalog) same; now = ap (λ (c : TierClock). c.now) clock; sets = ap (λ (c : TierClock). c.sets) clock }
 
-  pub round_item : (old new : Stored) (b a : Footing D) (earlier notes : List Note) (end stop : Option Reply) → round_is_due old.clock.now old.clock.round old.clock.propagate_ms ≡ true → PerformsOver state possible old new b.journal a.journal b.disk a.disk end (λ w w'. Round w w' end) → IsStopCausedOver b.journal (state b.disk) (state a.disk) end → (b.journal ≡ None → a.journal ≡ None)
+  pub round_item : (old new : Stored) (b a : Footing D) (earlier notes : List Note) (end stop : Option Reply) → round_is_due old.clock.now old.clock.round old.clock.pace.propagate_ms ≡ true → PerformsOver state possible old new b.journal a.journal b.disk a.disk end (λ w w'. Round w w' end) → IsStopCausedOver b.journal (state b.disk) (state a.disk) end → (b.journal ≡ None → a.journal ≡ None)
       → new ≡ record old { unsettled = new.unsettled; clock = new.clock } → new.clock ≡ record (old.clock) { round = old.clock.now } → notes ≡ earlier ++ noted (note_of None) end → stop ≡ stopped end → DoesItem state possible DueRound old new b a earlier notes stop
   round_item old new b a earlier notes end stop so performs caused none same clock told ends =
       as_item state possible (Noted (note_of None) (λ w w' s. OnlyWhere (is_round_due w.tier) Round w w' s)) DueRound old new b a earlier notes stop
@@ -161,7 +165,7 @@ moved_same base line a b x label e =
 abbrev TimedAt : Stored → TierClock → ℕ → Line → World → Type 0
 TimedAt t clock base line w = KeepsTime clock (at_moment base line w.tier).now (added_by line w.tier) w.tier.round w.tier.sets w.tier.settings
 
-in_doubt_timed : (t : Stored) (clock : TierClock) (base : ℕ) (line : Line) (d : Doubt) (w : World) (x : IsInDoubt t d w) → TimedAt t clock base line x.was → IsInDoubt (record t { clock = clock }) d (with_moment base line w)
+in_doubt_timed : (t : Stored) (clock : TierClock) (base : ℕ) (line : Line) (d : Doubt) (w : World) (x : CommitIsInDoubt t d w) → TimedAt t clock base line x.was → CommitIsInDoubt (record t { clock = clock }) d (with_moment base line w)
 in_doubt_timed t clock base line d w x time = record {
   was = with_moment base line x.was;
   stands = timed (record t { next = d.ticket }) clock base line x.was x.stands time;
@@ -184,6 +188,38 @@ in_doubt_timed t clock base line d w x time = record {
   read = x.read;
 }
 
+-- and so is a write that was passed on
+
+passed_same : (base : ℕ) (line : Line) (a b : Tier) (s : Session) (n : ℕ) (ops : List Op) → a ≡ after_passed s n ops (Err Failed) (with_ticket b) → at_moment base line a ≡ after_passed s n ops (Err Failed) (with_ticket (at_moment base line b))
+passed_same base line a b s n ops e =
+    ap (at_moment base line) e
+    ∙ ap (Moved base line (after_passed s n ops (Err Failed) (with_ticket b))) (added_same line (after_passed s n ops (Err Failed) (with_ticket b)) b refl)
+
+write_timed : (t : Stored) (clock : TierClock) (base : ℕ) (line : Line) (d : Doubt) (w : World) (x : WriteIsInDoubt t d w) → TimedAt t clock base line x.was → WriteIsInDoubt (record t { clock = clock }) d (with_moment base line w)
+write_timed t clock base line d w x time = record {
+  was = with_moment base line x.was;
+  stands = timed (record t { next = d.ticket }) clock base line x.was x.stands time;
+  unshared = x.unshared;
+  session = x.session;
+  has = record { seen = x.has.seen; found = x.has.found; number = x.has.number; is = x.has.is };
+  next = x.next;
+  room = x.room;
+  change = x.change;
+  off = x.off;
+  ops = x.ops;
+  call = record {
+    history = x.call.history;
+    journal = x.call.journal;
+    faults = x.call.faults;
+    disk = x.call.disk;
+    moment = x.call.moment;
+    shared = x.call.shared;
+  };
+  tier = passed_same base line w.tier x.was.tier x.session x.was.tier.next x.ops x.tier;
+  legal = x.legal;
+  read = x.read;
+}
+
 -- the moment comes, and then what is due is done
 module _ (t : Stored) (clock : TierClock) (base now added : ℕ) (line : Line) (adds : (x : Tier) → x.added ≡ t.clock.added → added_by line x ≡ added) (moment : now ≡ cut (max t.clock.now (base + added)))
     (same : clock ≡ record (t.clock) { now = now; added = added; sets = clock.sets }) (sets_is : (i : ℕ) → moment_in clock.sets.items i ≡ moment_in t.clock.sets.items i) where
@@ -195,12 +231,16 @@ module _ (t : Stored) (clock : TierClock) (base now added : ℕ) (line : Line) (
         additions = more ∙ sym (ap (λ (c : TierClock). c.added) same);
         tried = was.tried ∙ sym (ap (λ (c : TierClock). c.round) same);
         refreshes = λ i. was.refreshes i ∙ sym (sets_is i);
-        due = was.due ∙ sym (ap (λ (c : TierClock). c.propagate_ms) same);
+        due = was.due ∙ sym (ap (λ (c : TierClock). c.pace) same);
       }
 
   pub left_timed : (doubt : Option Doubt) (w : World) → IsLeft t doubt w → IsLeft (record t { clock = clock }) doubt (with_moment base line w)
   left_timed None w is = timed t clock base line w is (time_at w.tier is.stored.time)
-  left_timed (Some d) w x = in_doubt_timed t clock base line d w x (time_at x.was.tier x.stands.stored.time)
+  left_timed (Some d) w x = by d.of x
+    where
+      by : (o : Doubted) → IsInDoubt o t d w → IsInDoubt o (record t { clock = clock }) d (with_moment base line w)
+      by (Commit ops) x = in_doubt_timed t clock base line d w x (time_at x.was.tier x.stands.stored.time)
+      by PassedWrite x = write_timed t clock base line d w x (time_at x.was.tier x.stands.stored.time)
 
 module _ {D : Type 0} (state : D → SiteState) (possible : D → ℕ → Held → Type 0) where
   pub line_done : (t mid new : Stored) (was doubt : Option Doubt) (clock : TierClock) (base now added : ℕ) (line : Line) (k k' : Option TierJournal) (b a : D) (notes told : List Note) (stop : Option Reply) → ((x : Tier) → x.added ≡ t.clock.added → added_by line x ≡ added) → now ≡ cut (max t.clock.now (base + added))

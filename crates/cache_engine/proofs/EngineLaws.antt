@@ -1,5 +1,5 @@
 -- What an engine was left in, and what a line makes of it.
-use Rattle.std.proofs.Common.{◌≡◌, ◌∙◌, ◌≤◌, ◌-◌, ◌^◌, ℕ, false, Option, Some, None, Result, Ok, Err, List, [], ◌++◌, length, refl, sym, ap, subst, arith}
+use Rattle.std.proofs.Common.{◌+◌, ◌≡◌, ◌∙◌, ◌≤◌, ◌-◌, ◌^◌, ℕ, false, Option, Some, None, Result, Ok, Err, List, [], ◌++◌, length, refl, sym, ap, subst, arith}
 use Rattle.tier_base.specs.declared.code.Code.TheVariants as code
 use Rattle.tier_base.specs.declared.number.SessionId.{SessionId}
 use Rattle.row_types.specs.declared.rule.Refused.{Refused}
@@ -22,9 +22,11 @@ use Rattle.cache_tier.specs.TierStates.{Session}
 use Rattle.stored_tier.specs.Performing.{Executes, ExecutesUnwritten, PerformsIn, PerformsInOver, PerformsOver, StandsFor, StaysWritten, reply_of}
 use Rattle.stored_tier.proofs.OverLaws.{over_so}
 use Rattle.stored_tier.specs.Stored.{IsStoredAs}
-use Rattle.session_engine.specs.Doubting.{EndsInOver, EndsOver, IsEndedOver, IsLeft, Leads, LeadsOver}
+use Rattle.session_engine.specs.Doubting.{EndsInOver, EndsOver, IsEndedOver, IsInDoubt, IsLeft, Leads, LeadsOver}
 use Rattle.session_engine.specs.Settling.{IsAsked, told_of}
 use Rattle.session_engine.specs.declared.doubt.Doubt.{Doubt}
+use Rattle.session_engine.specs.declared.doubt.Doubted.{Doubted}
+use Rattle.session_engine.specs.declared.doubt.Doubted.TheVariants.{Commit, PassedWrite}
 use Rattle.session_engine.proofs.DoubtLaws.{stored_drawn}
 use Rattle.order_laws.specs.Commits.{KeepsCommitOrder}
 use Rattle.cache_tier.specs.StandingBetween.{AreReadAt, Stands}
@@ -109,12 +111,30 @@ pub record IsStoredLike (t : Stored) (w : World) : Type 0 where
 
 pub left_stored : (t : Stored) (was : Option Doubt) (w : World) → IsLeft t was w → IsStoredLike t w
 left_stored t None w is = record { tier = w.tier; stored = is.stored; sessions = refl; added = refl }
-left_stored t (Some d) w x = record {
-  tier = with_ticket x.was.tier;
-  stored = stored_drawn t d w x;
-  sessions = ap (λ (a : Tier). labels_of a.sessions) x.tier;
-  added = ap (λ (a : Tier). a.added) x.tier;
-}
+left_stored t (Some d) w x = by d.of x
+  where
+    by : (of : Doubted) → IsInDoubt of t d w → IsStoredLike t w
+    by (Commit ops) x = record {
+      tier = with_ticket x.was.tier;
+      stored = stored_drawn t d w x;
+      sessions = ap (λ (a : Tier). labels_of a.sessions) x.tier;
+      added = ap (λ (a : Tier). a.added) x.tier;
+    }
+    by PassedWrite x = record {
+      tier = with_ticket x.was.tier;
+      stored = record {
+        schema = x.stands.stored.schema;
+        stale = x.stands.stored.stale;
+        groups = x.stands.stored.groups;
+        sessions = x.stands.stored.sessions;
+        unsettled = x.stands.stored.unsettled;
+        next = ap (λ n. n + 1) x.stands.stored.next ∙ sym x.next;
+        doubt = x.stands.stored.doubt;
+        time = x.stands.stored.time;
+      };
+      sessions = ap (λ (a : Tier). labels_of a.sessions) x.tier;
+      added = ap (λ (a : Tier). a.added) x.tier;
+    }
 
 -- WHAT IS KNOWN OF A WORLD IN WHICH IT WAS LEFT SO
 
@@ -123,16 +143,24 @@ pub record IsKnown (w : World) : Type 0 where
   pub read : AreReadAt (length w.history) w.tier.groups
   pub stands : w.tier.doubt ≡ None → Stands w
 
+never_none : {X : Type 0} (y : X) → Some y ≡ None → ⊥
+never_none y e = cc
+
 pub known_of : (t : Stored) (doubt : Option Doubt) (w : World) → IsLeft t doubt w → IsKnown w
 known_of t None w is = record { legal = legal_of w is.stands; read = is.stands.read; stands = λ none. is.stands }
-known_of t (Some d) w x = record {
-  legal = x.legal;
-  read = x.read;
-  stands = λ none. absurd (never_none _ (sym (ap (λ (a : Tier). a.doubt) x.tier) ∙ none));
-}
+known_of t (Some d) w x = by d.of x
   where
-    never_none : {X : Type 0} (y : X) → Some y ≡ None → ⊥
-    never_none y e = cc
+    by : (of : Doubted) → IsInDoubt of t d w → IsKnown w
+    by (Commit ops) x = record {
+      legal = x.legal;
+      read = x.read;
+      stands = λ none. absurd (never_none _ (sym (ap (λ (a : Tier). a.doubt) x.tier) ∙ none));
+    }
+    by PassedWrite x = record {
+      legal = x.legal;
+      read = x.read;
+      stands = λ none. absurd (never_none _ (sym (ap (λ (a : Tier). a.doubt) x.tier) ∙ none));
+    }
 
 pub left_known : (e : Engine) (w : World) → IsLeftIn e w → IsKnown w
 left_known e w is = known_of e.tier e.doubt w is.left

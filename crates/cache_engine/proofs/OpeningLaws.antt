@@ -7,10 +7,11 @@ use Rattle.tier_journal.specs.declared.journal.TierJournal.{TierJournal}
 use Rattle.tier_opening.specs.Opening.{Opens}
 use Rattle.cache_engine.specs.Opening.{OpensOver}
 use Rattle.cache_engine.specs.declared.engine.Engine.{Engine}
+use Rattle.stored_tier.specs.declared.clock.Pace.{Pace}
 
-pub opens_over : {D : Type 0} (state : D → SiteState) (possible : D → ℕ → Held → Type 0) (start propagate_ms : ℕ) (d d' : D) (t : Stored) (k : TierJournal)
-    → Opens state possible start propagate_ms d d' t k → OpensOver state possible start propagate_ms d d' (record { tier = t; doubt = None; journal = Some k })
-opens_over state possible start propagate_ms d d' t k opens = λ o settings told have may ms.
+pub opens_over : {D : Type 0} (state : D → SiteState) (possible : D → ℕ → Held → Type 0) (start : ℕ) (pace : Pace) (d d' : D) (t : Stored) (k : TierJournal)
+    → Opens state possible start pace d d' t k → OpensOver state possible start pace d d' (record { tier = t; doubt = None; journal = Some k })
+opens_over state possible start pace d d' t k opens = λ o settings told have may ms.
     let x = opens o settings told have ms in
     let both = may settings start k x.begun x.begins x.shares in
     let p = x.opened both.0 both.1 in

@@ -21,6 +21,8 @@ use Rattle.stored_tier.specs.declared.clock.TierClock.{TierClock}
 use Rattle.stored_tier.specs.declared.tier.Tier.{Tier as Stored}
 use Rattle.stored_tier.specs.Performing.{KeepsSlots, StandsFor}
 use Rattle.outside.specs.Sites.{SiteState}
+use Rattle.stored_tier.specs.declared.clock.Pace.{Pace}
+use Rattle.stored_tier.specs.Stored.{pace_of}
 
 -- the world of a tier that is opened at a site with this history, which leaves this state; there is no journal
 abbrev pub opened_world : Settings → ℕ → TableState → List Entry → SiteState → World
@@ -35,26 +37,26 @@ opened_world settings start s history site =
       shared = site.shared;
     }
 
--- the tier stands for an opened one, whose settings have this span between rounds
-abbrev pub IsOpened : Stored → Moment → ℕ → List Entry → SiteState → Type 0
-IsOpened t start propagate_ms history site =
-    (settings : Settings) (s : TableState) → settings.propagate_ms ≡ propagate_ms → state_of history ≡ Some s
+-- the tier stands for an opened one, whose settings have this pace
+abbrev pub IsOpened : Stored → Moment → Pace → List Entry → SiteState → Type 0
+IsOpened t start pace history site =
+    (settings : Settings) (s : TableState) → pace_of settings ≡ pace → state_of history ≡ Some s
     → MayBegin history 1 → StandsFor t (opened_world settings start.0 s history site)
 
 -- what the site tells that it holds: transactions of others came, and the tier is opened over that
-pub record IsBegun (t : Stored) (start : Moment) (propagate_ms : ℕ) (before behind : SiteState) (there : Held)
+pub record IsBegun (t : Stored) (start : Moment) (pace : Pace) (before behind : SiteState) (there : Held)
     : Type 0 where
   pub held : Held
   pub told : behind.held ≡ Some held
   pub others : List Entry
   pub came : AreOthers before.shared there.history others
   pub is : held.history ≡ there.history ++ others
-  pub opened : IsOpened t start propagate_ms held.history behind
+  pub opened : IsOpened t start pace held.history behind
 
-abbrev pub Begins : Moment → ℕ → SiteState → SiteState → Result Stored BankError → Type 0
-Begins start propagate_ms before behind (Ok t) =
-    (there : Held) → before.held ≡ Some there → IsBegun t start propagate_ms before behind there
-Begins start propagate_ms before behind (Err e) = Unit {0}
+abbrev pub Begins : Moment → Pace → SiteState → SiteState → Result Stored BankError → Type 0
+Begins start pace before behind (Ok t) =
+    (there : Held) → before.held ≡ Some there → IsBegun t start pace before behind there
+Begins start pace before behind (Err e) = Unit {0}
 
 -- transactions of others alone came to what the site holds
 pub record OthersCame (shared : List TableId) (there : Held) (held : Option Held) : Type 0 where
@@ -73,15 +75,15 @@ pub record BeginsAt (before behind : SiteState) : Type 0 where
   pub others : (there : Held) → before.held ≡ Some there → OthersCame before.shared there behind.held
 
 -- the clock of a tier that is opened at this moment
-pub record IsNewClock (c : TierClock) (start propagate_ms : ℕ) : Type 0 where
+pub record IsNewClock (c : TierClock) (start : ℕ) (pace : Pace) : Type 0 where
   pub now : c.now ≡ cut start
   pub added : c.added ≡ 0
   pub round : c.round ≡ cut start
   pub sets : c.sets.items ≡ []
-  pub due : c.propagate_ms ≡ propagate_ms
+  pub due : c.pace ≡ pace
 
 -- the tier knows this schema, before its first line; no session is open, and there is no group
-pub record IsFresh (t : Stored) (schema : List TableDef) (start propagate_ms : ℕ) : Type 0 where
+pub record IsFresh (t : Stored) (schema : List TableDef) (start : ℕ) (pace : Pace) : Type 0 where
   pub schema_is : t.schema ≡ schema
   pub told : t.stale ≡ false
   pub groups : groups_in t.catalog ≡ []
@@ -90,5 +92,5 @@ pub record IsFresh (t : Stored) (schema : List TableDef) (start propagate_ms : �
   pub unsettled : t.unsettled.items ≡ []
   pub writers : (known : List TableDef) (first : ℕ) → TellsWriters known first [] t.writers
   pub next : t.next ≡ 1
-  pub clock : IsNewClock t.clock start propagate_ms
+  pub clock : IsNewClock t.clock start pace
   pub judged : t.verified ≡ false

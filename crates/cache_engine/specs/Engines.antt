@@ -13,6 +13,7 @@ use Rattle.stored_tier.specs.Stored.{IsSound}
 use Rattle.session_engine.specs.Doubting.{IsLeft, IsReady, LeadsOver}
 use Rattle.cache_engine.specs.Beginning.{Begins}
 use Rattle.cache_engine.specs.declared.engine.Engine.{Engine}
+use Rattle.stored_tier.specs.declared.clock.Pace.{Pace}
 
 -- between two lines it is left so in a world: the tier stands, or a commit is in doubt; and no journal is kept
 pub record IsLeftIn (e : Engine) (w : World) : Type 0 where
@@ -41,7 +42,7 @@ Goes state possible old new d d' reply does =
     LeadsOver state possible old.tier old.doubt new.tier new.doubt old.journal new.journal d d' reply does
 
 -- an engine begins as its tier does, with nothing in doubt, and without a journal
-abbrev pub IsBegunWith : Moment → ℕ → SiteState → SiteState → Result Engine BankError → Type 0
-IsBegunWith start propagate_ms before behind (Ok e) =
-    Begins start propagate_ms before behind (Ok e.tier) × (e.doubt ≡ None) × (e.journal ≡ None)
-IsBegunWith start propagate_ms before behind (Err error) = Unit {0}
+abbrev pub IsBegunWith : Moment → Pace → SiteState → SiteState → Result Engine BankError → Type 0
+IsBegunWith start pace before behind (Ok e) =
+    Begins start pace before behind (Ok e.tier) × (e.doubt ≡ None) × (e.journal ≡ None)
+IsBegunWith start pace before behind (Err error) = Unit {0}

@@ -9,13 +9,15 @@ use Rattle.cache_tier.specs.Worlds.{World}
 use Rattle.tier_journal.specs.declared.journal.TierJournal.{TierJournal}
 use Rattle.kept_journal.specs.Keeping.{KeepsOver}
 use Rattle.recovery.specs.Reopening.{Reopens}
+use Rattle.stored_tier.specs.declared.clock.Pace.{Pace}
 use Rattle.stored_tier.specs.Sites.{IsAt}
+use Rattle.stored_tier.specs.Stored.{pace_of}
 use Rattle.session_engine.specs.Doubting.{IsLeft}
 use Rattle.tier_opening.specs.Opening.{BeginsIn, MayOpen}
 use Rattle.cache_engine.specs.declared.engine.Engine.{Engine}
 
--- The world of an engine that is opened over what the site held: its tier began with what the journal's entries leave, and
--- was opened again.
+-- The world of an engine that is opened over what the site held: its tier began with what the journal's entries
+-- leave, and was opened again.
 pub record Opens (settings : Settings) (start : ℕ) (o : Held) (w : World) : Type 0 where
   pub journal : TierJournal
   pub begun : World
@@ -32,12 +34,12 @@ pub record IsBegunOver {D : Type 0} (state : D → SiteState) (possible : D → 
   pub kept : world.journal.kept ≡ true
   pub opens : Opens settings start o world
 
--- so it is where the site tells what it holds, journal and history belong together, and the settings have this span
--- between rounds
-abbrev pub OpensOver : {D : Type 0} → (D → SiteState) → (D → ℕ → Held → Type 0) → ℕ → ℕ → D → D → Engine → Type 0
-OpensOver state possible start propagate_ms d d' e =
+-- so it is where the site tells what it holds, journal and history belong together, and the settings have this
+-- pace
+abbrev pub OpensOver : {D : Type 0} → (D → SiteState) → (D → ℕ → Held → Type 0) → ℕ → Pace → D → D → Engine → Type 0
+OpensOver state possible start pace d d' e =
     (o : Held) (settings : Settings) → (state d).held ≡ Some o → HaveBytes o.slots → MayOpen (state d).shared o
-    → settings.propagate_ms ≡ propagate_ms → IsBegunOver state possible settings start o d' e
+    → pace_of settings ≡ pace → IsBegunOver state possible settings start o d' e
 
 -- a journal is kept
 abbrev pub has_journal : Option TierJournal → Bool

@@ -14,7 +14,7 @@ use outside::{BankError, Site};
 use pending_writes::PendingWrites;
 use std::alloc::{AllocError, Global};
 use std::collections::VecDeque;
-use stored_tier::clock::TierClock;
+use stored_tier::clock::{Pace, TierClock};
 use stored_tier::naming::name_tables;
 use stored_tier::tier::Tier;
 use table_defs::BackingSchema;
@@ -22,7 +22,7 @@ use tier_base::{Limit, Moment};
 
 /// An engine over a backing database in which no transaction of a tier stands: nothing is in doubt, and no journal is
 /// kept. It asks for the schema; transactions of others may come in that call. `start` is its first moment, and
-/// `propagate_ms` says after how many milliseconds a round is due; 0 where none ever is.
+/// `pace` says when work is done.
 ///
 /// `Failed` only where the count of bank faults rose in this call; nothing else is known then, as for want of
 /// memory.
@@ -30,9 +30,9 @@ pub fn begin<P: Site>(
     alloc: Global,
     site: &mut P,
     start: Moment,
-    propagate_ms: u64,
+    pace: Pace,
 ) -> Result<Engine, BankError>
-    ensures begins { IsBegunWith start propagate_ms
+    ensures begins { IsBegunWith start pace
         (P.Disk.state site.old)
         (P.Disk.state site.new)
         result }
@@ -45,7 +45,7 @@ pub fn begin<P: Site>(
     opened_law();
     match site.schema() {
         Err(error) => Err(error),
-        Ok(schema) => match new_tier(alloc, schema, start, propagate_ms) {
+        Ok(schema) => match new_tier(alloc, schema, start, pace) {
             Err(_) => Err(BankError::Memory),
             Ok(tier) => Ok(Engine {
                 tier,
@@ -61,9 +61,9 @@ fn new_tier(
     alloc: Global,
     schema: BackingSchema,
     start: Moment,
-    propagate_ms: u64,
+    pace: Pace,
 ) -> Result<Tier, AllocError>
-    ensures fresh { IfOk result (λ tier. IsFresh tier schema start.0 propagate_ms) }
+    ensures fresh { IfOk result (λ tier. IsFresh tier schema start.0 pace) }
     ensures sound { IfOk result IsSound }
 {
     let catalog = Catalog::new(alloc);
@@ -80,14 +80,14 @@ fn new_tier(
         unsettled: VecDeque::new(alloc),
         writers: PendingWrites::new(alloc),
         next: 1,
-        clock: new_clock(alloc, start, propagate_ms),
+        clock: new_clock(alloc, start, pace),
         verified: false,
     })
 }
 
 // The clock of a tier that is opened at a moment. It takes no memory.
-fn new_clock(alloc: Global, start: Moment, propagate_ms: u64) -> TierClock
-    ensures { IsNewClock result start.0 propagate_ms }
+fn new_clock(alloc: Global, start: Moment, pace: Pace) -> TierClock
+    ensures { IsNewClock result start.0 pace }
 {
     let now = start.0.min(Limit::Clock.number());
     TierClock {
@@ -95,6 +95,6 @@ fn new_clock(alloc: Global, start: Moment, propagate_ms: u64) -> TierClock
         added: 0,
         round: now,
         sets: Vec::new(alloc),
-        propagate_ms,
+        pace,
     }
 }

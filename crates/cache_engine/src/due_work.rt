@@ -122,7 +122,11 @@ fn settle_due<P: Site>(
     ensures capacity { vec_capacity notes.new ≡ vec_capacity notes.old }
     ensures few { vec_len notes.new ≤ vec_len notes.old + 1 }
 {
-    if !is_round_due(tier.clock.now, tier.clock.round, tier.clock.propagate_ms) {
+    if !is_round_due(
+        tier.clock.now,
+        tier.clock.round,
+        tier.clock.pace.propagate_ms,
+    ) {
         return None;
     }
     let end = tier.settle_all(alloc, site, journal);

@@ -39,7 +39,8 @@ use tier_journal::TierJournal;
 use tier_statements::{done, refuse};
 
 /// Answers a line that is admitted, where nothing is in doubt: the bank is asked for the schema where the line wants
-/// it, and the line does what it says. A COMMIT whose call failed leaves its ticket in doubt.
+/// it, and the line does what it says. A COMMIT whose call failed leaves its ticket in doubt, and so does a write that is
+/// passed on.
 pub(crate) fn answer_line<P: Site>(
     tier: &mut Tier,
     doubt: &mut Option<Doubt>,
@@ -183,8 +184,8 @@ fn execute<P: Site>(
         (reply_of result) }
 {
     match statement {
-        Stmt::Select(query) => run_query(tier, alloc, id, &query),
-        Stmt::Write(write) => write_rows(tier, alloc, site, id, &write),
+        Stmt::Select(query) => run_query(tier, alloc, site, id, &query),
+        Stmt::Write(write) => write_rows(tier, alloc, site, journal, id, &write, doubt),
         Stmt::CreateGroup(group) => { create_group(tier, alloc, site, journal, id, group, text) }
         Stmt::Load(load) => load_group(tier, alloc, site, journal, id, &load),
         Stmt::Refresh(load) => refresh_group(tier, alloc, site, journal, id, &load),

@@ -2,11 +2,11 @@
 
 ghost use Rattle.std.specs.Prelude.{◌≡◌};
 ghost use Rattle.std.specs.Option.{is_some};
-ghost use Rattle.cache_tier.specs.Undone.{has_aging, is_grouped, is_undone, is_undone_group, is_undone_open, is_undone_request, is_undone_statement, is_user_managed, sets_flag};
+ghost use Rattle.cache_tier.specs.Undone.{has_aging, is_grouped, is_undone, is_undone_group, is_undone_request, is_undone_statement, is_user_managed};
 
 use sql_query::Query;
-use sql_subset::request::{Line, OpenOptions, Request};
-use sql_subset::stmt::{Call, CreateGroup, GroupKind, GroupTable, Stmt};
+use sql_subset::request::{Line, Request};
+use sql_subset::stmt::{CreateGroup, GroupKind, GroupTable, Stmt};
 
 // USERMANAGED.
 fn is_user_managed(kind: GroupKind) -> bool
@@ -47,13 +47,6 @@ fn is_grouped(query: &Query) -> bool
     0 < query.groups.as_slice().len()
 }
 
-// ttOptSetFlag.
-fn sets_flag(call: &Call) -> bool
-    ensures { result ≡ sets_flag call.now }
-{
-    call.procedure.as_bytes() == b"TTOPTSETFLAG".as_slice()
-}
-
 fn is_undone_statement(statement: &Stmt) -> bool
     ensures { result ≡ is_undone_statement statement.now }
 {
@@ -69,24 +62,17 @@ fn is_undone_statement(statement: &Stmt) -> bool
         Stmt::Alter(_) => false,
         Stmt::DropGroup(_) => false,
         Stmt::DropIndex(_) => true,
-        Stmt::Call(call) => sets_flag(call),
+        Stmt::Call(_) => false,
         Stmt::Commit => false,
         Stmt::Rollback => false,
     }
-}
-
-// A passthrough level above 0.
-fn is_undone_open(options: OpenOptions) -> bool
-    ensures { result ≡ is_undone_open options }
-{
-    0 < options.passthrough
 }
 
 fn is_undone_request(request: &Request) -> bool
     ensures { result ≡ is_undone_request request.now }
 {
     match request {
-        Request::Open(options) => is_undone_open(*options),
+        Request::Open(_) => false,
         Request::Close => false,
         Request::Statement(statement) => is_undone_statement(statement),
     }

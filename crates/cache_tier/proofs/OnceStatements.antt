@@ -62,7 +62,8 @@ use Rattle.cache_tier.specs.JournalSteps.{Flushes, FlushesKept, NotesKept, Recor
 use Rattle.cache_tier.specs.Journals.{Drops, JournalEntry, Numbers, Commits, Prepares}
 use Rattle.cache_tier.specs.LoadSteps.{Loads, LoadsReadOnly, LoadsWritethrough, added_answer, gained_answer}
 use Rattle.cache_tier.specs.Locks.{lock_fault}
-use Rattle.cache_tier.specs.PassedSteps.{PassesOn, PassesWrite, WritesPassed, after_passed, with_ticket, ticket_fault}
+use Rattle.cache_tier.specs.PassedSteps.{PassesOn, WritesPassed, after_passed, with_ticket, ticket_fault}
+use Rattle.outside.specs.Passing.{PassesWrite}
 use Rattle.cache_tier.specs.Reading.{Answers, backing_at}
 use Rattle.cache_tier.specs.RefreshSteps.{Refreshes, RefreshesReadOnly, RefreshesWritethrough, held_answer, judged_roots, refreshed_answer}
 use Rattle.cache_tier.specs.Rounds.{Drains, Round}

@@ -59,7 +59,8 @@ use Rattle.cache_tier.specs.JournalSteps.{Flushes}
 use Rattle.cache_tier.specs.Journals.{Drops, JournalEntry, Numbers}
 use Rattle.cache_tier.specs.LoadSteps.{Loads, LoadsReadOnly, LoadsWritethrough, added_answer, gained_answer}
 use Rattle.cache_tier.specs.Locks.{lock_fault}
-use Rattle.cache_tier.specs.PassedSteps.{PassesOn, PassesWrite, WritesPassed, after_passed, with_ticket}
+use Rattle.cache_tier.specs.PassedSteps.{PassesOn, WritesPassed, after_passed, with_ticket}
+use Rattle.outside.specs.Passing.{PassesWrite}
 use Rattle.cache_tier.specs.Reading.{backing_at}
 use Rattle.cache_tier.specs.RefreshSteps.{Refreshes, RefreshesReadOnly, RefreshesWritethrough, held_answer, judged_roots, refreshed_answer}
 use Rattle.cache_tier.specs.Rounds.{Drains, Round}

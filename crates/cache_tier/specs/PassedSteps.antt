@@ -2,20 +2,15 @@
 -- database. (TimesTen Cache User's Guide, "Setting a passthrough level"; that it commits by itself is this project's
 -- rule.)
 
-use Rattle.std.specs.Prelude.{◌≡◌, ◌⊎◌, ℕ, ◌+◌, nat_le, not, List, [], ◌∷◌, ◌++◌, Option, Some, Result, Ok, Err}
+use Rattle.std.specs.Prelude.{◌≡◌, ℕ, ◌+◌, nat_le, not, List, [], ◌∷◌, ◌++◌, Option, Some, Result, Ok, Err}
 use Rattle.std.specs.Option.{option_or}
 use Rattle.tier_base.specs.Limits.{greatest}
 use Rattle.tier_base.specs.declared.limit.Limit.TheVariants as limit
 use Rattle.row_types.specs.declared.rule.Rule.{Rule}
-use Rattle.table_state.specs.declared.history.Entry.{Entry}
-use Rattle.table_state.specs.declared.history.Entry.TheVariants.{Own}
 use Rattle.table_state.specs.declared.operation.Op.{Op}
-use Rattle.table_state.specs.Histories.{state_of}
-use Rattle.table_state.specs.Tables.{TableState}
 use Rattle.evaluator.specs.declared.change.Change.{Change}
 use Rattle.resolution.specs.Writes.{PlacedChange, change_seen}
-use Rattle.outside.specs.Bank.{Grows}
-use Rattle.outside.specs.Console.{IsBrokenBy, IsDone}
+use Rattle.outside.specs.Passing.{PassesWrite}
 use Rattle.outside.specs.declared.fault.BankError.{BankError}
 use Rattle.outside.specs.declared.fault.BankError.TheVariants.{Failed, Memory}
 use Rattle.outside.specs.declared.site.Done.{Done as Wrote}
@@ -35,19 +30,6 @@ ticket_fault t = broken_if (not (nat_le t.next (greatest limit.Tickets))) (past 
 -- the next ticket is drawn: it isn't used again
 abbrev pub with_ticket : Tier → Tier
 with_ticket t = record t { next = t.next + 1 }
-
--- the transaction comes with its ticket: one entry, also where it has no operations
-pub record WritesOwn (ticket : ℕ) (change : Change) (ops : List Op) (rows : ℕ) (old new : List Entry) : Type 0 where
-  pub done : (s : TableState) → state_of old ≡ Some s → IsDone (change ∷ []) ops rows s
-  pub grows : Grows (Own (record { 0 = ticket }) ops ∷ []) old new
-
--- it is done with these operations, or breaks a rule, and then isn't
-abbrev pub PassesWrite : ℕ → Change → List Op → Result Wrote BankError → List Entry → List Entry → Type 0
-PassesWrite ticket change ops (Ok (Rows n)) old new = WritesOwn ticket change ops n old new
-PassesWrite ticket change ops (Ok (Broken rule)) old new = Grows [] old new × IsBrokenBy (change ∷ []) rule old
-PassesWrite ticket change ops (Err Memory) old new = Grows [] old new
-PassesWrite ticket change ops (Err Failed) old new =
-    Grows [] old new ⊎ ((n : ℕ) × WritesOwn ticket change ops n old new)
 
 -- the tier behind it: of a failed call the ticket is in doubt
 abbrev pub after_passed : Session → ℕ → List Op → Result Wrote BankError → Tier → Tier

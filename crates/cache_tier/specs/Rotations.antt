@@ -1,7 +1,7 @@
 -- The rotation of a long journal: the other slot is begun anew with what counts. (This project's rule.)
 
 use Rattle.tier_base.specs.declared.code.Code.TheVariants as code
-use Rattle.std.specs.Prelude.{◌≡◌, ◌≤◌, nat_lt, List, ◌∷◌, ◌++◌, Bool, true, ◌&&◌, Option, Some, None, map}
+use Rattle.std.specs.Prelude.{◌≡◌, ◌≤◌, nat_eq, nat_lt, List, ◌∷◌, ◌++◌, Bool, true, ◌&&◌, Option, Some, None, length, map}
 use Rattle.std.specs.List.{filter}
 use Rattle.cache_tier.specs.declared.reply.Reply.{Reply}
 use Rattle.cache_tier.specs.Definitions.{text_of}
@@ -51,9 +51,14 @@ pub record Rotates (w w' : World) (stop : Option Reply) : Type 0 where
   pub shared : w'.shared ≡ w.shared
   pub end : stop ≡ rotation_stop result
 
--- a journal is kept, and its slot is longer than the setting
+-- each committed transaction has its receipt
+abbrev pub is_settled : World → Bool
+is_settled w = nat_eq (length w.tier.unsettled) 0
+
+-- A journal is kept, its slot is longer than the setting, and nothing is unsettled: the entry of a transaction without a
+-- receipt may have come, while a later one that conflicts with it has left, and a new slot would have the first alone.
 abbrev pub is_long : World → Bool
-is_long w = w.journal.kept && nat_lt w.tier.settings.rotate_bytes w.journal.written
+is_long w = w.journal.kept && (nat_lt w.tier.settings.rotate_bytes w.journal.written && is_settled w)
 
 abbrev pub RotatesIfLong : Stage
 RotatesIfLong w w' stop = OnlyWhere (is_long w) Rotates w w' stop

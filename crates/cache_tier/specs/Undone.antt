@@ -1,14 +1,11 @@
--- What is read but isn't done yet. User-managed groups, GROUP BY, indexes, dynamic groups, aging, OPEN with a
--- passthrough level or durable commits, and ttOptSetFlag come later. (TimesTen Cache User's Guide, "User managed cache
--- groups", "Dynamic cache groups", "Implementing aging on a cache group", "Setting a passthrough level"; TimesTen SQL
--- Reference, "SELECT", "CREATE INDEX", "DROP INDEX"; TimesTen built-in procedures, "ttOptSetFlag"; that such a line is
--- 101 at byte 0, before all but its own 101 and 119, is this project's rule.)
+-- What is read but isn't done yet. User-managed groups, GROUP BY, indexes, dynamic groups and aging come later.
+-- (TimesTen Cache User's Guide, "User managed cache groups", "Dynamic cache groups", "Implementing aging on a cache
+-- group"; TimesTen SQL Reference, "SELECT", "CREATE INDEX", "DROP INDEX"; that such a line is 101 at byte 0, before all
+-- but its own 101 and 119, is this project's rule.)
 
-use Rattle.std.specs.Prelude.{Bool, true, false, ◌||◌, codes, is_some, length, nat_lt}
+use Rattle.std.specs.Prelude.{Bool, true, false, ◌||◌, is_some, length, nat_lt}
 use Rattle.std.specs.List.{list_any}
-use Rattle.table_defs.specs.Names.{same_name}
 use Rattle.sql_query.specs.declared.query.Query.{Query}
-use Rattle.sql_subset.specs.declared.stmt.Call.{Call}
 use Rattle.sql_subset.specs.declared.stmt.CreateGroup.{CreateGroup}
 use Rattle.sql_subset.specs.declared.stmt.GroupTable.{GroupTable}
 use Rattle.sql_subset.specs.declared.stmt.GroupKind.{GroupKind}
@@ -16,7 +13,6 @@ use Rattle.sql_subset.specs.declared.stmt.GroupKind.TheVariants as kind
 use Rattle.sql_subset.specs.declared.stmt.Stmt.{Stmt}
 use Rattle.sql_subset.specs.declared.stmt.Stmt.TheVariants as says
 use Rattle.sql_subset.specs.declared.request.ConsoleRequest.{ConsoleRequest}
-use Rattle.sql_subset.specs.declared.request.OpenOptions.{OpenOptions}
 use Rattle.sql_subset.specs.declared.request.Request.{Request}
 use Rattle.sql_subset.specs.declared.request.Request.TheVariants as asks_for
 use Rattle.sql_subset.specs.declared.request.Line.{Line}
@@ -41,10 +37,6 @@ is_undone_group d = is_user_managed d.kind || d.dynamic || has_aging d
 abbrev pub is_grouped : Query → Bool
 is_grouped q = nat_lt 0 (length q.groups)
 
--- ttOptSetFlag, whatever its arguments
-abbrev pub sets_flag : Call → Bool
-sets_flag c = same_name c.procedure (codes "TTOPTSETFLAG")
-
 abbrev pub is_undone_statement : Stmt → Bool
 is_undone_statement (says.Select q) = is_grouped q
 is_undone_statement (says.Write w) = false
@@ -57,16 +49,12 @@ is_undone_statement (says.Flush u) = false
 is_undone_statement (says.Alter a) = false
 is_undone_statement (says.DropGroup name) = false
 is_undone_statement (says.DropIndex name) = true
-is_undone_statement (says.Call c) = sets_flag c
+is_undone_statement (says.Call c) = false
 is_undone_statement says.Commit = false
 is_undone_statement says.Rollback = false
 
--- OPEN with a passthrough level above 0
-abbrev pub is_undone_open : OpenOptions → Bool
-is_undone_open options = nat_lt 0 options.passthrough
-
 abbrev pub is_undone_request : Request → Bool
-is_undone_request (asks_for.Open options) = is_undone_open options
+is_undone_request (asks_for.Open options) = false
 is_undone_request asks_for.Close = false
 is_undone_request (asks_for.Statement s) = is_undone_statement s
 

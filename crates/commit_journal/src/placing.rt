@@ -65,6 +65,8 @@ fn fill<D: Disk>(d: &mut D, slot: Slot, bytes: &[u8]) -> Result<(), DiskFault>
         → Leaves D.state D.possible d.old d.new (Filling slot o) }
     ensures filled { OnOk result ((o : Held) → Certain D.state D.possible d.old o → 1 ≤ length (slot_of slot o.slots)
         → Filled D.state D.possible d.new slot bytes.now o) }
+    ensures tells { StillTells (D.state d.old) (D.state d.new) }
+    ensures moment { (D.state d.old).moment ≤ (D.state d.new).moment }
     ensures cause { DiskHasCause (D.state d.old) (D.state d.new) result }
 {
     d.cut(slot, 1)?;
@@ -79,6 +81,8 @@ pub(crate) fn begin<D: Disk>(d: &mut D, slot: Slot, bytes: &[u8]) -> Result<(), 
         → Leaves D.state D.possible d.old d.new (MidTurn slot bytes.now o) }
     ensures begun { OnOk result ((o : Held) → Certain D.state D.possible d.old o → CanBegin slot o
         → HasBegun D.state D.possible d.new slot bytes.now o) }
+    ensures tells { StillTells (D.state d.old) (D.state d.new) }
+    ensures moment { (D.state d.old).moment ≤ (D.state d.new).moment }
     ensures cause { DiskHasCause (D.state d.old) (D.state d.new) result }
 {
     fill(d, slot, bytes)?;
@@ -92,6 +96,8 @@ pub(crate) fn turn_over<D: Disk>(d: &mut D, target: Slot, bytes: &[u8]) -> Resul
         → Leaves D.state D.possible d.old d.new (MidTurn target bytes.now o) }
     ensures turned { OnOk result ((o : Held) → Certain D.state D.possible d.old o → CanTurn target o
         → Turned D.state D.possible d.new target bytes.now o) }
+    ensures tells { StillTells (D.state d.old) (D.state d.new) }
+    ensures moment { (D.state d.old).moment ≤ (D.state d.new).moment }
     ensures cause { DiskHasCause (D.state d.old) (D.state d.new) result }
 {
     begin(d, target, bytes)?;

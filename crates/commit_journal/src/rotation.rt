@@ -13,6 +13,7 @@ ghost use Rattle.commit_journal.specs.Causes.{RotateHasCause};
 ghost use Rattle.commit_journal.specs.declared.fault.RotateError.TheVariants.{Limit, Memory};
 ghost use Rattle.commit_journal.specs.Layout.{Placed, entries_of};
 ghost use Rattle.commit_journal.specs.Resting.{AtRest, Rested, Spells};
+ghost use Rattle.commit_journal.specs.Telling.{StillTells};
 ghost use Rattle.commit_journal.specs.Turning.{HasRenewed, IsPastRenewal, IsPastRotation, MidRotation, slot_bytes};
 
 use crate::adopting::slot_image;
@@ -55,6 +56,8 @@ impl Journal {
         ensures moved { OnOk result ((o : Held) (flushed tail : List OneEntry) → Certain D.state D.possible d.old o
             → AtRest self.old o.slots flushed tail → Rested D.state D.possible d.new self.new o entries.now []) }
         ensures limit { (result ≡ Err Limit) ↔ IsPastRotation self.old entries.now }
+        ensures tells { StillTells (D.state d.old) (D.state d.new) }
+        ensures moment { (D.state d.old).moment ≤ (D.state d.new).moment }
         ensures cause { RotateHasCause (D.state d.old) (D.state d.new) result }
     {
         if self.generation == u64::MAX {
@@ -93,6 +96,8 @@ impl Journal {
         ensures standing { OnOk result (self.new.standing ≡ standing) }
         ensures stays { (result ≡ Err Limit) ⊎ (result ≡ Err Memory) → (self.new ≡ self.old) × (d.new ≡ d.old) }
         ensures limit { (result ≡ Err Limit) ↔ IsPastRenewal self.old (length bytes.now) }
+        ensures tells { StillTells (D.state d.old) (D.state d.new) }
+        ensures moment { (D.state d.old).moment ≤ (D.state d.new).moment }
         ensures cause { RotateHasCause (D.state d.old) (D.state d.new) result }
     {
         if self.generation == u64::MAX {
@@ -130,6 +135,8 @@ impl Journal {
         ensures version { OnOk result (self.new.version ≡ 2) }
         ensures gate { OnOk result (self.new.gate ≡ length bytes.now) }
         ensures standing { OnOk result (self.new.standing ≡ standing) }
+        ensures tells { StillTells (D.state d.old) (D.state d.new) }
+        ensures moment { (D.state d.old).moment ≤ (D.state d.new).moment }
         ensures cause { DiskHasCause (D.state d.old) (D.state d.new) result }
     {
         let target = other(self.slot);

@@ -1,6 +1,6 @@
 //! Why nothing is run.
 
-use std::alloc::AllocError;
+use std::alloc::{AllocError, AllocFailed};
 use std::io;
 use thiserror::Error;
 
@@ -16,4 +16,10 @@ pub enum DrillError {
     /// The script can't be read, or what is told can't be written.
     #[error("{0}")]
     Stream(#[from] io::Error),
+}
+
+impl<T: Drop> From<AllocFailed<T>> for DrillError {
+    fn from(_error: AllocFailed<T>) -> DrillError {
+        DrillError::Memory(AllocError)
+    }
 }

@@ -3,13 +3,14 @@
 //! It reads a script from standard input. Lines that begin with `!` plan what goes wrong, as `plan` lists them; the other
 //! lines are the program's input. It writes the replies, then the entries of the backing history, then the rows of the
 //! backing tables. Its status is the program's, or 99 where a plan isn't understood: then one line on standard error says
-//! which, and nothing is run.
+//! which, and nothing is told.
 #![tactic(auto)]
 
 mod backing;
 mod error;
 mod joined;
 mod plan;
+mod program;
 mod script;
 mod slots;
 mod stage;
@@ -49,9 +50,13 @@ fn run(rt: &HostRuntime) -> Result<u8, DrillError> {
 fn drilled(alloc: Global, bytes: &[u8]) -> Result<(u8, Vec<u8>), DrillError> {
     let script = Script::read(alloc, bytes)?;
     let mut stage = Stage::new(alloc)?;
-    stage.plan_all(alloc, &script)?;
-    let (status, sink) = stage.run(alloc, &script)?;
-    let mut text = told(alloc, sink.bytes(), stage.site.history().as_slice())?;
+    stage.set_up(alloc, &script)?;
+    let status = stage.run_all(alloc, &script)?;
+    let mut text = told(
+        alloc,
+        stage.replies.as_slice(),
+        stage.site.history().as_slice(),
+    )?;
     if stage.slots {
         tell_slots(alloc, &mut stage.site, &mut text)?;
     }

@@ -1,6 +1,8 @@
 //! What a line that begins with `!` plans.
 
 use backing_gate::{CallKind, Side, When};
+use memory_disk::Pick;
+use outside::Slot;
 
 /// What a line that begins with `!` plans. Calls are counted from 1 in a script, and from 0 here.
 #[derive(Clone, Copy)]
@@ -30,6 +32,16 @@ pub enum Plan<'a> {
     Slots,
     /// `restart`: the input behind this line is that of a new run of the program, over the same site.
     Restart,
+    /// `crash MOMENT PICK`: the run ends at this moment, which is counted from its beginning: each call of the bank that
+    /// leaves entries is one, and each write, cut and sync of the journal's disk. The slots are left as picked of what a
+    /// crash may leave then.
+    Crash(u64, Pick),
+    /// `slot N BYTES`: the slot has these bytes as the run begins.
+    Slot(Slot, &'a str),
+    /// `damage N PLACE BYTES`: the slot has these bytes from the place on as the run begins.
+    Damage(Slot, usize, &'a str),
+    /// `shorten N LENGTH`: the slot is cut to so many bytes as the run begins.
+    Shorten(Slot, usize),
     /// `note TEXT`: what the script is about. It plans nothing.
     Note,
 }
@@ -60,6 +72,17 @@ impl<'a> Plan<'a> {
             "joined" => Some(Plan::Joined),
             "slots" => Some(Plan::Slots),
             "restart" => Some(Plan::Restart),
+            "crash" => parse_crash(rest),
+            "slot" => {
+                let (slot, bytes) = parse_slot(rest)?;
+                Some(Plan::Slot(slot, bytes))
+            }
+            "damage" => parse_damage(rest),
+            "shorten" => {
+                let (slot, length) = parse_slot(rest)?;
+                let length = length.parse::<usize>().ok()?;
+                Some(Plan::Shorten(slot, length))
+            }
             "note" => Some(Plan::Note),
             _ => None,
         }
@@ -96,6 +119,42 @@ fn parse_foreign(text: &str) -> Option<Plan<'_>> {
     }
 }
 
+fn parse_crash(text: &str) -> Option<Plan<'_>> {
+    let (moment, pick) = first_word(text);
+    let moment = moment.parse::<u64>().ok()?;
+    let pick = parse_pick(pick)?;
+    Some(Plan::Crash(moment, pick))
+}
+
+// What a crash leaves in ranges that aren't certain; a number begins a generator.
+fn parse_pick(word: &str) -> Option<Pick> {
+    match word {
+        "old" => Some(Pick::Old),
+        "new" => Some(Pick::New),
+        "ones" => Some(Pick::Ones),
+        _ => {
+            let begin = word.parse::<u64>().ok()?;
+            Some(Pick::Drawn(begin))
+        }
+    }
+}
+
+// The slot, and what stands behind its number.
+fn parse_slot(text: &str) -> Option<(Slot, &str)> {
+    match first_word(text) {
+        ("0", rest) => Some((Slot::First, rest)),
+        ("1", rest) => Some((Slot::Second, rest)),
+        _ => None,
+    }
+}
+
+fn parse_damage(text: &str) -> Option<Plan<'_>> {
+    let (slot, rest) = parse_slot(text)?;
+    let (place, bytes) = first_word(rest);
+    let place = place.parse::<usize>().ok()?;
+    Some(Plan::Damage(slot, place, bytes))
+}
+
 fn parse_kind(word: &str) -> Option<CallKind> {
     match word {
         "schema" => Some(CallKind::Schema),
@@ -104,6 +163,7 @@ fn parse_kind(word: &str) -> Option<CallKind> {
         "recorded" => Some(CallKind::Recorded),
         "find" => Some(CallKind::Find),
         "foreign" => Some(CallKind::Foreign),
+        "passed" => Some(CallKind::Passed),
         "snapshot" => Some(CallKind::Snapshot),
         "read" => Some(CallKind::ReadAt),
         "write" => Some(CallKind::WriteAt),

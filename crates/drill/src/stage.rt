@@ -4,29 +4,26 @@ use crate::backing::{asked_behind_label, changes_of, defined};
 use crate::error::DrillError;
 use crate::joined::joined_tables;
 use crate::plan::Plan;
-use crate::script::{Planned, Script};
-use backing_gate::{CallKind, MemorySite};
-use outside::{Done, MemorySink, MemorySource, ScriptClock, Site};
-use session_cli::top;
+use crate::program::{Ending, Program};
+use crate::script::{Crash, Planned, Run, Script};
+use crate::slots::change_slots;
+use backing_gate::MemorySite;
+use memory_disk::Pick;
+use outside::{Done, Site};
 use sql_subset::request::ConsoleRequest;
 use std::alloc::{AllocError, Global};
 use table_defs::{BackingSchema, TableDef};
 use tier_base::Seq;
 
-/// The objects, before the run.
+/// The objects.
 pub struct Stage<'a> {
     /// The backing database.
     pub site: MemorySite,
     // The tables that the site has, and then those that the script defines.
     schema: BackingSchema,
-    // How many definitions and how many transactions of others stand before the run.
-    definitions: u64,
-    writes: u64,
-    words: &'a str,
-    settings: String,
-    piece: usize,
-    source_fails: Vec<u64>,
-    sink_fails: Vec<u64>,
+    program: Program<'a>,
+    /// The replies of all runs.
+    pub replies: Vec<u8>,
     /// Whether the journal's slots are told at the end.
     pub slots: bool,
 }
@@ -36,13 +33,8 @@ impl Drop for Stage<'_> {
         let Self {
             site: _,
             schema: _,
-            definitions: _,
-            writes: _,
-            words: _,
-            settings: _,
-            piece: _,
-            source_fails: _,
-            sink_fails: _,
+            program: _,
+            replies: _,
             slots: _,
         } = self;
     }
@@ -55,32 +47,30 @@ impl<'a> Stage<'a> {
         Ok(Stage {
             site,
             schema: Seq::new(alloc),
-            definitions: 0,
-            writes: 0,
-            words: "run",
-            settings: String::new(alloc),
-            piece: 65_536,
-            source_fails: Vec::new(alloc),
-            sink_fails: Vec::new(alloc),
+            program: Program::new(alloc),
+            replies: Vec::new(alloc),
             slots: false,
         })
     }
 
-    /// Does what stands before the run, and then plans the rest.
-    pub fn plan_all(&mut self, alloc: Global, script: &Script<'a>) -> Result<(), DrillError> {
+    /// Does what stands before the runs, and sets up what holds for all of them.
+    pub fn set_up(&mut self, alloc: Global, script: &Script<'a>) -> Result<(), DrillError> {
         for planned in &script.plans {
             self.do_before(alloc, planned)?;
         }
-        self.foresee(alloc, script.input.as_slice())?;
+        for run in &script.runs {
+            self.foresee(alloc, run.input.as_slice())?;
+        }
+        self.foresee(alloc, script.last.input.as_slice())?;
         for planned in &script.plans {
-            self.plan(alloc, planned)?;
+            self.set(planned.plan)?;
         }
         Ok(())
     }
 
     fn do_before(&mut self, alloc: Global, planned: &Planned<'a>) -> Result<(), DrillError> {
         match planned.plan {
-            Plan::Before(text) => self.play(alloc, text, planned.line),
+            Plan::Before(text) => self.play_before(alloc, text, planned.line),
             Plan::Joined => {
                 for def in joined_tables(alloc)? {
                     self.define(def, planned.line)?;
@@ -92,7 +82,7 @@ impl<'a> Stage<'a> {
     }
 
     // Makes the table, or does the writes, that the text asks for.
-    fn play(&mut self, alloc: Global, text: &str, line: usize) -> Result<(), DrillError> {
+    fn play_before(&mut self, alloc: Global, text: &str, line: usize) -> Result<(), DrillError> {
         match asked_behind_label(alloc, text)? {
             Some(ConsoleRequest::CreateTable(table)) => {
                 match TableDef::check(alloc, &table, &self.schema) {
@@ -108,7 +98,6 @@ impl<'a> Stage<'a> {
         if self.site.define(&def).is_err() {
             return Err(DrillError::Line(line));
         }
-        self.definitions = self.definitions.saturating_add(1);
         self.know(def)?;
         Ok(())
     }
@@ -120,7 +109,6 @@ impl<'a> Stage<'a> {
 
     fn write(&mut self, alloc: Global, text: &str, line: usize) -> Result<(), DrillError> {
         let changes = changes_of(alloc, &self.schema, text, line)?;
-        self.writes = self.writes.saturating_add(1);
         match self.site.foreign(changes.as_slice()) {
             Ok(Done::Rows(_)) => Ok(()),
             _ => Err(DrillError::Line(line)),
@@ -137,95 +125,166 @@ impl<'a> Stage<'a> {
         Ok(())
     }
 
-    fn plan(&mut self, alloc: Global, planned: &Planned<'a>) -> Result<(), DrillError> {
-        match planned.plan {
-            Plan::Fail(kind, call, when) => {
-                let number = self.number(kind, call);
-                self.site.fail(kind, number, when)?;
-            }
-            Plan::Refuse(kind, call) => {
-                let number = self.number(kind, call);
-                self.site.refuse(kind, number)?;
-            }
-            Plan::Foreign(call, side, text) => {
-                let changes = changes_of(alloc, &self.schema, text, planned.line)?;
-                self.site.foreign_at(call, side, changes)?;
-            }
-            Plan::Before(_) | Plan::Joined | Plan::Note | Plan::Restart => {}
+    // Sets up what holds for all runs.
+    fn set(&mut self, plan: Plan<'a>) -> Result<(), AllocError> {
+        match plan {
             Plan::Slots => self.slots = true,
-            Plan::Pieces(piece) => self.piece = piece,
-            Plan::Source(call) => self.source_fails.push(call).map_err(AllocError::from)?,
-            Plan::Sink(call) => self.sink_fails.push(call).map_err(AllocError::from)?,
-            Plan::Settings(text) => self.set(text)?,
-            Plan::Words(text) => self.words = text,
+            Plan::Pieces(piece) => self.program.piece = piece,
+            Plan::Source(call) => self.program.source_fails.push(call)?,
+            Plan::Sink(call) => self.program.sink_fails.push(call)?,
+            Plan::Words(text) => self.program.words = text,
+            Plan::Settings(text) => {
+                self.program.settings.push_str(text)?;
+                self.program.settings.push_str("\n")?;
+            }
+            _ => {}
         }
         Ok(())
     }
 
-    fn set(&mut self, text: &str) -> Result<(), AllocError> {
-        self.settings.push_str(text)?;
-        self.settings.push_str("\n")
-    }
-
-    // The number of a call over the site's life, by its number in the run.
-    fn number(&self, kind: CallKind, call: u64) -> u64 {
-        match kind {
-            CallKind::Define => self.definitions.saturating_add(call),
-            CallKind::Foreign => self.writes.saturating_add(call),
-            _ => call,
+    /// Does the runs of the script, one after the other, over the same site. The status is the last one's, 0 where that
+    /// ends in a crash.
+    pub fn run_all(&mut self, alloc: Global, script: &Script<'a>) -> Result<u8, DrillError> {
+        for number in 0..script.runs.len() {
+            let _ = self.run(alloc, script, number)?;
         }
+        self.run(alloc, script, script.runs.len())
     }
 
-    /// Runs the program over the input, once for each part of it, over the same site. The status of the last run, and the
-    /// sink with the replies of all.
-    pub fn run(
+    fn run(&mut self, alloc: Global, script: &Script<'a>, number: usize) -> Result<u8, DrillError> {
+        let run = script.run(number);
+        if script.begins(number) {
+            let start = self.start(alloc, script, number)?;
+            if let Some(crash) = run.crash {
+                self.run_into(alloc, script, number, crash, &start)?;
+                return Ok(0);
+            }
+            self.site = self.planned(alloc, script, number, &start)?;
+        }
+        let input = run.input.as_slice();
+        let (status, sink) = self
+            .program
+            .play(alloc, input, Ending::Whole, &mut self.site)?;
+        self.tell(sink.bytes(), "")?;
+        Ok(status)
+    }
+
+    // The site as it is when the run begins, with its slots changed as the script says, and nothing planned for it.
+    fn start(
+        &self,
+        alloc: Global,
+        script: &Script<'a>,
+        number: usize,
+    ) -> Result<MemorySite, DrillError> {
+        let site = copy(&self.site)?;
+        change_slots(alloc, site, script, number)
+    }
+
+    // A copy of the site for which is planned what the script plans of the runs that are counted from this one.
+    fn planned(
+        &self,
+        alloc: Global,
+        script: &Script<'a>,
+        number: usize,
+        start: &MemorySite,
+    ) -> Result<MemorySite, DrillError> {
+        let mut site = copy(start)?;
+        for planned in &script.plans {
+            if script.counted_from(planned.run) == number {
+                self.plan(alloc, planned, &mut site)?;
+            }
+        }
+        Ok(site)
+    }
+
+    fn plan(
+        &self,
+        alloc: Global,
+        planned: &Planned<'a>,
+        site: &mut MemorySite,
+    ) -> Result<(), DrillError> {
+        match planned.plan {
+            Plan::Fail(kind, call, when) => site.fail(kind, call, when)?,
+            Plan::Refuse(kind, call) => site.refuse(kind, call)?,
+            Plan::Foreign(call, side, text) => {
+                let changes = changes_of(alloc, &self.schema, text, planned.line)?;
+                site.foreign_at(call, side, changes)?;
+            }
+            _ => {}
+        }
+        Ok(())
+    }
+
+    // A run that ends in a crash.
+    fn run_into(
         &mut self,
         alloc: Global,
         script: &Script<'a>,
-    ) -> Result<(u8, MemorySink), AllocError> {
-        let sink_fails = Vec::from_slice(alloc, self.sink_fails.as_slice())?;
-        let mut sink = MemorySink::new(alloc, self.piece, sink_fails);
-        let mut rest = script.input.as_slice();
-        let mut taken: usize = 0;
-        for place in &script.restarts {
-            let (part, behind) = rest.split_at(place.saturating_sub(taken).min(rest.len()));
-            let _ = self.run_part(alloc, part, &mut sink)?;
-            rest = behind;
-            taken = *place;
+        number: usize,
+        crash: Crash,
+        start: &MemorySite,
+    ) -> Result<(), DrillError> {
+        let run = script.run(number);
+        let mut site = self.planned(alloc, script, number, start)?;
+        let _ = self
+            .program
+            .play(alloc, run.input.as_slice(), Ending::Whole, &mut site)?;
+        if crash.moment > site.moments() {
+            return Err(DrillError::Line(crash.line));
         }
-        let status = self.run_part(alloc, rest, &mut sink)?;
-        Ok((status, sink))
+        let left = site.crash(crash.moment, crash.pick)?;
+        let replies = self.answered(alloc, script, number, crash, start)?;
+        self.site = left;
+        self.tell(replies.as_slice(), "<crash>\n")?;
+        Ok(())
     }
 
-    // One run of the program.
-    fn run_part(
-        &mut self,
+    // The replies that the run wrote before the crash, where its input comes line by line: those of the lines behind which
+    // the moment isn't past that of the crash. So the run is begun again with more and more of its lines.
+    fn answered(
+        &self,
         alloc: Global,
-        input: &[u8],
-        sink: &mut MemorySink,
-    ) -> Result<u8, AllocError> {
-        let input = Vec::from_slice(alloc, input)?;
-        let source_fails = Vec::from_slice(alloc, self.source_fails.as_slice())?;
-        let words = words_of(alloc, self.words)?;
-        let mut source = MemorySource::new(input, self.piece.max(1), source_fails);
-        let mut clock = ScriptClock::new(Vec::new(alloc));
-        Ok(top(
-            alloc,
-            words.as_slice(),
-            self.settings.as_bytes(),
-            &mut source,
-            sink,
-            &mut self.site,
-            &mut clock,
-        ))
+        script: &Script<'a>,
+        number: usize,
+        crash: Crash,
+        start: &MemorySite,
+    ) -> Result<Vec<u8>, DrillError> {
+        let mut replies = Vec::new(alloc);
+        for lines in fronts(alloc, script.run(number))? {
+            let mut site = self.planned(alloc, script, number, start)?;
+            let (_, sink) = self
+                .program
+                .play(alloc, lines.as_slice(), Ending::Broken, &mut site)?;
+            if site.moments() > crash.moment {
+                break;
+            }
+            replies = Vec::from_slice(alloc, sink.bytes())?;
+        }
+        Ok(replies)
+    }
+
+    // Puts the replies of a run behind the others: a mark stands where the last one is cut off, and then another one.
+    fn tell(&mut self, replies: &[u8], mark: &str) -> Result<(), AllocError> {
+        self.replies.extend_from_slice(replies)?;
+        if !replies.is_empty() && !replies.ends_with(b"\n") {
+            self.replies.extend_from_slice(b"<cut>\n")?;
+        }
+        self.replies.extend_from_slice(mark.as_bytes())
     }
 }
 
-// The program's name, and the words behind it.
-fn words_of(alloc: Global, text: &str) -> Result<Vec<&str>, AllocError> {
-    let mut words = vec![in alloc; "ttcache"]?;
-    for word in text.split_ascii_whitespace() {
-        words.push(word)?;
+// The site as it is, without its past and what is planned for it.
+fn copy(site: &MemorySite) -> Result<MemorySite, AllocError> {
+    site.crash(site.moments(), Pick::New)
+}
+
+// The run's first lines: none, one, two and so on up to all.
+fn fronts(alloc: Global, run: &Run) -> Result<Vec<Vec<u8>>, AllocError> {
+    let mut fronts = vec![in alloc; Vec::new(alloc)]?;
+    let mut front = Vec::new(alloc);
+    for line in run.input.split_inclusive(|byte| *byte == b'\n') {
+        front.extend_from_slice(line)?;
+        fronts.push(Vec::from_slice(alloc, front.as_slice())?)?;
     }
-    Ok(words)
+    Ok(fronts)
 }

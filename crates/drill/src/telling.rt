@@ -7,17 +7,13 @@ use table_defs::TableDef;
 use table_state::{ApplyError, Entry, Op, Tables};
 use tier_base::TableId;
 
-/// The replies, and a mark where the last one is cut off; each entry of the history with its number; and each table that
-/// the history leaves, with its rows.
+/// The replies; each entry of the history with its number; and each table that the history leaves, with its rows.
 pub fn told(alloc: Global, replies: &[u8], history: &[Entry]) -> Result<Vec<u8>, AllocError> {
     let mut tables = Tables::new(alloc);
     if let Err(ApplyError::Memory) = tables.run(alloc, history) {
         return Err(AllocError);
     }
     let mut out = Vec::from_slice(alloc, replies)?;
-    if !replies.is_empty() && !replies.ends_with(b"\n") {
-        out.extend_from_slice(b"<cut>\n")?;
-    }
     tell_history(&mut out, history, tables.schema().as_slice())?;
     tell_tables(&mut out, &tables)?;
     Ok(out)

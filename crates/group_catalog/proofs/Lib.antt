@@ -7,3 +7,4 @@ pub mod ReadBackLaws
 pub mod SoundLaws
 pub mod TreeLaws
 pub mod WhichLaws
+pub mod TextLaws

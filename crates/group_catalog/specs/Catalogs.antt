@@ -1,10 +1,20 @@
 -- The catalog as the abstract tier's list of groups.
 
-use Rattle.std.specs.Prelude.{List}
-use Rattle.cache_tier.specs.Groups.{Group}
+use Rattle.std.specs.Prelude.{◌≡◌, ℕ, List, Bool, ◌&&◌, Some, is_none, slice_get}
+use Rattle.cache_tier.specs.Groups.{Group, is_explicit}
 use Rattle.group_catalog.specs.declared.catalog.Catalog.{Catalog}
 use Rattle.group_catalog.specs.Kept.{groups_seen}
 
 -- its groups, in the order of their definitions
 abbrev pub groups_in : Catalog → List Group
 groups_in catalog = groups_seen catalog.groups.items
+
+-- a group as the tier does them: it is loaded whole or by statements, and nothing ages in it
+abbrev pub is_plain : Group → Bool
+is_plain g = is_explicit g && is_none g.def.aging
+
+-- no two groups have one name
+abbrev pub HaveOwnNames : List Group → Type 0
+HaveOwnNames groups =
+    (i j : ℕ) (g h : Group) → slice_get groups i ≡ Some g → slice_get groups j ≡ Some h → g.def.name ≡ h.def.name
+    → i ≡ j

@@ -1,4 +1,5 @@
--- A definition that is read back from a journal. (This project's rule, over TimesTen SQL Reference, "CREATE CACHE GROUP".)
+-- A definition that is read back from a journal. (This project's rule, over TimesTen SQL Reference, "CREATE CACHE
+-- GROUP".)
 
 use Rattle.std.specs.Prelude.{◌≡◌, ℕ, List, [], ◌∷◌, Bool, false, true, ◌&&◌, not, None, Option, is_some, length}
 use Rattle.std.specs.List.{list_any}

@@ -64,9 +64,9 @@ pub fn define(
 /// What a definition says that is read back from a journal, over the backing schema and beside the groups that the
 /// entries before it leave.
 ///
-/// It is refused as by `define`, but that a table outside may refer to one of a writethrough group, since that table may
-/// have come later; nobody has uncommitted writes. Letter j stands last for a root that refers to a table of its own
-/// group. (The journal is this project's.)
+/// It is refused as by `define`, but that a table outside may refer to one of a writethrough group, since that table
+/// may have come later; nobody has uncommitted writes. Letter j stands last for a root that refers to a table of its
+/// own group. (The journal is this project's.)
 pub fn define_read_back(
     alloc: Global,
     schema: &BackingSchema,
@@ -140,8 +140,8 @@ fn made_of(alloc: Global, declared: CreateGroup, found: Accepted) -> Result<Grou
     })
 }
 
-// The first broken rule, or what the definition has. Of tables outside of the group these are asked for foreign keys that
-// refer to it.
+// The first broken rule, or what the definition has. Of tables outside of the group these are asked for foreign keys
+// that refer to it.
 fn judge(
     alloc: Global,
     schema: &BackingSchema,

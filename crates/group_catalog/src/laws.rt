@@ -11,9 +11,9 @@ pub fn definition_law()
     ensures stands_apart { StandsApart }
 {}
 
-/// The group of a definition that is read back, and breaks no rule, may stand in the catalog: its tree is sound over the
-/// schema; of a writethrough group no table has a condition, and the root refers to no table; and no other group has its
-/// name, or a table of it.
+/// The group of a definition that is read back, and breaks no rule, may stand in the catalog: its tree is sound over
+/// the schema; of a writethrough group no table has a condition, and the root refers to no table; and no other group
+/// has its name, or a table of it.
 pub fn read_back_law()
     ensures { StandsReadBack }
 {}

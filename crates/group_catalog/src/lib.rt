@@ -11,6 +11,7 @@ pub mod naming;
 pub mod placing;
 mod refusing;
 pub mod tables;
+pub mod texts;
 pub mod which;
 
 pub use call::resolve_call;

@@ -56,7 +56,8 @@ use Rattle.stored_tier.specs.Performing.{Executes, IsPerformedOver, PerformsInOv
 use Rattle.stored_tier.specs.Refreshing.{is_filled, is_off}
 use Rattle.stored_tier.specs.Sites.{IsAt}
 use Rattle.outside.specs.Sites.{SiteState}
-use Rattle.stored_tier.specs.Stored.{AreKept, HasSession, IsSound, IsStoredAs, is_plain, without_list}
+use Rattle.stored_tier.specs.Stored.{AreKept, HasSession, IsSound, IsStoredAs, without_list}
+use Rattle.group_catalog.specs.Catalogs.{is_plain}
 use Rattle.group_engine.proofs.AimLaws.{IsUnlisted, unlisted}
 use Rattle.group_engine.proofs.CalmLaws.{NumberLaw, own_here}
 use Rattle.group_engine.proofs.DropLocks.{group_stored, place_stored}

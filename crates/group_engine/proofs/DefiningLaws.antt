@@ -57,7 +57,8 @@ use Rattle.stored_tier.specs.Grouping.{HasGroups, IsBareStore, KeepsGroups}
 use Rattle.stored_tier.specs.Performing.{Executes, PerformsInOver, StandsFor}
 use Rattle.outside.specs.Sites.{SiteState}
 use Rattle.stored_tier.proofs.LaterLaws.{later_more}
-use Rattle.stored_tier.specs.Stored.{HasSession, IsSound, IsStoredAs, is_plain, without_list}
+use Rattle.stored_tier.specs.Stored.{HasSession, IsSound, IsStoredAs, without_list}
+use Rattle.group_catalog.specs.Catalogs.{is_plain}
 use Rattle.group_engine.proofs.GroupComes.{kept_more, names_more, plain_more, shows_more, sound_grouped, stands_kept, time_kept, whole_more}
 
 -- the rule that refuses it

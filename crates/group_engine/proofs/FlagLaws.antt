@@ -11,7 +11,8 @@ use Rattle.cache_tier.specs.Groups.{Group, covers, is_table_of}
 use Rattle.cache_tier.specs.Routes.{hidden, hidden_where}
 use Rattle.cache_tier.specs.Sets.{Choice, alone, changed_from}
 use Rattle.cache_tier.specs.StandingBetween.{HaveOwnTables}
-use Rattle.stored_tier.specs.Stored.{AreKept, HaveOwnNames, is_plain, named_where_cached, without_list}
+use Rattle.stored_tier.specs.Stored.{AreKept, named_where_cached, without_list}
+use Rattle.group_catalog.specs.Catalogs.{HaveOwnNames, is_plain}
 
 abbrev pub as_loaded : Group → Group
 as_loaded g = record g { loaded = true }

@@ -35,7 +35,8 @@ use Rattle.stored_tier.specs.declared.tier.Tier.{Tier as Stored}
 use Rattle.group_engine.specs.Fresh.{AreFresh, IsViewed}
 use Rattle.stored_tier.specs.Performing.{StandsFor}
 use Rattle.stored_tier.specs.Refreshing.{exchanged, is_filled, positioned}
-use Rattle.stored_tier.specs.Stored.{AreKept, IsStoredAs, is_plain, without_list}
+use Rattle.stored_tier.specs.Stored.{AreKept, IsStoredAs, without_list}
+use Rattle.group_catalog.specs.Catalogs.{is_plain}
 use Rattle.group_engine.proofs.GroupRows.{AllBecome, Becomes, same_there, stands_after, there_too}
 use Rattle.group_engine.proofs.ShownStores.{EachShows, all_shown, each_shows}
 

@@ -28,7 +28,8 @@ use Rattle.stored_tier.proofs.WriterLaws.{writers_same}
 use Rattle.stored_tier.specs.declared.tier.Tier.{Tier as Stored}
 use Rattle.stored_tier.specs.Grouping.{HasGroups, IsBareStore, KeepsGroups}
 use Rattle.stored_tier.specs.Performing.{StandsFor}
-use Rattle.stored_tier.specs.Stored.{AreKept, AreWhole, HaveOwnNames, IsSound, KeepsTime, ShowsRows, are_later, is_plain, named_where_cached, rows_of, without_list}
+use Rattle.stored_tier.specs.Stored.{AreKept, AreWhole, IsSound, KeepsTime, ShowsRows, are_later, named_where_cached, rows_of, without_list}
+use Rattle.group_catalog.specs.Catalogs.{HaveOwnNames, is_plain}
 use Rattle.stored_tier.proofs.StoreRows.{KeepShown, are_kept, none_shown, shows_kept, kept_is_shown}
 use Rattle.stored_tier.proofs.StoreChanges.{all_over_for}
 

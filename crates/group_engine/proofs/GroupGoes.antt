@@ -14,7 +14,8 @@ use Rattle.cache_tier.specs.Worlds.{World}
 use Rattle.cache_tier.specs.Dropping.{ShowsWithout}
 use Rattle.stored_tier.specs.declared.tier.Tier.{Tier as Stored}
 use Rattle.stored_tier.specs.Performing.{StandsFor}
-use Rattle.stored_tier.specs.Stored.{AreKept, AreWhole, HaveOwnNames, IsSound, ShowsRows, is_plain}
+use Rattle.stored_tier.specs.Stored.{AreKept, AreWhole, IsSound, ShowsRows}
+use Rattle.group_catalog.specs.Catalogs.{HaveOwnNames, is_plain}
 use Rattle.stored_tier.proofs.StoreRows.{are_kept, kept_is_shown, one_place, shows_kept}
 
 -- a list without the element at a place

@@ -24,7 +24,8 @@ use Rattle.stored_tier.specs.declared.tier.Tier.{Tier as Stored}
 use Rattle.stored_tier.specs.Performing.{Performs}
 use Rattle.stored_tier.specs.Refreshing.{has_moment, is_noted, moment_in, moments_with}
 use Rattle.outside.specs.Sites.{SiteState}
-use Rattle.stored_tier.specs.Stored.{IsSound, IsStoredAs, KeepsTime, is_plain, without_list}
+use Rattle.stored_tier.specs.Stored.{IsSound, IsStoredAs, KeepsTime, without_list}
+use Rattle.group_catalog.specs.Catalogs.{is_plain}
 use Rattle.stored_tier.specs.Moments.{refreshed_in, set_seen}
 use Rattle.stored_tier.proofs.QuietLaws.{at_still}
 
@@ -182,7 +183,7 @@ refresh_wanting t clock b interval sound has shown same moments w at stands apar
           tried_in interval a.now i a.sets t.clock.sets.items has (was.refreshes i)
           ∙ ap (λ n. moment_in (moments_with interval n t.clock.sets.items) i) was.moment
           ∙ ap (λ l. moment_in l i) (sym moments);
-      due = was.due ∙ sym (ap (λ c. c.propagate_ms) same);
+      due = was.due ∙ sym (ap (λ c. c.pace) same);
     } in
     let again = append-nil w.history in
     record {

@@ -59,7 +59,8 @@ use Rattle.stored_tier.specs.Gathering.{coming_in, gathered_in, overflows_in}
 use Rattle.stored_tier.specs.Performing.{IsPerformedOver, StandsFor, reply_of}
 use Rattle.stored_tier.specs.Sites.{IsAt}
 use Rattle.outside.specs.Sites.{SiteState}
-use Rattle.stored_tier.specs.Stored.{IsSound, IsStoredAs, KeepsTime, is_plain, rows_of, without_list}
+use Rattle.stored_tier.specs.Stored.{IsSound, IsStoredAs, KeepsTime, rows_of, without_list}
+use Rattle.group_catalog.specs.Catalogs.{is_plain}
 use Rattle.group_engine.specs.Taking.{AsksTree, IsOfTarget, IsSameButRoom, IsSettledAt, JudgesFull, PerformsWhere, ReadsMatching, TakesIn, TakesMatching}
 use Rattle.stored_tier.proofs.BankLaws.{TellsBehind, behind, behind_at, call_behind, told_behind}
 use Rattle.group_engine.proofs.FlagLaws.{IsChanged, as_loaded, changed_at, flagged_seen, own_place, set_beside, set_there}

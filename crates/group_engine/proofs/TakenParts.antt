@@ -20,7 +20,8 @@ use Rattle.stored_tier.proofs.WriterLaws.{writers_same}
 use Rattle.stored_tier.specs.declared.clock.TierClock.{TierClock}
 use Rattle.stored_tier.specs.declared.tier.Tier.{Tier as Stored}
 use Rattle.stored_tier.specs.Gathering.{gathered_in}
-use Rattle.stored_tier.specs.Stored.{AreKept, HaveOwnNames, IsSound, IsStoredAs, KeepsTime, are_later, is_plain, named_where_cached, rows_of}
+use Rattle.stored_tier.specs.Stored.{AreKept, IsSound, IsStoredAs, KeepsTime, are_later, named_where_cached, rows_of}
+use Rattle.group_catalog.specs.Catalogs.{HaveOwnNames, is_plain}
 use Rattle.group_engine.specs.Taking.{Pairs, IsSameButRoom, TakesIn, TakesMatching}
 use Rattle.group_engine.proofs.FlagLaws.{as_loaded, kept_loaded, names_loaded, plain_loaded, visible_loaded}
 use Rattle.stored_tier.proofs.LaterLaws.{later_by}

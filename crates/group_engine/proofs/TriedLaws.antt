@@ -130,7 +130,7 @@ pub record SameClock (c d : TierClock) : Type 0 where
   pub now : d.now ≡ c.now
   pub added : d.added ≡ c.added
   pub round : d.round ≡ c.round
-  pub due : d.propagate_ms ≡ c.propagate_ms
+  pub due : d.pace ≡ c.pace
 
 stored_with : (t : Stored) (c : TierClock) (a : Tier) (sets : List SetState) → IsStoredAs t a → KeepsTime c a.now a.added a.round sets a.settings → IsStoredAs (with_sets t c) (record a { sets = sets })
 stored_with t c a sets is time = record {

@@ -41,7 +41,8 @@ use Rattle.stored_tier.specs.declared.tier.Tier.{Tier as Stored}
 use Rattle.stored_tier.specs.Grouping.{KeepsGroups, SameTree}
 use Rattle.stored_tier.specs.Performing.{StandsFor, reply_of}
 use Rattle.outside.specs.Sites.{SiteState}
-use Rattle.stored_tier.specs.Stored.{HasSession, IsSound, IsStoredAs, is_plain, without_list}
+use Rattle.stored_tier.specs.Stored.{HasSession, IsSound, IsStoredAs, without_list}
+use Rattle.group_catalog.specs.Catalogs.{is_plain}
 use Rattle.group_engine.specs.Unloading.{IsClearedGroup, IsReadyToLeave, UnloadsHere, UnloadsReady, UnloadsTarget}
 use Rattle.group_engine.specs.declared.ready.Ready.{Ready}
 use Rattle.group_engine.specs.Ready.{AnswersBehind, IsReadyFor, is_full_ready}

@@ -48,7 +48,8 @@ use Rattle.stored_tier.specs.Performing.{IsPerformedOver, PerformsOver, StandsFo
 use Rattle.stored_tier.specs.Refreshing.{IsStateAt, is_filled, is_off, positioned, roots_kept}
 use Rattle.stored_tier.specs.Sites.{IsAt}
 use Rattle.outside.specs.Sites.{SiteState}
-use Rattle.stored_tier.specs.Stored.{AreKept, IsSound, is_plain, without_list}
+use Rattle.stored_tier.specs.Stored.{AreKept, IsSound, without_list}
+use Rattle.group_catalog.specs.Catalogs.{is_plain}
 use Rattle.group_engine.proofs.FreshLaws.{Changes, IsFlagged, IsRefreshed, all_there, changed_at, groups_behind, kept_long, mapped_there, stands_behind, tier_behind}
 use Rattle.stored_tier.proofs.RefreshSteps.{same_by_place, changed_now}
 use Rattle.group_engine.proofs.GroupRows.{same_there, there_too}

@@ -34,11 +34,11 @@ world_of w j moment = over_disk j w.disk_faults moment w
 abbrev pub IsRead : {D : Type 0} → (D → SiteState) → (D → ℕ → Held → Type 0) → Type 0
 IsRead {D = D} state possible = (d : D) (o : Held) → (state d).held ≡ Some o → possible d (state d).moment o
 
-still_some : (o : Option Held) → IsSome o → (n : Held) × (o ≡ Some n)
+pub still_some : (o : Option Held) → IsSome o → (n : Held) × (o ≡ Some n)
 still_some None some = cc
 still_some (Some n) some = (n, refl)
 
-is_some : (o : Option Held) (n : Held) → o ≡ Some n → IsSome o
+pub is_some : (o : Option Held) (n : Held) → o ≡ Some n → IsSome o
 is_some o n e = rw e refl
 
 module _ {D : Type 0} (state : D → SiteState) (possible : D → ℕ → Held → Type 0) where

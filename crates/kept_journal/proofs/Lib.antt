@@ -1,3 +1,3 @@
 pub mod DraftLaws
 pub mod FlushLaws
-pub mod OpeningLaws
+pub mod TurnLaws

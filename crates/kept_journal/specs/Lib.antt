@@ -1,3 +1,3 @@
 pub mod Drafts
 pub mod Keeping
-pub mod Opening
+pub mod Turning

@@ -3,7 +3,7 @@
 ghost use Rattle.std.specs.Prelude.{◌≡◌, IfOk, List};
 ghost use Rattle.table_defs.specs.declared.definition.TableDef.{TableDef as OneTable};
 ghost use Rattle.sql_subset.specs.declared.stmt.CreateGroup.{CreateGroup};
-ghost use Rattle.cache_tier.specs.Journals.{Commits, Defines, Drops, Prepares, SetsLoaded, SetsState};
+ghost use Rattle.cache_tier.specs.Journals.{Commits, Defines, Drops, Numbers, Prepares, SetsLoaded, SetsState};
 ghost use Rattle.kept_journal.specs.Drafts.{IsDraftOf, StaysKept};
 
 use crate::draft::{Draft, placed};
@@ -11,6 +11,7 @@ use sql_subset::stmt::RefreshState;
 use std::alloc::{AllocError, Global};
 use table_defs::TableDef;
 use table_state::Sealed;
+use tier_base::Ticket;
 use tier_journal::{Batch, TierJournal};
 
 impl Draft {
@@ -55,6 +56,29 @@ impl Draft {
                     return Err(AllocError);
                 }
                 let batch = batch.with_prepare(schema, sealed)?;
+                placed(journal, batch)
+            }
+        }
+    }
+
+    /// The number of a write that is passed on. One that isn't greater than those before it is taken for want of memory.
+    pub fn of_number(
+        alloc: Global,
+        journal: &mut Option<TierJournal>,
+        ticket: Ticket,
+    ) -> Result<Draft, AllocError>
+        ensures draft { IfOk result (λ draft. (schema : List OneTable)
+            → IsDraftOf schema journal.new draft (Numbers ticket.0)) }
+        ensures kept { StaysKept journal.old journal.new }
+    {
+        match journal {
+            None => Ok(Draft::Unkept),
+            Some(journal) => {
+                let batch = Batch::behind(alloc, journal);
+                if !batch.can_number(ticket) {
+                    return Err(AllocError);
+                }
+                let batch = batch.with_number(ticket)?;
                 placed(journal, batch)
             }
         }

@@ -3,14 +3,17 @@ use Rattle.std.proofs.Common.{◌≡◌, ◌&&◌, true, Option, Some, None, Lis
 use Rattle.std.specs.List.{list_all}
 use Rattle.order_laws.proofs.TruthLaws.{both_true}
 use Rattle.cache_tier.specs.Groups.{Group, is_explicit}
-use Rattle.cache_tier.specs.TierStates.{Doubt as Doubtful, Session, Tier, session_of}
+use Rattle.cache_tier.specs.TierStates.{Tier}
 use Rattle.cache_tier.specs.Worlds.{IsUnshared, World}
 use Rattle.group_catalog.specs.Catalogs.{groups_in}
-use Rattle.session_engine.specs.Doubting.{IsInDoubt, IsLeft}
+use Rattle.session_engine.specs.Doubting.{CommitIsInDoubt, IsInDoubt, IsLeft, WriteIsInDoubt}
 use Rattle.session_engine.specs.declared.doubt.Doubt.{Doubt}
+use Rattle.session_engine.specs.declared.doubt.Doubted.{Doubted}
+use Rattle.session_engine.specs.declared.doubt.Doubted.TheVariants.{Commit, PassedWrite}
 use Rattle.session_engine.proofs.KindLaws.{bare_later}
 use Rattle.stored_tier.specs.declared.tier.Tier.{Tier as Stored}
-use Rattle.stored_tier.specs.Stored.{IsSound, is_plain, without_list}
+use Rattle.stored_tier.specs.Stored.{IsSound, without_list}
+use Rattle.group_catalog.specs.Catalogs.{is_plain}
 use Rattle.stored_tier.proofs.QuietLaws.{its_session}
 use Rattle.run_laws.specs.Lines.{IsLeftBy, MayGoOn, are_ageless, are_later}
 use Rattle.run_laws.specs.Lines as lines
@@ -32,12 +35,18 @@ plain_ageless (g ∷ gs) e =
 ageless_in : (t : Stored) (a : Tier) → IsSound t → map without_list a.groups ≡ groups_in t.catalog → are_ageless a.groups ≡ true
 ageless_in t a sound groups = plain_ageless a.groups (ap (list_all is_plain) groups ∙ sound.plain)
 
+-- what is told of the world
+record IsHeld (w : World) : Type 0 where
+  left : lines.IsLeft w
+  ageless : are_ageless w.tier.groups ≡ true
+  later : are_later w.tier.groups w.tier.unsettled ≡ true
+
 -- a commit is in doubt
-module _ (t : Stored) (d : Doubt) (w : World) (sound : IsSound t) (x : IsInDoubt t d w) where
+module _ (t : Stored) (d : Doubt) (w : World) (sound : IsSound t) (x : CommitIsInDoubt t d w) where
   was_later : are_later x.was.tier.groups x.was.tier.unsettled ≡ true
   was_later = later_in t x.was.tier sound x.stands.stored.groups x.stands.stored.unsettled
 
-  in_doubt : lines.IsInDoubt w
+  in_doubt : lines.CommitIsInDoubt w
   in_doubt = record {
     was = x.was;
     stands = x.stands.stands;
@@ -53,22 +62,53 @@ module _ (t : Stored) (d : Doubt) (w : World) (sound : IsSound t) (x : IsInDoubt
     tier = x.tier;
   }
 
-  doubted : w.tier.doubt ≡ Some (record { ticket = x.was.tier.next; session = x.session.label; of = Rattle.cache_tier.specs.TierStates.ACommit })
-  doubted = ap (λ (a : Tier). a.doubt) x.tier
+  commit_left : IsHeld w
+  commit_left = record {
+    left = subst (λ o. IsLeftBy o w) (sym (ap (λ (a : Tier). a.doubt) x.tier)) in_doubt;
+    ageless = ap (λ (a : Tier). are_ageless a.groups) x.tier ∙ ageless_in t x.was.tier sound x.stands.stored.groups;
+    later = ap (λ (a : Tier). are_later a.groups a.unsettled) x.tier ∙ was_later;
+  }
 
-  left_doubted : lines.IsLeft w
-  left_doubted = subst (λ o. IsLeftBy o w) (sym doubted) in_doubt
+-- a write that was passed on is
+module _ (t : Stored) (d : Doubt) (w : World) (sound : IsSound t) (x : WriteIsInDoubt t d w) where
+  write_in_doubt : lines.WriteIsInDoubt w
+  write_in_doubt = record {
+    was = x.was;
+    stands = x.stands.stands;
+    unshared = x.unshared;
+    session = x.session;
+    there =
+        its_session (record t { next = d.ticket }) x.was.tier d.session x.session x.stands.stored
+        (record { seen = x.has.seen; found = x.has.found; number = x.has.number; is = x.has.is });
+    room = let le = x.room in let same = x.stands.stored.next in omega (arith, le, same);
+    change = x.change;
+    off = x.off;
+    ops = x.ops;
+    call = x.call;
+    tier = x.tier;
+  }
 
-  ageless_doubted : are_ageless w.tier.groups ≡ true
-  ageless_doubted = ap (λ (a : Tier). are_ageless a.groups) x.tier ∙ ageless_in t x.was.tier sound x.stands.stored.groups
+  write_left : IsHeld w
+  write_left = record {
+    left = subst (λ o. IsLeftBy o w) (sym (ap (λ (a : Tier). a.doubt) x.tier)) write_in_doubt;
+    ageless = ap (λ (a : Tier). are_ageless a.groups) x.tier ∙ ageless_in t x.was.tier sound x.stands.stored.groups;
+    later = ap (λ (a : Tier). are_later a.groups a.unsettled) x.tier ∙ later_in t x.was.tier sound x.stands.stored.groups x.stands.stored.unsettled;
+  }
 
-  later_doubted : are_later w.tier.groups w.tier.unsettled ≡ true
-  later_doubted = ap (λ (a : Tier). are_later a.groups a.unsettled) x.tier ∙ was_later
+held : (t : Stored) (doubt : Option Doubt) (w : World) → IsSound t → IsLeft t doubt w → IsHeld w
+held t None w sound x = record {
+  left = subst (λ o. IsLeftBy o w) (sym x.stored.doubt) x.stands;
+  ageless = ageless_in t w.tier sound x.stored.groups;
+  later = later_in t w.tier sound x.stored.groups x.stored.unsettled;
+}
+held t (Some d) w sound x = by d.of x
+  where
+    by : (k : Doubted) → IsInDoubt k t d w → IsHeld w
+    by (Commit ops) x = commit_left t d w sound x
+    by PassedWrite x = write_left t d w sound x
 
 pub goes_on : (t : Stored) (doubt : Option Doubt) (w : World) → IsSound t → IsLeft t doubt w → IsUnshared w → MayGoOn w
-goes_on t None w sound x apart = record { left = subst (λ o. IsLeftBy o w) (sym x.stored.doubt) x.stands; unshared = apart; ageless = ageless_in t w.tier sound x.stored.groups }
-goes_on t (Some d) w sound x apart = record { left = left_doubted t d w sound x; unshared = apart; ageless = ageless_doubted t d w sound x }
+goes_on t doubt w sound x apart = let h = held t doubt w sound x in record { left = h.left; unshared = apart; ageless = h.ageless }
 
 pub waits : (t : Stored) (doubt : Option Doubt) (w : World) → IsSound t → IsLeft t doubt w → are_later w.tier.groups w.tier.unsettled ≡ true
-waits t None w sound x = later_in t w.tier sound x.stored.groups x.stored.unsettled
-waits t (Some d) w sound x = later_doubted t d w sound x
+waits t doubt w sound x = (held t doubt w sound x).later

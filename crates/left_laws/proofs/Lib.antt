@@ -1,1 +1,1 @@
-mod LeftWorlds
+pub mod LeftWorlds

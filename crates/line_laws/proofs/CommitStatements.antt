@@ -43,7 +43,7 @@ use Rattle.recovery.proofs.DroppedLaws.{drop_kept}
 use Rattle.recovery.proofs.JournalledLaws.{commits_kept, flushes_kept}
 use Rattle.recovery.proofs.NewestLaws.{NamesApart}
 use Rattle.recovery.proofs.OthersLaws.{on_then, one_journalled_on}
-use Rattle.line_laws.specs.Keeping.{Anything, HasNoWrites, KeepsJournalOf, KeepsJournalWhere, KeepsSettledJournalOf, MayCreate, RenewsSettled, is_broken}
+use Rattle.line_laws.specs.Keeping.{Anything, HasNoWrites, KeepsJournalOf, KeepsJournalWhere, MayCreate, is_broken}
 use Rattle.line_laws.proofs.FlushLaws.{IsWhole, kept_flushes}
 use Rattle.line_laws.proofs.PartWords.{same_on, still_quiet}
 use Rattle.line_laws.proofs.PlaceLaws.{none_at}
@@ -193,8 +193,8 @@ drops_rest s place g w w' early reply j may q ok = by (drop_fault s g w) refl q
           | whole is end ↦ (let bad : Some r ≡ None = end in Prim.cc)
         ]
 
-pub drops_kept : (s : Session) (name : List ℕ) → KeepsSettledJournalOf s (HasNoWrites s) (DropsGroup s name)
-drops_kept s name w w' early reply stands j apart session rests q settled ok = by (is_writethrough q.group) refl q.does
+pub drops_kept : (s : Session) (name : List ℕ) → KeepsJournalOf s (HasNoWrites s) (DropsGroup s name)
+drops_kept s name w w' early reply stands j apart session rests q ok = by (is_writethrough q.group) refl q.does
   where
     by : (b : Bool) → is_writethrough q.group ≡ b → MatchBool b (Then Round (Tries (DropsRest s q.group)) w w' reply) (DropsRest s q.group w w' reply) → IsJournalledOn w' early
     by false e d = drops_rest s q.place q.group w w' early reply j (record { stands = stands; session = session; rests = rests; there = q.is; settled = λ t. (let bad : false ≡ true = sym e ∙ t in Prim.cc) }) d ok
@@ -202,12 +202,12 @@ drops_kept s name w w' early reply stands j apart session rests q settled ok = b
       where
         go : (stop : Option Reply) → Round w t.mid stop → Follows stop (Tries (DropsRest s q.group)) t.mid w' reply → IsJournalledOn w' early
         go (Some r) first next =
-            let g = round_goes w t.mid early (Some r) stands j apart first (inr (subst (λ x. RenewsSettled w x) next.0 settled)) (ap (λ (x : Reply). tells code.JournalFault x.last) (sym next.1) ∙ ok) in
+            let g = round_goes w t.mid early (Some r) stands j apart first (ap (λ (x : Reply). tells code.JournalFault x.last) (sym next.1) ∙ ok) in
             subst (λ x. IsJournalledOn x early) (sym next.0) g.0.on
         go None first next = on_then w' early r.on.now r.on.more r.on.grows (last next)
           where
             g : Rounded w t.mid early × (t.mid.tier.unsettled ≡ [])
-            g = let x = round_goes w t.mid early None stands j apart first (inl refl) refl in (x.0, x.1 refl)
+            g = let x = round_goes w t.mid early None stands j apart first refl in (x.0, x.1 refl)
 
             r : Rounded w t.mid early
             r = g.0

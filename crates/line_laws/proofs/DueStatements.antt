@@ -33,7 +33,7 @@ use Rattle.recovery.specs.Journalled.{AreAlike, IsJournalled, IsJournalledOn, Is
 use Rattle.recovery.proofs.JournalledLaws.{alike_commit, alike_self, alike_trans}
 use Rattle.recovery.proofs.OthersLaws.{on_then, one_journalled_on, others_kept}
 use Rattle.recovery.proofs.TablesLaws.{table_kept}
-use Rattle.line_laws.specs.Keeping.{KeepsJournalDue, KeepsJournalInDoubt, KeepsJournalWhere, KeepsSettledJournalDue, RefersToNone, is_broken}
+use Rattle.line_laws.specs.Keeping.{KeepsJournalDue, KeepsJournalInDoubt, KeepsJournalWhere, KeepsJournalDue, RefersToNone, is_broken}
 use Rattle.line_laws.proofs.GroupStatements.{refreshes_if_shown}
 use Rattle.line_laws.proofs.OtherLaws.{others_tickets}
 use Rattle.line_laws.proofs.PartWords.{Any, Goes, call_goes, quiet_on, same_on, stays_on, still_quiet}
@@ -185,11 +185,11 @@ not_broken (Some reply) e = by (noted_code reply.last) refl e
 
 -- ---- rounds, sets, aging
 
-pub due_round_kept : KeepsSettledJournalDue DueRound
-due_round_kept w w' early notes stop stands j apart q settled ok = by (is_round_due w.tier) q.does
+pub due_round_kept : KeepsJournalDue DueRound
+due_round_kept w w' early notes stop stands j apart q ok = by (is_round_due w.tier) q.does
   where
     by : (b : Bool) → OnlyWhere b Round w w' q.end → IsJournalledOn w' early
-    by true r = (round_goes w w' early q.end stands j apart r (inr settled) (not_broken q.end (ap is_broken (sym q.ends) ∙ ok))).0.on
+    by true r = (round_goes w w' early q.end stands j apart r (not_broken q.end (ap is_broken (sym q.ends) ∙ ok))).0.on
     by false r = same_on w w' early r.0 j
 
 sets_goes : (intervals : List ℕ) (w w' : World) (early : List Sealed) (notes : List Note) (stop : Option Reply) → IsJournalled w early → IsUnshared w → DueSetsOf intervals w w' notes stop → is_broken stop ≡ false → IsJournalledOn w' early

@@ -5,7 +5,7 @@ use Rattle.table_state.specs.declared.history.Sealed.{Sealed}
 use Rattle.table_state.specs.declared.operation.Op.{Op}
 use Rattle.cache_tier.specs.declared.reply.Reply.{Reply}
 use Rattle.cache_tier.specs.JournalSteps.{Failing, Flushed, Flushes, FlushesKept, Whole, flush_stop, journal_behind, name_sizes}
-use Rattle.cache_tier.specs.Journals.{Journal, JournalEntry, SetsLoaded, SetsState, flushed_with}
+use Rattle.cache_tier.specs.Journals.{Journal, JournalEntry, flushed_with}
 use Rattle.cache_tier.specs.JournalWays.{given}
 use Rattle.cache_tier.specs.Worlds.{Passes, World}
 use Rattle.recovery.specs.Journalled.{IsJournalled, IsJournalledOn}
@@ -36,14 +36,6 @@ pub record IsWhole (entries : List JournalEntry) (w w' : World) : Type 0 where
   pub history : w'.history ≡ w.history
   pub journal : HasFlushed entries w.journal w'.journal
   pub shared : w'.shared ≡ w.shared
-  pub generation : w'.journal.generation ≡ w.journal.generation
-
-generation_stays : (size : Op → ℕ) (entries : List JournalEntry) (j : Journal) → (flushed_with size entries j).generation ≡ j.generation
-generation_stays size entries j = by (j.tail ++ entries)
-  where
-    by : (all : List JournalEntry) → (Rattle.cache_tier.specs.Journals.flushed_batch size all j).generation ≡ j.generation
-    by [] = refl
-    by (x ∷ all) = refl
 
 pub kept_flushes : (entries : List JournalEntry) (w w' : World) (stop : Option Reply) → w.journal.kept ≡ true → Flushes entries w w' stop → is_broken stop ≡ false → IsWhole entries w w' × (stop ≡ None)
 kept_flushes entries w w' stop kept f ok = whole (subst (λ b. MatchBool b (FlushesKept entries w w' stop) (Passes w w' stop)) kept f)
@@ -58,7 +50,6 @@ kept_flushes entries w w' stop kept f ok = whole (subst (λ b. MatchBool b (Flus
             history = k.history;
             journal = subst (HasFlushed entries w.journal) (sym e) (whole_flushed (name_sizes w) entries w.journal);
             shared = k.shared;
-            generation = ap (λ (j : Journal). j.generation) e ∙ generation_stays (name_sizes w) entries w.journal;
           },
           s,
         )

@@ -22,8 +22,8 @@ use Rattle.cache_tier.specs.TierStates.{Tier}
 use Rattle.cache_tier.specs.Worlds.{Answer, IsUnshared, OnlyWhere, Part, Unless, World, only}
 use Rattle.recovery.specs.Journalled.{IsAlike, IsJournalledOn}
 use Rattle.recovery.proofs.JournalledLaws.{alike_kind}
-use Rattle.line_laws.specs.Keeping.{KeepsSettledJournal}
-use Rattle.line_laws.proofs.PartWords.{Any, Goes, GoesPart, SettledPart, SettledStage, match_goes, quiet_goes, reads_goes, same_goes, still_quiet, then_settled, unless_goes}
+use Rattle.line_laws.specs.Keeping.{KeepsJournal}
+use Rattle.line_laws.proofs.PartWords.{Any, Goes, GoesPart, GoesStage, match_goes, quiet_goes, reads_goes, same_goes, still_quiet, then_goes, unless_goes}
 use Rattle.line_laws.proofs.QuietTiers.{alike_one, alike_where, refreshed_quiet, set_tried_groups, set_tried_quiet}
 use Rattle.line_laws.proofs.RoundLaws.{Rounded, round_goes}
 use Rattle.line_laws.proofs.TellingLaws.{IsAt, IsLoadedAs, Told, at_of_tier, load_told, settles_goes}
@@ -38,23 +38,23 @@ pub round_unshared : (w w' : World) (early : List Sealed) → IsUnshared w → R
 round_unshared w w' early apart r t e =
     ap (λ (x : Tier). is_table_of is_writethrough x.groups t) r.tier ∙ apart t (ap (λ s. Rattle.outside.specs.Others.is_shared s t) (sym r.shared) ∙ e)
 
-rounds_at : (place : ℕ) (g : Group) → SettledStage (StandsAt place g) (IsAt place g) Round
-rounds_at place g w w' early stop j apart p q settled ok =
-    let r = round_goes w w' early stop p.0 j apart q settled ok in
+rounds_at : (place : ℕ) (g : Group) → GoesStage (StandsAt place g) (IsAt place g) Round
+rounds_at place g w w' early stop j apart p q ok =
+    let r = round_goes w w' early stop p.0 j apart q ok in
     record { on = r.0.on; unshared = round_unshared w w' early apart r.0; holds = ap (λ (x : Tier). slice_get x.groups place) r.0.tier ∙ p.1 }
 
-pub round_if_at : (place : ℕ) (g : Group) → SettledStage (StandsAt place g) (IsAt place g) RoundIfUnsettled
-round_if_at place g w w' early stop j apart p q settled ok = by (is_unsettled w) q
+pub round_if_at : (place : ℕ) (g : Group) → GoesStage (StandsAt place g) (IsAt place g) RoundIfUnsettled
+round_if_at place g w w' early stop j apart p q ok = by (is_unsettled w) q
   where
     by : (b : Bool) → OnlyWhere b Round w w' stop → Goes (IsAt place g) w' early
-    by true q = rounds_at place g w w' early stop j apart p q settled ok
+    by true q = rounds_at place g w w' early stop j apart p q ok
     by false q = same_goes (IsAt place g) w w' early q.0 j apart p.1
 
-pub drains_kept : KeepsSettledJournal Drains
-drains_kept w w' early reply stands j apart q settled ok =
-    then_settled Stands Any Round (Answers (λ mid. (mid.tier, only (Done (length w.tier.unsettled)))))
-    (λ v v' early stop j apart p q settled ok. (let r = round_goes v v' early stop p j apart q settled ok in record { on = r.0.on; unshared = round_unshared v v' early apart r.0; holds = tt }))
-    (quiet_goes Any (λ mid. (mid.tier, only (Done (length w.tier.unsettled)))) (λ x p. still_quiet x.tier)) w w' early reply j apart stands q settled ok
+pub drains_kept : KeepsJournal Drains
+drains_kept w w' early reply stands j apart q ok =
+    then_goes Stands Any Round (Answers (λ mid. (mid.tier, only (Done (length w.tier.unsettled)))))
+    (λ v v' early stop j apart p q ok. (let r = round_goes v v' early stop p j apart q ok in record { on = r.0.on; unshared = round_unshared v v' early apart r.0; holds = tt }))
+    (quiet_goes Any (λ mid. (mid.tier, only (Done (length w.tier.unsettled)))) (λ x p. still_quiet x.tier)) w w' early reply j apart stands q ok
 
 -- ---- what a load makes of its group
 
@@ -118,25 +118,25 @@ loads_read_only x =
         (λ w at apart. load_told w.tier (refreshed (loaded_with x.group x.place) n (backing_at w n) w.tier) x.place x.group (λ g. with_flag true (state_loaded (gains (keys (matching_past (backing_at w n) x)) (backing_at w n) g))) at apart (refreshed_quiet (loaded_with x.group x.place) n (backing_at w n) w.tier)
         (λ h a. flagged x.group h (state_loaded (gains (keys (matching_past (backing_at w n) x)) (backing_at w n) h)) a.def (λ r. ap loaded_state (a.state r)) a.loaded))
 
-loads_writethrough : (x : Target) → is_read_only x.group ≡ false → SettledPart (StandsAt x.place x.group) (LoadsWritethrough x)
+loads_writethrough : (x : Target) → is_read_only x.group ≡ false → GoesPart (StandsAt x.place x.group) (LoadsWritethrough x)
 loads_writethrough x kind =
-    then_settled (StandsAt x.place x.group) (IsAt x.place x.group) RoundIfUnsettled _ (round_if_at x.place x.group)
+    then_goes (StandsAt x.place x.group) (IsAt x.place x.group) RoundIfUnsettled _ (round_if_at x.place x.group)
     (reads_as_it_was x _
     (λ n. unless_here (IsAt x.place x.group) (λ w. overflow_fault x.filter (backing_roots (backing_at w n) x)) (Settles x (added_answer x n))
     (added_goes x (added_answer x n) (λ w g. record g { keys = with_keys (keys (matching (backing_at w n) x)) g.keys }) kind (λ w g. keys_alike _ g) (λ w. refl))))
 
 -- of one kind or the other
-by_kind : (x : Target) (one other : Part) → GoesPart (IsAt x.place x.group) one → (is_read_only x.group ≡ false → SettledPart (StandsAt x.place x.group) other)
-    → SettledPart (StandsAt x.place x.group) (λ w w' reply. MatchBool (is_read_only x.group) (one w w' reply) (other w w' reply))
-by_kind x one other a b w w' early reply j apart p q settled ok = by (is_read_only x.group) refl q
+by_kind : (x : Target) (one other : Part) → GoesPart (IsAt x.place x.group) one → (is_read_only x.group ≡ false → GoesPart (StandsAt x.place x.group) other)
+    → GoesPart (StandsAt x.place x.group) (λ w w' reply. MatchBool (is_read_only x.group) (one w w' reply) (other w w' reply))
+by_kind x one other a b w w' early reply j apart p q ok = by (is_read_only x.group) refl q
   where
     by : (k : Bool) → is_read_only x.group ≡ k → MatchBool k (one w w' reply) (other w w' reply) → IsJournalledOn w' early
     by true e q = a w w' early reply j apart p.1 q ok
-    by false e q = b e w w' early reply j apart p q settled ok
+    by false e q = b e w w' early reply j apart p q ok
 
-pub loads_kept : (load : Load) → KeepsSettledJournal (Loads load)
-loads_kept load w w' early reply stands j apart q settled ok =
-    by_kind q.target (LoadsReadOnly q.target) (LoadsWritethrough q.target) (loads_read_only q.target) (loads_writethrough q.target) w w' early reply j apart (stands, q.group) q.does settled ok
+pub loads_kept : (load : Load) → KeepsJournal (Loads load)
+loads_kept load w w' early reply stands j apart q ok =
+    by_kind q.target (LoadsReadOnly q.target) (LoadsWritethrough q.target) (loads_read_only q.target) (loads_writethrough q.target) w w' early reply j apart (stands, q.group) q.does ok
 
 -- ---- REFRESH
 
@@ -155,9 +155,9 @@ refreshed_change x n w g = cond (is_explicit x.group) (record g { keys = with_ke
 abbrev added_keys : Target → ℕ → World → Group → Group
 added_keys x n w g = record g { keys = with_keys (keys (matching (backing_at w n) x)) g.keys }
 
-refreshes_writethrough : (x : Target) → is_read_only x.group ≡ false → SettledPart (StandsAt x.place x.group) (RefreshesWritethrough x)
+refreshes_writethrough : (x : Target) → is_read_only x.group ≡ false → GoesPart (StandsAt x.place x.group) (RefreshesWritethrough x)
 refreshes_writethrough x kind =
-    then_settled (StandsAt x.place x.group) (IsAt x.place x.group) RoundIfUnsettled _ (round_if_at x.place x.group)
+    then_goes (StandsAt x.place x.group) (IsAt x.place x.group) RoundIfUnsettled _ (round_if_at x.place x.group)
     (reads_as_it_was x _
     (λ n. unless_here (IsAt x.place x.group) (λ w. overflow_fault x.filter (judged_roots (backing_at w n) x)) (Settles x (refreshed_answer x n))
     (added_goes x (refreshed_answer x n) (refreshed_change x n) kind (λ w g. alike_where (is_explicit x.group) g _ (keys_alike _ g)) (λ w. by n w (is_explicit x.group) refl))))
@@ -170,6 +170,6 @@ refreshes_writethrough x kind =
         ap (λ b. (cond {A = Answer} b (changed (alone x.place) (λ g. with_flag true (added_keys x n w g)) w.tier, only (Done (len (matching (backing_at w n) x)))) (changed (alone x.place) (with_flag true) w.tier, only (Done (len (held_roots x (matching (backing_at w n) x)))))).0) e
         ∙ sym (ap (λ b. changed (alone x.place) (λ g. with_flag true (cond b (added_keys x n w g) g)) w.tier) e)
 
-pub refreshes_kept : (load : Load) → KeepsSettledJournal (Refreshes load)
-refreshes_kept load w w' early reply stands j apart q settled ok =
-    by_kind q.target (RefreshesReadOnly q.target) (RefreshesWritethrough q.target) (refreshes_read_only q.target) (refreshes_writethrough q.target) w w' early reply j apart (stands, q.group) q.does settled ok
+pub refreshes_kept : (load : Load) → KeepsJournal (Refreshes load)
+refreshes_kept load w w' early reply stands j apart q ok =
+    by_kind q.target (RefreshesReadOnly q.target) (RefreshesWritethrough q.target) (refreshes_read_only q.target) (refreshes_writethrough q.target) w w' early reply j apart (stands, q.group) q.does ok

@@ -1,5 +1,5 @@
 -- The words for parts, and what goes on with a journal.
-use Rattle.std.proofs.Common.{◌≡◌, ◌⊎◌, inl, inr, ℕ, ◌+◌, ◌≤◌, Bool, true, false, Option, Some, None, Result, Ok, Err, List, [], ◌∷◌, ◌++◌, refl, sym, ap, subst, ◌∙◌, arith}
+use Rattle.std.proofs.Common.{◌≡◌, inl, inr, ℕ, ◌+◌, ◌≤◌, Bool, true, false, Option, Some, None, Result, Ok, Err, List, [], ◌∷◌, ◌++◌, refl, sym, ap, subst, ◌∙◌, arith}
 use Rattle.std.specs.Bool.{MatchBool}
 use Rattle.tier_base.specs.declared.code.Code.TheVariants as code
 use Rattle.row_types.specs.declared.rule.Rule.{Rule}
@@ -16,7 +16,7 @@ use Rattle.cache_tier.specs.Worlds.{Answer, BankCall, Becomes, Follows, IsUnshar
 use Rattle.recovery.specs.Journalled.{AreAlike, IsJournalled, IsJournalledOn, IsQuiet}
 use Rattle.recovery.proofs.JournalledLaws.{alike_self, alike_table, quiet_kept}
 use Rattle.recovery.proofs.OthersLaws.{on_then, reads_kept}
-use Rattle.line_laws.specs.Keeping.{RenewsSettled, is_broken}
+use Rattle.line_laws.specs.Keeping.{is_broken}
 
 -- ---- what goes on
 
@@ -31,13 +31,6 @@ GoesPart P part = (w w' : World) (early : List Sealed) (reply : Reply) → IsJou
 
 abbrev pub GoesStage : (World → Type 0) → (World → Type 0) → Stage → Type 0
 GoesStage P Q stage = (w w' : World) (early : List Sealed) (stop : Option Reply) → IsJournalled w early → IsUnshared w → P w → stage w w' stop → is_broken stop ≡ false → Goes Q w' early
-
--- the same with a round in it: where it ends the line, a slot that is begun anew finds nothing unsettled
-abbrev pub SettledPart : (World → Type 0) → Part → Type 0
-SettledPart P part = (w w' : World) (early : List Sealed) (reply : Reply) → IsJournalled w early → IsUnshared w → P w → part w w' reply → RenewsSettled w w' → tells code.JournalFault reply.last ≡ false → IsJournalledOn w' early
-
-abbrev pub SettledStage : (World → Type 0) → (World → Type 0) → Stage → Type 0
-SettledStage P Q stage = (w w' : World) (early : List Sealed) (stop : Option Reply) → IsJournalled w early → IsUnshared w → P w → stage w w' stop → (stop ≡ None) ⊎ RenewsSettled w w' → is_broken stop ≡ false → Goes Q w' early
 
 -- nothing more is asked
 abbrev pub Any : World → Type 0
@@ -98,17 +91,6 @@ then_goes P Q stage part s n w w' early reply j apart p q ok = by q.stop q.first
         on_then w' early g.on.now g.on.more g.on.grows (n q.mid w' g.on.now reply g.on.is g.unshared g.holds next ok)
     by (Some stop) first next =
         let g = s w q.mid early (Some stop) j apart p first (told_of stop reply next.1 ok) in
-        subst (λ x. IsJournalledOn x early) (sym next.0) g.on
-
-pub then_settled : (P Q : World → Type 0) (stage : Stage) (part : Part) → SettledStage P Q stage → GoesPart Q part → SettledPart P (Then stage part)
-then_settled P Q stage part s n w w' early reply j apart p q settled ok = by q.stop q.first q.next
-  where
-    by : (stop : Option Reply) → stage w q.mid stop → Follows stop part q.mid w' reply → IsJournalledOn w' early
-    by None first next =
-        let g = s w q.mid early None j apart p first (inl refl) refl in
-        on_then w' early g.on.now g.on.more g.on.grows (n q.mid w' g.on.now reply g.on.is g.unshared g.holds next ok)
-    by (Some stop) first next =
-        let g = s w q.mid early (Some stop) j apart p first (inr (subst (λ x. RenewsSettled w x) next.0 settled)) (told_of stop reply next.1 ok) in
         subst (λ x. IsJournalledOn x early) (sym next.0) g.on
 
 pub passes_goes : (P : World → Type 0) → GoesStage P P Passes

@@ -26,7 +26,8 @@ use Rattle.cache_tier.specs.Events.{at_history}
 use Rattle.cache_tier.specs.JournalSteps.{Flushes}
 use Rattle.cache_tier.specs.Journals.{Numbers}
 use Rattle.cache_tier.specs.JournalWays.{given}
-use Rattle.cache_tier.specs.PassedSteps.{PassesOn, PassesWrite, WritesOwn, WritesPassed, after_passed, with_ticket}
+use Rattle.cache_tier.specs.PassedSteps.{PassesOn, WritesPassed, after_passed, with_ticket}
+use Rattle.outside.specs.Passing.{PassesWrite, WritesOwn}
 use Rattle.cache_tier.specs.StandingBetween.{Stands, live_groups_of}
 use Rattle.cache_tier.specs.Steps.{tells}
 use Rattle.cache_tier.specs.TierStates.{Session, Tier}

@@ -1,5 +1,5 @@
 -- SELECT, and writes in the cache, with the dynamic load before them.
-use Rattle.std.proofs.Common.{◌≡◌, ◌⊎◌, inl, inr, ℕ, suc, ◌+◌, ◌≤◌, Bool, true, false, cond, ◌&&◌, ◌||◌, Option, Some, None, Result, Ok, Err, List, [], ◌∷◌, slice_get, refl, sym, ap, subst, ◌∙◌, arith}
+use Rattle.std.proofs.Common.{◌≡◌, ℕ, suc, ◌+◌, ◌≤◌, Bool, true, false, cond, ◌&&◌, ◌||◌, Option, Some, None, Result, Ok, Err, List, [], ◌∷◌, slice_get, refl, sym, ap, subst, ◌∙◌, arith}
 use Rattle.std.specs.Bool.{MatchBool}
 use Rattle.row_types.specs.declared.value.Value.{Value}
 use Rattle.row_types.specs.declared.rule.Rule.{Rule}
@@ -15,7 +15,6 @@ use Rattle.resolution.specs.Queries.{PlacedQuery}
 use Rattle.resolution.specs.Writes.{PlacedChange}
 use Rattle.sql_query.specs.declared.query.Query.{Query}
 use Rattle.cache_tier.specs.ChangeSteps.{Changes}
-use Rattle.cache_tier.specs.declared.reply.Reply.{Reply}
 use Rattle.cache_tier.specs.DynamicLoads.{Brings, BringsAt, BringsInto, BringsReadOnly, BringsWritethrough, LoadsWanted, joined_tier, state_entries, state_loaded, with_found, with_found_at}
 use Rattle.cache_tier.specs.Groups.{Group, covers, is_read_only, is_table_of, is_writethrough}
 use Rattle.cache_tier.specs.InsertSteps.{Finds, Inserts, insert_answer, insert_fault, taken}
@@ -35,10 +34,9 @@ use Rattle.cache_tier.specs.WriteSteps.{WritesBy, WritesEffects, WritesOps, Writ
 use Rattle.cache_tier.specs.Journals.{Commits, Defines, Drops, JournalEntry, Marks, Numbers, Prepares, SetsLoaded, SetsState}
 use Rattle.recovery.specs.Journalled.{IsAlike, IsJournalledOn, IsQuiet}
 use Rattle.recovery.proofs.JournalledLaws.{alike_self}
-use Rattle.recovery.proofs.OthersLaws.{on_then}
-use Rattle.line_laws.specs.Keeping.{KeepsSettledJournal, RenewsSettled, is_broken}
+use Rattle.line_laws.specs.Keeping.{KeepsJournal}
 use Rattle.line_laws.proofs.LoadStatements.{StandsAt, round_if_at}
-use Rattle.line_laws.proofs.PartWords.{Any, Goes, GoesPart, GoesStage, SettledPart, SettledStage, becomes_goes, call_goes, quiet_on, reads_first_goes, reads_goes, refuses_goes, same_goes, same_on, still_quiet, then_settled, tries_goes}
+use Rattle.line_laws.proofs.PartWords.{Any, Goes, GoesPart, GoesStage, becomes_goes, call_goes, quiet_on, reads_first_goes, reads_goes, refuses_goes, same_goes, same_on, still_quiet, then_goes, then_stage_goes, tries_goes}
 use Rattle.line_laws.proofs.QuietTiers.{alike_changed, quiet_groups, quiet_then, refreshed_quiet, set_tried_groups, set_tried_quiet, use_quiet, writes_quiet}
 use Rattle.line_laws.proofs.TellingLaws.{IsAt, Told, at_of_tier, becomes_told, on_told}
 
@@ -95,30 +93,14 @@ brings_read_only place g want =
     (λ w w' at e. ap (λ (t : Tier). slice_get t.groups place) e ∙ ap (λ l. slice_get l place) (set_tried_groups g w.tier) ∙ at) (λ w p. tt)
     (λ n. becomes_told (IsAt place g) (state_entries g) (joined_tier place g want n) (at_of_tier place g) (λ w at apart. joined_told place g want n w at apart) (λ w at same u. joined_tables place g want n w u))
 
-then_stage_settled : (P Q R : World → Type 0) (one other : Stage) → ((w : World) → Q w → R w) → SettledStage P Q one → GoesStage Q R other → SettledStage P R (ThenStage one other)
-then_stage_settled P Q R one other both s n w w' early end j apart p q settled ok = by q.stop q.first q.next
-  where
-    by : (stop : Option Reply) → one w q.mid stop → StageFollows stop other q.mid w' end → Goes R w' early
-    by None first next =
-        let g = s w q.mid early None j apart p first (inl refl) refl in
-        let h = n q.mid w' g.on.now end g.on.is g.unshared g.holds next ok in
-        record { on = on_then w' early g.on.now g.on.more g.on.grows h.on; unshared = h.unshared; holds = h.holds }
-    by (Some stop) first next =
-        let g = s w q.mid early (Some stop) j apart p first (inr (renews settled)) (ap is_broken (sym next.1) ∙ ok) in
-        subst (λ x. Goes R x early) (sym next.0) (record { on = g.on; unshared = g.unshared; holds = both q.mid g.holds })
-      where
-        renews : (end ≡ None) ⊎ RenewsSettled w w' → RenewsSettled w q.mid
-        renews (inl e) = let bad : None ≡ Some stop = sym e ∙ next.1 in Prim.cc
-        renews (inr r) = subst (λ x. RenewsSettled w x) next.0 r
-
-brings_writethrough : (place : ℕ) (g : Group) (want : Want) → SettledStage (StandsAt place g) Any (BringsWritethrough place want)
+brings_writethrough : (place : ℕ) (g : Group) (want : Want) → GoesStage (StandsAt place g) Any (BringsWritethrough place want)
 brings_writethrough place g want =
-    then_stage_settled (StandsAt place g) (IsAt place g) Any RoundIfUnsettled (ReadsFirst as_it_was (λ n. Becomes (λ w. with_found_at place (backing_at w n) want w.tier))) (λ w p. tt) (round_if_at place g)
+    then_stage_goes (StandsAt place g) (IsAt place g) Any RoundIfUnsettled (ReadsFirst as_it_was (λ n. Becomes (λ w. with_found_at place (backing_at w n) want w.tier))) (λ w p. tt) (round_if_at place g)
     (reads_first_goes (IsAt place g) Any Any as_it_was (λ n. Becomes (λ w. with_found_at place (backing_at w n) want w.tier)) still_quiet (λ w w' at e. tt) (λ w p. tt)
     (λ n. becomes_goes Any Any (λ w. with_found_at place (backing_at w n) want w.tier) (λ w p. found_quiet place (backing_at w n) want w.tier) (λ w p. tt)))
 
-pub loads_wanted : (want : Option Want) → SettledStage Stands Any (LoadsWanted want)
-loads_wanted want w w' early stop j apart stands q settled ok = brings (Rattle.cache_tier.specs.Wants.loaded_want w.history w.tier want) q
+pub loads_wanted : (want : Option Want) → GoesStage Stands Any (LoadsWanted want)
+loads_wanted want w w' early stop j apart stands q ok = brings (Rattle.cache_tier.specs.Wants.loaded_want w.history w.tier want) q
   where
     into : (place : ℕ) (o : Option Group) (x : Want) → slice_get w.tier.groups place ≡ o → BringsInto place o x w w' stop → Goes Any w' early
     into place None x e q = same_goes Any w w' early q.0 j apart tt
@@ -126,7 +108,7 @@ loads_wanted want w w' early stop j apart stands q settled ok = brings (Rattle.c
       where
         by : (b : Bool) → MatchBool b (BringsReadOnly place g x w w' stop) (BringsWritethrough place x w w' stop) → Goes Any w' early
         by true q = brings_read_only place g x w w' early stop j apart e q ok
-        by false q = brings_writethrough place g x w w' early stop j apart (stands, e) q settled ok
+        by false q = brings_writethrough place g x w w' early stop j apart (stands, e) q ok
 
     at : (o : Option ℕ) (x : Want) → BringsAt o w.tier x w w' stop → Goes Any w' early
     at None x q = same_goes Any w w' early q.0 j apart tt
@@ -148,18 +130,18 @@ selects_on placed state after so w w' early reply j apart p q ok = by q.result q
 selects_shown : (s : Session) (placed : PlacedQuery) → GoesPart Any (SelectsShown s placed)
 selects_shown s placed = selects_on placed _ _ (λ plan w. use_quiet (seen_by s w.history w.tier) _ w.tier)
 
-selects_by : (route : Route) (s : Session) (placed : PlacedQuery) → SettledPart Stands (SelectsBy route s placed)
-selects_by Cached s placed w w' early reply j apart stands q settled ok =
-    then_settled Stands Any (LoadsWanted (Rattle.cache_tier.specs.Wants.wanted_by_query w.tier placed)) (Tries (SelectsShown s placed)) (loads_wanted (Rattle.cache_tier.specs.Wants.wanted_by_query w.tier placed)) (tries_goes Any (SelectsShown s placed) (selects_shown s placed)) w w' early reply j apart stands q settled ok
-selects_by PassedOn s placed w w' early reply j apart stands q settled ok =
+selects_by : (route : Route) (s : Session) (placed : PlacedQuery) → GoesPart Stands (SelectsBy route s placed)
+selects_by Cached s placed w w' early reply j apart stands q ok =
+    then_goes Stands Any (LoadsWanted (Rattle.cache_tier.specs.Wants.wanted_by_query w.tier placed)) (Tries (SelectsShown s placed)) (loads_wanted (Rattle.cache_tier.specs.Wants.wanted_by_query w.tier placed)) (tries_goes Any (SelectsShown s placed) (selects_shown s placed)) w w' early reply j apart stands q ok
+selects_by PassedOn s placed w w' early reply j apart stands q ok =
     reads_goes Any Any as_it_was (λ n. SelectsOn placed (λ x. backing_at x n) (λ plan x. x.tier)) still_quiet (λ x x' p e. tt) (λ n. selects_on placed (λ x. backing_at x n) (λ plan x. x.tier) (λ plan x. still_quiet x.tier)) w w' early reply j apart tt q ok
 
-pub selects_kept : (s : Session) (q : Query) → KeepsSettledJournal (Selects s q)
-selects_kept s query w w' early reply stands j apart q settled ok = by _ q
+pub selects_kept : (s : Session) (q : Query) → KeepsJournal (Selects s q)
+selects_kept s query w w' early reply stands j apart q ok = by _ q
   where
     by : (o : Result PlacedQuery Rule) → SelectsPlaced s o w w' reply → IsJournalledOn w' early
     by (Err rule) q = same_on w w' early q.0 j
-    by (Ok placed) q = selects_by _ s placed w w' early reply j apart stands q settled ok
+    by (Ok placed) q = selects_by _ s placed w w' early reply j apart stands q ok
 
 -- ---- INSERT, UPDATE, DELETE in the cache
 
@@ -210,6 +192,6 @@ writes_effects s table (Ok ops) w w' early reply j apart p q ok = Rattle.line_la
 writes_shown : (s : Session) (placed : PlacedChange) → GoesPart Any (WritesShown s placed)
 writes_shown s placed w w' early reply j apart p q ok = writes_effects s placed.table _ w w' early reply j apart p q.writes ok
 
-pub writes_cached_kept : (s : Session) (placed : PlacedChange) → KeepsSettledJournal (WritesBy (Ok Cached) s placed)
-writes_cached_kept s placed w w' early reply stands j apart q settled ok =
-    then_settled Stands Any (LoadsWanted (Rattle.cache_tier.specs.Wants.wanted_by_write w.tier placed)) (Tries (WritesShown s placed)) (loads_wanted (Rattle.cache_tier.specs.Wants.wanted_by_write w.tier placed)) (tries_goes Any (WritesShown s placed) (writes_shown s placed)) w w' early reply j apart stands q settled ok
+pub writes_cached_kept : (s : Session) (placed : PlacedChange) → KeepsJournal (WritesBy (Ok Cached) s placed)
+writes_cached_kept s placed w w' early reply stands j apart q ok =
+    then_goes Stands Any (LoadsWanted (Rattle.cache_tier.specs.Wants.wanted_by_write w.tier placed)) (Tries (WritesShown s placed)) (loads_wanted (Rattle.cache_tier.specs.Wants.wanted_by_write w.tier placed)) (tries_goes Any (WritesShown s placed) (writes_shown s placed)) w w' early reply j apart stands q ok

@@ -1,15 +1,17 @@
 -- A round, with the flush before it and the rotation behind it.
-use Rattle.std.proofs.Common.{◌≡◌, ◌⊎◌, inl, inr, ℕ, ◌+◌, Bool, true, false, cond, not, Option, Some, None, List, [], ◌∷◌, filter, refl, sym, ap, subst, ◌∙◌, arith}
+use Rattle.std.proofs.Common.{◌≡◌, ℕ, suc, Bool, ◌&&◌, nat_eq, nat_lt, true, false, cond, not, Option, Some, None, List, [], ◌∷◌, filter, length, refl, sym, ap, subst, ◌∙◌, arith}
+use Rattle.std.proofs.lemmas.Bool.{eqb-true}
 use Rattle.table_state.specs.declared.history.Entry.{Entry}
 use Rattle.table_state.specs.declared.history.Sealed.{Sealed}
 use Rattle.table_state.specs.Histories.{has_ticket}
 use Rattle.order_laws.specs.Commits.{pending}
 use Rattle.order_laws.specs.Events.{Event, Follows}
 use Rattle.order_laws.specs.Standing.{live_tables}
+use Rattle.order_laws.proofs.TruthLaws.{both_true}
 use Rattle.cache_tier.specs.declared.reply.Reply.{Reply}
 use Rattle.cache_tier.specs.Events.{at_history, settled_to}
 use Rattle.cache_tier.specs.JournalSteps.{Flushes}
-use Rattle.cache_tier.specs.Rotations.{Broken, Kept, Renewed, Rotates, Rotation, RotatesIfLong, is_long, journal_after, rotation_stop}
+use Rattle.cache_tier.specs.Rotations.{Broken, Kept, Renewed, Rotates, Rotation, RotatesIfLong, is_long, is_settled, journal_after, rotation_stop}
 use Rattle.cache_tier.specs.Rounds.{AllLeft, Applies, AppliesAndRotates, Differing, Drained, Failing, Round, RoundEnd, Wanting, both_stop, round_stop}
 use Rattle.cache_tier.specs.StandingBetween.{Stands, live_groups_of}
 use Rattle.cache_tier.specs.TierStates.{Tier}
@@ -20,7 +22,7 @@ use Rattle.recovery.proofs.JournalledLaws.{alike_self, quiet_kept}
 use Rattle.recovery.proofs.OthersLaws.{on_then, one_journalled_on}
 use Rattle.recovery.proofs.RotatedLaws.{rotation_kept}
 use Rattle.recovery.proofs.RoundedLaws.{round_kept}
-use Rattle.line_laws.specs.Keeping.{RenewsSettled, is_broken}
+use Rattle.line_laws.specs.Keeping.{is_broken}
 use Rattle.line_laws.proofs.FlushLaws.{IsWhole, kept_flushes, tail_flushed}
 use Rattle.line_laws.proofs.MixedLaws.{round_events}
 use Rattle.line_laws.proofs.PartWords.{stays_on}
@@ -111,26 +113,36 @@ drained_end t Failing rest all e = Prim.cc
 drained_end t Wanting rest all e = Prim.cc
 drained_end t (Differing table key) rest all e = Prim.cc
 
-rotated : (w mid w' : World) (early : List Sealed) (turned : Option Reply) → Rounded w mid early → mid.journal.tail ≡ [] → (w'.journal.generation ≡ mid.journal.generation + 1 → w'.tier ≡ mid.tier → mid.tier.unsettled ≡ []) → RotatesIfLong mid w' turned → is_broken turned ≡ false → Rounded w w' early
-rotated w mid w' early turned r none settled q ok = by (is_long mid) q
+-- a slot is begun anew only where nothing is unsettled
+none_long : (us : List Sealed) → nat_eq (length us) 0 ≡ true → us ≡ []
+none_long [] e = refl
+none_long (u ∷ us) e = let z : suc (length us) ≡ 0 = eqb-true (suc (length us)) 0 e in Prim.cc
+
+long_settled : (w : World) → is_long w ≡ true → w.tier.unsettled ≡ []
+long_settled w e =
+    let long = (both_true w.journal.kept (nat_lt w.tier.settings.rotate_bytes w.journal.written && is_settled w) e).1 in
+    none_long w.tier.unsettled (both_true (nat_lt w.tier.settings.rotate_bytes w.journal.written) (is_settled w) long).1
+
+rotated : (w mid w' : World) (early : List Sealed) (turned : Option Reply) → Rounded w mid early → mid.journal.tail ≡ [] → RotatesIfLong mid w' turned → is_broken turned ≡ false → Rounded w w' early
+rotated w mid w' early turned r none q ok = by (is_long mid) refl q
   where
     from : (w' : World) → w'.tier ≡ mid.tier → w'.history ≡ mid.history → w'.shared ≡ mid.shared → IsJournalledOn w' early → Rounded w w' early
     from w' tier history shared on = record { on = on; stands = stands_one mid w' tier history r.stands; left = r.left; moment = r.moment; tier = tier ∙ r.tier; shared = shared ∙ r.shared }
 
-    turn : Rotates mid w' turned → Rounded w w' early
-    turn k = go k.result k.journal k.end
+    turn : mid.tier.unsettled ≡ [] → Rotates mid w' turned → Rounded w w' early
+    turn settled k = go k.result k.journal k.end
       where
         go : (result : Rotation) → w'.journal ≡ journal_after result mid → turned ≡ rotation_stop result → Rounded w w' early
         go Renewed e s = from w' k.tier k.history k.shared (one_journalled_on (record mid { journal = w'.journal }) w' early (record { tier = k.tier; history = k.history; journal = refl })
             (on_then (record mid { journal = w'.journal }) early r.on.now r.on.more r.on.grows
-            (rotation_kept mid r.on.now w'.journal r.stands r.on.is none (settled (ap (λ (j : Rattle.cache_tier.specs.Journals.Journal). j.generation) e) k.tier)
+            (rotation_kept mid r.on.now w'.journal r.stands r.on.is none settled
             (subst (Rattle.recovery.specs.Journalled.IsRenewed mid.tier) (sym e) (record { kept = r.on.is.kept; flushed = refl; tail = refl })))))
         go Kept e s = from w' k.tier k.history k.shared (one_journalled_on mid w' early (record { tier = k.tier; history = k.history; journal = e }) r.on)
         go Broken e s = let bad : true ≡ false = ap is_broken (sym s) ∙ ok in Prim.cc
 
-    by : (b : Bool) → OnlyWhere b Rotates mid w' turned → Rounded w w' early
-    by true q = turn q
-    by false q = from w' (ap (λ (x : World). x.tier) q.0) (ap (λ (x : World). x.history) q.0) (ap (λ (x : World). x.shared) q.0) (subst (λ x. IsJournalledOn x early) (sym q.0) r.on)
+    by : (b : Bool) → is_long mid ≡ b → OnlyWhere b Rotates mid w' turned → Rounded w w' early
+    by true e q = turn (long_settled mid e) q
+    by false e q = from w' (ap (λ (x : World). x.tier) q.0) (ap (λ (x : World). x.history) q.0) (ap (λ (x : World). x.shared) q.0) (subst (λ x. IsJournalledOn x early) (sym q.0) r.on)
 
 both_none : (one other : Option Reply) → both_stop one other ≡ None → one ≡ None
 both_none one None e = e
@@ -140,9 +152,9 @@ both_broken : (one other : Option Reply) → is_broken (both_stop one other) ≡
 both_broken one None e = refl
 both_broken one (Some r) e = e
 
--- a round is done, and where no slot was begun anew or nothing is unsettled the journal is the tier's
-pub round_goes : (w w' : World) (early : List Sealed) (stop : Option Reply) → Stands w → IsJournalled w early → IsUnshared w → Round w w' stop → (stop ≡ None) ⊎ RenewsSettled w w' → is_broken stop ≡ false → Rounded w w' early × (stop ≡ None → w'.tier.unsettled ≡ [])
-round_goes w w' early stop x j apart q settled ok = by q.stop q.first q.next
+-- a round is done, and the journal is the tier's
+pub round_goes : (w w' : World) (early : List Sealed) (stop : Option Reply) → Stands w → IsJournalled w early → IsUnshared w → Round w w' stop → is_broken stop ≡ false → Rounded w w' early × (stop ≡ None → w'.tier.unsettled ≡ [])
+round_goes w w' early stop x j apart q ok = by q.stop q.first q.next
   where
     by : (end : Option Reply) → Flushes [] w q.mid end → StageFollows end AppliesAndRotates q.mid w' stop → Rounded w w' early × (stop ≡ None → w'.tier.unsettled ≡ [])
     by (Some r) first next =
@@ -165,19 +177,8 @@ round_goes w w' early stop x j apart q settled ok = by q.stop q.first q.next
         ended : next.applied ≡ None → next.mid.tier.unsettled ≡ []
         ended e = drained_end q.mid.tier next.applies.result next.mid.tier.unsettled next.applies.all (sym next.applies.end ∙ e)
 
-        empty : w'.journal.generation ≡ next.mid.journal.generation + 1 → w'.tier ≡ next.mid.tier → next.mid.tier.unsettled ≡ []
-        empty gen tier = elim settled [
-          | inl e ↦ ended (both_none next.applied next.turned (sym next.end ∙ e))
-          | inr r ↦ elim r [
-            | inl same ↦
-                let a : next.mid.journal.generation ≡ w.journal.generation = ap (λ (k : Rattle.cache_tier.specs.Journals.Journal). k.generation) next.applies.journal ∙ is.generation in
-                absurd (omega (arith, a, gen, same))
-            | inr none ↦ ap (λ (t : Tier). t.unsettled) (sym tier) ∙ none
-          ]
-        ]
-
         turned : Rounded q.mid w' flushed.now
-        turned = rotated q.mid next.mid w' flushed.now next.turned one (ap (λ (k : Rattle.cache_tier.specs.Journals.Journal). k.tail) next.applies.journal ∙ is.journal.tail) empty next.rotates (both_broken next.applied next.turned (ap is_broken (sym next.end) ∙ ok))
+        turned = rotated q.mid next.mid w' flushed.now next.turned one (ap (λ (k : Rattle.cache_tier.specs.Journals.Journal). k.tail) next.applies.journal ∙ is.journal.tail) next.rotates (both_broken next.applied next.turned (ap is_broken (sym next.end) ∙ ok))
 
         same_tier : w'.tier ≡ next.mid.tier
         same_tier = by_long (is_long next.mid) next.rotates

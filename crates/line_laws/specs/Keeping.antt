@@ -1,6 +1,6 @@
 -- What a part of a line keeps of a journal. (This project's rule.)
 
-use Rattle.std.specs.Prelude.{◌≡◌, ◌⊎◌, ℕ, Bool, Option, List, [], ◌∷◌, false, true, Some, None, Ok, map}
+use Rattle.std.specs.Prelude.{◌≡◌, ℕ, Bool, Option, List, [], ◌∷◌, false, true, Some, None, Ok, map}
 use Rattle.table_state.specs.declared.history.Sealed.{Sealed}
 use Rattle.tier_base.specs.declared.code.Code.TheVariants as code
 use Rattle.table_defs.specs.declared.definition.TableDef.{TableDef}
@@ -55,21 +55,6 @@ KeepsJournalInDoubt item =
     (w w' : World) (early : List Sealed) (notes : List Note) (stop : Option Reply) → IsJournalled w early → IsUnshared w
     → item w w' notes stop → is_broken stop ≡ false → IsJournalledOn w' early
 
--- no slot was begun anew, or nothing is unsettled
-abbrev pub RenewsSettled : World → World → Type 0
-RenewsSettled w w' = (w'.journal.generation ≡ w.journal.generation) ⊎ (w'.tier.unsettled ≡ [])
-
--- the same of a part with a round in it, where a slot that is begun anew finds nothing unsettled
-abbrev pub KeepsSettledJournal : Part → Type 0
-KeepsSettledJournal part =
-    (w w' : World) (early : List Sealed) (reply : Reply) → Stands w → IsJournalled w early → IsUnshared w
-    → part w w' reply → RenewsSettled w w' → tells code.JournalFault reply.last ≡ false → IsJournalledOn w' early
-
-abbrev pub KeepsSettledJournalDue : Item → Type 0
-KeepsSettledJournalDue item =
-    (w w' : World) (early : List Sealed) (notes : List Note) (stop : Option Reply) → Stands w → IsJournalled w early
-    → IsUnshared w → item w w' notes stop → RenewsSettled w w' → is_broken stop ≡ false → IsJournalledOn w' early
-
 -- the same where this holds of the world
 abbrev pub KeepsJournalWhere : (World → Type 0) → Part → Type 0
 KeepsJournalWhere P part =
@@ -86,12 +71,6 @@ KeepsJournalOf s P part =
     (w w' : World) (early : List Sealed) (reply : Reply) → Stands w → IsJournalled w early → IsUnshared w
     → session_of w.tier s.label ≡ Some s → P w → part w w' reply → tells code.JournalFault reply.last ≡ false
     → IsJournalledOn w' early
-
-abbrev pub KeepsSettledJournalOf : Session → (World → Type 0) → Part → Type 0
-KeepsSettledJournalOf s P part =
-    (w w' : World) (early : List Sealed) (reply : Reply) → Stands w → IsJournalled w early → IsUnshared w
-    → session_of w.tier s.label ≡ Some s → P w → part w w' reply → RenewsSettled w w'
-    → tells code.JournalFault reply.last ≡ false → IsJournalledOn w' early
 
 -- The definition breaks no rule of names, and each group that it may make is one that may come.
 pub record MayCreate (d : CreateGroup) (w : World) : Type 0 where

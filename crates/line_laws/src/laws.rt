@@ -30,7 +30,7 @@ ghost use Rattle.cache_tier.specs.TierStates.{Session};
 ghost use Rattle.cache_tier.specs.UnloadSteps.{Unloads};
 ghost use Rattle.cache_tier.specs.Worlds.{Quiet};
 ghost use Rattle.cache_tier.specs.WriteSteps.{WritesBy};
-ghost use Rattle.line_laws.specs.Keeping.{Anything, AreOffLive, HasNoWrites, IsOffLive, KeepsJournal, KeepsJournalAt, KeepsJournalDue, KeepsJournalInDoubt, KeepsJournalOf, KeepsJournalWhere, KeepsSettledJournal, KeepsSettledJournalDue, KeepsSettledJournalOf, MayCreate, MeetsIfAtOnce, MeetsNone, RefersToNone};
+ghost use Rattle.line_laws.specs.Keeping.{Anything, AreOffLive, HasNoWrites, IsOffLive, KeepsJournal, KeepsJournalAt, KeepsJournalDue, KeepsJournalInDoubt, KeepsJournalOf, KeepsJournalWhere, MayCreate, MeetsIfAtOnce, MeetsNone, RefersToNone};
 
 /// The journal stays the tier's where a line changes nothing that an entry tells: OPEN (`opens`), CLOSE (`closes`),
 /// ttOptSetFlag (`sets_level`), ROLLBACK (`rolls_back`), the clock (`clock`), the question for the schema (`asks`).
@@ -54,13 +54,12 @@ pub fn group_line_law()
 {}
 
 /// The journal stays the tier's behind a round, and what comes behind one: ttDrain (`drains`), LOAD CACHE GROUP
-/// (`loads`), REFRESH CACHE GROUP (`refreshes`), DROP CACHE GROUP (`drops`). A slot that the round begins anew has to
-/// find nothing unsettled, as it does where the round ends without a fault.
+/// (`loads`), REFRESH CACHE GROUP (`refreshes`), DROP CACHE GROUP of a session that has no uncommitted writes (`drops`).
 pub fn round_line_law()
-    ensures drains { KeepsSettledJournal Drains }
-    ensures loads { (load : Load) → KeepsSettledJournal (Loads load) }
-    ensures refreshes { (load : Load) → KeepsSettledJournal (Refreshes load) }
-    ensures drops { (s : Session) (name : List ℕ) → KeepsSettledJournalOf s (HasNoWrites s) (DropsGroup s name) }
+    ensures drains { KeepsJournal Drains }
+    ensures loads { (load : Load) → KeepsJournal (Loads load) }
+    ensures refreshes { (load : Load) → KeepsJournal (Refreshes load) }
+    ensures drops { (s : Session) (name : List ℕ) → KeepsJournalOf s (HasNoWrites s) (DropsGroup s name) }
 {}
 
 /// The journal stays the tier's behind COMMIT of asynchronous writes, whose record is noted, or flushed with DURABLE
@@ -78,8 +77,8 @@ pub fn commit_line_law()
 /// (`writes`), with the dynamic load that may come before them; and behind a write that is passed on, which has its
 /// number flushed first, and touches no table of a live writethrough group (`passes_on`).
 pub fn query_line_law()
-    ensures selects { (s : Session) (q : Query) → KeepsSettledJournal (Selects s q) }
-    ensures writes { (s : Session) (placed : PlacedChange) → KeepsSettledJournal (WritesBy (Ok Cached) s placed) }
+    ensures selects { (s : Session) (q : Query) → KeepsJournal (Selects s q) }
+    ensures writes { (s : Session) (placed : PlacedChange) → KeepsJournal (WritesBy (Ok Cached) s placed) }
     ensures passes_on { (s : Session) (placed : PlacedChange)
         → KeepsJournalWhere (IsOffLive placed) (PassesOn s placed) }
 {}
@@ -95,7 +94,7 @@ pub fn console_line_law()
 /// stands, whether the tier stands or not (`doubt`), the round (`round`), the sets (`sets`), aging (`aging`).
 pub fn due_line_law()
     ensures doubt { KeepsJournalInDoubt DueDoubt }
-    ensures round { KeepsSettledJournalDue DueRound }
+    ensures round { KeepsJournalDue DueRound }
     ensures sets { KeepsJournalDue DueSets }
     ensures aging { KeepsJournalDue DueAging }
 {}

@@ -6,5 +6,6 @@ pub mod Differences
 pub mod Faults
 pub mod Holding
 pub mod Others
+pub mod Passing
 pub mod Sites
 pub mod Writing

@@ -4,6 +4,7 @@ ghost use Rattle.outside.specs.Bank.{AppliesOnce, Defines, TellsRecorded, TellsR
 ghost use Rattle.outside.specs.Calls.{BankGoesOn, BankTold};
 ghost use Rattle.outside.specs.Console.{TakesSnapshot, WritesForeign};
 ghost use Rattle.outside.specs.Faults.{BankHasCause};
+ghost use Rattle.outside.specs.Passing.{CommitsAlone};
 ghost use Rattle.table_defs.specs.Declarations.{IsChecked};
 
 use crate::disk::Disk;
@@ -37,7 +38,7 @@ pub enum Applied {
     Differs(TableId, Key, Option<Row>),
 }
 
-/// What became of a transaction of the console.
+/// What became of a transaction of the console, or of a write that was passed on.
 #[derive(Drop)]
 pub enum Done {
     /// It was done. So many rows of the named tables were written; those that left by ON DELETE CASCADE aren't counted.
@@ -61,8 +62,8 @@ pub struct Snapshot {
 /// Transactions of others may come in each call, before its own step and behind it. They change shared tables alone. So
 /// a position that a call tells is a length that the history had in the call, and needn't be its end.
 ///
-/// `BankError::Failed` comes only where the count of bank faults rose in the call; a failed `define`, `apply_once` or
-/// `foreign` leaves the history with its own entry or without it. Where memory is wanting there is no own entry. No
+/// `BankError::Failed` comes only where the count of bank faults rose in the call; a failed `define`, `apply_once`,
+/// `foreign` or `passed` leaves the history with its own entry or without it. Where memory is wanting there is no own entry. No
 /// call changes the count of the disk's faults, or which tables others change.
 pub trait Site: Disk {
     /// The definitions of all tables, in the order in which they were made.
@@ -109,6 +110,19 @@ pub trait Site: Disk {
     fn foreign(&mut self, changes: &[Change]) -> Result<Done, BankError>
         ensures told { BankTold (Self.state self.old) (Self.state self.new) (WritesForeign changes.now result) }
         ensures crash { BankGoesOn Self.state Self.possible self.old self.new (WritesForeign changes.now result) }
+        ensures cause { BankHasCause (Self.state self.old) (Self.state self.new) result };
+
+    /// Does one write of a session that is passed on, and records it with its ticket, in one transaction of the bank. Its
+    /// entry comes also where no row is written.
+    ///
+    /// It answers how many rows of the named table were written, or the first broken rule, as `foreign` does. A ticket
+    /// that is recorded already is a failed call that leaves the history as it was. (TimesTen Cache User's Guide,
+    /// "Setting a passthrough level"; that a passed-on write commits by itself is this project's rule.)
+    fn passed(&mut self, ticket: Ticket, change: &Change) -> Result<Done, BankError>
+        ensures told { BankTold (Self.state self.old) (Self.state self.new)
+            (CommitsAlone ticket.0 change.now result) }
+        ensures crash { BankGoesOn Self.state Self.possible self.old self.new
+            (CommitsAlone ticket.0 change.now result) }
         ensures cause { BankHasCause (Self.state self.old) (Self.state self.new) result };
 
     /// The definitions of all tables, and the rows of these tables, at one position of the history.

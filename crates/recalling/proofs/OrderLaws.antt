@@ -20,7 +20,8 @@ use Rattle.group_catalog.specs.ReadBack.{StandsReadBack, read_back_fault}
 use Rattle.recovery.specs.Recalling.{with_loaded}
 use Rattle.recovery.proofs.FoldLaws.{any_filter}
 use Rattle.recalling.specs.Fitting.{fits, is_done, is_user_managed}
-use Rattle.recalling.specs.Recalled.{AreInOrder, HaveOwnNames, IsBare, is_plain}
+use Rattle.recalling.specs.Recalled.{AreInOrder, IsBare}
+use Rattle.group_catalog.specs.Catalogs.{HaveOwnNames, is_plain}
 use Rattle.recalling.specs.Steps.{AreNamedApart, Moves}
 
 -- groups in order, with their names apart from left to right

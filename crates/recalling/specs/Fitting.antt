@@ -53,7 +53,8 @@ fits_table (Some def) op = has_fitting_rows def op
 
 -- a group with this property has the table, and the rows fit it
 abbrev pub op_fits : List TableDef → List Group → (Group → Bool) → Op → Bool
-op_fits schema groups test op = is_table_of test groups (table_of op) && fits_table (slice_get schema (table_of op).0) op
+op_fits schema groups test op =
+    is_table_of test groups (table_of op) && fits_table (slice_get schema (table_of op).0) op
 
 -- there are operations, each of them fits, and the ticket is the next one
 abbrev pub sealed_fits : List TableDef → List Group → (Group → Bool) → ℕ → Sealed → Bool
@@ -68,8 +69,8 @@ is_user_managed AsynchronousWritethrough = false
 is_user_managed SynchronousWritethrough = false
 is_user_managed UserManaged = true
 
--- What isn't done yet: groups that are loaded on demand, that age, and that their users manage. This line goes once they
--- are.
+-- What isn't done yet: groups that are loaded on demand, that age, and that their users manage. This line goes once
+-- they are.
 abbrev pub is_done : List TableDef → CreateGroup → Bool
 is_done schema d = not d.dynamic && is_none (root_aging d (placed_tables schema d)) && not (is_user_managed d.kind)
 

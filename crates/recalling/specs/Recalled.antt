@@ -1,12 +1,13 @@
 -- What a journal's entries leave, and the first that doesn't fit. (This project's rule.)
 
-use Rattle.std.specs.Prelude.{◌≡◌, ℕ, List, [], ◌∷◌, ◌++◌, Bool, true, false, ◌&&◌, Some, None, is_none, slice_get}
+use Rattle.std.specs.Prelude.{◌≡◌, ℕ, List, [], ◌∷◌, ◌++◌, true, false, None}
 use Rattle.std.specs.List.{list_all}
 use Rattle.table_defs.specs.declared.definition.TableDef.{TableDef}
-use Rattle.cache_tier.specs.Groups.{Group, is_explicit}
+use Rattle.cache_tier.specs.Groups.{Group}
 use Rattle.cache_tier.specs.Journals.{JournalEntry}
 use Rattle.cache_tier.specs.StandingBetween.{Each, HaveOwnTables, IsCatalogued}
 use Rattle.cache_tier.specs.TierStates.{Settings, Tier, opened}
+use Rattle.group_catalog.specs.Catalogs.{HaveOwnNames, is_plain}
 use Rattle.tier_journal.specs.declared.record.Record.{Record}
 use Rattle.tier_journal.specs.Opening.{meaning, meanings}
 use Rattle.recovery_laws.specs.Notes.{commits_in}
@@ -47,24 +48,14 @@ IsRefusedFor settings moment schema records Memory = Unit {0}
 
 -- ---- the groups
 
--- a group as the tier does them: it is loaded whole or by statements, and nothing ages in it
-abbrev pub is_plain : Group → Bool
-is_plain g = is_explicit g && is_none g.def.aging
-
 -- it shows nothing yet: it has no key in its list, no position and no horizon
 pub record IsBare (g : Group) : Type 0 where
   pub keys : g.keys ≡ []
   pub position : g.position ≡ None
   pub horizon : g.horizon ≡ None
 
--- no two groups have one name
-abbrev pub HaveOwnNames : List Group → Type 0
-HaveOwnNames groups =
-    (i j : ℕ) (g h : Group) → slice_get groups i ≡ Some g → slice_get groups j ≡ Some h → g.def.name ≡ h.def.name
-    → i ≡ j
-
--- The groups stand over the schema, each with tables of its own and a name of its own; they are such as the tier does, and
--- show nothing yet.
+-- The groups stand over the schema, each with tables of its own and a name of its own; they are such as the tier does,
+-- and show nothing yet.
 pub record AreInOrder (schema : List TableDef) (groups : List Group) : Type 0 where
   pub each : Each (IsCatalogued schema) groups
   pub apart : HaveOwnTables groups

@@ -78,10 +78,10 @@ impl From<AllocError> for RecallError {
 ///
 /// `Unfit` with the place of the first entry that doesn't fit over what those before it leave: a definition that breaks
 /// a rule, or is of what isn't done yet; a drop or a flag of no group, a STATE of one that isn't READONLY; a commit
-/// without operations, or with one that isn't on a table of an ASYNCHRONOUS WRITETHROUGH group, whose rows don't fit the
-/// table, or that changes a primary key; the same of a prepared transaction and SYNCHRONOUS groups; a ticket that isn't
-/// above those before it, or is past the last; a mark past one above it. `Memory` for want of memory. (TimesTen Cache
-/// User's Guide, "Recovery"; which entries fit is this project's rule.)
+/// without operations, or with one that isn't on a table of an ASYNCHRONOUS WRITETHROUGH group, whose rows don't fit
+/// the table, or that changes a primary key; the same of a prepared transaction and SYNCHRONOUS groups; a ticket that
+/// isn't above those before it, or is past the last; a mark past one above it. `Memory` for want of memory. (TimesTen
+/// Cache User's Guide, "Recovery"; which entries fit is this project's rule.)
 pub fn recall(
     alloc: Global,
     schema: &BackingSchema,

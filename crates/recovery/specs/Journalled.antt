@@ -36,9 +36,9 @@ abbrev pub seen_as : List TableDef → World → List Sealed → List Sealed →
 seen_as schema w early late =
     record { flushed = notes_of schema w.journal.flushed; late = late; history = w.history; commits = early ++ late }
 
--- The journal is the tier's: in its tail are commits alone; its entries match the history, with these asynchronous commits
--- held (early); they leave the tier's catalog; what is pending of all that they tell is what is pending of the log; and no
--- ticket of theirs is at or above the next one.
+-- The journal is the tier's: in its tail are commits alone; its entries match the history, with these asynchronous
+-- commits held (early); they leave the tier's catalog; what is pending of all that they tell is what is pending of the
+-- log; and no ticket of theirs is at or above the next one.
 pub record IsJournalled (w : World) (early : List Sealed) : Type 0 where
   pub kept : w.journal.kept ≡ true
   pub backing : TableState
@@ -50,7 +50,8 @@ pub record IsJournalled (w : World) (early : List Sealed) : Type 0 where
   pub catalog : Tier
   pub recalls : RecallsAll (given w.journal) (opened settings 0 backing.schema) catalog
   pub alike : AreAlike catalog.groups w.tier.groups
-  pub tie : pending w.history w.tier.log ≡ pending w.history (log_in w.history (notes_of backing.schema (given w.journal)))
+  pub tie : pending w.history w.tier.log
+      ≡ pending w.history (log_in w.history (notes_of backing.schema (given w.journal)))
   pub next : next_behind (given w.journal) ≤ w.tier.next
 
 -- so it is, and what was held is held
@@ -123,8 +124,8 @@ pub record IsToldAtOnce (s : Sealed) (old new : Tier) : Type 0 where
   pub groups : AreAlike old.groups new.groups
 
 -- What a crash leaves now: the entries that are flushed match the history; they leave a catalog with the tier's
--- definitions, STATEs and flags; and of the asynchronous commits they and the history hold those that were held, and none
--- of the tail.
+-- definitions, STATEs and flags; and of the asynchronous commits they and the history hold those that were held, and
+-- none of the tail.
 pub record CrashLeaves (w : World) (early : List Sealed) (settings : Settings) (moment : ℕ) : Type 0 where
   pub matched : AreMatched w.journal.flushed w.history
   pub catalog : Tier

@@ -1,6 +1,6 @@
 -- The tier that is opened again over a journal and a history, behind its round, with the rows that come back. (TimesTen
--- Cache User's Guide, "Recovery"; that explicit groups whose flag is set hold all their instances again, and all READONLY
--- ones at one position, is this project's rule.)
+-- Cache User's Guide, "Recovery"; that explicit groups whose flag is set hold all their instances again, and all
+-- READONLY ones at one position, is this project's rule.)
 
 use Rattle.std.specs.Prelude.{◌≡◌, ℕ, suc, true, List, [], ◌∷◌, Bool, ◌&&◌, Option, map}
 use Rattle.std.specs.List.{filter, list_any}
@@ -31,7 +31,8 @@ is_held_again g = is_writethrough g && is_reloaded g
 
 -- sets count from the opening
 abbrev pub sets_begun : Tier → List SetState
-sets_begun t = map (λ (g : Group). record { interval = g.def.interval; refreshed = t.now }) (filter is_read_only t.groups)
+sets_begun t =
+    map (λ (g : Group). record { interval = g.def.interval; refreshed = t.now }) (filter is_read_only t.groups)
 
 abbrev pub with_sets_begun : Tier → Tier
 with_sets_begun t = record t { sets = sets_begun t }
@@ -56,7 +57,8 @@ HoldsAgainAt place = ReadsFirst as_it_was (λ n. Becomes (λ v. changed (alone p
 -- the writethrough ones among these groups, which stand from a place on, one after the other
 abbrev pub HoldAgain : ℕ → List Group → Stage
 HoldAgain place [] = Passes
-HoldAgain place (g ∷ groups) = ThenStage (OnlyWhere (is_held_again g) (HoldsAgainAt place)) (HoldAgain (suc place) groups)
+HoldAgain place (g ∷ groups) =
+    ThenStage (OnlyWhere (is_held_again g) (HoldsAgainAt place)) (HoldAgain (suc place) groups)
 
 abbrev pub Reloads : Stage
 Reloads w w' stop = ThenStage ViewsAgain (HoldAgain 0 w.tier.groups) w w' stop

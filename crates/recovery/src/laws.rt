@@ -34,8 +34,8 @@ ghost use Rattle.recovery.specs.Journalled.{CrashLeaves, IsFlushed, IsFlushedWit
 ghost use Rattle.recovery.specs.Recalling.{AreMatched, RecallsAll, group_of, recalled, with_loaded};
 
 /// Where a journal's entries and a history belong together, the tier that the entries leave stands over the history,
-/// with no session, and the entries' commits unsettled (`stands`). It shows what a tier shows that has no group: nothing
-/// is loaded yet (`bare`).
+/// with no session, and the entries' commits unsettled (`stands`). It shows what a tier shows that has no group:
+/// nothing is loaded yet (`bare`).
 pub fn recalled_law()
     ensures stands { (w : World) (entries : List JournalEntry) (settings : Settings) (moment : ℕ) (t : Tier)
         (m : AreMatched entries w.history) → RecallsAll entries (opened settings moment m.backing.schema) t
@@ -50,10 +50,10 @@ pub fn recalled_law()
 /// tail is flushed (`flushes`), or with a definition, a drop, a STATE or a flag behind it (`definitions`, `drops`,
 /// `states`, `flags`), where a round is done, with the tail flushed before, and transactions of others come (`round`),
 /// where a synchronous transaction's record is flushed (`prepares`) and it comes (`applies`), where the number of a
-/// write that is passed on is flushed (`numbers`) and it comes (`passes`), where transactions of others come that change
-/// no table of a live writethrough group, as in a call of the bank that reads (`others`, `reads`), where a table is
-/// defined whose foreign key refers to no table of such a group, whether the tier has been told or not (`tables`), where
-/// a slot is begun anew and nothing is unsettled (`rotates`), and where the tier changes in what no entry tells
+/// write that is passed on is flushed (`numbers`) and it comes (`passes`), where transactions of others come that
+/// change no table of a live writethrough group, as in a call of the bank that reads (`others`, `reads`), where a table
+/// is defined whose foreign key refers to no table of such a group, whether the tier has been told or not (`tables`),
+/// where a slot is begun anew and nothing is unsettled (`rotates`), and where the tier changes in what no entry tells
 /// (`quiet`). What was held is held.
 pub fn journalled_law()
     ensures commits { (w : World) (early : List Sealed) (s : Session) → Stands w → IsJournalled w early

@@ -34,7 +34,8 @@ use Rattle.stored_tier.specs.Grouping.{IsBareStore}
 use Rattle.stored_tier.specs.Moments.{refreshed_in, set_seen}
 use Rattle.stored_tier.specs.Naming.{AreNamed}
 use Rattle.stored_tier.specs.Performing.{StandsFor}
-use Rattle.stored_tier.specs.Stored.{AreKept, AreWhole, HaveOwnNames, IsSound, IsStoredAs, are_later, first_unsettled, is_plain, without_list}
+use Rattle.stored_tier.specs.Stored.{AreKept, AreWhole, IsSound, IsStoredAs, are_later, first_unsettled, pace_of, without_list}
+use Rattle.group_catalog.specs.Catalogs.{HaveOwnNames, is_plain}
 use Rattle.stored_tier.proofs.FillSteps.{take_one, take_past}
 use Rattle.stored_tier.proofs.StoreChanges.{all_over_for}
 use Rattle.stored_tier.proofs.StoreRows.{are_kept, shows_kept}
@@ -187,7 +188,7 @@ each_bare : (gs : List Group) → Each (λ (g : Group). g.keys ≡ []) gs → Ea
 each_bare [] keys read = tt
 each_bare (g ∷ gs) keys read = (record { keys = keys.0; position = read.0 }, each_bare gs keys.1 read.1)
 
-module _ (start : Start) (a : Tier) (begins : BeginsAs start a) (t : Stored) (built : IsBuilt t start.schema (groups_in start.catalog) start.next start.now.0 start.propagate_ms) (sound : IsSound t) (w : World) (is : w.tier ≡ settled_tier [] a) (stands : Stands w) where
+module _ (start : Start) (a : Tier) (begins : BeginsAs start a) (t : Stored) (built : IsBuilt t start.schema (groups_in start.catalog) start.next start.now.0 start.pace) (sound : IsSound t) (w : World) (is : w.tier ≡ settled_tier [] a) (stands : Stands w) where
   groups_are : w.tier.groups ≡ groups_in start.catalog
   groups_are = ap (λ (x : Tier). x.groups) is ∙ begins.groups
 
@@ -206,7 +207,7 @@ module _ (start : Start) (a : Tier) (begins : BeginsAs start a) (t : Stored) (bu
       tried = ap (λ (x : Tier). x.round) is ∙ begins.now ∙ sym built.clock.round;
       refreshes = λ interval. ap (λ (l : List SetState). refreshed_in l interval)
           (ap (λ (x : Tier). x.sets) is ∙ begins.sets ∙ (λ i. sets_from (begins.now i) (begins.groups i)) ∙ sym built.clock.sets);
-      due = ap (λ (x : Tier). x.settings.propagate_ms) is ∙ begins.due ∙ sym built.clock.due;
+      due = ap (λ (x : Tier). pace_of x.settings) is ∙ begins.due ∙ sym built.clock.due;
     };
   }
 

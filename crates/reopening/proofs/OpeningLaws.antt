@@ -1,6 +1,6 @@
 -- A tier that is opened again: the round, and then its rows.
 use Rattle.std.proofs.Common.{◌≡◌, ℕ, suc, Option, Some, None, List, [], ◌∷◌, refl, ap, subst, ◌∙◌}
-use Rattle.std.specs.Prelude.{Result, Ok, Err}
+use Rattle.std.specs.Prelude.{IfErr, Result, Ok, Err}
 use Rattle.std.specs.Bool.{MatchBool}
 use Rattle.tier_base.specs.declared.code.Code.TheVariants as code
 use Rattle.table_state.specs.declared.history.Sealed.{Sealed}
@@ -18,7 +18,7 @@ use Rattle.stored_tier.specs.Performing.{Performs}
 use Rattle.stored_tier.specs.Stored.{IsSound}
 use Rattle.reopening.specs.Building.{IsBuilt, IsSettled, SettlesCommits, settled_tier}
 use Rattle.reopening.specs.Reloading.{held_again}
-use Rattle.reopening.specs.Starting.{OpensAgain, Refilled, Refills, ReopensFrom, end_told, fault_of}
+use Rattle.reopening.specs.Starting.{DiffersAs, IsOfCall, OpensAgain, Refilled, Refills, ReopensFrom, end_told, fault_of}
 use Rattle.reopening.specs.declared.start.ReopenError.{ReopenError}
 use Rattle.reopening.specs.declared.start.ReopenError.TheVariants as error
 use Rattle.reopening.specs.declared.start.Start.{Start}
@@ -116,7 +116,7 @@ end_same left w v (error.Differs table key) is = ap (λ a. round_stop a (end_tol
 end_same left w v error.Memory is = refl
 
 pub opened_with : (start : Start) (left : List Sealed) (before mid behind : SiteState) (t : Stored) (result : Result Stored ReopenError) → SettlesCommits start.commits.items left before mid (let r : Result (Unit {0}) ReopenError = Ok tt in r) → left ≡ []
-    → IsBuilt t start.schema (groups_in start.catalog) start.next start.now.0 start.propagate_ms → IsSound t → Refills t mid behind result → ReopensFrom start before behind result
+    → IsBuilt t start.schema (groups_in start.catalog) start.next start.now.0 start.pace → IsSound t → Refills t mid behind result → ReopensFrom start before behind result
 opened_with start left before mid behind t result settles none built sound refills w at stands apart begins = by result (refills r.world r.at (stands_built start w.tier begins t built sound r.world tier_is r.stands) r.apart)
   where
     r : IsSettled left mid w Rattle.cache_tier.specs.Rounds.Drained
@@ -133,3 +133,16 @@ opened_with start left before mid behind t result settles none built sound refil
           at = did.at;
           is = record { mid = r.world; stop = None; first = r.does; next = subst (λ s. Reloads r.world did.world s) (end_same left w r.world e r.tier) did.is };
         }
+
+-- WHY A ROW DIFFERS
+
+-- a fault of a call is no row that differs
+pub of_call : (e : BankError) → IsOfCall (fault_of e)
+of_call bank.Failed = tt
+of_call bank.Memory = tt
+
+pub differs_not : (commits : List Sealed) (before behind : SiteState) (result : Result Stored ReopenError) → IfErr result IsOfCall → IfErr result (DiffersAs commits before behind)
+differs_not commits before behind (Ok t) of = tt
+differs_not commits before behind (Err error.Failed) of = tt
+differs_not commits before behind (Err (error.Differs table key)) of = absurd of
+differs_not commits before behind (Err error.Memory) of = tt

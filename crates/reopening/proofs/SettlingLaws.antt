@@ -1,12 +1,16 @@
 -- The round with which a tier is opened again: it is the abstract tier's, behind which that stands.
 use Rattle.std.proofs.Common.{◌≡◌, ◌≤◌, ℕ, ◌+◌, ◌-◌, ◌^◌, min, not, List, length, filter, refl, sym, ap, subst, inl, inr}
-use Rattle.std.specs.Prelude.{Result, Err}
+use Rattle.std.specs.Prelude.{Option, Result, Some, None, Err}
+use Rattle.std.specs.Option.{IsSome}
+use Rattle.row_types.specs.declared.value.Value.{Value}
+use Rattle.tier_base.specs.declared.number.TableId.{TableId}
 use Rattle.table_state.specs.declared.history.Sealed.{Sealed}
 use Rattle.order_laws.specs.Commits.{RiseBetween}
 use Rattle.order_laws.specs.Standing.{live_tables}
+use Rattle.outside.specs.Calls as site
 use Rattle.outside.specs.Holding.{Held}
 use Rattle.outside.specs.Sites.{SiteState}
-use Rattle.propagators.specs.Rounds.{HoldsRound, Round as BankRound, doubts_at}
+use Rattle.propagators.specs.Rounds.{DifferedAt, HoldsRound, IsRestOf, Round as BankRound, doubts_at}
 use Rattle.propagators.specs.declared.rounds.RoundFault.{RoundFault}
 use Rattle.propagators.specs.declared.rounds.RoundFault.TheVariants as stop
 use Rattle.cache_tier.specs.Rounds.{AllLeft, Differing, Failing, RoundEnd, Wanting}
@@ -19,7 +23,7 @@ use Rattle.stored_tier.proofs.SettlingLaws.{AreLaws, RoundAt, unshared_live}
 use Rattle.stored_tier.proofs.StandingLaws.{stands_behind}
 use Rattle.reopening.specs.Building.{IsSettled, SettlesCommits, settled_tier}
 use Rattle.reopening.specs.declared.start.ReopenError.{ReopenError}
-use Rattle.reopening.specs.Starting.{TellsFault}
+use Rattle.reopening.specs.Starting.{DiffersAs, HasDiffered, TellsFault}
 
 -- the round as the world has it
 round_of : (w : World) (old left : List Sealed) (before : SiteState) (few : ℕ) (was now : Held) → w.shared ≡ before.shared → w.history ≡ was.history → w.tier.unsettled ≡ old → HoldsRound before.shared few old left was now → BankRound w.shared few w.tier.unsettled w.history left now.history
@@ -75,3 +79,25 @@ settled_told laws old left before after (stop.Differs table key) e round told = 
   | inl one ↦ subst (λ x. SettlesCommits old left before after (let r : Result (Unit {0}) ReopenError = Err x in r)) (sym one) (settled_with laws old left before after 0 (Differing table key) round tt)
   | inr other ↦ subst (λ x. SettlesCommits old left before after (let r : Result (Unit {0}) ReopenError = Err x in r)) (sym other) (settled_with laws old left before after 0 Wanting round tt)
 ]
+
+-- what the site still tells
+told_still : (was new : Option Held) (step : Held → Held → Type 0) → IsSome was → site.Told was new step → (held : Held) × (new ≡ Some held)
+told_still None new step some told = cc
+told_still (Some old) None step some told = absurd told
+told_still (Some old) (Some held) step some told = (held, refl)
+
+-- a row that differs is told as the round found it
+pub differs_told : (commits left : List Sealed) (before after : SiteState) (few : ℕ) (fault : RoundFault) (e : ReopenError) → RoundAt commits left before after few → IsRestOf commits left
+    → ((table : TableId) (key : List Value) → (let r : Result ℕ RoundFault = Err fault in r) ≡ Err (stop.Differs table key) → IsSome before.held → (held : Held) → after.held ≡ Some held → DifferedAt before.shared table key left held.history)
+    → TellsFault fault e → DiffersAs commits before after e
+differs_told commits left before after few stop.Failed e round rest differs told = subst (DiffersAs commits before after) (sym told) tt
+differs_told commits left before after few stop.Memory e round rest differs told = subst (DiffersAs commits before after) (sym told) tt
+differs_told commits left before after few (stop.Differs table key) e round rest differs told = elim told [
+  | inl one ↦ subst (DiffersAs commits before after) (sym one) found
+  | inr other ↦ subst (DiffersAs commits before after) (sym other) tt
+]
+  where
+    found : IsSome before.held → HasDiffered before.shared table key commits after
+    found some =
+        let still = told_still before.held after.held (HoldsRound before.shared few commits left) some round.told in
+        record { held = still.0; told = still.1; left = left; rest = rest; differed = differs table key refl some still.0 still.1 }

@@ -23,7 +23,8 @@ use Rattle.recovery.specs.Reopening.{ViewsAgain, is_held_again, is_viewed_again}
 use Rattle.stored_tier.specs.declared.tier.Tier.{Tier as Stored}
 use Rattle.stored_tier.specs.Performing.{Performs, StandsFor}
 use Rattle.stored_tier.specs.Refreshing.{is_filled, is_shown_again, positioned}
-use Rattle.stored_tier.specs.Stored.{IsSound, IsStoredAs, is_plain, without_list}
+use Rattle.stored_tier.specs.Stored.{IsSound, IsStoredAs, without_list}
+use Rattle.group_catalog.specs.Catalogs.{is_plain}
 use Rattle.group_engine.specs.declared.fresh.Fresh.{Fresh}
 use Rattle.group_engine.specs.Fresh.{AreFresh, ReadsFresh}
 use Rattle.group_engine.proofs.FreshLaws.{Changes, IsRefreshed, all_there, stands_behind}

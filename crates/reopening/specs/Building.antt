@@ -14,6 +14,7 @@ use Rattle.cache_tier.specs.Rounds.{Applies, Drained, RoundEnd, round_stop}
 use Rattle.cache_tier.specs.StandingBetween.{Stands}
 use Rattle.cache_tier.specs.TierStates.{SetState, Tier, cut}
 use Rattle.cache_tier.specs.Worlds.{IsUnshared, World}
+use Rattle.stored_tier.specs.declared.clock.Pace.{Pace}
 use Rattle.stored_tier.specs.declared.clock.TierClock.{TierClock}
 use Rattle.stored_tier.specs.declared.tier.Tier.{Tier as Stored}
 use Rattle.stored_tier.specs.Grouping.{IsBareStore}
@@ -37,16 +38,16 @@ abbrev pub sets_from : ℕ → List Group → List SetState
 sets_from now groups = map (set_from now) (filter is_read_only groups)
 
 -- the clock of a tier with these groups that is opened at a moment
-pub record IsBegunClock (c : TierClock) (groups : List Group) (moment propagate_ms : ℕ) : Type 0 where
+pub record IsBegunClock (c : TierClock) (groups : List Group) (moment : ℕ) (pace : Pace) : Type 0 where
   pub now : c.now ≡ cut moment
   pub added : c.added ≡ 0
   pub round : c.round ≡ cut moment
   pub sets : map set_seen c.sets.items ≡ sets_from (cut moment) groups
-  pub due : c.propagate_ms ≡ propagate_ms
+  pub due : c.pace ≡ pace
 
 -- nothing is unsettled, no session is open, and no row is kept
-pub record IsBuilt (t : Stored) (schema : List TableDef) (groups : List Group) (next moment propagate_ms : ℕ)
-    : Type 0 where
+pub record IsBuilt (t : Stored) (schema : List TableDef) (groups : List Group) (next moment : ℕ)
+    (pace : Pace) : Type 0 where
   pub schema_is : t.schema ≡ schema
   pub told : t.stale ≡ false
   pub groups_are : groups_in t.catalog ≡ groups
@@ -54,7 +55,7 @@ pub record IsBuilt (t : Stored) (schema : List TableDef) (groups : List Group) (
   pub sessions : seen_all t.sessions ≡ []
   pub unsettled : t.unsettled.items ≡ []
   pub next_is : t.next ≡ next
-  pub clock : IsBegunClock t.clock groups moment propagate_ms
+  pub clock : IsBegunClock t.clock groups moment pace
 
 -- the tier whose round left these unsettled
 abbrev pub settled_tier : List Sealed → Tier → Tier

@@ -1,14 +1,20 @@
 -- What a tier is opened again with, the abstract tier that begins so, and what opening it leaves. (TimesTen Cache
 -- User's Guide, "Recovery"; that sets count from the opening, and that no session is open, is this project's rule.)
 
-use Rattle.std.specs.Prelude.{◌≡◌, ◌⊎◌, ◌≤◌, [], None, true, false, Result, Ok, Err}
+use Rattle.std.specs.Prelude.{◌≡◌, ◌⊎◌, ◌≤◌, List, [], Some, None, true, false, Result, Ok, Err}
 use Rattle.std.specs.List.{list_all}
+use Rattle.std.specs.Option.{IsSome}
 use Rattle.std.specs.Result.{IsErrOf}
+use Rattle.row_types.specs.declared.value.Value.{Value}
+use Rattle.tier_base.specs.declared.number.TableId.{TableId}
+use Rattle.table_state.specs.declared.history.Sealed.{Sealed}
 use Rattle.outside.specs.Faults.{Rose}
+use Rattle.outside.specs.Holding.{Held}
 use Rattle.outside.specs.Sites.{SiteState}
 use Rattle.outside.specs.declared.fault.BankError.{BankError}
 use Rattle.outside.specs.declared.fault.BankError.TheVariants as bank
 use Rattle.order_laws.specs.Commits.{RiseBetween}
+use Rattle.propagators.specs.Rounds.{DifferedAt, IsRestOf}
 use Rattle.propagators.specs.declared.rounds.RoundFault.{RoundFault}
 use Rattle.propagators.specs.declared.rounds.RoundFault.TheVariants as stop
 use Rattle.group_catalog.specs.Catalogs.{groups_in}
@@ -21,10 +27,11 @@ use Rattle.recovery.specs.Reopening.{Reloads, Reopens, sets_begun}
 use Rattle.stored_tier.specs.declared.tier.Tier.{Tier as Stored}
 use Rattle.stored_tier.specs.Performing.{IsPerformed, KeepsSlots, StandsFor}
 use Rattle.stored_tier.specs.Sites.{IsAt}
-use Rattle.stored_tier.specs.Stored.{HaveOwnNames, is_plain}
+use Rattle.group_catalog.specs.Catalogs.{HaveOwnNames, is_plain}
 use Rattle.reopening.specs.declared.start.ReopenError.{ReopenError}
 use Rattle.reopening.specs.declared.start.ReopenError.TheVariants as error
 use Rattle.reopening.specs.declared.start.Start.{Start}
+use Rattle.stored_tier.specs.Stored.{pace_of}
 
 -- The groups are such as the tier does, no two of them have one name, and tickets begin at 1.
 pub record IsInOrder (start : Start) : Type 0 where
@@ -52,7 +59,7 @@ pub record BeginsAs (start : Start) (a : Tier) : Type 0 where
   pub now : a.now ≡ cut start.now.0
   pub added : a.added ≡ 0
   pub round : a.round ≡ cut start.now.0
-  pub due : a.settings.propagate_ms ≡ start.propagate_ms
+  pub due : pace_of a.settings ≡ start.pace
 
 -- why it can't be opened, as the end of a round
 abbrev pub end_told : ReopenError → RoundEnd
@@ -65,6 +72,29 @@ abbrev pub TellsFault : RoundFault → ReopenError → Type 0
 TellsFault stop.Failed e = e ≡ error.Failed
 TellsFault stop.Memory e = e ≡ error.Memory
 TellsFault (stop.Differs table key) e = (e ≡ error.Differs table key) ⊎ (e ≡ error.Memory)
+
+-- The site tells what it holds. Of these commits a rear is left, whose first wasn't in the history and didn't apply
+-- as it was tried: this row of this table is the first that differs.
+pub record HasDiffered (shared : List TableId) (table : TableId) (key : List Value) (commits : List Sealed)
+    (site : SiteState) : Type 0 where
+  pub held : Held
+  pub told : site.held ≡ Some held
+  pub left : List Sealed
+  pub rest : IsRestOf commits left
+  pub differed : DifferedAt shared table key left held.history
+
+-- so it is where a row is told to differ, and the site told what it held
+abbrev pub DiffersAs : List Sealed → SiteState → SiteState → ReopenError → Type 0
+DiffersAs commits before behind error.Failed = Unit {0}
+DiffersAs commits before behind (error.Differs table key) =
+    IsSome before.held → HasDiffered before.shared table key commits behind
+DiffersAs commits before behind error.Memory = Unit {0}
+
+-- no row is told to differ
+abbrev pub IsOfCall : ReopenError → Type 0
+IsOfCall error.Failed = Unit {0}
+IsOfCall (error.Differs table key) = ⊥
+IsOfCall error.Memory = Unit {0}
 
 -- the fault of a call of the bank
 abbrev pub fault_of : BankError → ReopenError

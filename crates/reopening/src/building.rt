@@ -6,7 +6,8 @@ ghost use Rattle.cache_tier.specs.TierStates.{cut};
 ghost use Rattle.group_catalog.specs.Catalogs.{groups_in};
 ghost use Rattle.group_catalog.specs.Kept.{group_seen};
 ghost use Rattle.stored_tier.specs.Moments.{set_seen};
-ghost use Rattle.stored_tier.specs.Stored.{HaveOwnNames, IsSound, is_plain};
+ghost use Rattle.stored_tier.specs.Stored.{IsSound};
+ghost use Rattle.group_catalog.specs.Catalogs.{HaveOwnNames, is_plain};
 ghost use Rattle.reopening.specs.Building.{AreBare, IsBegunClock, IsBuilt, sets_from};
 
 use group_catalog::{Catalog, KeptGroup};
@@ -16,7 +17,7 @@ use open_sessions::Sessions;
 use pending_writes::PendingWrites;
 use std::alloc::{AllocError, Global};
 use std::collections::VecDeque;
-use stored_tier::clock::TierClock;
+use stored_tier::clock::{Pace, TierClock};
 use stored_tier::moments::SetMoment;
 use stored_tier::naming::name_tables;
 use stored_tier::refreshing::is_read_only;
@@ -32,17 +33,17 @@ pub(crate) fn built_tier(
     catalog: Catalog,
     next: u64,
     now: Moment,
-    propagate_ms: u64,
+    pace: Pace,
 ) -> Result<Tier, AllocError>
     requires plain { list_all is_plain (groups_in catalog) ≡ true }
     requires named { HaveOwnNames (groups_in catalog) }
     requires first { 1 ≤ next }
-    ensures built { IfOk result (λ tier. IsBuilt tier schema (groups_in catalog) next now.0 propagate_ms) }
+    ensures built { IfOk result (λ tier. IsBuilt tier schema (groups_in catalog) next now.0 pace) }
     ensures sound { IfOk result IsSound }
 {
     let stores = bare_stores(alloc, schema.as_slice(), &catalog)?;
     let (visible, directory) = name_tables(alloc, &catalog, stores.as_slice(), schema.as_slice())?;
-    let clock = begun_clock(alloc, &catalog, now, propagate_ms)?;
+    let clock = begun_clock(alloc, &catalog, now, pace)?;
     Ok(Tier {
         schema,
         visible,
@@ -83,9 +84,9 @@ fn begun_clock(
     alloc: Global,
     catalog: &Catalog,
     now: Moment,
-    propagate_ms: u64,
+    pace: Pace,
 ) -> Result<TierClock, AllocError>
-    ensures { IfOk result (λ clock. IsBegunClock clock (groups_in catalog.now) now.0 propagate_ms) }
+    ensures { IfOk result (λ clock. IsBegunClock clock (groups_in catalog.now) now.0 pace) }
 {
     let now = now.0.min(Limit::Clock.number());
     Ok(TierClock {
@@ -93,7 +94,7 @@ fn begun_clock(
         added: 0,
         round: now,
         sets: begun_sets(alloc, catalog, now)?,
-        propagate_ms,
+        pace,
     })
 }
 

@@ -1,9 +1,9 @@
 //! A tier is opened again.
 
-ghost use Rattle.std.specs.Prelude.{◌≡◌, [], IfOk};
+ghost use Rattle.std.specs.Prelude.{◌≡◌, [], IfErr, IfOk};
 ghost use Rattle.propagators.specs.Certainty.{KeepsCertain};
 ghost use Rattle.stored_tier.specs.Stored.{IsSound};
-ghost use Rattle.reopening.specs.Starting.{IsInOrder, IsReopenCaused, Refills, ReopensFrom};
+ghost use Rattle.reopening.specs.Starting.{DiffersAs, IsInOrder, IsOfCall, IsReopenCaused, Refills, ReopensFrom};
 
 use crate::building::built_tier;
 use crate::reloading::reload;
@@ -19,8 +19,8 @@ use stored_tier::tier::Tier;
 /// session is open, and sets count from this moment. The journal isn't written to.
 ///
 /// `Failed` only where a call of the bank failed, and the count of its faults rose in this call; `Differs` with the
-/// table and the key where a backing row isn't as a commit tells; `Memory` where memory was wanting. There is no tier
-/// then, and what was applied at the bank stands there.
+/// table and the key only where a backing row wasn't as a commit tells, as that was tried; `Memory` where memory was
+/// wanting. There is no tier then, and what was applied at the bank stands there.
 ///
 /// (TimesTen Cache User's Guide, "Recovery"; that the rows of all groups whose flag is set come back is this project's
 /// rule.)
@@ -31,18 +31,21 @@ pub fn reopen<P: Site>(alloc: Global, site: &mut P, start: Start) -> Result<Tier
         (P.Disk.state site.new)
         result }
     ensures sound { IfOk result IsSound }
+    ensures differs { IfErr result (DiffersAs start.commits.items
+        (P.Disk.state site.old)
+        (P.Disk.state site.new)) }
     ensures cause { IsReopenCaused
         (P.Disk.state site.old)
         (P.Disk.state site.new)
         result }
     ensures certain { KeepsCertain P.Disk.state P.Disk.possible site.old site.new }
 {
-    let (next, now, propagate_ms) = (start.next, start.now, start.propagate_ms);
+    let (next, now, pace) = (start.next, start.now, start.pace);
     let (schema, catalog, commits) = start.into_parts();
     let mut commits = commits;
     match settle_commits(alloc, site, &mut commits) {
         Err(error) => Err(error),
-        Ok(()) => match built_tier(alloc, schema, catalog, next, now, propagate_ms) {
+        Ok(()) => match built_tier(alloc, schema, catalog, next, now, pace) {
             Err(_) => Err(ReopenError::Memory),
             Ok(tier) => refill(tier, alloc, site),
         },
@@ -58,6 +61,7 @@ fn refill<P: Site>(tier: Tier, alloc: Global, site: &mut P) -> Result<Tier, Reop
         (P.Disk.state site.new)
         result }
     ensures sound { IfOk result IsSound }
+    ensures call { IfErr result IsOfCall }
     ensures cause { IsReopenCaused
         (P.Disk.state site.old)
         (P.Disk.state site.new)

@@ -1,9 +1,9 @@
 //! The round with which a tier is opened again, before it is built.
 
-ghost use Rattle.std.specs.Prelude.{◌≡◌, OnOk, []};
+ghost use Rattle.std.specs.Prelude.{◌≡◌, IfErr, OnOk, []};
 ghost use Rattle.propagators.specs.Certainty.{KeepsCertain};
 ghost use Rattle.reopening.specs.Building.{SettlesCommits};
-ghost use Rattle.reopening.specs.Starting.{IsReopenCaused};
+ghost use Rattle.reopening.specs.Starting.{DiffersAs, IsReopenCaused};
 
 use crate::start::{ReopenError, told_of};
 use cache_tier::round_shown_law;
@@ -28,6 +28,9 @@ pub(crate) fn settle_commits<P: Site>(
         (P.Disk.state site.new)
         result }
     ensures all { OnOk result (commits.new.items ≡ []) }
+    ensures differs { IfErr result (DiffersAs commits.old.items
+        (P.Disk.state site.old)
+        (P.Disk.state site.new)) }
     ensures cause { IsReopenCaused
         (P.Disk.state site.old)
         (P.Disk.state site.new)

@@ -9,6 +9,7 @@ use propagators::RoundFault;
 use row_types::Key;
 use std::alloc::Global;
 use std::collections::VecDeque;
+use stored_tier::clock::Pace;
 use table_defs::BackingSchema;
 use table_state::Sealed;
 use tier_base::{Moment, TableId};
@@ -26,8 +27,8 @@ pub struct Start {
     pub next: u64,
     /// The moment of the opening.
     pub now: Moment,
-    /// After how many milliseconds a round is due; 0 where none ever is.
-    pub propagate_ms: u64,
+    /// When work is done.
+    pub pace: Pace,
 }
 
 impl Drop for Start {
@@ -38,7 +39,7 @@ impl Drop for Start {
             commits: _,
             next: _,
             now: _,
-            propagate_ms: _,
+            pace: _,
         } = self;
     }
 }
@@ -56,7 +57,7 @@ impl Start {
             commits,
             next: _,
             now: _,
-            propagate_ms: _,
+            pace: _,
         } = self;
         (schema, catalog, commits)
     }

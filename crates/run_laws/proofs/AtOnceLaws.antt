@@ -210,8 +210,8 @@ module _ (laws : AreLaws) (w : World) (s : Session) (stands : Stands w) (unshare
 abbrev pub FailedStep : Sealed → List Entry → List Entry → Type 0
 FailedStep x = AppliesOnce x [] (Err Failed)
 
-abbrev pub joined : (shared : List TableId) (x : Sealed) (a b c : List Entry) → Around shared (FailedStep x) a b → CameBy shared b c → Around shared (FailedStep x) a c
-joined shared x a b c first came = record {
+abbrev pub joined : (shared : List TableId) (step : List Entry → List Entry → Type 0) (a b c : List Entry) → Around shared step a b → CameBy shared b c → Around shared step a c
+joined shared step a b c first came = record {
   before = first.before;
   middle = first.middle;
   behind = first.behind ++ came.entries;

@@ -30,13 +30,13 @@ use Rattle.cache_tier.specs.Groups.{Group, covers, definitions_of, is_writethrou
 use Rattle.cache_tier.specs.Order.{refusal}
 use Rattle.cache_tier.specs.StandingBetween.{Each, HasNoTableOf, HaveOwnTables, IsCatalogued, Stands, live_groups_of}
 use Rattle.cache_tier.specs.Steps.{tells}
-use Rattle.cache_tier.specs.TierStates.{Doubt, Session, Tier}
+use Rattle.cache_tier.specs.TierStates.{ACommit, APassedWrite, Doubt, Doubted, Session, Tier}
 use Rattle.cache_tier.specs.Worlds.{World}
 use Rattle.cache_tier.proofs.HistoryKeeps.{root_covers}
 use Rattle.recovery.specs.Journalled.{IsJournalledOn}
 use Rattle.recovery.specs.Recalling.{group_of}
 use Rattle.line_laws.proofs.CommitStatements.{creates_made}
-use Rattle.run_laws.specs.Lines.{IsLeft, IsLeftBy}
+use Rattle.run_laws.specs.Lines.{IsInDoubt, IsLeft, IsLeftBy}
 use Rattle.run_laws.proofs.ReadyLaws.{Ready}
 
 -- ---- the last of the groups
@@ -75,7 +75,7 @@ closed_last (x ∷ gs) g schema through closed = by (is_writethrough x) closed (
     by true are rest = rest are.1
     by false are rest = rest are
 
--- ---- the catalog of a tier that stands, or of which a commit is in doubt
+-- ---- the catalog of a tier that stands, or of which a ticket is in doubt
 
 pub record IsInOrder (t : Tier) : Type 0 where
   pub each : Each (IsCatalogued t.schema) t.groups
@@ -99,9 +99,15 @@ order_left w x = by w.tier.doubt x
   where
     by : (o : Option Doubt) → IsLeftBy o w → IsInOrder w.tier
     by None x = order_stands w x
-    by (Some d) x =
-        let o = order_stands x.was x.stands in
-        subst IsInOrder (sym x.tier) (record { each = o.each; apart = o.apart; closed = o.closed })
+    by (Some d) x = of d.of x
+      where
+        of : (k : Doubted) → IsInDoubt k w → IsInOrder w.tier
+        of ACommit x =
+            let o = order_stands x.was x.stands in
+            subst IsInOrder (sym x.tier) (record { each = o.each; apart = o.apart; closed = o.closed })
+        of APassedWrite x =
+            let o = order_stands x.was x.stands in
+            subst IsInOrder (sym x.tier) (record { each = o.each; apart = o.apart; closed = o.closed })
 
 -- ---- the tables of a definition that the tier asks for
 

@@ -17,17 +17,17 @@ use Rattle.cache_tier.proofs.CommitLaws.{session_commits}
 use Rattle.cache_tier.proofs.HistoryKeeps.{others_go_on, round_goes_on}
 use Rattle.cache_tier.proofs.SessionLaws.{session_rolls_back}
 use Rattle.line_laws.proofs.OtherLaws.{others_tickets}
-use Rattle.run_laws.specs.Lines.{IsInDoubt}
+use Rattle.run_laws.specs.Lines.{CommitIsInDoubt}
 use Rattle.run_laws.proofs.AtOnceLaws.{AreLaws, CameBy, FailedStep, came_by, came_stands, came_to, joined, none_came, ops_there, stands_within, unused}
 use Rattle.run_laws.proofs.StandLaws.{IsSeenAs, seen_as, stands_seen}
 
-laws : AreLaws
+pub laws : AreLaws
 laws = record { commit = session_commits; others = others_go_on; round = round_goes_on; skip = flow_skips }
 
-recorded : (ticket : ℕ) (b : Bool) (old new : List Entry) → TellsRecorded ticket (Ok b) old new → Grows [] old new
+pub recorded : (ticket : ℕ) (b : Bool) (old new : List Entry) → TellsRecorded ticket (Ok b) old new → Grows [] old new
 recorded ticket b old new t = t.0
 
-module _ (w : World) (x : IsInDoubt w) where
+module _ (w : World) (x : CommitIsInDoubt w) where
   abbrev pub was : World
   was = x.was
 
@@ -46,7 +46,7 @@ module _ (w : World) (x : IsInDoubt w) where
   -- what came since, with others behind it
   module _ (h : List Entry) (more : CameBy w.shared w.history h) where
     abbrev pub around : Around was.shared (FailedStep own_sealed) was.history h
-    around = joined was.shared own_sealed was.history w.history h x.call.history (subst (λ tables. CameBy tables w.history h) x.call.shared more)
+    around = joined was.shared (FailedStep own_sealed) was.history w.history h x.call.history (subst (λ tables. CameBy tables w.history h) x.call.shared more)
 
     -- it didn't come
     module _ (grows : Grows [] (was.history ++ around.before) around.middle) where

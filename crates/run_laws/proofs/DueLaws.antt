@@ -1,5 +1,5 @@
 -- What is due before a line keeps what holds where a part begins.
-use Rattle.std.proofs.Common.{◌≡◌, ◌⊎◌, inl, inr, ℕ, ◌+◌, ◌≤◌, zero, suc, Bool, true, false, cond, ◌&&◌, ◌||◌, not, is_none, Option, Some, None, Result, Ok, Err, List, [], ◌∷◌, ◌++◌, map, filter, length, take, refl, sym, ap, subst, ◌∙◌, arith, append-nil}
+use Rattle.std.proofs.Common.{◌≡◌, inl, inr, ℕ, ◌+◌, ◌≤◌, zero, suc, Bool, true, false, cond, ◌&&◌, ◌||◌, not, is_none, Option, Some, None, Result, Ok, Err, List, [], ◌∷◌, ◌++◌, map, filter, length, take, refl, sym, ap, subst, ◌∙◌, arith, append-nil}
 use Rattle.std.specs.List.{list_all}
 use Rattle.std.proofs.lemmas.List.{length-append}
 use Rattle.table_state.specs.declared.history.Entry.{Entry}
@@ -16,7 +16,6 @@ use Rattle.cache_tier.specs.Aging.{aged, is_aged_by, is_aging_due}
 use Rattle.cache_tier.specs.ConsoleSteps.{Asked, AsksSchema, asks_schema, told}
 use Rattle.cache_tier.specs.declared.reply.Note.{Note}
 use Rattle.cache_tier.specs.declared.reply.Reply.{Reply}
-use Rattle.cache_tier.specs.DoubtSteps.{settled}
 use Rattle.cache_tier.specs.DueWork.{DueAging, DueRound, DueSets, DueSetsOf, ItemFollows, Noted, due_sets, is_round_due}
 use Rattle.cache_tier.specs.Events.{at_history, with_tier}
 use Rattle.cache_tier.specs.Groups.{Group, is_read_only}
@@ -34,7 +33,7 @@ use Rattle.cache_tier.proofs.SetLaws.{refresh_has_one_position}
 use Rattle.cache_tier.proofs.TableLaws.{schema_is_told}
 use Rattle.recovery.specs.Journalled.{AreAlike, IsJournalledOn}
 use Rattle.recovery.proofs.JournalledLaws.{alike_self}
-use Rattle.line_laws.specs.Keeping.{RenewsSettled, is_broken}
+use Rattle.line_laws.specs.Keeping.{is_broken}
 use Rattle.line_laws.proofs.AskedLaws.{asks_kept}
 use Rattle.line_laws.proofs.DueStatements.{not_broken}
 use Rattle.line_laws.proofs.GroupStatements.{refreshes_if_shown}
@@ -100,9 +99,9 @@ round_sits w w' stop q = by q.stop q.next
           turn_tier next.mid w' next.turned next.rotates ∙ next.applies.tier ∙ ap (λ (t : Tier). record t { unsettled = rest; round = q.mid.tier.now }) first,
         )
 
-pub round_ready : (w w' : World) (early : List Sealed) (stop : Option Reply) → Ready w early → Round w w' stop → (stop ≡ None) ⊎ RenewsSettled w w' → is_broken stop ≡ false → ReadyOn w' early
-round_ready w w' early stop r q settled ok =
-    let g = (round_goes w w' early stop r.stands r.journalled r.unshared q settled ok).0 in
+pub round_ready : (w w' : World) (early : List Sealed) (stop : Option Reply) → Ready w early → Round w w' stop → is_broken stop ≡ false → ReadyOn w' early
+round_ready w w' early stop r q ok =
+    let g = (round_goes w w' early stop r.stands r.journalled r.unshared q ok).0 in
     ready_moved w w' early r.unshared r.ageless (record {
       shared = g.shared;
       alike = subst (λ (t : Tier). AreAlike w.tier.groups t.groups) (sym g.tier) (alike_self w.tier.groups);
@@ -110,11 +109,11 @@ round_ready w w' early stop r q settled ok =
       own = subst (λ (t : Tier). Each (λ (s : Session). IsOfOneKind w.tier.groups s.own) t.sessions) (sym g.tier) r.kinds.own;
     }) g.stands g.on
 
-pub due_round_ready : (w w' : World) (early : List Sealed) (notes : List Note) (stop : Option Reply) → Ready w early → DueRound w w' notes stop → RenewsSettled w w' → is_broken stop ≡ false → ReadyOn w' early
-due_round_ready w w' early notes stop r q settled ok = by (is_round_due w.tier) q.does
+pub due_round_ready : (w w' : World) (early : List Sealed) (notes : List Note) (stop : Option Reply) → Ready w early → DueRound w w' notes stop → is_broken stop ≡ false → ReadyOn w' early
+due_round_ready w w' early notes stop r q ok = by (is_round_due w.tier) q.does
   where
     by : (b : Bool) → OnlyWhere b Round w w' q.end → ReadyOn w' early
-    by true does = round_ready w w' early q.end r does (inr settled) (not_broken q.end (ap is_broken (sym q.ends) ∙ ok))
+    by true does = round_ready w w' early q.end r does (not_broken q.end (ap is_broken (sym q.ends) ∙ ok))
     by false does = ready_same w w' early does.0 r
 
 -- ---- a set

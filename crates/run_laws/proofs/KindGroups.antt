@@ -164,7 +164,7 @@ drops_kinds s name w w' early reply r there rests q = by (is_writethrough q.grou
         go None first next = last next
           where
             a : ReadyOn t.mid early
-            a = round_ready w t.mid early None r first (inl refl) refl
+            a = round_ready w t.mid early None r first refl
 
             same : (left : List Sealed × ℕ) × (t.mid.tier ≡ record w.tier { unsettled = left.0; round = left.1 })
             same = round_sits w t.mid None first
@@ -175,7 +175,7 @@ drops_kinds s name w w' early reply r there rests q = by (is_writethrough q.grou
               session = ap (λ (x : Tier). session_of x s.label) same.1 ∙ there;
               rests = rests;
               there = ap (λ (x : Tier). slice_get x.groups q.place) same.1 ∙ q.is;
-              settled = λ e. (Rattle.line_laws.proofs.RoundLaws.round_goes w t.mid early None r.stands r.journalled r.unshared first (inl refl) refl).1 refl;
+              settled = λ e. (Rattle.line_laws.proofs.RoundLaws.round_goes w t.mid early None r.stands r.journalled r.unshared first refl).1 refl;
             }
 
             last : Tries (DropsRest s q.group) t.mid w' reply → AreOfKinds w'.tier

@@ -1,5 +1,4 @@
 pub mod StandLaws
-pub mod LeadStatements
 pub mod KindLaws
 pub mod AtOnceLaws
 pub mod DoubtLaws
@@ -10,6 +9,8 @@ pub mod SitsStatements
 pub mod OffLaws
 pub mod KindParts
 pub mod RefusalLaws
+pub mod PassedShown
+pub mod WriteDoubtLaws
 pub mod CreateLaws
 pub mod KindStatements
 pub mod KindWrites

@@ -98,7 +98,7 @@ none_behind None other none = none
 none_behind (Some rule) other none = Prim.cc
 
 -- writes on tables that aren't live do nothing on live ones
-ops_off : (w : World) (changes : List Change) (ops : List Op) (rows : ℕ) (b s : TableState) → Stands w → AreApart (off_live (live_of w.tier)) changes → state_of w.history ≡ Some b → s.schema ≡ b.schema → IsDone changes ops rows s → are_off (live_of w.tier) ops ≡ true
+pub ops_off : (w : World) (changes : List Change) (ops : List Op) (rows : ℕ) (b s : TableState) → Stands w → AreApart (off_live (live_of w.tier)) changes → state_of w.history ≡ Some b → s.schema ≡ b.schema → IsDone changes ops rows s → are_off (live_of w.tier) ops ≡ true
 ops_off w changes ops rows b s x apart leaves same done =
     let backing : x.flow.stand.over.backing ≡ b = same_some (sym x.flow.stand.over.leaves ∙ leaves) in
     let schema : s.schema ≡ x.flow.stand.over.backing.schema = same ∙ ap (λ (y : TableState). y.schema) (sym backing) in

@@ -25,7 +25,6 @@ use Rattle.cache_tier.specs.TierStates.{Session, level_of, session_of}
 use Rattle.cache_tier.specs.Worlds.{Unless, World}
 use Rattle.cache_tier.specs.WriteSteps.{WritesBy, WritesPlaced}
 use Rattle.recovery.specs.Journalled.{IsJournalledOn}
-use Rattle.line_laws.specs.Keeping.{RenewsSettled}
 use Rattle.line_laws.proofs.AtOnceStatements.{commits_kept}
 use Rattle.line_laws.proofs.CommitStatements.{drops_kept}
 use Rattle.line_laws.proofs.ConsoleStatements.{console_kept}
@@ -40,34 +39,34 @@ use Rattle.run_laws.proofs.CreateLaws.{IsInOrder, creates_line}
 use Rattle.run_laws.proofs.RefusalLaws.{console_off, dropper_rests, its_own, meets, passed, refers_not}
 use Rattle.run_laws.proofs.ReadyLaws.{Ready}
 
-module _ (w w' : World) (early : List Sealed) (reply : Reply) (r : Ready w early) (settled : RenewsSettled w w') (ok : tells code.JournalFault reply.last ≡ false) where
+module _ (w w' : World) (early : List Sealed) (reply : Reply) (r : Ready w early) (ok : tells code.JournalFault reply.last ≡ false) where
   writes_placed : (s : Session) (o : Result PlacedChange Rule) → WritesPlaced s o w w' reply → IsJournalledOn w' early
   writes_placed s (Err rule) q = same_on w w' early q.0 r.journalled
   writes_placed s (Ok placed) q = by (write_route (level_of s) w.tier placed.table) refl q
     where
       by : (o : Result Route Rule) → write_route (level_of s) w.tier placed.table ≡ o → WritesBy o s placed w w' reply → IsJournalledOn w' early
       by (Err rule) e q = same_on w w' early q.0 r.journalled
-      by (Ok Cached) e q = writes_cached_kept s placed w w' early reply r.stands r.journalled r.unshared q settled ok
+      by (Ok Cached) e q = writes_cached_kept s placed w w' early reply r.stands r.journalled r.unshared q ok
       by (Ok PassedOn) e q = passes_on_kept s placed w w' early reply r.stands r.journalled r.unshared (passed w (level_of s) placed r.stands e) q ok
 
   calls : (s : Session) (o : Result Called Rule) → DoesCalled s o w w' reply → IsJournalledOn w' early
   calls s (Err rule) q = same_on w w' early q.0 r.journalled
-  calls s (Ok Drain) q = drains_kept w w' early reply r.stands r.journalled r.unshared q settled ok
+  calls s (Ok Drain) q = drains_kept w w' early reply r.stands r.journalled r.unshared q ok
   calls s (Ok (RefreshSet interval)) q = refreshes_called interval w w' early reply r.stands r.journalled r.unshared q ok
   calls s (Ok (SetLevel level)) q = sets_level_kept s.label level w w' early reply r.stands r.journalled r.unshared q ok
 
   module _ (after : IsInOrder w'.tier) where
     states : (label : List ℕ) (s : Session) (st : Stmt) → asks_schema w.tier (says.Session label (asks_for.Statement st)) ≡ false → session_of w.tier s.label ≡ Some s → refusal w.tier s st ≡ None → DoesStatement s st w w' reply → IsJournalledOn w' early
-    states label s (statement.Select query) asked there free q = selects_kept s query w w' early reply r.stands r.journalled r.unshared q settled ok
+    states label s (statement.Select query) asked there free q = selects_kept s query w w' early reply r.stands r.journalled r.unshared q ok
     states label s (statement.Write write) asked there free q = writes_placed s _ q
     states label s (statement.CreateGroup d) asked there free q = creates_line w w' early reply label s d r after asked free q ok
     states label s (statement.CreateIndex x) asked there free q = absurd q
-    states label s (statement.Load load) asked there free q = loads_kept load w w' early reply r.stands r.journalled r.unshared q settled ok
-    states label s (statement.Refresh load) asked there free q = refreshes_kept load w w' early reply r.stands r.journalled r.unshared q settled ok
+    states label s (statement.Load load) asked there free q = loads_kept load w w' early reply r.stands r.journalled r.unshared q ok
+    states label s (statement.Refresh load) asked there free q = refreshes_kept load w w' early reply r.stands r.journalled r.unshared q ok
     states label s (statement.Unload u) asked there free q = unloads_kept s u w w' early reply r.stands r.journalled r.unshared q ok
     states label s (statement.Flush u) asked there free q = absurd q
     states label s (statement.Alter a) asked there free q = alters_kept a w w' early reply r.stands r.journalled r.unshared q ok
-    states label s (statement.DropGroup name) asked there free q = drops_kept s name w w' early reply r.stands r.journalled r.unshared there (dropper_rests w s name q.place q.group q.there q.is free) q settled ok
+    states label s (statement.DropGroup name) asked there free q = drops_kept s name w w' early reply r.stands r.journalled r.unshared there (dropper_rests w s name q.place q.group q.there q.is free) q ok
     states label s (statement.DropIndex name) asked there free q = absurd q
     states label s (statement.Call c) asked there free q = calls s (called w.tier.groups c.procedure c.arguments) q
     states label s statement.Commit asked there free q = commits_kept s w w' early reply r.stands r.journalled r.unshared there (meets w early s r there) q ok

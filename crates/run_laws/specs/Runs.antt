@@ -13,14 +13,14 @@ use Rattle.cache_tier.specs.Worlds.{IsUnshared, World}
 use Rattle.line_laws.specs.Keeping.{is_broken}
 use Rattle.recovery.specs.Journalled.{CrashLeaves, IsJournalled, IsJournalledOn}
 use Rattle.recovery.specs.Recalling.{recalled}
-use Rattle.run_laws.specs.Lines.{AreOfKinds, IsLeft, KeepsSlot, MayBegin, MayGoOn}
+use Rattle.run_laws.specs.Lines.{AreOfKinds, IsLeft, MayBegin, MayGoOn}
 
--- Where a line may begin and the journal is the tier's, and behind it the tier stands or a commit is in doubt: the
+-- Where a line may begin and the journal is the tier's, and behind it the tier stands or a ticket is in doubt: the
 -- journal is the tier's then, and what was held is held, unless a call of its disk failed.
 abbrev pub StepKeepsJournal : Type 0
 StepKeepsJournal =
     (base : ℕ) (w w' : World) (said : Saying) (reply : Option Reply) (early : List Sealed) → MayBegin w
-    → IsJournalled w early → IsLeft w' → KeepsSlot w w' → is_broken reply ≡ false → Step base w said w' reply
+    → IsJournalled w early → IsLeft w' → is_broken reply ≡ false → Step base w said w' reply
     → IsJournalledOn w' early
 
 -- Behind it what is unsettled is on tables of asynchronous groups still, and each session has written tables of one
@@ -28,7 +28,7 @@ StepKeepsJournal =
 abbrev pub StepKeepsKinds : Type 0
 StepKeepsKinds =
     (base : ℕ) (w w' : World) (said : Saying) (reply : Option Reply) (early : List Sealed) → MayBegin w
-    → IsJournalled w early → IsLeft w' → KeepsSlot w w' → is_broken reply ≡ false → Step base w said w' reply
+    → IsJournalled w early → IsLeft w' → is_broken reply ≡ false → Step base w said w' reply
     → AreOfKinds w'.tier
 
 -- What a crash leaves in this world: the entries that are flushed belong to the history, they leave the tier's catalog,
@@ -38,11 +38,10 @@ pub record Survives (w : World) (early : List Sealed) (settings : Settings) (mom
   pub stands :
       Stands (with_tier (recalled crash.matched.backing.schema w.journal.flushed w.history crash.catalog) w)
 
--- One line of a run: behind it another one may come, no slot was begun anew, and no call of the journal's disk failed.
+-- One line of a run: behind it another one may come, and no call of the journal's disk failed.
 pub record Passes (line : Asked) (w w' : World) (reply : Option Reply) : Type 0 where
   pub does : Step line.base w line.said w' reply
   pub goes_on : MayGoOn w'
-  pub slot : KeepsSlot w w'
   pub whole : is_broken reply ≡ false
 
 -- one such line after another

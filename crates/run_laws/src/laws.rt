@@ -23,7 +23,7 @@ pub fn line_law()
     ensures kinds { StepKeepsKinds }
 {}
 
-/// Where the tier stands or a commit is in doubt, and the journal is the tier's, a crash leaves entries whose tier
+/// Where the tier stands or a ticket is in doubt, and the journal is the tier's, a crash leaves entries whose tier
 /// stands over the history (`survives`). So it is behind each line of a run, and all that was held before is held
 /// (`keeps_through`).
 pub fn run_law()
@@ -34,7 +34,7 @@ pub fn run_law()
 {}
 
 /// A flush of the tail comes whole or not at all. Before it a crash leaves what is needed, as `run_law` tells; so it
-/// does behind it (`flushed`), and behind the flush at the end of the input (`ended`), whether a commit is in doubt or
+/// does behind it (`flushed`), and behind the flush at the end of the input (`ended`), whether a ticket is in doubt or
 /// not.
 pub fn flush_law()
     ensures flushed { (w : World) (early : List Sealed) (new : Journal) → IsLeft w → IsJournalled w early

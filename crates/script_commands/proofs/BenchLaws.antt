@@ -15,6 +15,7 @@ use Rattle.cache_engine.specs.Engines.{IsBegunWith, IsLeftIn}
 use Rattle.cache_engine.proofs.EngineLaws.{left_in}
 use Rattle.stored_tier.specs.Performing.{StandsFor}
 use Rattle.stored_tier.specs.Sites.{IsAt}
+use Rattle.stored_tier.specs.Stored.{pace_of}
 use Rattle.cache_engine.specs.Beginning.{BeginsAt, opened_world}
 use Rattle.script_maker.specs.Script.{script_lines}
 use Rattle.script_commands.specs.declared.counts.Counts.{Counts}
@@ -26,7 +27,7 @@ history_of : (held : Option Held) (there : Held) (history : List Entry) → held
 history_of held there history told is = let same : Some there.history ≡ Some history = sym (ap (option_map (λ (h : Held). h.history)) told) ∙ is in cc
 
 pub summarised : (number : ℕ) (start : Moment) (before behind last : SiteState) (engine : Engine) (counts : Counts) (ticket entries : ℕ) (history : List Entry) → start.0 ≡ 0 → before.held ≡ Some unused → before.shared ≡ []
-    → IsBegunWith start 0 before behind (Ok engine) → BeginsAt before behind → ((w : World) → IsAt behind w → IsLeftIn engine w → Ends w (script_lines number) counts last)
+    → IsBegunWith start (pace_of default_settings) before behind (Ok engine) → BeginsAt before behind → ((w : World) → IsAt behind w → IsLeftIn engine w → Ends w (script_lines number) counts last)
     → option_map (λ (h : Held). h.history) last.held ≡ Some history → ticket ≡ greatest_ticket history → entries ≡ length history
     → IsSummaryOf number (record { counts = counts; ticket = ticket; entries = entries })
 summarised number start before behind last engine counts ticket entries history zero told unshared begins later runs held greatest long =

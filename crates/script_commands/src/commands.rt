@@ -5,6 +5,7 @@ ghost use Rattle.outside.specs.Faults.{Rose};
 ghost use Rattle.script_commands.specs.Commands.{Benches, Makes};
 
 use crate::benching::bench;
+use crate::progress::Progress;
 use outside::{Sink, put_all};
 use script_maker::{MakeError, write_script};
 use std::alloc::Global;
@@ -52,14 +53,20 @@ pub fn make<K: Sink>(alloc: Global, sink: &mut K, number: u32) -> End
     }
 }
 
-/// The command `bench`: runs the script of a number on a new site in memory, and writes what its run comes to.
+/// The command `bench`: runs the script of a number on a new site in memory, and writes what its run comes to. How far
+/// it has come is told on the way.
 ///
 /// `SinkFailed` only where the sink failed in this call, or took nothing of something.
-pub fn tell_bench<K: Sink>(alloc: Global, sink: &mut K, number: u32) -> End
+pub fn tell_bench<K: Sink, G: Progress>(
+    alloc: Global,
+    sink: &mut K,
+    number: u32,
+    progress: &mut G,
+) -> End
     ensures benches { Benches result number (K.written sink.old) (K.written sink.new) }
     ensures write { result ≡ End.SinkFailed → Rose (K.faults sink.old) (K.faults sink.new) }
 {
-    let Ok(summary) = bench(alloc, number) else {
+    let Ok(summary) = bench(alloc, number, progress) else {
         return End::NoMemory;
     };
     let Ok(text) = summary.to_text(alloc) else {

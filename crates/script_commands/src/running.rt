@@ -9,6 +9,7 @@ ghost use Rattle.script_commands.specs.Running.{Answers, Ends};
 ghost use Rattle.script_commands.specs.Summaries.{HasRoom};
 
 use crate::counts::Counts;
+use crate::progress::Progress;
 use cache_engine::engine::Engine;
 use cache_engine::request::request;
 use outside::Site;
@@ -17,14 +18,15 @@ use std::alloc::{AllocError, Global};
 use tier_base::Moment;
 
 /// Lets the engine answer each line of the script of a number, with moments that are counted from 0, and counts the
-/// replies. Others change no table.
+/// replies, which is told after each line. Others change no table.
 ///
 /// The error is want of memory for a line of the script.
-pub(crate) fn run_script<P: Site>(
+pub(crate) fn run_script<P: Site, G: Progress>(
     alloc: Global,
     engine: &mut Engine,
     site: &mut P,
     number: u32,
+    progress: &mut G,
 ) -> Result<Counts, AllocError>
     requires order { IsInOrder engine.old }
     requires unshared { (P.Disk.state site.old).shared ≡ [] }
@@ -39,6 +41,7 @@ pub(crate) fn run_script<P: Site>(
         if !more {
             return Ok(counts);
         }
+        progress.tell(counts.requests);
     }
 }
 

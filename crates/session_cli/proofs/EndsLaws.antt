@@ -70,9 +70,9 @@ outcome_then Damaged o given now coming x = absurd x
 outcome_then Differs o given now coming x = absurd x
 
 opened_then : (settings : TierSettings) (status : Status) (there : Held) (start input : List ℕ) (source' : Option (List ℕ)) (before behind : Outside) (coming : Coming)
-    → Unopened status input before source' behind ⊎ OpenedAndEnded status settings there start input before source' behind
-    → Unopened status input before source' (record behind { coming = coming }) ⊎ OpenedAndEnded status settings there start input before source' (record behind { coming = coming })
-opened_then settings status there start input source' before behind coming (inl u) = inl (record { untaken = u.untaken; why = u.why; tells = u.tells; moment = u.moment; failed = u.failed })
+    → Unopened status settings input before source' behind ⊎ OpenedAndEnded status settings there start input before source' behind
+    → Unopened status settings input before source' (record behind { coming = coming }) ⊎ OpenedAndEnded status settings there start input before source' (record behind { coming = coming })
+opened_then settings status there start input source' before behind coming (inl u) = inl (record { untaken = u.untaken; why = u.why; tells = u.tells; moment = u.moment; next = u.next; failed = u.failed })
 opened_then settings status there start input source' before behind coming (inr x) =
     inr (record {
       first = x.first;
@@ -82,6 +82,7 @@ opened_then settings status there start input source' before behind coming (inr 
       kept = x.kept;
       later = x.later;
       shares = x.shares;
+      left = x.left;
       ended = λ alone.
           let e = x.ended alone in
           record { taken = e.taken; outcome = outcome_then status (begins x.world start before.coming) e.taken.given behind coming e.outcome };

@@ -20,13 +20,14 @@ use Rattle.cache_engine.proofs.EngineLaws.{known_of}
 use Rattle.session_cli.specs.declared.answering.Stop.{Stop}
 use Rattle.session_cli.specs.declared.answering.Stop.TheVariants as stop
 use Rattle.session_cli.specs.Cutting.{all_lines}
-use Rattle.session_cli.specs.Outside.{seen}
+use Rattle.session_cli.specs.Outside.{WasKept, seen}
 use Rattle.session_cli.specs.Output.{Breaks, Splits}
 use Rattle.session_cli.specs.Serving.{Answered, Closing, EndBroken, Finishes, HasFlushed, Origin, PassesReply, TellsFault, WritesLast}
 use Rattle.session_cli.specs.Timing.{Coming}
 use Rattle.session_cli.proofs.DrainedLaws.{drained_of}
 use Rattle.session_cli.proofs.OutputLaws.{breaks_then, splits_then}
 use Rattle.session_cli.proofs.ServingLaws.{replies_push, told_after, told_whole}
+use Rattle.session_cli.proofs.SlotLaws.{in_slots}
 
 -- NOTHING WAITS BEHIND A FLUSH
 
@@ -59,15 +60,19 @@ drained_over w j faults moment x = record { settled = x.settled; ordered = x.ord
 module _ {D : Type 0} (state : D → SiteState) (possible : D → ℕ → Held → Type 0) (o : Origin) (given : List ℕ) (written written' : Option (List ℕ)) (coming : Coming) (d d' : D) (engine : Engine) (k' : Option TierJournal) (waiting : List ℕ)
     (c : Closing o (all_lines given) (seen written coming state possible d) engine waiting) where
   -- the tail is flushed
-  flushed_here : IsFinished state possible k' d' None c.world → Answered HasFlushed o (all_lines given) c.replies (state d')
+  flushed_here : IsFinished state possible k' d' None c.world → Answered HasFlushed o (all_lines given) c.replies (state d') (WasKept state possible)
   flushed_here x =
       let known = known_of engine.tier engine.doubt c.world c.stands.left in
+      let behind = over_disk x.journal x.faults (state d').moment c.world in
+      let clears = flush_clears c.world behind c.stands.kept x.is in
       record {
         ran = c.world;
         comes = c.comes;
-        last = over_disk x.journal x.faults (state d').moment c.world;
-        ended = flush_clears c.world (over_disk x.journal x.faults (state d').moment c.world) c.stands.kept x.is;
+        goes = c.goes;
+        last = behind;
+        ended = clears;
         at = x.at;
+        slots = in_slots state possible d' k' behind clears.kept (x.keeps refl);
         legal = known.legal;
         drained = λ none settled. drained_over c.world x.journal x.faults (state d').moment (drained_of c.world (known.stands none) settled);
         read = known.read;
@@ -93,11 +98,12 @@ module _ {D : Type 0} (state : D → SiteState) (possible : D → ℕ → Held �
   finishes_flushed (Err stop.Disk) waiting' sunk x p none = absurd (sunk refl)
 
   -- it couldn't be flushed
-  broken_here : (reply : Reply) → IsFinished state possible k' d' (Some reply) c.world → EndBroken o (all_lines given) (c.replies ++ Some reply ∷ []) (state d')
+  broken_here : (reply : Reply) → IsFinished state possible k' d' (Some reply) c.world → EndBroken o (all_lines given) (c.replies ++ Some reply ∷ []) (state d') (WasKept state possible)
   broken_here reply x = record {
     told = c.replies;
     ran = c.world;
     comes = c.comes;
+    goes = c.goes;
     last = over_disk x.journal x.faults (state d').moment c.world;
     reply = reply;
     ended = x.is;

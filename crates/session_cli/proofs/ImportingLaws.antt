@@ -1,6 +1,7 @@
 -- The command `import`.
-use Rattle.std.proofs.Common.{◌≡◌, ◌⊎◌, ◌≤◌, ◌<◌, ℕ, List, [], ◌++◌, take, length, Option, Some, None, Result, Ok, Err, inl, inr, refl, sym, ◌∙◌, ap, arith, subst, append-nil, append_assoc}
-use Rattle.std.specs.Io.KnownBytes.{Appends}
+use Rattle.std.proofs.Common.{◌≡◌, ◌⊎◌, ◌+◌, ◌-◌, ◌≤◌, ◌<◌, ℕ, List, [], ◌++◌, take, length, Option, Some, None, Result, Ok, Err, inl, inr, refl, sym, ◌∙◌, ap, arith, subst, append-nil, append_assoc}
+use Rattle.std.proofs.lemmas.List.{length-append}
+use Rattle.std.specs.Io.KnownBytes.{Appends, Keeps}
 use Rattle.std.specs.Result.{OnOk}
 use Rattle.outside.specs.Holding.{Held}
 use Rattle.outside.specs.Sites.{SiteState}
@@ -11,7 +12,7 @@ use Rattle.cache_tier.specs.declared.reply.Reply.{Reply}
 use Rattle.stored_tier.specs.declared.tier.Tier.{Tier as Stored}
 use Rattle.stored_tier.specs.Performing.{StandsFor}
 use Rattle.stored_tier.specs.Sites.{IsAt, Serves}
-use Rattle.stored_tier.specs.Stored.{IsStoredAs}
+use Rattle.stored_tier.specs.Stored.{IsStoredAs, pace_of}
 use Rattle.session_engine.specs.Doubting.{IsLeft}
 use Rattle.session_engine.specs.declared.doubt.Doubt.{Doubt}
 use Rattle.tier_opening.specs.Telling.{FailsAs}
@@ -21,16 +22,18 @@ use Rattle.cache_engine.specs.Importing.{Imports}
 use Rattle.cache_engine.specs.Opening.{OpensOver}
 use Rattle.cache_engine.specs.declared.engine.Engine.{Engine}
 use Rattle.session_cli.specs.declared.serving.Status.{Status}
-use Rattle.session_cli.specs.declared.serving.Status.TheVariants.{DiskFailed, NoMemory, SchemaFailed, SourceFailed}
+use Rattle.session_cli.specs.declared.serving.Status.TheVariants.{DiskFailed, InputTooLong, NoMemory, SchemaFailed, SourceFailed}
 use Rattle.session_cli.specs.Importing.{ImportEnds, ImportRuns, Imported, Puts, TakesAll, TellsImport}
 use Rattle.session_cli.specs.Opening.{TellsWhy}
 use Rattle.session_cli.specs.Outside.{Outside, seen}
 use Rattle.session_cli.specs.Output.{Breaks, Passes, Splits}
 use Rattle.session_cli.specs.Timing.{Coming, IsNext}
-use Rattle.session_cli.proofs.EndsLaws.{TakeOf, took}
-use Rattle.session_cli.proofs.OpeningLaws.{is_bank, is_disk, not_source, tells_memory}
+use Rattle.session_cli.specs.Ends.{Taken}
+use Rattle.session_cli.proofs.EndsLaws.{TakeOf, kept_told, took}
+use Rattle.session_cli.proofs.OpeningLaws.{is_bank, is_disk, next_of, not_source, tells_memory}
 use Rattle.session_cli.proofs.OutputLaws.{breaks_flushed, splits_flushed}
 use Rattle.session_cli.proofs.ServingLaws.{take_rest}
+use Rattle.stored_tier.specs.declared.clock.Pace.{Pace}
 
 -- THE SOURCE
 
@@ -52,6 +55,12 @@ reading_on input bytes more bytes' source source' buf n is are p r =
       parts = r.parts ∙ ap (λ l. bytes ++ l) (k.parts ∙ ap (λ l. l ++ k.left) (sym are)) ∙ sym (append_assoc bytes more k.left) ∙ ap (λ l. l ++ k.left) (sym is);
     }
 
+-- so much was taken, and so much may be taken still
+pub counts_on : (bytes more bytes' : List ℕ) (room n : ℕ) → bytes' ≡ bytes ++ more → length more ≡ n → n ≤ room → length bytes + room ≡ 4294967296 → length bytes' + (room - n) ≡ 4294967296
+counts_on bytes more bytes' room n is long within total =
+    let both : length bytes' ≡ length bytes + length more = ap length is ∙ length-append bytes more in
+    omega (arith, both, long, within, total)
+
 -- the source is at its end
 pub reads_all : (input bytes : List ℕ) (source source' : Option (List ℕ)) (buf : List ℕ) (n : ℕ) → n ≡ 0 → 0 < length buf → TakeOf source source' n buf → Reading input bytes source → TakesAll input bytes source'
 reads_all input bytes source source' buf n none space p r =
@@ -61,6 +70,15 @@ reads_all input bytes source source' buf n none space p r =
       bytes_are = sym (append-nil bytes) ∙ ap (λ l. bytes ++ l) (sym rest) ∙ sym r.parts;
       whole = k.tells ∙ ap Some (k.ended none space);
     }
+
+-- the source failed before so many bytes were taken
+pub reads_failed : (input bytes : List ℕ) (room : ℕ) (source source' : Option (List ℕ)) → 0 < room → length bytes + room ≡ 4294967296 → Keeps source source' → Reading input bytes source → Taken SourceFailed input source'
+reads_failed input bytes room source source' some total kept r =
+    record { given = bytes; left = r.left; tells = kept_told source source' r.left r.tells kept; parts = r.parts; gives = omega (arith, some, total) }
+
+-- so many bytes were taken
+pub reads_long : (input bytes : List ℕ) (room : ℕ) (source : Option (List ℕ)) → room ≤ 0 → length bytes + room ≡ 4294967296 → Reading input bytes source → Taken InputTooLong input source
+reads_long input bytes room source full total r = record { given = bytes; left = r.left; tells = r.tells; parts = r.parts; gives = omega (arith, full, total) }
 
 -- THE REPLY
 
@@ -100,15 +118,16 @@ imported_cut (Err f) e word input bytes w sink sink' site is same x =
 
 -- THE ENGINE
 
-pub import_unopened : (settings : TierSettings) (word : List ℕ) (status : Status) (source : Option (List ℕ)) (before behind : Outside) (why : OpenError) → TellsImport status before.written behind.written why → (moment : ℕ) → FailsAs moment before.site behind.site why
+pub import_unopened : (settings : TierSettings) (word : List ℕ) (status : Status) (source : Option (List ℕ)) (before behind : Outside) (why : OpenError) → TellsImport status before.written behind.written why → (moment : ℕ) → IsNext (before.coming 0) moment → FailsAs moment (pace_of settings) before.site behind.site why
     → ImportRuns settings word status source before source behind
-import_unopened settings word status source before behind why tells moment failed = λ input there is_source is_site have may.
-    inl (record { untaken = is_source; why = why; tells = tells; moment = moment; failed = failed })
+import_unopened settings word status source before behind why tells moment next failed = λ input there is_source is_site have may.
+    inl (record { untaken = is_source; why = why; tells = tells; moment = moment; next = next; failed = failed })
 
 pub import_unstarted : (settings : TierSettings) (word : List ℕ) (source : Option (List ℕ)) (before behind : Outside) → behind.written ≡ before.written → ImportRuns settings word NoMemory source before source behind
 import_unstarted settings word source before behind written =
+    let next = next_of (before.coming 0) in
     import_unopened settings word NoMemory source before behind open_error.Memory
-    (subst (λ w. TellsWhy NoMemory before.written w open_error.Memory) (sym written) (tells_memory before.written)) 0 tt
+    (subst (λ w. TellsWhy NoMemory before.written w open_error.Memory) (sym written) (tells_memory before.written)) next.0 next.1 tt
 
 pub import_disk : (status : Status) (sink sink' : Option (List ℕ)) (why : OpenError) → TellsImport status sink sink' why → status ≡ DiskFailed → why ≡ open_error.Disk
 import_disk status sink sink' open_error.Disk tells is = refl
@@ -135,11 +154,11 @@ import_not_source status sink sink' (open_error.Differs table key) tells is = no
 import_not_source status sink sink' open_error.Memory tells is = not_source status sink sink' open_error.Memory tells is
 
 module _ {D : Type 0} (state : D → SiteState) (possible : D → ℕ → Held → Type 0) where
-  pub import_opened : (settings : TierSettings) (propagate_ms first : ℕ) (e : Engine) (status : Status) (word : List ℕ) (source source' written : Option (List ℕ)) (bases : Coming) (d m : D) (behind : Outside) → settings.propagate_ms ≡ propagate_ms
-      → IsNext (bases 0) first → OpensOver state possible first propagate_ms d m e → e.doubt ≡ None → (state d).bank_faults ≤ (state m).bank_faults → (state m).shared ≡ (state d).shared
+  pub import_opened : (settings : TierSettings) (pace : Pace) (first : ℕ) (e : Engine) (status : Status) (word : List ℕ) (source source' written : Option (List ℕ)) (bases : Coming) (d m : D) (behind : Outside) → pace_of settings ≡ pace
+      → IsNext (bases 0) first → OpensOver state possible first pace d m e → e.doubt ≡ None → (state d).bank_faults ≤ (state m).bank_faults → (state m).shared ≡ (state d).shared
       → ((w : World) (input : List ℕ) → IsAt (state m) w → IsStoredAs e.tier w.tier → source ≡ Some input → ImportEnds status word input w (seen written bases state possible d) source' behind)
       → ImportRuns settings word status source (seen written bases state possible d) source' behind
-  import_opened settings propagate_ms first e status word source source' written bases d m behind ms next opens doubt later shares ends = λ input there is_source is_site have may.
+  import_opened settings pace first e status word source source' written bases d m behind ms next opens doubt later shares ends = λ input there is_source is_site have may.
       let x = opens there settings is_site have may ms in
       let stands : StandsFor e.tier x.world = subst (λ (o : Option Doubt). IsLeft e.tier o x.world) doubt x.left in
       inr (record {

@@ -10,5 +10,6 @@ pub mod OpeningLaws
 pub mod OutputLaws
 pub mod RunLaws
 pub mod ServingLaws
+pub mod SlotLaws
 pub mod StopLaws
 pub mod TopLaws

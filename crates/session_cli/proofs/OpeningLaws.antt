@@ -1,11 +1,12 @@
 -- The opening of a run.
-use Rattle.std.proofs.Common.{◌≡◌, ◌⊎◌, ◌≤◌, ℕ, true, false, List, [], ◌++◌, take, Option, Some, inl, inr, refl, sym, ◌∙◌, ap, arith, subst, append-nil, lit≤}
+use Rattle.std.proofs.Common.{◌≡◌, ◌⊎◌, ◌≤◌, ℕ, true, false, List, [], ◌++◌, take, Option, Some, inl, inr, refl, sym, ◌∙◌, ap, arith, subst, append-nil, lit≤, None}
 use Rattle.std.specs.Io.KnownBytes.{Appends}
 use Rattle.std.proofs.KnownBytes.{Appends-nil}
 use Rattle.outside.specs.Faults.{Rose}
 use Rattle.outside.specs.Holding.{Held}
 use Rattle.outside.specs.Sites.{SiteState}
 use Rattle.cache_tier.specs.TierStates.{Settings as TierSettings}
+use Rattle.cache_engine.specs.Engines.{IsInOrder}
 use Rattle.cache_engine.specs.Opening.{IsBegunOver, OpensOver}
 use Rattle.tier_opening.specs.Telling.{FailsAs}
 use Rattle.cache_engine.specs.declared.engine.Engine.{Engine}
@@ -16,13 +17,16 @@ use Rattle.session_cli.specs.declared.serving.Status.TheVariants.{DiskFailed, No
 use Rattle.session_cli.specs.declared.session.Session.{Session}
 use Rattle.session_cli.specs.Ends.{Runs, Serves, takes_none}
 use Rattle.session_cli.specs.Opening.{TellsLine, TellsWhy, begins, unopened_line}
-use Rattle.session_cli.specs.Outside.{Outside, seen}
+use Rattle.session_cli.specs.Outside.{Outside, WasKept, seen}
 use Rattle.session_cli.specs.Output.{Breaks, Splits}
-use Rattle.session_cli.specs.Serving.{Serving, StandsIn}
+use Rattle.session_cli.specs.Serving.{Serving, StandsIn, WasLeft}
 use Rattle.session_cli.specs.Timing.{AreLeft, Coming, IsNext}
 use Rattle.session_cli.proofs.CuttingLaws.{front_short}
 use Rattle.session_cli.proofs.OutputLaws.{breaks_then, splits_then}
 use Rattle.session_cli.proofs.ServingLaws.{take_rest}
+use Rattle.session_cli.proofs.SlotLaws.{in_slots}
+use Rattle.stored_tier.specs.declared.clock.Pace.{Pace}
+use Rattle.stored_tier.specs.Stored.{pace_of}
 
 -- A RUN THAT DOESN'T BEGIN
 
@@ -48,9 +52,15 @@ is_bank status sink sink' (open_error.Differs table key) (inr (e, told)) is = cc
 is_bank status sink sink' open_error.Memory (inl (e, told)) is = cc
 is_bank status sink sink' open_error.Memory (inr (e, told)) is = cc
 
-pub runs_unopened : (settings : TierSettings) (status : Status) (source : Option (List ℕ)) (before behind : Outside) (why : OpenError) → TellsWhy status before.written behind.written why → (moment : ℕ) → FailsAs moment before.site behind.site why
+pub runs_unopened : (settings : TierSettings) (status : Status) (source : Option (List ℕ)) (before behind : Outside) (why : OpenError) → TellsWhy status before.written behind.written why → (moment : ℕ) → IsNext (before.coming 0) moment → FailsAs moment (pace_of settings) before.site behind.site why
     → Runs settings status source before source behind
-runs_unopened settings status source before behind why tells moment failed = λ input start there is_source is_sink is_site have may. inl (record { untaken = is_source; why = why; tells = tells; moment = moment; failed = failed })
+runs_unopened settings status source before behind why tells moment next failed = λ input start there is_source is_sink is_site have may.
+    inl (record { untaken = is_source; why = why; tells = tells; moment = moment; next = next; failed = failed })
+
+-- the moment of an opening that didn't come to be
+pub next_of : (told : Option ℕ) → (moment : ℕ) × IsNext told moment
+next_of None = (0, tt)
+next_of (Some n) = (n, refl)
 
 -- nothing is told of want of memory
 pub tells_memory : (sink : Option (List ℕ)) → TellsWhy NoMemory sink sink open_error.Memory
@@ -61,37 +71,43 @@ tells_bank sink = inl (refl, Appends-nil sink)
 
 pub runs_unstarted : (settings : TierSettings) (source : Option (List ℕ)) (before behind : Outside) → behind.written ≡ before.written → Runs settings NoMemory source before source behind
 runs_unstarted settings source before behind written =
-    runs_unopened settings NoMemory source before behind open_error.Memory (subst (λ w. TellsWhy NoMemory before.written w open_error.Memory) (sym written) (tells_memory before.written)) 0 tt
+    let next = next_of (before.coming 0) in
+    runs_unopened settings NoMemory source before behind open_error.Memory (subst (λ w. TellsWhy NoMemory before.written w open_error.Memory) (sym written) (tells_memory before.written)) next.0 next.1 tt
 
 -- the causes
 
-pub disk_failed : (moment : ℕ) (before behind : SiteState) (why : OpenError) → FailsAs moment before behind why → why ≡ open_error.Disk → Rose before.disk_faults behind.disk_faults
-disk_failed moment before behind why failed is = subst (FailsAs moment before behind) is failed
+pub disk_failed : (moment : ℕ) (pace : Pace) (before behind : SiteState) (why : OpenError) → FailsAs moment pace before behind why → why ≡ open_error.Disk → Rose before.disk_faults behind.disk_faults
+disk_failed moment pace before behind why failed is = subst (FailsAs moment pace before behind) is failed
 
-pub bank_failed : (moment : ℕ) (before behind : SiteState) (why : OpenError) → FailsAs moment before behind why → why ≡ open_error.Bank → Rose before.bank_faults behind.bank_faults
-bank_failed moment before behind why failed is = subst (FailsAs moment before behind) is failed
+pub bank_failed : (moment : ℕ) (pace : Pace) (before behind : SiteState) (why : OpenError) → FailsAs moment pace before behind why → why ≡ open_error.Bank → Rose before.bank_faults behind.bank_faults
+bank_failed moment pace before behind why failed is = subst (FailsAs moment pace before behind) is failed
 
 -- A RUN THAT BEGINS
 
 module _ {D : Type 0} (state : D → SiteState) (possible : D → ℕ → Held → Type 0) where
+  -- the engine is left so in the world of the opening
+  left_new : (settings : TierSettings) (first : ℕ) (there : Held) (d : D) (e : Engine) → IsInOrder e → (x : IsBegunOver state possible settings first there d e) → WasLeft (WasKept state possible) x.world
+  left_new settings first there d e order x = record { engine = e; order = order; left = x.left; kept = x.kept; over = record { site = d; at = x.at; keeps = x.keeps } }
+
   -- at the beginning nothing is given
-  serving_new : (settings : TierSettings) (first : ℕ) (there : Held) (d : D) (e : Engine) (session : Session) (start : List ℕ) (bases coming : Coming) (written : Option (List ℕ)) (x : IsBegunOver state possible settings first there d e)
+  serving_new : (settings : TierSettings) (first : ℕ) (there : Held) (d : D) (e : Engine) (session : Session) (start : List ℕ) (bases coming : Coming) (written : Option (List ℕ)) → IsInOrder e → (x : IsBegunOver state possible settings first there d e)
       → session.engine ≡ e → session.line ≡ [] → session.output ≡ [] → written ≡ Some start → AreLeft bases 1 coming → Serving (begins x.world start bases) [] (seen written coming state possible d) session
-  serving_new settings first there d e session start bases coming written x engine line output told left = record {
+  serving_new settings first there d e session start bases coming written order x engine line output told left = record {
     world = x.world;
     replies = [];
     comes = record { given = []; are = refl; asked = 1; timed = refl; run = refl };
+    goes = left_new settings first there d e order x;
     at = x.at;
-    stands = subst (λ y. StandsIn (seen written coming state possible d) y x.world) (sym engine) (record { left = x.left; keeps = x.keeps; kept = x.kept });
+    stands = subst (λ y. StandsIn (seen written coming state possible d) y x.world) (sym engine) (record { left = x.left; keeps = x.keeps; kept = x.kept; slots = in_slots state possible d e.journal x.world x.kept x.keeps });
     left = left;
     line = line ∙ sym (front_short [] (lit≤ tt));
     passed = record { count = 0; written = subst (λ w. Appends (Some start) w []) (sym told) (sym (append-nil start)); waits = output };
   }
 
-  pub runs_opened : (settings : TierSettings) (propagate_ms first : ℕ) (e : Engine) (session : Session) (status : Status) (source source' written : Option (List ℕ)) (bases coming : Coming) (d m : D) (behind : Outside) → settings.propagate_ms ≡ propagate_ms
-      → session.engine ≡ e → session.line ≡ [] → session.output ≡ [] → IsNext (bases 0) first → AreLeft bases 1 coming → OpensOver state possible first propagate_ms d m e → (state d).bank_faults ≤ (state m).bank_faults → (state m).shared ≡ (state d).shared
+  pub runs_opened : (settings : TierSettings) (pace : Pace) (first : ℕ) (e : Engine) (session : Session) (status : Status) (source source' written : Option (List ℕ)) (bases coming : Coming) (d m : D) (behind : Outside) → pace_of settings ≡ pace
+      → IsInOrder e → session.engine ≡ e → session.line ≡ [] → session.output ≡ [] → IsNext (bases 0) first → AreLeft bases 1 coming → OpensOver state possible first pace d m e → (state d).bank_faults ≤ (state m).bank_faults → (state m).shared ≡ (state d).shared
       → Serves session status source (seen written coming state possible m) source' behind → Runs settings status source (seen written bases state possible d) source' behind
-  runs_opened settings propagate_ms first e session status source source' written bases coming d m behind ms engine line output next left opens later shares serves = λ input start there is_source is_sink is_site have may.
+  runs_opened settings pace first e session status source source' written bases coming d m behind ms order engine line output next left opens later shares serves = λ input start there is_source is_sink is_site have may.
       let x = opens there settings is_site have may ms in
       inr (record {
         first = first;
@@ -101,7 +117,8 @@ module _ {D : Type 0} (state : D → SiteState) (possible : D → ℕ → Held �
         kept = x.kept;
         later = let faults = x.at.faults in omega (arith, later, faults);
         shares = x.at.shared ∙ shares;
-        ended = λ alone. serves (begins x.world start bases) input is_source (serving_new settings first there m e session start bases coming written x engine line output is_sink left) alone;
+        left = left_new settings first there m e order x;
+        ended = λ alone. serves (begins x.world start bases) input is_source (serving_new settings first there m e session start bases coming written order x engine line output is_sink left) alone;
       })
 
 -- THE LINE THAT SAYS WHY

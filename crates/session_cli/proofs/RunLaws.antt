@@ -3,11 +3,13 @@ use Rattle.std.proofs.Common.{◌≡◌, ℕ, ◌+◌, List, [], ◌∷◌, ◌+
 use Rattle.std.specs.Bool.{MatchBool}
 use Rattle.cache_tier.specs.MoreFacts.{FaultsAreCaused, RunIsCaused}
 use Rattle.cache_tier.specs.Steps.{Asked, Run}
-use Rattle.cache_tier.specs.Worlds.{World}
+use Rattle.cache_tier.specs.Worlds.{IsUnshared, World}
 use Rattle.cache_tier.specs.declared.reply.Reply.{Reply}
 use Rattle.kept_journal.specs.Keeping.{is_broken}
+use Rattle.tier_journal.specs.declared.journal.TierJournal.{TierJournal}
 use Rattle.cache_engine.specs.Requests.{Given, LineGoes, LineRun, LineStep}
-use Rattle.session_cli.specs.Serving.{Comes, ComesBroken, Origin, bytes_of}
+use Rattle.session_cli.specs.Outside.{Keeping}
+use Rattle.session_cli.specs.Serving.{Comes, ComesBroken, GoesOn, Origin, WasLeft, bytes_of}
 use Rattle.session_cli.specs.Timing.{AreLeft, AreTimed, Coming, IsNext, TakesBase, has_base}
 
 -- a step more
@@ -16,6 +18,27 @@ run_push w [] [] w1 g r w2 run step = (w2, subst (λ (x : World). LineStep g.bas
 run_push w [] (r' ∷ rs) w1 g r w2 run step = absurd run
 run_push w (g' ∷ gs) [] w1 g r w2 run step = absurd run
 run_push w (g' ∷ gs) (r' ∷ rs) w1 g r w2 (mid, first, rest) step = (mid, first, run_push mid gs rs w1 g r w2 rest step)
+
+-- behind which the engine is left so, too
+pub goes_push : (once : Keeping) (w : World) (gs : List Given) (rs : List (Option Reply)) (w1 : World) (g : Given) (r : Option Reply) (w2 : World) (run : LineRun w gs rs w1) (step : LineStep g.base w1 g.bytes w2 r)
+    → GoesOn once w gs rs w1 run → IsUnshared w1 → is_broken r ≡ false → WasLeft once w2 → GoesOn once w (gs ++ g ∷ []) (rs ++ r ∷ []) w2 (run_push w gs rs w1 g r w2 run step)
+unfolding run_push
+goes_push once w [] [] w1 g r w2 run step goes apart whole left = (subst (WasLeft once) run goes, subst IsUnshared run apart, whole, left)
+goes_push once w [] (r' ∷ rs) w1 g r w2 run step goes apart whole left = absurd run
+goes_push once w (g' ∷ gs) [] w1 g r w2 run step goes apart whole left = absurd run
+goes_push once w (g' ∷ gs) (r' ∷ rs) w1 g r w2 (mid, first, rest) step (here, alone, well, more) apart whole left =
+    (here, alone, well, goes_push once mid gs rs w1 g r w2 rest step more apart whole left)
+
+-- what was kept at some time was so
+left_then : (one other : Keeping) → ((k : Option TierJournal) (w : World) → one k w → other k w) → (w : World) → WasLeft one w → WasLeft other w
+left_then one other so w x = record { engine = x.engine; order = x.order; left = x.left; kept = x.kept; over = so x.engine.journal w x.over }
+
+pub goes_then : (one other : Keeping) → ((k : Option TierJournal) (w : World) → one k w → other k w) → (w : World) (gs : List Given) (rs : List (Option Reply)) (w' : World) (run : LineRun w gs rs w')
+    → GoesOn one w gs rs w' run → GoesOn other w gs rs w' run
+goes_then one other so w [] [] w' run left = left_then one other so w' left
+goes_then one other so w [] (r ∷ rs) w' run goes = absurd run
+goes_then one other so w (g ∷ gs) [] w' run goes = absurd run
+goes_then one other so w (g ∷ gs) (r ∷ rs) w' (mid, first, rest) (here, alone, well, more) = (left_then one other so w here, alone, well, goes_then one other so mid gs rs w' rest more)
 
 -- a line more has its base
 timed_by : (b : Bool) (A B C D : Type 0) → (A → C) → (B → D) → MatchBool b A B → MatchBool b C D
@@ -53,14 +76,21 @@ bytes_push : (gs : List Given) (g : Given) → bytes_of (gs ++ g ∷ []) ≡ byt
 bytes_push [] g = refl
 bytes_push (x ∷ gs) g = ap (λ l. x.bytes ∷ l) (bytes_push gs g)
 
--- it has led to a world, and these answers are left
-pub record CameOn (o : Origin) (lines : List (List ℕ)) (replies : List (Option Reply)) (w : World) (coming : Coming) : Type 0 where
+-- it has led to a world, the engine was left so behind each line, and these answers are left
+pub record CameOn (once : Keeping) (o : Origin) (lines : List (List ℕ)) (replies : List (Option Reply)) (w : World) (coming : Coming) : Type 0 where
   pub comes : Comes o lines replies w
+  pub goes : GoesOn once o.world comes.given replies w comes.run
   pub left : AreLeft o.bases comes.asked coming
 
-pub comes_on : (o : Origin) (lines lines' : List (List ℕ)) (replies : List (Option Reply)) (w : World) (c : Comes o lines replies w) (now left : Coming) (g : Given) (r : Option Reply) (w' : World) → lines ++ g.bytes ∷ [] ≡ lines'
-    → AreLeft o.bases c.asked now → TakesBase g.bytes now left g.base → LineStep g.base w g.bytes w' r → CameOn o lines' (replies ++ r ∷ []) w' left
-comes_on o lines lines' replies w c now left g r w' is are took step =
+-- how the line came that is one more
+pub record Further (once : Keeping) (w : World) (r : Option Reply) (w' : World) : Type 0 where
+  pub unshared : IsUnshared w
+  pub whole : is_broken r ≡ false
+  pub was : WasLeft once w'
+
+pub comes_on : (once : Keeping) (o : Origin) (lines lines' : List (List ℕ)) (replies : List (Option Reply)) (w : World) (c : Comes o lines replies w) (now left : Coming) (g : Given) (r : Option Reply) (w' : World) → lines ++ g.bytes ∷ [] ≡ lines'
+    → AreLeft o.bases c.asked now → TakesBase g.bytes now left g.base → LineStep g.base w g.bytes w' r → GoesOn once o.world c.given replies w c.run → Further once w r w' → CameOn once o lines' (replies ++ r ∷ []) w' left
+comes_on once o lines lines' replies w c now left g r w' is are took step goes x =
     let t = timed_one o.bases now left c.asked g are took in
     record {
       comes = record {
@@ -70,20 +100,30 @@ comes_on o lines lines' replies w c now left g r w' is are took step =
         timed = timed_push o.bases 1 c.given c.asked g t.after c.timed t.timed;
         run = run_push o.world c.given replies w g r w' c.run step;
       };
+      goes = goes_push once o.world c.given replies w g r w' c.run step goes x.unshared x.whole x.was;
       left = t.left;
     }
 
--- it ends with a line that tells a failed call of the journal's disk
-pub broken_on : (o : Origin) (lines lines' : List (List ℕ)) (replies : List (Option Reply)) (w : World) (c : Comes o lines replies w) (now left : Coming) (g : Given) (r : Option Reply) (w' : World) → lines ++ g.bytes ∷ [] ≡ lines'
-    → AreLeft o.bases c.asked now → TakesBase g.bytes now left g.base → LineGoes g.base w g.bytes w' r → is_broken r ≡ true → ComesBroken o lines' (replies ++ r ∷ []) w'
-broken_on o lines lines' replies w c now left g r w' is are took goes fails =
+-- it ends with a line that tells a failed call of the journal's disk, and goes on up to there
+pub record BrokeOff (once : Keeping) (o : Origin) (lines : List (List ℕ)) (replies : List (Option Reply)) (w : World) : Type 0 where
+  pub comes : ComesBroken o lines replies w
+  pub goes : GoesOn once o.world comes.run.before comes.run.told comes.run.mid comes.run.run
+  pub unshared : IsUnshared comes.run.mid
+
+pub broken_on : (once : Keeping) (o : Origin) (lines lines' : List (List ℕ)) (replies : List (Option Reply)) (w : World) (c : Comes o lines replies w) (now left : Coming) (g : Given) (r : Option Reply) (w' : World) → lines ++ g.bytes ∷ [] ≡ lines'
+    → AreLeft o.bases c.asked now → TakesBase g.bytes now left g.base → LineGoes g.base w g.bytes w' r → is_broken r ≡ true → GoesOn once o.world c.given replies w c.run → IsUnshared w → BrokeOff once o lines' (replies ++ r ∷ []) w'
+broken_on once o lines lines' replies w c now left g r w' is are took last fails goes apart =
     let t = timed_one o.bases now left c.asked g are took in
     record {
-      given = c.given ++ g ∷ [];
-      are = bytes_push c.given g ∙ ap (λ l. l ++ g.bytes ∷ []) c.are ∙ is;
-      asked = t.after;
-      timed = timed_push o.bases 1 c.given c.asked g t.after c.timed t.timed;
-      run = record { before = c.given; told = replies; mid = w; run = c.run; last = g; reply = r; lines_are = refl; replies_are = refl; goes = goes; fails = fails };
+      comes = record {
+        given = c.given ++ g ∷ [];
+        are = bytes_push c.given g ∙ ap (λ l. l ++ g.bytes ∷ []) c.are ∙ is;
+        asked = t.after;
+        timed = timed_push o.bases 1 c.given c.asked g t.after c.timed t.timed;
+        run = record { before = c.given; told = replies; mid = w; run = c.run; last = g; reply = r; lines_are = refl; replies_are = refl; goes = last; fails = fails };
+      };
+      goes = goes;
+      unshared = apart;
     }
 
 -- a run over bytes is a run over what they say

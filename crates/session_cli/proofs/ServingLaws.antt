@@ -16,11 +16,11 @@ use Rattle.session_cli.specs.declared.session.Session.{Session}
 use Rattle.session_cli.specs.Cutting.{cut, front_of, text_of, ended_lines, all_lines}
 use Rattle.session_cli.specs.Outside.{Outside}
 use Rattle.session_cli.specs.Output.{Splits, Breaks}
-use Rattle.session_cli.specs.Serving.{Answered, Broken, Closes, Closing, Comes, CutShort, Feeds, HasFlushed, IsLeftAlone, LineBroken, Origin, PassesReply, Responds, Rests, Serving, StandsIn, StopsAt, Whole}
+use Rattle.session_cli.specs.Serving.{Answered, Broken, Closes, Closing, Comes, CutShort, Feeds, GoesOn, HasFlushed, IsLeftAlone, LineBroken, Origin, PassesReply, Responds, Rests, Serving, StandsIn, StopsAt, Whole}
 use Rattle.session_cli.proofs.CuttingLaws.{ended_push, rest_ended, ended_same, rest_push, front_push, front_short, text_front, take_one, take_within, all_ended, all_more}
 use Rattle.session_cli.proofs.DrainedLaws.{drained_of}
 use Rattle.session_cli.proofs.OutputLaws.{splits_then, breaks_then}
-use Rattle.session_cli.proofs.RunLaws.{CameOn, broken_on, comes_on}
+use Rattle.session_cli.proofs.RunLaws.{CameOn, broken_on, comes_on, goes_then}
 
 pub replies_push : (rs : List (Option Reply)) (r : Option Reply) → replies_bytes (rs ++ r ∷ []) ≡ replies_bytes rs ++ reply_bytes r
 replies_push [] r = append-nil (reply_bytes r)
@@ -41,16 +41,18 @@ pub told_whole : (start : List ℕ) (now : Option (List ℕ)) (bytes : List ℕ)
 told_whole start now bytes p = told_after start now (take p.count bytes) p.written ∙ ap (λ l. Some (start ++ l)) (take_rest p.count bytes (sym p.waits))
 
 -- a run has led to a world in which the engine is left so
-pub answered_by : (o : Origin) (lines : List (List ℕ)) (replies : List (Option Reply)) (now : Outside) (engine : Engine) (w : World) → Comes o lines replies w → IsAt now.site w → StandsIn now engine w
-    → Answered Rests o lines replies now.site
-answered_by o lines replies now engine w comes at stands =
+pub answered_by : (o : Origin) (lines : List (List ℕ)) (replies : List (Option Reply)) (now : Outside) (engine : Engine) (w : World) (c : Comes o lines replies w) → GoesOn now.kept_once o.world c.given replies w c.run → IsAt now.site w
+    → StandsIn now engine w → Answered Rests o lines replies now.site now.kept_once
+answered_by o lines replies now engine w comes goes at stands =
     let known = known_of engine.tier engine.doubt w stands.left in
     record {
       ran = w;
       comes = comes;
+      goes = goes;
       last = w;
       ended = refl;
       at = at;
+      slots = stands.slots;
       legal = known.legal;
       drained = λ none. drained_of w (known.stands none);
       read = known.read;
@@ -59,26 +61,36 @@ answered_by o lines replies now engine w comes at stands =
 -- A LINE
 
 module _ (o : Origin) (given : List ℕ) (lines : List (List ℕ)) (before behind : Outside) (session : Session) (engine' : Engine) (waiting' line : List ℕ) where
+  -- the engine was left so behind each line
+  gone : (res : Result (Unit {0}) Stop) (s : Serving o given before session) → Responds res before behind session.output waiting' engine' s.world line → GoesOn behind.kept_once o.world s.comes.given s.replies s.world s.comes.run
+  gone res s r = goes_then before.kept_once behind.kept_once r.once o.world s.comes.given s.replies s.world s.comes.run s.goes
+
   -- the run goes on by a line that was answered
   came_line : (res : Result (Unit {0}) Stop) → ended_lines given ++ line ∷ [] ≡ lines → (s : Serving o given before session) → (r : Responds res before behind session.output waiting' engine' s.world line)
-      → is_broken r.reply ≡ false → CameOn o lines (s.replies ++ r.reply ∷ []) r.world behind.coming
+      → is_broken r.reply ≡ false → CameOn behind.kept_once o lines (s.replies ++ r.reply ∷ []) r.world behind.coming
   came_line res is s r whole =
       let g : Given = record { base = r.base; bytes = line } in
-      comes_on o (ended_lines given) lines s.replies s.world s.comes before.coming behind.coming g r.reply r.world is s.left r.took (goes_step r.base s.world line r.world r.reply whole r.goes)
+      comes_on behind.kept_once o (ended_lines given) lines s.replies s.world s.comes before.coming behind.coming g r.reply r.world is s.left r.took (goes_step r.base s.world line r.world r.reply whole r.goes) (gone res s r)
+      (record { unshared = r.unshared; whole = whole; was = r.was whole })
 
   -- the ended lines and one more are answered
   answered_line : (res : Result (Unit {0}) Stop) → ended_lines given ++ line ∷ [] ≡ lines → (s : Serving o given before session) → (r : Responds res before behind session.output waiting' engine' s.world line)
-      → is_broken r.reply ≡ false → Answered Rests o lines (s.replies ++ r.reply ∷ []) behind.site
-  answered_line res is s r whole = answered_by o lines (s.replies ++ r.reply ∷ []) behind engine' r.world (came_line res is s r whole).comes r.at (r.stands whole)
+      → is_broken r.reply ≡ false → Answered Rests o lines (s.replies ++ r.reply ∷ []) behind.site behind.kept_once
+  answered_line res is s r whole =
+      let came = came_line res is s r whole in
+      answered_by o lines (s.replies ++ r.reply ∷ []) behind engine' r.world came.comes came.goes r.at (r.stands whole)
 
   -- or it was the last one
   broken_line : (res : Result (Unit {0}) Stop) → ended_lines given ++ line ∷ [] ≡ lines → (s : Serving o given before session) → (r : Responds res before behind session.output waiting' engine' s.world line)
-      → is_broken r.reply ≡ true → LineBroken o lines (s.replies ++ r.reply ∷ []) behind.site
+      → is_broken r.reply ≡ true → LineBroken o lines (s.replies ++ r.reply ∷ []) behind.site behind.kept_once
   broken_line res is s r fails =
       let g : Given = record { base = r.base; bytes = line } in
+      let broke = broken_on behind.kept_once o (ended_lines given) lines s.replies s.world s.comes before.coming behind.coming g r.reply r.world is s.left r.took r.goes fails (gone res s r) r.unshared in
       record {
         last = r.world;
-        comes = broken_on o (ended_lines given) lines s.replies s.world s.comes before.coming behind.coming g r.reply r.world is s.left r.took r.goes fails;
+        comes = broke.comes;
+        goes = broke.goes;
+        unshared = broke.unshared;
         at = r.at;
       }
 
@@ -93,7 +105,9 @@ module _ (o : Origin) (given : List ℕ) (lines : List (List ℕ)) (before behin
         tells = told_after o.written behind.written (take b.count (replies_bytes s.replies ++ reply_bytes r.reply)) b.written ∙ ap (λ l. Some (o.written ++ take b.count l)) (sym (replies_push s.replies r.reply));
       }
     where
-      by : (b : Bool) → is_broken r.reply ≡ b → Answered Rests o lines (s.replies ++ r.reply ∷ []) behind.site ⊎ (Answered HasFlushed o lines (s.replies ++ r.reply ∷ []) behind.site ⊎ Broken o lines (s.replies ++ r.reply ∷ []) behind.site)
+      by : (b : Bool) → is_broken r.reply ≡ b
+          → Answered Rests o lines (s.replies ++ r.reply ∷ []) behind.site behind.kept_once
+          ⊎ (Answered HasFlushed o lines (s.replies ++ r.reply ∷ []) behind.site behind.kept_once ⊎ Broken o lines (s.replies ++ r.reply ∷ []) behind.site behind.kept_once)
       by true e = inr (inr (inl (broken_line (Err stop.Sink) is s r e)))
       by false e = inl (answered_line (Err stop.Sink) is s r e)
   stopped_line stop.Disk is s r = record {
@@ -121,6 +135,7 @@ serving_line o given before behind session session' line is empty s r =
       world = r.world;
       replies = s.replies ++ r.reply ∷ [];
       comes = came.comes;
+      goes = came.goes;
       at = r.at;
       stands = r.stands r.tells;
       left = came.left;
@@ -150,6 +165,7 @@ serving_byte o given b now session session' differs tier line output s = record 
   world = s.world;
   replies = s.replies;
   comes = comes_same o (ended_lines given) (ended_lines (given ++ b ∷ [])) s.replies s.world (sym (ended_same given b differs)) s.comes;
+  goes = s.goes;
   at = s.at;
   stands = subst (λ e. StandsIn now e s.world) (sym tier) s.stands;
   left = s.left;
@@ -171,8 +187,8 @@ serving_more o given bytes i now session lt s =
     subst (λ (l : List ℕ). Serving o l now session) (append_assoc given (take i bytes) (get_or bytes i 0 ∷ []) ∙ ap (λ l. given ++ l) (take_one bytes i lt)) s
 
 -- the ended lines are answered
-pub answered_here : (o : Origin) (given : List ℕ) (now : Outside) (session : Session) → (s : Serving o given now session) → Answered Rests o (ended_lines given) s.replies now.site
-answered_here o given now session s = answered_by o (ended_lines given) s.replies now session.engine s.world s.comes s.at s.stands
+pub answered_here : (o : Origin) (given : List ℕ) (now : Outside) (session : Session) → (s : Serving o given now session) → Answered Rests o (ended_lines given) s.replies now.site now.kept_once
+answered_here o given now session s = answered_by o (ended_lines given) s.replies now session.engine s.world s.comes s.goes s.at s.stands
 
 pub take_whole : (xs : List ℕ) → take (length xs) xs ≡ xs
 take_whole [] = refl
@@ -201,8 +217,9 @@ serving_flushed (Ok done) o given bytes before written session session' tier lin
   world = s.world;
   replies = s.replies;
   comes = s.comes;
+  goes = s.goes;
   at = s.at;
-  stands = subst (λ e. StandsIn (record before { written = written }) e s.world) (sym tier) (record { left = s.stands.left; keeps = s.stands.keeps; kept = s.stands.kept });
+  stands = subst (λ e. StandsIn (record before { written = written }) e s.world) (sym tier) (record { left = s.stands.left; keeps = s.stands.keeps; kept = s.stands.kept; slots = s.stands.slots });
   left = s.left;
   line = line ∙ s.line;
   passed = subst (λ (l : List ℕ). Splits (Some o.written) written l session'.output) (append-nil (replies_bytes s.replies))
@@ -238,6 +255,7 @@ closes_ended o given now session none s = record {
   world = s.world;
   replies = s.replies;
   comes = comes_same o (ended_lines given) (all_lines given) s.replies s.world (sym (all_ended given (sym s.line ∙ none))) s.comes;
+  goes = s.goes;
   at = s.at;
   stands = s.stands;
   passed = s.passed;
@@ -250,10 +268,12 @@ pub closes_line : (r : Result (Unit {0}) Stop) (o : Origin) (given : List ℕ) (
     → Closes r o given behind engine' waiting'
 closes_line (Ok done) o given before behind session engine' waiting' line is some s p =
     let lines = sym (all_more given line (is ∙ s.line) (λ none. some (sym is ∙ none))) in
+    let came = came_line o given (all_lines given) before behind session engine' waiting' line (Ok done) lines s p p.tells in
     record {
       world = p.world;
       replies = s.replies ++ p.reply ∷ [];
-      comes = (came_line o given (all_lines given) before behind session engine' waiting' line (Ok done) lines s p p.tells).comes;
+      comes = came.comes;
+      goes = came.goes;
       at = p.at;
       stands = p.stands p.tells;
       passed = rw (replies_push s.replies p.reply) (splits_then (Some o.written) before.written behind.written (replies_bytes s.replies) session.output (reply_bytes p.reply) waiting' s.passed p.passed);

@@ -1,6 +1,7 @@
 -- What `check` answers, and how a run of it ends.
 
-use Rattle.std.specs.Prelude.{◌≡◌, ◌≤◌, ◌⊎◌, ⊤, ℕ, Bool, true, false, List, [], ◌∷◌, ◌++◌, Option, Some, None, Result, Ok, Err, take}
+use Rattle.std.specs.Prelude.{◌≡◌, ◌≤◌, ◌⊎◌, ⊤, ℕ, Bool, true, false, List, [], ◌∷◌, ◌++◌, Option, Some, None, Result}
+use Rattle.std.specs.Prelude.{Ok, Err, take}
 use Rattle.std.specs.Result.{IsErrOf}
 use Rattle.outside.specs.Faults.{Rose}
 use Rattle.tier_base.specs.declared.code.Code.TheVariants as code
@@ -17,7 +18,9 @@ use Rattle.session_cli.specs.declared.checker.CheckFault.{CheckFault}
 use Rattle.session_cli.specs.declared.checker.CheckFault.TheVariants as fault
 use Rattle.session_cli.specs.declared.checker.Checker.{Checker}
 use Rattle.session_cli.specs.declared.serving.Status.{Status}
-use Rattle.session_cli.specs.declared.serving.Status.TheVariants.{Finished, SourceFailed, SinkFailed, DiskFailed, SchemaFailed, NoMemory, LineUnchecked, Damaged, Differs, InputTooLong}
+use Rattle.session_cli.specs.declared.serving.Status.TheVariants.{Finished, SourceFailed, SinkFailed, DiskFailed}
+use Rattle.session_cli.specs.declared.serving.Status.TheVariants.{SchemaFailed, NoMemory, LineUnchecked, Damaged}
+use Rattle.session_cli.specs.declared.serving.Status.TheVariants.{Differs, InputTooLong}
 use Rattle.session_cli.specs.Cutting.{cut, front_of, ended_lines, all_lines}
 use Rattle.session_cli.specs.Ends.{Taken}
 use Rattle.session_cli.specs.Output.{Splits, Breaks}

@@ -10,17 +10,20 @@ use Rattle.cache_tier.specs.TierStates.{Settings as TierSettings}
 use Rattle.cache_tier.specs.Worlds.{World}
 use Rattle.cache_engine.specs.Opening.{Opens}
 use Rattle.tier_opening.specs.Opening.{MayOpen}
+use Rattle.stored_tier.specs.Stored.{pace_of}
 use Rattle.tier_opening.specs.Telling.{FailsAs}
 use Rattle.tier_opening.specs.declared.opening.OpenError.{OpenError}
 use Rattle.session_cli.specs.declared.answering.Stop.{Stop}
 use Rattle.session_cli.specs.declared.answering.Stop.TheVariants as stop
 use Rattle.session_cli.specs.declared.serving.Status.{Status}
 use Rattle.session_cli.specs.declared.session.Session.{Session}
-use Rattle.session_cli.specs.declared.serving.Status.TheVariants.{Finished, SourceFailed, SinkFailed, DiskFailed, SchemaFailed, NoMemory, LineUnchecked, Damaged, Differs, InputTooLong}
+use Rattle.session_cli.specs.declared.serving.Status.TheVariants.{Finished, SourceFailed, SinkFailed, DiskFailed}
+use Rattle.session_cli.specs.declared.serving.Status.TheVariants.{SchemaFailed, NoMemory, LineUnchecked, Damaged}
+use Rattle.session_cli.specs.declared.serving.Status.TheVariants.{Differs, InputTooLong}
 use Rattle.session_cli.specs.Cutting.{ended_lines, all_lines}
 use Rattle.session_cli.specs.Opening.{TellsWhy, begins}
 use Rattle.session_cli.specs.Outside.{Outside}
-use Rattle.session_cli.specs.Serving.{HasFlushed, IsLeftAlone, Origin, Rests, Serving, StopsAt, Whole}
+use Rattle.session_cli.specs.Serving.{HasFlushed, IsLeftAlone, Origin, Rests, Serving, StopsAt, WasLeft, Whole}
 use Rattle.session_cli.specs.Timing.{IsNext}
 
 -- at most this many bytes are taken without an end
@@ -122,17 +125,19 @@ Serves session status source before source' behind =
     → Ended status o input source' behind
 
 -- No engine was opened, and no line is answered: nothing of the source is taken. The sink is told why, and that has its
--- cause.
-pub record Unopened (status : Status) (input : List ℕ) (before : Outside) (source : Option (List ℕ))
-    (behind : Outside) : Type 0 where
+-- cause at the moment of the opening.
+pub record Unopened (status : Status) (settings : TierSettings) (input : List ℕ) (before : Outside)
+    (source : Option (List ℕ)) (behind : Outside) : Type 0 where
   pub untaken : source ≡ Some input
   pub why : OpenError
   pub tells : TellsWhy status before.written behind.written why
   pub moment : ℕ
-  pub failed : FailsAs moment before.site behind.site why
+  pub next : IsNext (before.coming 0) moment
+  pub failed : FailsAs moment (pace_of settings) before.site behind.site why
 
 -- Before the first line the engine is opened, which may raise counts of faults, and in which transactions of others may
--- come. The run begins in the world that this leaves, and ends so where others change no table of a group.
+-- come. The run begins in the world that this leaves, in which the engine is left so, and ends so where others change
+-- no table of a group.
 pub record OpenedAndEnded (status : Status) (settings : TierSettings) (there : Held) (start input : List ℕ)
     (before : Outside) (source : Option (List ℕ)) (behind : Outside) : Type 0 where
   pub first : ℕ
@@ -142,6 +147,7 @@ pub record OpenedAndEnded (status : Status) (settings : TierSettings) (there : H
   pub kept : world.journal.kept ≡ true
   pub later : before.site.bank_faults ≤ world.bank_faults
   pub shares : world.shared ≡ before.site.shared
+  pub left : WasLeft before.kept_once world
   pub ended : IsLeftAlone (begins world start before.coming) input
       → Ended status (begins world start before.coming) input source behind
 
@@ -151,7 +157,7 @@ abbrev pub Runs : TierSettings → Status → Option (List ℕ) → Outside → 
 Runs settings status source before source' behind =
     (input start : List ℕ) (there : Held) → source ≡ Some input → before.written ≡ Some start
     → before.site.held ≡ Some there → HaveBytes there.slots → MayOpen before.site.shared there
-    → Unopened status input before source' behind
+    → Unopened status settings input before source' behind
     ⊎ OpenedAndEnded status settings there start input before source' behind
 
 -- Why a run doesn't begin: `clap` refuses the words, or it takes them and the settings are bad, or memory was wanting.

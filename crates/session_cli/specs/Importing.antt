@@ -11,13 +11,17 @@ use Rattle.cache_tier.specs.TierStates.{Settings as TierSettings}
 use Rattle.cache_tier.specs.Worlds.{Tries, World}
 use Rattle.cache_tier.specs.declared.reply.Reply.{Reply}
 use Rattle.tier_opening.specs.Opening.{MayOpen}
+use Rattle.stored_tier.specs.Stored.{pace_of}
 use Rattle.tier_opening.specs.Telling.{FailsAs}
 use Rattle.tier_opening.specs.declared.opening.OpenError.{OpenError}
 use Rattle.tier_opening.specs.declared.opening.OpenError.TheVariants as open_error
 use Rattle.cache_engine.specs.Importing.{Imports}
 use Rattle.cache_engine.specs.Opening.{Opens}
 use Rattle.session_cli.specs.declared.serving.Status.{Status}
-use Rattle.session_cli.specs.declared.serving.Status.TheVariants.{Finished, SourceFailed, SinkFailed, DiskFailed, SchemaFailed, NoMemory, LineUnchecked, Damaged, Differs, InputTooLong}
+use Rattle.session_cli.specs.declared.serving.Status.TheVariants.{Finished, SourceFailed, SinkFailed, DiskFailed}
+use Rattle.session_cli.specs.declared.serving.Status.TheVariants.{SchemaFailed, NoMemory, LineUnchecked, Damaged}
+use Rattle.session_cli.specs.declared.serving.Status.TheVariants.{Differs, InputTooLong}
+use Rattle.session_cli.specs.Ends.{Taken}
 use Rattle.session_cli.specs.Opening.{TellsWhy}
 use Rattle.session_cli.specs.Outside.{Outside}
 use Rattle.session_cli.specs.Timing.{IsNext}
@@ -32,14 +36,16 @@ TellsImport status sink sink' (open_error.Differs table key) =
     TellsWhy status sink sink' (open_error.Differs table key)
 TellsImport status sink sink' open_error.Memory = TellsWhy status sink sink' open_error.Memory
 
--- No engine was opened, and nothing of the source is taken. The sink is told why, and that has its cause.
-pub record ImportUnopened (status : Status) (input : List ℕ) (before : Outside) (source : Option (List ℕ))
-    (behind : Outside) : Type 0 where
+-- No engine was opened, and nothing of the source is taken. The sink is told why, and that has its cause at the
+-- moment of the opening.
+pub record ImportUnopened (status : Status) (settings : TierSettings) (input : List ℕ) (before : Outside)
+    (source : Option (List ℕ)) (behind : Outside) : Type 0 where
   pub untaken : source ≡ Some input
   pub why : OpenError
   pub tells : TellsImport status before.written behind.written why
   pub moment : ℕ
-  pub failed : FailsAs moment before.site behind.site why
+  pub next : IsNext (before.coming 0) moment
+  pub failed : FailsAs moment (pace_of settings) before.site behind.site why
 
 -- all of the bytes are written, or a front of them where the sink failed
 abbrev pub Puts : {E : Type 0} → Result (Unit {0}) E → Option (List ℕ) → Option (List ℕ) → List ℕ → Type 0
@@ -67,14 +73,18 @@ pub record ImportsNothing (w : World) (before behind : Outside) : Type 0 where
   pub at : IsAt behind.site w
   pub silent : behind.written ≡ before.written
 
+-- the same, where a front of the source was taken: less than the limit, or that much
+abbrev pub CutsImport : Status → List ℕ → World → Outside → Option (List ℕ) → Outside → Type 0
+CutsImport status input w before source behind = Taken status input source × ImportsNothing w before behind
+
 -- how the command ended, over the engine that was opened in this world
 abbrev pub ImportEnds : Status → List ℕ → List ℕ → World → Outside → Option (List ℕ) → Outside → Type 0
 ImportEnds Finished word input w before source behind =
     ImportedAll {E = Unit {0}} (Ok tt) word input w before source behind
 ImportEnds SinkFailed word input w before source behind =
     ImportedAll {E = Unit {0}} (Err tt) word input w before source behind
-ImportEnds SourceFailed word input w before source behind = ImportsNothing w before behind
-ImportEnds InputTooLong word input w before source behind = ImportsNothing w before behind
+ImportEnds SourceFailed word input w before source behind = CutsImport SourceFailed input w before source behind
+ImportEnds InputTooLong word input w before source behind = CutsImport InputTooLong input w before source behind
 ImportEnds NoMemory word input w before source behind = ImportsNothing w before behind
 ImportEnds DiskFailed word input w before source behind = ⊥
 ImportEnds SchemaFailed word input w before source behind = ⊥
@@ -82,8 +92,8 @@ ImportEnds LineUnchecked word input w before source behind = ⊥
 ImportEnds Damaged word input w before source behind = ⊥
 ImportEnds Differs word input w before source behind = ⊥
 
--- An engine was opened, which may raise counts of faults, and in which transactions of others may come. In the world that
--- this leaves the rows were imported, or nothing was done.
+-- An engine was opened, which may raise counts of faults, and in which transactions of others may come. In the world
+-- that this leaves the rows were imported, or nothing was done.
 pub record OpenedAndImported (status : Status) (settings : TierSettings) (there : Held) (word input : List ℕ)
     (before : Outside) (source : Option (List ℕ)) (behind : Outside) : Type 0 where
   pub first : ℕ
@@ -95,13 +105,13 @@ pub record OpenedAndImported (status : Status) (settings : TierSettings) (there 
   pub shares : world.shared ≡ before.site.shared
   pub ended : ImportEnds status word input world before source behind
 
--- Where source and site tell what they hold, and the site's journal and history belong together, this is what the command
--- did with the bytes of the source and the word of a table.
+-- Where source and site tell what they hold, and the site's journal and history belong together, this is what the
+-- command did with the bytes of the source and the word of a table.
 abbrev pub ImportRuns : TierSettings → List ℕ → Status → Option (List ℕ) → Outside → Option (List ℕ) → Outside → Type 0
 ImportRuns settings word status source before source' behind =
     (input : List ℕ) (there : Held) → source ≡ Some input → before.site.held ≡ Some there → HaveBytes there.slots
     → MayOpen before.site.shared there
-    → ImportUnopened status input before source' behind
+    → ImportUnopened status settings input before source' behind
     ⊎ OpenedAndImported status settings there word input before source' behind
 
 -- the whole of what a source holds is taken into a list

@@ -12,7 +12,8 @@ use Rattle.cache_tier.specs.Worlds.{World}
 use Rattle.tier_opening.specs.declared.opening.OpenError.{OpenError}
 use Rattle.tier_opening.specs.declared.opening.OpenError.TheVariants as open_error
 use Rattle.session_cli.specs.declared.serving.Status.{Status}
-use Rattle.session_cli.specs.declared.serving.Status.TheVariants.{Damaged, Differs, DiskFailed, NoMemory, SchemaFailed, SinkFailed}
+use Rattle.session_cli.specs.declared.serving.Status.TheVariants.{Damaged, Differs, DiskFailed, NoMemory, SchemaFailed}
+use Rattle.session_cli.specs.declared.serving.Status.TheVariants.{SinkFailed}
 use Rattle.session_cli.specs.Serving.{Origin}
 use Rattle.session_cli.specs.Timing.{Coming}
 

@@ -1,6 +1,7 @@
 -- A run in the middle and at its end.
 
-use Rattle.std.specs.Prelude.{◌≡◌, ◌≤◌, ◌⊎◌, ℕ, List, [], ◌∷◌, ◌++◌, true, false, Option, Some, None, Result, Ok, Err, length, map, take}
+use Rattle.std.specs.Prelude.{◌≡◌, ◌≤◌, ◌⊎◌, ℕ, List, [], ◌∷◌, ◌++◌, true, false, Option, Some, None, Result, Ok, Err}
+use Rattle.std.specs.Prelude.{length, map, take}
 use Rattle.std.specs.Result.{IsErrOf}
 use Rattle.outside.specs.Faults.{Rose}
 use Rattle.order_laws.specs.Commits.{KeepsCommitOrder}
@@ -12,16 +13,18 @@ use Rattle.cache_tier.specs.Steps as tier_steps
 use Rattle.cache_tier.specs.Worlds.{IsUnshared, World}
 use Rattle.cache_tier.specs.StandingBetween.{AreReadAt}
 use Rattle.session_engine.specs.Doubting.{IsLeft}
+use Rattle.cache_engine.specs.Engines.{IsInOrder}
 use Rattle.cache_engine.specs.Requests.{BrokenRun, Given, LineGoes, LineRun}
 use Rattle.cache_engine.specs.declared.engine.Engine.{Engine}
 use Rattle.stored_tier.specs.Sites.{IsAt}
+use Rattle.tier_journal.specs.declared.journal.TierJournal.{TierJournal}
 use Rattle.outside.specs.Sites.{SiteState}
 use Rattle.session_cli.specs.declared.answering.Stop.{Stop}
 use Rattle.session_cli.specs.declared.answering.Stop.TheVariants as stop
 use Rattle.session_cli.specs.declared.session.Session.{Session}
 use Rattle.session_cli.specs.Cutting.{cut, front_of, ended_lines, all_lines}
 use Rattle.session_cli.specs.Output.{Breaks, Splits}
-use Rattle.session_cli.specs.Outside.{Outside}
+use Rattle.session_cli.specs.Outside.{IsInSlots, Keeping, Outside}
 use Rattle.session_cli.specs.Timing.{AreLeft, AreTimed, Coming, TakesBase}
 
 -- Where a run begins: a world, what the sink holds, and what moments are counted from. The first of these is the
@@ -51,6 +54,25 @@ pub record ComesBroken (o : Origin) (lines : List (List ℕ)) (replies : List (O
   pub timed : AreTimed o.bases 1 given asked
   pub run : BrokenRun o.world given replies w
 
+-- Between two lines: an engine in order was left so in this world, and its journal was kept over the disk of the site
+-- as that was then.
+pub record WasLeft (once : Keeping) (w : World) : Type 0 where
+  pub engine : Engine
+  pub order : IsInOrder engine
+  pub left : IsLeft engine.tier engine.doubt w
+  pub kept : w.journal.kept ≡ true
+  pub over : once engine.journal w
+
+-- So it was in the world in which a run begins, and in the world behind each of its lines. Where a line begins others
+-- change no table of a writethrough group, and its reply tells no failed call of the journal's disk.
+abbrev pub GoesOn : Keeping → (w : World) (lines : List Given) (replies : List (Option Reply)) (w' : World)
+    → LineRun w lines replies w' → Type 0
+GoesOn once w [] [] w' run = WasLeft once w'
+GoesOn once w [] (reply ∷ replies) w' run = ⊥
+GoesOn once w (g ∷ lines) [] w' run = ⊥
+GoesOn once w (g ∷ lines) (reply ∷ replies) w' run =
+    WasLeft once w × IsUnshared w × (is_broken reply ≡ false) × GoesOn once run.0 lines replies w' run.2
+
 -- Others change no table of a writethrough group: at no end of a line of these bytes, in whatever run, is such a group
 -- over a table that others change.
 abbrev pub IsLeftAlone : Origin → List ℕ → Type 0
@@ -59,11 +81,12 @@ IsLeftAlone o input =
     → Comes o (ended_lines given) replies w → IsUnshared w
 
 -- The engine is left so in a world: its tier stands there, or a commit is in doubt. Its journal is kept over the site's
--- disk, and the world keeps one.
+-- disk, and in its slots, and the world keeps one.
 pub record StandsIn (now : Outside) (e : Engine) (w : World) : Type 0 where
   pub left : IsLeft e.tier e.doubt w
   pub keeps : now.keeps e.journal w
   pub kept : w.journal.kept ≡ true
+  pub slots : IsInSlots now.site w
 
 -- what waits and the last reply of a run are written; or a front of both, where the sink failed
 abbrev pub WritesLast : Stop → Option (List ℕ) → Option (List ℕ) → List ℕ → List ℕ → Type 0
@@ -82,15 +105,19 @@ TellsFault (Ok done) reply = is_broken reply ≡ false
 TellsFault (Err stop.Sink) reply = Unit {0}
 TellsFault (Err stop.Disk) reply = is_broken reply ≡ true
 
--- One line was answered in this world: its base was taken, the request was served, and its reply passed on to the sink.
+-- One line was answered in this world, in which others change no table of a writethrough group: its base was taken, the
+-- request was served, and its reply passed on to the sink. What was kept over the site's disk at some time was so.
 pub record Responds (result : Result (Unit {0}) Stop) (before behind : Outside) (waiting waiting' : List ℕ)
     (engine' : Engine) (w : World) (line : List ℕ) : Type 0 where
   pub base : ℕ
   pub took : TakesBase line before.coming behind.coming base
   pub reply : Option Reply
+  pub unshared : IsUnshared w
+  pub once : (k : Option TierJournal) (v : World) → before.kept_once k v → behind.kept_once k v
   pub world : World
   pub at : IsAt behind.site world
   pub stands : is_broken reply ≡ false → StandsIn behind engine' world
+  pub was : is_broken reply ≡ false → WasLeft behind.kept_once world
   pub goes : LineGoes base w line world reply
   pub tells : TellsFault result reply
   pub passed : PassesReply result before.written behind.written waiting waiting' (reply_bytes reply)
@@ -112,6 +139,7 @@ pub record Serving (o : Origin) (given : List ℕ) (now : Outside) (session : Se
   pub world : World
   pub replies : List (Option Reply)
   pub comes : Comes o (ended_lines given) replies world
+  pub goes : GoesOn now.kept_once o.world comes.given replies world comes.run
   pub at : IsAt now.site world
   pub stands : StandsIn now session.engine world
   pub left : AreLeft o.bases comes.asked now.coming
@@ -128,62 +156,69 @@ pub record HasFlushed (w w' : World) : Type 0 where
   pub kept : w'.journal.kept ≡ true
   pub empty : w'.journal.tail ≡ []
 
--- These are the replies of a run over the lines, and at its end, behind what comes there, the site is as the run's last
--- world says. There each committed transaction stands once at most, and conflicting ones in commit order; where nothing
--- is in doubt and nothing unsettled, as behind a ttDrain that succeeded, each stands once, and the tables of each
--- writethrough group are what all of its transactions make in commit order; and the READONLY groups of one set that have
--- something to show have one position.
+-- These are the replies of a run over the lines, behind each of which the engine was left so. At its end, behind what
+-- comes there, the site is as the run's last world says, whose journal is kept in its slots. There each committed
+-- transaction stands once at most, and conflicting ones in commit order; where nothing is in doubt and nothing
+-- unsettled, as behind a ttDrain that succeeded, each stands once, and the tables of each writethrough group are what
+-- all of its transactions make in commit order; and the READONLY groups of one set that have something to show have one
+-- position.
 pub record Answered (ends : World → World → Type 0) (o : Origin) (lines : List (List ℕ))
-    (replies : List (Option Reply)) (site : SiteState) : Type 0 where
+    (replies : List (Option Reply)) (site : SiteState) (once : Keeping) : Type 0 where
   pub ran : World
   pub comes : Comes o lines replies ran
+  pub goes : GoesOn once o.world comes.given replies ran comes.run
   pub last : World
   pub ended : ends ran last
   pub at : IsAt site last
+  pub slots : IsInSlots site last
   pub legal : KeepsCommitOrder last.history last.tier.log
   pub drained : last.tier.doubt ≡ None → last.tier.unsettled ≡ [] → IsDrained last
   pub read : AreReadAt (length last.history) last.tier.groups
 
--- The run ended at the last of the lines, whose reply tells a failed call of the journal's disk.
+-- The run ended at the last of the lines, whose reply tells a failed call of the journal's disk. Up to there the engine
+-- was left so behind each line.
 pub record LineBroken (o : Origin) (lines : List (List ℕ)) (replies : List (Option Reply)) (site : SiteState)
-    : Type 0 where
+    (once : Keeping) : Type 0 where
   pub last : World
   pub comes : ComesBroken o lines replies last
+  pub goes : GoesOn once o.world comes.run.before comes.run.told comes.run.mid comes.run.run
+  pub unshared : IsUnshared comes.run.mid
   pub at : IsAt site last
 
 -- The lines are answered, but the tail of the journal couldn't be flushed behind them. The last reply says so.
 pub record EndBroken (o : Origin) (lines : List (List ℕ)) (replies : List (Option Reply)) (site : SiteState)
-    : Type 0 where
+    (once : Keeping) : Type 0 where
   pub told : List (Option Reply)
   pub ran : World
   pub comes : Comes o lines told ran
+  pub goes : GoesOn once o.world comes.given told ran comes.run
   pub last : World
   pub reply : Reply
   pub ended : tier_steps.Finishes ran last (Some reply)
   pub at : IsAt site last
   pub are : replies ≡ told ++ Some reply ∷ []
 
-abbrev pub Broken : Origin → List (List ℕ) → List (Option Reply) → SiteState → Type 0
-Broken o lines replies site = LineBroken o lines replies site ⊎ EndBroken o lines replies site
+abbrev pub Broken : Origin → List (List ℕ) → List (Option Reply) → SiteState → Keeping → Type 0
+Broken o lines replies site once = LineBroken o lines replies site once ⊎ EndBroken o lines replies site once
 
 -- The lines are answered, and all replies written.
 pub record Whole (ends : World → World → Type 0) (o : Origin) (lines : List (List ℕ)) (now : Outside) : Type 0 where
   pub replies : List (Option Reply)
-  pub answered : Answered ends o lines replies now.site
+  pub answered : Answered ends o lines replies now.site now.kept_once
   pub tells : now.written ≡ Some (o.written ++ replies_bytes replies)
 
 -- The run ended by a failed call of the journal's disk, and all replies are written. The last one tells it.
 pub record BrokenOff (o : Origin) (lines : List (List ℕ)) (now : Outside) : Type 0 where
   pub replies : List (Option Reply)
-  pub broken : Broken o lines replies now.site
+  pub broken : Broken o lines replies now.site now.kept_once
   pub tells : now.written ≡ Some (o.written ++ replies_bytes replies)
 
 -- The lines are answered, or the run ended by a failed call of the journal's disk; but only a front of the replies is
 -- written.
 pub record CutShort (o : Origin) (lines : List (List ℕ)) (now : Outside) : Type 0 where
   pub replies : List (Option Reply)
-  pub answered : Answered Rests o lines replies now.site
-      ⊎ (Answered HasFlushed o lines replies now.site ⊎ Broken o lines replies now.site)
+  pub answered : Answered Rests o lines replies now.site now.kept_once
+      ⊎ (Answered HasFlushed o lines replies now.site now.kept_once ⊎ Broken o lines replies now.site now.kept_once)
   pub count : ℕ
   pub tells : now.written ≡ Some (o.written ++ take count (replies_bytes replies))
 
@@ -203,6 +238,7 @@ pub record Closing (o : Origin) (lines : List (List ℕ)) (now : Outside) (engin
   pub world : World
   pub replies : List (Option Reply)
   pub comes : Comes o lines replies world
+  pub goes : GoesOn now.kept_once o.world comes.given replies world comes.run
   pub at : IsAt now.site world
   pub stands : StandsIn now engine world
   pub passed : Splits (Some o.written) now.written (replies_bytes replies) waiting

@@ -9,7 +9,8 @@ ghost use Rattle.cache_tier.specs.Worlds.{IsUnshared, World};
 ghost use Rattle.cache_engine.specs.Engines.{IsInOrder};
 ghost use Rattle.stored_tier.specs.Sites.{IsAt};
 ghost use Rattle.session_cli.specs.Outside.{seen};
-ghost use Rattle.session_cli.specs.Serving.{HasStopCause, IsStopCaused, PassesReply, Responds, StandsIn, TellsFault, WritesLast};
+ghost use Rattle.session_cli.specs.Serving.{HasStopCause, IsStopCaused, PassesReply, Responds, StandsIn, TellsFault};
+ghost use Rattle.session_cli.specs.Serving.{WritesLast};
 
 use crate::output::Output;
 use crate::replies::write_reply;

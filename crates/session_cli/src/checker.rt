@@ -111,7 +111,8 @@ impl Drop for Checker {
 
 impl Checker {
     ghost use Rattle.std.specs.Prelude.{◌≡◌, ◌∷◌, [], List, ℕ, OnOk, IfOk};
-    ghost use Rattle.session_cli.specs.Checking.{CheckCloses, CheckFeeds, CheckFinishes, CheckHasCause, Checking, IsNewChecker};
+    ghost use Rattle.session_cli.specs.Checking.{CheckCloses, CheckFeeds, CheckFinishes, CheckHasCause, Checking};
+    ghost use Rattle.session_cli.specs.Checking.{IsNewChecker};
 
     /// A checker that has been given nothing. All memory of its buffers is taken here.
     pub fn new(alloc: Global) -> Result<Checker, AllocError>

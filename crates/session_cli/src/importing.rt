@@ -6,6 +6,7 @@ ghost use Rattle.cache_tier.specs.Worlds.{World};
 ghost use Rattle.command_line.specs.declared.settings.ClockSource.TheVariants.{Script};
 ghost use Rattle.stored_tier.specs.Sites.{IsAt};
 ghost use Rattle.stored_tier.specs.Stored.{IsStoredAs};
+ghost use Rattle.session_cli.specs.Ends.{Taken};
 ghost use Rattle.session_cli.specs.Importing.{ImportRuns, Imported, TakesAll, TellsImport};
 ghost use Rattle.session_cli.specs.Opening.{tier_settings};
 ghost use Rattle.session_cli.specs.Outside.{seen};
@@ -13,7 +14,7 @@ ghost use Rattle.session_cli.specs.Timing.{IsNext, bases_by};
 
 use crate::output::Output;
 use crate::replies::write_reply;
-use crate::serving::{Status, end_told};
+use crate::serving::{Status, end_told, pace_in};
 use cache_engine::engine::Engine;
 use cache_engine::importing::import_rows;
 use cache_engine::opening::{OpenError, open};
@@ -43,9 +44,9 @@ enum InputError {
 /// into the backing table of the word, as `cache_engine::importing::import_rows` does. The reply is written.
 ///
 /// No due work is done, and the journal isn't written to. Where no engine is opened nothing of the source is taken. A
-/// line says why then, as `serve` writes it, but none of a failed call of the journal's disk. Nothing is done and nothing
-/// is written where the source failed, where 2^32 bytes were taken from it without an end, or where memory was wanting
-/// before the rows were read. (This project's rule.)
+/// line says why then, as `serve` writes it, but none of a failed call of the journal's disk. Nothing is done and
+/// nothing is written where the source failed, where 2^32 bytes were taken from it without an end, or where memory
+/// was wanting before the rows were read. (This project's rule.)
 pub fn import<S: Source, K: Sink, P: Site, C: Clock>(
     alloc: Global,
     word: &str,
@@ -77,7 +78,7 @@ pub fn import<S: Source, K: Sink, P: Site, C: Clock>(
         return Status::NoMemory;
     };
     let start = first_moment(settings, clock);
-    let engine = match open(alloc, site, start, settings.propagate_ms) {
+    let engine = match open(alloc, site, start, pace_in(settings)) {
         Ok(engine) => engine,
         Err(error) => return end_unopened(&mut output, sink, &error),
     };
@@ -132,6 +133,10 @@ fn take_all<S: Source>(
     requires room { 0 < length piece.old }
     ensures all { IfOk result (λ done. (input : List ℕ) → S.left source.old ≡ Some input
         → TakesAll input bytes.new.items (S.left source.new)) }
+    ensures failed { result ≡ Err InputError.Source → (input : List ℕ) → S.left source.old ≡ Some input
+        → Taken Status.SourceFailed input (S.left source.new) }
+    ensures long { result ≡ Err InputError.TooLong → (input : List ℕ) → S.left source.old ≡ Some input
+        → Taken Status.InputTooLong input (S.left source.new) }
     ensures read { result ≡ Err InputError.Source → Rose (S.faults source.old) (S.faults source.new) }
 {
     let mut room = INPUT_BYTES;

@@ -26,6 +26,7 @@ pub use line::LineBuffer;
 pub use output::Output;
 pub use program::top;
 pub use replies::write_reply;
+pub use script_commands::{Progress, Silent};
 pub use serving::{Status, serve};
 pub use session::Session;
 pub use timing::line_base;

@@ -26,13 +26,13 @@ use crate::checking::check;
 use crate::fixed_clock::FixedClock;
 use crate::importing::import;
 use crate::laws::caused_law;
-use crate::serving::{Status, serve};
+use crate::serving::{Status, pace_in, serve};
 use command_line::{
     ClockSource, Command, CommandError, Settings, SettingsError, read_command, read_settings,
     settings_law,
 };
 use outside::{Clock, Sink, Site, Source};
-use script_commands::{make, tell_bench};
+use script_commands::{Progress, make, tell_bench};
 use std::alloc::Global;
 use tier_base::Moment;
 
@@ -47,42 +47,43 @@ const NO_MEMORY: u8 = 7;
 
 /// The program, over its words, its settings and the world outside. The answer is its status:
 ///
-/// - 0: the input was read to its end, and in `run` nothing waits in the journal's tail; of `import` the reply is written,
-///   which may refuse the file; of `make` and `bench` all was written.
+/// - 0: the input was read to its end, and in `run` nothing waits in the journal's tail; of `import` the reply is
+///   written, which may refuse the file; of `make` and `bench` all was written.
 /// - 1: exactly where `clap` refuses the words for another cause than memory. Nothing else is looked at.
 /// - 2: exactly where the words are taken and the settings are refused for another cause than memory: they are no TOML
 ///   table, or a key isn't known, or a value is of the wrong type or out of its range. Nothing else is looked at.
 /// - 3: the source failed in this call. All lines that ended before are answered; in `import` nothing is done.
 /// - 4: the sink failed in this call, or took nothing of something. A front of the replies is written.
-/// - 5: in `run`, a call of the journal's disk failed. The last line that is written is `fault 202`: at the opening, with
-///   no line answered; at a line, whose reply it ends, and no line behind it is answered; or behind the last line. In
-///   `import` such a call failed at the opening, and nothing is written.
-/// - 6: in `run` and `import`, the backing database failed in this call as the tier asked it for its schema at the
-///   opening. No line is answered, and neither source nor sink is touched.
+/// - 5: in `run`, a call of the journal's disk failed. The last line that is written is `fault 202`: at the opening,
+///   with no line answered; at a line, whose reply it ends, and no line behind it is answered; or behind the last
+///   line. In `import` such a call failed at the opening, and nothing is written.
+/// - 6: in `run` and `import`, the backing database failed in this call as the tier was opened. No line is answered,
+///   and neither source nor sink is touched.
 /// - 7: want of memory before the first request, the words', the settings' and the opening's included; no line is
-///   answered then. In `import` also before the file is read whole; nothing is done then. In `check` also want of memory
-///   for a line. A front of the replies is then written. In `make` and `bench` want of memory anywhere outside a request;
-///   of the script a front is then written, of the summary nothing.
-/// - 8: in `run` and `import`, the journal is damaged: the line `damaged S P` tells the slot, and the byte in it. No line
-///   is answered, and the source isn't touched.
-/// - 9: in `run` and `import`, a row of a backing table isn't as an entry of the journal says: the line
-///   `fault 210 TABLE KEY` tells it. No line is answered, and the source isn't touched.
+///   answered then. In `import` also before the file is read whole; nothing is done then. In `check` also want of
+///   memory for a line. A front of the replies is then written. In `make` and `bench` want of memory anywhere outside
+///   a request; of the script a front is then written, of the summary nothing.
+/// - 8: in `run` and `import`, the journal is damaged: the line `damaged S P` tells the slot, and the byte in it. No
+///   line is answered, and the source isn't touched.
+/// - 9: in `run` and `import`, a row of a backing table wasn't as a committed transaction of the journal says, as
+///   that was tried: the line `fault 210 TABLE KEY` tells it. No line is answered, and the source isn't touched.
 /// - 10: exactly where 2^32 bytes were taken from the source without an end, and the sink took all replies. All lines
 ///   that ended in them are answered; in `import` nothing is done.
 ///
-/// `run` opens a tier over the site, with its journal, and lets it answer each line, and `check` says of each line whether
-/// it is spelt right. `check` calls neither site nor clock. `import` opens a tier as `run` does, takes the whole source,
-/// and inserts its rows into the backing table that the words name, as one transaction of the console. `make` writes the
-/// generated script of a number, and `bench` runs that script on a new site in memory and writes what its run comes to;
-/// both touch nothing but the sink.
+/// `run` opens a tier over the site, with its journal, and lets it answer each line, and `check` says of each line
+/// whether it is spelt right. `check` calls neither site nor clock. `import` opens a tier as `run` does, takes the
+/// whole source, and inserts its rows into the backing table that the words name, as one transaction of the console.
+/// `make` writes the generated script of a number, and `bench` runs that script on a new site in memory and writes
+/// what its run comes to; both touch nothing but the sink. How far `bench` has come is told to `progress`, which no
+/// clause speaks of.
 ///
 /// Of the settings three act in `run` and `import`. The moments of the opening and of each line that isn't empty or a
 /// comment are counted from `start_ms` where `clock` is `"script"`, and the clock isn't asked; where it is `"system"`,
-/// each from an answer of the clock, in their order. After `propagate_ms` milliseconds a round of propagation is due.
+/// each from an answer of the clock, in their order. After `propagate_ms` milliseconds a round of propagation is due, and it rotates a journal longer than `rotate_bytes`.
 ///
 /// Others may change tables of the backing database in each of the site's calls. Of `run` something is said where no
 /// writethrough group is over a table that others change in the run: those are the tier's to write.
-pub fn top<'a, S: Source, K: Sink, P: Site, C: Clock>(
+pub fn top<'a, S: Source, K: Sink, P: Site, C: Clock, G: Progress>(
     alloc: Global,
     words: &'a [&'a str],
     settings: &[u8],
@@ -90,6 +91,7 @@ pub fn top<'a, S: Source, K: Sink, P: Site, C: Clock>(
     sink: &mut K,
     site: &mut P,
     clock: &mut C,
+    progress: &mut G,
 ) -> u8
     ensures words { result ≡ 1 → Refuses (texts words.entry.now) }
     ensures refused { Refuses (texts words.entry.now) → (result ≡ 1) ⊎ (result ≡ 7) }
@@ -127,7 +129,8 @@ pub fn top<'a, S: Source, K: Sink, P: Site, C: Clock>(
     ensures alone { (m : ℕ) → Asks (texts words.entry.now) (Task.Make m) ⊎ Asks (texts words.entry.now) (Task.Bench m)
         → (source.new ≡ source.old) × (site.new ≡ site.old) × (clock.new ≡ clock.old) }
     ensures takes { Asks (texts words.entry.now) Task.Run ⊎ Asks (texts words.entry.now) Task.Check
-        → (s : Set) → IsSetBy settings.now s → ((status : Status) × (result ≡ number_of status) × Takes status (S.left source.old) (S.left source.new)) }
+        → (s : Set) → IsSetBy settings.now s
+        → ((status : Status) × (result ≡ number_of status) × Takes status (S.left source.old) (S.left source.new)) }
     ensures read { result ≡ 3 → Rose (S.faults source.old) (S.faults source.new) }
     ensures write { result ≡ 4 → Rose (K.faults sink.old) (K.faults sink.new) }
     ensures disk { result ≡ 5 → Rose (P.Disk.state site.old).disk_faults (P.Disk.state site.new).disk_faults }
@@ -157,7 +160,7 @@ pub fn top<'a, S: Source, K: Sink, P: Site, C: Clock>(
             import(alloc, word, &asked.settings, source, sink, site, clock).number()
         }
         Command::Make(number) => make(alloc, sink, number).number(),
-        Command::Bench(number) => tell_bench(alloc, sink, number).number(),
+        Command::Bench(number) => tell_bench(alloc, sink, number, progress).number(),
     }
 }
 
@@ -188,9 +191,9 @@ fn run<S: Source, K: Sink, P: Site, C: Clock>(
     match settings.clock {
         ClockSource::Script => {
             let mut fixed = FixedClock(Moment(settings.start_ms));
-            serve(alloc, settings.propagate_ms, source, sink, site, &mut fixed)
+            serve(alloc, pace_in(settings), source, sink, site, &mut fixed)
         }
-        ClockSource::System => serve(alloc, settings.propagate_ms, source, sink, site, clock),
+        ClockSource::System => serve(alloc, pace_in(settings), source, sink, site, clock),
     }
 }
 

@@ -172,8 +172,8 @@ fn write_detail<K: Sink>(output: &mut Output, sink: &mut K, detail: &Detail) -> 
     }
 }
 
-/// Passes the line on that says why no engine is opened: `fault 202`, `damaged S P`, `fault 210 TABLE KEY`. A failed call
-/// of the backing database and want of memory have no line. (The lines are this project's rule.)
+/// Passes the line on that says why no engine is opened: `fault 202`, `damaged S P`, `fault 210 TABLE KEY`. A failed
+/// call of the backing database and want of memory have no line. (The lines are this project's rule.)
 ///
 /// `Failed` only where the sink failed or took nothing of something: a front is then written.
 pub fn write_unopened<K: Sink>(

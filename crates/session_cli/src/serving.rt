@@ -4,8 +4,9 @@ ghost use Rattle.std.specs.Prelude.{◌≡◌, ◌<◌, ◌⊎◌, [], false, le
 ghost use Rattle.outside.specs.Faults.{Rose};
 ghost use Rattle.cache_tier.specs.TierStates.{Settings as TierSettings};
 ghost use Rattle.cache_engine.specs.Engines.{IsInOrder};
+ghost use Rattle.stored_tier.specs.Stored.{pace_of};
 ghost use Rattle.session_cli.specs.Ends.{Runs, Serves, Takes, status_of, takes_none};
-ghost use Rattle.session_cli.specs.Opening.{TellsLine, TellsWhy};
+ghost use Rattle.session_cli.specs.Opening.{TellsLine, TellsWhy, tier_settings};
 ghost use Rattle.session_cli.specs.Outside.{seen};
 
 use crate::answering::Stop;
@@ -14,8 +15,10 @@ use crate::output::Output;
 use crate::replies::write_unopened;
 use crate::session::Session;
 use cache_engine::opening::{OpenError, open};
+use command_line::Settings;
 use outside::{Clock, Failed, Sink, Site, Source};
 use std::alloc::Global;
+use stored_tier::clock::Pace;
 
 /// At most so many bytes are taken without an end.
 const INPUT_BYTES: u64 = 4_294_967_296;
@@ -34,7 +37,7 @@ pub enum Status {
     SinkFailed,
     /// A call of the journal's disk failed.
     DiskFailed,
-    /// The backing database failed at the opening, where it was asked for its schema.
+    /// The backing database failed as the tier was opened.
     SchemaFailed,
     /// Memory was wanting before the first request.
     NoMemory,
@@ -73,22 +76,21 @@ impl Status {
 
 /// Opens an engine over the site, with its journal, lets it answer each request line of the source, and writes the
 /// replies into the sink. Behind the last line what waits in the journal's tail is flushed. The moments of the opening
-/// and of the lines are counted from what the clock answers. After `propagate_ms` milliseconds a round is due; 0 where
-/// none ever is.
+/// and of the lines are counted from what the clock answers. `pace` says when work is done.
 ///
-/// One pass over the input, in pieces. All memory of its own is taken before the engine is opened. Replies are written
-/// before more of the input is asked for. Where no engine is opened a line says why: `fault 202` of a failed call of the
-/// journal's disk, `damaged S P` of its first damaged place, `fault 210 TABLE KEY` of a backing row that differs. A line
-/// or a flush in which a call of that disk failed ends the run with `fault 202`.
+/// One pass over the input, in pieces. All memory of its own is taken before the engine is opened. Replies are
+/// written before more of the input is asked for. Where no engine is opened a line says why: `fault 202` of a failed
+/// call of the journal's disk, `damaged S P` of its first damaged place, `fault 210 TABLE KEY` of a backing row that
+/// differs. A line or a flush in which a call of that disk failed ends the run with `fault 202`.
 pub fn serve<S: Source, K: Sink, P: Site, C: Clock>(
     alloc: Global,
-    propagate_ms: u64,
+    pace: Pace,
     source: &mut S,
     sink: &mut K,
     site: &mut P,
     clock: &mut C,
 ) -> Status
-    ensures runs { (settings : TierSettings) → settings.propagate_ms ≡ propagate_ms
+    ensures runs { (settings : TierSettings) → pace_of settings ≡ pace
         → Runs settings result (S.left source.old)
         (seen (K.written sink.old) (C.coming clock.old) P.Disk.state P.Disk.possible site.old) (S.left source.new)
         (seen (K.written sink.new) (C.coming clock.new) P.Disk.state P.Disk.possible site.new) }
@@ -112,7 +114,7 @@ pub fn serve<S: Source, K: Sink, P: Site, C: Clock>(
         return Status::NoMemory;
     };
     let start = clock.now();
-    match open(alloc, site, start, propagate_ms) {
+    match open(alloc, site, start, pace) {
         Ok(engine) => {
             let mut session = Session {
                 engine,
@@ -123,6 +125,16 @@ pub fn serve<S: Source, K: Sink, P: Site, C: Clock>(
             serve_pieces(alloc, &mut session, piece, source, sink, site, clock)
         }
         Err(error) => end_unopened(&mut output, sink, &error),
+    }
+}
+
+/// When work is done, by the settings.
+pub(crate) fn pace_in(settings: &Settings) -> Pace
+    ensures { result ≡ pace_of (tier_settings settings.now) }
+{
+    Pace {
+        propagate_ms: settings.propagate_ms,
+        rotate_bytes: settings.rotate_bytes,
     }
 }
 

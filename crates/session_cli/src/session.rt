@@ -33,7 +33,8 @@ impl Session {
     ghost use Rattle.cache_engine.specs.Engines.{IsInOrder};
     ghost use Rattle.session_cli.specs.Cutting.{all_lines};
     ghost use Rattle.session_cli.specs.Outside.{seen};
-    ghost use Rattle.session_cli.specs.Serving.{Closes, Closing, Feeds, Finishes, HasStopCause, IsLeftAlone, Origin, PassesReply, Serving};
+    ghost use Rattle.session_cli.specs.Serving.{Closes, Closing, Feeds, Finishes, HasStopCause, IsLeftAlone, Origin};
+    ghost use Rattle.session_cli.specs.Serving.{PassesReply, Serving};
     ghost use Rattle.session_cli.specs.Timing.{Coming};
 
     /// Takes in a piece of the input: the lines that end in it are answered, and their replies written.
@@ -69,9 +70,9 @@ impl Session {
     /// Answers the last line, where the input ended behind no line feed, flushes what waits in the journal's tail, and
     /// writes all replies.
     ///
-    /// `Sink` only where the sink failed or took nothing of something: all lines are then answered, and a front of the
-    /// replies is written. `Disk` only where a call of the journal's disk failed, at the last line or at that flush: all
-    /// replies are written, of which the last tells it.
+    /// `Sink` only where the sink failed or took nothing of something: all lines are then answered, and a front of
+    /// the replies is written. `Disk` only where a call of the journal's disk failed, at the last line or at that
+    /// flush: all replies are written, of which the last tells it.
     pub fn finish<K: Sink, P: Site, C: Clock>(
         &mut self,
         alloc: Global,

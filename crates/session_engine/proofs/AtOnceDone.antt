@@ -63,9 +63,10 @@ use Rattle.stored_tier.proofs.WriterLaws.{writers_drawn}
 use Rattle.stored_tier.proofs.StandingLaws.{last_at_once, performed_behind, slots_kept}
 use Rattle.session_engine.specs.declared.at_once.Ready.{Ready}
 use Rattle.session_engine.specs.declared.doubt.Doubt.{Doubt}
+use Rattle.session_engine.specs.declared.doubt.Doubted.TheVariants.{Commit}
 use Rattle.session_engine.specs.AtOnce.{Concludes, Draws, Finishes, Rooms}
 use Rattle.session_engine.specs.Committing.{bare_all, ops_at}
-use Rattle.session_engine.specs.Doubting.{EndsIn, IsEnded, IsInDoubt}
+use Rattle.session_engine.specs.Doubting.{EndsIn, IsEnded, CommitIsInDoubt}
 use Rattle.session_engine.proofs.AtOnceLaws.{AreLaws, came_leads, came_stands, came_to, none_came, unused}
 use Rattle.session_engine.proofs.CommitLaws.{groups_kept, sealed_same}
 use Rattle.session_engine.proofs.CommitPerformed.{rows_then, same_shown}
@@ -182,7 +183,7 @@ weaker_call one other w w' weaker c = record {
   shared = c.shared;
 }
 
-ended_none : (new : Stored) (doubt : Option Doubt) (seen : SiteState) (does : World → Type 0) → doubt ≡ None → IsPerformed new seen does → IsEnded new doubt seen does
+pub ended_none : (new : Stored) (doubt : Option Doubt) (seen : SiteState) (does : World → Type 0) → doubt ≡ None → IsPerformed new seen does → IsEnded new doubt seen does
 ended_none new doubt seen does none p = subst (λ d. IsEnded new d seen does) (sym none) (record { world = p.world; at = p.at; left = p.stands; is = p.is })
 
 -- what is stored with a ticket drawn
@@ -314,7 +315,7 @@ module _ (laws : AreLaws) (numbers : NumberLaw) (changes : ChangeLaw) (t mid new
             }
 
     -- nobody knows
-    unknown : (doubt : Option Doubt) (reply : Reply) → CalledOnce (sealed_own w.tier s) before after (Err Failed) → new ≡ mid → doubt ≡ Some (record { ticket = t.next; session = id; ops = open_ops id (seen_all mid.sessions) }) → reply ≡ faulty code.BackingFault
+    unknown : (doubt : Option Doubt) (reply : Reply) → CalledOnce (sealed_own w.tier s) before after (Err Failed) → new ≡ mid → doubt ≡ Some (record { ticket = t.next; session = id; of = Commit (open_ops id (seen_all mid.sessions)) }) → reply ≡ faulty code.BackingFault
         → IsEnded new doubt after (λ w'. AppliesDrawn s w w' reply)
     unknown doubt reply called new_is some_doubt answer =
         let now = told_behind at.there before.held after.held (site.BankCall before.shared (AppliesOnce (sealed_own w.tier s) [] (Err Failed))) at.told called.told in
@@ -326,7 +327,7 @@ module _ (laws : AreLaws) (numbers : NumberLaw) (changes : ChangeLaw) (t mid new
         (record {
           world = w';
           at = behind_at w a before after now.there at now.told called.shares;
-          left = subst (λ z. IsInDoubt z (record { ticket = t.next; session = id; ops = open_ops id (seen_all mid.sessions) }) w') (sym new_is) (record {
+          left = subst (λ z. CommitIsInDoubt z (record { ticket = t.next; session = id; of = Commit (open_ops id (seen_all mid.sessions)) }) w') (sym new_is) (record {
             was = w;
             stands = stands_still t (record mid { next = t.next }) w is (stored_before t mid id ready draws w.tier is.stored) (rows_drawn t mid id ready draws);
             unshared = unshared;

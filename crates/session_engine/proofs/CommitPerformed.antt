@@ -42,7 +42,8 @@ use Rattle.cache_tier.specs.StandingBetween.{Stands, are_written_through, own_wr
 use Rattle.stored_tier.specs.declared.tier.Tier.{Tier as Stored}
 use Rattle.session_engine.specs.Committing.{are_deferred, bare, bare_all, commit_answer, commit_fault, ops_at}
 use Rattle.stored_tier.specs.Performing.{Executes, StandsFor}
-use Rattle.stored_tier.specs.Stored.{AreKept, AreWhole, HasSession, IsSound, IsStoredAs, IsVerified, are_later, is_plain, named_where_cached, rows_of}
+use Rattle.stored_tier.specs.Stored.{AreKept, AreWhole, HasSession, IsSound, IsStoredAs, IsVerified, are_later, named_where_cached, rows_of}
+use Rattle.group_catalog.specs.Catalogs.{is_plain}
 use Rattle.session_engine.proofs.KindLaws.{bare_deferred, deferred_not}
 use Rattle.session_engine.proofs.OpStores.{kept_ops, ops_shown, whole_ops}
 use Rattle.pending_writes.specs.Noting.{TellsWriters}
@@ -116,7 +117,7 @@ sound_parts t new sound same sessions kept whole numbered later writers verified
       kept = subst (λ gs. AreKept new.schema gs new.stores.items) (sym groups) (subst (λ defs. AreKept defs (groups_in t.catalog) new.stores.items) (sym same.schema) kept);
       whole = whole;
       plain = ap (list_all is_plain) groups ∙ sound.plain;
-      named = subst Rattle.stored_tier.specs.Stored.HaveOwnNames (sym groups) sound.named;
+      named = subst Rattle.group_catalog.specs.Catalogs.HaveOwnNames (sym groups) sound.named;
       visible = same.visible ∙ sound.visible ∙ sym (λ i. named_where_cached (groups i) (same.schema i));
       numbered = numbered;
       later = ap (λ gs. are_later gs new.unsettled.items) groups ∙ later;

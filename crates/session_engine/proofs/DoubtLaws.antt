@@ -43,9 +43,10 @@ use Rattle.stored_tier.proofs.QuietLaws.{its_session}
 use Rattle.stored_tier.proofs.SessionLaws.{ChangeLaw, session_changed}
 use Rattle.stored_tier.proofs.StandingLaws.{last_at_once}
 use Rattle.session_engine.specs.AtOnce.{Finishes}
-use Rattle.session_engine.specs.Doubting.{IsEnded, IsInDoubt, IsReady, Leads}
-use Rattle.session_engine.specs.Settling.{Forgets, KeepsRest, Settles, end_of, note_of}
+use Rattle.session_engine.specs.Doubting.{CommitIsInDoubt, IsEnded, IsInDoubt, IsReady}
+use Rattle.session_engine.specs.Settling.{Forgets, end_of, note_of}
 use Rattle.session_engine.specs.declared.doubt.Doubt.{Doubt}
+use Rattle.session_engine.specs.declared.doubt.Doubted.{Doubted}
 use Rattle.session_engine.proofs.AtOnceLaws.{AreLaws, came_leads, came_stands, came_to, drawn, none_came, stands_last, unused}
 use Rattle.session_engine.proofs.CommitLaws.{groups_kept}
 use Rattle.session_engine.proofs.CommitPerformed.{rows_then}
@@ -89,7 +90,7 @@ ops_past n (Own ticket ops ∷ h) rest none =
     let both = or_none (nat_eq ticket.0 n) (has_ticket n h) none in
     ap (λ b. cond b ops (ops_of n (h ++ rest))) both.0 ∙ ops_past n h rest both.1
 
-ops_there : (h rest : List Entry) (x : Sealed) → has_ticket x.ticket.0 h ≡ false → ops_of x.ticket.0 ((h ++ entry_of x ∷ []) ++ rest) ≡ x.ops
+pub ops_there : (h rest : List Entry) (x : Sealed) → has_ticket x.ticket.0 h ≡ false → ops_of x.ticket.0 ((h ++ entry_of x ∷ []) ++ rest) ≡ x.ops
 ops_there h rest x none =
     ap (ops_of x.ticket.0) (append_assoc h (entry_of x ∷ []) rest)
     ∙ ops_past x.ticket.0 h (entry_of x ∷ rest) none
@@ -99,13 +100,13 @@ left_true : (a b : Bool) → a ≡ true → (a || b) ≡ true
 left_true true b e = refl
 left_true false b e = cc
 
-stands_within : (h rest : List Entry) (x : Sealed) → has_ticket x.ticket.0 ((h ++ entry_of x ∷ []) ++ rest) ≡ true
+pub stands_within : (h rest : List Entry) (x : Sealed) → has_ticket x.ticket.0 ((h ++ entry_of x ∷ []) ++ rest) ≡ true
 stands_within h rest x =
     has_ticket-append x.ticket.0 (h ++ entry_of x ∷ []) rest
     ∙ left_true (has_ticket x.ticket.0 (h ++ entry_of x ∷ [])) (has_ticket x.ticket.0 rest) (stands_last h x)
 
 -- a tier of which nothing is in doubt
-undoubted : (b : Tier) → b.doubt ≡ None → record b { doubt = None } ≡ b
+pub undoubted : (b : Tier) → b.doubt ≡ None → record b { doubt = None } ≡ b
 undoubted b e = λ i. record b { doubt = sym e i }
 
 -- that a tier stands asks for no more than the tier and the history
@@ -120,7 +121,7 @@ stands_with a h w v x = record {
 }
 
 -- what is stored with the ticket drawn
-pub stored_drawn : (t : Stored) (d : Doubt) (w : World) → (x : IsInDoubt t d w) → IsStoredAs t (with_ticket x.was.tier)
+pub stored_drawn : (t : Stored) (d : Doubt) (w : World) → (x : CommitIsInDoubt t d w) → IsStoredAs t (with_ticket x.was.tier)
 stored_drawn t d w x = record {
   schema = x.stands.stored.schema;
   stale = x.stands.stored.stale;
@@ -133,7 +134,7 @@ stored_drawn t d w x = record {
 }
 
 -- what a doubt came of
-module _ (laws : AreLaws) (numbers : NumberLaw) (changes : ChangeLaw) (t : Stored) (d : Doubt) (w : World) (sound : IsSound t) (x : IsInDoubt t d w) where
+module _ (laws : AreLaws) (numbers : NumberLaw) (changes : ChangeLaw) (t : Stored) (d : Doubt) (w : World) (sound : IsSound t) (x : CommitIsInDoubt t d w) where
   abbrev pub was : World
   was = x.was
 
@@ -314,7 +315,7 @@ reads : (ticket : ℕ) (result : Result Bool BankError) (o n : List Entry) → T
 reads ticket (Ok stands) o n step = step.0
 reads ticket (Err e) o n step = step
 
-module _ (laws : AreLaws) (numbers : NumberLaw) (changes : ChangeLaw) (law : EndsLaw) (t : Stored) (d : Doubt) (w : World) (sound : IsSound t) (x : IsInDoubt t d w) (before after : SiteState) (at : IsAt before w) where
+module _ (laws : AreLaws) (numbers : NumberLaw) (changes : ChangeLaw) (law : EndsLaw) (t : Stored) (d : Doubt) (w : World) (sound : IsSound t) (x : CommitIsInDoubt t d w) (before after : SiteState) (at : IsAt before w) where
   abbrev doubtful : Doubtful
   doubtful = in_doubt laws numbers changes t d w sound x
 
@@ -414,11 +415,11 @@ module _ (laws : AreLaws) (numbers : NumberLaw) (changes : ChangeLaw) (law : End
   settled_false new asked f = came_false new asked f (whole false asked).own
 
   -- nobody knows still
-  pub unsettled : (e : BankError) → AskedOnce d.ticket before after (Err e) → IsEnded t (Some d) after (λ w'. DueDoubt w w' [] (end_of (Err e)))
-  unsettled e asked = let still = stands_still_in laws numbers changes t d w sound x (now (Err e) asked).there.history (more (Err e) asked) in record {
+  pub unsettled : (kind : Doubted) → d.of ≡ kind → ((w' : World) → CommitIsInDoubt t d w' → IsInDoubt kind t d w') → (e : BankError) → AskedOnce d.ticket before after (Err e) → IsEnded t (Some d) after (λ w'. DueDoubt w w' [] (end_of (Err e)))
+  unsettled kind of so e asked = let still = stands_still_in laws numbers changes t d w sound x (now (Err e) asked).there.history (more (Err e) asked) in record {
     world = world_then (Err e) asked;
     at = at_then (Err e) asked;
-    left = record {
+    left = subst (λ o. IsInDoubt o t d (world_then (Err e) asked)) (sym of) (so (world_then (Err e) asked) (record {
       was = x.was;
       stands = x.stands;
       unshared = x.unshared;
@@ -438,45 +439,9 @@ module _ (laws : AreLaws) (numbers : NumberLaw) (changes : ChangeLaw) (law : End
       tier = x.tier;
       legal = subst (λ (a : Tier). KeepsCommitOrder (now (Err e) asked).there.history a.log) (sym x.tier) still.legal;
       read = subst (λ (a : Tier). AreReadAt (length (now (Err e) asked).there.history) a.groups) (sym x.tier) still.read;
-    };
+    }));
     is = settles (Err e) asked [] (end_of (Err e)) refl refl;
   }
 
--- by the answer
-settled_by : AreLaws → NumberLaw → ChangeLaw → EndsLaw → (t new : Stored) (d : Doubt) (before after : SiteState) (stands : Bool) → IsSound t → AskedOnce d.ticket before after (Ok stands) → Settles t new d.session stands
-    → Leads t (Some d) new None before after (λ w w'. DueDoubt w w' (note_of d stands ∷ []) None)
-settled_by laws numbers changes law t new d before after true sound asked did w at x apart = settled_true laws numbers changes law t d w sound x before after at new asked did
-settled_by laws numbers changes law t new d before after false sound asked did w at x apart = settled_false laws numbers changes law t d w sound x before after at new asked did
-
-pub leads_settled : AreLaws → NumberLaw → ChangeLaw → EndsLaw → (t new : Stored) (left doubt : Option Doubt) (d : Doubt) (before after : SiteState) (stands : Bool) (note : Note) → IsSound t → left ≡ Some d → doubt ≡ None → note ≡ note_of d stands
-    → AskedOnce d.ticket before after (Ok stands) → Settles t new d.session stands → Leads t left new doubt before after (λ w w'. DueDoubt w w' (note ∷ []) None)
-leads_settled laws numbers changes law t new left doubt d before after stands note sound is none told asked did =
-    subst (λ o. Leads t o new doubt before after (λ w w'. DueDoubt w w' (note ∷ []) None)) (sym is)
-    (subst (λ o. Leads t (Some d) new o before after (λ w w'. DueDoubt w w' (note ∷ []) None)) (sym none)
-    (subst (λ n. Leads t (Some d) new None before after (λ w w'. DueDoubt w w' (n ∷ []) None)) (sym told)
-    (settled_by laws numbers changes law t new d before after stands sound asked did)))
-
-pub leads_unsettled : AreLaws → NumberLaw → ChangeLaw → EndsLaw → (t : Stored) (left : Option Doubt) (d : Doubt) (before after : SiteState) (e : BankError) → IsSound t → left ≡ Some d → AskedOnce d.ticket before after (Err e)
-    → Leads t left t (Some d) before after (λ w w'. DueDoubt w w' [] (end_of (Err e)))
-leads_unsettled laws numbers changes law t left d before after e sound is asked =
-    subst (λ o. Leads t o t (Some d) before after (λ w w'. DueDoubt w w' [] (end_of (Err e)))) (sym is)
-    (λ w at x apart. unsettled laws numbers changes law t d w sound x before after at e asked)
-
 pub ready_none : (t : Stored) (doubt : Option Doubt) → doubt ≡ None → IsReady t doubt
 ready_none t doubt none = subst (IsReady t) (sym none) tt
-
-pub ready_some : (t : Stored) (left : Option Doubt) (d : Doubt) → left ≡ Some d → IsReady t left → IsReady t (Some d)
-ready_some t left d is ready = subst (IsReady t) is ready
-
--- what is as it was
-pub rest_kept : (t new : Stored) (id : SessionId) (stands : Bool) → Settles t new id stands → KeepsRest t new
-rest_kept t new id true fin = record {
-  schema = ap (λ (z : Stored). z.schema) fin.rest;
-  catalog = ap (λ (z : Stored). z.catalog) fin.rest;
-  clock = ap (λ (z : Stored). z.clock) fin.rest;
-}
-rest_kept t new id false f = record {
-  schema = ap (λ (z : Stored). z.schema) f.rest;
-  catalog = ap (λ (z : Stored). z.catalog) f.rest;
-  clock = ap (λ (z : Stored). z.clock) f.rest;
-}

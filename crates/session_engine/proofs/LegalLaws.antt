@@ -58,7 +58,7 @@ order_but_last conflict log x front (Own ticket ops ∷ h) keeps = (
   order_but_last conflict log x (front ++ Own ticket ops ∷ []) h keeps.1,
 )
 
-legal_but_last : (h : List Entry) (log : List Sealed) (x : Sealed) → KeepsCommitOrder h (log ++ x ∷ []) → KeepsCommitOrder h log
+pub legal_but_last : (h : List Entry) (log : List Sealed) (x : Sealed) → KeepsCommitOrder h (log ++ x ∷ []) → KeepsCommitOrder h log
 legal_but_last h log x keeps s is =
     let legal = keeps s is in
     record { once = legal.once; ops = has_but_last log x h legal.ops; order = order_but_last (conflicting s.schema) log x [] h legal.order }

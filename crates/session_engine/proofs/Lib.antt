@@ -5,6 +5,7 @@ pub mod AtOnceLaws
 pub mod ChangedLaws
 pub mod CommitLaws
 pub mod CommitPerformed
+pub mod CopyLaws
 pub mod DoubtLaws
 pub mod HeldLaws
 pub mod InsertDone
@@ -16,11 +17,19 @@ pub mod LaterKept
 pub mod LegalLaws
 pub mod NamedLaws
 pub mod NowKept
+pub mod OffLaws
 pub mod OpStores
 pub mod OrderedRows
 pub mod OthersLaws
+pub mod PassedDone
+pub mod PassedDoubt
+pub mod PassedKept
+pub mod PassedQueryLaws
+pub mod PassedShown
 pub mod QueryLaws
 pub mod SelectLaws
+pub mod SettledLaws
 pub mod WaitingLaws
 pub mod WriteLaws
 pub mod WriterLaws
+pub mod WrittenLaws

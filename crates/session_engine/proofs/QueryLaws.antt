@@ -25,18 +25,19 @@ use Rattle.cache_tier.specs.SelectSteps.{Selects, SelectsPlaced, rows_reply}
 use Rattle.cache_tier.specs.Shown.{seen_by}
 use Rattle.cache_tier.specs.Steps.{DoesStatement}
 use Rattle.cache_tier.specs.TierStates.{Session, Tier, level_of}
-use Rattle.cache_tier.specs.Worlds.{Unless, World, faulty, only}
+use Rattle.cache_tier.specs.Worlds.{IsUnshared, Unless, World, faulty, only}
 use Rattle.cache_tier.specs.Events.{StaysShown, with_tier}
 use Rattle.cache_tier.specs.StandingBetween.{Stands}
 use Rattle.tier_statements.specs.Answering.{IsAnswerTo}
 use Rattle.session_engine.specs.declared.query.Selected.{Selected}
-use Rattle.session_engine.specs.declared.query.Selected.TheVariants.{Answered, PassedOn}
+use Rattle.session_engine.specs.declared.query.Selected.TheVariants.{Answered}
 use Rattle.stored_tier.specs.declared.tier.Tier.{Tier as Stored}
 use Rattle.stored_tier.specs.Performing.{Executes, ExecutesUnwritten, IsCalm, IsPerformed, PerformsIn, StandsFor, reply_of}
-use Rattle.session_engine.specs.Selecting.{HasNoDynamic, SelectsHere, query_reply}
+use Rattle.session_engine.specs.Selecting.{HasNoDynamic, IsCalmHere, IsSelected, SelectsHere}
 use Rattle.stored_tier.specs.Sites.{IsAt}
 use Rattle.outside.specs.Sites.{SiteState}
-use Rattle.stored_tier.specs.Stored.{HasSession, IsSound, IsStoredAs, ShowsRows, is_plain, without_list}
+use Rattle.stored_tier.specs.Stored.{HasSession, IsSound, IsStoredAs, ShowsRows, without_list}
+use Rattle.group_catalog.specs.Catalogs.{is_plain}
 use Rattle.stored_tier.proofs.QuietLaws.{at_still, calm_by, calm_refused, session_noted, stands_behind, stands_noted, stands_over}
 
 -- its reply tells no fault
@@ -45,9 +46,9 @@ pub calm_answer : (query : ResolvedQuery) (s : TableState) (r : Result Reply Ref
 calm_answer query s (Ok reply) answer = subst IsCalm (sym answer.is) (calm_by (rows_reply answer.rows) refl refl refl)
 calm_answer query s (Err e) answer = calm_refused e
 
-pub calm_selected : (r : Result Reply Refused) (out : Result Selected Refused) → IfOk r (λ reply. out ≡ Ok (Answered reply)) → IfErr r (λ e. out ≡ Err e) → IsCalm (reply_of r) → IsCalm (reply_of (query_reply out))
-calm_selected (Ok reply) out ok err calm = subst (λ o. IsCalm (reply_of (query_reply o))) (sym ok) calm
-calm_selected (Err e) out ok err calm = subst (λ o. IsCalm (reply_of (query_reply o))) (sym err) calm
+pub calm_selected : (r : Result Reply Refused) (out : Result Selected Refused) → IfOk r (λ reply. out ≡ Ok (Answered reply)) → IfErr r (λ e. out ≡ Err e) → IsCalm (reply_of r) → IfOk out IsCalmHere
+calm_selected (Ok reply) out ok err calm = subst (λ o. IfOk o IsCalmHere) (sym ok) calm
+calm_selected (Err e) out ok err calm = subst (λ o. IfOk o IsCalmHere) (sym err) tt
 
 -- no group loads on demand where all are plain
 
@@ -75,7 +76,7 @@ has_no_dynamic t a sound is = none_dynamic a.groups (ap (list_all is_plain) is.g
 
 -- the names decide whether it is refused before
 
-selects_unless : (s : Session) (q : Query) (w w' : World) (reply : Reply) → Selects s q w w' reply → Unless (refusal w.tier s (statement.Select q)) (DoesStatement s (statement.Select q)) w w' reply
+pub selects_unless : (s : Session) (q : Query) (w w' : World) (reply : Reply) → Selects s q w w' reply → Unless (refusal w.tier s (statement.Select q)) (DoesStatement s (statement.Select q)) w w' reply
 selects_unless s q w w' reply selects = by (resolved_query (visible (level_of s) w.tier) q) refl selects
   where
     placed : Result PlacedQuery Rule
@@ -107,8 +108,9 @@ performs_so old new before behind id st result performs = λ s has w at is unsha
     let it = performs s has w at is unshared in
     record { world = it.world; at = it.at; stands = it.stands; is = it.is.0 }
 
-query_done : UseLaw → (t : Stored) (site : SiteState) (s : Session) (q : Query) (w : World) (r : Result Selected Refused) → IsAt site w → StandsFor t w → SelectsHere t s q w r → IsPerformed t site (λ w'. ExecutesUnwritten (statement.Select q) s w w' (reply_of (query_reply r)))
-query_done law t site s q w (Ok (Answered reply)) at is here =
+-- it is answered in the cache
+pub answered_done : UseLaw → (t : Stored) (site : SiteState) (s : Session) (q : Query) (w : World) (reply : Reply) → IsAt site w → StandsFor t w → IsSelected t s q w reply → IsPerformed t site (λ w'. ExecutesUnwritten (statement.Select q) s w w' reply)
+answered_done law t site s q w reply at is here =
     let seen = seen_by s w.history w.tier in
     let after = after_use seen (map (row_key seen) (selected_rows here.plan seen)) w.tier in
     record {
@@ -117,17 +119,20 @@ query_done law t site s q w (Ok (Answered reply)) at is here =
       stands = stands_behind t t w after is is.waits here.stored refl (law w seen (map (row_key seen) (selected_rows here.plan seen)) is.stands);
       is = (inl (selects_unless s q w (with_tier after w) reply here.selects), record { journal = refl; schema = refl });
     }
-query_done law t site s q w (Ok (PassedOn resolved)) at is here =
-    wanting_still t site (statement.Select q) s w at is
-query_done law t site s q w (Err (refused.Rule rule)) at is here =
+
+-- it is refused
+pub refused_done : (t : Stored) (site : SiteState) (s : Session) (q : Query) (w : World) (e : Refused) → IsAt site w → StandsFor t w → SelectsHere t s q w (Err e) → IsPerformed t site (λ w'. ExecutesUnwritten (statement.Select q) s w w' (reply_of (Err e)))
+refused_done t site s q w (refused.Rule rule) at is here =
     record { world = w; at = at; stands = is; is = (inl (selects_unless s q w w (only (No rule)) here), record { journal = refl; schema = refl }) }
-query_done law t site s q w (Err refused.Memory) at is here =
+refused_done t site s q w refused.Memory at is here =
     wanting_still t site (statement.Select q) s w at is
 
-pub queried : UseLaw → (old new : Stored) (site : SiteState) (id : SessionId) (q : Query) (r : Result Selected Refused) (result : Result Reply Refused) → new ≡ record old { verified = new.verified } → IsSound new → SelectsOver new id q r → result ≡ query_reply r → PerformsIn old new site site id (ExecutesUnwritten (statement.Select q)) result
-queried law old new site id q r result same sound selects is = λ s has w at stands unshared.
+-- in each world in which the tier stood before its rows were looked at
+pub queried : (old new : Stored) (before behind : SiteState) (id : SessionId) (q : Query) (r : Result Selected Refused) (result : Result Reply Refused) → new ≡ record old { verified = new.verified } → IsSound new → SelectsOver new id q r
+    → ((w : World) (s : Session) → IsAt before w → StandsFor new w → IsUnshared w → SelectsHere new s q w r → IsPerformed new behind (λ w'. ExecutesUnwritten (statement.Select q) s w w' (reply_of result)))
+    → PerformsIn old new before behind id (ExecutesUnwritten (statement.Select q)) result
+queried old new before behind id q r result same sound selects does = λ s has w at stands unshared.
     let there = subst (λ t. StandsFor t w) (sym same) (stands_noted old new.verified w stands) in
-    let here = selects w s there.stored there.shows (has_no_dynamic new w.tier sound there.stored)
-    (subst (λ t. HasSession t id s) (sym same) (session_noted old new.verified id s has)) in
-    subst (λ out. IsPerformed new site (λ w'. ExecutesUnwritten (statement.Select q) s w w' (reply_of out))) (sym is)
-    (query_done law new site s q w r at there here)
+    does w s at there unshared
+    (selects w s there.stored there.shows (has_no_dynamic new w.tier sound there.stored)
+    (subst (λ t. HasSession t id s) (sym same) (session_noted old new.verified id s has)))

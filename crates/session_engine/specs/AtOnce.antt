@@ -19,6 +19,7 @@ use Rattle.stored_tier.specs.Refusing.{TellsDifference}
 use Rattle.session_engine.specs.Committing.{HaveRoomFor, bare_all, ops_at}
 use Rattle.session_engine.specs.declared.at_once.Ready.{Ready}
 use Rattle.session_engine.specs.declared.doubt.Doubt.{Doubt}
+use Rattle.session_engine.specs.declared.doubt.Doubted.TheVariants.{Commit}
 
 -- nothing changes but the room in the stores
 pub record Rooms (old new : Stored) : Type 0 where
@@ -54,5 +55,5 @@ Concludes old new doubt id ticket (Err Memory) reply =
     (new ≡ old) × (doubt ≡ None) × (reply ≡ faulty code.Memory)
 Concludes old new doubt id ticket (Err Failed) reply =
     (new ≡ old)
-    × (doubt ≡ Some (record { ticket = ticket; session = id; ops = open_ops id (seen_all old.sessions) }))
+    × (doubt ≡ Some (record { ticket = ticket; session = id; of = Commit (open_ops id (seen_all old.sessions)) }))
     × (reply ≡ faulty code.BackingFault)

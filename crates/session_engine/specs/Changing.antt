@@ -21,15 +21,20 @@ use Rattle.cache_tier.specs.declared.reply.Last.TheVariants.{Done, No}
 use Rattle.cache_tier.specs.declared.reply.Reply.{Reply}
 use Rattle.cache_tier.specs.Locks.{lock_fault}
 use Rattle.cache_tier.specs.Shown.{seen_by}
-use Rattle.cache_tier.specs.TierStates.{Session}
-use Rattle.cache_tier.specs.Worlds.{World, only}
+use Rattle.cache_tier.specs.TierStates.{Session, Tier}
+use Rattle.cache_tier.specs.Worlds.{IsUnshared, World, only}
+use Rattle.evaluator.specs.declared.change.Change.{Change}
+use Rattle.outside.specs.Sites.{SiteState}
 use Rattle.cache_tier.specs.WriteSteps.{WritesOps}
 use Rattle.cache_tier.specs.StandingBetween.{are_written_through}
 use Rattle.tier_statements.specs.Preparing.{shown_fault}
+use Rattle.tier_statements.specs.Routing.{IsRouted}
+use Rattle.tier_statements.specs.declared.routing.Route.TheVariants.{Cached}
 use Rattle.session_engine.specs.declared.preparing.Prepared.{Prepared}
 use Rattle.stored_tier.specs.declared.tier.Tier.{Tier as Stored}
-use Rattle.stored_tier.specs.Performing.{Executes}
-use Rattle.stored_tier.specs.Stored.{rows_of}
+use Rattle.stored_tier.specs.Performing.{Executes, ExecutesUnwritten, IsPerformed, StandsFor, reply_of}
+use Rattle.stored_tier.specs.Sites.{IsAt}
+use Rattle.stored_tier.specs.Stored.{HasSession, rows_of}
 
 -- no row is inserted
 abbrev pub is_change : Op → Bool
@@ -41,6 +46,10 @@ is_change (Delete table old) = true
 abbrev pub IsUnbroken : Stored → SessionId → List Op → Type 0
 IsUnbroken t id ops =
     (seen : TableState) → applied_all (open_ops id (seen_all t.sessions)) (rows_of t) ≡ Some seen → broken_by_all ops seen ≡ None
+
+-- the write breaks no rule of its names, and stands for this change, which is done in the cache
+abbrev pub IsCachedWrite : Tier → Session → Write → Change → Type 0
+IsCachedWrite a s write change = IsRouted a s write (record { change = change; route = Cached })
 
 -- The write stands for these operations: what they do as the cache does them, it does. They meet no lock, and nothing
 -- shown keeps them back.
@@ -72,3 +81,10 @@ abbrev pub Changed : Stored → Stored → SessionId → Prepared → Result Rep
 Changed old new id p (Ok reply) = Holds old new id p.ops × (reply ≡ only (Done (rows_in p.table p.ops)))
 Changed old new id p (Err (refused.Rule rule)) = ⊥
 Changed old new id p (Err refused.Memory) = HoldsNothing old new
+
+-- in each world in which the write stands for this change in the cache, it is done
+abbrev pub WritesCached : Stored → Stored → SiteState → SiteState → SessionId → Change → Result Reply Refused → Type 0
+WritesCached old new before behind id change result =
+    (w : World) (s : Session) (write : Write) → HasSession old id s → IsAt before w → StandsFor old w → IsUnshared w
+    → IsCachedWrite w.tier s write change
+    → IsPerformed new behind (λ w'. ExecutesUnwritten (statement.Write write) s w w' (reply_of result))

@@ -1,19 +1,23 @@
 -- A transaction of which nobody knows whether it came. (TimesTen Cache User's Guide, "Synchronous writethrough"; that
 -- its ticket is in doubt until the backing database has told is this project's rule.)
 
-use Rattle.std.specs.Prelude.{◌≡◌, ℕ, ◌+◌, ◌≤◌, ◌^◌, [], Option, Some, None, false, true, Result, Err, length}
+use Rattle.std.specs.Prelude.{◌≡◌, ℕ, ◌+◌, ◌≤◌, ◌^◌, List, [], Option, Some, None, false, true, Result, Err, length}
 use Rattle.tier_base.specs.declared.number.SessionId.{SessionId}
 use Rattle.row_types.specs.declared.rule.Refused.{Refused}
 use Rattle.outside.specs.Bank.{AppliesOnce}
+use Rattle.evaluator.specs.declared.change.Change.{Change}
 use Rattle.outside.specs.Holding.{Held}
+use Rattle.outside.specs.Passing.{PassesWrite}
 use Rattle.outside.specs.Sites.{SiteState}
 use Rattle.tier_journal.specs.declared.journal.TierJournal.{TierJournal}
 use Rattle.kept_journal.specs.Keeping.{KeepsOver, is_broken}
 use Rattle.outside.specs.declared.fault.BankError.TheVariants.{Failed}
 use Rattle.order_laws.specs.Commits.{KeepsCommitOrder}
+use Rattle.table_state.specs.declared.operation.Op.{Op}
 use Rattle.cache_tier.specs.CommitSteps.{after_applied, sealed_own}
 use Rattle.cache_tier.specs.Groups.{is_synchronous}
-use Rattle.cache_tier.specs.PassedSteps.{with_ticket}
+use Rattle.cache_tier.specs.PassedSteps.{after_passed, with_ticket}
+use Rattle.cache_tier.specs.Routes.{is_written_through}
 use Rattle.cache_tier.specs.StandingBetween.{AreReadAt}
 use Rattle.cache_tier.specs.TierStates.{Session}
 use Rattle.cache_tier.specs.Worlds.{BankCall, IsUnshared, Part, World}
@@ -26,11 +30,13 @@ use Rattle.open_sessions.specs.Lookups.{open_ops}
 use Rattle.open_sessions.specs.Opening.{seen_all}
 use Rattle.session_engine.specs.Committing.{HaveRoomFor}
 use Rattle.session_engine.specs.declared.doubt.Doubt.{Doubt}
+use Rattle.session_engine.specs.declared.doubt.Doubted.{Doubted}
+use Rattle.session_engine.specs.declared.doubt.Doubted.TheVariants.{Commit, PassedWrite}
 
 -- The commit of a session is in doubt in this world: it came of one for which the tier stood, but for the ticket, by a
 -- call that failed. The session's writes are on tables of synchronous groups. What has committed in the cache stands in
 -- commit order all the same, and groups are read at lengths that the history had.
-pub record IsInDoubt (t : Stored) (d : Doubt) (w : World) : Type 0 where
+pub record CommitIsInDoubt (t : Stored) (d : Doubt) (w : World) : Type 0 where
   pub was : World
   pub stands : StandsFor (record t { next = d.ticket }) was
   pub unshared : IsUnshared was
@@ -44,15 +50,41 @@ pub record IsInDoubt (t : Stored) (d : Doubt) (w : World) : Type 0 where
   pub legal : KeepsCommitOrder w.history w.tier.log
   pub read : AreReadAt (length w.history) w.tier.groups
 
--- the tier stands for the world's, or a commit is in doubt there
+-- A write that was passed on is in doubt in this world: it came of one for which the tier stood, but for the ticket, by a
+-- call that failed. Its table is of no writethrough group. Commit order and lengths are as above.
+pub record WriteIsInDoubt (t : Stored) (d : Doubt) (w : World) : Type 0 where
+  pub was : World
+  pub stands : StandsFor (record t { next = d.ticket }) was
+  pub unshared : IsUnshared was
+  pub session : Session
+  pub has : HasSession t d.session session
+  pub next : t.next ≡ d.ticket + 1
+  pub room : d.ticket + 1 ≤ 2 ^ 63
+  pub change : Change
+  pub off : is_written_through was.tier change.table ≡ false
+  pub ops : List Op
+  pub call : BankCall (PassesWrite was.tier.next change ops (Err Failed)) was w
+  pub tier : w.tier ≡ after_passed session was.tier.next ops (Err Failed) (with_ticket was.tier)
+  pub legal : KeepsCommitOrder w.history w.tier.log
+  pub read : AreReadAt (length w.history) w.tier.groups
+
+abbrev pub IsInDoubt : Doubted → Stored → Doubt → World → Type 0
+IsInDoubt (Commit ops) t d w = CommitIsInDoubt t d w
+IsInDoubt PassedWrite t d w = WriteIsInDoubt t d w
+
+-- the tier stands for the world's, or a ticket is in doubt there
 abbrev pub IsLeft : Stored → Option Doubt → World → Type 0
 IsLeft t None w = StandsFor t w
-IsLeft t (Some d) w = IsInDoubt t d w
+IsLeft t (Some d) w = IsInDoubt d.of t d w
 
--- What the session has written is kept with its ticket, and the stores have room for it.
+-- Of a commit what the session has written is kept with its ticket, and the stores have room for it.
+abbrev pub IsReadyFor : Doubted → SessionId → Stored → Type 0
+IsReadyFor (Commit ops) id t = (ops ≡ open_ops id (seen_all t.sessions)) × HaveRoomFor (length ops) t.stores.items
+IsReadyFor PassedWrite id t = Unit {0}
+
 abbrev pub IsReady : Stored → Option Doubt → Type 0
 IsReady t None = Unit {0}
-IsReady t (Some d) = (d.ops ≡ open_ops d.session (seen_all t.sessions)) × HaveRoomFor (length d.ops) t.stores.items
+IsReady t (Some d) = IsReadyFor d.of d.session t
 
 -- a world at the site behind, in which the new tier is left so, and which comes so
 pub record IsEnded (new : Stored) (doubt : Option Doubt) (site : SiteState) (does : World → Type 0) : Type 0 where

@@ -1,7 +1,9 @@
 pub mod AtOnce
 pub mod Changing
 pub mod Committing
+pub mod Copying
 pub mod Doubting
 pub mod Inserting
+pub mod Passing
 pub mod Selecting
 pub mod Settling

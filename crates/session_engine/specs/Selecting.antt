@@ -14,13 +14,15 @@ use Rattle.cache_tier.specs.declared.reply.Reply.{Reply}
 use Rattle.cache_tier.specs.Recency.{after_query}
 use Rattle.cache_tier.specs.Routes as route
 use Rattle.cache_tier.specs.Routes.{query_route, visible}
-use Rattle.cache_tier.specs.SelectSteps.{Selects}
+use Rattle.cache_tier.specs.SelectSteps.{Selects, SelectsPassed}
 use Rattle.cache_tier.specs.Shown.{seen_by}
 use Rattle.cache_tier.specs.TierStates.{Session, Tier, level_of}
-use Rattle.cache_tier.specs.Worlds.{World, only}
+use Rattle.cache_tier.specs.Worlds.{Tries, World, only}
+use Rattle.outside.specs.Sites.{SiteState}
 use Rattle.session_engine.specs.declared.query.Selected.{Selected}
 use Rattle.session_engine.specs.declared.query.Selected.TheVariants.{Answered, PassedOn}
 use Rattle.stored_tier.specs.declared.tier.Tier.{Tier as Stored}
+use Rattle.stored_tier.specs.Performing.{IsCalm, Performs, StaysWritten, reply_of}
 use Rattle.stored_tier.specs.Stored.{IsStoredAs}
 
 -- no group loads on demand
@@ -43,11 +45,10 @@ pub record IsPassedOn (s : Session) (q : Query) (w : World) (resolved : Resolved
   pub is : resolved_query (visible (level_of s) w.tier) q ≡ Ok (query_seen resolved)
   pub way : query_route (level_of s) w.tier (query_seen resolved).tables ≡ route.PassedOn
 
--- the reply to a query that is answered in the cache; one that is for the backing database isn't done yet
-abbrev pub query_reply : Result Selected Refused → Result Reply Refused
-query_reply (Ok (Answered reply)) = Ok reply
-query_reply (Ok (PassedOn resolved)) = Err refused.Memory
-query_reply (Err refused) = Err refused
+-- a reply from the cache tells no fault
+abbrev pub IsCalmHere : Selected → Type 0
+IsCalmHere (Answered reply) = IsCalm reply
+IsCalmHere (PassedOn resolved) = Unit {0}
 
 -- what becomes of a query, or the first rule that it breaks; memory may be wanting at any time
 abbrev pub SelectsHere : Stored → Session → Query → World → Result Selected Refused → Type 0
@@ -55,3 +56,10 @@ SelectsHere t s q w (Ok (Answered reply)) = IsSelected t s q w reply
 SelectsHere t s q w (Ok (PassedOn resolved)) = IsPassedOn s q w resolved
 SelectsHere t s q w (Err (refused.Rule rule)) = Selects s q w w (only (No rule))
 SelectsHere t s q w (Err refused.Memory) = Unit {0}
+
+-- The query is answered at the backing database, over one state of it: the tier stays as it is, and the journal isn't
+-- written to.
+abbrev pub PassesQuery : Stored → SiteState → SiteState → ResolvedQuery → Result Reply Refused → Type 0
+PassesQuery t before behind query result =
+    Performs t t before behind
+    (λ w w'. Tries (SelectsPassed (query_seen query)) w w' (reply_of result) × StaysWritten w w')

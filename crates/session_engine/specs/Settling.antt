@@ -1,7 +1,7 @@
 -- A doubt that is settled, over the stored tier. (TimesTen Cache User's Guide, "Synchronous writethrough"; that the backing
 -- database is asked before any other use of the ticket is this project's rule.)
 
-use Rattle.std.specs.Prelude.{◌≡◌, ◌≤◌, List, [], ◌∷◌, Option, Some, None, Bool, true, false, Result, Ok, Err, count_by}
+use Rattle.std.specs.Prelude.{◌≡◌, ◌≤◌, ℕ, List, [], ◌∷◌, Option, Some, None, Bool, true, false, Result, Ok, Err, count_by}
 use Rattle.tier_base.specs.declared.code.Code.{Code}
 use Rattle.tier_base.specs.declared.number.SessionId.{SessionId}
 use Rattle.outside.specs.Faults.{BankHasCause}
@@ -18,21 +18,27 @@ use Rattle.stored_tier.specs.declared.tier.Tier.{Tier as Stored}
 use Rattle.stored_tier.specs.Performing.{KeepsSlots}
 use Rattle.session_engine.specs.AtOnce.{Finishes}
 use Rattle.session_engine.specs.declared.doubt.Doubt.{Doubt}
+use Rattle.session_engine.specs.declared.doubt.Doubted.{Doubted}
+use Rattle.session_engine.specs.declared.doubt.Doubted.TheVariants.{Commit, PassedWrite}
 
 -- the session's transaction has ended, and what it had written is forgotten
 pub record Forgets (old new : Stored) (id : SessionId) : Type 0 where
   pub rest : new ≡ record old { sessions = new.sessions }
   pub seen : seen_all new.sessions ≡ on_session id at_rest (seen_all old.sessions)
 
--- the transaction stands at the backing database, or it doesn't
-abbrev pub Settles : Stored → Stored → SessionId → Bool → Type 0
-Settles old new id true = Finishes old new id
-Settles old new id false = Forgets old new id
+-- a commit stands at the backing database, or it doesn't; behind a write that was passed on all stays
+abbrev pub Settles : Doubted → Stored → Stored → SessionId → Bool → Type 0
+Settles (Commit ops) old new id true = Finishes old new id
+Settles (Commit ops) old new id false = Forgets old new id
+Settles PassedWrite old new id stands = new ≡ old
 
 -- 131, or 132
+abbrev pub note_for : ℕ → Bool → Note
+note_for ticket true = Committed (record { 0 = ticket })
+note_for ticket false = RolledBack (record { 0 = ticket })
+
 abbrev pub note_of : Doubt → Bool → Note
-note_of d true = Committed (record { 0 = d.ticket })
-note_of d false = RolledBack (record { 0 = d.ticket })
+note_of d stands = note_for d.ticket stands
 
 -- what is told of a question for the ticket, where there was one
 abbrev pub told_of : Result (Option Note) BankError → List Note

@@ -21,7 +21,7 @@ ghost use Rattle.session_engine.specs.Committing.{HaveRoomFor, sealed_next};
 ghost use Rattle.session_engine.specs.Doubting.{EndsInOver, IsReady};
 
 use crate::commit::{past, reserve_all, store_ops};
-use crate::doubt::Doubt;
+use crate::doubt::{Doubt, Doubted};
 use crate::drafting::draft_prepare;
 use crate::noting::{is_verified_for, note_verified};
 use crate::resting::commit_session;
@@ -243,7 +243,7 @@ fn conclude(
             *doubt = Some(Doubt {
                 ticket,
                 session: id,
-                ops: ready.ops,
+                of: Doubted::Commit(ready.ops),
             });
             faulty(alloc, Code::BackingFault)
         }

@@ -1,16 +1,25 @@
-//! A commit of which nobody knows whether it came.
+//! A ticket of which nobody knows whether its transaction came.
 
 use table_state::Ops;
 use tier_base::SessionId;
 
-/// The ticket of a commit whose call at the backing database failed, and its session with what that has written. The
-/// stores have room for these operations since the ticket was drawn, so the doubt is settled without memory.
+/// What a ticket in doubt is of.
+#[derive(Drop)]
+pub enum Doubted {
+    /// A commit, with what the session has written. The stores have room for these operations since the ticket was drawn,
+    /// so the doubt is settled without memory.
+    Commit(Ops),
+    /// A write that was passed on.
+    PassedWrite,
+}
+
+/// A ticket whose call at the backing database failed, and the session that asked for it.
 #[derive(Drop)]
 pub struct Doubt {
     /// The ticket.
     pub ticket: u64,
     /// The session.
     pub session: SessionId,
-    /// What the session has written.
-    pub ops: Ops,
+    /// What the ticket is of.
+    pub of: Doubted,
 }

@@ -1,8 +1,8 @@
-//! The entry of a COMMIT, made ready for the journal where the tier keeps one.
+//! The entry of a COMMIT, or of a write that is passed on, made ready for the journal where the tier keeps one.
 
-ghost use Rattle.std.specs.Prelude.{◌≡◌, IfOk};
+ghost use Rattle.std.specs.Prelude.{◌≡◌, ◌≤◌, IfOk, OnOk};
 ghost use Rattle.table_defs.specs.Declarations.{Tells};
-ghost use Rattle.cache_tier.specs.Journals.{Commits, Prepares};
+ghost use Rattle.cache_tier.specs.Journals.{Commits, Numbers, Prepares};
 ghost use Rattle.cache_tier.specs.PassedSteps.{ticket_fault};
 ghost use Rattle.cache_tier.specs.TierStates.{Session as OneSession, Tier as AbstractTier};
 ghost use Rattle.kept_journal.specs.Drafts.{IsDraftOf, StaysKept};
@@ -65,6 +65,42 @@ pub(crate) fn draft_prepare(
         Err(_) => Err(Refused::Memory),
         Ok(draft) => Ok(draft),
     }
+}
+
+/// The number of a write that is passed on, the next ticket, which is to be in the journal before the bank is called. Only
+/// room comes to the journal.
+///
+/// The refusal is 119 where no ticket is left; or memory was wanting. A journal that has no room for the number is told
+/// by the draft.
+pub(crate) fn draft_number(
+    tier: &Tier,
+    alloc: Global,
+    journal: &mut Option<TierJournal>,
+) -> Result<Draft, Refused>
+    ensures draft { IfOk result (λ draft. IsDraftOf tier.now.schema journal.new draft (Numbers tier.now.next)) }
+    ensures told { (a : AbstractTier) → IsStoredAs tier.now a → Tells result (ticket_fault a) }
+    ensures left { OnOk result (tier.now.next ≤ 9223372036854775807) }
+    ensures kept { StaysKept journal.old journal.new }
+{
+    if tier.next > 9_223_372_036_854_775_807 {
+        return Err(past(Limit::Tickets));
+    }
+    match number_entry(tier, alloc, journal) {
+        Err(_) => Err(Refused::Memory),
+        Ok(draft) => Ok(draft),
+    }
+}
+
+// The number, with the next ticket. It fails for want of memory alone.
+fn number_entry(
+    tier: &Tier,
+    alloc: Global,
+    journal: &mut Option<TierJournal>,
+) -> Result<Draft, AllocError>
+    ensures draft { IfOk result (λ draft. IsDraftOf tier.now.schema journal.new draft (Numbers tier.now.next)) }
+    ensures kept { StaysKept journal.old journal.new }
+{
+    Draft::of_number(alloc, journal, Ticket(tier.next))
 }
 
 // The entry of asynchronous writes, with the next ticket. It fails for want of memory alone.

@@ -3,11 +3,14 @@
 
 pub mod at_once;
 pub mod commit;
+mod copied_rows;
 pub mod doubt;
 mod drafting;
 pub mod holding;
 pub mod inserting;
 pub mod noting;
+mod passed_query;
+mod passed_write;
 pub mod preparing;
 pub mod query;
 mod recording;

@@ -10,7 +10,8 @@ ghost use Rattle.cache_tier.specs.TierStates.{Session as OneSession, Tier as Abs
 ghost use Rattle.cache_tier.specs.Worlds.{World};
 ghost use Rattle.tier_statements.specs.Preparing.{inserted_row, prepared};
 ghost use Rattle.tier_statements.specs.Routing.{Routes};
-ghost use Rattle.session_engine.specs.Changing.{IsUnbroken, Prepares};
+ghost use Rattle.session_engine.specs.Changing.{IsCachedWrite, IsUnbroken, Prepares};
+ghost use Rattle.sql_query.specs.declared.write.Write.{Write as OneWrite};
 ghost use Rattle.stored_tier.specs.Stored.{HasSession, IsSound, IsStoredAs, ShowsRows, rows_of};
 
 use crate::query::level;
@@ -26,7 +27,7 @@ use stored_tier::tier::Tier;
 use table_state::Ops;
 use table_state::scan_laws::keyed_law;
 use tier_base::{SessionId, TableId};
-use tier_statements::{Route, RoutedWrite, prepare_write, route_write};
+use tier_statements::{RoutedWrite, prepare_write, route_write};
 
 /// The operations of a write, and the table that it names.
 #[derive(Drop)]
@@ -68,39 +69,40 @@ impl tier_statements::Catalog for ByTable<'_> {
     }
 }
 
-/// The operations of a write of an open session, all tested that can be before the bank is asked. One that is for the
-/// backing database isn't done yet, and is want of memory.
+/// The operations of a write of an open session whose names are found, and that is done in the cache, all tested that can
+/// be before the bank is asked.
 pub(crate) fn prepare(
     tier: &Tier,
     alloc: Global,
     id: SessionId,
-    write: &Write,
+    change: &Change,
 ) -> Result<Prepared, Refused>
     requires sound { IsSound tier.now }
     requires verified { tier.now.verified ≡ true }
-    ensures prepared { (w : World) (s : OneSession) → IsStoredAs tier.now w.tier → ShowsRows tier.now w
-        → HasSession tier.now id s → Prepares s write.now w result }
+    ensures prepared { (w : World) (s : OneSession) (write : OneWrite) → IsStoredAs tier.now w.tier
+        → ShowsRows tier.now w → HasSession tier.now id s → IsCachedWrite w.tier s write change.now
+        → Prepares s write w result }
     ensures unbroken { IfOk result (λ p. inserted_row p.ops ≡ None → IsUnbroken tier.now id p.ops) }
 {
     tier_law();
     label_law();
-    match routed(tier, alloc, id, write) {
+    match effects(tier, alloc, id, change) {
         Err(refused) => Err(refused),
-        Ok(routed) => match routed.route {
-            Route::PassedOn => Err(Refused::Memory),
-            Route::Cached => match effects(tier, alloc, id, &routed.change) {
-                Err(refused) => Err(refused),
-                Ok(ops) => Ok(Prepared {
-                    table: routed.change.table,
-                    ops,
-                }),
-            },
-        },
+        Ok(ops) => Ok(Prepared {
+            table: change.table,
+            ops,
+        }),
     }
 }
 
-// The write with its names found, and where it is done.
-fn routed(tier: &Tier, alloc: Global, id: SessionId, write: &Write) -> Result<RoutedWrite, Refused>
+/// A write of an open session with its names found, and where it is done; or the first rule that it breaks before that;
+/// or memory was wanting.
+pub(crate) fn routed(
+    tier: &Tier,
+    alloc: Global,
+    id: SessionId,
+    write: &Write,
+) -> Result<RoutedWrite, Refused>
     requires { IsSound tier.now }
     ensures { (a : AbstractTier) (s : OneSession) → IsStoredAs tier.now a → HasSession tier.now id s
         → Routes a s write.now result }

@@ -10,7 +10,7 @@ ghost use Rattle.cache_tier.specs.Routes.{is_cached, visible};
 ghost use Rattle.cache_tier.specs.Shown.{seen_by};
 ghost use Rattle.cache_tier.specs.TierStates.{Session as OneSession, Tier as AbstractTier, level_of};
 ghost use Rattle.cache_tier.specs.Worlds.{World};
-ghost use Rattle.session_engine.specs.Selecting.{query_reply, HasNoDynamic, SelectsHere};
+ghost use Rattle.session_engine.specs.Selecting.{HasNoDynamic, IsCalmHere, SelectsHere};
 ghost use Rattle.session_engine.specs.declared.query.Selected.TheVariants.{Answered};
 ghost use Rattle.stored_tier.specs.Performing.{IsCalm, reply_of};
 ghost use Rattle.stored_tier.specs.Stored.{HasSession, IsSound, IsStoredAs, ShowsRows};
@@ -54,7 +54,7 @@ pub fn select_rows(
     requires sound { IsSound tier.now }
     requires verified { tier.now.verified ≡ true }
     requires simple { query.now.groups ≡ [] }
-    ensures calm { IsCalm (reply_of (query_reply result)) }
+    ensures calm { IfOk result IsCalmHere }
     ensures selects { (w : World) (s : OneSession) → IsStoredAs tier.now w.tier → ShowsRows tier.now w
         → HasNoDynamic w.tier → HasSession tier.now id s → SelectsHere tier.now s query.now w result }
 {
@@ -138,22 +138,12 @@ fn answered(answer: Result<Reply, Refused>) -> Result<Selected, Refused>
     }
 }
 
-fn tables_of(query: &ResolvedQuery) -> &[TableId]
+/// The tables of a query.
+pub(crate) fn tables_of(query: &ResolvedQuery) -> &[TableId]
     ensures { result.now ≡ (query_seen query.now).tables }
 {
     match query {
         ResolvedQuery::Rows(plan) => plan.tables.as_slice(),
         ResolvedQuery::Totals(_, plan) => plan.tables.as_slice(),
-    }
-}
-
-/// The reply to a query that is answered in the cache. One that is for the backing database isn't done yet.
-pub(crate) fn reply_to_query(selected: Result<Selected, Refused>) -> Result<Reply, Refused>
-    ensures { result ≡ query_reply selected }
-{
-    match selected {
-        Err(refused) => Err(refused),
-        Ok(Selected::Answered(reply)) => Ok(reply),
-        Ok(Selected::PassedOn(_)) => Err(Refused::Memory),
     }
 }

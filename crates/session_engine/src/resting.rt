@@ -8,12 +8,14 @@ ghost use Rattle.sql_subset.specs.declared.stmt.Stmt.TheVariants as statement;
 ghost use Rattle.cache_tier.specs.Conditions.{which_names};
 ghost use Rattle.cache_tier.specs.Rules.{named};
 ghost use Rattle.cache_tier.specs.Worlds.{Tries};
-ghost use Rattle.stored_tier.specs.Performing.{ClosesSession, Executes, ExecutesUnwritten, IsCalm, IsCausedOver, OpensSession, Performs, PerformsIn, PerformsInOver, reply_of};
+ghost use Rattle.stored_tier.specs.Performing.{ClosesSession, Executes, ExecutesUnwritten, IsCalm, IsCaused, IsCausedOver, OpensSession, Performs, PerformsIn, PerformsInOver, reply_of};
 ghost use Rattle.outside.specs.Sites.{SiteState};
+ghost use Rattle.propagators.specs.Certainty.{KeepsCertain};
 ghost use Rattle.stored_tier.specs.Stored.{IsSound};
 
 use crate::commit::may_wait;
-use crate::query::{reply_to_query, select_rows};
+use crate::passed_query::select_passed;
+use crate::query::{Selected, select_rows};
 use crate::recording::commit_recorded;
 use cache_tier::reply::Reply;
 use cache_tier::{session_law, use_shown_law};
@@ -120,26 +122,41 @@ pub fn flush_group(
     }
 }
 
-/// SELECT without GROUP BY, as `select` answers it in the cache. It writes nothing to the journal.
-pub fn run_query(
+/// SELECT without GROUP BY: as `select_rows` answers it in the cache, or as `select_passed` does at the backing
+/// database. It writes nothing to the journal.
+pub fn run_query<P: Site>(
     tier: &mut Tier,
     alloc: Global,
+    site: &mut P,
     id: SessionId,
     query: &Query,
 ) -> Result<Reply, Refused>
     requires sound { IsSound tier.old }
     requires simple { query.now.groups ≡ [] }
-    ensures performs { (site : SiteState) → PerformsIn tier.old tier.new site site id
-        (Executes (statement.Select query.now)) result }
-    ensures unwritten { (site : SiteState) → PerformsIn tier.old tier.new site site id
-        (ExecutesUnwritten (statement.Select query.now)) result }
+    ensures performs { PerformsIn tier.old tier.new
+        (P.Disk.state site.old)
+        (P.Disk.state site.new)
+        id (Executes (statement.Select query.now)) result }
+    ensures unwritten { PerformsIn tier.old tier.new
+        (P.Disk.state site.old)
+        (P.Disk.state site.new)
+        id (ExecutesUnwritten (statement.Select query.now)) result }
     ensures sound { IsSound tier.new }
-    ensures calm { IsCalm (reply_of result) }
+    ensures cause { IsCaused
+        (P.Disk.state site.old)
+        (P.Disk.state site.new)
+        (reply_of result) }
+    ensures certain { KeepsCertain P.Disk.state P.Disk.possible site.old site.new }
+    ensures disk { (P.Disk.state site.new).disk_faults ≡ (P.Disk.state site.old).disk_faults }
 {
     use_shown_law();
     match tier.verify(alloc) {
         Err(_) => Err(Refused::Memory),
-        Ok(()) => reply_to_query(select_rows(tier, alloc, id, query)),
+        Ok(()) => match select_rows(tier, alloc, id, query) {
+            Err(refused) => Err(refused),
+            Ok(Selected::Answered(reply)) => Ok(reply),
+            Ok(Selected::PassedOn(resolved)) => select_passed(alloc, site, &resolved),
+        },
     }
 }
 

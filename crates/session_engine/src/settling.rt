@@ -4,22 +4,25 @@ ghost use Rattle.std.specs.Prelude.{◌≡◌, None, OnOk, Some};
 ghost use Rattle.cache_tier.specs.DueWork.{DueDoubt};
 ghost use Rattle.propagators.specs.Certainty.{KeepsCertain};
 ghost use Rattle.stored_tier.specs.Stored.{IsSound};
-ghost use Rattle.session_engine.specs.Doubting.{IsReady, Leads};
-ghost use Rattle.session_engine.specs.Settling.{Forgets, IsAsked, KeepsRest, Settles, end_of, note_of, told_of};
+ghost use Rattle.session_engine.specs.Doubting.{IsReady, IsReadyFor, Leads};
+ghost use Rattle.session_engine.specs.declared.doubt.Doubted.TheVariants.{Commit};
+ghost use Rattle.session_engine.specs.Settling.{Forgets, IsAsked, KeepsRest, Settles, end_of, note_for, note_of, told_of};
 
 use crate::at_once::end_transaction;
-use crate::doubt::Doubt;
+use crate::doubt::{Doubt, Doubted};
 use cache_tier::reply::Note;
 use cache_tier::{commit_shown_law, others_shown_law, round_shown_law, session_law};
 use open_sessions::laws::label_law;
 use order_laws::flow_skip_law;
 use outside::{BankError, Site};
 use stored_tier::tier::Tier;
+use table_state::Ops;
 use tier_base::{SessionId, Ticket};
 
-/// Settles a doubt, where there is one. Where its transaction stands at the backing database (131) the stores do it,
-/// and where it doesn't (132) what the session has written is forgotten; its transaction ends in both cases. A question
-/// that failed, or for which memory was wanting at the backing database, changes nothing, and the doubt stays.
+/// Settles a doubt, where there is one. Where a commit stands at the backing database (131) the stores do it, and where
+/// it doesn't (132) what the session has written is forgotten; its transaction ends in both cases. Behind a write that
+/// was passed on the tier stays as it is, and so do the session's own writes. A question that failed, or for which memory
+/// was wanting at the backing database, changes nothing, and the doubt stays.
 ///
 /// It takes no memory of its own: the room was made when the ticket was drawn. (TimesTen Cache User's Guide,
 /// "Synchronous writethrough"; the question is this project's rule.)
@@ -62,24 +65,48 @@ pub fn settle_doubt<P: Site>(
     }
 }
 
-// The transaction is done in the cache, too, or is forgotten, and it is told which.
+// A commit is done in the cache, too, or is forgotten; behind a write that was passed on the tier stays. It is told
+// whether the ticket stands there.
 fn settle(tier: &mut Tier, asked: Doubt, stands: bool) -> Note
     requires sound { IsSound tier.old }
     requires ready { IsReady tier.old (Some asked) }
-    ensures settles { Settles tier.old tier.new asked.session stands }
+    ensures settles { Settles asked.of tier.old tier.new asked.session stands }
     ensures told { result ≡ note_of asked stands }
     ensures sound { IsSound tier.new }
 {
     let Doubt {
         ticket,
         session,
-        ops,
+        of,
     } = asked;
+    match of {
+        Doubted::Commit(ops) => settle_commit(tier, session, ops, stands),
+        Doubted::PassedWrite => {}
+    }
+    note_of(ticket, stands)
+}
+
+// What the session has written is done in the stores, or forgotten.
+fn settle_commit(tier: &mut Tier, id: SessionId, ops: Ops, stands: bool)
+    requires sound { IsSound tier.old }
+    requires ready { IsReadyFor (Commit ops) id tier.old }
+    ensures settles { Settles (Commit ops) tier.old tier.new id stands }
+    ensures sound { IsSound tier.new }
+{
     if stands {
-        end_transaction(tier, session, ops);
+        end_transaction(tier, id, ops);
+    } else {
+        forget(tier, id);
+    }
+}
+
+// 131, or 132.
+fn note_of(ticket: u64, stands: bool) -> Note
+    ensures { result ≡ note_for ticket stands }
+{
+    if stands {
         Note::Committed(Ticket(ticket))
     } else {
-        forget(tier, session);
         Note::RolledBack(Ticket(ticket))
     }
 }

@@ -1,20 +1,24 @@
 //! INSERT, UPDATE and DELETE of a session.
 
-ghost use Rattle.std.specs.Prelude.{◌≡◌};
+ghost use Rattle.std.specs.Prelude.{◌≡◌, None};
 ghost use Rattle.std.specs.List.{list_all};
 ghost use Rattle.sql_subset.specs.declared.stmt.Stmt.TheVariants as statement;
 ghost use Rattle.transactions.specs.Transactions.{rows_in};
-ghost use Rattle.session_engine.specs.Changing.{is_change, Changed, IsUnbroken};
+ghost use Rattle.session_engine.specs.Changing.{is_change, Changed, IsUnbroken, WritesCached};
+ghost use Rattle.session_engine.specs.Doubting.{EndsInOver, IsReady};
 ghost use Rattle.propagators.specs.Certainty.{KeepsCertain};
-ghost use Rattle.stored_tier.specs.Performing.{Executes, ExecutesUnwritten, IsCalm, IsCaused, PerformsIn, reply_of};
+ghost use Rattle.stored_tier.specs.Performing.{Executes, IsCalm, IsCaused, IsCausedOver, reply_of};
 ghost use Rattle.stored_tier.specs.Stored.{IsSound};
 
+use crate::doubt::Doubt;
 use crate::holding::hold;
 use crate::inserting::insert_rows;
-use crate::preparing::{Prepared, prepare};
+use crate::passed_write::pass_write;
+use crate::preparing::{Prepared, prepare, routed};
 use cache_tier::laws::tier_law;
 use cache_tier::reply::Reply;
 use cache_tier::use_shown_law;
+use evaluator::Change;
 use open_sessions::laws::label_law;
 use outside::Site;
 use row_types::Refused;
@@ -23,33 +27,64 @@ use std::alloc::Global;
 use stored_tier::tier::Tier;
 use table_state::Op;
 use tier_base::{SessionId, TableId};
-use tier_statements::done;
+use tier_journal::TierJournal;
+use tier_statements::{Route, done};
 
-/// INSERT, UPDATE and DELETE of an open session, in the cache: its operations stand behind the session's own, and hold
-/// the keys that they write and the parents that they name, until the transaction ends. The reply tells how many rows
-/// of the named table they write. The bank is asked for the key of an INSERT that isn't shown. The journal isn't
-/// written to.
+/// INSERT, UPDATE and DELETE of an open session: in the cache, as `write_cached`; or they are passed on, as `pass_write`.
 ///
-/// The refusal is the first broken rule: 102, 103; 118, 104, 105; 121, 110, 117; row by row 120, 105, 106; 119 of the
-/// operations; 111 with the holder of a key; 107, 108, 109. It is 201 where the bank's call failed; or memory was
-/// wanting. All then stays. (TimesTen SQL Reference, "INSERT", "UPDATE", "DELETE"; TimesTen Cache User's Guide,
-/// writethrough cache groups; the codes and their order are this project's rule.)
+/// The refusal is the first broken rule: 102, 103; 118, 104, 105; 121, 110, 117; then as these tell; or memory was
+/// wanting. (TimesTen SQL Reference, "INSERT", "UPDATE", "DELETE"; TimesTen Cache User's Guide, "Setting a passthrough
+/// level"; the codes and their order are this project's rule.)
 pub fn write_rows<P: Site>(
     tier: &mut Tier,
     alloc: Global,
     site: &mut P,
+    journal: &mut Option<TierJournal>,
     id: SessionId,
     write: &Write,
+    doubt: &mut Option<Doubt>,
+) -> Result<Reply, Refused>
+    requires sound { IsSound tier.old }
+    requires free { doubt.old ≡ None }
+    ensures performs { EndsInOver P.Disk.state P.Disk.possible tier.old tier.new doubt.new journal.old journal.new
+        site.old site.new id (Executes (statement.Write write.now)) result }
+    ensures sound { IsSound tier.new }
+    ensures ready { IsReady tier.new doubt.new }
+    ensures cause { IsCausedOver journal.old
+        (P.Disk.state site.old)
+        (P.Disk.state site.new)
+        (reply_of result) }
+{
+    match routed(tier, alloc, id, write) {
+        Err(refused) => Err(refused),
+        Ok(routed) => match routed.route {
+            Route::Cached => write_cached(tier, alloc, site, id, &routed.change),
+            Route::PassedOn => pass_write(tier, alloc, site, journal, id, &routed.change, doubt),
+        },
+    }
+}
+
+/// A write of an open session in the cache, whose names are found: its operations stand behind the session's own, and
+/// hold the keys that they write and the parents that they name, until the transaction ends. The reply tells how many
+/// rows of the named table they write. The bank is asked for the key of an INSERT that isn't shown. The journal isn't
+/// written to.
+///
+/// The refusal is the first broken rule: row by row 120, 105, 106; 119 of the operations; 111 with the holder of a key;
+/// 107, 108, 109. It is 201 where the bank's call failed; or memory was wanting. All then stays. (TimesTen SQL
+/// Reference, "INSERT", "UPDATE", "DELETE"; TimesTen Cache User's Guide, writethrough cache groups; the codes and their
+/// order are this project's rule.)
+pub(crate) fn write_cached<P: Site>(
+    tier: &mut Tier,
+    alloc: Global,
+    site: &mut P,
+    id: SessionId,
+    named: &Change,
 ) -> Result<Reply, Refused>
     requires { IsSound tier.old }
-    ensures performs { PerformsIn tier.old tier.new
+    ensures unwritten { WritesCached tier.old tier.new
         (P.Disk.state site.old)
         (P.Disk.state site.new)
-        id (Executes (statement.Write write.now)) result }
-    ensures unwritten { PerformsIn tier.old tier.new
-        (P.Disk.state site.old)
-        (P.Disk.state site.new)
-        id (ExecutesUnwritten (statement.Write write.now)) result }
+        id named.now result }
     ensures sound { IsSound tier.new }
     ensures cause { IsCaused
         (P.Disk.state site.old)
@@ -63,7 +98,7 @@ pub fn write_rows<P: Site>(
     use_shown_law();
     match tier.verify(alloc) {
         Err(_) => Err(Refused::Memory),
-        Ok(()) => match prepare(tier, alloc, id, write) {
+        Ok(()) => match prepare(tier, alloc, id, named) {
             Err(refused) => Err(refused),
             Ok(prepared) => {
                 if are_changes(prepared.ops.as_slice()) {

@@ -2,6 +2,7 @@ pub mod BankLaws
 pub mod DrainLaws
 pub mod LaterLaws
 pub mod NamingLaws
+pub mod NewSlotLaws
 pub mod OverLaws
 pub mod OwnSeen
 pub mod QuietLaws
@@ -21,3 +22,4 @@ pub mod GatherLaws
 pub mod PutLaws
 pub mod RefreshSteps
 pub mod StoreForms
+pub mod TurnLaws

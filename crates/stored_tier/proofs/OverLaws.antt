@@ -252,3 +252,46 @@ caused_quiet k before behind reply later one = record {
   disk = λ told. absurd (never_both (tells code.JournalFault reply.last) told one.disk);
   whole = λ none. one.disk;
 }
+
+rose_still : (a b c cap : ℕ) → min (a + 1) cap ≤ b → b ≤ c → min (a + 1) cap ≤ c
+rose_still a b c cap rose le = omega (arith, rose, le)
+
+rose_before : (a b c cap : ℕ) → a ≤ b → min (b + 1) cap ≤ c → min (a + 1) cap ≤ c
+rose_before a b c cap le rose = omega (arith, rose, le)
+
+-- and then of one more call of the journal's disk, which counts where it ends the line
+pub caused_turned : (k k1 : Option TierJournal) (before mid behind : SiteState) (reply : Reply) → (k ≡ None → k1 ≡ None) → IsCausedOver k before mid reply → DiskIsCaused k1 mid behind None → IsCausedOver k before behind reply
+caused_turned k k1 before mid behind reply none one two =
+    let a = one.moment in
+    let b = two.moment in
+    let c = one.disk_later in
+    let e = two.later in
+    record {
+      later = subst (λ (n : ℕ). before.bank_faults ≤ n) (sym two.bank) one.later;
+      moment = omega (arith, a, b);
+      shares = two.shared ∙ one.shares;
+      slots = λ is. subst (λ (s : SiteState). KeepsSlots before.held s.held) (sym (two.uncalled (none is))) (one.slots is);
+      bare = one.bare;
+      bank = λ told. subst (λ (n : ℕ). Rose before.bank_faults n) (sym two.bank) (one.bank told);
+      disk_later = omega (arith, c, e);
+      disk = λ told. rose_still before.disk_faults mid.disk_faults behind.disk_faults (2 ^ 64 - 1) (one.disk told) e;
+      whole = one.whole;
+    }
+
+pub caused_broken : (k k1 : Option TierJournal) (before mid behind : SiteState) (reply disk : Reply) → (k ≡ None → k1 ≡ None) → IsCausedOver k before mid reply → DiskIsCaused k1 mid behind (Some disk) → IsCausedOver k before behind disk
+caused_broken k k1 before mid behind reply disk none one two =
+    let a = one.moment in
+    let b = two.moment in
+    let c = one.disk_later in
+    let e = two.later in
+    record {
+      later = subst (λ (n : ℕ). before.bank_faults ≤ n) (sym two.bank) one.later;
+      moment = omega (arith, a, b);
+      shares = two.shared ∙ one.shares;
+      slots = λ is. subst (λ (s : SiteState). KeepsSlots before.held s.held) (sym (two.uncalled (none is))) (one.slots is);
+      bare = two.told.0;
+      bank = λ told. absurd (never_both (tells code.BackingFault disk.last) told two.told.1);
+      disk_later = omega (arith, c, e);
+      disk = λ told. rose_before before.disk_faults mid.disk_faults behind.disk_faults (2 ^ 64 - 1) c (two.failed told);
+      whole = λ is. two.whole (none is);
+    }

@@ -19,12 +19,14 @@ use Rattle.order_laws.specs.Standing.{live_tables}
 use Rattle.order_laws.specs.Events.{Event, Follows}
 use Rattle.outside.specs.Faults.{Rose}
 use Rattle.outside.specs.Holding.{Held}
+use Rattle.outside.specs.Others.{is_shared}
 use Rattle.propagators.specs.declared.rounds.RoundFault.{RoundFault}
 use Rattle.propagators.specs.declared.rounds.RoundFault.TheVariants as stop
 use Rattle.propagators.specs.Rounds.{AreUnshared, HoldsRound, IsRestOf, Leads, Round as BankRound, TellsRound, doubts_at, left_in}
 use Rattle.cache_tier.specs.JournalSteps.{Flushes}
-use Rattle.cache_tier.specs.Rotations.{Kept as Unturned, Rotates, RotatesIfLong, is_long}
-use Rattle.cache_tier.specs.Rounds.{AllLeft, Applies, AppliesAndRotates, Differing, Drained, Drains, Failing, Round, RoundEnd, RoundIfUnsettled, Wanting, is_unsettled, round_stop}
+use Rattle.cache_tier.specs.Groups.{Group, is_table_of, is_writethrough}
+use Rattle.cache_tier.specs.Rotations.{RotatesIfLong}
+use Rattle.cache_tier.specs.Rounds.{AllLeft, Applies, Differing, Drained, Drains, Failing, Round, RoundEnd, RoundIfUnsettled, Wanting, is_unsettled, round_stop}
 use Rattle.cache_tier.specs.Routes.{table_name}
 use Rattle.cache_tier.specs.Shown.{shown_state}
 use Rattle.cache_tier.specs.Steps.{tells}
@@ -40,8 +42,8 @@ use Rattle.stored_tier.specs.declared.tier.Tier.{Tier as Stored}
 use Rattle.propagators.specs.Certainty.{KeepsCertain}
 use Rattle.tier_journal.specs.declared.journal.TierJournal.{TierJournal}
 use Rattle.kept_journal.specs.Keeping.{DiskIsCaused, WritesOver, is_broken, over_disk}
-use Rattle.stored_tier.specs.Draining.{SettlesAll, settled_reply, settled_stop}
-use Rattle.stored_tier.specs.Performing.{IsCaused, IsPerformed, KeepsSlots, Performs, PerformsOver, StandsFor, stop_of}
+use Rattle.stored_tier.specs.Draining.{AppliesAll, IsEnded, SettlesAll, settled_reply, settled_stop}
+use Rattle.stored_tier.specs.Performing.{IsCaused, IsCausedOver, IsPerformed, KeepsSlots, Performs, PerformsOver, StandsFor, stop_of}
 use Rattle.stored_tier.specs.Refusing.{TellsDifference, TellsRoundEnd}
 use Rattle.stored_tier.specs.Sites.{IsAt}
 use Rattle.outside.specs.Sites.{SiteState}
@@ -49,7 +51,7 @@ use Rattle.stored_tier.proofs.LaterLaws.{later_rest}
 use Rattle.pending_writes.specs.Noting.{TellsWriters}
 use Rattle.stored_tier.specs.Stored.{IsSound, IsStoredAs, are_later, first_unsettled, rows_of}
 use Rattle.stored_tier.proofs.BankLaws.{behind, told_behind}
-use Rattle.stored_tier.proofs.OverLaws.{at_written, flush_breaks, keeps_called, never_both, stands_written, unsettled_kept}
+use Rattle.stored_tier.proofs.OverLaws.{at_written, caused_broken, caused_turned, flush_breaks, keeps_called, never_both, stands_written, unsettled_kept}
 use Rattle.stored_tier.proofs.RoundLaws.{LeftLaw, is_left, round_seen, unsure_at}
 use Rattle.stored_tier.proofs.WriterLaws.{writers_rest}
 use Rattle.stored_tier.proofs.StandingLaws.{last_rest, performed_behind, performed_here, slots_kept}
@@ -77,40 +79,6 @@ pub record AreLaws : Type 0 where
 -- others change no live table
 pub unshared_live : (w : World) → IsUnshared w → AreUnshared (live_tables (live_groups_of w.tier.groups)) w.shared
 unshared_live w apart t is = live_table w.tier.groups t ∙ apart t is
-
--- what is applied at the bank, and a journal that isn't begun anew, are what follows a flush
-goes_unturned : (w : World) → RotatesIfLong w w None
-goes_unturned w = by (is_long w)
-  where
-    by : (long : Bool) → MatchBool long (Rotates w w None) (Passes w w None)
-    by true = record {
-      result = Unturned;
-      tier = refl;
-      history = refl;
-      journal = refl;
-      bank = refl;
-      disk = omega arith;
-      moment = omega arith;
-      shared = refl;
-      end = refl;
-    }
-    by false = (refl, refl)
-
-applies_alone : (w w' : World) (end : Option Reply) → Applies w w' end → AppliesAndRotates w w' end
-applies_alone w w' end applies = record {
-  mid = w';
-  applied = end;
-  turned = None;
-  applies = applies;
-  rotates = goes_unturned w';
-  end = refl;
-}
-
--- a round behind the flush: journal and schema stay
-pub record IsApplied (w w' : World) (end : Option Reply) : Type 0 where
-  pub does : AppliesAndRotates w w' end
-  pub journal : w'.journal ≡ w.journal
-  pub schema : w'.tier.schema ≡ w.tier.schema
 
 -- what is stored behind a round
 
@@ -185,7 +153,7 @@ round_of w t new before few was now shared history unsettled held =
 
 -- the world behind a round with this end
 applied : AreLaws → (t new : Stored) (before after : SiteState) (few : ℕ) (end : RoundEnd) → IsTried t new → RoundAt t.unsettled.items new.unsettled.items before after few → AllLeft end new.unsettled.items → IsSound t
-    → Performs t new before after (λ w w'. IsApplied w w' (round_stop w.tier end))
+    → Performs t new before after (λ w w'. Applies w w' (round_stop w.tier end))
 applied laws t new before after few end tried round all sound w at stands apart =
     let left = new.unsettled.items in
     let a = settled_tier w.tier left in
@@ -215,17 +183,14 @@ applied laws t new before after few end tried round all sound w at stands apart 
       shared = refl;
       end = refl;
     } in
-    performed_behind new before after w a now.there (λ w'. IsApplied w w' (round_stop w.tier end)) at now.told round.shares
+    performed_behind new before after w a now.there (λ w'. Applies w w' (round_stop w.tier end)) at now.told round.shares
     (last_rest w.tier.log w.tier.unsettled (left_in bank.events) left (laws.left w.shared few w.tier.unsettled left w.history now.there.history bank) stands.waits)
     (stored_settled t new w.tier stands.stored tried)
     (rows_settled t new tried ∙ stands.shows ∙ sym stays.same)
     stays.stands
-    (record { does = applies_alone w (behind w a now.there after) (round_stop w.tier end) applies; journal = refl; schema = refl })
+    applies
 
 -- the same with what is answered
-abbrev pub AppliesAll : World → World → Result ℕ Reply → Type 0
-AppliesAll w w' (Ok receipts) = IsApplied w w' None × (receipts ≡ length w.tier.unsettled)
-AppliesAll w w' (Err reply) = IsApplied w w' (Some reply)
 
 pub settled_all : AreLaws → (t new : Stored) (before after : SiteState) (receipts : ℕ) → IsTried t new → RoundAt t.unsettled.items new.unsettled.items before after 0 → new.unsettled.items ≡ [] → receipts ≡ length t.unsettled.items → IsSound t → Performs t new before after (λ w w'. AppliesAll w w' (Ok receipts))
 settled_all laws t new before after receipts tried round all count sound w at stands apart =
@@ -239,7 +204,7 @@ ended laws t new before after few end reply tried round all is sound w at stands
       world = it.world;
       at = it.at;
       stands = it.stands;
-      is = subst (λ stop. IsApplied w it.world stop) (is w.tier stands.stored) it.is;
+      is = subst (λ stop. Applies w it.world stop) (is w.tier stands.stored) it.is;
     }
 
 pub name_of_table : (a : Tier) (table : TableId) (def : TableDef) → slice_get a.schema table.0 ≡ Some def → table_name a table ≡ def.name
@@ -312,11 +277,34 @@ end_caused t old left before after (stop.Differs table key) reply round told = e
   | inr other ↦ memory_caused old left before after 0 reply round other
 ]
 
--- a flush, and then what is applied
+-- why a round with its rotation ended
+pub ended_caused : (k k1 : Option TierJournal) (before mid behind : SiteState) (applied : Result ℕ Reply) (turned : Result (Unit {0}) Reply) (result : Result ℕ Reply) → (k ≡ None → k1 ≡ None) → IsCausedOver k before mid (settled_reply applied) → DiskIsCaused k1 mid behind (stop_of turned)
+    → IsEnded applied turned result → IsCausedOver k before behind (settled_reply result)
+ended_caused k k1 before mid behind applied (Ok done) result none one two ended =
+    subst (λ r. IsCausedOver k before behind (settled_reply r)) (sym ended) (caused_turned k k1 before mid behind (settled_reply applied) none one two)
+ended_caused k k1 before mid behind applied (Err disk) result none one two ended =
+    subst (λ r. IsCausedOver k before behind (settled_reply r)) (sym ended) (caused_broken k k1 before mid behind (settled_reply applied) disk none one two)
+
+-- a flush, then what is applied, and then a rotation
 
 record StaysSo (w w' : World) : Type 0 where
   journal : w'.journal ≡ w.journal
   schema : w'.tier.schema ≡ w.tier.schema
+  groups : w'.tier.groups ≡ w.tier.groups
+  shared : w'.shared ≡ w.shared
+
+stays_so : (w w' : World) (end : Option Reply) → Applies w w' end → StaysSo w w'
+stays_so w w' end did = record {
+  journal = did.journal;
+  schema = ap (λ (a : Tier). a.schema) did.tier;
+  groups = ap (λ (a : Tier). a.groups) did.tier;
+  shared = did.shared;
+}
+
+still_apart : (w w' : World) → StaysSo w w' → IsUnshared w → IsUnshared w'
+still_apart w w' same apart =
+    subst (λ (shared : List TableId). (t : TableId) → is_shared shared t ≡ true → is_table_of is_writethrough w'.tier.groups t ≡ false) (sym same.shared)
+    (subst (λ (groups : List Group). (t : TableId) → is_shared w.shared t ≡ true → is_table_of is_writethrough groups t ≡ false) (sym same.groups) apart)
 
 module _ {D : Type 0} (state : D → SiteState) (possible : D → ℕ → Held → Type 0) where
   -- the flush failed, and nothing is applied
@@ -334,29 +322,48 @@ module _ {D : Type 0} (state : D → SiteState) (possible : D → ℕ → Held �
         keeps = λ whole. absurd (never_both (is_broken (Some reply)) broken whole);
       }
 
-  -- the flush, and the round behind it
-  pub flush_then : (t new : Stored) (k k' : Option TierJournal) (d mid d' : D) (result : Result ℕ Reply) → WritesOver state possible k k' d mid None (Flushes []) → DiskIsCaused k (state d) (state mid) None → KeepsCertain state possible mid d'
-      → Performs t new (state mid) (state d') (λ w w'. AppliesAll w w' result) → PerformsOver state possible t new k k' d d' (settled_stop result) (λ w w'. SettlesAll w w' result)
-  flush_then t new k k' d mid d' result flushes cause certain performs w at stands apart keeps =
+  -- the flush, what is applied behind it, and the rotation
+  pub settled_over : (t mid new : Stored) (k k1 k2 : Option TierJournal) (d d1 d2 d3 : D) (applied : Result ℕ Reply) (turned : Result (Unit {0}) Reply) (result : Result ℕ Reply)
+      → WritesOver state possible k k1 d d1 None (Flushes []) → DiskIsCaused k (state d) (state d1) None
+      → KeepsCertain state possible d1 d2 → Performs t mid (state d1) (state d2) (λ w w'. AppliesAll w w' applied)
+      → PerformsOver state possible mid new k1 k2 d2 d3 (stop_of turned) (λ w w'. RotatesIfLong w w' (stop_of turned)) → IsEnded applied turned result
+      → PerformsOver state possible t new k k2 d d3 (settled_stop result) (λ w w'. SettlesAll w w' result)
+  settled_over t mid new k k1 k2 d d1 d2 d3 applied turned result flushes cause certain performs turns ended w at stands apart keeps =
       let x = flushes w at.moment keeps in
-      let w1 : World = over_disk x.journal x.faults (state mid).moment w in
-      let it = performs w1 (at_written state possible k' d mid w None (Flushes []) at x cause.bank cause.shared) (stands_written t w x.journal x.faults (state mid).moment stands) apart in
-      let did = applied_of result w1 it.world it.is in
+      let w1 : World = over_disk x.journal x.faults (state d1).moment w in
+      let it = performs w1 (at_written state possible k1 d d1 w None (Flushes []) at x cause.bank cause.shared) (stands_written t w x.journal x.faults (state d1).moment stands) apart in
+      let did = applied_of applied w1 it.world it.is in
+      let over = keeps_called state possible k1 d1 d2 w1 it.world (x.keeps refl) certain did.journal did.schema in
+      let last = turns it.world it.at it.stands (still_apart w1 it.world did apart) over in
       record {
-        world = it.world;
-        at = it.at;
-        is = round_of result w w1 it.world x.is it.is;
-        stands = λ whole. it.stands;
-        keeps = λ whole. keeps_called state possible k' mid d' w1 it.world (x.keeps refl) certain did.journal did.schema;
+        world = last.world;
+        at = last.at;
+        is = round_of applied turned result ended w w1 it.world last.world x.is it.is last.is;
+        stands = λ whole. last.stands (whole_of applied turned result ended whole);
+        keeps = λ whole. last.keeps (whole_of applied turned result ended whole);
       }
     where
       applied_of : (result : Result ℕ Reply) (w w' : World) → AppliesAll w w' result → StaysSo w w'
-      applied_of (Ok receipts) w w' did = record { journal = did.0.journal; schema = did.0.schema }
-      applied_of (Err reply) w w' did = record { journal = did.journal; schema = did.schema }
+      applied_of (Ok receipts) w w' did = stays_so w w' None did.0
+      applied_of (Err reply) w w' did = stays_so w w' (Some reply) did
 
-      round_of : (result : Result ℕ Reply) (w mid w' : World) → Flushes [] w mid None → AppliesAll mid w' result → SettlesAll w w' result
-      round_of (Ok receipts) w mid w' flushed did = (record { mid = mid; stop = None; first = flushed; next = did.0.does }, did.1 ∙ ap length (unsettled_kept w mid flushed))
-      round_of (Err reply) w mid w' flushed did = record { mid = mid; stop = None; first = flushed; next = did.does }
+      whole_of : (applied : Result ℕ Reply) (turned : Result (Unit {0}) Reply) (result : Result ℕ Reply) → IsEnded applied turned result → is_broken (settled_stop result) ≡ false → is_broken (stop_of turned) ≡ false
+      whole_of applied (Ok done) result ended whole = refl
+      whole_of applied (Err reply) result ended whole = subst (λ r. is_broken (settled_stop r) ≡ false) ended whole
+
+      round_of : (applied : Result ℕ Reply) (turned : Result (Unit {0}) Reply) (result : Result ℕ Reply) → IsEnded applied turned result → (w mid late w' : World) → Flushes [] w mid None → AppliesAll mid late applied → RotatesIfLong late w' (stop_of turned) → SettlesAll w w' result
+      round_of (Ok receipts) (Ok done) result ended w mid late w' flushed did turned =
+          subst (λ r. SettlesAll w w' r) (sym ended)
+          (record { mid = mid; stop = None; first = flushed; next = record { mid = late; applied = None; turned = None; applies = did.0; rotates = turned; end = refl } }, did.1 ∙ ap length (unsettled_kept w mid flushed))
+      round_of (Err reply) (Ok done) result ended w mid late w' flushed did turned =
+          subst (λ r. SettlesAll w w' r) (sym ended)
+          (record { mid = mid; stop = None; first = flushed; next = record { mid = late; applied = Some reply; turned = None; applies = did; rotates = turned; end = refl } })
+      round_of (Ok receipts) (Err disk) result ended w mid late w' flushed did turned =
+          subst (λ r. SettlesAll w w' r) (sym ended)
+          (record { mid = mid; stop = None; first = flushed; next = record { mid = late; applied = None; turned = Some disk; applies = did.0; rotates = turned; end = refl } })
+      round_of (Err reply) (Err disk) result ended w mid late w' flushed did turned =
+          subst (λ r. SettlesAll w w' r) (sym ended)
+          (record { mid = mid; stop = None; first = flushed; next = record { mid = late; applied = Some reply; turned = Some disk; applies = did; rotates = turned; end = refl } })
 
 -- the calls
 

@@ -15,7 +15,8 @@ use Rattle.cache_tier.specs.Sets.{Choice, changed_from}
 use Rattle.group_catalog.specs.Catalogs.{groups_in}
 use Rattle.group_catalog.specs.declared.catalog.Catalog.{Catalog}
 use Rattle.stored_tier.specs.declared.tier.Tier.{Tier as Stored}
-use Rattle.stored_tier.specs.Stored.{AreKept, HaveOwnNames, IsSound, is_plain, named_where_cached}
+use Rattle.stored_tier.specs.Stored.{AreKept, IsSound, named_where_cached}
+use Rattle.group_catalog.specs.Catalogs.{HaveOwnNames, is_plain}
 use Rattle.stored_tier.proofs.LaterLaws.{later_by}
 use Rattle.stored_tier.proofs.StoreChanges.{all_over_for, kept_defined}
 use Rattle.stored_tier.proofs.StoreRows.{place_same}

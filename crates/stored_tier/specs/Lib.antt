@@ -2,6 +2,7 @@ pub mod Answering
 pub mod Draining
 pub mod Grouping
 pub mod Naming
+pub mod NewSlots
 pub mod Performing
 pub mod Refusing
 pub mod Sites

@@ -1,6 +1,6 @@
 -- The tier as it is stored, and the abstract tiers that it stands for. (This project's model.)
 
-use Rattle.std.specs.Prelude.{◌≡◌, ℕ, suc, List, [], ◌∷◌, All, None, Some, Bool, true, ◌&&◌, map, not, is_none, is_some, length, slice_get}
+use Rattle.std.specs.Prelude.{◌≡◌, ℕ, suc, List, [], ◌∷◌, All, None, Some, Bool, true, map, not, is_some, length, slice_get}
 use Rattle.std.specs.List.{list_all}
 use Rattle.tier_base.specs.declared.number.SessionId.{SessionId}
 use Rattle.table_defs.specs.declared.definition.TableDef.{TableDef}
@@ -14,18 +14,19 @@ use Rattle.own_rows.specs.OwnTables.{AreShown}
 use Rattle.session_state.specs.Sessions.{OpenSession}
 use Rattle.open_sessions.specs.Lookups.{of_label}
 use Rattle.open_sessions.specs.Opening.{AreSessions, seen_all}
-use Rattle.group_catalog.specs.Catalogs.{groups_in}
+use Rattle.group_catalog.specs.Catalogs.{HaveOwnNames, is_plain, groups_in}
 use Rattle.group_store.specs.Shown.{AreHoused, shown_by}
 use Rattle.group_store.specs.Keeping.{IsFor}
 use Rattle.group_store.specs.Stores.{Kept}
 use Rattle.order_laws.specs.Commits.{RiseBetween}
-use Rattle.cache_tier.specs.Groups.{Group, is_asynchronous, is_explicit, is_table_of}
+use Rattle.cache_tier.specs.Groups.{Group, is_asynchronous, is_table_of}
 use Rattle.cache_tier.specs.Routes.{hidden_where}
 use Rattle.cache_tier.specs.Shown.{shown_state}
 use Rattle.cache_tier.specs.TierStates.{Session, SetState, Settings, Tier}
 use Rattle.cache_tier.specs.Worlds.{World}
 use Rattle.tier_statements.specs.Seen.{session_seen}
 use Rattle.stored_tier.specs.Moments.{refreshed_in, set_seen}
+use Rattle.stored_tier.specs.declared.clock.Pace.{Pace}
 use Rattle.stored_tier.specs.declared.clock.TierClock.{TierClock}
 use Rattle.stored_tier.specs.declared.tier.Tier.{Tier as Stored}
 
@@ -33,14 +34,18 @@ use Rattle.stored_tier.specs.declared.tier.Tier.{Tier as Stored}
 abbrev pub without_list : Group → Group
 without_list g = record g { keys = [] }
 
+-- the settings that say when work is done
+abbrev pub pace_of : Settings → Pace
+pace_of settings = record { propagate_ms = settings.propagate_ms; rotate_bytes = settings.rotate_bytes }
+
 -- The clock is that of a tier: its moment, the console's additions, the last round tried, the last refresh of each set,
--- and after how long a round is due.
+-- and when work is done.
 pub record KeepsTime (c : TierClock) (now added round : ℕ) (sets : List SetState) (settings : Settings) : Type 0 where
   pub moment : now ≡ c.now
   pub additions : added ≡ c.added
   pub tried : round ≡ c.round
   pub refreshes : (interval : ℕ) → refreshed_in sets interval ≡ refreshed_in (map set_seen c.sets.items) interval
-  pub due : settings.propagate_ms ≡ c.propagate_ms
+  pub due : pace_of settings ≡ c.pace
 
 -- What is stored is the abstract tier's. Its log, its other settings and the order of its keys aren't stored, and no
 -- ticket of it is in doubt.
@@ -76,16 +81,6 @@ AreKept schema (g ∷ groups) (s ∷ stores) = IsFor schema g.def.tree s × AreK
 -- each store has rows for each of its tables
 abbrev pub AreWhole : List Kept → Type 0
 AreWhole stores = (k : ℕ) (s : Kept) → slice_get stores k ≡ Some s → length s.tables ≡ suc (length s.layers)
-
--- no two groups have one name
-abbrev pub HaveOwnNames : List Group → Type 0
-HaveOwnNames groups =
-    (i j : ℕ) (g h : Group) → slice_get groups i ≡ Some g → slice_get groups j ≡ Some h → g.def.name ≡ h.def.name
-    → i ≡ j
-
--- a group as the tier does them: it is loaded whole or by statements, and nothing ages in it
-abbrev pub is_plain : Group → Bool
-is_plain g = is_explicit g && is_none g.def.aging
 
 -- each operation is on a table of a group with this property
 abbrev pub are_on : (Group → Bool) → List Group → List Op → Bool

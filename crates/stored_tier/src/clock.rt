@@ -2,6 +2,15 @@
 
 use crate::moments::SetMoment;
 
+/// The settings of the program that say when work is done.
+#[derive(Clone, Copy)]
+pub struct Pace {
+    /// After how many milliseconds a round is due; 0 where none ever is.
+    pub propagate_ms: u64,
+    /// A round begins the journal's other slot anew where the live one is longer than so many bytes.
+    pub rotate_bytes: u64,
+}
+
 /// The tier's clock, and when what is due was done last. Moments are in milliseconds since 1970.
 pub struct TierClock {
     /// The tier's moment.
@@ -12,8 +21,8 @@ pub struct TierClock {
     pub round: u64,
     /// The last refresh of each set of READONLY groups that was refreshed.
     pub sets: Vec<SetMoment>,
-    /// After how many milliseconds a round is due; 0 where none ever is.
-    pub propagate_ms: u64,
+    /// When work is done.
+    pub pace: Pace,
 }
 
 impl Drop for TierClock {
@@ -23,7 +32,7 @@ impl Drop for TierClock {
             added: _,
             round: _,
             sets: _,
-            propagate_ms: _,
+            pace: _,
         } = self;
     }
 }

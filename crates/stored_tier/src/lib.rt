@@ -7,6 +7,7 @@ pub mod filling;
 pub mod gathering;
 pub mod moments;
 pub mod naming;
+mod new_slot;
 pub mod refreshing;
 pub mod session;
 pub mod tier;

@@ -119,8 +119,8 @@ abbrev pub opened_journal : TierJournal → List JournalEntry → Journal
 opened_journal t entries =
     record { kept = true; flushed = entries; tail = []; written = slot_size t; generation = generation_in t }
 
--- Of the slots as they were and as they are now: each entry in the tier's words and where it begins, and the journal with
--- them; or the first damaged place.
+-- Of the slots as they were and as they are now: each entry in the tier's words and where it begins, and the journal
+-- with them; or the first damaged place.
 abbrev pub ShowsFound : List TableDef → Slots → Slots → Found → Type 0
 ShowsFound schema slots now (Whole t records) =
     (placed : List Placed) × Reads slots placed None × StandForAll schema (meanings records.items) placed

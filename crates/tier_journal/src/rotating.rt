@@ -1,11 +1,12 @@
 //! Beginning the other slot anew.
 
-ghost use Rattle.std.specs.Prelude.{◌≡◌, ◌↔◌, ◌⊎◌, List, Err, OnOk};
+ghost use Rattle.std.specs.Prelude.{◌≡◌, ◌≤◌, ◌↔◌, ◌⊎◌, List, Err, OnOk};
 ghost use Rattle.table_defs.specs.declared.definition.TableDef.{TableDef};
 ghost use Rattle.outside.specs.Calls.{Certain, Leaves};
 ghost use Rattle.outside.specs.Holding.{Held};
 ghost use Rattle.journal_entries.specs.Bodies.{beginning};
 ghost use Rattle.commit_journal.specs.Causes.{RotateHasCause};
+ghost use Rattle.commit_journal.specs.Telling.{StillTells};
 ghost use Rattle.commit_journal.specs.declared.fault.RotateError.TheVariants.{Limit, Memory};
 ghost use Rattle.cache_tier.specs.Journals.{Journal, JournalEntry, rotated};
 ghost use Rattle.cache_tier.specs.JournalSteps.{name_size};
@@ -42,6 +43,8 @@ impl TierJournal {
         ensures version { OnOk result (version_in self.new ≡ 2) }
         ensures stays { (result ≡ Err Limit) ⊎ (result ≡ Err Memory) → (self.new ≡ self.old) × (d.new ≡ d.old) }
         ensures limit { (result ≡ Err Limit) ↔ IsPastSlot self.old batch.now }
+        ensures tells { StillTells (D.state d.old) (D.state d.new) }
+        ensures moment { (D.state d.old).moment ≤ (D.state d.new).moment }
         ensures cause { RotateHasCause (D.state d.old) (D.state d.new) result }
     {
         self.journal.renew(alloc, d, &batch.bytes, batch.standing)?;

@@ -1,11 +1,11 @@
-//! Whether a transaction can be put into a batch.
+//! Whether an entry can be put into a batch.
 
-ghost use Rattle.std.specs.Prelude.{◌≡◌, ◌≤◌, ◌<◌, ◌^◌, FitsSigned, IsTrue, length};
+ghost use Rattle.std.specs.Prelude.{◌≡◌, [], ◌≤◌, ◌<◌, ◌^◌, FitsSigned, IsTrue, length};
 ghost use Rattle.std.specs.Int.{w64};
 ghost use Rattle.std.specs.List.{AllByRecursion};
 ghost use Rattle.std.specs.Str.{is_utf8};
 ghost use Rattle.journal_entries.specs.Spelling.{IsName, IsRow, IsValue};
-ghost use Rattle.cache_tier.specs.Journals.{Commits, Prepares};
+ghost use Rattle.cache_tier.specs.Journals.{Commits, Numbers, Prepares};
 ghost use Rattle.tier_journal.specs.Batches.{CanFollow};
 ghost use Rattle.tier_journal.specs.Writing.{CanBeWritten, name_in};
 
@@ -14,7 +14,7 @@ use numbers::Number;
 use row_types::Value;
 use table_defs::TableDef;
 use table_state::{Op, Sealed};
-use tier_base::TableId;
+use tier_base::{TableId, Ticket};
 
 fn is_text(bytes: &[u8]) -> bool
     ensures { result ≡ is_utf8 bytes.now }
@@ -104,6 +104,14 @@ fn are_ops(schema: &[TableDef], ops: &[Op]) -> bool
 }
 
 impl Batch {
+    /// Whether the number of a passed-on write can be put behind the batch's entries: it is greater than theirs and at
+    /// most 2^63 - 1.
+    pub fn can_number(&self, ticket: Ticket) -> bool
+        ensures { IsTrue result → CanFollow [] self.now (Numbers ticket.0) }
+    {
+        self.standing.last < ticket.0 && ticket.0 < 1 << 63
+    }
+
     /// Whether the transaction can be put behind the batch's entries: its ticket is greater than theirs and at most
     /// 2^63 - 1, its tables are of the schema, it has from 1 to 10,000 operations, and its rows have bytes.
     pub fn can_take(&self, schema: &[TableDef], sealed: &Sealed) -> bool

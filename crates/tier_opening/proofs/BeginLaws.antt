@@ -17,6 +17,7 @@ use Rattle.recalling.specs.Recalled.{IsBare}
 use Rattle.reopening.specs.Starting.{BeginsAs, IsUnread}
 use Rattle.reopening.specs.declared.start.Start.{Start}
 use Rattle.tier_opening.specs.Opening.{begun_tier}
+use Rattle.stored_tier.specs.Stored.{pace_of}
 
 -- what no entry changes of a tier
 pub record IsStill (t t' : Tier) : Type 0 where
@@ -66,7 +67,7 @@ unread [] b = tt
 unread (g ∷ groups) b = (b.0.position, unread groups b.1)
 
 pub begins_as : (start : Start) (settings : Settings) (entries : List JournalEntry) (history : List Entry) (catalog : Tier)
-    → settings.propagate_ms ≡ start.propagate_ms → RecallsAll entries (opened settings start.now.0 start.schema) catalog
+    → pace_of settings ≡ start.pace → RecallsAll entries (opened settings start.now.0 start.schema) catalog
     → groups_in start.catalog ≡ catalog.groups → Each IsBare (groups_in start.catalog)
     → start.commits.items ≡ commits_in (notes_of start.schema entries) → start.next ≡ next_behind entries
     → RiseBetween 1 start.commits.items start.next → BeginsAs start (begun_tier start.schema entries history catalog)
@@ -86,7 +87,7 @@ begins_as start settings entries history catalog due recalls groups bare commits
       now = s.now;
       added = s.added;
       round = s.round;
-      due = ap (λ (x : Settings). x.propagate_ms) s.settings ∙ due;
+      due = ap pace_of s.settings ∙ due;
     }
 
 -- where sets count from plays no part in what stands

@@ -1,5 +1,6 @@
 -- What the fold of the entries gives to the opening, and what it is damaged by.
-use Rattle.std.proofs.Common.{◌≡◌, ◌∙◌, ◌≤◌, ◌+◌, ℕ, Option, Some, None, List, [], ◌∷◌, Ok, refl, sym, ap, subst, arith, inr}
+use Rattle.std.proofs.Common.{◌≡◌, ◌∙◌, ◌≤◌, ◌+◌, ℕ, Option, Some, None, List, [], ◌∷◌, Ok, Err, refl, sym, ap, subst, arith, inr}
+use Rattle.outside.specs.Faults.{Rose}
 use Rattle.std.specs.Global.{Vec}
 use Rattle.std.specs.List.{list_all}
 use Rattle.table_defs.specs.declared.definition.TableDef.{TableDef}
@@ -29,15 +30,19 @@ use Rattle.tier_journal.specs.Writing.{written, written_all}
 use Rattle.recovery.specs.Recalling.{notes_of}
 use Rattle.recalling.specs.Recalled.{AreInOrder, IsBare, IsFirstUnfit, IsRecalled}
 use Rattle.recalling.specs.declared.recalled.Recalled.{Recalled}
-use Rattle.reopening.specs.Starting.{IsInOrder, ReopensFrom}
+use Rattle.reopening.specs.Starting.{DiffersAs, IsInOrder, ReopensFrom}
+use Rattle.reopening.specs.declared.start.ReopenError.{ReopenError}
+use Rattle.reopening.specs.declared.start.ReopenError.TheVariants as reopen
 use Rattle.reopening.specs.declared.start.Start.{Start}
 use Rattle.stored_tier.specs.declared.tier.Tier.{Tier as Stored}
-use Rattle.stored_tier.specs.Stored.{HaveOwnNames, is_plain}
+use Rattle.group_catalog.specs.Catalogs.{HaveOwnNames, is_plain}
 use Rattle.stored_tier.proofs.BankLaws.{TellsBehind, told_behind}
 use Rattle.tier_opening.specs.Opening.{Opens}
-use Rattle.tier_opening.specs.Telling.{IsDamage, IsUnfound}
+use Rattle.tier_opening.specs.Telling.{FailsAs, IsDamage, IsDiffering, IsTold, IsUnfound}
+use Rattle.tier_opening.specs.declared.opening.OpenError.{OpenError}
+use Rattle.tier_opening.specs.declared.opening.OpenError.TheVariants as open_error
 use Rattle.tier_opening.proofs.BeginLaws.{RecalledLaw}
-use Rattle.tier_opening.proofs.FoundLaws.{opens}
+use Rattle.tier_opening.proofs.FoundLaws.{differing, opens}
 
 rise_le : (low : ℕ) (xs : List Sealed) (high : ℕ) → RiseBetween low xs high → low ≤ high
 rise_le low [] high r = r
@@ -54,20 +59,40 @@ in_order start r schema catalog next order rise = record {
   first = subst (λ n. 1 ≤ n) (sym next) (rise_le 1 r.commits.items r.next rise);
 }
 
-pub opens_by : {D : Type 0} (state : D → SiteState) (possible : D → ℕ → Held → Type 0) (d d1 d2 d3 : D) (start : Start) (r : Recalled) (k : TierJournal) (records : Vec (ℕ × Record)) (t : Stored)
-    → start.catalog ≡ r.catalog → start.next ≡ r.next → start.commits ≡ r.commits
-    → site.Told (state d).held (state d1).held (site.BankCall (state d).shared (TellsSchema (Ok start.schema))) → (state d2).shared ≡ (state d).shared
-    → ((o : Held) → (state d1).held ≡ Some o → HaveBytes o.slots → Finds state possible d2 start.schema o (Whole k records)) → version_in k ≡ 2
-    → ((settings : Settings) → IsRecalled settings start.now.0 start.schema (meanings records.items) (groups_in r.catalog)) → AreInOrder start.schema (groups_in r.catalog)
-    → r.commits.items ≡ commits_in (notes_of start.schema (meanings records.items)) → r.next ≡ next_behind (meanings records.items) → RiseBetween 1 r.commits.items r.next
-    → ReopensFrom start (state d2) (state d3) (Ok t) → KeepsCertain state possible d2 d3 → RecalledLaw → Opens state possible start.now.0 start.propagate_ms d d3 t k
-opens_by state possible d d1 d2 d3 start r k records t catalog next commits told shared found two recalls order commits_are next_is rise reopens certain law =
-    opens state possible d d1 d2 d3 start k records t told shared found two
-    (λ settings. subst (λ c. IsRecalled settings start.now.0 start.schema (meanings records.items) (groups_in c)) (sym catalog) (recalls settings))
-    (subst (λ c. Each IsBare (groups_in c)) (sym catalog) order.bare)
-    (ap (λ x. x.items) commits ∙ commits_are) (next ∙ next_is)
-    (subst (λ n. RiseBetween 1 start.commits.items n) (sym next) (subst (λ x. RiseBetween 1 x.items r.next) (sym commits) rise))
-    reopens certain law
+-- the opening with what the fold gave
+module _ {D : Type 0} (state : D → SiteState) (possible : D → ℕ → Held → Type 0) (d d1 d2 d3 : D) (start : Start) (r : Recalled) (k : TierJournal) (records : Vec (ℕ × Record)) (catalog : start.catalog ≡ r.catalog) (next : start.next ≡ r.next) (commits : start.commits ≡ r.commits)
+    (told : site.Told (state d).held (state d1).held (site.BankCall (state d).shared (TellsSchema (Ok start.schema)))) (shared : (state d2).shared ≡ (state d).shared)
+    (found : (o : Held) → (state d1).held ≡ Some o → HaveBytes o.slots → Finds state possible d2 start.schema o (Whole k records)) (two : version_in k ≡ 2)
+    (recalls : (settings : Settings) → IsRecalled settings start.now.0 start.schema (meanings records.items) (groups_in r.catalog)) (order : AreInOrder start.schema (groups_in r.catalog))
+    (commits_are : r.commits.items ≡ commits_in (notes_of start.schema (meanings records.items))) (next_is : r.next ≡ next_behind (meanings records.items)) (rise : RiseBetween 1 r.commits.items r.next) (law : RecalledLaw) where
+  recalled_by : (settings : Settings) → IsRecalled settings start.now.0 start.schema (meanings records.items) (groups_in start.catalog)
+  recalled_by settings = subst (λ c. IsRecalled settings start.now.0 start.schema (meanings records.items) (groups_in c)) (sym catalog) (recalls settings)
+
+  bare : Each IsBare (groups_in start.catalog)
+  bare = subst (λ c. Each IsBare (groups_in c)) (sym catalog) order.bare
+
+  commits_by : start.commits.items ≡ commits_in (notes_of start.schema (meanings records.items))
+  commits_by = ap (λ x. x.items) commits ∙ commits_are
+
+  rises : RiseBetween 1 start.commits.items start.next
+  rises = subst (λ n. RiseBetween 1 start.commits.items n) (sym next) (subst (λ x. RiseBetween 1 x.items r.next) (sym commits) rise)
+
+  pub opens_by : (t : Stored) → ReopensFrom start (state d2) (state d3) (Ok t) → KeepsCertain state possible d2 d3 → Opens state possible start.now.0 start.pace d d3 t k
+  opens_by t reopens certain o settings held bytes due =
+      opens state possible d d1 d2 start k records told shared found two recalled_by bare commits_by (next ∙ next_is) rises law o settings held bytes due d3 t reopens certain
+
+  -- why it fails
+  pub fails_by : (e : ReopenError) (f : OpenError) → IsTold start.schema e f → (e ≡ reopen.Failed → Rose (state d).bank_faults (state d3).bank_faults)
+      → ReopensFrom start (state d2) (state d3) (Err e) → DiffersAs start.commits.items (state d2) (state d3) e → FailsAs start.now.0 start.pace (state d) (state d3) f
+  fails_by reopen.Failed f is rose reopens differs = subst (FailsAs start.now.0 start.pace (state d) (state d3)) (sym is) (rose refl)
+  fails_by reopen.Memory f is rose reopens differs = subst (FailsAs start.now.0 start.pace (state d) (state d3)) (sym is) tt
+  fails_by (reopen.Differs table key) open_error.Disk is rose reopens differs = absurd is
+  fails_by (reopen.Differs table key) open_error.Bank is rose reopens differs = absurd is
+  fails_by (reopen.Differs table key) (open_error.Damaged slot place) is rose reopens differs = absurd is
+  fails_by (reopen.Differs table key) open_error.Memory is rose reopens differs = tt
+  fails_by (reopen.Differs table key) (open_error.Differs name other) is rose reopens differs = λ o settings held bytes due.
+      subst (IsDiffering settings start.now.0 (state d).shared o (state d3) name) (sym is.1)
+      (differing state possible d d1 d2 start k records told shared found two recalled_by bare commits_by (next ∙ next_is) rises law o settings held bytes due d3 table name key is.0 reopens differs)
 
 -- ---- damage
 

@@ -23,6 +23,8 @@ use Rattle.recovery.specs.Reopening.{Reopens, with_sets_begun}
 use Rattle.stored_tier.specs.declared.tier.Tier.{Tier as Stored}
 use Rattle.stored_tier.specs.Performing.{StandsFor}
 use Rattle.stored_tier.specs.Sites.{IsAt}
+use Rattle.stored_tier.specs.declared.clock.Pace.{Pace}
+use Rattle.stored_tier.specs.Stored.{pace_of}
 
 -- the slots of the disk say these entries, whose tables are the schema's
 pub record Say (schema : List TableDef) (slots : Slots) (entries : List JournalEntry) : Type 0 where
@@ -47,8 +49,8 @@ world_of tier history journal site =
       shared = site.shared;
     }
 
--- The world in which the tier begins: transactions of others have come to the history that was held; the journal has the
--- entries that the slots say; and the tier is what they leave.
+-- The world in which the tier begins: transactions of others have come to the history that was held; the journal has
+-- the entries that the slots say; and the tier is what they leave.
 pub record BeginsIn (settings : Settings) (moment : ℕ) (o : Held) (k : TierJournal) (w : World) : Type 0 where
   pub others : List Entry
   pub came : AreOthers w.shared o.history others
@@ -79,12 +81,12 @@ pub record IsOpened {D : Type 0} (state : D → SiteState) (possible : D → ℕ
   pub begins : BeginsIn settings moment o k begun
   pub opened : AreMatched begins.entries begun.history → IsUnshared begun → IsOpenedIn state possible begun t k d
 
--- the same for each settings with this span between rounds, where the site tells what it holds
-abbrev pub Opens : {D : Type 0} → (D → SiteState) → (D → ℕ → Held → Type 0) → ℕ → ℕ → D → D → Stored → TierJournal
+-- the same for each settings with this pace, where the site tells what it holds
+abbrev pub Opens : {D : Type 0} → (D → SiteState) → (D → ℕ → Held → Type 0) → ℕ → Pace → D → D → Stored → TierJournal
     → Type 0
-Opens state possible moment propagate_ms d d' t k =
+Opens state possible moment pace d d' t k =
     (o : Held) (settings : Settings) → (state d).held ≡ Some o → HaveBytes o.slots
-    → settings.propagate_ms ≡ propagate_ms → IsOpened state possible settings moment (state d).shared o t k d'
+    → pace_of settings ≡ pace → IsOpened state possible settings moment (state d).shared o t k d'
 
 -- Journal and history belong together: whatever others do in the opening, the entries that the slots say match the
 -- history, and others change no table of a writethrough group that they leave.

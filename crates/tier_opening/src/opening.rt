@@ -8,7 +8,7 @@ ghost use Rattle.tier_journal.specs.Keeping.{version_in};
 ghost use Rattle.tier_journal.specs.Opening.{Finds};
 ghost use Rattle.stored_tier.specs.Stored.{IsSound};
 ghost use Rattle.tier_opening.specs.Opening.{Opens};
-ghost use Rattle.tier_opening.specs.Telling.{FindHasCause, IsTold, OpenIsCaused};
+ghost use Rattle.tier_opening.specs.Telling.{FindHasCause, IsNamed, IsTold, OpenIsCaused};
 
 use outside::{BankError, Site, Slot};
 use recalling::{RecallError, recall};
@@ -17,6 +17,7 @@ use reopening::reopen;
 use reopening::start::{ReopenError, Start};
 use row_types::Key;
 use std::alloc::{AllocError, Global};
+use stored_tier::clock::Pace;
 use stored_tier::tier::Tier;
 use table_defs::{BackingSchema, TableDef, copied_schema};
 use tier_base::{Moment, Name, TableId};
@@ -77,25 +78,26 @@ impl Drop for OpenError {
     }
 }
 
-/// Opens a tier over what the site holds: the bank is asked for its schema, the journal is opened, a new one where no slot
-/// is live, and its entries are folded into the catalog of groups. Then what they have committed is applied at the bank,
-/// and the rows of explicit groups whose flag is set come back. `start` is the tier's first moment, and after
-/// `propagate_ms` milliseconds a round is due; 0 where none ever is.
+/// Opens a tier over what the site holds: the bank is asked for its schema, the journal is opened, a new one where no
+/// slot is live, and its entries are folded into the catalog of groups. Then what they have committed is applied at
+/// the bank, and the rows of explicit groups whose flag is set come back. `start` is the tier's first moment, and
+/// `pace` says when work is done.
 ///
-/// `Disk` and `Bank` only where that one's count of faults rose in this call; `Damaged` with the first place that doesn't
-/// read or fit, and as yet with byte 1 of a slot of version 1; `Differs` where a backing row isn't as a commit tells;
-/// `Memory` for want of memory. What was applied at the bank stands there behind each of them, and the journal says what it said.
+/// `Disk` and `Bank` only where that one's count of faults rose in this call; `Damaged` with the first place that
+/// doesn't read or fit, and as yet with byte 1 of a slot of version 1; `Differs` only where a backing row wasn't as a
+/// commit tells, as that was tried; `Memory` for want of memory, that for the name of a table or a key that differs
+/// included. What was applied at the bank stands there behind each of them, and the journal says what it said.
 /// (TimesTen Cache User's Guide, "Recovery"; the journal is this project's.)
 pub fn open_tier<P: Site>(
     alloc: Global,
     site: &mut P,
     start: Moment,
-    propagate_ms: u64,
+    pace: Pace,
 ) -> Result<OpenedTier, OpenError>
-    ensures opens { IfOk result (λ made. Opens P.Disk.state P.Disk.possible start.0 propagate_ms
+    ensures opens { IfOk result (λ made. Opens P.Disk.state P.Disk.possible start.0 pace
         site.old site.new made.tier made.journal) }
     ensures sound { IfOk result (λ made. IsSound made.tier) }
-    ensures cause { OpenIsCaused start.0 (P.Disk.state site.old) (P.Disk.state site.new) result }
+    ensures cause { OpenIsCaused start.0 pace (P.Disk.state site.old) (P.Disk.state site.new) result }
 {
     recalled_law();
     let schema = match site.schema() {
@@ -119,7 +121,7 @@ pub fn open_tier<P: Site>(
         commits,
         next,
         now: start,
-        propagate_ms,
+        pace,
     };
     match reopen(alloc, site, begins) {
         Ok(tier) => Ok(OpenedTier { tier, journal }),
@@ -158,7 +160,7 @@ fn found_journal<P: Site>(
 
 // Why the tier isn't opened again, with the table's name in this schema. Its own want of memory is one, too.
 fn told_error(alloc: Global, schema: &BackingSchema, error: &ReopenError) -> OpenError
-    ensures { IsTold error.now result }
+    ensures { IsTold schema.now error.now result }
 {
     match error {
         ReopenError::Failed => OpenError::Bank,
@@ -178,7 +180,7 @@ fn named_row(
     table: TableId,
     key: &Key,
 ) -> Result<(Name, Key), AllocError>
-    ensures { IfOk result (λ row. row.1 ≡ key.now) }
+    ensures { IfOk result (λ row. IsNamed schema.now table row.0 × (row.1 ≡ key.now)) }
 {
     match schema.get(table.0 as usize) {
         None => Err(AllocError),

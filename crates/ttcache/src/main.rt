@@ -6,19 +6,22 @@
 //!
 //! `run` works on files in the working folder: the journal's slots `ttcache.j0` and `ttcache.j1`, and the backing database
 //! `ttcache.db`. It ends with the status that `session_cli::top` answers, or with 11 where a file can't be opened or the
-//! settings can't be read. Of each status other than 0 it says on standard error in one line what happened.
+//! settings can't be read. Of each status other than 0 it says on standard error in one line what happened. As `import`
+//! reads and as `bench` runs, a line there counts bytes or lines, where standard error is a terminal.
 #![tactic(auto)]
 
 mod files;
+mod progress;
 mod streams;
 mod system_clock;
 
 use backing_gate::MemorySite;
 use files::{SiteError, open_site};
 use outside::Site;
+use progress::{ToldLines, ToldSource};
 use session_cli::top;
 use std::alloc::{AllocError, Global};
-use std::io::ErrorKind;
+use std::io::{ErrorKind, IsTerminal};
 use std::process::ExitCode;
 use std::{env, fs};
 use streams::{ReaderSource, WriterSink};
@@ -132,10 +135,12 @@ fn wants_files(words: &[&str]) -> bool {
 
 // Calls the program with the real streams and the real clock, over this site.
 fn call<P: Site>(rt: &HostRuntime, words: &[&str], settings: &[u8], site: &mut P) -> u8 {
-    let mut source = ReaderSource::new(rt.stdin());
+    let input = ReaderSource::new(rt.stdin());
+    let mut source = ToldSource::new(input, told_by(rt, words, "import"));
+    let mut lines = ToldLines::new(told_by(rt, words, "bench"));
     let mut sink = WriterSink::new(rt.stdout());
     let mut clock = SystemClock::new(*rt);
-    top(
+    let status = top(
         rt.alloc(),
         words,
         settings,
@@ -143,7 +148,25 @@ fn call<P: Site>(rt: &HostRuntime, words: &[&str], settings: &[u8], site: &mut P
         &mut sink,
         site,
         &mut clock,
-    )
+        &mut lines,
+    );
+    source.end();
+    lines.end();
+    status
+}
+
+// What tells how far this command has come: the runtime, where the words name it and standard error is a terminal.
+fn told_by(rt: &HostRuntime, words: &[&str], command: &str) -> Option<HostRuntime> {
+    match words.get(1) {
+        Some(word) => {
+            if *word == command && rt.stderr().is_terminal() {
+                Some(*rt)
+            } else {
+                None
+            }
+        }
+        None => None,
+    }
 }
 
 fn words_of(alloc: Global, args: &[String]) -> Result<Vec<&str>, AllocError> {

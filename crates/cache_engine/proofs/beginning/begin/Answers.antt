@@ -22,7 +22,7 @@ returns-in-Ok-new_tier-clause-later g c =
 
 pub returns-in-Ok-new_tier-clause-begins : goal.returns-in-Ok-new_tier-clause-begins
 returns-in-Ok-new_tier-clause-begins g c = (
-  begun c.opened_law.ensures c.in-Ok-new_tier.tier c.in-Ok.schema c.args.start c.args.propagate_ms _ _
+  begun c.opened_law.ensures c.in-Ok-new_tier.tier c.in-Ok.schema c.args.start c.args.pace _ _
       c.in-Ok.ensures.told c.in-Ok-new_tier.ensures.fresh,
   refl,
   refl,

@@ -6,7 +6,7 @@ use Rattle.cache_engine.proofs.beginning.new_tier.Goals as goal
 
 pub returns-clause-sound : goal.returns-clause-sound
 returns-clause-sound c =
-    sound_fresh _ c.args.schema c.args.start.0 c.args.propagate_ms
+    sound_fresh _ c.args.schema c.args.start.0 c.args.pace
     (record {
       schema_is = refl;
       told = refl;

@@ -12,29 +12,19 @@ returns-in-Commit-clause-performs g c = rw c.in-Commit.is c.commit_transaction.e
 pub returns-in-Select-clause-performs : goal.returns-in-Select-clause-performs
 returns-in-Select-clause-performs g c =
     unwritten_executes g.P.Disk.state g.P.Disk.possible c.args.tier.now c.run_query.new.tier c.args.doubt.now c.args.journal.now c.args.site.now
-    c.args.site.now c.args.id c.args.statement c.run_query.result c.requires.free (same_certain g.P.Disk.state g.P.Disk.possible c.args.site.now)
-    (rw c.in-Select.is (c.run_query.ensures.unwritten _))
+    c.run_query.new.site c.args.id c.args.statement c.run_query.result c.requires.free c.run_query.ensures.certain
+    (rw c.in-Select.is c.run_query.ensures.unwritten)
 
 pub returns-in-Select-clause-ready : goal.returns-in-Select-clause-ready
 returns-in-Select-clause-ready g c = ready_none c.run_query.new.tier c.args.doubt.now c.requires.free
 
 pub returns-in-Select-clause-cause : goal.returns-in-Select-clause-cause
 returns-in-Select-clause-cause g c =
-    caused_bank c.args.journal.now (g.P.Disk.state c.args.site.now) (g.P.Disk.state c.args.site.now) (reply_of c.run_query.result) refl (c.run_query.ensures.calm _)
+    caused_bank c.args.journal.now (g.P.Disk.state c.args.site.now) (g.P.Disk.state c.run_query.new.site) (reply_of c.run_query.result)
+    c.run_query.ensures.disk c.run_query.ensures.cause
 
 pub returns-in-Write-clause-performs : goal.returns-in-Write-clause-performs
-returns-in-Write-clause-performs g c =
-    unwritten_executes g.P.Disk.state g.P.Disk.possible c.args.tier.now c.write_rows.new.tier c.args.doubt.now c.args.journal.now c.args.site.now
-    c.write_rows.new.site c.args.id c.args.statement c.write_rows.result c.requires.free c.write_rows.ensures.certain
-    (rw c.in-Write.is c.write_rows.ensures.unwritten)
-
-pub returns-in-Write-clause-cause : goal.returns-in-Write-clause-cause
-returns-in-Write-clause-cause g c =
-    caused_bank c.args.journal.now (g.P.Disk.state c.args.site.now) (g.P.Disk.state c.write_rows.new.site) (reply_of c.write_rows.result)
-    c.write_rows.ensures.disk c.write_rows.ensures.cause
-
-pub returns-in-Write-clause-ready : goal.returns-in-Write-clause-ready
-returns-in-Write-clause-ready g c = ready_none c.write_rows.new.tier c.args.doubt.now c.requires.free
+returns-in-Write-clause-performs g c = rw c.in-Write.is c.write_rows.ensures.performs
 
 pub returns-in-CreateGroup-clause-performs : goal.returns-in-CreateGroup-clause-performs
 returns-in-CreateGroup-clause-performs g c =

@@ -4,7 +4,7 @@ use Rattle.script_commands.proofs.BenchLaws.{summarised}
 use Rattle.script_commands.proofs.benching.bench.Goals as goal
 
 pub returns : goal.returns
-returns c =
+returns g c =
     let unshared = ap (λ (s : MemoryState). s.visits.shared) c.in_ok-site.ensures.fresh in
     let h = c.history.ensures in
     let a = c.as_slice-history.ensures in

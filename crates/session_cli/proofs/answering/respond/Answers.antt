@@ -1,6 +1,7 @@
 use Rattle.std.proofs.Common.{Some, None, ◌∙◌, refl, sym, subst, ◌≤◌, le_refl}
 use Rattle.cache_engine.proofs.RequestLaws.{line_kept}
 use Rattle.session_cli.proofs.OutputLaws.{splits_none}
+use Rattle.session_cli.proofs.SlotLaws.{in_slots}
 use Rattle.session_cli.proofs.StopLaws.{disk_cause, stop_none}
 use Rattle.session_cli.specs.declared.answering.Stop.TheVariants as stop
 use Rattle.session_cli.proofs.answering.respond.Goals as goal
@@ -8,16 +9,27 @@ use Rattle.session_cli.proofs.answering.respond.Goals as goal
 pub returns-in-Some-clause-serves : goal.returns-in-Some-clause-serves
 returns-in-Some-clause-serves g c = λ w at stands unshared.
     let it = c.in-Some.ensures.performs w at stands.left unshared stands.keeps in
+    let kept = line_kept c.heed_law.ensures c.line_base-base.result.0 w c.args.line.now it.world (Some c.in-Some.reply) it.is ∙ stands.kept in
     record {
       base = c.line_base-base.result.0;
       took = c.line_base-base.ensures;
       reply = Some c.in-Some.reply;
+      unshared = unshared;
+      once = λ k v x. x;
       world = it.world;
       at = it.at;
       stands = λ whole. record {
         left = it.left whole;
         keeps = it.keeps whole;
-        kept = line_kept c.heed_law.ensures c.line_base-base.result.0 w c.args.line.now it.world (Some c.in-Some.reply) it.is ∙ stands.kept;
+        kept = kept;
+        slots = in_slots g.P.Disk.state g.P.Disk.possible c.request.new.site c.request.new.engine.journal it.world kept (it.keeps whole);
+      };
+      was = λ whole. record {
+        engine = c.request.new.engine;
+        order = c.in-Some.ensures.order;
+        left = it.left whole;
+        kept = kept;
+        over = record { site = c.request.new.site; at = it.at; keeps = it.keeps whole };
       };
       goes = it.is;
       tells = c.pass_on.ensures.tells;
@@ -31,16 +43,27 @@ returns-in-Some-clause-disk g c =
 pub returns-in-None-clause-serves : goal.returns-in-None-clause-serves
 returns-in-None-clause-serves g c = λ w at stands unshared.
     let it = c.in-None.ensures.performs w at stands.left unshared stands.keeps in
+    let kept = line_kept c.heed_law.ensures c.line_base-base.result.0 w c.args.line.now it.world None it.is ∙ stands.kept in
     record {
       base = c.line_base-base.result.0;
       took = c.line_base-base.ensures;
       reply = None;
+      unshared = unshared;
+      once = λ k v x. x;
       world = it.world;
       at = it.at;
       stands = λ whole. record {
         left = it.left whole;
         keeps = it.keeps whole;
-        kept = line_kept c.heed_law.ensures c.line_base-base.result.0 w c.args.line.now it.world None it.is ∙ stands.kept;
+        kept = kept;
+        slots = in_slots g.P.Disk.state g.P.Disk.possible c.request.new.site c.request.new.engine.journal it.world kept (it.keeps whole);
+      };
+      was = λ whole. record {
+        engine = c.request.new.engine;
+        order = c.in-None.ensures.order;
+        left = it.left whole;
+        kept = kept;
+        over = record { site = c.request.new.site; at = it.at; keeps = it.keeps whole };
       };
       goes = it.is;
       tells = refl;

@@ -1,4 +1,5 @@
-use Rattle.std.proofs.Common.{◌≡◌, ◌+◌, ◌∙◌, ap, arith, refl, inl, inr}
+use Rattle.std.proofs.Common.{◌≡◌, ◌+◌, ◌∙◌, ap, arith, refl, inl, inr, subst, sym}
+use Rattle.tier_opening.specs.Telling.{FailsAs}
 use Rattle.session_cli.specs.declared.serving.Status.TheVariants.{NoMemory, SchemaFailed}
 use Rattle.session_cli.specs.declared.session.Session.{Session}
 use Rattle.session_cli.specs.Timing.{AreLeft}
@@ -20,21 +21,21 @@ returns-in-Ok-open-clause-runs g c = λ settings ms.
     let session : Session = record { engine = c.in-Ok-open.engine; line = c.in-Ok-new.line; output = c.in-Ok-new-2.output } in
     let coming = g.C.Clock.coming c.args.clock.now in
     let left : AreLeft coming 1 (g.C.Clock.coming c.now-start.new.self) = λ n. c.now-start.ensures.rest n ∙ (let e : n + 1 ≡ 1 + n = omega arith in ap coming e) in
-    runs_opened g.P.Disk.state g.P.Disk.possible settings c.args.propagate_ms c.now-start.result.0 c.in-Ok-open.engine session c.serve_pieces.result _ _ (g.K.Sink.written c.args.sink.now) coming (g.C.Clock.coming c.now-start.new.self) c.args.site.now c.open.new.site
-    _ ms refl c.in-Ok-new.ensures c.in-Ok-new-2.ensures c.now-start.ensures.told left c.in-Ok-open.ensures.opens c.in-Ok-open.ensures.cause.bank_later c.in-Ok-open.ensures.cause.shares c.serve_pieces.ensures.serves
+    runs_opened g.P.Disk.state g.P.Disk.possible settings c.args.pace c.now-start.result.0 c.in-Ok-open.engine session c.serve_pieces.result _ _ (g.K.Sink.written c.args.sink.now) coming (g.C.Clock.coming c.now-start.new.self) c.args.site.now c.open.new.site
+    _ ms c.in-Ok-open.ensures.order refl c.in-Ok-new.ensures c.in-Ok-new-2.ensures c.now-start.ensures.told left c.in-Ok-open.ensures.opens c.in-Ok-open.ensures.cause.bank_later c.in-Ok-open.ensures.cause.shares c.serve_pieces.ensures.serves
 
 pub returns-clause-runs : goal.returns-clause-runs
 returns-clause-runs g c = λ settings ms.
-    runs_unopened settings c.end_unopened.result _ _ _ c.in-Err.error c.end_unopened.ensures.tells c.now-start.result.0 c.in-Err.ensures.cause.failed
+    runs_unopened settings c.end_unopened.result _ _ _ c.in-Err.error c.end_unopened.ensures.tells c.now-start.result.0 c.now-start.ensures.told (subst (λ n. FailsAs c.now-start.result.0 n (g.P.Disk.state c.args.site.now) (g.P.Disk.state c.open.new.site) c.in-Err.error) (sym ms) c.in-Err.ensures.cause.failed)
 
 pub returns-clause-takes : goal.returns-clause-takes
 returns-clause-takes g c = λ input source. taken_unopened input _ c.end_unopened.result (kinds_of c.end_unopened.result _ _ c.in-Err.error c.end_unopened.ensures.tells) source
 
 pub returns-clause-disk : goal.returns-clause-disk
-returns-clause-disk g c = λ is. disk_failed c.now-start.result.0 (g.P.Disk.state c.args.site.now) (g.P.Disk.state c.open.new.site) c.in-Err.error c.in-Err.ensures.cause.failed (is_disk c.end_unopened.result _ _ c.in-Err.error c.end_unopened.ensures.tells is)
+returns-clause-disk g c = λ is. disk_failed c.now-start.result.0 c.args.pace (g.P.Disk.state c.args.site.now) (g.P.Disk.state c.open.new.site) c.in-Err.error c.in-Err.ensures.cause.failed (is_disk c.end_unopened.result _ _ c.in-Err.error c.end_unopened.ensures.tells is)
 
 pub returns-clause-schema : goal.returns-clause-schema
-returns-clause-schema g c = λ is. bank_failed c.now-start.result.0 (g.P.Disk.state c.args.site.now) (g.P.Disk.state c.open.new.site) c.in-Err.error c.in-Err.ensures.cause.failed (is_bank c.end_unopened.result _ _ c.in-Err.error c.end_unopened.ensures.tells is)
+returns-clause-schema g c = λ is. bank_failed c.now-start.result.0 c.args.pace (g.P.Disk.state c.args.site.now) (g.P.Disk.state c.open.new.site) c.in-Err.error c.in-Err.ensures.cause.failed (is_bank c.end_unopened.result _ _ c.in-Err.error c.end_unopened.ensures.tells is)
 
 pub returns-clause-read : goal.returns-clause-read
 returns-clause-read g c = λ is. absurd (not_source c.end_unopened.result _ _ c.in-Err.error c.end_unopened.ensures.tells is)

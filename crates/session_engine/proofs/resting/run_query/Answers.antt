@@ -1,29 +1,45 @@
-use Rattle.std.proofs.Common.{subst, sym}
+use Rattle.std.proofs.Common.{Err, Ok, subst}
 use Rattle.sql_subset.specs.declared.stmt.Stmt.TheVariants as statement
-use Rattle.stored_tier.specs.Performing.{IsCalm, reply_of}
-use Rattle.session_engine.proofs.QueryLaws.{performs_so, queried, unverified_still}
-use Rattle.stored_tier.proofs.QuietLaws.{unverified}
+use Rattle.session_engine.specs.Selecting.{IsCalmHere}
+use Rattle.session_engine.specs.declared.query.Selected.TheVariants.{Answered, PassedOn}
+use Rattle.session_engine.proofs.PassedQueryLaws.{passed_done}
+use Rattle.session_engine.proofs.QueryLaws.{SelectsOver, answered_done, performs_so, queried, refused_done, unverified_still}
 use Rattle.session_engine.proofs.resting.run_query.Goals as goal
 
-pub returns-in-Err-clause-performs : goal.returns-in-Err-clause-performs
-returns-in-Err-clause-performs c = λ site.
-    unverified c.args.tier.now c.verify.new.self site c.args.id (statement.Select c.args.query.now) c.in-Err.ensures.same
-
 pub returns-in-Err-clause-unwritten : goal.returns-in-Err-clause-unwritten
-returns-in-Err-clause-unwritten c = λ site.
-    unverified_still c.args.tier.now c.verify.new.self site c.args.id (statement.Select c.args.query.now) c.in-Err.ensures.same
+returns-in-Err-clause-unwritten g c =
+    unverified_still c.args.tier.now c.verify.new.self (g.P.Disk.state c.args.site.now) c.args.id (statement.Select c.args.query.now) c.in-Err.ensures.same
 
-pub returns-in-Ok-clause-performs : goal.returns-in-Ok-clause-performs
-returns-in-Ok-clause-performs c = λ site.
-    performs_so c.args.tier.now c.verify.new.self site site c.args.id (statement.Select c.args.query.now) c.reply_to_query.result
-    (queried c.use_shown_law.ensures.rows c.args.tier.now c.verify.new.self site c.args.id c.args.query.now c.select_rows.result
-    c.reply_to_query.result c.in-Ok.ensures.same c.in-Ok.ensures.sound c.select_rows.ensures.selects c.reply_to_query.ensures)
+pub returns-in-Err-select_rows-clause-unwritten : goal.returns-in-Err-select_rows-clause-unwritten
+returns-in-Err-select_rows-clause-unwritten g c =
+    queried c.args.tier.now c.verify.new.self (g.P.Disk.state c.args.site.now) (g.P.Disk.state c.args.site.now) c.args.id c.args.query.now (Err c.in-Err-select_rows.refused) (Err c.in-Err-select_rows.refused)
+    c.in-Ok.ensures.same c.in-Ok.ensures.sound c.in-Err-select_rows.ensures.selects
+    (λ w s at there apart here. refused_done c.verify.new.self (g.P.Disk.state c.args.site.now) s c.args.query.now w c.in-Err-select_rows.refused at there here)
 
-pub returns-in-Ok-clause-unwritten : goal.returns-in-Ok-clause-unwritten
-returns-in-Ok-clause-unwritten c = λ site.
-    queried c.use_shown_law.ensures.rows c.args.tier.now c.verify.new.self site c.args.id c.args.query.now c.select_rows.result
-    c.reply_to_query.result c.in-Ok.ensures.same c.in-Ok.ensures.sound c.select_rows.ensures.selects c.reply_to_query.ensures
+pub returns-in-Err-select_rows-clause-performs : goal.returns-in-Err-select_rows-clause-performs
+returns-in-Err-select_rows-clause-performs g c =
+    performs_so c.args.tier.now c.verify.new.self (g.P.Disk.state c.args.site.now) (g.P.Disk.state c.args.site.now) c.args.id (statement.Select c.args.query.now) (Err c.in-Err-select_rows.refused) (returns-in-Err-select_rows-clause-unwritten g c)
 
-pub returns-in-Ok-clause-calm : goal.returns-in-Ok-clause-calm
-returns-in-Ok-clause-calm c =
-    subst (λ r. IsCalm (reply_of r)) (sym c.reply_to_query.ensures) c.select_rows.ensures.calm
+pub returns-in-Ok-Answered-clause-unwritten : goal.returns-in-Ok-Answered-clause-unwritten
+returns-in-Ok-Answered-clause-unwritten g c =
+    queried c.args.tier.now c.verify.new.self (g.P.Disk.state c.args.site.now) (g.P.Disk.state c.args.site.now) c.args.id c.args.query.now (Ok (Answered c.in-Ok-Answered.reply)) (Ok c.in-Ok-Answered.reply)
+    c.in-Ok.ensures.same c.in-Ok.ensures.sound (subst (λ x. SelectsOver c.verify.new.self c.args.id c.args.query.now (Ok x)) c.in-Ok-Answered.field-0-is c.in-Ok-Answered.ensures.selects)
+    (λ w s at there apart here. answered_done c.use_shown_law.ensures.rows c.verify.new.self (g.P.Disk.state c.args.site.now) s c.args.query.now w c.in-Ok-Answered.reply at there here)
+
+pub returns-in-Ok-Answered-clause-performs : goal.returns-in-Ok-Answered-clause-performs
+returns-in-Ok-Answered-clause-performs g c =
+    performs_so c.args.tier.now c.verify.new.self (g.P.Disk.state c.args.site.now) (g.P.Disk.state c.args.site.now) c.args.id (statement.Select c.args.query.now) (Ok c.in-Ok-Answered.reply) (returns-in-Ok-Answered-clause-unwritten g c)
+
+pub returns-in-Ok-Answered-clause-cause : goal.returns-in-Ok-Answered-clause-cause
+returns-in-Ok-Answered-clause-cause g c = subst IsCalmHere c.in-Ok-Answered.field-0-is c.in-Ok-Answered.ensures.calm (g.P.Disk.state c.args.site.now)
+
+pub returns-in-Ok-PassedOn-clause-unwritten : goal.returns-in-Ok-PassedOn-clause-unwritten
+returns-in-Ok-PassedOn-clause-unwritten g c =
+    queried c.args.tier.now c.verify.new.self (g.P.Disk.state c.args.site.now) (g.P.Disk.state c.select_passed.new.site) c.args.id c.args.query.now (Ok (PassedOn c.in-Ok-PassedOn.resolved)) c.select_passed.result
+    c.in-Ok.ensures.same c.in-Ok.ensures.sound (subst (λ x. SelectsOver c.verify.new.self c.args.id c.args.query.now (Ok x)) c.in-Ok-PassedOn.field-0-is c.in-Ok-PassedOn.ensures.selects)
+    (λ w s at there apart here. passed_done c.verify.new.self (g.P.Disk.state c.args.site.now) (g.P.Disk.state c.select_passed.new.site) s c.args.query.now w c.in-Ok-PassedOn.resolved c.select_passed.result at there apart here
+    (c.select_passed.ensures.passes c.verify.new.self))
+
+pub returns-in-Ok-PassedOn-clause-performs : goal.returns-in-Ok-PassedOn-clause-performs
+returns-in-Ok-PassedOn-clause-performs g c =
+    performs_so c.args.tier.now c.verify.new.self (g.P.Disk.state c.args.site.now) (g.P.Disk.state c.select_passed.new.site) c.args.id (statement.Select c.args.query.now) c.select_passed.result (returns-in-Ok-PassedOn-clause-unwritten g c)

@@ -1,6 +1,6 @@
 use Rattle.std.proofs.Common.{◌∙◌, sym}
 use Rattle.session_engine.proofs.AskedLaws.{asked_failed, asked_known}
-use Rattle.session_engine.proofs.DoubtLaws.{leads_settled, leads_unsettled, ready_some, rest_kept}
+use Rattle.session_engine.proofs.SettledLaws.{leads_settled, leads_unsettled, ready_some, rest_kept}
 use Rattle.propagators.proofs.CertainLaws.{bank_certain}
 use Rattle.session_engine.proofs.settling.settle_doubt.Goals as goal
 
@@ -63,7 +63,7 @@ returns-in-Ok-clause-performs g c =
 
 pub returns-in-Ok-clause-keeps : goal.returns-in-Ok-clause-keeps
 returns-in-Ok-clause-keeps g c =
-    rest_kept c.args.tier.now c.settle.new.tier c.in-Some.asked.session c.in-Ok.stands c.settle.ensures.settles
+    rest_kept c.args.tier.now c.settle.new.tier c.in-Some.asked.of c.in-Some.asked.session c.in-Ok.stands c.settle.ensures.settles
 
 pub returns-in-Ok-clause-cause : goal.returns-in-Ok-clause-cause
 returns-in-Ok-clause-cause g c =

@@ -1,47 +1,33 @@
-use Rattle.std.proofs.Common.{Err, ap, sym, ◌∙◌}
-use Rattle.std.specs.List.{list_all}
-use Rattle.session_engine.specs.Changing.{is_change}
-use Rattle.session_engine.proofs.ChangedLaws.{changed_done, no_insert, refused_before}
-use Rattle.stored_tier.proofs.QuietLaws.{session_over, stands_over}
-use Rattle.sql_subset.specs.declared.stmt.Stmt.TheVariants as statement
-use Rattle.session_engine.proofs.QueryLaws.{performs_so, unverified_still}
+use Rattle.std.proofs.Common.{Err}
+use Rattle.stored_tier.specs.Performing.{reply_of}
+use Rattle.stored_tier.proofs.QuietLaws.{calm_refused}
+use Rattle.session_engine.proofs.DoubtLaws.{ready_none}
+use Rattle.session_engine.proofs.KeptLaws.{calm_over}
+use Rattle.session_engine.proofs.WrittenLaws.{cached_over, caused_over, passed_on_over, unrouted_over}
 use Rattle.session_engine.proofs.writing.write_rows.Goals as goal
 
-pub returns-in-Err-prepare-clause-unwritten : goal.returns-in-Err-prepare-clause-unwritten
-returns-in-Err-prepare-clause-unwritten g c = λ s has w at is unshared.
-    let there = stands_over c.args.tier.now c.verify.new.self w c.in-Ok.ensures.same is in
-    refused_before c.verify.new.self _ w s c.args.write.now c.in-Err-prepare.refused at there
-    (c.in-Err-prepare.ensures.prepared w s there.stored there.shows
-    (session_over c.args.tier.now c.verify.new.self c.args.id s c.in-Ok.ensures.same has))
+pub returns-in-Err-clause-performs : goal.returns-in-Err-clause-performs
+returns-in-Err-clause-performs g c =
+    unrouted_over g.P.Disk.state g.P.Disk.possible c.args.tier.now c.args.tier.now c.args.doubt.now c.args.id c.args.write.now c.args.journal.now c.args.site.now c.in-Err.refused c.requires.free c.in-Err.ensures
 
-pub returns-then-are_changes-clause-unwritten : goal.returns-then-are_changes-clause-unwritten
-returns-then-are_changes-clause-unwritten g c = λ s has w at is unshared.
-    let there = stands_over c.args.tier.now c.verify.new.self w c.in-Ok.ensures.same is in
-    let known = session_over c.args.tier.now c.verify.new.self c.args.id s c.in-Ok.ensures.same has in
-    let changes = sym (c.are_changes.ensures ∙ ap (list_all is_change) c.as_slice.ensures) ∙ c.if-are_changes.true in
-    changed_done c.tier_law.ensures.over_is_applied c.label_law.ensures.number c.label_law.ensures.change
-    c.use_shown_law.ensures.written c.verify.new.self c.change.new.tier _ w s c.args.id c.args.write.now
-    c.in-Ok-prepare.prepared c.change.result c.in-Ok.ensures.sound
-    (c.in-Ok.ensures.sound.verified c.in-Ok.ensures.ok) at there known changes
-    (c.in-Ok-prepare.ensures.unbroken (no_insert c.in-Ok-prepare.prepared.ops changes))
-    (c.in-Ok-prepare.ensures.prepared w s there.stored there.shows known) c.change.ensures.changed
+pub returns-in-Err-clause-cause : goal.returns-in-Err-clause-cause
+returns-in-Err-clause-cause g c = calm_over c.args.journal.now (g.P.Disk.state c.args.site.now) _ (calm_refused c.in-Err.refused)
 
-pub returns-else-are_changes-clause-unwritten : goal.returns-else-are_changes-clause-unwritten
-returns-else-are_changes-clause-unwritten g c = λ s has w at is unshared.
-    let there = stands_over c.args.tier.now c.verify.new.self w c.in-Ok.ensures.same is in
-    let known = session_over c.args.tier.now c.verify.new.self c.args.id s c.in-Ok.ensures.same has in
-    c.insert_rows.ensures.performs w s c.args.write.now known at there unshared
-    (c.in-Ok-prepare.ensures.prepared w s there.stored there.shows known)
+pub returns-in-Err-clause-ready : goal.returns-in-Err-clause-ready
+returns-in-Err-clause-ready g c = ready_none c.args.tier.now c.args.doubt.now c.requires.free
 
-pub returns-in-Err-clause-unwritten : goal.returns-in-Err-clause-unwritten
-returns-in-Err-clause-unwritten g c =
-    unverified_still c.args.tier.now c.verify.new.self (g.P.Disk.state c.args.site.now) c.args.id (statement.Write c.args.write.now) c.in-Err.ensures.same
+pub returns-in-Cached-clause-performs : goal.returns-in-Cached-clause-performs
+returns-in-Cached-clause-performs g c =
+    cached_over g.P.Disk.state g.P.Disk.possible c.args.tier.now c.write_cached.new.tier c.args.doubt.now c.args.id c.args.write.now c.args.journal.now c.args.site.now c.write_cached.new.site c.in-Ok.routed c.write_cached.result
+    c.requires.free c.in-Cached.is c.in-Ok.ensures c.write_cached.ensures.certain c.write_cached.ensures.unwritten
 
-pub returns-in-Err-prepare-clause-performs : goal.returns-in-Err-prepare-clause-performs
-returns-in-Err-prepare-clause-performs g c = performs_so c.args.tier.now c.verify.new.self _ _ c.args.id (statement.Write c.args.write.now) (Err c.in-Err-prepare.refused) (returns-in-Err-prepare-clause-unwritten g c)
+pub returns-in-Cached-clause-cause : goal.returns-in-Cached-clause-cause
+returns-in-Cached-clause-cause g c = caused_over c.args.journal.now _ _ (reply_of c.write_cached.result) c.write_cached.ensures.disk c.write_cached.ensures.cause
 
-pub returns-then-are_changes-clause-performs : goal.returns-then-are_changes-clause-performs
-returns-then-are_changes-clause-performs g c = performs_so c.args.tier.now c.change.new.tier _ _ c.args.id (statement.Write c.args.write.now) c.change.result (returns-then-are_changes-clause-unwritten g c)
+pub returns-in-Cached-clause-ready : goal.returns-in-Cached-clause-ready
+returns-in-Cached-clause-ready g c = ready_none c.write_cached.new.tier c.args.doubt.now c.requires.free
 
-pub returns-else-are_changes-clause-performs : goal.returns-else-are_changes-clause-performs
-returns-else-are_changes-clause-performs g c = performs_so c.args.tier.now c.insert_rows.new.tier _ _ c.args.id (statement.Write c.args.write.now) c.insert_rows.result (returns-else-are_changes-clause-unwritten g c)
+pub returns-clause-performs : goal.returns-clause-performs
+returns-clause-performs g c =
+    passed_on_over g.P.Disk.state g.P.Disk.possible c.args.tier.now c.pass_write.new.tier c.pass_write.new.doubt c.args.id c.args.write.now c.args.journal.now c.pass_write.new.journal c.args.site.now c.pass_write.new.site c.in-Ok.routed c.pass_write.result
+    c.in-PassedOn.is c.in-Ok.ensures c.pass_write.ensures.passes

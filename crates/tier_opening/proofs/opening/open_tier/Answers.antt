@@ -1,9 +1,9 @@
-use Rattle.std.proofs.Common.{◌≡◌, ◌∙◌, ℕ, ap, arith, refl, subst, sym}
+use Rattle.std.proofs.Common.{◌≡◌, ◌∙◌, ℕ, Err, ap, arith, refl, subst, sym}
 use Rattle.recalling.specs.declared.recalled.RecallError.{RecallError}
 use Rattle.recalling.specs.Recalled.{IsRefusedFor}
 use Rattle.tier_journal.specs.Opening.{Finds}
-use Rattle.tier_opening.specs.Telling.{IsDamage}
-use Rattle.tier_opening.proofs.PartLaws.{in_order, opens_by, unfit_at}
+use Rattle.tier_opening.specs.Telling.{IsDamage, IsTold}
+use Rattle.tier_opening.proofs.PartLaws.{fails_by, in_order, opens_by, unfit_at}
 use Rattle.tier_opening.proofs.opening.open_tier.Goals as goal
 
 pub returns-in-Err-Unfit-clause-cause : goal.returns-in-Err-Unfit-clause-cause
@@ -27,9 +27,26 @@ reopen-requires g c =
 
 pub returns-in-Ok-reopen-clause-opens : goal.returns-in-Ok-reopen-clause-opens
 returns-in-Ok-reopen-clause-opens g c =
-    opens_by g.P.Disk.state g.P.Disk.possible c.args.site.now c.schema.new.self c.found_journal.new.site c.reopen.new.site _ c.in-Ok-recall.recalled c.in_ok-journal.journal c.in_ok-journal.records c.in-Ok-reopen.tier
+    opens_by g.P.Disk.state g.P.Disk.possible c.args.site.now c.schema.new.self c.found_journal.new.site c.reopen.new.site _ c.in-Ok-recall.recalled c.in_ok-journal.journal c.in_ok-journal.records
     (ap (λ p. p.0) c.into_parts-catalog.ensures) (ap (λ p. p.1) c.into_parts-catalog.ensures) (ap (λ p. p.2) c.into_parts-catalog.ensures)
     c.in-Ok.ensures.told (c.in_ok-journal.ensures.cause.shared ∙ c.in-Ok.ensures.cause.shared)
     (subst (λ s. (o : Rattle.outside.specs.Holding.Held) → (g.P.Disk.state c.schema.new.self).held ≡ Rattle.std.proofs.Common.Some o → Rattle.commit_journal.specs.Opening.HaveBytes o.slots → Finds g.P.Disk.state g.P.Disk.possible c.found_journal.new.site s o (Rattle.tier_journal.specs.declared.opening.Found.TheVariants.Whole c.in_ok-journal.journal c.in_ok-journal.records)) c.as_slice.ensures c.in_ok-journal.ensures.found)
     c.in_ok-journal.ensures.version c.in-Ok-recall.ensures.recalls c.in-Ok-recall.ensures.order c.in-Ok-recall.ensures.commits c.in-Ok-recall.ensures.next c.in-Ok-recall.ensures.rise
-    c.in-Ok-reopen.ensures.reopens c.in-Ok-reopen.ensures.certain c.recalled_law.ensures.stands
+    c.recalled_law.ensures.stands c.in-Ok-reopen.tier c.in-Ok-reopen.ensures.reopens c.in-Ok-reopen.ensures.certain
+
+pub returns-in-Err-clause-cause : goal.returns-in-Err-clause-cause
+returns-in-Err-clause-cause g c = record {
+  bank_later = (let first = c.in-Ok.ensures.cause.later in let same = c.in_ok-journal.ensures.cause.bank in let last = c.in-Err.ensures.cause.later in omega (arith, first, same, last));
+  disk_later = (let first = c.in-Ok.ensures.cause.disk in let le = c.in_ok-journal.ensures.cause.later in let last = c.in-Err.ensures.cause.disk in omega (arith, first, le, last));
+  shares = c.in-Err.ensures.cause.shares ∙ c.in_ok-journal.ensures.cause.shared ∙ c.in-Ok.ensures.cause.shared;
+  failed =
+      fails_by g.P.Disk.state g.P.Disk.possible c.args.site.now c.schema.new.self c.found_journal.new.site c.reopen.new.site _ c.in-Ok-recall.recalled c.in_ok-journal.journal c.in_ok-journal.records
+      (ap (λ p. p.0) c.into_parts-catalog.ensures) (ap (λ p. p.1) c.into_parts-catalog.ensures) (ap (λ p. p.2) c.into_parts-catalog.ensures)
+      c.in-Ok.ensures.told (c.in_ok-journal.ensures.cause.shared ∙ c.in-Ok.ensures.cause.shared)
+      (subst (λ s. (o : Rattle.outside.specs.Holding.Held) → (g.P.Disk.state c.schema.new.self).held ≡ Rattle.std.proofs.Common.Some o → Rattle.commit_journal.specs.Opening.HaveBytes o.slots → Finds g.P.Disk.state g.P.Disk.possible c.found_journal.new.site s o (Rattle.tier_journal.specs.declared.opening.Found.TheVariants.Whole c.in_ok-journal.journal c.in_ok-journal.records)) c.as_slice.ensures c.in_ok-journal.ensures.found)
+      c.in_ok-journal.ensures.version c.in-Ok-recall.ensures.recalls c.in-Ok-recall.ensures.order c.in-Ok-recall.ensures.commits c.in-Ok-recall.ensures.next c.in-Ok-recall.ensures.rise
+      c.recalled_law.ensures.stands c.in-Err.error c.told_error.result
+      (subst (λ s. IsTold s c.in-Err.error c.told_error.result) (c.in-Ok-copied_schema.ensures ∙ c.as_slice-2.ensures) c.told_error.ensures)
+      (λ is. let rose = c.in-Err.ensures.cause.failed (ap (λ e. Err e) is) in let first = c.in-Ok.ensures.cause.later in let same = c.in_ok-journal.ensures.cause.bank in omega (arith, rose, first, same))
+      c.in-Err.ensures.reopens c.in-Err.ensures.differs;
+}

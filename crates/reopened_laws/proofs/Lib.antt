@@ -1,0 +1,15 @@
+mod CrashLaws
+mod EndedRuns
+mod HandedOn
+mod ReadLines
+mod ReadNames
+mod ReadOpenings
+mod ReadParts
+mod ReadRuns
+mod ReadStatements
+mod ReadTiers
+mod RunEnds
+mod SaidLaws
+mod SchemaLaws
+mod SiteLaws
+mod SlotLaws

@@ -1,0 +1,169 @@
+-- A run over a site leaves one that may be opened again.
+use Rattle.std.proofs.Common.{◌≡◌, inl, inr, ℕ, suc, ◌≤◌, ◌^◌, Bool, true, false, Option, Some, None, Ok, Err, Result, List, [], ◌∷◌, refl, sym, ap, subst, ◌∙◌}
+use Rattle.std.specs.List.{list_any}
+use Rattle.table_state.specs.declared.history.Sealed.{Sealed}
+use Rattle.outside.specs.declared.fault.BankError.{BankError}
+use Rattle.outside.specs.Holding.{Held}
+use Rattle.outside.specs.Others.{is_shared}
+use Rattle.cache_tier.specs.declared.reply.Reply.{Reply}
+use Rattle.cache_tier.specs.Groups.{Group, is_table_of, is_writethrough}
+use Rattle.cache_tier.specs.Journals.{Journal}
+use Rattle.cache_tier.specs.Reading.{ReadsFirst, StageFollowsAt, as_it_was, backing_at}
+use Rattle.cache_tier.specs.Rounds.{Applies}
+use Rattle.cache_tier.specs.Sets.{alone, changed, refreshed}
+use Rattle.cache_tier.specs.Steps.{Finishes}
+use Rattle.cache_tier.specs.TierStates.{Settings, Tier, opened}
+use Rattle.cache_tier.specs.Worlds.{Becomes, IsUnshared, OnlyWhere, Stage, StageFollows, World}
+use Rattle.recovery.specs.Journalled.{IsJournalledOn}
+use Rattle.recovery.specs.Recalling.{AreMatched, RecallsAll}
+use Rattle.recovery.specs.Reopening.{HoldAgain, HoldsAgainAt, IsReopened, Reloads, Reopens, ViewsAgain, holding, is_held_again, is_viewed_again}
+use Rattle.line_laws.specs.Keeping.{is_broken}
+use Rattle.recovery.proofs.OthersLaws.{on_then}
+use Rattle.line_laws.proofs.FlushLaws.{IsWhole, kept_flushes, tail_flushed}
+use Rattle.run_laws.specs.Lines.{MayBegin, MayGoOn}
+use Rattle.run_laws.specs.Runs.{IsKeptOf, Reopened}
+use Rattle.run_laws.proofs.LineLaws.{step_kept, step_kinds}
+use Rattle.run_laws.proofs.ReopenLaws.{reopened_kept}
+use Rattle.run_laws.proofs.RunKeeps.{ticket_left}
+use Rattle.tier_opening.specs.Opening.{MayOpen, begun_tier}
+use Rattle.cache_engine.specs.Opening.{Opens}
+use Rattle.cache_engine.specs.Requests.{Given, LineRun, LineStep}
+use Rattle.reopened_laws.specs.Leaving.{GoesOnThrough, IsLeftAt}
+use Rattle.reopened_laws.proofs.SiteLaws.{may_open, site_may_open}
+
+-- ---- what others change stays in the opening
+
+abbrev StaysShared : Stage → Type 0
+StaysShared stage = (w w' : World) (stop : Option Reply) → stage w w' stop → w'.shared ≡ w.shared
+
+same_shared : (w w' : World) → w' ≡ w → w'.shared ≡ w.shared
+same_shared w w' e = ap (λ (x : World). x.shared) e
+
+reads_shared : (next : ℕ → World → Tier) → StaysShared (ReadsFirst as_it_was (λ n. Becomes (next n)))
+reads_shared next w w' stop q = by q.result q.goes_on ∙ q.call.shared
+  where
+    by : (result : Result ℕ BankError) → StageFollowsAt result (λ n. Becomes (next n)) q.mid w' stop → w'.shared ≡ q.mid.shared
+    by (Err e) f = same_shared q.mid w' f.0
+    by (Ok n) (inl f) = ap (λ (x : World). x.shared) f.0
+    by (Ok n) (inr f) = same_shared q.mid w' f.0
+
+where_shared : (b : Bool) (stage : Stage) → StaysShared stage → StaysShared (OnlyWhere b stage)
+where_shared true stage so w w' stop q = so w w' stop q
+where_shared false stage so w w' stop q = same_shared w w' q.0
+
+then_shared : (w mid w' : World) (end stop : Option Reply) (one other : Stage) → StaysShared one → StaysShared other → one w mid end → StageFollows end other mid w' stop → w'.shared ≡ w.shared
+then_shared w mid w' (Some r) stop one other a b first next = same_shared mid w' next.0 ∙ a w mid (Some r) first
+then_shared w mid w' None stop one other a b first next = b mid w' stop next ∙ a w mid None first
+
+abbrev viewed : ℕ → World → Tier
+viewed n v = refreshed is_viewed_again n (backing_at v n) v.tier
+
+abbrev held : ℕ → ℕ → World → Tier
+held place n v = changed (alone place) (holding (backing_at v n)) v.tier
+
+views_shared : StaysShared ViewsAgain
+views_shared w w' stop q =
+    where_shared (list_any (is_viewed_again 0) w.tier.groups) (ReadsFirst as_it_was (λ n. Becomes (viewed n))) (reads_shared viewed) w w' stop q
+
+holds_shared : (place : ℕ) → StaysShared (HoldsAgainAt place)
+holds_shared place w w' stop q = reads_shared (held place) w w' stop q
+
+hold_shared : (place : ℕ) (groups : List Group) → StaysShared (HoldAgain place groups)
+hold_shared place [] w w' stop q = same_shared w w' q.0
+hold_shared place (g ∷ groups) w w' stop q =
+    then_shared w q.mid w' q.stop stop (OnlyWhere (is_held_again g) (HoldsAgainAt place)) (HoldAgain (suc place) groups)
+    (where_shared (is_held_again g) (HoldsAgainAt place) (holds_shared place)) (hold_shared (suc place) groups) q.first q.next
+
+reloads_shared : StaysShared Reloads
+reloads_shared w w' stop q = then_shared w q.mid w' q.stop stop ViewsAgain (HoldAgain 0 w.tier.groups) views_shared (hold_shared 0 w.tier.groups) q.first q.next
+
+reopens_shared : StaysShared Reopens
+reopens_shared w w' stop q = then_shared w q.mid w' q.stop stop Applies Reloads (λ v v' end a. a.shared) reloads_shared q.first q.next
+
+-- ---- where the run begins
+
+module _ (settings : Settings) (moment : ℕ) (there : Held) (w : World) (x : Opens settings moment there w) (may : MayOpen w.shared there) where
+  both : AreMatched x.begins.entries x.begun.history × IsUnshared x.begun
+  both = may settings moment x.journal x.begun x.begins (sym (reopens_shared x.begun w None x.reopens))
+
+  schema : both.0.backing.schema ≡ x.begins.schema
+  schema = x.begins.known both.0.backing both.0.leaves
+
+  is : IsReopened settings moment x.begins.entries x.begun w None
+  is = record {
+    matched = both.0;
+    catalog = x.begins.catalog;
+    recalls = subst (λ s. RecallsAll x.begins.entries (opened settings moment s) x.begins.catalog) (sym schema) x.begins.recalls;
+    tier = x.begins.tier ∙ ap (λ s. begun_tier s x.begins.entries x.begun.history x.begins.catalog) (sym schema);
+    does = x.reopens;
+  }
+
+  kept : IsKeptOf x.begins.entries x.begun.journal
+  kept = record {
+    kept = ap (λ (k : Journal). k.kept) x.begins.journal;
+    flushed = ap (λ (k : Journal). k.flushed) x.begins.journal;
+    tail = ap (λ (k : Journal). k.tail) x.begins.journal;
+  }
+
+  pub begins_again : Reopened w []
+  begins_again = reopened_kept settings moment x.begins.entries x.begun w [] is kept tt both.1
+
+-- ---- through the lines
+
+pub record Reached (w : World) (early : List Sealed) : Type 0 where
+  pub begins : MayBegin w
+  pub on : IsJournalledOn w early
+
+-- one line more
+pub reached_on : (w : World) (g : Given) (reply : Option Reply) (early : List Sealed) (mid : World) → MayBegin w → IsJournalledOn w early → LineStep g.base w g.bytes mid reply → MayGoOn mid → is_broken reply ≡ false → Reached mid early
+reached_on w g reply early mid m on step goes whole = record { begins = begins; on = further }
+  where
+    here : IsJournalledOn mid on.now
+    here = step_kept g.base w mid step.0 reply on.now m on.is goes.left whole step.2
+
+    further : IsJournalledOn mid early
+    further = on_then mid early on.now on.more on.grows here
+
+    begins : MayBegin mid
+    begins = record { goes_on = goes; kinds = step_kinds g.base w mid step.0 reply on.now m on.is goes.left whole step.2 }
+
+reached : (w ran : World) (lines : List Given) (replies : List (Option Reply)) (early : List Sealed) → MayBegin w → IsJournalledOn w early → (run : LineRun w lines replies ran) → GoesOnThrough w lines replies ran run → Reached ran early
+reached w ran [] [] early m on run goes = subst (λ v. Reached v early) (sym run) (record { begins = m; on = on })
+reached w ran [] (reply ∷ replies) early m on run goes = absurd run
+reached w ran (g ∷ lines) [] early m on run goes = absurd run
+reached w ran (g ∷ lines) (reply ∷ replies) early m on run goes =
+    let mid = reached_on w g reply early run.0 m on run.1 goes.0 goes.1 in
+    reached run.0 ran lines replies early mid.begins mid.on run.2 goes.2
+
+-- ---- behind the end
+
+ends : (ran last : World) (early : List Sealed) (o : Held) → Reached ran early → Finishes ran last None → IsLeftAt o last → MayOpen last.shared o
+ends ran last early o r finishes site = may_open last on.now o cap on.is apart site
+  where
+    whole : IsWhole [] ran last
+    whole = (kept_flushes [] ran last None r.on.is.kept finishes refl).0
+
+    on : IsJournalledOn last r.on.now
+    on = tail_flushed ran last r.on.now r.on.is whole
+
+    cap : last.tier.next ≤ 2 ^ 63
+    cap = subst (λ (t : Tier). t.next ≤ 2 ^ 63) (sym whole.tier) (ticket_left ran r.begins.goes_on.left)
+
+    apart : IsUnshared last
+    apart t e = ap (λ (x : Tier). is_table_of is_writethrough x.groups t) whole.tier ∙ r.begins.goes_on.unshared t (ap (λ s. is_shared s t) (sym whole.shared) ∙ e)
+
+-- ---- the whole run
+
+module _ (settings : Settings) (moment : ℕ) (there o : Held) (w ran : World) (lines : List Given) (replies : List (Option Reply)) (x : Opens settings moment there w) (may : MayOpen w.shared there) (goes_on : MayGoOn w) (run : LineRun w lines replies ran) (goes : GoesOnThrough w lines replies ran run) where
+  again : Reopened w []
+  again = begins_again settings moment there w x may
+
+  led : Reached ran []
+  led = reached w ran lines replies [] (record { goes_on = goes_on; kinds = again.kinds }) again.on run goes
+
+  pub run_leaves : (last : World) → Finishes ran last None → IsLeftAt o last → MayOpen last.shared o
+  run_leaves last finishes site = ends ran last [] o led finishes site
+
+  -- nothing is flushed at its end
+  pub rests_leave : IsUnshared ran → IsLeftAt o ran → MayOpen ran.shared o
+  rests_leave apart site = site_may_open ran led.on.now o led.begins.goes_on.left led.on.is apart site
