@@ -1,7 +1,7 @@
 #!/usr/bin/env bash
 # real.sh PROGRAM [ROUNDS]: the program over real files. What a run leaves the next one finds: behind its end, behind a
-# change that `sqlite3` made in between, behind rotations, and behind a kill in the middle of durable commits, ROUNDS times (10).
-# It prints a line for each of its four parts, and ends with 1 where one isn't as it has to be.
+# change that `sqlite3` made in between, behind an import, behind rotations, and behind a kill in the middle of durable
+# commits, ROUNDS times (10). It prints a line for each of its five parts, and ends with 1 where one isn't as it has to be.
 set -u
 program=$1 rounds=${2:-10} wrong=0
 complain() {
@@ -42,6 +42,18 @@ if command -v sqlite3 >/dev/null; then
 else
   printf 'real: no sqlite3 here, so nothing is said of it\n'
 fi
+
+# Lets the program import this text into a table, and compares its reply.
+imports() {
+  local wanted=$1 got
+  got=$(printf '%b' "$3" | "$program" import "$2") || complain "status $? of an import into $2"
+  [ "$got" = "$wanted" ] || complain "wanted '$wanted', got '$got' of an import into $2"
+}
+answers 'ok 0' "backing: CREATE TABLE I $table"
+imports 'ok 2' I 'ID,N\n4,40\n5,\n'
+imports 'no 107 I 4' I 'ID,N\n4,40\n5,\n'
+answers $'ok 0\n= 4|40\n= 5|NULL\nok 2' 's1: OPEN PASSTHROUGH 1' 's1: SELECT * FROM I'
+printf 'real: an import is kept whole, and one that breaks a rule changes nothing\n'
 
 # Durable commits of 80,000 bytes with drains between: both slots stay short, and the next run has rows and tickets.
 rm -f ttcache.*
