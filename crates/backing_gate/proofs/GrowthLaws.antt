@@ -9,15 +9,18 @@ use Rattle.table_state.specs.declared.history.Entry.TheVariants.{Definition, For
 use Rattle.table_state.specs.declared.history.Sealed.{Sealed}
 use Rattle.table_state.specs.Histories.{entry_of}
 use Rattle.evaluator.specs.declared.change.Change.{Change}
+use Rattle.instances.specs.declared.tree.Tree.{Tree}
 use Rattle.outside.specs.Bank.{AppliesOnce, Defines, TellsRecorded, TellsRow, TellsSchema, WaitsForOne}
 use Rattle.outside.specs.Console.{TakesSnapshot, WritesForeign}
 use Rattle.outside.specs.Passing.{CommitsAlone}
+use Rattle.outside.specs.Reaching.{Reaches}
 use Rattle.outside.specs.declared.fault.BankError.{BankError}
 use Rattle.outside.specs.declared.fault.BankError.TheVariants.{Failed, Memory}
 use Rattle.outside.specs.declared.site.Applied.{Applied}
 use Rattle.outside.specs.declared.site.Applied.TheVariants.{Now, Before, NotReady, Differs}
 use Rattle.outside.specs.declared.site.Done.{Done}
 use Rattle.outside.specs.declared.site.Done.TheVariants.{Rows, Broken}
+use Rattle.outside.specs.declared.site.Reached.{Reached}
 use Rattle.outside.specs.declared.site.Snapshot.{Snapshot}
 use Rattle.backing_gate.proofs.MomentLaws.{Extends}
 
@@ -69,3 +72,7 @@ passed_grows ticket change (Err Failed) old new h = elim h.passes [ inl e ↦ ([
 pub snapshot_grows : (asked : List TableId) (result : Result Snapshot BankError) (old new : List Entry) → TakesSnapshot asked result old new → Extends old new
 snapshot_grows asked (Ok snapshot) old new h = ([], h.0)
 snapshot_grows asked (Err e) old new h = ([], h)
+
+pub reach_grows : (tree : Tree) (table : TableId) (key : List Value) (result : Result Reached BankError) (old new : List Entry) → Reaches tree table key result old new → Extends old new
+reach_grows tree table key (Ok reached) old new h = ([], h.0)
+reach_grows tree table key (Err e) old new h = ([], h)

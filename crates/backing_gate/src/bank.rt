@@ -11,6 +11,7 @@ ghost use Rattle.outside.specs.Bank.{AppliesOnce, HasAll};
 ghost use Rattle.outside.specs.Console.{IsCopyOf, Writes, WritesForeign};
 ghost use Rattle.outside.specs.Others.{are_on_shared, is_shared};
 ghost use Rattle.outside.specs.Passing.{CommitsAlone};
+ghost use Rattle.outside.specs.Reaching.{instance_with};
 ghost use Rattle.outside.specs.declared.fault.BankError.{BankError};
 ghost use Rattle.outside.specs.declared.site.Done.{Done};
 ghost use Rattle.transactions.specs.Transactions.{Tells, written_by_all};
@@ -22,8 +23,10 @@ ghost use Rattle.backing_gate.specs.Tickets.{FirstMissing};
 
 use crate::difference::{first_difference, row_at};
 use crate::ledger::Ledger;
+use crate::reaching::instance_with;
 use evaluator::Change;
-use outside::{Applied, BankError, Done, Receipt, Snapshot};
+use instances::Tree;
+use outside::{Applied, BankError, Done, Reached, Receipt, Snapshot};
 use row_types::{Key, Row};
 use std::alloc::{AllocError, Global};
 use std::marker::Model;
@@ -306,6 +309,23 @@ impl MemoryBank {
         let tables = self.tables.copied_of(alloc, tables)?;
         let position = Position(self.ledger.entries().len() as u64);
         Ok(Snapshot { position, tables })
+    }
+
+    /// The instance that the row of a key is in, with the length of the history. It fails for want of memory alone.
+    pub(crate) fn reach(
+        &self,
+        alloc: Global,
+        tree: &Tree,
+        table: TableId,
+        key: &Key,
+    ) -> Result<Reached, AllocError>
+        ensures position { IfOk result (λ reached. reached.position.0 ≡ length self.now) }
+        ensures instance { IfOk result (λ reached. (s : TableState) → state_of self.now ≡ Some s
+            → reached.instance ≡ instance_with s tree.now table key.now) }
+    {
+        let instance = instance_with(alloc, tree, &self.tables, table, key)?;
+        let position = Position(self.ledger.entries().len() as u64);
+        Ok(Reached { position, instance })
     }
 
     /// Applies and records a transaction where its ticket is new, those of `after` are there and its operations

@@ -12,6 +12,7 @@ pub mod mark;
 pub mod memory_site;
 mod own_steps;
 pub mod plan;
+mod reaching;
 pub mod visit;
 mod visits;
 

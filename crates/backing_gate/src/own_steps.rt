@@ -6,6 +6,7 @@ ghost use Rattle.outside.specs.Bank.{AppliesOnce, Defines, Grows, TellsRecorded,
 ghost use Rattle.outside.specs.Console.{TakesSnapshot, WritesForeign};
 ghost use Rattle.outside.specs.Faults.{BankHasCause, Rose};
 ghost use Rattle.outside.specs.Passing.{CommitsAlone};
+ghost use Rattle.outside.specs.Reaching.{Reaches};
 ghost use Rattle.backing_gate.specs.Plans.{one_more};
 ghost use Rattle.backing_gate.specs.Heeding.{HasEffect, HeedsAs, IsWritten, MustCome, NoneDiffers, bank_of};
 ghost use Rattle.backing_gate.specs.Memory.{site_state};
@@ -14,7 +15,8 @@ ghost use Rattle.backing_gate.specs.PassedOn.{PassesAs};
 use crate::memory_site::MemorySite;
 use crate::plan::{Outcome, When};
 use evaluator::Change;
-use outside::{Applied, BankError, Done, Snapshot};
+use instances::Tree;
+use outside::{Applied, BankError, Done, Reached, Snapshot};
 use row_types::{Key, Row};
 use table_defs::{BackingSchema, TableDef, copied_schema};
 use table_state::Sealed;
@@ -181,6 +183,32 @@ impl MemorySite {
             Some(Outcome::Refused) => Err(BankError::Memory),
             None => match self.bank.snapshot(self.alloc, tables) {
                 Ok(snapshot) => Ok(snapshot),
+                Err(_) => Err(BankError::Memory),
+            },
+        }
+    }
+
+    /// The instance that a row is in.
+    pub(crate) fn reach_as(
+        &mut self,
+        outcome: Option<Outcome>,
+        tree: &Tree,
+        table: TableId,
+        key: &Key,
+    ) -> Result<Reached, BankError>
+        ensures own { Reaches tree.now table key.now result self.old.history self.new.history }
+        ensures heeds { HeedsAs outcome self.old self.new result (λ begun done. done ≡ begun) }
+        ensures cause { BankHasCause (site_state self.old) (site_state self.new) result }
+        ensures kept { self.new ≡ record self.old { history = self.new.history; bank_faults = self.new.bank_faults } }
+    {
+        match outcome {
+            Some(Outcome::Failed(_)) => {
+                self.count_failure();
+                Err(BankError::Failed)
+            }
+            Some(Outcome::Refused) => Err(BankError::Memory),
+            None => match self.bank.reach(self.alloc, tree, table, key) {
+                Ok(reached) => Ok(reached),
                 Err(_) => Err(BankError::Memory),
             },
         }

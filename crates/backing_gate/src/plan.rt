@@ -25,6 +25,8 @@ pub enum CallKind {
     Passed,
     /// `snapshot`.
     Snapshot,
+    /// `reach`.
+    Reach,
     /// `len` of the disk.
     Len,
     /// `read_at` of the disk.
@@ -85,6 +87,8 @@ pub struct CallCounts {
     pub passed: u64,
     /// Of `snapshot`.
     pub snapshot: u64,
+    /// Of `reach`.
+    pub reach: u64,
     /// Of `len`.
     pub len: u64,
     /// Of `read_at`.
@@ -111,6 +115,7 @@ impl CallCounts {
             CallKind::Foreign => self.foreign,
             CallKind::Passed => self.passed,
             CallKind::Snapshot => self.snapshot,
+            CallKind::Reach => self.reach,
             CallKind::Len => self.len,
             CallKind::ReadAt => self.read_at,
             CallKind::WriteAt => self.write_at,
@@ -132,6 +137,7 @@ impl CallCounts {
             CallKind::Foreign => self.foreign = self.foreign.saturating_add(1),
             CallKind::Passed => self.passed = self.passed.saturating_add(1),
             CallKind::Snapshot => self.snapshot = self.snapshot.saturating_add(1),
+            CallKind::Reach => self.reach = self.reach.saturating_add(1),
             CallKind::Len => self.len = self.len.saturating_add(1),
             CallKind::ReadAt => self.read_at = self.read_at.saturating_add(1),
             CallKind::WriteAt => self.write_at = self.write_at.saturating_add(1),
@@ -177,6 +183,7 @@ impl Plans {
                 foreign: 0,
                 passed: 0,
                 snapshot: 0,
+                reach: 0,
                 len: 0,
                 read_at: 0,
                 write_at: 0,

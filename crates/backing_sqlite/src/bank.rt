@@ -10,10 +10,12 @@ use crate::defining::define;
 use crate::fault::{OpenError, StoreFault};
 use crate::foreign::{foreign, snapshot};
 use crate::passing::passed;
+use crate::reaching::reach;
 use crate::reading::{find, recorded};
 use crate::shelf::Shelf;
 use evaluator::Change;
-use outside::{Applied, BankError, Done, Snapshot};
+use instances::Tree;
+use outside::{Applied, BankError, Done, Reached, Snapshot};
 use row_types::{Key, Row};
 use sqlite::{Connection, File, FileStore};
 use std::alloc::Global;
@@ -167,6 +169,14 @@ impl SqliteBank {
         ensures counts { Counts self.old self.new result }
     {
         let done = snapshot(self.alloc, &mut self.conn, &self.shelf, tables);
+        self.answer(done)
+    }
+
+    /// The instance of the tree that the row of a key is in, at one position of the history.
+    pub fn reach(&mut self, tree: &Tree, table: TableId, key: &Key) -> Result<Reached, BankError>
+        ensures counts { Counts self.old self.new result }
+    {
+        let done = reach(self.alloc, &mut self.conn, &self.shelf, tree, table, key);
         self.answer(done)
     }
 }

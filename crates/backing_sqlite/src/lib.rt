@@ -11,6 +11,7 @@ mod foreign;
 mod judging;
 mod loading;
 mod passing;
+mod reaching;
 mod reading;
 pub mod real_site;
 mod schema_rows;

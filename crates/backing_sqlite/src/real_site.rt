@@ -7,7 +7,8 @@ ghost use Rattle.backing_sqlite.specs.Untold.{untold_state};
 
 use crate::bank::SqliteBank;
 use evaluator::Change;
-use outside::{Applied, BankError, Disk, DiskFault, Done, Site, Slot, Snapshot};
+use instances::Tree;
+use outside::{Applied, BankError, Disk, DiskFault, Done, Reached, Site, Slot, Snapshot};
 use row_types::{Key, Row};
 use table_defs::{BackingSchema, TableDef};
 use table_state::Sealed;
@@ -104,5 +105,9 @@ impl<D: Disk> Site for RealSite<D> {
 
     fn snapshot(&mut self, tables: &[TableId]) -> Result<Snapshot, BankError> {
         self.bank.snapshot(tables)
+    }
+
+    fn reach(&mut self, tree: &Tree, table: TableId, key: &Key) -> Result<Reached, BankError> {
+        self.bank.reach(tree, table, key)
     }
 }

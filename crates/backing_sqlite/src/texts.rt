@@ -27,6 +27,8 @@ pub(crate) struct TableTexts {
     pub delete: String,
     /// The least key of a row that refers to a key, where there is a foreign key.
     pub child: Option<String>,
+    /// All rows that refer to a key, where there is a foreign key.
+    pub children: Option<String>,
 }
 
 impl Drop for TableTexts {
@@ -38,6 +40,7 @@ impl Drop for TableTexts {
             update: _,
             delete: _,
             child: _,
+            children: _,
         } = self;
     }
 }
@@ -51,6 +54,7 @@ impl TableTexts {
         let update = update_text(alloc, def)?;
         let delete = delete_text(alloc, def)?;
         let child = child_text(alloc, def)?;
+        let children = children_text(alloc, def)?;
         Ok(TableTexts {
             find,
             all,
@@ -58,6 +62,7 @@ impl TableTexts {
             update,
             delete,
             child,
+            children,
         })
     }
 }
@@ -132,6 +137,20 @@ fn child_text(alloc: Global, def: &TableDef) -> Result<Option<String>, StoreFaul
             out.push_str(" ORDER BY ")?;
             put_columns(&mut out, def, def.primary_key.as_slice())?;
             out.push_str(" LIMIT 1")?;
+            Ok(Some(out))
+        }
+    }
+}
+
+fn children_text(alloc: Global, def: &TableDef) -> Result<Option<String>, StoreFault> {
+    match &def.foreign_key {
+        None => Ok(None),
+        Some(foreign) => {
+            let mut out = String::from_str(alloc, "SELECT ")?;
+            put_all_columns(&mut out, def)?;
+            out.push_str(" FROM ")?;
+            put_table(&mut out, &def.name)?;
+            put_tests(&mut out, def, foreign.columns.as_slice())?;
             Ok(Some(out))
         }
     }

@@ -3,7 +3,9 @@
 use crate::error::DrillError;
 use crate::telling::{end_line, put, tell_column, tell_name, tell_number, tell_places, tell_row};
 use backing_sqlite::{OpenError, SqliteBank};
-use outside::{Applied, BankError, Done, Snapshot};
+use indexed_rows::Rows;
+use instances::Tree;
+use outside::{Applied, BankError, Done, Instance, Reached, Snapshot};
 use row_types::{Detail, Key, Row, Rule, print_key_into};
 use std::alloc::Global;
 use table_defs::{BackingSchema, TableDef};
@@ -170,12 +172,61 @@ pub fn tell_snapshot(out: &mut Vec<u8>, copy: &Snapshot) -> Result<(), DrillErro
 }
 
 fn tell_rows(out: &mut Vec<u8>, tables: &Tables, table: TableId) -> Result<(), DrillError> {
-    let Some(rows) = tables.table(table) else {
-        return Ok(());
-    };
+    match tables.table(table) {
+        None => Ok(()),
+        Some(rows) => tell_each(out, rows),
+    }
+}
+
+fn tell_each(out: &mut Vec<u8>, rows: &Rows) -> Result<(), DrillError> {
     for place in 0..rows.len() {
         put(out, b"= ")?;
         tell_row(out, rows.row_at(place))?;
     }
     Ok(())
+}
+
+/// The position, and the instance, where there is one.
+pub fn tell_reached(
+    out: &mut Vec<u8>,
+    known: &BackingSchema,
+    tree: &Tree,
+    reached: &Reached,
+) -> Result<(), DrillError> {
+    tell_counted(out, b"position ", reached.position.0)?;
+    match &reached.instance {
+        None => tell_lines(out, b"none"),
+        Some(instance) => tell_instance(out, known, tree, instance),
+    }
+}
+
+fn tell_instance(
+    out: &mut Vec<u8>,
+    known: &BackingSchema,
+    tree: &Tree,
+    instance: &Instance,
+) -> Result<(), DrillError> {
+    put(out, b"root")?;
+    tell_key(out, &instance.root)?;
+    end_line(out)?;
+    for (place, rows) in instance.rows.as_slice().iter().enumerate() {
+        tell_place(out, known, tree, place)?;
+        tell_each(out, rows)?;
+    }
+    Ok(())
+}
+
+// The name of the table at a place of the tree.
+fn tell_place(
+    out: &mut Vec<u8>,
+    known: &BackingSchema,
+    tree: &Tree,
+    place: usize,
+) -> Result<(), DrillError> {
+    if let Some(table) = tree.table_of(place) {
+        if let Some(def) = known.get(table.0 as usize) {
+            tell_name(out, &def.name)?;
+        }
+    }
+    end_line(out)
 }

@@ -1,10 +1,12 @@
 //! Calls of the site, as a script asks for them.
 
 use crate::answers::{
-    tell_applied, tell_bank_error, tell_done, tell_found, tell_lines, tell_schema, tell_snapshot,
+    tell_applied, tell_bank_error, tell_done, tell_found, tell_lines, tell_reached, tell_schema,
+    tell_snapshot,
 };
 use crate::asking::{asked, changes_of, key_of, ops_of, table_of, tables_of, tickets_of};
 use crate::error::DrillError;
+use crate::trees::tree_of;
 use outside::Site;
 use row_types::TableDeclaration;
 use sql_subset::request::ConsoleRequest;
@@ -134,6 +136,26 @@ pub fn find<T: Site>(
     let key = key_of(alloc, key, line)?;
     match site.find(table, &key) {
         Ok(row) => tell_found(out, &row),
+        Err(error) => tell_bank_error(out, error),
+    }
+}
+
+/// Tells the instance that the row at a key is in.
+pub fn reach<T: Site>(
+    alloc: Global,
+    site: &mut T,
+    table: &str,
+    text: &str,
+    line: usize,
+    out: &mut Vec<u8>,
+) -> Result<(), DrillError> {
+    let known = site.schema()?;
+    let (key, tree) = text.split_once(" in ").unwrap_or((text, ""));
+    let table = table_of(alloc, &known, table, line)?;
+    let key = key_of(alloc, key, line)?;
+    let tree = tree_of(alloc, &known, tree, line)?;
+    match site.reach(&tree, table, &key) {
+        Ok(reached) => tell_reached(out, &known, &tree, &reached),
         Err(error) => tell_bank_error(out, error),
     }
 }

@@ -17,6 +17,9 @@ pub enum Command<'a> {
     Schema,
     /// `!snapshot TABLE ..`: rows of these tables.
     Snapshot(&'a str),
+    /// `!reach TABLE VALUE,.. in TREE`: the instance that the row at a key is in. The tree has its tables with `; ` between,
+    /// the root first, each with its WHERE where it has one.
+    Reach(&'a str, &'a str),
     /// `!put TEXT`: the bytes are written into the second slot behind its first byte, and synced.
     Put(&'a str),
     /// `!get`: the bytes of the second slot behind its first one.
@@ -64,6 +67,10 @@ fn parse_call(text: &str) -> Option<Command<'_>> {
         "find" => {
             let (table, key) = first_word(rest);
             Some(Command::Find(table, key))
+        }
+        "reach" => {
+            let (table, rest) = first_word(rest);
+            Some(Command::Reach(table, rest))
         }
         "schema" => Some(Command::Schema),
         "snapshot" => Some(Command::Snapshot(rest)),

@@ -12,6 +12,7 @@ mod command;
 mod error;
 mod stage;
 mod telling;
+mod trees;
 
 use error::DrillError;
 use stage::Stage;

@@ -1,7 +1,7 @@
 //! The site, and what a script keeps beside it.
 
 use crate::answers::{tell_bank_error, tell_lines, tell_opening};
-use crate::calls::{apply, console, find, passed, schema, seal, snapshot};
+use crate::calls::{apply, console, find, passed, reach, schema, seal, snapshot};
 use crate::command::Command;
 use crate::error::DrillError;
 use backing_sqlite::{RealSite, SqliteBank};
@@ -98,6 +98,7 @@ impl Stage {
                 passed(alloc, &mut self.site, ticket, write, line, out)
             }
             Command::Find(table, key) => find(alloc, &mut self.site, table, key, line, out),
+            Command::Reach(table, rest) => reach(alloc, &mut self.site, table, rest, line, out),
             Command::Schema => schema(&mut self.site, out),
             Command::Snapshot(tables) => snapshot(alloc, &mut self.site, tables, line, out),
             Command::Put(text) => put(&mut self.site, text.as_bytes()),

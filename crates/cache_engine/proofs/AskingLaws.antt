@@ -130,6 +130,7 @@ stored_learned t new a schema is learns = subst (λ z. IsStoredAs z (record a { 
   schema = refl;
   stale = refl;
   groups = is.groups;
+  lists = is.lists;
   sessions = is.sessions;
   unsettled = is.unsettled;
   next = is.next;

@@ -26,6 +26,7 @@ use Rattle.cache_engine.specs.Beginning.{Begins, BeginsAt, IsFresh, IsNewClock, 
 use Rattle.stored_tier.specs.Naming.{AreNamed}
 use Rattle.outside.specs.Sites.{SiteState}
 use Rattle.pending_writes.specs.Noting.{TellsWriters}
+use Rattle.stored_tier.specs.Lists.{AreHiding}
 use Rattle.stored_tier.specs.Stored.{AreKept, IsSound, IsStoredAs, KeepsTime, are_later, first_unsettled, rows_of, pace_of}
 use Rattle.group_catalog.specs.Catalogs.{is_plain}
 use Rattle.stored_tier.specs.Moments.{refreshed_in, set_seen}
@@ -50,6 +51,7 @@ stored_fresh t schema start pace settings s due same new = record {
   schema = same ∙ sym new.schema_is;
   stale = sym new.told;
   groups = sym new.groups;
+  lists = tt;
   sessions = ap (map session_seen) (sym new.sessions);
   unsettled = sym new.unsettled;
   next = sym new.next;
@@ -81,6 +83,7 @@ sound_fresh t schema start pace new sessions named = record {
   stores = record { homes = named.directory; over = λ k s at. absurd (none_there t.stores.items k s new.stores at) };
   kept = subst (λ gs. AreKept t.schema gs t.stores.items) (sym new.groups) (subst (AreKept t.schema []) (sym new.stores) tt);
   whole = λ k s at. absurd (none_there t.stores.items k s new.stores at);
+  hiding = subst (λ gs. AreHiding t.schema gs t.stores.items t.hidden.items) (sym new.groups) (subst (AreHiding t.schema [] t.stores.items) (sym new.hidden) tt);
   plain = ap (list_all is_plain) new.groups;
   named = λ i j g h at other same. absurd (none_there (groups_in t.catalog) i g new.groups at);
   visible = named.visible;

@@ -13,7 +13,7 @@ use Rattle.cache_tier.specs.Groups.{Group, definitions_of, is_defined_on, is_tab
 use Rattle.cache_tier.specs.Sets.{RefreshesIfShown}
 use Rattle.cache_tier.specs.Steps.{Rose, faults_in, note_tells, tells}
 use Rattle.outside.specs.Faults.{Rose as RoseOnce}
-use Rattle.cache_tier.specs.Worlds.{IsUnshared, Stage, World}
+use Rattle.cache_tier.specs.Worlds.{IsUnshared, Stage, World, faulty}
 use Rattle.cache_tier.specs.declared.reply.Last.{Last}
 use Rattle.cache_tier.specs.declared.reply.Last.TheVariants.{Done, Fault, No}
 use Rattle.cache_tier.specs.declared.reply.Note.{Note}
@@ -196,8 +196,21 @@ module _ {D : Type 0} (state : D → SiteState) (possible : D → ℕ → Held �
 
 -- nothing is due
 
-idle_caused : (k : Option TierJournal) (b : SiteState) → IsDueCaused k b b (due_of [] None)
+pub idle_caused : (k : Option TierJournal) (b : SiteState) → IsDueCaused k b b (due_of [] None)
 idle_caused k b = record {
+  later = omega arith;
+  moment = omega arith;
+  shares = refl;
+  slots = λ none. slots_same b.held;
+  bank = let le : b.bank_faults ≤ b.bank_faults = omega arith in (le, rose_none b.bank_faults b.bank_faults (2 ^ 64 - 1) le);
+  disk = refl;
+  stop = let le : b.disk_faults ≤ b.disk_faults = omega arith in (le, rose_none b.disk_faults b.disk_faults (2 ^ 64 - 1) le);
+  whole = λ none. refl;
+}
+
+-- memory was wanting
+pub wanting_caused : (k : Option TierJournal) (b : SiteState) → IsDueCaused k b b (due_of [] (Some (faulty code.Memory)))
+wanting_caused k b = record {
   later = omega arith;
   moment = omega arith;
   shares = refl;

@@ -1,40 +1,39 @@
 -- What is due, by the stored clock.
-use Rattle.std.proofs.Common.{◌≡◌, ℕ, ◌+◌, max, true, false, cond, ◌&&◌, is_none, filter, Option, Some, None, List, [], ◌∷◌, ◌++◌, map, refl, sym, ap, subst, ◌∙◌}
+use Rattle.std.proofs.Common.{◌≡◌, inl, inr, ℕ, ◌+◌, max, true, false, cond, ◌&&◌, filter, Option, Some, None, List, [], ◌∷◌, ◌++◌, map, refl, sym, ap, subst, ◌∙◌}
+use Rattle.std.proofs.lemmas.List.{append-nil}
+use Rattle.tier_base.specs.declared.code.Code.TheVariants as code
 use Rattle.std.specs.Prelude.{Err}
 use Rattle.std.specs.Bool.{MatchBool}
-use Rattle.std.specs.List.{list_all}
 use Rattle.outside.specs.declared.fault.BankError.TheVariants.{Failed}
-use Rattle.order_laws.proofs.TruthLaws.{both_true}
 use Rattle.sql_subset.specs.declared.request.Line.{Line}
 use Rattle.sql_subset.specs.declared.request.Line.TheVariants as says
 use Rattle.table_state.specs.declared.history.Sealed.{Sealed}
-use Rattle.table_state.specs.declared.history.Entry.{Entry}
 use Rattle.cache_tier.specs.CommitSteps.{after_applied, sealed_own}
 use Rattle.cache_tier.specs.PassedSteps.{after_passed, with_ticket}
-use Rattle.cache_tier.specs.Aging.{aged, is_aged_by, is_aging_due, is_over}
+use Rattle.cache_tier.specs.Aging.{after_aging, is_over}
 use Rattle.cache_tier.specs.DueWork.{DueAging, DueRound, DueSets, DueSetsOf, DueWork, Noted, ThenItem, due_sets, intervals, is_round_due, noted, stopped, with_number}
-use Rattle.cache_tier.specs.Groups.{Group, definitions_of, is_explicit, is_on, is_read_only}
+use Rattle.cache_tier.specs.Groups.{Group, definitions_of, is_on, is_read_only}
 use Rattle.cache_tier.specs.Rounds.{Round}
 use Rattle.cache_tier.specs.Steps.{added_by, at_moment, with_moment}
 use Rattle.cache_tier.specs.TierStates.{Session, Tier, cut}
-use Rattle.cache_tier.specs.Worlds.{OnlyWhere, Passes, World}
+use Rattle.cache_tier.specs.Worlds.{OnlyWhere, Passes, World, faulty}
 use Rattle.cache_tier.specs.declared.reply.Note.{Note}
 use Rattle.cache_tier.specs.declared.reply.Reply.{Reply}
 use Rattle.group_catalog.specs.Catalogs.{groups_in}
 use Rattle.cache_tier.specs.Events.{with_tier}
 use Rattle.stored_tier.specs.declared.clock.TierClock.{TierClock}
 use Rattle.stored_tier.specs.declared.tier.Tier.{Tier as Stored}
-use Rattle.cache_engine.specs.DueItems.{DoesItem, DueRest, Footing, KeepsSets, due_at, is_due_at, note_of, round_is_due}
+use Rattle.cache_engine.specs.Due.{IsDueCaused}
+use Rattle.cache_engine.specs.DueItems.{DoesItem, DueRest, EndsCycles, Footing, KeepsSets, RunsCycles, due_at, due_of, is_due_at, note_of, round_is_due}
 use Rattle.outside.specs.Holding.{Held}
 use Rattle.tier_journal.specs.declared.journal.TierJournal.{TierJournal}
 use Rattle.stored_tier.specs.Performing.{IsStopCausedOver, PerformsOver, StandsFor}
 use Rattle.stored_tier.specs.Refreshing.{has_moment, moment_in}
 use Rattle.outside.specs.Sites.{SiteState}
 use Rattle.stored_tier.specs.Stored.{IsSound, IsStoredAs, KeepsTime, without_list}
-use Rattle.group_catalog.specs.Catalogs.{is_plain}
-use Rattle.cache_engine.proofs.DueItemLaws.{as_item, idle_item, noted_item, stopped_item, then_items}
+use Rattle.cache_engine.proofs.DueItemLaws.{as_item, idle_caused, idle_item, noted_item, since_self, stopped_item, then_items, wanting_caused}
 use Rattle.stored_tier.proofs.OverLaws.{keeps_tier}
-use Rattle.stored_tier.proofs.QuietLaws.{at_still}
+use Rattle.stored_tier.proofs.QuietLaws.{at_still, stands_over}
 use Rattle.group_engine.proofs.RefreshedSets.{stands_clocked, stored_clocked}
 use Rattle.session_engine.specs.Doubting.{CommitIsInDoubt, IsInDoubt, IsLeft, LeadsOver, WriteIsInDoubt}
 use Rattle.session_engine.specs.declared.doubt.Doubt.{Doubt}
@@ -56,26 +55,6 @@ due_stored t a is =
 pub round_stored : (t : Stored) (a : Tier) → IsStoredAs t a → is_round_due a ≡ round_is_due t.clock.now t.clock.round t.clock.pace.propagate_ms
 round_stored t a is = λ j. round_is_due (is.time.moment j) (is.time.tried j) ((is.time.due j).propagate_ms)
 
--- aging does nothing where no group ages
-
-is_no : {X : Type 0} (o : Option X) → is_none o ≡ true → o ≡ None
-is_no None e = refl
-is_no (Some x) e = cc
-
-no_aging : (history : List Entry) (t : Tier) (gs : List Group) → list_all is_plain (map without_list gs) ≡ true → map (λ g. cond (is_aging_due t g) (aged history t g) g) gs ≡ gs
-no_aging history t [] all = refl
-no_aging history t (g ∷ gs) all =
-    let both = both_true (is_plain (without_list g)) (list_all is_plain (map without_list gs)) all in
-    let none = is_no g.def.aging (both_true (is_explicit g) (is_none g.def.aging) both.0).1 in
-    let first : cond (is_aging_due t g) (aged history t g) g ≡ g = ap (λ o. cond (is_aged_by t.settings t.now g o) (aged history t g) g) none in
-    let rest = no_aging history t gs both.1 in
-    λ i. first i ∷ rest i
-
-aging_passes : (t : Stored) (w : World) → IsSound t → StandsFor t w → DueAging w w [] None
-aging_passes t w sound is =
-    let plain = ap (list_all is_plain) is.stored.groups ∙ sound.plain in
-    (ap (λ gs. with_tier (record (w.tier) { groups = gs }) w) (sym (no_aging w.history w.tier w.tier.groups plain)), refl, refl)
-
 -- all that is due
 
 module _ {D : Type 0} (state : D → SiteState) (possible : D → ℕ → Held → Type 0) where
@@ -84,10 +63,45 @@ module _ {D : Type 0} (state : D → SiteState) (possible : D → ℕ → Held �
       as_item state possible (DueSetsOf intervals) DueSets old new b a earlier notes stop
       (λ w w' stands is. subst (λ l. DueSetsOf l w w' (Rattle.cache_engine.specs.DueItems.notes_since earlier notes) stop) (due ∙ sym (due_stored old w.tier stands.stored)) is) does
 
-  with_aging : (old new : Stored) (b a : Footing D) (earlier notes : List Note) (stop : Option Reply) → IsSound new → DoesItem state possible DueSets old new b a earlier notes stop → DoesItem state possible (ThenItem DueSets DueAging) old new b a earlier notes stop
-  with_aging old new b a earlier notes None sound does =
-      then_items state possible DueSets DueAging old new new b a a earlier notes notes None does (idle_item state possible DueAging new a notes (λ w is. aging_passes new w sound is))
-  with_aging old new b a earlier notes (Some end) sound does = stopped_item state possible DueSets DueAging old new b a earlier notes end does
+  -- the cycles of aging have run
+  aged_item : (old new : Stored) (b : Footing D) (notes : List Note) → RunsCycles old new → DoesItem state possible DueAging old new b b notes notes None
+  aged_item old new b notes runs = record {
+    performs = λ w at stands apart keeps.
+        let aged = after_aging w.history w.tier in
+        record {
+          world = with_tier aged w;
+          at = at_still (state b.disk) w aged at;
+          is = subst (λ l. DueAging w (with_tier aged w) l None) (sym (since_self notes)) (inl (refl, refl, refl));
+          stands = λ whole. runs.ages w stands;
+          keeps = λ whole. keeps_tier state possible b.disk b.journal w aged refl keeps;
+        };
+    order = sym (append-nil notes) ∙ ap (λ l. notes ++ l) (sym (since_self notes));
+    cause = subst (λ l. IsDueCaused b.journal (state b.disk) (state b.disk) (due_of l None)) (sym (since_self notes)) (idle_caused b.journal (state b.disk));
+    none = λ none. none;
+    groups = runs.groups;
+    entries = λ i there. subst (λ (c : TierClock). has_moment c.sets.items i ≡ true) (sym runs.clock) there;
+  }
+
+  -- memory was wanting for them
+  wanting_item : (old new : Stored) (b : Footing D) (notes : List Note) (reply : Reply) → reply ≡ faulty code.Memory → new ≡ record old { verified = new.verified } → DoesItem state possible DueAging old new b b notes notes (Some reply)
+  wanting_item old new b notes reply told same = record {
+    performs = λ w at stands apart keeps. record {
+      world = w;
+      at = at;
+      is = subst (λ l. DueAging w w l (Some reply)) (sym (since_self notes)) (inr (refl, refl, ap Some told));
+      stands = λ whole. stands_over old new w same stands;
+      keeps = λ whole. keeps;
+    };
+    order = sym (append-nil notes) ∙ ap (λ l. notes ++ l) (sym (since_self notes));
+    cause = subst (λ l. IsDueCaused b.journal (state b.disk) (state b.disk) (due_of l (Some reply))) (sym (since_self notes)) (subst (λ r. IsDueCaused b.journal (state b.disk) (state b.disk) (due_of [] (Some r))) (sym told) (wanting_caused b.journal (state b.disk)));
+    none = λ none. none;
+    groups = ap (λ (t : Stored). definitions_of (groups_in t.catalog)) same;
+    entries = λ i there. subst (λ (t : Stored). has_moment t.clock.sets.items i ≡ true) (sym same) there;
+  }
+
+  aging_item : (old new : Stored) (b : Footing D) (notes : List Note) (stop : Option Reply) → EndsCycles old new stop → DoesItem state possible DueAging old new b b notes notes stop
+  aging_item old new b notes None runs = aged_item old new b notes runs
+  aging_item old new b notes (Some reply) wants = wanting_item old new b notes reply wants.0 wants.1
 
   pub due_stopped : (old new : Stored) (b a : Footing D) (earlier notes : List Note) (end : Reply) → DoesItem state possible DueRound old new b a earlier notes (Some end) → DoesItem state possible DueRest old new b a earlier notes (Some end)
   due_stopped old new b a earlier notes end does = stopped_item state possible DueRound (ThenItem DueSets DueAging) old new b a earlier notes end does
@@ -95,11 +109,18 @@ module _ {D : Type 0} (state : D → SiteState) (possible : D → ℕ → Held �
   due_kept : (old mid : Stored) → KeepsSets old mid → due_at old.clock.now old.clock.sets.items (groups_in old.catalog) ≡ due_at mid.clock.now mid.clock.sets.items (groups_in mid.catalog)
   due_kept old mid keeps = sym (λ j. due_at (keeps.now j) ((keeps.sets j).items) (groups_in (keeps.catalog j)))
 
-  pub due_done : (intervals : List ℕ) (old mid new : Stored) (b m a : Footing D) (earlier between notes : List Note) (stop : Option Reply) → KeepsSets old mid → IsSound new → intervals ≡ due_at old.clock.now old.clock.sets.items (groups_in old.catalog)
-      → DoesItem state possible DueRound old mid b m earlier between None → DoesItem state possible (DueSetsOf intervals) mid new m a between notes stop → DoesItem state possible DueRest old new b a earlier notes stop
-  due_done intervals old mid new b m a earlier between notes stop keeps sound due first second =
+  pub due_ended : (intervals : List ℕ) (old mid new : Stored) (b m a : Footing D) (earlier between notes : List Note) (end : Reply) → KeepsSets old mid → intervals ≡ due_at old.clock.now old.clock.sets.items (groups_in old.catalog)
+      → DoesItem state possible DueRound old mid b m earlier between None → DoesItem state possible (DueSetsOf intervals) mid new m a between notes (Some end) → DoesItem state possible DueRest old new b a earlier notes (Some end)
+  due_ended intervals old mid new b m a earlier between notes end keeps due first second =
+      then_items state possible DueRound (ThenItem DueSets DueAging) old mid new b m a earlier between notes (Some end) first
+      (stopped_item state possible DueSets DueAging mid new m a between notes end (sets_item intervals mid new m a between notes (Some end) (due ∙ due_kept old mid keeps) second))
+
+  pub due_done : (intervals : List ℕ) (old mid fresh new : Stored) (b m a : Footing D) (earlier between notes : List Note) (stop : Option Reply) → KeepsSets old mid → intervals ≡ due_at old.clock.now old.clock.sets.items (groups_in old.catalog)
+      → DoesItem state possible DueRound old mid b m earlier between None → DoesItem state possible (DueSetsOf intervals) mid fresh m a between notes None → EndsCycles fresh new stop → DoesItem state possible DueRest old new b a earlier notes stop
+  due_done intervals old mid fresh new b m a earlier between notes stop keeps due first second third =
       then_items state possible DueRound (ThenItem DueSets DueAging) old mid new b m a earlier between notes stop first
-      (with_aging mid new m a between notes stop sound (sets_item intervals mid new m a between notes stop (due ∙ due_kept old mid keeps) second))
+      (then_items state possible DueSets DueAging mid fresh new m a a between notes notes stop
+      (sets_item intervals mid fresh m a between notes None (due ∙ due_kept old mid keeps) second) (aging_item fresh new a notes stop third))
 
   -- a round that isn't due
 

@@ -126,6 +126,7 @@ left_stored t (Some d) w x = by d.of x
         schema = x.stands.stored.schema;
         stale = x.stands.stored.stale;
         groups = x.stands.stored.groups;
+        lists = x.stands.stored.lists;
         sessions = x.stands.stored.sessions;
         unsettled = x.stands.stored.unsettled;
         next = ap (λ n. n + 1) x.stands.stored.next ∙ sym x.next;

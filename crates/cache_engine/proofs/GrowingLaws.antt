@@ -31,6 +31,8 @@ use Rattle.cache_tier.specs.Defining.{with_tables}
 use Rattle.stored_tier.specs.declared.tier.Tier.{Tier as Stored}
 use Rattle.cache_engine.specs.Growing.{BeginsWith, Learns, MayLearn}
 use Rattle.stored_tier.specs.Naming.{AreNamed, HasNoHome}
+use Rattle.stored_tier.specs.Lists.{AreHiding}
+use Rattle.slot_rows.specs.SlotKeys.{RowsHeld}
 use Rattle.stored_tier.specs.Stored.{AreKept, IsSound, first_unsettled, rows_of}
 use Rattle.stored_tier.proofs.StoreRows.{place_same}
 use Rattle.stored_tier.proofs.WriterLaws.{writers_grown}
@@ -192,6 +194,17 @@ kept_grown schema more (g ∷ groups) (s ∷ stores) old kept = (
   kept_grown schema more groups stores (λ k x u p at has. old (suc k) x u p at has) kept.1,
 )
 
+-- hidden root rows stand by their root's key still
+hiding_grown : (schema all : List TableDef) (groups : List Group) (stores : List Kept) (hidden : List RowsHeld) → AreKept schema groups stores → AreKept all groups stores → AreHiding schema groups stores hidden → AreHiding all groups stores hidden
+hiding_grown schema all [] stores [] kept grown hides = tt
+hiding_grown schema all [] stores (h ∷ hidden) kept grown hides = absurd hides
+hiding_grown schema all (g ∷ groups) [] hidden kept grown hides = absurd kept
+hiding_grown schema all (g ∷ groups) (s ∷ stores) [] kept grown hides = absurd hides
+hiding_grown schema all (g ∷ groups) (s ∷ stores) (h ∷ hidden) kept grown hides = (
+  record { key = hides.0.key ∙ sym kept.0.key ∙ grown.0.key; room = hides.0.room; none = hides.0.none },
+  hiding_grown schema all groups stores hidden kept.1 grown.1 hides.1,
+)
+
 -- a table of a group stays as it is
 
 some_place : (o : Option ℕ) → is_some o ≡ true → (p : ℕ) × (o ≡ Some p)
@@ -271,6 +284,7 @@ sound_learned law t schema names homes sound may =
       };
       kept = kept_grown t.schema more (groups_in t.catalog) t.stores.items old sound.kept;
       whole = sound.whole;
+      hiding = hiding_grown t.schema all (groups_in t.catalog) t.stores.items t.hidden.items sound.kept (kept_grown t.schema more (groups_in t.catalog) t.stores.items old sound.kept) sound.hiding;
       plain = sound.plain;
       named = sound.named;
       visible = named.visible;

@@ -88,6 +88,7 @@ pub record IsFresh (t : Stored) (schema : List TableDef) (start : ℕ) (pace : P
   pub told : t.stale ≡ false
   pub groups : groups_in t.catalog ≡ []
   pub stores : t.stores.items ≡ []
+  pub hidden : t.hidden.items ≡ []
   pub sessions : seen_all t.sessions ≡ []
   pub unsettled : t.unsettled.items ≡ []
   pub writers : (known : List TableDef) (first : ℕ) → TellsWriters known first [] t.writers

@@ -4,9 +4,11 @@
 use Rattle.std.specs.Prelude.{◌≡◌, ℕ, nat_lt, List, ◌++◌, Bool, true, ◌&&◌, Option, Some, None, drop, length}
 use Rattle.std.specs.List.{filter}
 use Rattle.tier_base.specs.declared.code.Code.{Code}
+use Rattle.tier_base.specs.declared.code.Code.TheVariants as code
 use Rattle.cache_tier.specs.Aging.{is_over}
 use Rattle.cache_tier.specs.DueWork.{DueAging, DueRound, DueSets, Item, ThenItem, intervals}
 use Rattle.cache_tier.specs.Groups.{Group, definitions_of}
+use Rattle.cache_tier.specs.Worlds.{faulty}
 use Rattle.cache_tier.specs.declared.reply.Note.{Note}
 use Rattle.cache_tier.specs.declared.reply.Note.TheVariants.{Propagate, Refresh}
 use Rattle.cache_tier.specs.declared.reply.Reply.{Reply}
@@ -15,6 +17,7 @@ use Rattle.stored_tier.specs.declared.moments.SetMoment.{SetMoment}
 use Rattle.cache_engine.specs.declared.due.Due.{Due}
 use Rattle.stored_tier.specs.declared.tier.Tier.{Tier as Stored}
 use Rattle.cache_engine.specs.Due.{IsDueCaused}
+use Rattle.aging_cycles.specs.Ages.{Ages}
 use Rattle.stored_tier.specs.Performing.{PerformsOver}
 use Rattle.stored_tier.specs.Refreshing.{has_moment, moment_in}
 use Rattle.outside.specs.Holding.{Held}
@@ -77,3 +80,14 @@ pub record DoesItem {D : Type 0} (state : D → SiteState) (possible : D → ℕ
   pub groups : definitions_of (groups_in new.catalog) ≡ definitions_of (groups_in old.catalog)
   pub entries : (interval : ℕ) → has_moment old.clock.sets.items interval ≡ true
       → has_moment new.clock.sets.items interval ≡ true
+
+-- the cycles of aging that are due have run; definitions and the clock stay
+pub record RunsCycles (old new : Stored) : Type 0 where
+  pub ages : Ages old new
+  pub groups : definitions_of (groups_in new.catalog) ≡ definitions_of (groups_in old.catalog)
+  pub clock : new.clock ≡ old.clock
+
+-- or memory was wanting for them, and that ends the line
+abbrev pub EndsCycles : Stored → Stored → Option Reply → Type 0
+EndsCycles old new None = RunsCycles old new
+EndsCycles old new (Some reply) = (reply ≡ faulty code.Memory) × (new ≡ record old { verified = new.verified })

@@ -75,6 +75,7 @@ fn new_tier(
         stale: false,
         catalog,
         stores,
+        hidden: Vec::new(alloc),
         directory,
         sessions: Sessions::new(alloc),
         unsettled: VecDeque::new(alloc),

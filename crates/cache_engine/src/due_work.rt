@@ -7,7 +7,7 @@ ghost use Rattle.cache_tier.specs.Groups.{definitions_of};
 ghost use Rattle.cache_tier.specs.Sets.{RefreshesIfShown};
 ghost use Rattle.group_catalog.specs.Catalogs.{groups_in};
 ghost use Rattle.cache_engine.specs.Due.{IsDueCaused};
-ghost use Rattle.cache_engine.specs.DueItems.{DoesItem, DueRest, KeepsSets, due_at, due_of, note_of, over, round_is_due};
+ghost use Rattle.cache_engine.specs.DueItems.{DoesItem, DueRest, EndsCycles, KeepsSets, due_at, due_of, note_of, over, round_is_due};
 ghost use Rattle.session_engine.specs.Doubting.{IsReady, LeadsOver};
 ghost use Rattle.stored_tier.specs.Performing.{stop_of, IsStopCaused, Performs};
 ghost use Rattle.stored_tier.specs.Refreshing.{has_moment};
@@ -16,17 +16,18 @@ ghost use Rattle.session_engine.specs.Settling.{told_of};
 ghost use Rattle.propagators.specs.Certainty.{KeepsCertain};
 ghost use Rattle.tier_journal.specs.declared.journal.TierJournal.{TierJournal as Kept};
 
+use aging_cycles::age;
 use cache_tier::reply::{Last, Note, Reply};
 use group_engine::fresh::refresh_members;
 use outside::Site;
 use session_engine::doubt::Doubt;
 use session_engine::settling::settle_doubt;
-use std::alloc::Global;
+use std::alloc::{AllocError, Global};
 use stored_tier::refreshing::shows_something;
 use stored_tier::tier::Tier;
 use tier_base::Code;
 use tier_journal::TierJournal;
-use tier_statements::bank_fault;
+use tier_statements::{bank_fault, faulty};
 
 // A commit in doubt is settled, and then what is due is done. All its notes are told, and it is the reply that ends the
 // line.
@@ -78,8 +79,8 @@ fn tell(told: Option<Note>, notes: &mut Vec<Note>)
     }
 }
 
-// What is due is done: the round, and the sets of these intervals. Its notes come behind the others, and it is the
-// reply that ends the line.
+// What is due is done: the round, the sets of these intervals, and the cycles of aging. Its notes come behind the
+// others, and it is the reply that ends the line.
 fn do_due<P: Site>(
     tier: &mut Tier,
     alloc: Global,
@@ -100,7 +101,22 @@ fn do_due<P: Site>(
 {
     match settle_due(tier, alloc, site, journal, notes) {
         Some(stop) => Some(stop),
-        None => refresh_sets(tier, alloc, site, intervals, notes),
+        None => match refresh_sets(tier, alloc, site, intervals, notes) {
+            Some(stop) => Some(stop),
+            None => age_due(tier, alloc),
+        },
+    }
+}
+
+// The cycles of aging that are due. Where memory is wanting for them none is run, and that ends the line.
+fn age_due(tier: &mut Tier, alloc: Global) -> Option<Reply>
+    requires { IsSound tier.old }
+    ensures ends { EndsCycles tier.old tier.new result }
+    ensures sound { IsSound tier.new }
+{
+    match age(tier, alloc) {
+        Ok(()) => None,
+        Err(AllocError) => Some(faulty(alloc, Code::Memory)),
     }
 }
 
@@ -206,7 +222,7 @@ pub(crate) fn refresh_set<P: Site>(
         (stop_of result) }
     ensures disk { (P.Disk.state site.new).disk_faults ≡ (P.Disk.state site.old).disk_faults }
 {
-    if !shows_something(&tier.catalog, interval) {
+    if !shows_something(tier, interval) {
         return Ok(());
     }
     match refresh_members(tier, alloc, site, interval) {

@@ -14,7 +14,7 @@ use Rattle.cache_tier.specs.Aging.{aged_rule, expired, with_horizon}
 use Rattle.cache_tier.specs.Distinct.{AgingKeepsApart, CommitKeepsApart, LoadKeepsApart, RefreshKeepsApart, UnloadKeepsApart, UseKeepsApart}
 use Rattle.cache_tier.specs.declared.group.AgingRule.{AgingRule}
 use Rattle.cache_tier.specs.declared.group.AgingRule.TheVariants.{ByTime, LastUse}
-use Rattle.cache_tier.specs.Groups.{Group, is_key, is_read_only, is_writethrough, without_keys}
+use Rattle.cache_tier.specs.Groups.{Group, is_key, is_read_only, is_writethrough, with_keys, without_keys}
 use Rattle.cache_tier.specs.Recency.{entered, left_by, with_entered}
 use Rattle.cache_tier.specs.Standing.{AreDistinct}
 use Rattle.cache_tier.proofs.KeyLaws.{gone}
@@ -110,8 +110,12 @@ rising (e ∷ es) h = (above e.0 es (both_first _ _ h), rising es (both_second _
 map_keys : {X : Type 0} → (m : FinMap key_order X) → AreDistinct (keys m)
 map_keys m = rising (entries m) (entries_sorted m)
 
+-- new keys that are apart come behind the others
+pub with_apart : (new old : Keys) → AreDistinct new → AreDistinct old → AreDistinct (with_keys new old)
+with_apart new old n d = joined old (without_keys old new) d (filtered _ new n) (apart_without old old new (λ k e. e))
+
 pub load : LoadKeepsApart
-load rows old d = joined old (without_keys old (keys rows)) d (filtered _ (keys rows) (map_keys rows)) (apart_without old old (keys rows) (λ k e. e))
+load rows old d = with_apart (keys rows) old (map_keys rows) d
 
 pub use_one : UseKeepsApart
 use_one key old d = by (is_key old key)

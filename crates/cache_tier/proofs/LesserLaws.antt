@@ -63,7 +63,7 @@ same_bools true b to from = to refl
 same_bools false true to from = sym (from refl)
 same_bools false false to from = refl
 
-written_mine : (on : List TableId) (op : Op) (schema : List TableDef) (w : RowKey) → is_op_on on op ≡ true → is_among (written_by schema op) w ≡ true → is_one_of on w.table ≡ true
+pub written_mine : (on : List TableId) (op : Op) (schema : List TableDef) (w : RowKey) → is_op_on on op ≡ true → is_among (written_by schema op) w ≡ true → is_one_of on w.table ≡ true
 written_mine on op schema w mine e = one_side on w.table (table_of op) (written_table (table_of op) (slice_get schema (table_of op).0) (rows_of op) w e) ∙ mine
 
 pub applies_to_lesser : (on : List TableId) (ops : List Op) (v v' a a' b : TableState) → IsClosed on a.schema → b.schema ≡ a.schema → length b.tables ≡ length a.tables → IsLinked v → IsClosedPart on v a → IsClosedPart on v b → are_on on ops ≡ true → AreSameAt (footprint_of a.schema ops) a b

@@ -37,3 +37,7 @@ pub mod LockLaws
 pub mod LoadStatements
 pub mod UnloadStatements
 pub mod DropStatements
+pub mod HeldKeys
+pub mod LessShown
+pub mod AgingLaws
+pub mod BringLaws

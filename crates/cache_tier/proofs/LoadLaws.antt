@@ -174,7 +174,7 @@ module _ (w : World) (x : Stands w) (place : ℕ) (g : Group) (at : slice_get w.
 
 -- writes of sessions over what is shown before and behind
 
-all_greater : (on : List TableId) (v a b : TableState) (owns : List (List Op)) → Rattle.order_laws.specs.Sides.IsClosed on v.schema → Rattle.order_laws.specs.Sides.IsClosed on b.schema → Rattle.table_state.specs.Independence.IsWhole b → Rattle.table_state.specs.Sound.IsLinked v → IsClosedPart on v a → IsClosedPart on v b → IsBelow on a b
+pub all_greater : (on : List TableId) (v a b : TableState) (owns : List (List Op)) → Rattle.order_laws.specs.Sides.IsClosed on v.schema → Rattle.order_laws.specs.Sides.IsClosed on b.schema → Rattle.table_state.specs.Independence.IsWhole b → Rattle.table_state.specs.Sound.IsLinked v → IsClosedPart on v a → IsClosedPart on v b → IsBelow on a b
     → list_all (are_on on) owns ≡ true → AllApply v owns → AllApply a owns → AllApply b owns
 all_greater on v a b [] closed closed_b whole linked part_a part_b below mine all_v all_a = tt
 all_greater on v a b (own ∷ owns) closed closed_b whole linked part_a part_b below mine all_v all_a =
@@ -185,7 +185,7 @@ all_greater on v a b (own ∷ owns) closed closed_b whole linked part_a part_b b
 abbrev pub AllSameAt : List TableDef → List (List Op) → TableState → TableState → Type 0
 AllSameAt schema owns a b = Each (λ own. AreSameAt (footprint_of schema own) a b) owns
 
-all_lesser : (on : List TableId) (v a b : TableState) (owns : List (List Op)) → Rattle.order_laws.specs.Sides.IsClosed on a.schema → b.schema ≡ a.schema → length b.tables ≡ length a.tables → Rattle.table_state.specs.Sound.IsLinked v → IsClosedPart on v a → IsClosedPart on v b
+pub all_lesser : (on : List TableId) (v a b : TableState) (owns : List (List Op)) → Rattle.order_laws.specs.Sides.IsClosed on a.schema → b.schema ≡ a.schema → length b.tables ≡ length a.tables → Rattle.table_state.specs.Sound.IsLinked v → IsClosedPart on v a → IsClosedPart on v b
     → list_all (are_on on) owns ≡ true → AllSameAt a.schema owns a b → AllApply v owns → AllApply a owns → AllApply b owns
 all_lesser on v a b [] closed schema size linked part_a part_b mine same all_v all_a = tt
 all_lesser on v a b (own ∷ owns) closed schema size linked part_a part_b mine same all_v all_a =
@@ -203,7 +203,7 @@ flag_keys true flag g = refl
 flag_keys false flag g = refl
 
 -- what it shows, by its keys
-shown_by_keys : (v : TableState) (g h : Group) (test : List Value → Bool) → IsKept g h → is_read_only h ≡ false → ((q : List Value) → is_key h.keys q ≡ test q) → shown_in v h ≡ instances_where v g.def.tree (λ row. test (root_key v g row))
+pub shown_by_keys : (v : TableState) (g h : Group) (test : List Value → Bool) → IsKept g h → is_read_only h ≡ false → ((q : List Value) → is_key h.keys q ≡ test q) → shown_in v h ≡ instances_where v g.def.tree (λ row. test (root_key v g row))
 shown_by_keys v g h test kept reads same =
     ap (λ (t : List Value → Bool). instances_where v h.def.tree (λ row. cond (is_read_only h) (cond (Rattle.cache_tier.specs.Groups.is_explicit h) h.loaded (t (root_key v h row)) && Rattle.cache_tier.specs.Shown.exceeds h row) (t (root_key v h row)))) (λ i q. same q i)
     ∙ ap (λ b. instances_where v h.def.tree (λ row. cond b (cond (Rattle.cache_tier.specs.Groups.is_explicit h) h.loaded (test (root_key v h row)) && Rattle.cache_tier.specs.Shown.exceeds h row) (test (root_key v h row)))) reads

@@ -48,7 +48,7 @@ any_mapped p f (z ∷ xs) (suc i) y at e = ap (λ b. p (f z) || b) (any_mapped p
 any_in_table : (p : RowKey → Bool) (t : TableId) (m : Table) (q row : Row) → fm.get m q ≡ Some row → p (record { table = t; key = q }) ≡ true → list_any p (keys_in_table t m) ≡ true
 any_in_table p t m q row e h = let (i, at) = has_at m q row e in any_mapped p (λ (z : Row × Row). record { table = t; key = z.0 }) (fm.entries m) i (q, row) at h
 
-any_in_children : (p : RowKey → Bool) (ts : List TableId) (ms : List Table) (n : ℕ) (t : TableId) (q row : Row) → slice_get ts n ≡ Some t → fm.get (kept_at ms n) q ≡ Some row → p (record { table = t; key = q }) ≡ true → list_any p (keys_in_children ts ms) ≡ true
+pub any_in_children : (p : RowKey → Bool) (ts : List TableId) (ms : List Table) (n : ℕ) (t : TableId) (q row : Row) → slice_get ts n ≡ Some t → fm.get (kept_at ms n) q ≡ Some row → p (record { table = t; key = q }) ≡ true → list_any p (keys_in_children ts ms) ≡ true
 any_in_children p [] ms n t q row at e h = Prim.cc
 any_in_children p (u ∷ ts) [] n t q row at e h = let wrong : None ≡ Some row = sym (fm.get-empty key_order q) ∙ e in Prim.cc
 any_in_children p (u ∷ ts) (m ∷ ms) zero t q row at e h =
@@ -64,7 +64,7 @@ get_mapped [] i = refl
 get_mapped (c ∷ children) zero = refl
 get_mapped (c ∷ children) (suc i) = get_mapped children i
 
-table_listed : (tree : Tree) (p : ℕ) → slice_get (tree_tables tree) p ≡ table_of tree p
+pub table_listed : (tree : Tree) (p : ℕ) → slice_get (tree_tables tree) p ≡ table_of tree p
 table_listed tree zero = refl
 table_listed tree (suc i) = get_mapped tree.children i
 

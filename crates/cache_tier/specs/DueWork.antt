@@ -2,7 +2,7 @@
 -- Guide, "Automatically refreshing a cache group", "Implementing aging on a cache group"; the order is this project's
 -- rule.)
 
-use Rattle.std.specs.Prelude.{◌≡◌, ℕ, nat_eq, nat_lt, List, [], ◌∷◌, ◌++◌, Bool, ◌&&◌, ◌||◌, Option, Some, None, if◌then◌else◌, find}
+use Rattle.std.specs.Prelude.{◌≡◌, ◌⊎◌, ℕ, nat_eq, nat_lt, List, [], ◌∷◌, ◌++◌, Bool, ◌&&◌, ◌||◌, Option, Some, None, if◌then◌else◌, find}
 use Rattle.std.specs.List.{filter}
 use Rattle.std.specs.Option.{option_map, unwrap_or}
 use Rattle.tier_base.specs.Codes.{number_of}
@@ -19,7 +19,7 @@ use Rattle.cache_tier.specs.Groups.{Group, is_on, is_read_only}
 use Rattle.cache_tier.specs.Rounds.{Round}
 use Rattle.cache_tier.specs.Sets.{RefreshesIfShown}
 use Rattle.cache_tier.specs.TierStates.{Tier, is_of_interval}
-use Rattle.cache_tier.specs.Worlds.{OnlyWhere, Stage, World}
+use Rattle.cache_tier.specs.Worlds.{OnlyWhere, Stage, World, faulty}
 
 -- an item of due work: it may tell notes, or end the line
 abbrev pub Item : Type 1
@@ -111,8 +111,16 @@ DueSetsOf (interval ∷ more) w w' notes stop =
 abbrev pub DueSets : Item
 DueSets w w' notes stop = DueSetsOf (due_sets w.tier) w w' notes stop
 
+-- each group that is due has its cycle
+abbrev pub DoesAging : Item
+DoesAging w w' notes stop = (w' ≡ record w { tier = after_aging w.history w.tier }) × (notes ≡ []) × (stop ≡ None)
+
+-- memory was wanting for the cycles: none is done, and the line ends with that
+abbrev pub WantsForAging : Item
+WantsForAging w w' notes stop = (w' ≡ w) × (notes ≡ []) × (stop ≡ Some (faulty code.Memory))
+
 abbrev pub DueAging : Item
-DueAging w w' notes stop = (w' ≡ record w { tier = after_aging w.history w.tier }) × (notes ≡ []) × (stop ≡ None)
+DueAging w w' notes stop = DoesAging w w' notes stop ⊎ WantsForAging w w' notes stop
 
 abbrev pub DueDoubt : Item
 DueDoubt w w' notes stop = SettlesDoubt w.tier.doubt w w' notes stop

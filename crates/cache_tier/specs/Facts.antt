@@ -1,7 +1,8 @@
 -- Small facts, by which the definitions are tested.
 
-use Rattle.std.specs.Prelude.{◌≡◌, ℕ, ℤ, ◌≤ℤ◌, List, [], ◌++◌, Bool, true, false, Option, Some, None, Ok, slice_get}
+use Rattle.std.specs.Prelude.{◌≡◌, ◌⊎◌, ℕ, ℤ, ◌≤ℤ◌, List, [], ◌++◌, Bool, true, false, Option, Some, None, Ok, slice_get}
 use Rattle.row_types.specs.declared.value.Value.{Value}
+use Rattle.tier_base.specs.declared.code.Code.TheVariants as code
 use Rattle.row_types.specs.declared.value.Value.TheVariants.{Time}
 use Rattle.indexed_rows.specs.Rows.{value_at}
 use Rattle.resolution.specs.Queries.{PlacedQuery}
@@ -31,7 +32,7 @@ use Rattle.cache_tier.specs.Shown.{all_over, shows_root}
 use Rattle.cache_tier.specs.Steps.{Asked, DoesRequest, Run}
 use Rattle.cache_tier.specs.TierStates.{Doubt, Session, Settings, Tier}
 use Rattle.cache_tier.specs.Wants.{loaded_want, wanted_by_query}
-use Rattle.cache_tier.specs.Worlds.{World, only}
+use Rattle.cache_tier.specs.Worlds.{World, faulty, only}
 
 -- the outside is untouched: nothing but the tier may differ
 pub record IsUntouched (w w' : World) : Type 0 where
@@ -102,11 +103,13 @@ RunsGoOn =
     (w mid last : World) (lines more : List Asked) (replies others : List (Option Reply)) → Run w lines replies mid
     → Run mid more others last → Run w (lines ++ more) (replies ++ others) last
 
--- where nothing is due, the due work leaves the outside untouched, and tells nothing
+-- where nothing is due but aging, the due work leaves the outside untouched, and tells nothing; it ends the line only
+-- where memory is wanting
 abbrev pub IdleIsUntouched : Type 0
 IdleIsUntouched =
     (w w' : World) (notes : List Note) (stop : Option Reply) → w.tier.doubt ≡ None → is_round_due w.tier ≡ false
-    → due_sets w.tier ≡ [] → DueWork w w' notes stop → IsUntouched w w' × (notes ≡ []) × (stop ≡ None)
+    → due_sets w.tier ≡ [] → DueWork w w' notes stop
+    → IsUntouched w w' × (notes ≡ []) × ((stop ≡ None) ⊎ (stop ≡ Some (faulty code.Memory)))
 
 -- a statement that the order of refusals refuses leaves all as it was
 abbrev pub RefusedIsAsBefore : Type 0

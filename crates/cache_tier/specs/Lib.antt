@@ -62,3 +62,4 @@ pub mod Refreshing
 pub mod Loading
 pub mod Dropping
 pub mod Statements
+pub mod Bringing

@@ -165,6 +165,7 @@ fn parse_kind(word: &str) -> Option<CallKind> {
         "foreign" => Some(CallKind::Foreign),
         "passed" => Some(CallKind::Passed),
         "snapshot" => Some(CallKind::Snapshot),
+        "reach" => Some(CallKind::Reach),
         "read" => Some(CallKind::ReadAt),
         "write" => Some(CallKind::WriteAt),
         "sync" => Some(CallKind::Sync),

@@ -1,7 +1,8 @@
 -- The catalog as the abstract tier's list of groups.
 
-use Rattle.std.specs.Prelude.{◌≡◌, ℕ, List, Bool, ◌&&◌, Some, is_none, slice_get}
-use Rattle.cache_tier.specs.Groups.{Group, is_explicit}
+use Rattle.std.specs.Prelude.{◌≡◌, ℕ, List, Bool, not, Some, slice_get}
+use Rattle.cache_tier.specs.Groups.{Group}
+use Rattle.cache_tier.specs.Undone.{is_user_managed}
 use Rattle.group_catalog.specs.declared.catalog.Catalog.{Catalog}
 use Rattle.group_catalog.specs.Kept.{groups_seen}
 
@@ -9,9 +10,9 @@ use Rattle.group_catalog.specs.Kept.{groups_seen}
 abbrev pub groups_in : Catalog → List Group
 groups_in catalog = groups_seen catalog.groups.items
 
--- a group as the tier does them: it is loaded whole or by statements, and nothing ages in it
+-- a group as the tier does them: it isn't a user-managed one
 abbrev pub is_plain : Group → Bool
-is_plain g = is_explicit g && is_none g.def.aging
+is_plain g = not (is_user_managed g.def.kind)
 
 -- no two groups have one name
 abbrev pub HaveOwnNames : List Group → Type 0

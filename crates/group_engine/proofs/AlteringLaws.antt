@@ -39,8 +39,9 @@ use Rattle.cache_tier.specs.Steps.{DoesStatement}
 use Rattle.cache_tier.specs.TierStates.{Session, Tier, refresh_tried}
 use Rattle.cache_tier.specs.Worlds.{BankCall, Tries, Unless, World, bank_fault, only}
 use Rattle.cache_tier.proofs.PositionLaws.{Hidden, alone_one, alone_twice, hidden_empty, hidden_state, join_base, join_one, join_step}
+use Rattle.stored_tier.specs.declared.refreshing.Made.{Made}
 use Rattle.stored_tier.specs.declared.tier.Tier.{Tier as Stored}
-use Rattle.group_engine.specs.Altering.{AimsAlter, AimsAlterIn, AltersAlone, AltersHere, AltersReady, AltersWith, FindsAltered, IsReadyAt, alter_state, altered_with}
+use Rattle.group_engine.specs.Altering.{AimsAlter, AimsAlterIn, AltersAlone, AltersHere, AltersReady, AltersWith, FindsAltered, IsReadyAt, TellsJoining, TellsLeaving, alter_state, altered_with}
 use Rattle.group_engine.specs.declared.ready.Ready.{Ready}
 use Rattle.group_engine.specs.Ready.{AnswersBehind, IsReadyFor, is_full_ready}
 use Rattle.group_engine.proofs.ReadyLaws.{full_then, kept_here, refused_over, wanting_over}
@@ -56,15 +57,17 @@ use Rattle.stored_tier.specs.Performing.{Executes, IsPerformedOver, PerformsInOv
 use Rattle.stored_tier.specs.Refreshing.{is_filled, is_off}
 use Rattle.stored_tier.specs.Sites.{IsAt}
 use Rattle.outside.specs.Sites.{SiteState}
+use Rattle.stored_tier.specs.Lists.{AreListed}
 use Rattle.stored_tier.specs.Stored.{AreKept, HasSession, IsSound, IsStoredAs, without_list}
-use Rattle.group_catalog.specs.Catalogs.{is_plain}
 use Rattle.group_engine.proofs.AimLaws.{IsUnlisted, unlisted}
 use Rattle.group_engine.proofs.CalmLaws.{NumberLaw, own_here}
 use Rattle.group_engine.proofs.DropLocks.{group_stored, place_stored}
-use Rattle.group_engine.proofs.RefreshedSets.{shows_stored}
-use Rattle.group_engine.proofs.FreshLaws.{Changes, IsBeside, IsRefreshed, all_there, changed_at, changed_long, changed_mapped, groups_behind, stands_behind, stateless, tier_behind}
+use Rattle.group_engine.proofs.ChangedLists.{changed_at, changed_long, changed_mapped}
+use Rattle.group_engine.proofs.FreshGroup.{Changes, stateless}
+use Rattle.group_engine.proofs.FreshLaws.{IsBeside, IsRefreshed, groups_behind, stands_behind, tier_behind}
 use Rattle.group_engine.proofs.GroupRows.{AllBecome, Becomes, same_there, stands_after, there_too}
-use Rattle.stored_tier.proofs.RefreshSteps.{something_there}
+use Rattle.stored_tier.proofs.ListLaws.{listed_changed}
+use Rattle.stored_tier.proofs.RefreshSteps.{no_group_stored, stored_group}
 use Rattle.group_engine.proofs.ShownStores.{EachShows, all_shown, each_shows}
 
 -- what refuses it
@@ -158,6 +161,7 @@ pub record IsRestated (t t' : Stored) (place : ℕ) (st : RefreshState) : Type 0
   pub beside : IsBeside t t'
   pub groups : groups_in t'.catalog ≡ changed_from (alone place) (with_state st) 0 (groups_in t.catalog)
   pub stores : t'.stores.items ≡ t.stores.items
+  pub hidden : t'.hidden.items ≡ t.hidden.items
   pub was : AreKept t.schema (groups_in t.catalog) t.stores.items
   pub kept : AreKept t'.schema (groups_in t'.catalog) t'.stores.items
 
@@ -219,6 +223,8 @@ module _ (t t' : Stored) (w : World) (place : ℕ) (st : RefreshState) (x : Stan
     schema = x.stored.schema ∙ sym is.beside.schema;
     stale = x.stored.stale ∙ sym is.beside.stale;
     groups = groups_then;
+    lists = subst (AreListed final t'.stores.items) (sym is.hidden) (subst (λ ss. AreListed final ss t.hidden.items) (sym is.stores)
+        (listed_changed (alone place) (with_state st) 0 w.tier.groups t.stores.items t.hidden.items (λ g. refl) (λ g. refl) x.stored.lists));
     sessions = x.stored.sessions ∙ ap (λ ss. map Rattle.tier_statements.specs.Seen.session_seen (seen_all ss)) (sym is.beside.sessions);
     unsettled = x.stored.unsettled ∙ ap (λ q. q.items) (sym is.beside.unsettled);
     next = x.stored.next ∙ sym is.beside.next;
@@ -304,7 +310,7 @@ only_read st groups place g at reads k x at_k = by st
     by Off e = here e
     by Paused e = here e
 
-module _ (t new : Stored) (behind : SiteState) (w : World) (place n : ℕ) (g : Group) (st : RefreshState) (made : List (Option Kept)) (at : slice_get w.tier.groups place ≡ Some g) (reads : is_read_only g ≡ true)
+module _ (t new : Stored) (behind : SiteState) (w : World) (place n : ℕ) (g : Group) (st : RefreshState) (made : List (Option Made)) (at : slice_get w.tier.groups place ≡ Some g) (reads : is_read_only g ≡ true)
     (r : IsRead t behind (Ok n) w) (fresh : AreFresh t r.world (is_filled (altered_with st g.def.interval place) None) n made) (is : IsRefreshed t new (altered_with st g.def.interval place) place (with_state st) n made)
     (told : Reply) where
   there : slice_get r.world.tier.groups place ≡ Some g
@@ -331,7 +337,7 @@ module _ {D : Type 0} (state : D → SiteState) (possible : D → ℕ → Held �
   ready_read : (told : Result ℕ BankError) (r : IsRead t (state mid) told w) → IsReadyFor r.world.tier.schema k ready (altered_entries g st)
   ready_read told r = subst (λ (x : Tier). IsReadyFor x.schema k ready (altered_entries g st)) (sym r.tier) of
 
-  pub refreshed_with : (new : Stored) (k' : Option TierJournal) (d' : D) (made : List (Option Kept)) (told reply : Reply) → slice_get w.tier.groups place ≡ Some g → is_read_only g ≡ true → chosen ≡ altered_with st g.def.interval place
+  pub refreshed_with : (new : Stored) (k' : Option TierJournal) (d' : D) (made : List (Option Made)) (told reply : Reply) → slice_get w.tier.groups place ≡ Some g → is_read_only g ≡ true → chosen ≡ altered_with st g.def.interval place
       → (r : IsRead t (state mid) (Ok n) w) → AreFresh t r.world (is_filled chosen None) n made → IsRefreshed t new chosen place (with_state st) n made → AnswersBehind state possible k k' mid d' ready told reply → told ≡ only (Done 0)
       → IsPerformedOver state possible new k' d' (Some reply) (λ w'. SetsStateRefreshed place g st chosen as_it_was w w' reply)
   refreshed_with new k' d' made told reply at reads chosen_is r fresh is answers is_done =
@@ -373,40 +379,60 @@ pub of_state : {D : Type 0} (state : D → SiteState) (possible : D → ℕ → 
 of_state state possible old new k k' d d' ready place reply given st is alters = subst (λ x. AltersReady state possible old new k k' d d' ready x place reply) (sym is) alters
 
 -- the group that is stored at the place
-record IsSeen (t : Stored) (w : World) (seen g : Group) : Type 0 where
-  pub is : without_list g ≡ seen
-  pub something : has_something g ≡ seen.loaded
+seen_there : (t : Stored) (w : World) (place : ℕ) (seen g : Group) → StandsFor t w → slice_get (groups_in t.catalog) place ≡ Some seen → slice_get w.tier.groups place ≡ Some g → without_list g ≡ seen
+seen_there t w place seen g stands at there = same_there (groups_in t.catalog) place (without_list g) seen (group_stored t w.tier place g stands.stored there) at
 
-seen_there : (t : Stored) (w : World) (place : ℕ) (seen g : Group) → IsSound t → StandsFor t w → slice_get (groups_in t.catalog) place ≡ Some seen → slice_get w.tier.groups place ≡ Some g → IsSeen t w seen g
-seen_there t w place seen g sound stands at there =
-    let is : without_list g ≡ seen = same_there (groups_in t.catalog) place (without_list g) seen (group_stored t w.tier place g stands.stored there) at in
-    let plain = all_there is_plain (groups_in t.catalog) place seen sound.plain at in
-    let explicit : is_explicit g ≡ true = ap is_explicit is ∙ (both_true (is_explicit seen) (is_none seen.def.aging) plain).0 in
-    record { is = is; something = something_there g explicit ∙ ap (λ (y : Group). y.loaded) is }
+pub was_off : (st : RefreshState) → same_state st Off ≡ is_off st
+was_off On = refl
+was_off Off = refl
+was_off Paused = refl
 
-joins_stored : (t : Stored) (w : World) (place : ℕ) (seen g : Group) → IsSound t → StandsFor t w → slice_get (groups_in t.catalog) place ≡ Some seen → slice_get w.tier.groups place ≡ Some g
-    → joins_something place g w.tier ≡ (seen.loaded || shows_something seen.def.interval (groups_in t.catalog))
-joins_stored t w place seen g sound stands at there =
-    let s = seen_there t w place seen g sound stands at there in
-    let shows = shows_stored t w g.def.interval sound stands.stored ∙ ap (λ (y : Group). shows_something y.def.interval (groups_in t.catalog)) s.is in
-    λ i. s.something i || shows i
+-- what is asked of a place where no group is
+pub joins_none : (t : Stored) (place : ℕ) → None ≡ slice_get (groups_in t.catalog) place → TellsJoining t place false
+joins_none t place none a g is at = absurd (no_group_stored t a place g is at none)
 
-pub on_alone : {D : Type 0} (state : D → SiteState) (possible : D → ℕ → Held → Type 0) (t new : Stored) (k k' : Option TierJournal) (d d' : D) (ready : Ready) (place : ℕ) (seen : Group) (reply : Reply) → IsSound t → slice_get (groups_in t.catalog) place ≡ Some seen → (seen.loaded || shows_something seen.def.interval (groups_in t.catalog)) ≡ false
+pub leaves_none : (t : Stored) (place : ℕ) → None ≡ slice_get (groups_in t.catalog) place → TellsLeaving t place false
+leaves_none t place none a g is at = absurd (no_group_stored t a place g is at none)
+
+-- what is asked of the group that is there
+abbrev pub TellsHaving : Stored → ℕ → Bool → Type 0
+TellsHaving t place has = (a : Tier) (g : Group) → IsStoredAs t a → slice_get a.groups place ≡ Some g → has ≡ has_something g
+
+pub joins_alone : (t : Stored) (place : ℕ) (has : Bool) → TellsHaving t place has → has ≡ true → TellsJoining t place true
+joins_alone t place has tells so a g is at = sym (ap (λ b. b || shows_something g.def.interval a.groups) (sym (tells a g is at) ∙ so))
+
+pub joins_set : (t : Stored) (place : ℕ) (has shows : Bool) (seen : Group) → Some seen ≡ slice_get (groups_in t.catalog) place → TellsHaving t place has → has ≡ false → ((a : Tier) → IsStoredAs t a → shows ≡ shows_something seen.def.interval a.groups) → TellsJoining t place shows
+joins_set t place has shows seen there tells so set a g is at =
+    set a is
+    ∙ ap (λ (y : Group). shows_something y.def.interval a.groups) (stored_group t a place g seen is at there)
+    ∙ sym (ap (λ b. b || shows_something g.def.interval a.groups) (sym (tells a g is at) ∙ so))
+
+pub leaves_not : (t : Stored) (place : ℕ) (seen : Group) → Some seen ≡ slice_get (groups_in t.catalog) place → is_off seen.state ≡ false → TellsLeaving t place false
+leaves_not t place seen there on a g is at =
+    let off : is_off g.state ≡ false = ap (λ (y : Group). is_off y.state) (sym (stored_group t a place g seen is at there)) ∙ on in
+    sym (ap (λ b. b && has_something g) (was_off g.state ∙ off))
+
+pub leaves_so : (t : Stored) (place : ℕ) (has : Bool) (seen : Group) → Some seen ≡ slice_get (groups_in t.catalog) place → is_off seen.state ≡ true → TellsHaving t place has → TellsLeaving t place has
+leaves_so t place has seen there off tells a g is at =
+    let now : is_off g.state ≡ true = ap (λ (y : Group). is_off y.state) (sym (stored_group t a place g seen is at there)) ∙ off in
+    tells a g is at ∙ sym (ap (λ b. b && has_something g) (was_off g.state ∙ now))
+
+pub on_alone : {D : Type 0} (state : D → SiteState) (possible : D → ℕ → Held → Type 0) (t new : Stored) (k k' : Option TierJournal) (d d' : D) (ready : Ready) (place : ℕ) (joins : Bool) (reply : Reply) → TellsJoining t place joins → joins ≡ false
     → AltersAlone state possible t new k k' d d' ready On place reply → AltersReady state possible t new k k' d d' ready On place reply
-on_alone state possible t new k k' d d' ready place seen reply sound at none alters = λ w g at_w stands apart keeps of there reads.
-    let s = seen_there t w place seen g sound stands at there in
-    let p = alters w g at_w stands keeps of there (s.something ∙ unloaded seen.loaded none) in
+on_alone state possible t new k k' d d' ready place joins reply told none alters = λ w g at_w stands apart keeps of there reads.
+    let nothing : joins_something place g w.tier ≡ false = sym (told w.tier g stands.stored there) ∙ none in
+    let p = alters w g at_w stands keeps of there (unloaded (has_something g) (shows_something g.def.interval w.tier.groups) nothing) in
     record {
       world = p.world;
       at = p.at;
       stands = p.stands;
       keeps = p.keeps;
-      is = inl (subst (λ b. MatchBool b (SetsStateRefreshed place g On (of_set g.def.interval (Some place)) (refresh_tried g.def.interval) w p.world reply) (SetsStateAlone place g On w p.world reply)) (sym (joins_stored t w place seen g sound stands at there ∙ none)) p.is);
+      is = inl (subst (λ b. MatchBool b (SetsStateRefreshed place g On (of_set g.def.interval (Some place)) (refresh_tried g.def.interval) w p.world reply) (SetsStateAlone place g On w p.world reply)) (sym nothing) p.is);
     }
   where
-    unloaded : (b : Bool) → (b || shows_something seen.def.interval (groups_in t.catalog)) ≡ false → b ≡ false
-    unloaded true e = e
-    unloaded false e = refl
+    unloaded : (a b : Bool) → (a || b) ≡ false → a ≡ false
+    unloaded true b e = e
+    unloaded false b e = refl
 
 one_call : (step : List Rattle.table_state.specs.declared.history.Entry.Entry → List Rattle.table_state.specs.declared.history.Entry.Entry → Type 0) (w mid : World) (a : Tier) → BankCall step (record w { tier = a }) mid → BankCall step w mid
 one_call step w mid a c = record { history = c.history; journal = c.journal; faults = c.faults; disk = c.disk; moment = c.moment; shared = c.shared }
@@ -415,11 +441,11 @@ tried_so : (place : ℕ) (g : Group) (st : RefreshState) (chosen : Choice) (inte
     → SetsStateRefreshed place g st chosen (refresh_tried interval) w w' reply
 tried_so place g st chosen interval w w' reply r = record { result = r.result; mid = r.mid; call = one_call (TellsPosition r.result) w r.mid (refresh_tried interval w.tier) r.call; tier = r.tier; goes_on = r.goes_on }
 
-pub on_joined : {D : Type 0} (state : D → SiteState) (possible : D → ℕ → Held → Type 0) (t noted new : Stored) (k k' : Option TierJournal) (d d' : D) (ready : Ready) (place : ℕ) (seen : Group) (reply : Reply) → IsSound t → slice_get (groups_in t.catalog) place ≡ Some seen → (seen.loaded || shows_something seen.def.interval (groups_in t.catalog)) ≡ true
+pub on_joined : {D : Type 0} (state : D → SiteState) (possible : D → ℕ → Held → Type 0) (t noted new : Stored) (k k' : Option TierJournal) (d d' : D) (ready : Ready) (place : ℕ) (seen : Group) (joins : Bool) (reply : Reply) → slice_get (groups_in t.catalog) place ≡ Some seen → TellsJoining t place joins → joins ≡ true
     → ((w : World) → StandsFor t w → StandsFor noted (record w { tier = refresh_tried seen.def.interval w.tier })) → AltersWith state possible noted new k k' d d' ready On place (of_set seen.def.interval (Some place)) reply → AltersReady state possible t new k k' d d' ready On place reply
-on_joined state possible t noted new k k' d d' ready place seen reply sound at some notes alters = λ w g at_w stands apart keeps of there reads.
-    let s = seen_there t w place seen g sound stands at there in
-    let interval : seen.def.interval ≡ g.def.interval = ap (λ (y : Group). y.def.interval) (sym s.is) in
+on_joined state possible t noted new k k' d d' ready place seen joins reply at told some notes alters = λ w g at_w stands apart keeps of there reads.
+    let same = seen_there t w place seen g stands at there in
+    let interval : seen.def.interval ≡ g.def.interval = ap (λ (y : Group). y.def.interval) (sym same) in
     let p = alters (record w { tier = refresh_tried seen.def.interval w.tier }) g (record { there = at_w.there; told = at_w.told; history = at_w.history; faults = at_w.faults; moment = at_w.moment; shared = at_w.shared }) (notes w stands) apart (keeps_tier state possible d k w (refresh_tried seen.def.interval w.tier) refl keeps) of there reads
     (ap (λ i. of_set i (Some place)) interval) in
     record {
@@ -427,7 +453,7 @@ on_joined state possible t noted new k k' d d' ready place seen reply sound at s
       at = p.at;
       stands = p.stands;
       keeps = p.keeps;
-      is = inl (subst (λ b. MatchBool b (SetsStateRefreshed place g On (of_set g.def.interval (Some place)) (refresh_tried g.def.interval) w p.world reply) (SetsStateAlone place g On w p.world reply)) (sym (joins_stored t w place seen g sound stands at there ∙ some))
+      is = inl (subst (λ b. MatchBool b (SetsStateRefreshed place g On (of_set g.def.interval (Some place)) (refresh_tried g.def.interval) w p.world reply) (SetsStateAlone place g On w p.world reply)) (sym (sym (told w.tier g stands.stored there) ∙ some))
           (subst (λ i. SetsStateRefreshed place g On (of_set i (Some place)) (refresh_tried i) w p.world reply) interval
           (tried_so place g On (of_set seen.def.interval (Some place)) seen.def.interval w p.world reply p.is)));
     }
@@ -437,38 +463,26 @@ off_alone state possible t new k k' d d' ready place reply alters = λ w g at st
     let p = alters w g at stands keeps of there refl in
     record { world = p.world; at = p.at; is = inl p.is; stands = p.stands; keeps = p.keeps }
 
-was_off : (st : RefreshState) → same_state st Off ≡ is_off st
-was_off On = refl
-was_off Off = refl
-was_off Paused = refl
-
-leaves_stored : (t : Stored) (w : World) (place : ℕ) (seen g : Group) → IsSound t → StandsFor t w → slice_get (groups_in t.catalog) place ≡ Some seen → slice_get w.tier.groups place ≡ Some g
-    → (same_state g.state Off && has_something g) ≡ (is_off seen.state && seen.loaded)
-leaves_stored t w place seen g sound stands at there =
-    let s = seen_there t w place seen g sound stands at there in
-    let off = was_off g.state ∙ ap (λ (y : Group). is_off y.state) s.is in
-    λ i. off i && s.something i
-
-pub paused_alone : {D : Type 0} (state : D → SiteState) (possible : D → ℕ → Held → Type 0) (t new : Stored) (k k' : Option TierJournal) (d d' : D) (ready : Ready) (place : ℕ) (seen : Group) (reply : Reply) → IsSound t → slice_get (groups_in t.catalog) place ≡ Some seen → (is_off seen.state && seen.loaded) ≡ false
+pub paused_alone : {D : Type 0} (state : D → SiteState) (possible : D → ℕ → Held → Type 0) (t new : Stored) (k k' : Option TierJournal) (d d' : D) (ready : Ready) (place : ℕ) (leaves : Bool) (reply : Reply) → TellsLeaving t place leaves → leaves ≡ false
     → AltersAlone state possible t new k k' d d' ready Paused place reply → AltersReady state possible t new k k' d d' ready Paused place reply
-paused_alone state possible t new k k' d d' ready place seen reply sound at none alters = λ w g at_w stands apart keeps of there reads.
+paused_alone state possible t new k k' d d' ready place leaves reply told none alters = λ w g at_w stands apart keeps of there reads.
     let p = alters w g at_w stands keeps of there refl in
     record {
       world = p.world;
       at = p.at;
       stands = p.stands;
       keeps = p.keeps;
-      is = inl (subst (λ b. MatchBool b (SetsStateRefreshed place g Paused (alone place) as_it_was w p.world reply) (SetsStateAlone place g Paused w p.world reply)) (sym (leaves_stored t w place seen g sound stands at there ∙ none)) p.is);
+      is = inl (subst (λ b. MatchBool b (SetsStateRefreshed place g Paused (alone place) as_it_was w p.world reply) (SetsStateAlone place g Paused w p.world reply)) (sym (sym (told w.tier g stands.stored there) ∙ none)) p.is);
     }
 
-pub paused_with : {D : Type 0} (state : D → SiteState) (possible : D → ℕ → Held → Type 0) (t new : Stored) (k k' : Option TierJournal) (d d' : D) (ready : Ready) (place : ℕ) (seen : Group) (reply : Reply) → IsSound t → slice_get (groups_in t.catalog) place ≡ Some seen → (is_off seen.state && seen.loaded) ≡ true
+pub paused_with : {D : Type 0} (state : D → SiteState) (possible : D → ℕ → Held → Type 0) (t new : Stored) (k k' : Option TierJournal) (d d' : D) (ready : Ready) (place : ℕ) (leaves : Bool) (reply : Reply) → TellsLeaving t place leaves → leaves ≡ true
     → AltersWith state possible t new k k' d d' ready Paused place (alone place) reply → AltersReady state possible t new k k' d d' ready Paused place reply
-paused_with state possible t new k k' d d' ready place seen reply sound at some alters = λ w g at_w stands apart keeps of there reads.
+paused_with state possible t new k k' d d' ready place leaves reply told some alters = λ w g at_w stands apart keeps of there reads.
     let p = alters w g at_w stands apart keeps of there reads refl in
     record {
       world = p.world;
       at = p.at;
       stands = p.stands;
       keeps = p.keeps;
-      is = inl (subst (λ b. MatchBool b (SetsStateRefreshed place g Paused (alone place) as_it_was w p.world reply) (SetsStateAlone place g Paused w p.world reply)) (sym (leaves_stored t w place seen g sound stands at there ∙ some)) p.is);
+      is = inl (subst (λ b. MatchBool b (SetsStateRefreshed place g Paused (alone place) as_it_was w p.world reply) (SetsStateAlone place g Paused w p.world reply)) (sym (sym (told w.tier g stands.stored there) ∙ some)) p.is);
     }

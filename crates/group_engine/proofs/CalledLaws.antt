@@ -2,7 +2,7 @@
 use Rattle.std.proofs.Common.{◌≡◌, ℕ, suc, Bool, true, false, cond, ◌&&◌, ◌||◌, nat_eq, Option, Some, None, List, [], ◌∷◌, refl, sym, subst, ◌∙◌, inl}
 use Rattle.std.specs.Prelude.{Ok, Err}
 use Rattle.outside.specs.declared.fault.BankError.{BankError}
-use Rattle.group_store.specs.Stores.{Kept}
+use Rattle.stored_tier.specs.declared.refreshing.Made.{Made}
 use Rattle.order_laws.proofs.TruthLaws.{both_true}
 use Rattle.cache_tier.specs.Groups.{Group, is_on, is_read_only}
 use Rattle.cache_tier.specs.Reading.{TellsPosition, backing_at}
@@ -17,7 +17,8 @@ use Rattle.stored_tier.specs.Performing.{Performs, StandsFor}
 use Rattle.stored_tier.specs.Refreshing.{is_filled, positioned}
 use Rattle.stored_tier.specs.Sites.{IsAt}
 use Rattle.outside.specs.Sites.{SiteState}
-use Rattle.group_engine.proofs.FreshLaws.{Changes, IsRefreshed, stands_behind}
+use Rattle.group_engine.proofs.FreshGroup.{Changes}
+use Rattle.group_engine.proofs.FreshLaws.{IsRefreshed, stands_behind}
 
 same_kept : (c : Choice) (from : ℕ) (groups : List Group) → changed_from c (λ g. g) from groups ≡ groups
 same_kept c from [] = refl
@@ -51,7 +52,7 @@ set_reads interval k g e =
 pub set_groups : (interval n : ℕ) (groups : List Group) → changed_from (of_set interval None) (positioned n) 0 groups ≡ changed_from (alone 0) (λ g. g) 0 (changed_from (of_set interval None) (positioned n) 0 groups)
 set_groups interval n groups = sym (same_kept (alone 0) 0 (changed_from (of_set interval None) (positioned n) 0 groups))
 
-set_stands : (t new : Stored) (mid : World) (interval n : ℕ) (made : List (Option Kept)) → StandsFor t mid → AreFresh t mid (is_filled (of_set interval None) None) n made → IsRefreshed t new (of_set interval None) 0 (λ g. g) n made
+set_stands : (t new : Stored) (mid : World) (interval n : ℕ) (made : List (Option Made)) → StandsFor t mid → AreFresh t mid (is_filled (of_set interval None) None) n made → IsRefreshed t new (of_set interval None) 0 (λ g. g) n made
     → StandsFor new (record mid { tier = refreshed (of_set interval None) n (backing_at mid n) mid.tier })
 set_stands t new mid interval n made x fresh is =
     subst (λ (gs : List Group). StandsFor new (record mid { tier = record mid.tier { groups = gs } })) (same_kept (alone 0) 0 (changed_from (of_set interval None) (at_position n (backing_at mid n)) 0 mid.tier.groups))

@@ -53,7 +53,12 @@ use Rattle.kept_journal.specs.Drafts.{StaysKept}
 use Rattle.tier_journal.specs.declared.journal.TierJournal.{TierJournal}
 use Rattle.outside.specs.Holding.{Held}
 use Rattle.stored_tier.proofs.OverLaws.{keeps_stays}
+use Rattle.slot_rows.specs.SlotKeys.{RowsHeld}
+use Rattle.instances.specs.Views.{kept_at}
+use Rattle.stored_tier.specs.Filling.{HidesNone}
 use Rattle.stored_tier.specs.Grouping.{HasGroups, IsBareStore, KeepsGroups}
+use Rattle.stored_tier.specs.Lists.{AreListed}
+use Rattle.stored_tier.proofs.ListLaws.{hidden_long, hiding_more, kept_long, listed_more, no_rows_fit, none_listed, stores_long}
 use Rattle.stored_tier.specs.Performing.{Executes, PerformsInOver, StandsFor}
 use Rattle.outside.specs.Sites.{SiteState}
 use Rattle.stored_tier.proofs.LaterLaws.{later_more}
@@ -186,8 +191,8 @@ module _ (new_tables : HasNewTables) (writes_all : WritesAll) (apart : StandsApa
   coming_is : coming ≡ new_group t.next t.clock.now d (defined_by t.schema d tree)
   coming_is = λ i. new_group (stands.stored.next i) (stands.stored.time.moment i) d (defined_by (schema i) d tree)
 
-  module _ (law : GroupLaw) (new : Stored) (store : Kept) (bare : IsBareStore t.schema tree store)
-      (has : HasGroups t new (groups_in t.catalog ++ new_group t.next t.clock.now d (defined_by t.schema d tree) ∷ []) (t.stores.items ++ store ∷ [])) where
+  module _ (law : GroupLaw) (new : Stored) (store : Kept) (hidden : RowsHeld) (bare : IsBareStore t.schema tree store) (none : HidesNone t.schema (new_group t.next t.clock.now d (defined_by t.schema d tree)) 0 hidden)
+      (has : HasGroups t new (groups_in t.catalog ++ new_group t.next t.clock.now d (defined_by t.schema d tree) ∷ []) (t.stores.items ++ store ∷ []) (t.hidden.items ++ hidden ∷ [])) where
     pub stays : StaysShown w (with_tier (with_new_group d tree w.tier) w)
     stays = law w d tree stands.stands is_new
 
@@ -199,6 +204,8 @@ module _ (new_tables : HasNewTables) (writes_all : WritesAll) (apart : StandsApa
           map-append without_list w.tier.groups (coming ∷ [])
           ∙ ap (λ gs. gs ++ coming ∷ []) stands.stored.groups
           ∙ ap (λ g. groups_in t.catalog ++ g ∷ []) coming_is ∙ sym has.groups;
+      lists = subst (AreListed (w.tier.groups ++ coming ∷ []) new.stores.items) (sym has.hidden) (subst (λ ss. AreListed (w.tier.groups ++ coming ∷ []) ss (t.hidden.items ++ hidden ∷ [])) (sym has.stores)
+          (listed_more w.tier.groups t.stores.items t.hidden.items coming store hidden stands.stored.lists (stores_long t w.tier sound stands.stored) (hidden_long t w.tier sound stands.stored) (none_listed coming store hidden.table refl bare.keys none.none)));
       sessions = stands.stored.sessions ∙ ap (λ y. map session_seen (seen_all y)) (sym has.beside.sessions);
       unsettled = stands.stored.unsettled ∙ ap (λ u. u.items) (sym has.beside.unsettled);
       next = stands.stored.next ∙ sym has.beside.next;
@@ -241,9 +248,12 @@ defined_tree t d def x = record {
 }
 
 has_defined : (t new : Stored) (d : CreateGroup) (def : GroupDef) → IsDefinition t d def → (n : HasNewGroup t new d def)
-    → HasGroups t new (groups_in t.catalog ++ new_group t.next t.clock.now d (defined_by t.schema d def.tree) ∷ []) (t.stores.items ++ n.store ∷ [])
+    → HasGroups t new (groups_in t.catalog ++ new_group t.next t.clock.now d (defined_by t.schema d def.tree) ∷ []) (t.stores.items ++ n.store ∷ []) (t.hidden.items ++ n.hidden ∷ [])
 has_defined t new d def x n =
-    subst (λ y. HasGroups t new (groups_in t.catalog ++ new_group t.next t.clock.now d y ∷ []) (t.stores.items ++ n.store ∷ [])) x.is n.has
+    subst (λ y. HasGroups t new (groups_in t.catalog ++ new_group t.next t.clock.now d y ∷ []) (t.stores.items ++ n.store ∷ []) (t.hidden.items ++ n.hidden ∷ [])) x.is n.has
+
+none_defined : (t new : Stored) (d : CreateGroup) (def : GroupDef) → IsDefinition t d def → (n : HasNewGroup t new d def) → HidesNone t.schema (new_group t.next t.clock.now d (defined_by t.schema d def.tree)) 0 n.hidden
+none_defined t new d def x n = subst (λ y. HidesNone t.schema (new_group t.next t.clock.now d y) 0 n.hidden) x.is n.none
 
 does_create : (s : Session) (d : CreateGroup) (w w' : World) (reply : Reply) → refusal w.tier s (statement.CreateGroup d) ≡ None → CreatesGroup d w w' reply → Executes (statement.CreateGroup d) s w w' reply
 does_create s d w w' reply free is = inl (subst (λ o. Unless o (DoesStatement s (statement.CreateGroup d)) w w' reply) (sym free) is)
@@ -255,12 +265,13 @@ module _ {D : Type 0} (state : D → SiteState) (possible : D → ℕ → Held �
   group_created new_tables writes_all apart law t new k k' d d' ready id c def told reply sound x n free of fits answers is = λ s has_session w at stands unshared keeps.
       let y = defined_tree t c def x in
       let has = has_defined t new c def x n in
-      let p = answers new w (Defines c (text_of c) ∷ []) (define_answer c def.tree) at keeps (of w.tier.schema) (stands_more new_tables writes_all apart t w stands sound c def.tree y law new n.store n.bare has) refl (λ j faults moment. refl) is in
+      let none = none_defined t new c def x n in
+      let p = answers new w (Defines c (text_of c) ∷ []) (define_answer c def.tree) at keeps (of w.tier.schema) (stands_more new_tables writes_all apart t w stands sound c def.tree y law new n.store n.hidden n.bare none has) refl (λ j faults moment. refl) is in
       record {
         world = p.world;
         at = p.at;
         is = does_create s c w p.world reply (free w.tier s stands.stored has_session)
-            (creates new_tables writes_all apart t w stands sound c def.tree y law new n.store n.bare has p.world reply (full_ready state possible k d w ready (Defines c (text_of c) ∷ []) keeps (of w.tier.schema) refl ∙ fits) p.is);
+            (creates new_tables writes_all apart t w stands sound c def.tree y law new n.store n.hidden n.bare none has p.world reply (full_ready state possible k d w ready (Defines c (text_of c) ∷ []) keeps (of w.tier.schema) refl ∙ fits) p.is);
         stands = p.stands;
         keeps = p.keeps;
       }
@@ -298,8 +309,11 @@ pub sound_created : (t new : Stored) (d : CreateGroup) (def : GroupDef) → IsSo
 sound_created t new d def sound x n =
     let g = new_group t.next t.clock.now d (defined_by t.schema d def.tree) in
     let y = defined_tree t d def x in
-    sound_grouped t new (groups_in t.catalog ++ g ∷ []) (t.stores.items ++ n.store ∷ []) sound (has_defined t new d def x n)
+    let none = none_defined t new d def x n in
+    sound_grouped t new (groups_in t.catalog ++ g ∷ []) (t.stores.items ++ n.store ∷ []) (t.hidden.items ++ n.hidden ∷ []) sound (has_defined t new d def x n)
     (kept_more t.schema (groups_in t.catalog) t.stores.items g n.store sound.kept n.bare.form)
+    (hiding_more t.schema (groups_in t.catalog) t.stores.items t.hidden.items g n.store n.hidden sound.hiding (kept_long t.schema (groups_in t.catalog) t.stores.items sound.kept)
+    (record { key = none.key; room = λ hides. no_rows_fit (kept_at n.store.tables 0) n.hidden.spare (n.bare.rows 0); none = λ shows. none.none }))
     (plain_more (groups_in t.catalog) g sound.plain (plain_new g y.done))
     (names_more (groups_in t.catalog) g sound.named (new_name t.schema (definitions_of (groups_in t.catalog)) x.writes d x.unbroken))
     (whole_more t.stores.items n.store sound.whole n.bare.whole) (later_more (groups_in t.catalog) g t.unsettled.items sound.later) n.unverified

@@ -43,6 +43,8 @@ use Rattle.kept_journal.specs.Drafts.{StaysKept}
 use Rattle.tier_journal.specs.declared.journal.TierJournal.{TierJournal}
 use Rattle.outside.specs.Holding.{Held}
 use Rattle.stored_tier.proofs.OverLaws.{keeps_stays}
+use Rattle.stored_tier.specs.Lists.{AreListed}
+use Rattle.stored_tier.proofs.ListLaws.{hiding_less, kept_long, listed_less}
 use Rattle.stored_tier.specs.Grouping.{KeepsGroups}
 use Rattle.stored_tier.specs.Performing.{Executes, PerformsInOver, PerformsOver, StandsFor, reply_of}
 use Rattle.outside.specs.Sites.{SiteState}
@@ -66,8 +68,9 @@ session_there t a id s is has =
 -- the parts are sound without the group
 pub sound_without : (t new : Stored) (place : ℕ) → IsSound t → (is_written_at (groups_in t.catalog) place ≡ true → t.unsettled.items ≡ []) → IsWithoutGroup t new place → IsSound new
 sound_without t new place sound settled without =
-    sound_grouped t new (remove (groups_in t.catalog) place) (remove t.stores.items place) sound without.has
-    (kept_less t.schema (groups_in t.catalog) t.stores.items place sound.kept) (plain_less (groups_in t.catalog) place sound.plain)
+    sound_grouped t new (remove (groups_in t.catalog) place) (remove t.stores.items place) (remove t.hidden.items place) sound without.has
+    (kept_less t.schema (groups_in t.catalog) t.stores.items place sound.kept)
+    (hiding_less t.schema (groups_in t.catalog) t.stores.items t.hidden.items place sound.hiding (kept_long t.schema (groups_in t.catalog) t.stores.items sound.kept)) (plain_less (groups_in t.catalog) place sound.plain)
     (names_less (groups_in t.catalog) place sound.named) (whole_less t.stores.items place sound.whole) (later (is_written_at (groups_in t.catalog) place) refl) without.unverified
   where
     later : (b : Bool) → is_written_at (groups_in t.catalog) place ≡ b → are_later (remove (groups_in t.catalog) place) t.unsettled.items ≡ true
@@ -107,6 +110,8 @@ module _ (law : DropLaw) (numbers : NumberLaw) (t new : Stored) (id : SessionId)
       schema = stands.stored.schema ∙ sym without.has.beside.schema;
       stale = stands.stored.stale ∙ sym without.has.beside.stale;
       groups = ap (map without_list) left ∙ map_less without_list w.tier.groups place ∙ ap (λ gs. remove gs place) stands.stored.groups ∙ sym without.has.groups;
+      lists = subst (λ gs. AreListed gs new.stores.items new.hidden.items) (sym left) (subst (AreListed (remove w.tier.groups place) new.stores.items) (sym without.has.hidden)
+          (subst (λ ss. AreListed (remove w.tier.groups place) ss (remove t.hidden.items place)) (sym without.has.stores) (listed_less w.tier.groups t.stores.items t.hidden.items place stands.stored.lists)));
       sessions = stands.stored.sessions ∙ ap (λ y. map session_seen (seen_all y)) (sym without.has.beside.sessions);
       unsettled = stands.stored.unsettled ∙ ap (λ u. u.items) (sym without.has.beside.unsettled);
       next = stands.stored.next ∙ sym without.has.beside.next;
@@ -271,6 +276,7 @@ same_groups t = record {
   beside = record { schema = refl; stale = refl; sessions = refl; unsettled = refl; writers = refl; next = refl; clock = refl };
   groups = refl;
   stores = refl;
+  hidden = refl;
   visible = refl;
   directory = refl;
   verified = refl;

@@ -1,6 +1,7 @@
--- A store that is filled with a view of a state keeps that view.
-use Rattle.std.proofs.Common.{◌≡◌, ℕ, zero, suc, ◌+◌, Bool, true, false, cond, ◌&&◌, ◌||◌, nat_eq, Option, Some, None, is_some, List, [], ◌∷◌, ◌++◌, length, map, slice_get, unwrap_or, refl, sym, ap, subst, ◌∙◌, arith}
+-- A store that is made anew of a state shows what its group does of that.
+use Rattle.std.proofs.Common.{◌≡◌, ℕ, zero, suc, ◌+◌, Bool, true, false, cond, not, ◌&&◌, ◌||◌, nat_eq, Option, Some, None, is_some, List, [], ◌∷◌, ◌++◌, length, map, slice_get, unwrap_or, refl, sym, ap, subst, ◌∙◌, arith}
 use Rattle.std.proofs.lemmas.Bool.{eq-eqb}
+use Rattle.std.proofs.lemmas.List.{length-map}
 use Rattle.std.specs.Option.{option_map, option_or}
 use Rattle.std.specs.FinMap as fm
 use Rattle.std.specs.FinMap.{empty}
@@ -16,24 +17,34 @@ use Rattle.table_state.specs.Tables.{TableState, table_at}
 use Rattle.instances.specs.declared.tree.Child.{Child}
 use Rattle.instances.specs.declared.tree.Tree.{Tree}
 use Rattle.instances.specs.Trees.{is_sound, table_of}
-use Rattle.instances.specs.Views.{child_rows, is_kept, kept_at, passes, refers_to_one, root_rows, rows_where, selects, view_of, with_children}
+use Rattle.instances.specs.Views.{child_rows, is_kept, kept_at, passes, refers_to_one, root_rows, rows_where, selects, with_children}
 use Rattle.instances.proofs.Gathering.{get_where}
 use Rattle.slot_rows.specs.SlotKeys.{IsKeyedBy}
 use Rattle.cache_store.specs.Operating.{change_at}
 use Rattle.cache_store.specs.Shown.{shown_of, with_rows}
 use Rattle.cache_store.proofs.AboveLaws.{above}
-use Rattle.cache_store.proofs.JoinLaws.{get_with_rows, shown_all}
+use Rattle.cache_store.proofs.JoinLaws.{get_with_rows}
 use Rattle.cache_store.proofs.OwnLaws.{keeps}
-use Rattle.cache_store.proofs.ShownLaws.{view_length}
+use Rattle.cache_store.proofs.ShownLaws.{shown_length}
 use Rattle.group_store.specs.Keeping.{IsFor, layer_for}
-use Rattle.group_store.specs.Stores.{Kept, SameButSpare, put_rows, put_store, put_tables}
+use Rattle.group_store.specs.Stores.{Kept, put_rows, put_store, put_tables, touched_store}
 use Rattle.group_store.specs.Trees.{key_at}
 use Rattle.cache_tier.proofs.ShownTables.{defined_in, some_def}
 use Rattle.stored_tier.proofs.StoreForms.{key_for, primary}
 use Rattle.cache_tier.specs.Commits.{tables_of}
 use Rattle.cache_tier.proofs.SoundStates.{IsSoundState}
 use Rattle.cache_tier.proofs.ShownTrees.{sound_later}
-use Rattle.stored_tier.specs.Filling.{bare_store, viewed_store}
+use Rattle.stored_tier.proofs.GatherLaws.{get_chosen}
+use Rattle.stored_tier.proofs.PutLaws.{long_tables}
+use Rattle.stored_tier.specs.declared.refreshing.Made.{Made}
+use Rattle.stored_tier.specs.Choosing.{chosen}
+use Rattle.stored_tier.specs.Filling.{bare_store, comes_anew, is_held, ordered, roots_anew, tables_anew, touched_all}
+use Rattle.stored_tier.specs.Lists.{IsHidingFor, is_by_use}
+use Rattle.stored_tier.specs.Refreshing.{IsMadeAnew}
+use Rattle.cache_tier.specs.Groups.{Group}
+use Rattle.cache_tier.specs.Shown.{exceeds}
+use Rattle.evaluator.specs.Cascades.{key_in}
+use Rattle.group_engine.specs.Fresh.{IsFreshFor, is_fresh, keys_touched}
 
 abbrev Row : Type 0
 Row = List Value
@@ -166,8 +177,8 @@ module _ (schema more : List TableDef) (tree : Tree) (sound : is_sound schema tr
         spare = 0;
       }
 
--- the rows of a view stand under their keys
-module _ (s : TableState) (tree : Tree) (is : IsSoundState s) (sound : is_sound s.schema tree ≡ true) where
+-- the rows that are shown stand under their keys
+module _ (s : TableState) (tree : Tree) (test : Row → Bool) (is : IsSoundState s) (sound : is_sound s.schema tree ≡ true) where
   abbrev k : Kept
   k = bare_store s.schema tree
 
@@ -183,31 +194,30 @@ module _ (s : TableState) (tree : Tree) (is : IsSoundState s) (sound : is_sound 
   in_table true v row e = e
   in_table false v row e = Prim.cc
 
-  view_keyed : (place : ℕ) → IsKeyedBy (key_at k.key k.layers place) (kept_at (shown_of s tree (λ key. true)) place)
-  view_keyed zero key row e =
+  shown_keyed : (place : ℕ) → IsKeyedBy (key_at k.key k.layers place) (kept_at (shown_of s tree test) place)
+  shown_keyed zero key row e =
       let R = root_rows s tree.root in
-      let first = ap (λ t. fm.get t key) (sym (keeps s tree.children (fm.retain_keys R (λ key. true) ∷ []) 0 (Prim.omega arith))) ∙ e in
-      let kept = in_table true (fm.get R key) row (sym (fm.get-retain_keys R (λ key. true) key (λ x tie. refl)) ∙ first) in
+      let first = ap (λ t. fm.get t key) (sym (keeps s tree.children (fm.retain_keys R test ∷ []) 0 (Prim.omega arith))) ∙ e in
+      let kept = in_table (test key) (fm.get R key) row (sym (fm.get-retain_keys R test key (λ x tie. ap test (sym (key_exact key x tie)))) ∙ first) in
       let found = in_table (passes (selects tree.root.filter) (fm.get (table_at s tree.root.table) key)) (fm.get (table_at s tree.root.table) key) row (sym (get_where (selects tree.root.filter) (table_at s tree.root.table) key) ∙ kept) in
       under 0 tree.root.table refl key row found
-  view_keyed (suc i) key row e =
-      let a = above s tree (λ key. true) i key row e in
+  shown_keyed (suc i) key row e =
+      let a = above s tree test i key row e in
       under (suc i) a.child.table (ap (option_map (λ (c : Child). c.table)) a.there) key row a.found
 
   at_place_of : (bs : List Table) (i : ℕ) (b : Table) → slice_get bs i ≡ Some b → kept_at bs i ≡ b
   at_place_of bs i b e = ap (λ o. unwrap_or o empty) e
 
-  are_keyed : AreKeyed 0 (view_of s tree) (bare_store s.schema tree)
+  are_keyed : AreKeyed 0 (shown_of s tree test) (bare_store s.schema tree)
   are_keyed i b at =
       let z : 0 + i ≡ i = Prim.omega arith in
-      subst (IsKeyedBy (key_at k.key k.layers (0 + i))) (at_place_of (view_of s tree) i b at)
-      (subst (λ p. IsKeyedBy (key_at k.key k.layers p) (kept_at (view_of s tree) i)) (sym z)
-      (subst (λ ts. IsKeyedBy (key_at k.key k.layers i) (kept_at ts i)) (shown_all s tree) (view_keyed i)))
+      subst (IsKeyedBy (key_at k.key k.layers (0 + i))) (at_place_of (shown_of s tree test) i b at)
+      (subst (λ p. IsKeyedBy (key_at k.key k.layers p) (kept_at (shown_of s tree test) i)) (sym z) (shown_keyed i))
 
-  pub filled_here : (viewed_store s.schema tree s).tables ≡ view_of s tree
+  pub filled_here : (put_tables 0 (map fm.values (shown_of s tree test)) (bare_store s.schema tree)).tables ≡ shown_of s tree test
   filled_here =
-      tables_in 0 (view_of s tree) (bare_store s.schema tree) are_keyed
-      ∙ by (view_of s tree) (view_length s tree)
+      tables_in 0 (shown_of s tree test) (bare_store s.schema tree) are_keyed
+      ∙ by (shown_of s tree test) (shown_length s tree test)
     where
       by : (bs : List Table) → length bs ≡ 1 + length tree.children → changed_from 0 bs (empty ∷ empties tree.children) ≡ bs
       by [] long = absurd (Prim.omega (arith, long))
@@ -215,7 +225,14 @@ module _ (s : TableState) (tree : Tree) (is : IsSoundState s) (sound : is_sound 
           shifted 0 bs (with_rows empty (fm.entries b)) (empties tree.children)
           ∙ (let first = from_empty b in let rest = all_changed tree.children bs (Prim.omega (arith, long)) in λ i. first i ∷ rest i)
 
--- A copy of the tables of a tree has the view of the tree.
+  -- a root row stands under its key
+  pub root_under : (key row : Row) → fm.get (root_rows s tree.root) key ≡ Some row → key_in (slice_get s.schema tree.root.table.0) row ≡ key
+  root_under key row e =
+      let d = some_def (slice_get s.schema tree.root.table.0) (defined_in s.schema tree 0 tree.root.table sound refl) in
+      let found = in_table (passes (selects tree.root.filter) (fm.get (table_at s tree.root.table) key)) (fm.get (table_at s tree.root.table) key) row (sym (get_where (selects tree.root.filter) (table_at s tree.root.table) key) ∙ e) in
+      ap (λ o. key_in o row) d.1 ∙ is.keyed tree.root.table d.0 d.1 key row found
+
+-- A copy of the tables of a tree has the same rows of it.
 
 first_one : (t : TableId) (tables : List TableId) → is_one_of (t ∷ tables) t ≡ true
 first_one t tables = ap (λ (b : Bool). b || is_one_of tables t) (eq-eqb t.0 t.0 refl)
@@ -239,22 +256,93 @@ module _ (s copy : TableState) (schema : copy.schema ≡ s.schema) where
       ap (λ (t : Table). with_children copy children (kept ++ t ∷ [])) (child_copied (kept_at kept child.parent) child (rows child.table (first_one child.table (map (λ (c : Child). c.table) children))))
       ∙ children_copied children (kept ++ child_rows s (kept_at kept child.parent) child ∷ []) (λ t e. rows t (later_one child.table t (map (λ (c : Child). c.table) children) e))
 
-  pub view_copied : (tree : Tree) → ((t : TableId) → is_one_of (tables_of tree) t ≡ true → table_at copy t ≡ table_at s t) → view_of copy tree ≡ view_of s tree
-  view_copied tree rows =
-      ap (λ (t : Table). with_children copy tree.children (rows_where (selects tree.root.filter) t ∷ [])) (rows tree.root.table (first_one tree.root.table (map (λ (c : Child). c.table) tree.children)))
-      ∙ children_copied tree.children (root_rows s tree.root ∷ []) (λ t e. rows t (later_one tree.root.table t (map (λ (c : Child). c.table) tree.children) e))
+  -- with what comes of it
+  pub anew_copied : (g : Group) (old : Kept) (hidden : Table) → ((t : TableId) → is_one_of (tables_of g.def.tree) t ≡ true → table_at copy t ≡ table_at s t) → tables_anew copy g old hidden ≡ tables_anew s g old hidden
+  anew_copied g old hidden rows =
+      let tree = g.def.tree in
+      ap (λ (t : Table). with_children copy tree.children (chosen (comes_anew g old hidden) t ∷ [])) (rows tree.root.table (first_one tree.root.table (map (λ (c : Child). c.table) tree.children)))
+      ∙ children_copied tree.children (roots_anew s g old hidden ∷ []) (λ t e. rows t (later_one tree.root.table t (map (λ (c : Child). c.table) tree.children) e))
 
--- a store that is filled from a copy of a tree's tables keeps the view of the state
-pub filled_from : (s copy : TableState) (schema more : List TableDef) (tree : Tree) (x : Kept) → IsSoundState s → is_sound schema tree ≡ true → s.schema ≡ schema ++ more → copy.schema ≡ s.schema
-    → ((t : TableId) → is_one_of (tables_of tree) t ≡ true → table_at copy t ≡ table_at s t) → SameButSpare (viewed_store schema tree copy) x → x.tables ≡ view_of s tree
-filled_from s copy schema more tree x is sound front same rows filled =
-    filled.tables
-    ∙ ap (λ v. (put_tables 0 (map fm.values v) (bare_store schema tree)).tables) (view_copied s copy same tree rows)
-    ∙ ap (λ b. (put_tables 0 (map fm.values (view_of s tree)) b).tables) (sym (bare_later schema more tree sound) ∙ ap (λ defs. bare_store defs tree) (sym front))
-    ∙ filled_here s tree is (subst (λ defs. is_sound defs tree ≡ true) (sym front) (sound_later schema more tree sound))
+-- the roots that come are those of the view that pass
+roots_are : (s : TableState) (g : Group) (old : Kept) (hidden : Table) → roots_anew s g old hidden ≡ fm.retain_keys (root_rows s g.def.tree.root) (is_fresh s g old hidden)
+roots_are s g old hidden = fm.same_map key_total key_exact (roots_anew s g old hidden) (fm.retain_keys (root_rows s g.def.tree.root) (is_fresh s g old hidden)) (λ q.
+    get_chosen (comes_anew g old hidden) (table_at s g.def.tree.root.table) q ∙ by q (fm.get (table_at s g.def.tree.root.table) q) refl
+    ∙ sym (fm.get-retain_keys (root_rows s g.def.tree.root) (is_fresh s g old hidden) q (λ x tie. ap (is_fresh s g old hidden) (sym (key_exact q x tie)))))
+  where
+    by : (q : Row) (o : Option Row) → fm.get (table_at s g.def.tree.root.table) q ≡ o → cond (passes (comes_anew g old hidden q) o) o None ≡ cond (is_fresh s g old hidden q) (fm.get (root_rows s g.def.tree.root) q) None
+    by q None e =
+        let none : fm.get (root_rows s g.def.tree.root) q ≡ None = get_where (selects g.def.tree.root.filter) (table_at s g.def.tree.root.table) q ∙ ap (λ o. cond (passes (selects g.def.tree.root.filter) o) o None) e in
+        sym (no_row (is_fresh s g old hidden q) (fm.get (root_rows s g.def.tree.root) q) none)
+      where
+        no_row : (b : Bool) (o : Option Row) → o ≡ None → cond b o None ≡ None
+        no_row true o e = e
+        no_row false o e = refl
+    by q (Some row) e =
+        let there : fm.get (root_rows s g.def.tree.root) q ≡ cond (selects g.def.tree.root.filter row) (Some row) None = get_where (selects g.def.tree.root.filter) (table_at s g.def.tree.root.table) q ∙ ap (λ o. cond (passes (selects g.def.tree.root.filter) o) o None) e in
+        pick (not g.def.dynamic || is_held old hidden q) (selects g.def.tree.root.filter row)
+        ∙ ap (λ o. cond ((not g.def.dynamic || is_held old hidden q) && passes (exceeds g) o) o None) (sym there)
+      where
+        pick : (a b : Bool) → cond (a && (b && exceeds g row)) (Some row) None ≡ cond (a && passes (exceeds g) (cond b (Some row) None)) (cond b (Some row) None) None
+        pick true true = refl
+        pick true false = refl
+        pick false true = refl
+        pick false false = refl
+
+pub shown_anew : (s : TableState) (g : Group) (old : Kept) (hidden : Table) → tables_anew s g old hidden ≡ shown_of s g.def.tree (is_fresh s g old hidden)
+shown_anew s g old hidden = ap (λ t. with_children s g.def.tree.children (t ∷ [])) (roots_are s g old hidden)
+
+-- only keys are put in order
+
+touched_form : (keys : List Row) (s : Kept) → Form s (touched_all keys s) × ((touched_all keys s).tables ≡ s.tables) × ((touched_all keys s).keys ≡ keys_touched keys s.keys)
+touched_form [] s = (record { table = refl; key = refl; foreign = refl; layers = refl }, refl, refl)
+touched_form (key ∷ keys) s =
+    let rest = touched_form keys (touched_store key s) in
+    (record { table = rest.0.table; key = rest.0.key; foreign = rest.0.foreign; layers = rest.0.layers }, rest.1, rest.2)
+
+ordered_form : (g : Group) (old s : Kept) → Form s (ordered g old s) × ((ordered g old s).tables ≡ s.tables)
+ordered_form g old s = by (is_by_use g.def.aging)
+  where
+    by : (b : Bool) → Form s (cond b (touched_all old.keys s) s) × ((cond b (touched_all old.keys s) s).tables ≡ s.tables)
+    by true = let f = touched_form old.keys s in (f.0, f.1)
+    by false = (record { table = refl; key = refl; foreign = refl; layers = refl }, refl)
+
+ordered_keys : (g : Group) (old s : Kept) → is_by_use g.def.aging ≡ true → (ordered g old s).keys ≡ keys_touched old.keys s.keys
+ordered_keys g old s leaves = ap (λ b. (cond b (touched_all old.keys s) s).keys) leaves ∙ (touched_form old.keys s).2
+
+-- what is made from a copy of a group's tables shows what the group does of the state
+pub filled_from : (s copy : TableState) (schema more : List TableDef) (g : Group) (old : Kept) (hidden : Table) (m : Made) → IsSoundState s → is_sound schema g.def.tree ≡ true → s.schema ≡ schema ++ more → copy.schema ≡ s.schema
+    → ((t : TableId) → is_one_of (tables_of g.def.tree) t ≡ true → table_at copy t ≡ table_at s t) → IsMadeAnew schema copy g old hidden m → IsFreshFor s g old hidden m
+filled_from s copy schema more g old hidden m is sound front same rows made = record {
+  rows =
+      made.store.tables
+      ∙ (ordered_form g old (put_tables 0 (map fm.values (tables_anew copy g old hidden)) (bare_store schema g.def.tree))).1
+      ∙ ap (λ v. (put_tables 0 (map fm.values v) (bare_store schema g.def.tree)).tables) (anew_copied s copy same g old hidden rows ∙ shown_anew s g old hidden)
+      ∙ ap (λ b. (put_tables 0 (map fm.values (shown_of s g.def.tree (is_fresh s g old hidden))) b).tables) (sym (bare_later schema more g.def.tree sound) ∙ ap (λ defs. bare_store defs g.def.tree) (sym front))
+      ∙ filled_here s g.def.tree (is_fresh s g old hidden) is (subst (λ defs. is_sound defs g.def.tree ≡ true) (sym front) (sound_later schema more g.def.tree sound));
+  before = (put_tables 0 (map fm.values (tables_anew copy g old hidden)) (bare_store schema g.def.tree)).keys;
+  order = λ leaves. made.store.keys ∙ ordered_keys g old (put_tables 0 (map fm.values (tables_anew copy g old hidden)) (bare_store schema g.def.tree)) leaves;
+  old = made.old;
+  new = made.new;
+  bare = made.hiding.none;
+}
 
 -- and has the tables of the tree
-pub filled_form : (copy : TableState) (schema : List TableDef) (tree : Tree) (x : Kept) → SameButSpare (viewed_store schema tree copy) x → IsFor schema tree x
-filled_form copy schema tree x filled =
-    let f = form_tables 0 (map fm.values (view_of copy tree)) (bare_store schema tree) in
-    record { table = filled.table ∙ f.table; key = filled.key ∙ f.key; foreign = filled.foreign ∙ f.foreign; layers = filled.layers ∙ f.layers }
+pub filled_form : (copy : TableState) (schema : List TableDef) (g : Group) (old : Kept) (hidden : Table) (m : Made) → IsMadeAnew schema copy g old hidden m → IsFor schema g.def.tree m.store
+filled_form copy schema g old hidden m made =
+    let put = put_tables 0 (map fm.values (tables_anew copy g old hidden)) (bare_store schema g.def.tree) in
+    let f = form_tables 0 (map fm.values (tables_anew copy g old hidden)) (bare_store schema g.def.tree) in
+    let o = (ordered_form g old put).0 in
+    let filled = made.store in
+    record { table = filled.table ∙ o.table ∙ f.table; key = filled.key ∙ o.key ∙ f.key; foreign = filled.foreign ∙ o.foreign ∙ f.foreign; layers = filled.layers ∙ o.layers ∙ f.layers }
+
+-- a table for each
+pub filled_long : (copy : TableState) (schema : List TableDef) (g : Group) (old : Kept) (hidden : Table) (m : Made) → IsMadeAnew schema copy g old hidden m → length m.store.tables ≡ suc (length m.store.layers)
+filled_long copy schema g old hidden m made =
+    let put = put_tables 0 (map fm.values (tables_anew copy g old hidden)) (bare_store schema g.def.tree) in
+    let form = filled_form copy schema g old hidden m made in
+    ap (λ (ts : List Table). length ts) (made.store.tables ∙ (ordered_form g old put).1)
+    ∙ long_tables 0 (map fm.values (tables_anew copy g old hidden)) (bare_store schema g.def.tree)
+    ∙ ap suc (length-map g.def.tree.children (λ (c : Child). empty) ∙ sym (length-map g.def.tree.children (layer_for schema)) ∙ ap length (sym form.layers))
+
+pub filled_hiding : (copy : TableState) (schema : List TableDef) (g : Group) (old : Kept) (hidden : Table) (m : Made) → IsMadeAnew schema copy g old hidden m → IsHidingFor schema g m.store m.hidden
+filled_hiding copy schema g old hidden m made = record { key = made.hiding.key; room = made.hiding.room; none = λ shows. made.hiding.none }

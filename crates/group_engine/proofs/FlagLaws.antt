@@ -7,7 +7,9 @@ use Rattle.table_defs.specs.declared.definition.TableDef.{TableDef}
 use Rattle.group_store.specs.Stores.{Kept}
 use Rattle.order_laws.proofs.TruthLaws.{never_both, same_some}
 use Rattle.cache_tier.specs.declared.group.GroupDef.{GroupDef}
-use Rattle.cache_tier.specs.Groups.{Group, covers, is_table_of}
+use Rattle.row_types.specs.declared.value.Value.{Value}
+use Rattle.cache_tier.specs.Groups.{Group, covers, is_explicit, is_table_of, is_writethrough, with_keys}
+use Rattle.cache_tier.specs.Targets.{has_flag, with_flag}
 use Rattle.cache_tier.specs.Routes.{hidden, hidden_where}
 use Rattle.cache_tier.specs.Sets.{Choice, alone, changed_from}
 use Rattle.cache_tier.specs.StandingBetween.{HaveOwnTables}
@@ -147,3 +149,21 @@ own_place (x ∷ groups) (suc i) zero g h u own at other c d =
     let same : x ≡ h = cc in
     absurd (never_both (list_any (covers u) groups) (listed groups i g u at c) (own.0 u (ap (covers u) same ∙ d)))
 own_place (x ∷ groups) (suc i) (suc j) g h u own at other c d = ap suc (own_place groups i j g h u own.1 at other c d)
+
+-- a group with more keys, whose flag is set
+flag_on : (b : Bool) (g : Group) → (cond b (record g { loaded = true }) g).def ≡ g.def
+flag_on true g = refl
+flag_on false g = refl
+
+pub flag_def : (more : List (List Value)) (g : Group) → (with_flag true (record g { keys = with_keys more g.keys })).def ≡ g.def
+flag_def more g = flag_on (has_flag (record g { keys = with_keys more g.keys })) (record g { keys = with_keys more g.keys })
+
+pub flag_keys : (more : List (List Value)) (g : Group) → (with_flag true (record g { keys = with_keys more g.keys })).keys ≡ with_keys more g.keys
+flag_keys more g = by (has_flag (record g { keys = with_keys more g.keys }))
+  where
+    by : (b : Bool) → (cond b (record g { keys = with_keys more g.keys; loaded = true }) (record g { keys = with_keys more g.keys })).keys ≡ with_keys more g.keys
+    by true = refl
+    by false = refl
+
+pub flag_seen : (more : List (List Value)) (g : Group) → is_writethrough g ≡ true → without_list (with_flag true (record g { keys = with_keys more g.keys })) ≡ as_loaded (without_list g)
+flag_seen more g writes = ap (λ b. without_list (cond (b || is_explicit g) (record g { keys = with_keys more g.keys; loaded = true }) (record g { keys = with_keys more g.keys }))) writes

@@ -26,7 +26,9 @@ use Rattle.cache_tier.specs.StandingBetween.{HasNoTableOf}
 use Rattle.tier_statements.specs.Seen.{session_seen}
 use Rattle.stored_tier.proofs.WriterLaws.{writers_same}
 use Rattle.stored_tier.specs.declared.tier.Tier.{Tier as Stored}
+use Rattle.slot_rows.specs.SlotKeys.{RowsHeld}
 use Rattle.stored_tier.specs.Grouping.{HasGroups, IsBareStore, KeepsGroups}
+use Rattle.stored_tier.specs.Lists.{AreHiding, AreListed}
 use Rattle.stored_tier.specs.Performing.{StandsFor}
 use Rattle.stored_tier.specs.Stored.{AreKept, AreWhole, IsSound, KeepsTime, ShowsRows, are_later, named_where_cached, rows_of, without_list}
 use Rattle.group_catalog.specs.Catalogs.{HaveOwnNames, is_plain}
@@ -105,8 +107,8 @@ whole_more stores s whole one k x at = by (last_cases stores s k x at)
 
 -- what holds of the parts
 
-pub sound_grouped : (t new : Stored) (groups : List Group) (stores : List Kept) → IsSound t → HasGroups t new groups stores → AreKept t.schema groups stores → list_all is_plain groups ≡ true → HaveOwnNames groups → AreWhole stores → are_later groups t.unsettled.items ≡ true → new.verified ≡ false → IsSound new
-sound_grouped t new groups stores sound has are plain named whole later unverified =
+pub sound_grouped : (t new : Stored) (groups : List Group) (stores : List Kept) (hidden : List RowsHeld) → IsSound t → HasGroups t new groups stores hidden → AreKept t.schema groups stores → AreHiding t.schema groups stores hidden → list_all is_plain groups ≡ true → HaveOwnNames groups → AreWhole stores → are_later groups t.unsettled.items ≡ true → new.verified ≡ false → IsSound new
+sound_grouped t new groups stores hidden sound has are hiding plain named whole later unverified =
     let schema = has.beside.schema in
     let kept : AreKept new.schema (groups_in new.catalog) new.stores.items =
     subst (λ gs. AreKept new.schema gs new.stores.items) (sym has.groups) (subst (λ ss. AreKept new.schema groups ss) (sym has.stores) (subst (λ defs. AreKept defs groups stores) (sym schema) are)) in
@@ -118,6 +120,7 @@ sound_grouped t new groups stores sound has are plain named whole later unverifi
       };
       kept = kept;
       whole = subst AreWhole (sym has.stores) whole;
+      hiding = subst (λ hs. AreHiding new.schema (groups_in new.catalog) new.stores.items hs) (sym has.hidden) (subst (λ gs. AreHiding new.schema gs new.stores.items hidden) (sym has.groups) (subst (λ ss. AreHiding new.schema groups ss hidden) (sym has.stores) (subst (λ defs. AreHiding defs groups stores hidden) (sym schema) hiding)));
       plain = ap (list_all is_plain) has.groups ∙ plain;
       named = subst HaveOwnNames (sym has.groups) named;
       visible = has.visible ∙ (λ i. named_where_cached (sym has.groups i) (sym schema i));
@@ -141,6 +144,7 @@ sound_kept t new sound keeps = record {
   stores = subst (AreHoused new.schema new.stores.items) (sym keeps.directory) (subst (λ ss. AreHoused new.schema ss t.directory) (sym keeps.stores) (subst (λ defs. AreHoused defs t.stores.items t.directory) (sym keeps.beside.schema) sound.stores));
   kept = subst (λ gs. AreKept new.schema gs new.stores.items) (sym keeps.groups) (subst (λ ss. AreKept new.schema (groups_in t.catalog) ss) (sym keeps.stores) (subst (λ defs. AreKept defs (groups_in t.catalog) t.stores.items) (sym keeps.beside.schema) sound.kept));
   whole = subst AreWhole (sym keeps.stores) sound.whole;
+  hiding = subst (λ hs. AreHiding new.schema (groups_in new.catalog) new.stores.items hs) (sym keeps.hidden) (subst (λ gs. AreHiding new.schema gs new.stores.items t.hidden.items) (sym keeps.groups) (subst (λ ss. AreHiding new.schema (groups_in t.catalog) ss t.hidden.items) (sym keeps.stores) (subst (λ defs. AreHiding defs (groups_in t.catalog) t.stores.items t.hidden.items) (sym keeps.beside.schema) sound.hiding)));
   plain = ap (list_all is_plain) keeps.groups ∙ sound.plain;
   named = subst HaveOwnNames (sym keeps.groups) sound.named;
   visible = keeps.visible ∙ sound.visible ∙ (λ i. named_where_cached (sym keeps.groups i) (sym keeps.beside.schema i));
@@ -161,6 +165,7 @@ stands_kept t new w stands keeps = record {
     schema = stands.stored.schema ∙ sym keeps.beside.schema;
     stale = stands.stored.stale ∙ sym keeps.beside.stale;
     groups = stands.stored.groups ∙ sym keeps.groups;
+    lists = subst (AreListed w.tier.groups new.stores.items) (sym keeps.hidden) (subst (λ ss. AreListed w.tier.groups ss t.hidden.items) (sym keeps.stores) stands.stored.lists);
     sessions = stands.stored.sessions ∙ ap (λ x. map session_seen (seen_all x)) (sym keeps.beside.sessions);
     unsettled = stands.stored.unsettled ∙ ap (λ u. u.items) (sym keeps.beside.unsettled);
     next = stands.stored.next ∙ sym keeps.beside.next;

@@ -9,14 +9,19 @@ pub mod DroppingLaws
 pub mod Exchanged
 pub mod FillLaws
 pub mod FlagLaws
+pub mod ChangedLists
+pub mod FreshGroup
 pub mod FreshLaws
+pub mod FreshLists
 pub mod GroupComes
 pub mod GroupGoes
 pub mod GroupRows
 pub mod GroupingLaws
+pub mod ListsKept
 pub mod LoadLaws
 pub mod LoadingLaws
 pub mod MatchLaws
+pub mod PutKeys
 pub mod ReadLaws
 pub mod ReadOnlyUnloads
 pub mod ReadyLaws
@@ -32,6 +37,7 @@ pub mod UnloadAims
 pub mod UnloadDone
 pub mod UnloadHeld
 pub mod UnloadLaws
+pub mod UnloadLists
 pub mod UnloadWhole
 pub mod UnloadWithin
 pub mod WholeLaws

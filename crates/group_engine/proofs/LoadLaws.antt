@@ -171,6 +171,10 @@ module _ (t : Stored) (w : World) (sound : IsSound t) (stands : StandsFor t w) (
       ap (λ ps. key_of ps row) (key_for t.schema tree store form i u is ∙ primary t.schema u d stored)
       ∙ read.known.sound.keyed u d (defined_later u d d_is) key row found
 
+  -- so do the roots
+  pub roots_keyed : IsKeyedBy store.key (table_at v tree.root.table)
+  roots_keyed key row found = under 0 tree.root.table refl key row found
+
   in_table : (b : Bool) (o : Option Row) (row : Row) → cond b o None ≡ Some row → o ≡ Some row
   in_table true o row e = e
   in_table false o row e = cc

@@ -161,6 +161,30 @@ module _ (R : Table) (keys : List Row) (store : Kept) (which : ResolvedWhich) (h
       ap (λ b. cond b (y ∷ filter p ys) (filter p ys)) (same 0 y refl)
       ∙ ap (λ zs. cond (q y) (y ∷ zs) zs) (filter_alike p q ys (λ i z at. same (suc i) z at))
 
+  filter_map : {A B : Type 0} (n : B → Bool) (f : A → B) (p : A → Bool) (xs : List A) → filter n (map f (filter p xs)) ≡ map f (filter (λ y. p y && n (f y)) xs)
+  filter_map n f p [] = refl
+  filter_map n f p (y ∷ ys) = by (p y) (filter_map n f p ys)
+    where
+      of : (b : Bool) → filter n (map f (filter p ys)) ≡ map f (filter (λ z. p z && n (f z)) ys) → cond b (f y ∷ filter n (map f (filter p ys))) (filter n (map f (filter p ys))) ≡ map f (cond b (y ∷ filter (λ z. p z && n (f z)) ys) (filter (λ z. p z && n (f z)) ys))
+      of true e = ap (λ zs. f y ∷ zs) e
+      of false e = e
+
+      by : (b : Bool) → filter n (map f (filter p ys)) ≡ map f (filter (λ z. p z && n (f z)) ys)
+          → filter n (map f (cond b (y ∷ filter p ys) (filter p ys))) ≡ map f (cond (b && n (f y)) (y ∷ filter (λ z. p z && n (f z)) ys) (filter (λ z. p z && n (f z)) ys))
+      by true e = of (n (f y)) e
+      by false e = e
+
+  -- the keys that come, in their order
+  pub coming_keys : filter (λ key. not (is_key keys key)) (fm.keys (chosen (matches_at which) R)) ≡ fm.keys (chosen (comes which store) R)
+  coming_keys =
+      ap (λ (es : List (Row × Row)). filter (λ key. not (is_key keys key)) (map (λ e. e.0) es)) (entries_kept R (λ k. passes (matches_at which k) (fm.get R k)))
+      ∙ filter_map (λ key. not (is_key keys key)) (λ (e : Row × Row). e.0) (λ e. passes (matches_at which e.0) (fm.get R e.0)) (fm.entries R)
+      ∙ ap (map (λ (e : Row × Row). e.0)) (filter_alike (λ (e : Row × Row). passes (matches_at which e.0) (fm.get R e.0) && not (is_key keys e.0)) (λ e. passes (comes which store e.0) (fm.get R e.0)) (fm.entries R) (λ i e at.
+      ap (λ o. passes (matches_at which e.0) o && not (is_key keys e.0)) (entry_found R i e at)
+      ∙ ap (λ b. matches_at which e.0 e.1 && not b) (sym (has e.0 e.1 (entry_found R i e at)))
+      ∙ sym (ap (passes (comes which store e.0)) (entry_found R i e at))))
+      ∙ sym (ap (λ (es : List (Row × Row)). map (λ e. e.0) es) (entries_kept R (λ k. passes (comes which store k) (fm.get R k))))
+
   -- how many come
   pub count_coming : length (filter (λ key. not (is_key keys key)) (fm.keys (chosen (matches_at which) R))) ≡ fm.len (chosen (comes which store) R)
   count_coming =

@@ -13,10 +13,7 @@ use Rattle.table_state.specs.declared.history.Entry.{Entry}
 use Rattle.table_state.specs.Copies.{is_one_of}
 use Rattle.table_state.specs.Histories.{state_at, state_of}
 use Rattle.table_state.specs.Tables.{TableState, table_at}
-use Rattle.instances.specs.declared.tree.Child.{Child}
-use Rattle.instances.specs.declared.tree.Tree.{Tree}
 use Rattle.instances.specs.Trees.{is_place}
-use Rattle.instances.specs.Views.{view_of}
 use Rattle.outside.specs.Bank.{Grows}
 use Rattle.outside.specs.Calls as site
 use Rattle.outside.specs.Console.{IsCopyOf, TakesSnapshot}
@@ -27,9 +24,8 @@ use Rattle.outside.specs.declared.fault.BankError.TheVariants.{Memory}
 use Rattle.outside.specs.declared.site.Snapshot.{Snapshot}
 use Rattle.order_laws.proofs.TruthLaws.{both_true, or_true}
 use Rattle.group_catalog.specs.Catalogs.{groups_in}
-use Rattle.group_store.specs.Keeping.{layer_for}
-use Rattle.group_store.specs.Stores.{Kept, SameButSpare, put_rows, put_store, put_tables}
-use Rattle.cache_store.specs.Operating.{change_at}
+use Rattle.group_store.specs.Stores.{Kept}
+use Rattle.slot_rows.specs.SlotKeys.{RowsHeld}
 use Rattle.cache_tier.specs.Commits.{tables_of}
 use Rattle.cache_tier.specs.Groups.{Group}
 use Rattle.cache_tier.specs.Reading.{TellsPosition}
@@ -41,15 +37,16 @@ use Rattle.cache_tier.proofs.ChosenGroups.{each_at}
 use Rattle.cache_tier.proofs.HistoryKeeps.{around_goes_on, others_go_on}
 use Rattle.cache_tier.proofs.SoundStates.{sound_history}
 use Rattle.stored_tier.specs.declared.tier.Tier.{Tier as Stored}
-use Rattle.stored_tier.specs.Filling.{bare_store, viewed_store}
-use Rattle.group_engine.specs.Fresh.{AreFormed, AreFresh, IsRead, IsViewed}
+use Rattle.stored_tier.specs.declared.refreshing.Made.{Made}
+use Rattle.stored_tier.proofs.ListLaws.{hidden_kept, store_kept}
+use Rattle.group_engine.specs.Fresh.{AreFormed, AreFresh, HasOwnKeys, IsRead, IsViewed}
 use Rattle.stored_tier.specs.Performing.{StandsFor}
-use Rattle.stored_tier.specs.Refreshing.{AreMade, IsMade, is_filled, tables_read}
+use Rattle.stored_tier.specs.Refreshing.{AreMade, IsMade, IsMadeAnew, is_filled, tables_read}
 use Rattle.stored_tier.specs.Sites.{IsAt}
 use Rattle.outside.specs.Sites.{SiteState}
-use Rattle.stored_tier.specs.Stored.{without_list}
+use Rattle.stored_tier.specs.Stored.{IsSound, without_list}
 use Rattle.stored_tier.proofs.BankLaws.{TellsBehind, behind, behind_at, call_behind, told_behind}
-use Rattle.group_engine.proofs.FillLaws.{filled_form, filled_from}
+use Rattle.group_engine.proofs.FillLaws.{filled_form, filled_from, filled_hiding, filled_long, root_under}
 
 -- nothing was called
 pub not_called : (t : Stored) (seen : SiteState) (w : World) → IsAt seen w → StandsFor t w → IsRead t seen (Err Memory) w
@@ -167,64 +164,30 @@ read_there chosen from (x ∷ groups) (suc k) g u at c e =
     ∙ ap (λ b. is_one_of (cond (chosen from x) (tables_of x.def.tree) []) u || b) (read_there chosen (suc from) groups k g u at (ap (λ n. chosen n g) (sym here) ∙ c) e)
     ∙ or_true (is_one_of (cond (chosen from x) (tables_of x.def.tree) []) u)
 
-made_there : (filled : Choice) (schema : List TableDef) (state : TableState) (from : ℕ) (groups : List Group) (made : List (Option Kept)) → AreMade filled schema state from groups made → (k : ℕ) (g : Group) (o : Option Kept) → slice_get groups k ≡ Some g → slice_get made k ≡ Some o
-    → IsMade (filled (from + k) g) schema g.def.tree state o
-made_there filled schema state from [] made are k g o at there = cc
-made_there filled schema state from (x ∷ groups) [] are k g o at there = absurd are
-made_there filled schema state from (x ∷ groups) (y ∷ made) are zero g o at there =
-    let same : x ≡ g = cc in
-    let other : y ≡ o = cc in
-    let here : from ≡ from + 0 = omega arith in
-    subst (λ n. IsMade (filled n g) schema g.def.tree state o) here (subst (λ z. IsMade (filled from g) schema g.def.tree state z) other (subst (λ (z : Group). IsMade (filled from z) schema z.def.tree state y) same are.0))
-made_there filled schema state from (x ∷ groups) (y ∷ made) are (suc k) g o at there =
-    let here : suc from + k ≡ from + suc k = omega arith in
-    subst (λ n. IsMade (filled n g) schema g.def.tree state o) here (made_there filled schema state (suc from) groups made are.1 k g o at there)
+form_made : (b : Bool) (schema : List TableDef) (state : TableState) (g : Group) (old : Kept) (hidden : Table) (m : Made) → IsMade b schema state g old hidden (Some m) → IsMadeAnew schema state g old hidden m
+form_made true schema state g old hidden m is = is
+form_made false schema state g old hidden m is = cc
 
-made_at : (filled : Choice) (schema : List TableDef) (state : TableState) (groups : List Group) (made : List (Option Kept)) → AreMade filled schema state 0 groups made → (k : ℕ) (g : Group) (o : Option Kept) → slice_get groups k ≡ Some g → slice_get made k ≡ Some o → IsMade (filled k g) schema g.def.tree state o
-made_at filled schema state groups made are k g o at there =
-    let here : 0 + k ≡ k = omega arith in subst (λ n. IsMade (filled n g) schema g.def.tree state o) here (made_there filled schema state 0 groups made are k g o at there)
+-- what was made of the group at a place
+record IsMadeThere (filled : Choice) (t : Stored) (state : TableState) (k : ℕ) (g : Group) (m : Made) : Type 0 where
+  old : Kept
+  hidden : RowsHeld
+  made : IsMadeAnew t.schema state g old hidden.table m
 
-made_long : (filled : Choice) (schema : List TableDef) (state : TableState) (from : ℕ) (groups : List Group) (made : List (Option Kept)) → AreMade filled schema state from groups made → length made ≡ length groups
-made_long filled schema state from [] [] are = refl
-made_long filled schema state from [] (y ∷ made) are = absurd are
-made_long filled schema state from (x ∷ groups) [] are = absurd are
-made_long filled schema state from (x ∷ groups) (y ∷ made) are = ap suc (made_long filled schema state (suc from) groups made are.1)
+made_there : (filled : Choice) (t : Stored) (state : TableState) (made : List (Option Made)) → IsSound t → AreMade filled t.schema state (groups_in t.catalog) t.stores.items t.hidden.items made → (k : ℕ) (g : Group) (m : Made) → slice_get (groups_in t.catalog) k ≡ Some g → slice_get made k ≡ Some (Some m) → IsMadeThere filled t state k g m
+made_there filled t state made sound are k g m at there =
+    let s = store_kept t k g sound at in
+    let x = hidden_kept t k g sound at in
+    record { old = s.0; hidden = x.0; made = form_made (filled k g) t.schema state g s.0 x.0.table m (are.each k g s.0 x.0 (Some m) at s.1 x.1 there) }
 
-change_long : (p : ℕ) (f : Table → Table) (ts : List Table) → length (change_at p f ts) ≡ length ts
-change_long p f [] = refl
-change_long zero f (t ∷ ts) = refl
-change_long (suc p) f (t ∷ ts) = ap suc (change_long p f ts)
-
-rows_long : (place : ℕ) (rows : List (List Value)) (k : Kept) → length (put_rows place rows k).tables ≡ length k.tables
-rows_long place [] k = refl
-rows_long place (row ∷ rows) k = rows_long place rows (put_store place row k) ∙ change_long place _ k.tables
-
-tables_long : (place : ℕ) (tables : List (List (List Value))) (k : Kept) → length (put_tables place tables k).tables ≡ length k.tables
-tables_long place [] k = refl
-tables_long place (rows ∷ tables) k = tables_long (suc place) tables (put_rows place rows k) ∙ rows_long place rows k
-
-mapped_long : {X Y : Type 0} (f : X → Y) (xs : List X) → length (map f xs) ≡ length xs
-mapped_long f [] = refl
-mapped_long f (x ∷ xs) = ap suc (mapped_long f xs)
-
-whole_made : (schema : List TableDef) (tree : Tree) (state : TableState) (x : Kept) → SameButSpare (viewed_store schema tree state) x → length x.tables ≡ suc (length x.layers)
-whole_made schema tree state x same =
-    let form = filled_form state schema tree x same in
-    ap length same.tables
-    ∙ tables_long 0 (map fm.values (view_of state tree)) (bare_store schema tree)
-    ∙ ap suc (mapped_long (λ (c : Child). empty) tree.children ∙ sym (mapped_long (layer_for schema) tree.children) ∙ ap length (sym form.layers))
-
-form_made : (b : Bool) (schema : List TableDef) (tree : Tree) (state : TableState) (x : Kept) → IsMade b schema tree state (Some x) → SameButSpare (viewed_store schema tree state) x
-form_made true schema tree state x is = is
-form_made false schema tree state x is = cc
-
-pub are_formed : (filled : Choice) (schema : List TableDef) (state : TableState) (groups : List Group) (made : List (Option Kept)) → AreMade filled schema state 0 groups made → AreFormed schema groups made
-are_formed filled schema state groups made are = record {
-  long = made_long filled schema state 0 groups made are;
-  form = λ k g s at there. filled_form state schema g.def.tree s (form_made (filled k g) schema g.def.tree state s (made_at filled schema state groups made are k g (Some s) at there));
-  whole = λ k s there.
-      let (g, at) = Rattle.group_engine.proofs.GroupRows.there_too made groups k (Some s) (sym (made_long filled schema state 0 groups made are)) there in
-      whole_made schema g.def.tree state s (form_made (filled k g) schema g.def.tree state s (made_at filled schema state groups made are k g (Some s) at there));
+pub are_formed : (filled : Choice) (t : Stored) (state : TableState) (made : List (Option Made)) → IsSound t → AreMade filled t.schema state (groups_in t.catalog) t.stores.items t.hidden.items made → AreFormed t.schema (groups_in t.catalog) made
+are_formed filled t state made sound are = record {
+  long = are.long;
+  form = λ k g m at there. let one = made_there filled t state made sound are k g m at there in filled_form state t.schema g one.old one.hidden.table m one.made;
+  whole = λ k m there.
+      let (g, at) = Rattle.group_engine.proofs.GroupRows.there_too made (groups_in t.catalog) k (Some m) (sym are.long) there in
+      let one = made_there filled t state made sound are k g m at there in filled_long state t.schema g one.old one.hidden.table m one.made;
+  hiding = λ k g m at there. let one = made_there filled t state made sound are k g m at there in filled_hiding state t.schema g one.old one.hidden.table m one.made;
 }
 
 -- a front of a history
@@ -243,8 +206,8 @@ unmapped (x ∷ groups) zero g at = let same : without_list x ≡ g = cc in (x, 
 unmapped (x ∷ groups) (suc k) g at = unmapped groups k g at
 
 -- what was read for a refresh
-module _ (t : Stored) (before after : SiteState) (asked : List TableId) (snapshot : Snapshot) (chosen : Choice) (loads : Option ℕ) (made : List (Option Kept)) (read : asked ≡ tables_read chosen 0 (groups_in t.catalog))
-    (are : AreMade (is_filled chosen loads) t.schema snapshot.tables 0 (groups_in t.catalog) made) (given : site.Told before.held after.held (site.BankCall before.shared (TakesSnapshot asked (Ok snapshot))))
+module _ (t : Stored) (before after : SiteState) (asked : List TableId) (snapshot : Snapshot) (chosen : Choice) (loads : Option ℕ) (made : List (Option Made)) (read : asked ≡ tables_read chosen 0 (groups_in t.catalog))
+    (are : AreMade (is_filled chosen loads) t.schema snapshot.tables (groups_in t.catalog) t.stores.items t.hidden.items made) (given : site.Told before.held after.held (site.BankCall before.shared (TakesSnapshot asked (Ok snapshot))))
     (faults : before.bank_faults ≤ after.bank_faults) (moment : before.moment ≤ after.moment) (shares : after.shared ≡ before.shared) (w : World) (at : IsAt before w) (stands : StandsFor t w) (apart : IsUnshared w) where
   abbrev step : List Entry → List Entry → Type 0
   step = TakesSnapshot asked (Ok snapshot)
@@ -284,35 +247,44 @@ module _ (t : Stored) (before after : SiteState) (asked : List TableId) (snapsho
   copy : IsCopyOf asked first.stands.flow.stand.over.backing snapshot.tables
   copy = around.own.2 first.stands.flow.stand.over.backing there
 
-  viewed : (k : ℕ) (g : Group) (o : Option Kept) → slice_get (groups_in t.catalog) k ≡ Some g → slice_get made k ≡ Some o → IsViewed (is_filled chosen loads k g) first.stands.flow.stand.over.backing g.def.tree o
-  viewed k g o spot made_o = by (is_filled chosen loads k g) refl o (made_at (is_filled chosen loads) t.schema snapshot.tables (groups_in t.catalog) made are k g o spot made_o)
+  sound_tree : (k : ℕ) (g : Group) → slice_get (groups_in t.catalog) k ≡ Some g → Rattle.instances.specs.Trees.is_sound t.schema g.def.tree ≡ true
+  sound_tree k g spot =
+      let (h, h_at, same) = unmapped w.tier.groups k g (ap (λ l. slice_get l k) stands.stored.groups ∙ spot) in
+      ap (λ (y : Group). Rattle.instances.specs.Trees.is_sound t.schema y.def.tree) (sym same)
+      ∙ ap (λ defs. Rattle.instances.specs.Trees.is_sound defs h.def.tree) (sym stands.stored.schema)
+      ∙ (each_at (IsCatalogued w.tier.schema) w.tier.groups k h stands.stands.catalog.each h_at).sound
+
+  front : (more : List TableDef) × (first.stands.flow.stand.over.backing.schema ≡ t.schema ++ more)
+  front =
+      let f = first.stands.schema.front first.stands.flow.stand.over.backing first.stands.flow.stand.over.leaves in
+      (f.0, f.1 ∙ ap (λ defs. defs ++ f.0) stands.stored.schema)
+
+  sound_state : Rattle.cache_tier.proofs.SoundStates.IsSoundState first.stands.flow.stand.over.backing
+  sound_state = sound_history (w.history ++ around.before) first.stands.flow.stand.over.backing first.stands.flow.stand.over.leaves
+
+  own_keys : (k : ℕ) (g : Group) → slice_get (groups_in t.catalog) k ≡ Some g → HasOwnKeys first.stands.flow.stand.over.backing g
+  own_keys k g spot key row e =
+      root_under first.stands.flow.stand.over.backing g.def.tree (λ q. true) sound_state
+      (subst (λ defs. Rattle.instances.specs.Trees.is_sound defs g.def.tree ≡ true) (sym front.1) (Rattle.cache_tier.proofs.ShownTrees.sound_later t.schema front.0 g.def.tree (sound_tree k g spot))) key row e
+
+  viewed : (k : ℕ) (g : Group) (s : Kept) (h : RowsHeld) (o : Option Made) → slice_get (groups_in t.catalog) k ≡ Some g → slice_get t.stores.items k ≡ Some s → slice_get t.hidden.items k ≡ Some h → slice_get made k ≡ Some o
+      → IsViewed (is_filled chosen loads k g) first.stands.flow.stand.over.backing g s h.table o
+  viewed k g s h o spot kept held made_o = by (is_filled chosen loads k g) refl o (are.each k g s h o spot kept held made_o)
     where
-      sound : Rattle.instances.specs.Trees.is_sound t.schema g.def.tree ≡ true
-      sound =
-          let (h, h_at, same) = unmapped w.tier.groups k g (ap (λ l. slice_get l k) stands.stored.groups ∙ spot) in
-          ap (λ (y : Group). Rattle.instances.specs.Trees.is_sound t.schema y.def.tree) (sym same)
-          ∙ ap (λ defs. Rattle.instances.specs.Trees.is_sound defs h.def.tree) (sym stands.stored.schema)
-          ∙ (each_at (IsCatalogued w.tier.schema) w.tier.groups k h stands.stands.catalog.each h_at).sound
-
-      front : (more : List TableDef) × (first.stands.flow.stand.over.backing.schema ≡ t.schema ++ more)
-      front =
-          let f = first.stands.schema.front first.stands.flow.stand.over.backing first.stands.flow.stand.over.leaves in
-          (f.0, f.1 ∙ ap (λ defs. defs ++ f.0) stands.stored.schema)
-
       asked_all : is_filled chosen loads k g ≡ true → (u : TableId) → is_one_of (tables_of g.def.tree) u ≡ true → table_at snapshot.tables u ≡ table_at first.stands.flow.stand.over.backing u
       asked_all f u e =
           let zero_k : 0 + k ≡ k = omega arith in
-          let c : chosen (0 + k) g ≡ true = ap (λ m. chosen m g) zero_k ∙ (both_true (chosen k g) (g.loaded || is_place k loads) f).0 in
+          let c : chosen (0 + k) g ≡ true = ap (λ m. chosen m g) zero_k ∙ (both_true (chosen k g) (g.def.dynamic || (g.loaded || is_place k loads)) f).0 in
           let one : is_one_of asked u ≡ true = ap (λ l. is_one_of l u) read ∙ read_there chosen 0 (groups_in t.catalog) k g u spot c e in
           copy.rows u ∙ ap (λ b. cond b (table_at first.stands.flow.stand.over.backing u) empty) one
 
-      by : (b : Bool) → is_filled chosen loads k g ≡ b → (x : Option Kept) → IsMade (is_filled chosen loads k g) t.schema g.def.tree snapshot.tables x → IsViewed (is_filled chosen loads k g) first.stands.flow.stand.over.backing g.def.tree x
-      by true f None is = absurd (subst (λ c. IsMade c t.schema g.def.tree snapshot.tables None) f is)
+      by : (b : Bool) → is_filled chosen loads k g ≡ b → (x : Option Made) → IsMade (is_filled chosen loads k g) t.schema snapshot.tables g s h.table x → IsViewed (is_filled chosen loads k g) first.stands.flow.stand.over.backing g s h.table x
+      by true f None is = absurd (subst (λ c. IsMade c t.schema snapshot.tables g s h.table None) f is)
       by true f (Some x) is =
-          subst (λ c. IsViewed c first.stands.flow.stand.over.backing g.def.tree (Some x)) (sym f)
-          (filled_from first.stands.flow.stand.over.backing snapshot.tables t.schema front.0 g.def.tree x (sound_history (w.history ++ around.before) first.stands.flow.stand.over.backing first.stands.flow.stand.over.leaves) sound front.1 copy.schema (asked_all f)
-          (subst (λ c. IsMade c t.schema g.def.tree snapshot.tables (Some x)) f is))
-      by false f x is = subst (λ c. IsViewed c first.stands.flow.stand.over.backing g.def.tree x) (sym f) (subst (λ c. IsMade c t.schema g.def.tree snapshot.tables x) f is)
+          subst (λ c. IsViewed c first.stands.flow.stand.over.backing g s h.table (Some x)) (sym f)
+          (filled_from first.stands.flow.stand.over.backing snapshot.tables t.schema front.0 g s h.table x sound_state (sound_tree k g spot) front.1 copy.schema (asked_all f)
+          (subst (λ c. IsMade c t.schema snapshot.tables g s h.table (Some x)) f is))
+      by false f x is = subst (λ c. IsViewed c first.stands.flow.stand.over.backing g s h.table x) (sym f) (subst (λ c. IsMade c t.schema snapshot.tables g s h.table x) f is)
 
   pub fresh_here : AreFresh t read_here.world (is_filled chosen loads) snapshot.position.0 made
   unfolding read_here told_now was_read now
@@ -324,5 +296,6 @@ module _ (t : Stored) (before after : SiteState) (asked : List TableId) (snapsho
         let n_is = around.own.1 in
         let long = ap length around.is in
         omega (arith, le, n_is, long);
+    keyed = own_keys;
     views = viewed;
   }

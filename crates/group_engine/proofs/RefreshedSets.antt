@@ -1,21 +1,18 @@
 -- What a new moment, and a refresh that was tried, leave of what is stored.
-use Rattle.std.proofs.Common.{◌≡◌, ℕ, Bool, true, false, cond, not, ◌&&◌, ◌||◌, nat_eq, is_none, find, filter, Option, Some, None, List, [], ◌∷◌, ◌++◌, map, unwrap_or, refl, sym, ap, subst, ◌∙◌, arith}
+use Rattle.std.proofs.Common.{◌≡◌, ℕ, Bool, true, false, cond, not, ◌&&◌, ◌||◌, nat_eq, find, filter, Option, Some, None, List, [], ◌∷◌, ◌++◌, map, unwrap_or, refl, sym, ap, subst, ◌∙◌, arith}
 use Rattle.std.specs.Prelude.{Err}
 use Rattle.std.specs.Bool.{MatchBool}
-use Rattle.std.specs.List.{list_all}
 use Rattle.std.specs.Option.{option_map}
 use Rattle.std.proofs.lemmas.Bool.{eqb-true}
 use Rattle.std.proofs.lemmas.List.{append-nil}
 use Rattle.tier_base.specs.declared.code.Code.TheVariants as code
 use Rattle.outside.specs.declared.fault.BankError.{BankError}
 use Rattle.outside.specs.declared.fault.BankError.TheVariants as bank
-use Rattle.order_laws.proofs.TruthLaws.{both_true}
-use Rattle.cache_tier.specs.Groups.{Group, is_explicit}
-use Rattle.cache_tier.specs.Sets.{RefreshesIfShown, RefreshesSet, has_something, holds_some, is_in_set, shows_something}
+use Rattle.cache_tier.specs.Groups.{Group}
+use Rattle.cache_tier.specs.Sets.{RefreshesIfShown, RefreshesSet, shows_something}
 use Rattle.cache_tier.specs.TierStates.{SetState, Tier, is_of_interval, refresh_tried}
 use Rattle.cache_tier.specs.Worlds.{Passes, World, bank_fault, faulty}
 use Rattle.cache_tier.specs.declared.reply.Reply.{Reply}
-use Rattle.group_catalog.specs.Catalogs.{groups_in}
 use Rattle.cache_tier.specs.Events.{with_tier}
 use Rattle.cache_tier.specs.StandingBetween.{Stands}
 use Rattle.stored_tier.specs.declared.moments.SetMoment.{SetMoment}
@@ -25,7 +22,6 @@ use Rattle.stored_tier.specs.Performing.{Performs}
 use Rattle.stored_tier.specs.Refreshing.{has_moment, is_noted, moment_in, moments_with}
 use Rattle.outside.specs.Sites.{SiteState}
 use Rattle.stored_tier.specs.Stored.{IsSound, IsStoredAs, KeepsTime, without_list}
-use Rattle.group_catalog.specs.Catalogs.{is_plain}
 use Rattle.stored_tier.specs.Moments.{refreshed_in, set_seen}
 use Rattle.stored_tier.proofs.QuietLaws.{at_still}
 
@@ -37,6 +33,7 @@ sound_clocked t clock sound = record {
   stores = sound.stores;
   kept = sound.kept;
   whole = sound.whole;
+  hiding = sound.hiding;
   plain = sound.plain;
   named = sound.named;
   visible = sound.visible;
@@ -52,6 +49,7 @@ stored_clocked t clock a now added sets is time = record {
   schema = is.schema;
   stale = is.stale;
   groups = is.groups;
+  lists = is.lists;
   sessions = is.sessions;
   unsettled = is.unsettled;
   next = is.next;
@@ -139,39 +137,22 @@ tried_in interval now i sets kept has same = by (nat_eq interval i) refl
 
 -- a refresh for which memory was wanting
 
-pub plain_explicit : (gs : List Group) → list_all is_plain gs ≡ true → list_all is_explicit gs ≡ true
-plain_explicit [] all = refl
-plain_explicit (g ∷ gs) all =
-    let both = both_true (is_plain g) (list_all is_plain gs) all in
-    let first = (both_true (is_explicit g) (is_none g.def.aging) both.0).0 in
-    let rest = plain_explicit gs both.1 in
-    λ i. first i && rest i
+-- whether something is shown in the set of an interval, as each tier that is stored has it
+abbrev pub TellsShown : Stored → ℕ → Bool → Type 0
+TellsShown t interval shows = (a : Tier) → IsStoredAs t a → shows ≡ shows_something interval a.groups
 
-pub shows_bare : (interval : ℕ) (gs : List Group) → list_all is_plain (map without_list gs) ≡ true → shows_something interval gs ≡ shows_something interval (map without_list gs)
-shows_bare interval [] all = refl
-shows_bare interval (g ∷ gs) all =
-    let both = both_true (is_plain (without_list g)) (list_all is_plain (map without_list gs)) all in
-    let explicit = (both_true (is_explicit g) (is_none g.def.aging) both.0).0 in
-    let first : has_something g ≡ has_something (without_list g) = ap (λ b. cond b g.loaded (holds_some g.keys)) explicit ∙ sym (ap (λ b. cond b g.loaded (holds_some [])) explicit) in
-    let rest = shows_bare interval gs both.1 in
-    λ i. (is_in_set interval g && first i) || rest i
-
-pub shows_stored : (t : Stored) (w : World) (interval : ℕ) → IsSound t → IsStoredAs t w.tier → shows_something interval w.tier.groups ≡ shows_something interval (groups_in t.catalog)
-shows_stored t w interval sound is =
-    shows_bare interval w.tier.groups (ap (list_all is_plain) is.groups ∙ sound.plain) ∙ ap (shows_something interval) is.groups
-
-pub refresh_passes : (t : Stored) (b : SiteState) (interval : ℕ) → IsSound t → shows_something interval (groups_in t.catalog) ≡ false → Performs t t b b (λ w w'. RefreshesIfShown interval w w' None)
-refresh_passes t b interval sound not_so w at stands apart = record {
+pub refresh_passes : (t : Stored) (b : SiteState) (interval : ℕ) (shows : Bool) → TellsShown t interval shows → shows ≡ false → Performs t t b b (λ w w'. RefreshesIfShown interval w w' None)
+refresh_passes t b interval shows tells not_so w at stands apart = record {
   world = w;
   at = at;
   stands = stands;
-  is = subst (λ x. MatchBool x (RefreshesSet interval w w None) (Passes w w None)) (sym (shows_stored t w interval sound stands.stored ∙ not_so)) (refl, refl);
+  is = subst (λ x. MatchBool x (RefreshesSet interval w w None) (Passes w w None)) (sym (sym (tells w.tier stands.stored) ∙ not_so)) (refl, refl);
 }
 
-pub refresh_wanting : (t : Stored) (clock : TierClock) (b : SiteState) (interval : ℕ) → IsSound t → has_moment t.clock.sets.items interval ≡ true → shows_something interval (groups_in t.catalog) ≡ true
+pub refresh_wanting : (t : Stored) (clock : TierClock) (b : SiteState) (interval : ℕ) (shows : Bool) → TellsShown t interval shows → has_moment t.clock.sets.items interval ≡ true → shows ≡ true
     → clock ≡ record (t.clock) { sets = clock.sets } → clock.sets.items ≡ moments_with interval t.clock.now t.clock.sets.items
     → Performs t (record t { clock = clock }) b b (λ w w'. RefreshesIfShown interval w w' (Some (faulty code.Memory)))
-refresh_wanting t clock b interval sound has shown same moments w at stands apart =
+refresh_wanting t clock b interval shows tells has shown same moments w at stands apart =
     let a = w.tier in
     let w' = with_tier (refresh_tried interval a) w in
     let was = stands.stored.time in
@@ -195,7 +176,7 @@ refresh_wanting t clock b interval sound has shown same moments w at stands apar
         stands = stands_clocked w a.now a.added (refresh_tried interval a).sets stands.stands;
         waits = stands.waits;
       };
-      is = subst (λ x. MatchBool x (RefreshesSet interval w w' (Some (faulty code.Memory))) (Passes w w' (Some (faulty code.Memory)))) (sym (shows_stored t w interval sound stands.stored ∙ shown))
+      is = subst (λ x. MatchBool x (RefreshesSet interval w w' (Some (faulty code.Memory))) (Passes w w' (Some (faulty code.Memory)))) (sym (sym (tells w.tier stands.stored) ∙ shown))
           (record {
             result = Err bank.Memory;
             mid = w';
@@ -220,29 +201,29 @@ refresh_wanting t clock b interval sound has shown same moments w at stands apar
           });
     }
 
-pub refresh_told : (t : Stored) (clock : TierClock) (b : SiteState) (interval : ℕ) (reply : Reply) → IsSound t → has_moment t.clock.sets.items interval ≡ true → shows_something interval (groups_in t.catalog) ≡ true
+pub refresh_told : (t : Stored) (clock : TierClock) (b : SiteState) (interval : ℕ) (shows : Bool) (reply : Reply) → TellsShown t interval shows → has_moment t.clock.sets.items interval ≡ true → shows ≡ true
     → clock ≡ record (t.clock) { sets = clock.sets } → clock.sets.items ≡ moments_with interval t.clock.now t.clock.sets.items → reply ≡ faulty code.Memory
     → Performs t (record t { clock = clock }) b b (λ w w'. RefreshesIfShown interval w w' (Some reply))
-refresh_told t clock b interval reply sound has shown same moments told =
+refresh_told t clock b interval shows reply tells has shown same moments told =
     subst (λ r. Performs t (record t { clock = clock }) b b (λ w w'. RefreshesIfShown interval w w' (Some r))) (sym told)
-    (refresh_wanting t clock b interval sound has shown same moments)
+    (refresh_wanting t clock b interval shows tells has shown same moments)
 
 -- a set that shows something is refreshed
-pub refresh_does : (t new : Stored) (b b' : SiteState) (interval : ℕ) (stop : Option Reply) → IsSound t → shows_something interval (groups_in t.catalog) ≡ true
+pub refresh_does : (t new : Stored) (b b' : SiteState) (interval : ℕ) (shows : Bool) (stop : Option Reply) → TellsShown t interval shows → shows ≡ true
     → Performs t new b b' (λ w w'. RefreshesSet interval w w' stop) → Performs t new b b' (λ w w'. RefreshesIfShown interval w w' stop)
-refresh_does t new b b' interval stop sound shown does w at stands apart =
+refresh_does t new b b' interval shows stop tells shown does w at stands apart =
     let x = does w at stands apart in
     record {
       world = x.world;
       at = x.at;
       stands = x.stands;
-      is = subst (λ y. MatchBool y (RefreshesSet interval w x.world stop) (Passes w x.world stop)) (sym (shows_stored t w interval sound stands.stored ∙ shown)) x.is;
+      is = subst (λ y. MatchBool y (RefreshesSet interval w x.world stop) (Passes w x.world stop)) (sym (sym (tells w.tier stands.stored) ∙ shown)) x.is;
     }
 
 -- the same with the reply that tells the fault of its call
-pub refresh_failed : (t new : Stored) (b b' : SiteState) (interval : ℕ) (e : BankError) (reply : Reply) → IsSound t → shows_something interval (groups_in t.catalog) ≡ true
+pub refresh_failed : (t new : Stored) (b b' : SiteState) (interval : ℕ) (shows : Bool) (e : BankError) (reply : Reply) → TellsShown t interval shows → shows ≡ true
     → Performs t new b b' (λ w w'. RefreshesSet interval w w' (Some (bank_fault e))) → reply ≡ bank_fault e
     → Performs t new b b' (λ w w'. RefreshesIfShown interval w w' (Some reply))
-refresh_failed t new b b' interval e reply sound shown does told =
+refresh_failed t new b b' interval shows e reply tells shown does told =
     subst (λ r. Performs t new b b' (λ w w'. RefreshesIfShown interval w w' (Some r))) (sym told)
-    (refresh_does t new b b' interval (Some (bank_fault e)) sound shown does)
+    (refresh_does t new b b' interval shows (Some (bank_fault e)) tells shown does)

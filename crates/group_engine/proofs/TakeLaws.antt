@@ -10,12 +10,12 @@ use Rattle.instances.specs.declared.tree.Tree.{Tree}
 use Rattle.group_catalog.specs.Catalogs.{groups_in}
 use Rattle.group_catalog.specs.declared.which.ResolvedWhich.{ResolvedWhich}
 use Rattle.group_store.specs.Keeping.{layer_for}
-use Rattle.group_store.specs.Stores.{Kept, SameButSpare, put_tables}
+use Rattle.group_store.specs.Stores.{HasRootKeys, Kept, SameButSpare, put_tables}
 use Rattle.cache_tier.specs.declared.reply.Last.TheVariants.{Done, No}
 use Rattle.cache_tier.specs.Rules.{past}
 use Rattle.tier_base.specs.declared.limit.Limit.TheVariants as limit
 use Rattle.cache_tier.specs.declared.reply.Reply.{Reply}
-use Rattle.cache_tier.specs.Groups.{Group}
+use Rattle.cache_tier.specs.Groups.{Group, is_read_only}
 use Rattle.cache_tier.specs.Sets.{alone, changed_from}
 use Rattle.cache_tier.specs.Worlds.{only}
 use Rattle.cache_tier.proofs.ShownTrees.{length_kept}
@@ -30,10 +30,10 @@ use Rattle.group_engine.proofs.StorePairs.{room_self, room_set}
 use Rattle.stored_tier.proofs.StoreRows.{form_at}
 
 pub gathered_there : (t : Stored) (place : ℕ) (which : ResolvedWhich) (refreshes : Bool) (s : TableState) (group : Group) (store : Kept) (result : Result Gathered Refused)
-    → Some group ≡ slice_get (groups_in t.catalog) place → slice_get t.stores.items place ≡ Some store → Gathers s group.def.tree store which refreshes result → GathersAt t place which refreshes s result
-gathered_there t place which refreshes s group store (Ok g) there kept is = record { here = record { group = group; store = store; there = sym there; kept = kept }; is = is }
-gathered_there t place which refreshes s group store (Err (refused.Rule rule)) there kept is = record { here = record { group = group; store = store; there = sym there; kept = kept }; is = is }
-gathered_there t place which refreshes s group store (Err refused.Memory) there kept is = tt
+    → Some group ≡ slice_get (groups_in t.catalog) place → slice_get t.stores.items place ≡ Some store → is_read_only group ≡ false → HasRootKeys store → Gathers s group.def.tree store which refreshes result → GathersAt t place which refreshes s result
+gathered_there t place which refreshes s group store (Ok g) there kept writes keyed is = record { here = record { group = group; store = store; there = sym there; kept = kept; writes = writes; keyed = keyed }; is = is }
+gathered_there t place which refreshes s group store (Err (refused.Rule rule)) there kept writes keyed is = record { here = record { group = group; store = store; there = sym there; kept = kept; writes = writes; keyed = keyed }; is = is }
+gathered_there t place which refreshes s group store (Err refused.Memory) there kept writes keyed is = tt
 
 pub filled_there : (place : ℕ) (rows : List (List (List Value))) (old : List Kept) (store filled : Kept) (result : Result (Unit {0}) Refused) → place < length old → store ≡ get_or old place store
     → OnOk result (SameButSpare (put_tables 0 rows store) filled) → OnErr result (SameButSpare store filled) → FillsAt place rows old (slice_set old place filled) result
@@ -61,7 +61,7 @@ place_for t place which refreshes s g sound at store kept =
 -- nothing was changed
 
 same_all : (t : Stored) → IsSameElsewhere t t
-same_all t = record { schema = refl; visible = refl; stale = refl; directory = refl; sessions = refl; unsettled = refl; writers = refl; next = refl; clock = refl }
+same_all t = record { schema = refl; visible = refl; stale = refl; directory = refl; hidden = refl; sessions = refl; unsettled = refl; writers = refl; next = refl; clock = refl }
 
 pub room_alone : (old new : Stored) → IsSameElsewhere old new → Pairs SameButSpare old.stores.items new.stores.items → new.catalog ≡ old.catalog → new.verified ≡ old.verified → IsSameButRoom old new
 room_alone old new rest stores catalog verified = record { rest = rest; stores = stores; catalog = catalog; verified = verified }
@@ -90,6 +90,8 @@ taken old new place which refreshes s g rows reply at are filled groups rest unv
       filled = filled.filled;
       there = at.here.there;
       kept = at.here.kept;
+      writes = at.here.writes;
+      keyed = at.here.keyed;
       fits = at.is.fits;
       rows = subst (λ k. SameButSpare (put_tables 0 (map values (gathered_in s at.here.group.def.tree at.here.store which)) k) filled.filled) same in_it;
       stores = filled.is;

@@ -1,8 +1,7 @@
 -- LOAD and REFRESH of a writethrough group, in the worlds for which the tier stands.
-use Rattle.std.proofs.Common.{◌≡◌, ◌≤◌, inl, inr, ℕ, zero, suc, Bool, true, false, cond, ◌||◌, nat_eq, Option, Some, None, Result, Ok, Err, List, [], ◌∷◌, ◌++◌, is_none, is_some, length, map, slice_get, slice_set, arith, refl, sym, ap, subst, ◌∙◌}
+use Rattle.std.proofs.Common.{◌≡◌, ◌≤◌, inl, inr, ℕ, zero, suc, Bool, true, false, cond, not, ◌&&◌, ◌||◌, nat_eq, Option, Some, None, Result, Ok, Err, List, [], ◌∷◌, ◌++◌, is_some, length, map, slice_get, slice_set, arith, refl, sym, ap, subst, ◌∙◌}
 use Rattle.std.proofs.lemmas.Bool.{eq-eqb, eqb-true}
 use Rattle.std.proofs.lemmas.List.{append-nil, take_all}
-use Rattle.std.specs.List.{list_all}
 use Rattle.std.specs.FinMap as fm
 use Rattle.row_types.specs.declared.rule.Refused.{Refused}
 use Rattle.row_types.specs.declared.rule.Refused.TheVariants as refused
@@ -23,7 +22,7 @@ use Rattle.instances.specs.Trees.{place_of}
 use Rattle.instances.specs.Views.{kept_at, passes}
 use Rattle.cache_store.specs.Shown.{shown_of}
 use Rattle.open_sessions.specs.Opening.{seen_all}
-use Rattle.order_laws.proofs.TruthLaws.{both_true, same_some}
+use Rattle.order_laws.proofs.TruthLaws.{same_some}
 use Rattle.outside.specs.Calls as site
 use Rattle.outside.specs.Console.{TakesSnapshot}
 use Rattle.outside.specs.Holding.{Held}
@@ -60,12 +59,16 @@ use Rattle.stored_tier.specs.Performing.{IsPerformedOver, StandsFor, reply_of}
 use Rattle.stored_tier.specs.Sites.{IsAt}
 use Rattle.outside.specs.Sites.{SiteState}
 use Rattle.stored_tier.specs.Stored.{IsSound, IsStoredAs, KeepsTime, rows_of, without_list}
-use Rattle.group_catalog.specs.Catalogs.{is_plain}
-use Rattle.group_engine.specs.Taking.{AsksTree, IsOfTarget, IsSameButRoom, IsSettledAt, JudgesFull, PerformsWhere, ReadsMatching, TakesIn, TakesMatching}
+use Rattle.slot_rows.specs.SlotKeys.{IsKeyedBy}
+use Rattle.stored_tier.specs.Lists.{AreListed}
+use Rattle.stored_tier.proofs.ListLaws.{hidden_long, listed_same, stores_long}
+use Rattle.group_engine.proofs.ListsKept.{grown_listed, listed_set}
+use Rattle.group_engine.proofs.PutKeys.{are_new, put_keys}
+use Rattle.group_engine.specs.Taking.{AsksTree, IsOfTarget, IsSameButRoom, IsSettledAt, JudgesFull, MayTake, PerformsWhere, ReadsMatching, TakesIn, TakesMatching}
 use Rattle.stored_tier.proofs.BankLaws.{TellsBehind, behind, behind_at, call_behind, told_behind}
-use Rattle.group_engine.proofs.FlagLaws.{IsChanged, as_loaded, changed_at, flagged_seen, own_place, set_beside, set_there}
-use Rattle.group_engine.proofs.LoadLaws.{filled_shown, has_roots, its_roots, store_has}
-use Rattle.group_engine.proofs.MatchLaws.{HasRoots, all_shown, count_coming, instances_of_keys, matching_is, shown_alike}
+use Rattle.group_engine.proofs.FlagLaws.{flag_def, flag_keys, flag_seen, IsChanged, as_loaded, changed_at, flagged_seen, own_place, set_beside, set_there}
+use Rattle.group_engine.proofs.LoadLaws.{filled_shown, has_roots, its_roots, roots_keyed, store_has}
+use Rattle.group_engine.proofs.MatchLaws.{HasRoots, all_shown, coming_keys, count_coming, instances_of_keys, matching_is, shown_alike}
 use Rattle.group_engine.proofs.SnapshotLaws.{IsRead, is_read, tree_asked}
 use Rattle.stored_tier.proofs.StandingLaws.{stands_behind}
 use Rattle.stored_tier.proofs.OverLaws.{keeps_called, keeps_stays}
@@ -135,25 +138,8 @@ seen_at_place t a place g seen is there at = same_some (sym at ∙ ap (λ gs. sl
 abbrev tier_with : World → Target → Table → Tier
 tier_with w x m = changed (alone x.place) (λ g. with_flag true (record g { keys = with_keys (fm.keys m) g.keys })) w.tier
 
-all_at : (p : Group → Bool) (gs : List Group) (i : ℕ) (g : Group) → list_all p gs ≡ true → slice_get gs i ≡ Some g → p g ≡ true
-all_at p [] i g all e = cc
-all_at p (y ∷ gs) zero g all e = let same : y ≡ g = cc in ap p (sym same) ∙ (both_true (p y) (list_all p gs) all).0
-all_at p (y ∷ gs) (suc i) g all e = all_at p gs i g (both_true (p y) (list_all p gs) all).1 e
-
--- a group with more keys, whose flag is set
-
-flag_on : (b : Bool) (g : Group) → (cond b (record g { loaded = true }) g).def ≡ g.def
-flag_on true g = refl
-flag_on false g = refl
-
-flag_def : (more : List Row) (g : Group) → (with_flag true (record g { keys = with_keys more g.keys })).def ≡ g.def
-flag_def more g = flag_on (has_flag (record g { keys = with_keys more g.keys })) (record g { keys = with_keys more g.keys })
-
-flag_seen : (more : List Row) (g : Group) → is_writethrough g ≡ true → without_list (with_flag true (record g { keys = with_keys more g.keys })) ≡ as_loaded (without_list g)
-flag_seen more g writes = ap (λ b. without_list (cond (b || is_explicit g) (record g { keys = with_keys more g.keys; loaded = true }) (record g { keys = with_keys more g.keys }))) writes
-
 -- The snapshot came.
-module _ {D : Type 0} (state : D → SiteState) (possible : D → ℕ → Held → Type 0) (old : Stored) (k : Option TierJournal) (d d' : D) (place : ℕ) (which : ResolvedWhich) (refreshes : Bool) (x : Target) (of : IsOfTarget x place which) (writes : is_writethrough x.group ≡ true) (sound : IsSound old) (asked : List TableId) (asks : AsksTree old place asked) (snapshot : Snapshot)
+module _ {D : Type 0} (state : D → SiteState) (possible : D → ℕ → Held → Type 0) (old : Stored) (k : Option TierJournal) (d d' : D) (place : ℕ) (which : ResolvedWhich) (refreshes : Bool) (x : Target) (of : IsOfTarget x place which) (writes : is_writethrough x.group ≡ true) (sound : IsSound old) (asked : List TableId) (asks : AsksTree old place asked) (may : MayTake old place refreshes) (snapshot : Snapshot)
     (told : site.Told (state d).held (state d').held (site.BankCall (state d).shared (TakesSnapshot asked (Ok snapshot)))) (faults : (state d).bank_faults ≤ (state d').bank_faults) (moment : (state d).moment ≤ (state d').moment) (shares : (state d').shared ≡ (state d).shared)
     (certain : KeepsCertain state possible d d') (w : World) (at : IsAt (state d) w) (stands : StandsFor old w) (apart : IsUnshared w) (keeps : KeepsOver state possible d k w) (here : IsSettledAt place x.group w) where
   pub now : TellsBehind at.there (state d').held (site.BankCall (state d).shared (TakesSnapshot asked (Ok snapshot)))
@@ -231,48 +217,46 @@ module _ {D : Type 0} (state : D → SiteState) (possible : D → ℕ → Held �
   overflow_is : overflow_fault x.filter (backing_roots (backing_at mid n) x) ≡ broken_if (overflows_in c tree which) (plain_rule code.Overflow)
   overflow_is = ap (overflow_fault x.filter) rows_judged ∙ ap (λ f. overflow_fault f (table_at c root)) (sym of.filter)
 
-  explicit : is_explicit x.group ≡ true
-  explicit =
+  explicit : refreshes ≡ true → is_explicit x.group ≡ true
+  explicit e =
       let same = seen_at_place old w.tier place x.group asks.group stands.stored here.there asks.there in
-      let all : is_plain asks.group ≡ true = all_at is_plain (groups_in old.catalog) place asks.group sound.plain asks.there in
-      let one : is_plain x.group ≡ true = ap is_plain (sym same) ∙ all in
-      (both_true (is_explicit x.group) (is_none x.group.def.aging) one).0
+      ap not (ap (λ (g : Group). g.def.dynamic) (sym same) ∙ ap (λ b. b && asks.group.def.dynamic) (sym e) ∙ may asks.group asks.there)
 
-  judged_is : overflow_fault x.filter (judged_roots (backing_at mid n) x) ≡ broken_if (overflows_in c tree which) (plain_rule code.Overflow)
-  judged_is = ap (λ b. overflow_fault x.filter (cond b (backing_roots (backing_at mid n) x) (held_roots x (backing_roots (backing_at mid n) x)))) explicit ∙ overflow_is
+  judged_is : refreshes ≡ true → overflow_fault x.filter (judged_roots (backing_at mid n) x) ≡ broken_if (overflows_in c tree which) (plain_rule code.Overflow)
+  judged_is e = ap (λ b. overflow_fault x.filter (cond b (backing_roots (backing_at mid n) x) (held_roots x (backing_roots (backing_at mid n) x)))) (explicit e) ∙ overflow_is
 
   -- a part, where the condition isn't 120
-  went_on : (b : Bool) (w' : World) (reply : Reply) → overflows_in c tree which ≡ false
+  went_on : (b : Bool) → refreshes ≡ b → (w' : World) (reply : Reply) → overflows_in c tree which ≡ false
       → (b ≡ false → Settles x (added_answer x n) mid w' reply) → (b ≡ true → Settles x (refreshed_answer x n) mid w' reply) → ReadsMatching b x w w' reply
-  went_on false w' reply fits adds refreshes = record {
+  went_on false kind w' reply fits adds refreshes = record {
     result = Ok n;
     mid = mid;
     call = reads_call;
     tier = refl;
     goes_on = inl (subst (λ f. Unless f (Settles x (added_answer x n)) mid w' reply) (sym (overflow_is ∙ ap (λ o. broken_if o (plain_rule code.Overflow)) fits)) (adds refl));
   }
-  went_on true w' reply fits adds refreshes = record {
+  went_on true kind w' reply fits adds refreshes = record {
     result = Ok n;
     mid = mid;
     call = reads_call;
     tier = refl;
-    goes_on = inl (subst (λ f. Unless f (Settles x (refreshed_answer x n)) mid w' reply) (sym (judged_is ∙ ap (λ o. broken_if o (plain_rule code.Overflow)) fits)) (refreshes refl));
+    goes_on = inl (subst (λ f. Unless f (Settles x (refreshed_answer x n)) mid w' reply) (sym (judged_is kind ∙ ap (λ o. broken_if o (plain_rule code.Overflow)) fits)) (refreshes refl));
   }
 
-  overflowed : (b : Bool) (rule : Rule) → overflows_in c tree which ≡ true → rule ≡ plain_rule code.Overflow → ReadsMatching b x w mid (only (No rule))
-  overflowed false rule over is = record {
+  overflowed : (b : Bool) → refreshes ≡ b → (rule : Rule) → overflows_in c tree which ≡ true → rule ≡ plain_rule code.Overflow → ReadsMatching b x w mid (only (No rule))
+  overflowed false kind rule over is = record {
     result = Ok n;
     mid = mid;
     call = reads_call;
     tier = refl;
     goes_on = inl (subst (λ f. Unless f (Settles x (added_answer x n)) mid mid (only (No rule))) (sym (overflow_is ∙ ap (λ o. broken_if o (plain_rule code.Overflow)) over)) (refl, ap (λ r. only (No r)) is));
   }
-  overflowed true rule over is = record {
+  overflowed true kind rule over is = record {
     result = Ok n;
     mid = mid;
     call = reads_call;
     tier = refl;
-    goes_on = inl (subst (λ f. Unless f (Settles x (refreshed_answer x n)) mid mid (only (No rule))) (sym (judged_is ∙ ap (λ o. broken_if o (plain_rule code.Overflow)) over)) (refl, ap (λ r. only (No r)) is));
+    goes_on = inl (subst (λ f. Unless f (Settles x (refreshed_answer x n)) mid mid (only (No rule))) (sym (judged_is kind ∙ ap (λ o. broken_if o (plain_rule code.Overflow)) over)) (refl, ap (λ r. only (No r)) is));
   }
 
   wanted : (b : Bool) → ReadsMatching b x w mid (faulty code.Memory)
@@ -315,6 +299,17 @@ module _ {D : Type 0} (state : D → SiteState) (possible : D → ℕ → Held �
 
     abbrev test : Row → Bool
     test q = is_key keys q || fm.contains_key M q
+
+    -- its keys are in order behind the others
+    filled_keys : took.filled.keys ≡ with_keys (fm.keys M) took.store.keys
+    filled_keys =
+        rows_in.keys
+        ∙ put_keys c tree.children (chosen (comes which took.store) (table_at c root)) took.store (are_new (table_at c root) took.store which (subst (IsKeyedBy took.store.key) (sym copied_roots) keyed_roots))
+        ∙ ap (λ m. took.store.keys ++ fm.keys (chosen (comes which took.store) m)) copied_roots
+        ∙ ap (λ l. took.store.keys ++ l) (sym (coming_keys R took.store.keys took.store which (λ q r e. sym (took.keyed.are q))))
+      where
+        keyed_roots : IsKeyedBy took.store.key R
+        keyed_roots = roots_keyed old w sound stands place x.group here.there writes took.store took.kept later n c read
 
     filled_test : took.filled.tables ≡ shown_of read.v tree test
     filled_test =
@@ -362,6 +357,13 @@ module _ {D : Type 0} (state : D → SiteState) (possible : D → ℕ → Held �
           flag_seen (fm.keys M) y (ap is_writethrough same ∙ writes))
           ∙ ap (λ p. changed_from (alone p) as_loaded 0 (map without_list w.tier.groups)) of.place
           ∙ ap (changed_from (alone place) as_loaded 0) stands.stored.groups ∙ sym took.groups;
+      lists =
+          subst (AreListed (changed_from (alone x.place) F 0 w.tier.groups) new.stores.items) (sym (λ i. (took.rest.hidden i).items))
+          (subst (λ p. AreListed (changed_from (alone p) F 0 w.tier.groups) new.stores.items old.hidden.items) (sym of.place)
+          (subst (λ ss. AreListed (changed_from (alone place) F 0 w.tier.groups) ss old.hidden.items) (sym took.stores)
+          (listed_set place F w.tier.groups old.stores.items took.store took.filled took.kept (stores_long old w.tier sound stands.stored) old.hidden.items (hidden_long old w.tier sound stands.stored)
+          (λ g h at_g held is. listed_same (record g { keys = with_keys (fm.keys M) g.keys }) (F g) took.filled h.table (flag_def (fm.keys M) g) (flag_keys (fm.keys M) g) (grown_listed g (fm.keys M) took.store took.filled h.table filled_keys is))
+          stands.stored.lists)));
       sessions = stands.stored.sessions ∙ ap (λ s. map session_seen (seen_all s)) (sym took.rest.sessions);
       unsettled = stands.stored.unsettled ∙ sym (λ i. (took.rest.unsettled i).items);
       next = stands.stored.next ∙ sym took.rest.next;
@@ -420,8 +422,8 @@ module _ {D : Type 0} (state : D → SiteState) (possible : D → ℕ → Held �
     roots_are : table_at c took.group.def.tree.root.table ≡ R
     roots_are = ap (λ (d : GroupDef). table_at c d.tree.root.table) def_is ∙ copied_roots
 
-    refreshed_is : refreshed_answer x n mid ≡ (tier_with w x (matching (backing_at mid n) x), only (Done (fm.len (matching (backing_at mid n) x))))
-    refreshed_is = ap (λ b. cond {A = Answer} b (tier_with w x (matching (backing_at mid n) x), only (Done (fm.len (matching (backing_at mid n) x)))) (changed (alone x.place) (with_flag true) w.tier, only (Done (fm.len (held_roots x (matching (backing_at mid n) x)))))) explicit
+    refreshed_is : refreshes ≡ true → refreshed_answer x n mid ≡ (tier_with w x (matching (backing_at mid n) x), only (Done (fm.len (matching (backing_at mid n) x))))
+    refreshed_is e = ap (λ b. cond {A = Answer} b (tier_with w x (matching (backing_at mid n) x), only (Done (fm.len (matching (backing_at mid n) x)))) (changed (alone x.place) (with_flag true) w.tier, only (Done (fm.len (held_roots x (matching (backing_at mid n) x)))))) (explicit e)
 
     fits : overflows_in c tree which ≡ false
     fits = ap (λ (y : GroupDef). overflows_in c y.tree which) (sym def_is) ∙ took.fits
@@ -440,7 +442,7 @@ module _ {D : Type 0} (state : D → SiteState) (possible : D → ℕ → Held �
         ∙ ap (λ b. only (Done (counted b which (table_at c took.group.def.tree.root.table) (coming_in c took.group.def.tree took.store which)))) e
         ∙ ap (λ m. only (Done (fm.len (chosen (matches_at which) m)))) roots_are
         ∙ ap (λ m. only (Done (fm.len m))) (sym matched_n)
-        ∙ sym (ap (λ (a : Answer). a.1) refreshed_is)
+        ∙ sym (ap (λ (a : Answer). a.1) (refreshed_is e))
 
     module _ (k' : Option TierJournal) (last : D) (ready : Ready) (of_ready : IsReadyFor w.tier.schema k ready (load_entries x.group)) (reply : Reply) (answers : AnswersBehind state possible k k' d' last ready told_reply reply) where
       settles : (answer : World → Answer) → IgnoresDisk answer mid → (answer mid).0 ≡ T → told_reply ≡ (answer mid).1 → IsPerformedOver state possible new k' last (Some reply) (λ w'. Settles x answer mid w' reply)
@@ -450,10 +452,10 @@ module _ {D : Type 0} (state : D → SiteState) (possible : D → ℕ → Held �
       took_by : (b : Bool) → refreshes ≡ b → IsPerformedOver state possible new k' last (Some reply) (λ w'. ReadsMatching b x w w' reply)
       took_by false e =
           let p = settles (added_answer x n) (λ j faults moment. refl) (ap (tier_with w x) matched_n) (adds e) in
-          record { world = p.world; at = p.at; is = went_on false p.world reply fits (λ same. p.is) (λ same. absurd (never same)); stands = p.stands; keeps = p.keeps }
+          record { world = p.world; at = p.at; is = went_on false e p.world reply fits (λ same. p.is) (λ same. absurd (never same)); stands = p.stands; keeps = p.keeps }
       took_by true e =
-          let p = settles (refreshed_answer x n) (λ j faults moment. refl) (ap (λ (a : Answer). a.0) refreshed_is ∙ ap (tier_with w x) matched_n) (refreshes_so e) in
-          record { world = p.world; at = p.at; is = went_on true p.world reply fits (λ same. absurd (never (sym same))) (λ same. p.is); stands = p.stands; keeps = p.keeps }
+          let p = settles (refreshed_answer x n) (λ j faults moment. refl) (ap (λ (a : Answer). a.0) (refreshed_is e) ∙ ap (tier_with w x) matched_n) (refreshes_so e) in
+          record { world = p.world; at = p.at; is = went_on true e p.world reply fits (λ same. absurd (never (sym same))) (λ same. p.is); stands = p.stands; keeps = p.keeps }
 
       pub took_so : IsPerformedOver state possible new k' last (Some reply) (λ w'. ReadsMatching refreshes x w w' reply)
       took_so = took_by refreshes refl
@@ -462,7 +464,7 @@ module _ {D : Type 0} (state : D → SiteState) (possible : D → ℕ → Held �
   pub refused_so : (new : Stored) (e : Refused) → TakesMatching old new place which refreshes c (Err e) → IsPerformedOver state possible new k d' (Some (reply_of (Err e))) (λ w'. ReadsMatching refreshes x w w' (reply_of (Err e)))
   refused_so new (refused.Rule rule) took =
       let def : took.1.group.def ≡ x.group.def = ap (λ (g : Group). g.def) (seen_at_place old w.tier place x.group took.1.group stands.stored here.there took.1.there) in
-      left_so new (only (No rule)) took.0 (overflowed refreshes rule (ap (λ (y : GroupDef). overflows_in c y.tree which) (sym def) ∙ took.1.is) took.2)
+      left_so new (only (No rule)) took.0 (overflowed refreshes refl rule (ap (λ (y : GroupDef). overflows_in c y.tree which) (sym def) ∙ took.1.is) took.2)
   refused_so new refused.Memory took = left_so new (faulty code.Memory) took (wanted refreshes)
 
   -- 119 of the journal, or 120 before it
@@ -482,8 +484,8 @@ module _ {D : Type 0} (state : D → SiteState) (possible : D → ℕ → Held �
     pub full_so : (result : Result Reply Refused) → JudgesFull old place which c result → IsPerformedOver state possible old k d' (Some (reply_of result)) (λ w'. ReadsMatching refreshes x w w' (reply_of result))
     full_so (Ok reply) judged =
         let def : judged.0.group.def ≡ x.group.def = ap (λ (g : Group). g.def) (seen_at_place old w.tier place x.group judged.0.group stands.stored here.there judged.0.there) in
-        still_so reply (went_on refreshes mid reply (ap (λ (y : GroupDef). overflows_in c y.tree which) (sym def) ∙ judged.0.is) (λ e. full_settles (added_answer x n) reply judged.1) (λ e. full_settles (refreshed_answer x n) reply judged.1))
+        still_so reply (went_on refreshes refl mid reply (ap (λ (y : GroupDef). overflows_in c y.tree which) (sym def) ∙ judged.0.is) (λ e. full_settles (added_answer x n) reply judged.1) (λ e. full_settles (refreshed_answer x n) reply judged.1))
     full_so (Err (refused.Rule rule)) judged =
         let def : judged.0.group.def ≡ x.group.def = ap (λ (g : Group). g.def) (seen_at_place old w.tier place x.group judged.0.group stands.stored here.there judged.0.there) in
-        still_so (only (No rule)) (overflowed refreshes rule (ap (λ (y : GroupDef). overflows_in c y.tree which) (sym def) ∙ judged.0.is) judged.1)
+        still_so (only (No rule)) (overflowed refreshes refl rule (ap (λ (y : GroupDef). overflows_in c y.tree which) (sym def) ∙ judged.0.is) judged.1)
     full_so (Err refused.Memory) judged = still_so (faulty code.Memory) (wanted refreshes)

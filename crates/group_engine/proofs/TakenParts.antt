@@ -13,8 +13,8 @@ use Rattle.group_catalog.specs.declared.which.ResolvedWhich.{ResolvedWhich}
 use Rattle.group_store.specs.Shown.{AreHoused, shown_by}
 use Rattle.tier_statements.specs.Seen.{session_seen}
 use Rattle.cache_tier.specs.declared.reply.Reply.{Reply}
-use Rattle.cache_tier.specs.Groups.{definitions_of}
-use Rattle.cache_tier.specs.Sets.{alone}
+use Rattle.cache_tier.specs.Groups.{Group, definitions_of, is_read_only}
+use Rattle.cache_tier.specs.Sets.{alone, changed_from}
 use Rattle.cache_tier.specs.TierStates.{Tier}
 use Rattle.stored_tier.proofs.WriterLaws.{writers_same}
 use Rattle.stored_tier.specs.declared.clock.TierClock.{TierClock}
@@ -23,6 +23,11 @@ use Rattle.stored_tier.specs.Gathering.{gathered_in}
 use Rattle.stored_tier.specs.Stored.{AreKept, IsSound, IsStoredAs, KeepsTime, are_later, named_where_cached, rows_of}
 use Rattle.group_catalog.specs.Catalogs.{HaveOwnNames, is_plain}
 use Rattle.group_engine.specs.Taking.{Pairs, IsSameButRoom, TakesIn, TakesMatching}
+use Rattle.slot_rows.specs.SlotKeys.{RowsHeld}
+use Rattle.stored_tier.specs.Lists.{AreHiding, AreListed, IsHidingFor}
+use Rattle.stored_tier.proofs.ListLaws.{hiding_long, hiding_same, kept_long}
+use Rattle.group_engine.proofs.GroupRows.{same_there}
+use Rattle.group_engine.proofs.ListsKept.{hides_none, hiding_pairs, hiding_set, listed_pairs, writes_hides}
 use Rattle.group_engine.proofs.FlagLaws.{as_loaded, kept_loaded, names_loaded, plain_loaded, visible_loaded}
 use Rattle.stored_tier.proofs.LaterLaws.{later_by}
 use Rattle.stored_tier.proofs.SoundParts.{changed_defs}
@@ -39,6 +44,9 @@ module _ (old new : Stored) (same : IsSameButRoom old new) where
     schema = is.schema ∙ sym same.rest.schema;
     stale = is.stale ∙ sym same.rest.stale;
     groups = is.groups ∙ ap groups_in (sym same.catalog);
+    lists =
+        subst (AreListed a.groups new.stores.items) (sym (λ i. (same.rest.hidden i).items))
+        (listed_pairs a.groups old.stores.items new.stores.items old.hidden.items same.stores is.lists);
     sessions = is.sessions ∙ ap (λ s. map session_seen (seen_all s)) (sym same.rest.sessions);
     unsettled = is.unsettled ∙ sym (λ i. (same.rest.unsettled i).items);
     next = is.next ∙ sym same.rest.next;
@@ -57,6 +65,11 @@ module _ (old new : Stored) (same : IsSameButRoom old new) where
         (subst (λ d. AreKept d (groups_in old.catalog) new.stores.items) (sym same.rest.schema)
         (kept_still old.schema (groups_in old.catalog) old.stores.items new.stores.items (room_forms old.stores.items new.stores.items same.stores) sound.kept));
     whole = whole_still old.stores.items new.stores.items (room_forms old.stores.items new.stores.items same.stores) sound.whole;
+    hiding =
+        subst (AreHiding new.schema (groups_in new.catalog) new.stores.items) (sym (λ i. (same.rest.hidden i).items))
+        (subst (λ c. AreHiding new.schema (groups_in c) new.stores.items old.hidden.items) (sym same.catalog)
+        (subst (λ d. AreHiding d (groups_in old.catalog) new.stores.items old.hidden.items) (sym same.rest.schema)
+        (hiding_pairs old.schema (groups_in old.catalog) old.stores.items new.stores.items old.hidden.items same.stores sound.hiding)));
     plain = ap (λ c. list_all is_plain (groups_in c)) same.catalog ∙ sound.plain;
     named = subst (λ c. HaveOwnNames (groups_in c)) (sym same.catalog) sound.named;
     visible = same.rest.visible ∙ sound.visible ∙ (λ i. named_where_cached (groups_in (sym same.catalog i)) (sym same.rest.schema i));
@@ -86,6 +99,14 @@ taken_sound old new place which refreshes s reply sound k =
           (kept_loaded (alone place) new.schema 0 (groups_in old.catalog) new.stores.items
           (subst (λ d. AreKept d (groups_in old.catalog) new.stores.items) (sym k.rest.schema) (kept_still old.schema (groups_in old.catalog) old.stores.items new.stores.items same sound.kept)));
       whole = whole_still old.stores.items new.stores.items same sound.whole;
+      hiding =
+          subst (AreHiding new.schema (groups_in new.catalog) new.stores.items) (sym (λ i. (k.rest.hidden i).items))
+          (subst (λ gs. AreHiding new.schema gs new.stores.items old.hidden.items) (sym k.groups)
+          (subst (λ ss. AreHiding new.schema (changed_from (alone place) as_loaded 0 (groups_in old.catalog)) ss old.hidden.items) (sym k.stores)
+          (subst (λ d. AreHiding d (changed_from (alone place) as_loaded 0 (groups_in old.catalog)) (slice_set old.stores.items place k.filled) old.hidden.items) (sym k.rest.schema)
+          (hiding_set place as_loaded (groups_in old.catalog) old.stores.items k.store k.filled k.kept (kept_long old.schema (groups_in old.catalog) old.stores.items sound.kept)
+          old.schema old.hidden.items (hiding_long old.schema (groups_in old.catalog) old.stores.items old.hidden.items sound.hiding)
+          (λ g x at held is. loaded_hides g (same_there (groups_in old.catalog) place g k.group at k.there) x is) sound.hiding))));
       plain = ap (list_all is_plain) k.groups ∙ plain_loaded (alone place) 0 (groups_in old.catalog) ∙ sound.plain;
       named = subst HaveOwnNames (sym k.groups) (names_loaded (alone place) 0 (groups_in old.catalog) sound.named);
       visible =
@@ -98,6 +119,9 @@ taken_sound old new place which refreshes s reply sound k =
       writers = writers_same old new k.rest.schema (ap (λ u. u.items) k.rest.unsettled) k.rest.next k.rest.writers sound;
       verified = λ noted. let no : false ≡ true = sym k.unverified ∙ noted in cc;
     }
+  where
+    loaded_hides : (g : Group) → g ≡ k.group → (x : RowsHeld) → IsHidingFor old.schema g k.store x → IsHidingFor old.schema (as_loaded g) k.filled x
+    loaded_hides g same x is = hiding_same old.schema g (as_loaded g) k.filled x refl (hides_none old.schema g k.store k.filled x (writes_hides g (ap is_read_only same ∙ k.writes)) is)
 
 pub matching_sound : (old new : Stored) (place : ℕ) (which : ResolvedWhich) (refreshes : Bool) (s : TableState) (result : Result Reply Refused) → IsSound old → TakesMatching old new place which refreshes s result → IsSound new
 matching_sound old new place which refreshes s (Ok reply) sound k = taken_sound old new place which refreshes s reply sound k

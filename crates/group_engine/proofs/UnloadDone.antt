@@ -33,7 +33,7 @@ use Rattle.cache_tier.specs.Sets.{alone, changed_from}
 use Rattle.cache_tier.specs.Shown.{instances_where, root_key}
 use Rattle.cache_tier.specs.Steps.{DoesStatement}
 use Rattle.cache_tier.specs.Targets.{Target}
-use Rattle.cache_tier.specs.TierStates.{Session}
+use Rattle.cache_tier.specs.TierStates.{Session, Tier}
 use Rattle.cache_tier.specs.UnloadSteps.{Unloads, gone_keys, matching_shown, unload_answer, unload_entries, unload_fault, unloaded}
 use Rattle.cache_tier.specs.Worlds.{Then, Tries, Unless, World, faulty, only}
 use Rattle.cache_tier.specs.Events.{with_tier}
@@ -49,6 +49,14 @@ use Rattle.outside.specs.Sites.{SiteState}
 use Rattle.stored_tier.proofs.LaterLaws.{later_by}
 use Rattle.stored_tier.specs.Stored.{AreKept, AreWhole, HasSession, IsSound, IsStoredAs, are_later, named_where_cached, without_list}
 use Rattle.group_engine.specs.Taking.{IsOfTarget}
+use Rattle.slot_rows.specs.SlotKeys.{RowsHeld}
+use Rattle.stored_tier.specs.Lists.{AreHiding, AreListed, IsListed, hides_keys, is_by_use}
+use Rattle.stored_tier.proofs.ListLaws.{hidden_long, hides_there, hiding_defined, hiding_long, kept_long, listed_same, stores_long}
+use Rattle.group_engine.proofs.GroupRows.{same_there}
+use Rattle.group_engine.proofs.ListsKept.{hides_none, hiding_set, listed_set, unhidden, writes_hides}
+use Rattle.group_engine.proofs.UnloadLists.{cut_all_keys, gone_is, shrunk_listed, without_alike}
+use Rattle.cache_tier.proofs.GroupTables.{read_only_not}
+use Rattle.cache_tier.proofs.LoadLaws.{unload_keys}
 use Rattle.group_engine.specs.Unloading.{AimsUnloadIn, FindsUnload, IsClearedAt, IsClearedGroup, IsCutBy, IsCutAt, IsCutGroup, LeavesGroup, UnloadsHere, UnloadsReady, UnloadsTarget, cut_all, flagged, leaving}
 use Rattle.group_engine.specs.UnloadLocks.{UnloadTold}
 use Rattle.group_engine.specs.declared.ready.Ready.{Ready}
@@ -69,7 +77,7 @@ use Rattle.stored_tier.proofs.StoreChanges.{form_kept, get_here, get_there, hous
 use Rattle.stored_tier.proofs.StoreRows.{form_at, form_here}
 use Rattle.stored_tier.proofs.QuietLaws.{session_over, stands_over}
 use Rattle.group_engine.proofs.UnloadAims.{rests_of, whole_of}
-use Rattle.group_engine.proofs.UnloadLaws.{count_is, left_shown}
+use Rattle.group_engine.proofs.UnloadLaws.{count_is, keys_are, left_shown}
 
 -- a store that is cut keeps its form
 
@@ -140,6 +148,16 @@ sound_left t new place all does sound c tree long =
       stores = subst (AreHoused new.schema new.stores.items) (sym c.directory) (subst (λ ss. AreHoused new.schema ss t.directory) (sym c.stores) (subst (λ d. AreHoused d (set t.stores.items place c.left) t.directory) (sym schema) housed));
       kept = subst (λ ss. AreKept new.schema (groups_in new.catalog) ss) (sym c.stores) (subst (λ d. AreKept d (groups_in new.catalog) (set t.stores.items place c.left)) (sym schema) kept);
       whole = subst AreWhole (sym c.stores) whole;
+      hiding =
+          subst (AreHiding new.schema (groups_in new.catalog) new.stores.items) (sym (λ i. (c.hidden i).items))
+          (subst (λ ss. AreHiding new.schema (groups_in new.catalog) ss t.hidden.items) (sym c.stores)
+          (subst (λ d. AreHiding d (groups_in new.catalog) (set t.stores.items place c.left) t.hidden.items) (sym schema)
+          (hiding_defined t.schema (changed_from (alone place) (λ g. g) 0 (groups_in t.catalog)) (groups_in new.catalog) (set t.stores.items place c.left) t.hidden.items
+          (defs ∙ sym (ap definitions_of (same_ones place 0 (groups_in t.catalog))))
+          (hiding_set place (λ g. g) (groups_in t.catalog) t.stores.items c.store c.left c.kept (kept_long t.schema (groups_in t.catalog) t.stores.items sound.kept)
+          t.schema t.hidden.items (hiding_long t.schema (groups_in t.catalog) t.stores.items t.hidden.items sound.hiding)
+          (λ g x at held is. hides_none t.schema g c.store c.left x (subst (λ (y : Group). hides_keys y ≡ false) (same_there (groups_in t.catalog) place c.group g c.there at) c.hides) is)
+          sound.hiding))));
       plain = all_plain (groups_in t.catalog) (groups_in new.catalog) defs sound.plain;
       named = named_by (groups_in t.catalog) (groups_in new.catalog) defs sound.named;
       visible = c.visible ∙ sound.visible ∙ sym (visible_by (groups_in t.catalog) (groups_in new.catalog) t.schema defs) ∙ ap (named_where_cached (groups_in new.catalog)) (sym schema);
@@ -158,6 +176,16 @@ sound_left t new place all does sound c tree long =
           (long ∙ sound.whole place c.store c.kept ∙ ap (λ ls. suc (length ls)) (sym tree.layers)))
       | inr other ↦ sound.whole k s (sym (get_there t.stores.items place k c.left other.1) ∙ at)
     ]
+
+-- and the lists
+pub left_listed : (t new : Stored) (place : ℕ) (all : Bool) (does : Group → Kept → Kept → Type 0) → (c : LeavesGroup t new place all does) → (a : Tier) (p : ℕ) → p ≡ place → (f : Group → Group) → IsSound t → IsStoredAs t a
+    → ((g : Group) (x : RowsHeld) → slice_get a.groups place ≡ Some g → slice_get t.hidden.items place ≡ Some x → IsListed g c.store x.table → IsListed (f g) c.left x.table)
+    → AreListed (changed_from (alone p) f 0 a.groups) new.stores.items new.hidden.items
+left_listed t new place all does c a p same f sound is one =
+    subst (AreListed (changed_from (alone p) f 0 a.groups) new.stores.items) (sym (λ i. (c.hidden i).items))
+    (subst (λ q. AreListed (changed_from (alone q) f 0 a.groups) new.stores.items t.hidden.items) (sym same)
+    (subst (λ ss. AreListed (changed_from (alone place) f 0 a.groups) ss t.hidden.items) (sym c.stores)
+    (listed_set place f a.groups t.stores.items c.store c.left c.kept (stores_long t a sound is) t.hidden.items (hidden_long t a sound is) one is.lists)))
 
 pub sound_cut : (t new : Stored) (aim : Aim) (all : Bool) (n : ℕ) → IsSound t → IsCutGroup t new aim all n → IsSound new
 sound_cut t new aim all n sound cut =
@@ -208,11 +236,28 @@ module _ (law : UnloadLaw) (drops : (state : TableState) (tree : Tree) → Keeps
           let same : y ≡ x.group = cc in
           ap is_writethrough same ∙ writes
 
+  reads_not : is_read_only x.group ≡ false
+  reads_not = read_only_not x.group writes
+
+  left_keys : cut.left.keys ≡ without_keys (gone_keys w x) cut.store.keys
+  left_keys =
+      let L = leaving aim.which (primary_of t.schema x.group.def.tree.root.table) (kept_at cut.store.tables 0) in
+      gone.keys ∙ cut_all_keys L cut.store
+      ∙ without_alike L (gone_keys w x) cut.store.keys (λ k. keys_are t w sound stands aim.place x.group at writes cut.store cut.kept x aim.which refl of k ∙ sym (gone_is w x stands.stands reads_not k))
+
+  none_hidden_at : (g : Group) (h : RowsHeld) → slice_get w.tier.groups aim.place ≡ Some g → slice_get t.hidden.items aim.place ≡ Some h → h.table ≡ fm.empty
+  none_hidden_at g h at_g held =
+      let same : g ≡ x.group = same_there w.tier.groups aim.place g x.group at_g at in
+      (hides_there t w.tier aim.place g cut.store h sound stands.stored at_g cut.kept held).none (writes_hides g (ap is_read_only same ∙ reads_not))
+
   stored : IsStoredAs new (unload_answer x all w).0
   stored = record {
     schema = stands.stored.schema ∙ sym cut.beside.schema;
     stale = stands.stored.stale ∙ sym cut.beside.stale;
     groups = groups_behind;
+    lists = left_listed t new aim.place all _ cut w.tier x.place of.place (unloaded (gone_keys w x) all) sound stands.stored
+        (λ g h at_g held is. listed_same (record g { keys = without_keys (gone_keys w x) g.keys }) (unloaded (gone_keys w x) all g) cut.left h.table (unloaded_def (gone_keys w x) all g) (unload_keys (gone_keys w x) all g)
+        (shrunk_listed g (gone_keys w x) cut.store cut.left h.table left_keys (none_hidden_at g h at_g held) is));
     sessions = stands.stored.sessions ∙ ap (λ y. map session_seen (seen_all y)) (sym cut.beside.sessions);
     unsettled = stands.stored.unsettled ∙ ap (λ u. u.items) (sym cut.beside.unsettled);
     next = stands.stored.next ∙ sym cut.beside.next;
@@ -329,15 +374,16 @@ unload_done state possible t new k k' d d' id u aim result aims here = λ s has 
 
 -- the store and the flag of the group
 
-pub group_cleared : (t mid new : Stored) (place n : ℕ) (seen : Group) → slice_get (groups_in t.catalog) place ≡ Some seen → IsClearedAt place t.stores.items mid.stores.items n → mid ≡ record t { stores = mid.stores } → new ≡ record mid { catalog = new.catalog; verified = false }
+pub group_cleared : (t mid new : Stored) (place n : ℕ) (seen : Group) → slice_get (groups_in t.catalog) place ≡ Some seen → (seen.def.dynamic || is_by_use seen.def.aging) ≡ false → IsClearedAt place t.stores.items mid.stores.items n → mid ≡ record t { stores = mid.stores } → new ≡ record mid { catalog = new.catalog; verified = false }
     → groups_in new.catalog ≡ flagged true place (groups_in mid.catalog) → IsClearedGroup t new place n
-group_cleared t mid new place n seen at cleared same then groups = record {
+group_cleared t mid new place n seen at whole cleared same then groups = record {
   group = seen;
   store = cleared.store;
   left = cleared.left;
   there = at;
   kept = cleared.kept;
-  did = cleared.cleared;
+  hides = unhidden seen whole;
+  did = (cleared.cleared, whole);
   stores = ap (λ (y : Stored). y.stores.items) then ∙ cleared.is;
   groups = groups ∙ ap (λ (y : Stored). flagged true place (groups_in y.catalog)) same;
   beside = record {
@@ -351,12 +397,13 @@ group_cleared t mid new place n seen at cleared same then groups = record {
   };
   visible = ap (λ (y : Stored). y.visible) then ∙ ap (λ (y : Stored). y.visible) same;
   directory = ap (λ (y : Stored). y.directory) then ∙ ap (λ (y : Stored). y.directory) same;
+  hidden = ap (λ (y : Stored). y.hidden) then ∙ ap (λ (y : Stored). y.hidden) same;
   unverified = ap (λ (y : Stored). y.verified) then;
 }
 
-pub group_cut : (t mid new : Stored) (aim : Aim) (all : Bool) (n : ℕ) (seen : Group) (def : TableDef) (columns : List ℕ) → slice_get (groups_in t.catalog) aim.place ≡ Some seen → slice_get t.schema seen.def.tree.root.table.0 ≡ Some def → columns ≡ def.primary_key
+pub group_cut : (t mid new : Stored) (aim : Aim) (all : Bool) (n : ℕ) (seen : Group) (def : TableDef) (columns : List ℕ) → slice_get (groups_in t.catalog) aim.place ≡ Some seen → hides_keys seen ≡ false → slice_get t.schema seen.def.tree.root.table.0 ≡ Some def → columns ≡ def.primary_key
     → IsCutAt aim.place columns aim.which t.stores.items mid.stores.items n → mid ≡ record t { stores = mid.stores } → new ≡ record mid { catalog = new.catalog; verified = false } → groups_in new.catalog ≡ flagged all aim.place (groups_in mid.catalog) → IsCutGroup t new aim all n
-group_cut t mid new aim all n seen def columns at defined are cut same then groups =
+group_cut t mid new aim all n seen def columns at hides defined are cut same then groups =
     let its : columns ≡ primary_of t.schema seen.def.tree.root.table = are ∙ sym (ap (λ o. unwrap_or (option_map (λ (d : TableDef). d.primary_key) o) []) defined) in
     record {
       group = seen;
@@ -364,6 +411,7 @@ group_cut t mid new aim all n seen def columns at defined are cut same then grou
       left = cut.left;
       there = at;
       kept = cut.kept;
+      hides = hides;
       did = subst (λ cs. IsCutBy aim.which cs cut.store cut.left n) its cut.cut;
       stores = ap (λ (y : Stored). y.stores.items) then ∙ cut.is;
       groups = groups ∙ ap (λ (y : Stored). flagged all aim.place (groups_in y.catalog)) same;
@@ -378,5 +426,6 @@ group_cut t mid new aim all n seen def columns at defined are cut same then grou
       };
       visible = ap (λ (y : Stored). y.visible) then ∙ ap (λ (y : Stored). y.visible) same;
       directory = ap (λ (y : Stored). y.directory) then ∙ ap (λ (y : Stored). y.directory) same;
+      hidden = ap (λ (y : Stored). y.hidden) then ∙ ap (λ (y : Stored). y.hidden) same;
       unverified = ap (λ (y : Stored). y.verified) then;
     }

@@ -17,7 +17,6 @@ use Rattle.session_state.proofs.ApartLaws.{any_false}
 use Rattle.group_catalog.specs.Catalogs.{groups_in}
 use Rattle.group_store.specs.Stores.{Kept, SameButSpare, cleared_store}
 use Rattle.group_store.specs.Trees.{all_empty}
-use Rattle.order_laws.proofs.TruthLaws.{both_true}
 use Rattle.tier_statements.specs.Seen.{session_seen}
 use Rattle.cache_tier.specs.declared.reply.Last.TheVariants.{Done, No}
 use Rattle.cache_tier.specs.declared.reply.Reply.{Reply}
@@ -42,8 +41,10 @@ use Rattle.stored_tier.specs.Grouping.{KeepsGroups, SameTree}
 use Rattle.stored_tier.specs.Performing.{StandsFor, reply_of}
 use Rattle.outside.specs.Sites.{SiteState}
 use Rattle.stored_tier.specs.Stored.{HasSession, IsSound, IsStoredAs, without_list}
-use Rattle.group_catalog.specs.Catalogs.{is_plain}
-use Rattle.group_engine.specs.Unloading.{IsClearedGroup, IsReadyToLeave, UnloadsHere, UnloadsReady, UnloadsTarget}
+use Rattle.stored_tier.specs.Lists.{is_by_use}
+use Rattle.cache_tier.specs.declared.group.GroupDef.{GroupDef}
+use Rattle.group_engine.proofs.ListsKept.{explicit_so, none_asked}
+use Rattle.group_engine.specs.Unloading.{IsClearedGroup, IsReadyToLeave, IsWholeAt, UnloadsHere, UnloadsReady, UnloadsTarget}
 use Rattle.group_engine.specs.declared.ready.Ready.{Ready}
 use Rattle.group_engine.specs.Ready.{AnswersBehind, IsReadyFor, is_full_ready}
 use Rattle.group_engine.proofs.ReadyLaws.{full_then}
@@ -58,14 +59,13 @@ use Rattle.outside.specs.Holding.{Held}
 use Rattle.stored_tier.proofs.OverLaws.{keeps_stays}
 use Rattle.group_engine.proofs.DropLocks.{group_stored}
 use Rattle.group_engine.proofs.FlagLaws.{flagged_seen}
-use Rattle.group_engine.proofs.FreshLaws.{all_there}
 use Rattle.group_engine.proofs.GroupComes.{stands_kept, time_kept}
 use Rattle.group_engine.proofs.GroupRows.{shown_of_place}
 use Rattle.group_engine.proofs.ReadOnlyUnloads.{unheld, unload_shows, unloaded_is}
 use Rattle.stored_tier.proofs.SoundParts.{changed_defs}
 use Rattle.stored_tier.proofs.StoreChanges.{form_kept, shows_changed}
 use Rattle.stored_tier.proofs.StoreRows.{form_here, kept_is_shown}
-use Rattle.group_engine.proofs.UnloadDone.{marked, sound_left, unloaded_def}
+use Rattle.group_engine.proofs.UnloadDone.{left_listed, marked, sound_left, unloaded_def}
 
 abbrev Row : Type 0
 Row = List Value
@@ -83,8 +83,8 @@ none_at (t ∷ ts) (suc p) = none_at ts p
 
 pub sound_cleared : (t new : Stored) (aim : Aim) (n : ℕ) → IsSound t → IsClearedGroup t new aim.place n → IsSound new
 sound_cleared t new aim n sound cleared =
-    sound_left t new aim.place true _ sound cleared (cleared_tree cleared.store cleared.left cleared.did.gone)
-    (ap (λ (ts : List Table). length ts) cleared.did.gone.tables ∙ length-map cleared.store.tables (λ t. empty))
+    sound_left t new aim.place true _ sound cleared (cleared_tree cleared.store cleared.left cleared.did.0.gone)
+    (ap (λ (ts : List Table). length ts) cleared.did.0.gone.tables ∙ length-map cleared.store.tables (λ t. empty))
 
 -- nothing is asked of the rows
 
@@ -114,8 +114,8 @@ module _ (t new : Stored) (id : SessionId) (aim : Aim) (n : ℕ) (sound : IsSoun
 
   explicit : is_explicit x.group ≡ true
   explicit =
-      let plain = all_there is_plain (groups_in t.catalog) aim.place (without_list x.group) sound.plain (group_stored t w.tier aim.place x.group stands.stored at) in
-      (both_true (is_explicit x.group) (is_none x.group.def.aging) plain).0
+      explicit_so x.group (subst (λ (y : Group). (y.def.dynamic || is_by_use y.def.aging) ≡ false)
+      (same_there (groups_in t.catalog) aim.place cleared.group (without_list x.group) cleared.there (group_stored t w.tier aim.place x.group stands.stored at)) cleared.did.1)
 
   roots : kept_at cleared.store.tables 0 ≡ shown_roots w.history w.tier.log x.group
   roots =
@@ -131,7 +131,7 @@ module _ (t new : Stored) (id : SessionId) (aim : Aim) (n : ℕ) (sound : IsSoun
   matching = all_pass (matches x.filter x.id (no_rows w.tier) x.group) (shown_roots w.history w.tier.log x.group) each_matches
 
   count : n ≡ fm.len (matching_shown w x)
-  count = cleared.did.count ∙ ap (λ (m : Table). fm.len m) (roots ∙ sym matching)
+  count = cleared.did.0.count ∙ ap (λ (m : Table). fm.len m) (roots ∙ sym matching)
 
   behind : ShowsWithout x.group w (with_tier (unload_answer x true w).0 w)
   behind = unload_shows w stands.stands x.place x.group there reads explicit (gone_keys w x)
@@ -155,6 +155,11 @@ module _ (t new : Stored) (id : SessionId) (aim : Aim) (n : ℕ) (sound : IsSoun
     schema = stands.stored.schema ∙ sym cleared.beside.schema;
     stale = stands.stored.stale ∙ sym cleared.beside.stale;
     groups = groups_behind;
+    lists = left_listed t new aim.place true _ cleared w.tier x.place place (unloaded (gone_keys w x) true) sound stands.stored
+        (λ g h at_g held is. none_asked (unloaded (gone_keys w x) true g) cleared.left h.table
+        (subst (λ (d : GroupDef). (d.dynamic || is_by_use d.aging) ≡ false)
+        (ap (λ (y : Group). y.def) (same_there (groups_in t.catalog) aim.place cleared.group (without_list g) cleared.there (group_stored t w.tier aim.place g stands.stored at_g)) ∙ sym (unloaded_def (gone_keys w x) true g))
+        cleared.did.1));
     sessions = stands.stored.sessions ∙ ap (λ y. map session_seen (seen_all y)) (sym cleared.beside.sessions);
     unsettled = stands.stored.unsettled ∙ ap (λ u. u.items) (sym cleared.beside.unsettled);
     next = stands.stored.next ∙ sym cleared.beside.next;
@@ -171,8 +176,8 @@ module _ (t new : Stored) (id : SessionId) (aim : Aim) (n : ℕ) (sound : IsSoun
       known = refl;
       defined = changed_defs (alone x.place) (unloaded (gone_keys w x) true) 0 w.tier.groups (unloaded_def (gone_keys w x) true);
       stores = cleared.stores;
-      form = form_kept t.schema x.group.def.tree cleared.store cleared.left (form_here t w sound stands aim.place x.group cleared.store at cleared.kept) (cleared_tree cleared.store cleared.left cleared.did.gone);
-      its = λ u p e. ap (λ ts. kept_at ts p) cleared.did.gone.tables ∙ none_at cleared.store.tables p ∙ sym (behind.its u (ap Rattle.std.proofs.Common.is_some e));
+      form = form_kept t.schema x.group.def.tree cleared.store cleared.left (form_here t w sound stands aim.place x.group cleared.store at cleared.kept) (cleared_tree cleared.store cleared.left cleared.did.0.gone);
+      its = λ u p e. ap (λ ts. kept_at ts p) cleared.did.0.gone.tables ∙ none_at cleared.store.tables p ∙ sym (behind.its u (ap Rattle.std.proofs.Common.is_some e));
       others = behind.others;
     });
     stands = behind.stands;
@@ -186,17 +191,15 @@ module _ (t new : Stored) (id : SessionId) (aim : Aim) (n : ℕ) (sound : IsSoun
 unload_so : (s : Session) (x : Target) (all : Bool) (w w' : World) (reply : Reply) → unload_fault s x w ≡ None → Then (FlushesSome (unload_entries all x.group)) (Answers (unload_answer x all)) w w' reply → UnloadsTarget s x all w w' reply
 unload_so s x all w w' reply free then = subst (λ o. Unless o (Then (FlushesSome (unload_entries all x.group)) (Answers (unload_answer x all))) w w' reply) (sym free) then
 
-explicit_there : (t : Stored) (w : World) (place : ℕ) (g : Group) → IsSound t → StandsFor t w → slice_get w.tier.groups place ≡ Some g → is_explicit g ≡ true
-explicit_there t w place g sound stands at =
-    let plain = all_there is_plain (groups_in t.catalog) place (without_list g) sound.plain (group_stored t w.tier place g stands.stored at) in
-    (both_true (is_explicit g) (is_none g.def.aging) plain).0
+explicit_there : (t : Stored) (w : World) (place : ℕ) (g : Group) → IsWholeAt t place → StandsFor t w → slice_get w.tier.groups place ≡ Some g → is_explicit g ≡ true
+explicit_there t w place g whole stands at = explicit_so g (whole (without_list g) (group_stored t w.tier place g stands.stored at))
 
 module _ {D : Type 0} (state : D → SiteState) (possible : D → ℕ → Held → Type 0) where
-  pub cleared_here : (t new : Stored) (k k' : Option TierJournal) (d d' : D) (ready : Ready) (id : SessionId) (aim : Aim) (all : Bool) (n : ℕ) (told reply : Reply) → IsSound t → aim.read_only ≡ true → IsClearedGroup t new aim.place n → AnswersBehind state possible k k' d d' ready told reply → told ≡ only (Done n)
+  pub cleared_here : (t new : Stored) (k k' : Option TierJournal) (d d' : D) (ready : Ready) (id : SessionId) (aim : Aim) (all : Bool) (n : ℕ) (told reply : Reply) → IsSound t → IsWholeAt t aim.place → aim.read_only ≡ true → IsClearedGroup t new aim.place n → AnswersBehind state possible k k' d d' ready told reply → told ≡ only (Done n)
       → UnloadsReady state possible t new k k' d d' ready id aim all reply
-  cleared_here t new k k' d d' ready id aim all n told reply sound kind cleared answers is = λ s w x has rests asks at stands keeps ready_for here kinds of.
+  cleared_here t new k k' d d' ready id aim all n told reply sound explicit kind cleared answers is = λ s w x has rests asks at stands keeps ready_for here kinds of.
       let reads : is_read_only x.group ≡ true = kinds ∙ kind in
-      let whole = asks reads (explicit_there t w aim.place x.group sound stands here) in
+      let whole = asks reads (explicit_there t w aim.place x.group explicit stands here) in
       let p = answers new w (unload_entries true x.group) (unload_answer x true) at keeps (subst (λ b. IsReadyFor w.tier.schema k ready (unload_entries b x.group)) whole.0 ready_for)
       (stands_left t new id aim n sound cleared s w x has stands here reads whole.1 whole.2 of.place) refl (λ j faults moment. refl)
       (counted t new id aim n sound cleared s w x has stands here reads whole.1 whole.2 of.place told is) in
@@ -209,10 +212,10 @@ module _ {D : Type 0} (state : D → SiteState) (possible : D → ℕ → Held �
       }
 
   -- 119 of the journal
-  pub whole_full : (t : Stored) (k : Option TierJournal) (d : D) (ready : Ready) (id : SessionId) (aim : Aim) (all : Bool) (reply : Reply) → IsSound t → aim.read_only ≡ true → is_full_ready ready ≡ true → reply ≡ only (No (past limit.JournalSlot)) → UnloadsReady state possible t t k k d d ready id aim all reply
-  whole_full t k d ready id aim all reply sound kind full told = λ s w x has rests asks at stands keeps ready_for here kinds of.
+  pub whole_full : (t : Stored) (k : Option TierJournal) (d : D) (ready : Ready) (id : SessionId) (aim : Aim) (all : Bool) (reply : Reply) → IsWholeAt t aim.place → aim.read_only ≡ true → is_full_ready ready ≡ true → reply ≡ only (No (past limit.JournalSlot)) → UnloadsReady state possible t t k k d d ready id aim all reply
+  whole_full t k d ready id aim all reply explicit kind full told = λ s w x has rests asks at stands keeps ready_for here kinds of.
       let reads : is_read_only x.group ≡ true = kinds ∙ kind in
-      let whole = asks reads (explicit_there t w aim.place x.group sound stands here) in
+      let whole = asks reads (explicit_there t w aim.place x.group explicit stands here) in
       record {
         world = w;
         at = at;

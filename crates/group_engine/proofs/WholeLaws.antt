@@ -5,14 +5,12 @@ use Rattle.std.specs.Bool.{MatchBool}
 use Rattle.std.specs.Option.{option_map}
 use Rattle.std.proofs.lemmas.Bool.{eq-eqb, eqb-true}
 use Rattle.std.specs.FinMap.{len}
-use Rattle.std.specs.List.{list_all}
-use Rattle.std.specs.Option.{is_none}
 use Rattle.sql_subset.specs.declared.stmt.RefreshState.{RefreshState}
 use Rattle.sql_subset.specs.declared.stmt.RefreshState.TheVariants.{On, Off, Paused}
 use Rattle.table_state.specs.Tables.{TableState}
 use Rattle.outside.specs.declared.fault.BankError.{BankError}
 use Rattle.group_catalog.specs.Catalogs.{groups_in}
-use Rattle.group_store.specs.Stores.{Kept}
+use Rattle.stored_tier.specs.declared.refreshing.Made.{Made}
 use Rattle.cache_tier.specs.declared.reply.Reply.{Reply}
 use Rattle.cache_tier.specs.declared.reply.Last.TheVariants.{Done, No}
 use Rattle.cache_tier.specs.Rules.{past}
@@ -30,7 +28,7 @@ use Rattle.order_laws.proofs.TruthLaws.{both_true, or_true}
 use Rattle.instances.specs.Trees.{place_of}
 use Rattle.stored_tier.specs.declared.tier.Tier.{Tier as Stored}
 use Rattle.group_engine.specs.Fresh.{AreFresh, IsRead}
-use Rattle.group_engine.specs.Loaded.{IsReadyToLoad, LoadsWhole, ReadsWhole, whole_target}
+use Rattle.group_engine.specs.Loaded.{IsExplicitAt, IsReadyToLoad, LoadsWhole, ReadsWhole, whole_target}
 use Rattle.group_engine.specs.declared.ready.Ready.{Ready}
 use Rattle.group_engine.specs.Ready.{AnswersBehind, IsReadyFor, is_full_ready}
 use Rattle.group_engine.proofs.ReadyLaws.{full_then}
@@ -49,8 +47,10 @@ use Rattle.stored_tier.specs.Refreshing.{IsStateAt, is_filled, is_off, positione
 use Rattle.stored_tier.specs.Sites.{IsAt}
 use Rattle.outside.specs.Sites.{SiteState}
 use Rattle.stored_tier.specs.Stored.{AreKept, IsSound, without_list}
-use Rattle.group_catalog.specs.Catalogs.{is_plain}
-use Rattle.group_engine.proofs.FreshLaws.{Changes, IsFlagged, IsRefreshed, all_there, changed_at, groups_behind, kept_long, mapped_there, stands_behind, tier_behind}
+use Rattle.stored_tier.proofs.ListLaws.{kept_long}
+use Rattle.group_engine.proofs.ChangedLists.{changed_at, mapped_there}
+use Rattle.group_engine.proofs.FreshGroup.{Changes, IsFlagged}
+use Rattle.group_engine.proofs.FreshLaws.{IsRefreshed, groups_behind, stands_behind, tier_behind}
 use Rattle.stored_tier.proofs.RefreshSteps.{same_by_place, changed_now}
 use Rattle.group_engine.proofs.GroupRows.{same_there, there_too}
 use Rattle.group_engine.proofs.ShownStores.{each_shows}
@@ -92,11 +92,23 @@ loads_mapped g = by (has_flag g)
     by true = refl
     by false = refl
 
-loads_flagged : (g : Group) → is_explicit g ≡ true → IsFlagged true g (loads_group g)
-loads_flagged g e =
-    let is = loads_is g e in
-    let state = ap (λ (x : Group). x.state) is in
-    record { is = is ∙ (λ i. record g { state = sym state i; loaded = sym (or_true g.loaded) i }) }
+loads_flagged : (g : Group) → (true ≡ true → is_read_only g ≡ true) → IsFlagged (is_explicit g) g (loads_group g)
+loads_flagged g reads = by (is_explicit g) refl
+  where
+    or_none : (b : Bool) → b ≡ (b || false)
+    or_none true = refl
+    or_none false = refl
+
+    by : (b : Bool) → is_explicit g ≡ b → IsFlagged b g (loads_group g)
+    by true e =
+        let is = loads_is g e in
+        let state = ap (λ (x : Group). x.state) is in
+        record { is = is ∙ (λ i. record g { state = sym state i; loaded = sym (or_true g.loaded) i }) }
+    by false e =
+        let none : has_flag g ≡ false = λ i. not (reads refl i) || e i in
+        let is : loads_group g ≡ state_loaded g = ap (λ b. cond b (record (state_loaded g) { loaded = true }) (state_loaded g)) none in
+        let state = ap (λ (x : Group). x.state) is in
+        record { is = is ∙ (λ i. record g { state = sym state i; loaded = or_none g.loaded i }) }
 
 flag_keeps : (b : Bool) (g : Group) → (cond b (record g { loaded = true }) g).position ≡ g.position
 flag_keeps true g = refl
@@ -152,16 +164,16 @@ loaded_positions groups place n g s at one = by g.state refl
         ∙ ap (λ (y : RefreshState). is_on (loaded_state y)) (ap (λ (y : Group). y.state) same ∙ e))) one
 
 -- STATE and the loaded flag, one after the other
-pub loaded_once : (groups : List Group) (place n : ℕ) (chosen : Choice) (st : RefreshState) → list_all is_plain groups ≡ true → IsStateAt groups place st
+pub loaded_once : (groups : List Group) (place n : ℕ) (chosen : Choice) (st : RefreshState) → IsExplicitAt groups place → IsStateAt groups place st
     → changed_from (alone place) (λ h. record h { state = st }) 0 (changed_from (alone place) (λ h. record h { loaded = true }) 0 (changed_from chosen (positioned n) 0 groups)) ≡ changed_from (alone place) loads_group 0 (changed_from chosen (positioned n) 0 groups)
-loaded_once groups place n chosen st plain state = alone_two place (λ h. record h { state = st }) (λ h. record h { loaded = true }) loads_group (changed_from chosen (positioned n) 0 groups) (λ h at. by h (slice_get groups place) refl (sym (changed_now chosen (positioned n) groups place) ∙ at))
+loaded_once groups place n chosen st explicit_there state = alone_two place (λ h. record h { state = st }) (λ h. record h { loaded = true }) loads_group (changed_from chosen (positioned n) 0 groups) (λ h at. by h (slice_get groups place) refl (sym (changed_now chosen (positioned n) groups place) ∙ at))
   where
     by : (h : Group) (o : Option Group) → slice_get groups place ≡ o → option_map (λ g. cond (chosen place g) (positioned n g) g) (slice_get groups place) ≡ Some h → record h { loaded = true; state = st } ≡ loads_group h
     by h None e at = let wrong : None ≡ Some h = ap (option_map (λ g. cond (chosen place g) (positioned n g) g)) (sym e) ∙ at in cc
     by h (Some g) e at =
         let both : Some (cond (chosen place g) (positioned n g) g) ≡ Some h = ap (option_map (λ x. cond (chosen place x) (positioned n x) x)) (sym e) ∙ at in
         let is : cond (chosen place g) (positioned n g) g ≡ h = cc in
-        let explicit : is_explicit g ≡ true = (both_true (is_explicit g) (is_none g.def.aging) (all_there is_plain groups place g plain e)).0 in
+        let explicit : is_explicit g ≡ true = explicit_there g e in
         sym (loads_is h (ap is_explicit (sym is) ∙ kept (chosen place g) g ∙ explicit) ∙ ap (λ x. record h { state = x; loaded = true }) (ap (λ (y : Group). loaded_state y.state) (sym is) ∙ same (chosen place g) g ∙ sym (state g e)))
       where
         kept : (b : Bool) (x : Group) → is_explicit (cond b (positioned n x) x) ≡ is_explicit x
@@ -172,7 +184,7 @@ loaded_once groups place n chosen st plain state = alone_two place (λ h. record
         same true x = refl
         same false x = refl
 
-module _ (t new : Stored) (behind : SiteState) (w : World) (place n : ℕ) (g : Group) (chosen : Choice) (made : List (Option Kept)) (at : slice_get w.tier.groups place ≡ Some g) (reads : is_read_only g ≡ true) (chosen_is : chosen ≡ loaded_with g place)
+module _ (t new : Stored) (behind : SiteState) (w : World) (place n : ℕ) (g : Group) (chosen : Choice) (made : List (Option Made)) (at : slice_get w.tier.groups place ≡ Some g) (reads : is_read_only g ≡ true) (chosen_is : chosen ≡ loaded_with g place)
     (r : IsRead t behind (Ok n) w) (fresh : AreFresh t r.world (is_filled chosen (Some place)) n made) (is : IsRefreshed t new chosen place loads_group n made) (told : Reply) (told_is : told ≡ only (Done (roots_kept (slice_get new.stores.items place)))) (sound : IsSound new) where
   there : slice_get r.world.tier.groups place ≡ Some g
   there = ap (λ (x : Tier). slice_get x.groups place) r.tier ∙ at
@@ -318,14 +330,14 @@ pub record GroupAt (t : Stored) (w : World) (place : ℕ) (seen : Group) : Type 
   pub is : without_list group ≡ seen
   pub explicit : is_explicit group ≡ true
 
-pub group_at : (t : Stored) (w : World) (place : ℕ) (seen : Group) → IsSound t → StandsFor t w → slice_get (groups_in t.catalog) place ≡ Some seen → GroupAt t w place seen
-group_at t w place seen sound stands at =
+pub group_at : (t : Stored) (w : World) (place : ℕ) (seen : Group) → is_explicit seen ≡ true → StandsFor t w → slice_get (groups_in t.catalog) place ≡ Some seen → GroupAt t w place seen
+group_at t w place seen explicit stands at =
     let (h, h_at, same) = unmapped w.tier.groups place seen (ap (λ l. slice_get l place) stands.stored.groups ∙ at) in
     record {
       group = h;
       there = h_at;
       is = same;
-      explicit = ap is_explicit same ∙ (both_true (is_explicit seen) (is_none seen.def.aging) (all_there is_plain (groups_in t.catalog) place seen sound.plain at)).0;
+      explicit = ap is_explicit same ∙ explicit;
     }
 
 -- it is loaded alone, or with its set
@@ -360,10 +372,10 @@ abbrev pub WholeReads : Target → (ℕ → World → World → Reply → Type 0
 WholeReads x other = Reads (set_tried x.group) (λ n v v' r. MatchBool (is_explicit x.group) (Settles x (whole_answer x n) v v' r) (other n v v' r))
 
 -- behind the load alone
-pub loaded_alone : {D : Type 0} (state : D → SiteState) (possible : D → ℕ → Held → Type 0) (t new : Stored) (k k' : Option TierJournal) (d d' : D) (place : ℕ) (seen : Group) (reply : Reply) → IsSound t → slice_get (groups_in t.catalog) place ≡ Some seen → is_read_only seen ≡ true → seen.state ≡ Off → LoadsWhole state possible t new k k' d d' place (alone place) reply
+pub loaded_alone : {D : Type 0} (state : D → SiteState) (possible : D → ℕ → Held → Type 0) (t new : Stored) (k k' : Option TierJournal) (d d' : D) (place : ℕ) (seen : Group) (reply : Reply) → is_explicit seen ≡ true → slice_get (groups_in t.catalog) place ≡ Some seen → is_read_only seen ≡ true → seen.state ≡ Off → LoadsWhole state possible t new k k' d d' place (alone place) reply
     → (x : Target) → x.place ≡ place → (other : ℕ → World → World → Reply → Type 0) → (w : World) → IsAt (state d) w → StandsFor t w → IsUnshared w → KeepsOver state possible d k w → IsPerformedOver state possible new k' d' (Some reply) (λ w'. slice_get w.tier.groups place ≡ Some x.group → Tries (WholeReads x other) w w' reply)
-loaded_alone state possible t new k k' d d' place seen reply sound at reads off loads x place_is other w at_w stands apart keeps =
-    let g = group_at t w place seen sound stands at in
+loaded_alone state possible t new k k' d d' place seen reply explicit at reads off loads x place_is other w at_w stands apart keeps =
+    let g = group_at t w place seen explicit stands at in
     let off_there : g.group.state ≡ Off = ap (λ (y : Group). y.state) g.is ∙ off in
     let p = loads w g.group at_w stands apart keeps g.there (ap is_read_only g.is ∙ reads) (with_alone g.group place off_there) in
     record {
@@ -378,11 +390,11 @@ loaded_alone state possible t new k k' d d' place seen reply sound at reads off 
     }
 
 -- behind the load with its set, which was noted
-pub loaded_joined : {D : Type 0} (state : D → SiteState) (possible : D → ℕ → Held → Type 0) (t noted new : Stored) (k k' : Option TierJournal) (d d' : D) (place : ℕ) (seen : Group) (reply : Reply) → IsSound t → slice_get (groups_in t.catalog) place ≡ Some seen → is_read_only seen ≡ true → is_off seen.state ≡ false
+pub loaded_joined : {D : Type 0} (state : D → SiteState) (possible : D → ℕ → Held → Type 0) (t noted new : Stored) (k k' : Option TierJournal) (d d' : D) (place : ℕ) (seen : Group) (reply : Reply) → is_explicit seen ≡ true → slice_get (groups_in t.catalog) place ≡ Some seen → is_read_only seen ≡ true → is_off seen.state ≡ false
     → ((w : World) → StandsFor t w → StandsFor noted (record w { tier = refresh_tried seen.def.interval w.tier })) → LoadsWhole state possible noted new k k' d d' place (of_set seen.def.interval (Some place)) reply
     → (x : Target) → x.place ≡ place → (other : ℕ → World → World → Reply → Type 0) → (w : World) → IsAt (state d) w → StandsFor t w → IsUnshared w → KeepsOver state possible d k w → IsPerformedOver state possible new k' d' (Some reply) (λ w'. slice_get w.tier.groups place ≡ Some x.group → Tries (WholeReads x other) w w' reply)
-loaded_joined state possible t noted new k k' d d' place seen reply sound at reads on notes loads x place_is other w at_w stands apart keeps =
-    let g = group_at t w place seen sound stands at in
+loaded_joined state possible t noted new k k' d d' place seen reply explicit at reads on notes loads x place_is other w at_w stands apart keeps =
+    let g = group_at t w place seen explicit stands at in
     let on_there : is_off g.group.state ≡ false = ap (λ (y : Group). is_off y.state) g.is ∙ on in
     let interval : g.group.def.interval ≡ seen.def.interval = ap (λ (y : Group). y.def.interval) g.is in
     let p = loads (record w { tier = refresh_tried seen.def.interval w.tier }) g.group (record { there = at_w.there; told = at_w.told; history = at_w.history; faults = at_w.faults; moment = at_w.moment; shared = at_w.shared }) (notes w stands) apart (keeps_tier state possible d k w (refresh_tried seen.def.interval w.tier) refl keeps) g.there (ap is_read_only g.is ∙ reads)

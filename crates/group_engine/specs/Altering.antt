@@ -1,6 +1,6 @@
 -- ALTER CACHE GROUP over what is stored. (TimesTen SQL Reference, "ALTER CACHE GROUP".)
 
-use Rattle.std.specs.Prelude.{◌≡◌, ℕ, List, ◌&&◌, false, true, Option, Some, None, slice_get, Result, Ok, Err}
+use Rattle.std.specs.Prelude.{◌≡◌, ℕ, List, Bool, ◌&&◌, false, true, Option, Some, None, slice_get, Result, Ok, Err}
 use Rattle.std.specs.Option.{option_or}
 use Rattle.tier_base.specs.declared.number.SessionId.{SessionId}
 use Rattle.row_types.specs.declared.rule.Refused.{Refused}
@@ -12,7 +12,7 @@ use Rattle.sql_subset.specs.declared.stmt.RefreshState.{RefreshState}
 use Rattle.sql_subset.specs.declared.stmt.RefreshState.TheVariants.{On, Off, Paused}
 use Rattle.sql_subset.specs.declared.stmt.Stmt.TheVariants as statement
 use Rattle.cache_tier.specs.declared.reply.Reply.{Reply}
-use Rattle.cache_tier.specs.AlterSteps.{AltersTo, SetsStateAlone, SetsStateRefreshed, altered_entries}
+use Rattle.cache_tier.specs.AlterSteps.{AltersTo, SetsStateAlone, SetsStateRefreshed, altered_entries, joins_something, same_state}
 use Rattle.cache_tier.specs.Groups.{Group, is_on, is_read_only, is_writethrough, place_called}
 use Rattle.cache_tier.specs.Order.{refusal, wrong_state}
 use Rattle.cache_tier.specs.Reading.{as_it_was}
@@ -96,6 +96,16 @@ AltersAlone state possible old new k k' d d' ready to place reply =
     → IsReadyFor w.tier.schema k ready (altered_entries g to) → slice_get w.tier.groups place ≡ Some g
     → (is_on to && has_something g) ≡ false
     → IsPerformedOver state possible new k' d' (Some reply) (λ w'. SetsStateAlone place g to w w' reply)
+
+-- whether the set of the group at a place has something to show with it, or it becomes PAUSED behind a refresh
+abbrev pub TellsJoining : Stored → ℕ → Bool → Type 0
+TellsJoining t place joins =
+    (a : Tier) (g : Group) → IsStoredAs t a → slice_get a.groups place ≡ Some g → joins ≡ joins_something place g a
+
+abbrev pub TellsLeaving : Stored → ℕ → Bool → Type 0
+TellsLeaving t place leaves =
+    (a : Tier) (g : Group) → IsStoredAs t a → slice_get a.groups place ≡ Some g
+    → leaves ≡ (same_state g.state Off && has_something g)
 
 -- what was made ready for the group at a place, which gets this STATE
 abbrev pub IsReadyAt : List Group → Option TierJournal → ℕ → RefreshState → Ready → Type 0

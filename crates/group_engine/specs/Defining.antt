@@ -1,11 +1,13 @@
 -- Which definitions of groups are done. (This project's rule.)
 
-use Rattle.std.specs.Prelude.{◌≡◌, List, [], ◌∷◌, ◌++◌, Option, None, Bool, true, false, ◌&&◌, ◌||◌, not, is_none}
+use Rattle.std.specs.Prelude.{◌≡◌, List, [], ◌∷◌, ◌++◌, Option, None, Bool, true, false, ◌||◌, not, is_none}
 use Rattle.table_defs.specs.declared.definition.TableDef.{TableDef}
 use Rattle.sql_subset.specs.declared.stmt.CreateGroup.{CreateGroup}
 use Rattle.instances.specs.Trees.{is_sound}
 use Rattle.group_catalog.specs.Catalogs.{groups_in}
 use Rattle.group_store.specs.Stores.{Kept}
+use Rattle.slot_rows.specs.SlotKeys.{RowsHeld}
+use Rattle.cache_tier.specs.Undone.{is_user_managed}
 use Rattle.cache_tier.specs.Definitions.{IsTreeOf, defined_by, definition_broken, is_read_only_kind, new_group, placed_tables, text_of}
 use Rattle.cache_tier.specs.Groups.{definitions_of}
 use Rattle.cache_tier.specs.declared.group.GroupDef.{GroupDef}
@@ -20,11 +22,12 @@ use Rattle.group_engine.specs.declared.ready.Ready.{Ready}
 use Rattle.group_engine.specs.Ready.{IsReadyFor}
 use Rattle.stored_tier.specs.Stored.{HasSession, IsStoredAs}
 use Rattle.stored_tier.specs.declared.tier.Tier.{Tier as Stored}
+use Rattle.stored_tier.specs.Filling.{HidesNone}
 use Rattle.stored_tier.specs.Grouping.{HasGroups, IsBareStore}
 
--- the tier does groups of this definition: they are loaded whole or by statements, and don't age
+-- the tier does groups of this definition: they aren't user-managed
 abbrev pub is_done : GroupDef → Bool
-is_done def = not def.dynamic && is_none def.aging
+is_done def = not (is_user_managed def.kind)
 
 -- where it is a writethrough group its root refers to no table
 abbrev pub is_free : List TableDef → GroupDef → Bool
@@ -41,12 +44,15 @@ pub record IsDefinition (t : Stored) (d : CreateGroup) (def : GroupDef) : Type 0
   pub done : is_done def ≡ true
   pub free : is_free t.schema def ≡ true
 
--- its group came, with a store without rows
+-- its group came, with a store without rows, and none that are hidden
 pub record HasNewGroup (t new : Stored) (d : CreateGroup) (def : GroupDef) : Type 0 where
   pub store : Kept
+  pub hidden : RowsHeld
   pub bare : IsBareStore t.schema def.tree store
+  pub none : HidesNone t.schema (new_group t.next t.clock.now d def) 0 hidden
   pub has :
       HasGroups t new (groups_in t.catalog ++ new_group t.next t.clock.now d def ∷ []) (t.stores.items ++ store ∷ [])
+      (t.hidden.items ++ hidden ∷ [])
   pub unverified : new.verified ≡ false
 
 -- what was made ready for a definition

@@ -38,9 +38,10 @@ RoundFor place w w' stop = OnlyWhere (is_written_at w.tier.groups place) Round w
 abbrev pub writer_beside : SessionId → Group → List OpenSession → Option OpenSession
 writer_beside id g sessions = find (λ s. not (has_id id s) && writes_on g s.ops) sessions
 
--- the group at a place is gone with its store
+-- the group at a place is gone with its store and its hidden rows
 pub record IsWithoutGroup (t new : Stored) (place : ℕ) : Type 0 where
-  pub has : HasGroups t new (remove (groups_in t.catalog) place) (remove t.stores.items place)
+  pub has :
+      HasGroups t new (remove (groups_in t.catalog) place) (remove t.stores.items place) (remove t.hidden.items place)
   pub unverified : new.verified ≡ false
 
 -- the rest of DROP behind the round, of the group at a place

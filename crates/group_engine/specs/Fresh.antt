@@ -1,27 +1,36 @@
 -- What is read of the bank for a refresh, and what is stored behind it. (TimesTen Cache User's Guide, "Automatically
 -- refreshing a cache group"; that all groups of a refresh have one position is this project's rule.)
 
-use Rattle.std.specs.Prelude.{◌≡◌, ◌≤◌, ℕ, suc, List, Bool, true, false, Option, Some, None, Result, Ok, Err, length, slice_get}
+use Rattle.std.specs.Prelude.{◌≡◌, ◌≤◌, ℕ, suc, List, [], ◌∷◌, Bool, true, false, ◌&&◌, ◌||◌, not, Option, Some, None, Result, Ok, Err, length, slice_get}
+use Rattle.std.specs.FinMap.{empty, get}
+use Rattle.row_types.specs.declared.value.Value.{Value}
+use Rattle.indexed_rows.specs.Rows.{Table, is_same}
+use Rattle.recency.specs.Rings.{touched}
+use Rattle.slot_rows.specs.SlotKeys.{RowsHeld}
+use Rattle.cache_store.specs.Shown.{shown_of}
 use Rattle.std.specs.Result.{IsErrOf}
 use Rattle.table_defs.specs.declared.definition.TableDef.{TableDef}
 use Rattle.table_state.specs.Histories.{state_at}
 use Rattle.table_state.specs.Tables.{TableState}
-use Rattle.instances.specs.declared.tree.Tree.{Tree}
-use Rattle.instances.specs.Views.{view_of}
+use Rattle.instances.specs.Views.{passes, root_rows}
 use Rattle.outside.specs.Faults.{Rose}
 use Rattle.outside.specs.declared.fault.BankError.{BankError}
 use Rattle.outside.specs.declared.fault.BankError.TheVariants.{Failed}
 use Rattle.group_catalog.specs.Catalogs.{groups_in}
 use Rattle.group_store.specs.Keeping.{IsFor}
-use Rattle.group_store.specs.Stores.{Kept}
+use Rattle.group_store.specs.Stores.{HasRootKeys, Kept}
 use Rattle.cache_tier.specs.Groups.{Group}
 use Rattle.cache_tier.specs.Reading.{TellsPosition}
 use Rattle.cache_tier.specs.Sets.{Choice, changed_from}
+use Rattle.cache_tier.specs.Shown.{exceeds, root_key}
 use Rattle.cache_tier.specs.Worlds.{BankCall, IsUnshared, World}
 use Rattle.group_engine.specs.declared.fresh.Fresh.{Fresh}
 use Rattle.stored_tier.specs.declared.tier.Tier.{Tier as Stored}
 use Rattle.stored_tier.specs.Performing.{KeepsSlots, StandsFor}
-use Rattle.stored_tier.specs.Refreshing.{exchanged, positioned}
+use Rattle.stored_tier.specs.declared.refreshing.Made.{Made}
+use Rattle.stored_tier.specs.Filling.{is_held}
+use Rattle.stored_tier.specs.Lists.{IsHidingFor, is_by_use}
+use Rattle.stored_tier.specs.Refreshing.{exchanged, made_hidden, made_stores, positioned}
 use Rattle.stored_tier.specs.Sites.{IsAt}
 use Rattle.outside.specs.Sites.{SiteState}
 
@@ -35,26 +44,56 @@ pub record IsCalled {T : Type 0} (before behind : SiteState) (result : Result T 
   pub disk : behind.disk_faults ≡ before.disk_faults
   pub failed : IsErrOf result Failed → Rose before.bank_faults behind.bank_faults
 
--- each store that was made has the tables of its group's tree
-pub record AreFormed (schema : List TableDef) (groups : List Group) (made : List (Option Kept)) : Type 0 where
+-- each store that was made has the tables of its group's tree, and there is room to hide its root rows
+pub record AreFormed (schema : List TableDef) (groups : List Group) (made : List (Option Made)) : Type 0 where
   pub long : length made ≡ length groups
-  pub form : (k : ℕ) (g : Group) (s : Kept) → slice_get groups k ≡ Some g → slice_get made k ≡ Some (Some s)
-      → IsFor schema g.def.tree s
-  pub whole : (k : ℕ) (s : Kept) → slice_get made k ≡ Some (Some s) → length s.tables ≡ suc (length s.layers)
+  pub form : (k : ℕ) (g : Group) (m : Made) → slice_get groups k ≡ Some g → slice_get made k ≡ Some (Some m)
+      → IsFor schema g.def.tree m.store
+  pub whole : (k : ℕ) (m : Made) → slice_get made k ≡ Some (Some m)
+      → length m.store.tables ≡ suc (length m.store.layers)
+  pub hiding : (k : ℕ) (g : Group) (m : Made) → slice_get groups k ≡ Some g → slice_get made k ≡ Some (Some m)
+      → IsHidingFor schema g m.store m.hidden
 
--- a store with a view of a state, where one is wanted
-abbrev pub IsViewed : Bool → TableState → Tree → Option Kept → Type 0
-IsViewed true state tree None = ⊥
-IsViewed true state tree (Some s) = s.tables ≡ view_of state tree
-IsViewed false state tree o = o ≡ None
+-- the root key is that of an instance past the horizon, and of a dynamic group it is one of those that it has
+abbrev pub is_fresh : TableState → Group → Kept → Table → List Value → Bool
+is_fresh state g s hidden key =
+    (not g.def.dynamic || is_held s hidden key) && passes (exceeds g) (get (root_rows state g.def.tree.root) key)
 
--- the stores show views of the state at this position of a world's history
-pub record AreFresh (t : Stored) (w : World) (filled : Choice) (n : ℕ) (made : List (Option Kept)) : Type 0 where
+-- keys that are used one after another
+abbrev pub keys_touched : List (List Value) → List (List Value) → List (List Value)
+keys_touched [] keys = keys
+keys_touched (key ∷ used) keys = keys_touched used (touched is_same key keys)
+
+-- What was made shows the instances of a state, where this was the store of the group, and these its hidden root rows.
+-- Where instances leave by last use they are in the order of the old store. None is hidden.
+pub record IsFreshFor (state : TableState) (g : Group) (s : Kept) (hidden : Table) (m : Made) : Type 0 where
+  pub rows : m.store.tables ≡ shown_of state g.def.tree (is_fresh state g s hidden)
+  pub before : List (List Value)
+  pub order : is_by_use g.def.aging ≡ true → m.store.keys ≡ keys_touched s.keys before
+  pub old : HasRootKeys s
+  pub new : HasRootKeys m.store
+  pub bare : m.hidden.table ≡ empty
+
+-- so it is where it is wanted
+abbrev pub IsViewed : Bool → TableState → Group → Kept → Table → Option Made → Type 0
+IsViewed true state g s hidden None = ⊥
+IsViewed true state g s hidden (Some m) = IsFreshFor state g s hidden m
+IsViewed false state g s hidden o = o ≡ None
+
+-- root rows of a state stand under their keys
+abbrev pub HasOwnKeys : TableState → Group → Type 0
+HasOwnKeys state g =
+    (key row : List Value) → get (root_rows state g.def.tree.root) key ≡ Some row → root_key state g row ≡ key
+
+-- the stores show instances of the state at this position of a world's history
+pub record AreFresh (t : Stored) (w : World) (filled : Choice) (n : ℕ) (made : List (Option Made)) : Type 0 where
   pub state : TableState
   pub there : state_at w.history n ≡ Some state
   pub within : n ≤ length w.history
-  pub views : (k : ℕ) (g : Group) (o : Option Kept) → slice_get (groups_in t.catalog) k ≡ Some g
-      → slice_get made k ≡ Some o → IsViewed (filled k g) state g.def.tree o
+  pub keyed : (k : ℕ) (g : Group) → slice_get (groups_in t.catalog) k ≡ Some g → HasOwnKeys state g
+  pub views : (k : ℕ) (g : Group) (s : Kept) (h : RowsHeld) (o : Option Made) → slice_get (groups_in t.catalog) k ≡ Some g
+      → slice_get t.stores.items k ≡ Some s → slice_get t.hidden.items k ≡ Some h → slice_get made k ≡ Some o
+      → IsViewed (filled k g) state g s h.table o
 
 -- a world behind a call that tells a position: the tier is as it was, and stands
 pub record IsRead (t : Stored) (behind : SiteState) (told : Result ℕ BankError) (w : World) : Type 0 where
@@ -74,13 +113,15 @@ abbrev pub ReadsFresh : Stored → SiteState → SiteState → Choice → Result
 ReadsFresh t before behind filled result =
     (w : World) → IsAt before w → StandsFor t w → IsUnshared w → ReadsIn t behind filled w result
 
--- the stores that were made are in their places, and the chosen groups are at the position; all else stays
-pub record IsExchanged (old new : Stored) (chosen : Choice) (n : ℕ) (made : List (Option Kept)) : Type 0 where
+-- the stores that were made are in their places, with their hidden rows, and the chosen groups are at the position; all
+-- else stays
+pub record IsExchanged (old new : Stored) (chosen : Choice) (n : ℕ) (made : List (Option Made)) : Type 0 where
   pub schema : new.schema ≡ old.schema
   pub visible : new.visible ≡ old.visible
   pub stale : new.stale ≡ old.stale
   pub groups : groups_in new.catalog ≡ changed_from chosen (positioned n) 0 (groups_in old.catalog)
-  pub stores : new.stores.items ≡ exchanged old.stores.items made
+  pub stores : new.stores.items ≡ exchanged old.stores.items (made_stores made)
+  pub hidden : new.hidden.items ≡ exchanged old.hidden.items (made_hidden made)
   pub directory : new.directory ≡ old.directory
   pub sessions : new.sessions ≡ old.sessions
   pub unsettled : new.unsettled ≡ old.unsettled

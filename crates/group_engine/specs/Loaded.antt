@@ -4,7 +4,7 @@
 use Rattle.std.specs.Prelude.{◌≡◌, ℕ, List, None, Some, true, Option, Result, slice_get}
 use Rattle.outside.specs.declared.fault.BankError.{BankError}
 use Rattle.cache_tier.specs.declared.reply.Reply.{Reply}
-use Rattle.cache_tier.specs.Groups.{Group, is_read_only}
+use Rattle.cache_tier.specs.Groups.{Group, is_explicit, is_read_only}
 use Rattle.cache_tier.specs.Reading.{FollowsAt, TellsPosition}
 use Rattle.cache_tier.specs.Sets.{Choice, loaded_with}
 use Rattle.cache_tier.specs.Targets.{Settles, Target, load_entries, whole_answer}
@@ -39,6 +39,10 @@ LoadsWhole state possible old new k k' d d' place chosen reply =
     (w : World) (g : Group) → IsAt (state d) w → StandsFor old w → IsUnshared w → KeepsOver state possible d k w
     → slice_get w.tier.groups place ≡ Some g → is_read_only g ≡ true → chosen ≡ loaded_with g place
     → IsPerformedOver state possible new k' d' (Some reply) (λ w'. ReadsWhole place g w w' reply)
+
+-- the group at a place is explicit
+abbrev pub IsExplicitAt : List Group → ℕ → Type 0
+IsExplicitAt groups place = (g : Group) → slice_get groups place ≡ Some g → is_explicit g ≡ true
 
 -- what was made ready for the group at a place, which is loaded
 abbrev pub IsReadyToLoad : List Group → Option TierJournal → ℕ → Ready → Type 0

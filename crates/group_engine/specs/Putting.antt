@@ -1,15 +1,15 @@
 -- Rows that are put into the store of a group. (TimesTen Cache User's Guide, "Cache instances": instances are loaded
 -- whole.)
 
-use Rattle.std.specs.Prelude.{◌≡◌, ◌≤◌, ◌+◌, ℕ, List, Bool, Some, length, slice_get, slice_set, Result, Ok, Err}
+use Rattle.std.specs.Prelude.{◌≡◌, ◌≤◌, ◌+◌, ℕ, List, Bool, false, Some, length, slice_get, slice_set, Result, Ok, Err}
 use Rattle.row_types.specs.declared.rule.Refused.{Refused}
 use Rattle.row_types.specs.declared.rule.Refused.TheVariants as refused
 use Rattle.row_types.specs.declared.value.Value.{Value}
 use Rattle.table_state.specs.Tables.{TableState}
 use Rattle.group_catalog.specs.Catalogs.{groups_in}
 use Rattle.group_catalog.specs.declared.which.ResolvedWhich.{ResolvedWhich}
-use Rattle.group_store.specs.Stores.{Kept, SameButSpare, put_tables}
-use Rattle.cache_tier.specs.Groups.{Group}
+use Rattle.group_store.specs.Stores.{HasRootKeys, Kept, SameButSpare, put_tables}
+use Rattle.cache_tier.specs.Groups.{Group, is_read_only}
 use Rattle.stored_tier.specs.declared.gathering.Gathered.{Gathered}
 use Rattle.stored_tier.specs.declared.tier.Tier.{Tier as Stored}
 use Rattle.stored_tier.specs.Gathering.{Gathers}
@@ -21,6 +21,8 @@ pub record IsHere (t : Stored) (place : ℕ) : Type 0 where
   pub store : Kept
   pub there : slice_get (groups_in t.catalog) place ≡ Some group
   pub kept : slice_get t.stores.items place ≡ Some store
+  pub writes : is_read_only group ≡ false
+  pub keyed : HasRootKeys store
 
 -- what they gather from these tables
 pub record GathersThere (t : Stored) (place : ℕ) (which : ResolvedWhich) (refreshes : Bool) (s : TableState)

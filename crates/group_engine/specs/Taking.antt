@@ -1,7 +1,7 @@
 -- What a writethrough group takes in by LOAD and REFRESH. (TimesTen SQL Reference, "LOAD CACHE GROUP", "REFRESH CACHE
 -- GROUP".)
 
-use Rattle.std.specs.Prelude.{◌≡◌, ℕ, List, [], ◌∷◌, Bool, true, false, Option, Some, map, slice_get, slice_set, Result, Ok, Err}
+use Rattle.std.specs.Prelude.{◌≡◌, ℕ, List, [], ◌∷◌, Bool, true, false, ◌&&◌, Option, Some, map, slice_get, slice_set, Result, Ok, Err}
 use Rattle.std.specs.Bool.{MatchBool}
 use Rattle.std.specs.FinMap.{values}
 use Rattle.tier_base.specs.declared.code.Code.TheVariants as code
@@ -14,7 +14,7 @@ use Rattle.instances.specs.declared.tree.Child.{Child}
 use Rattle.group_catalog.specs.Catalogs.{groups_in}
 use Rattle.group_catalog.specs.Identified.{is_given}
 use Rattle.group_catalog.specs.declared.which.ResolvedWhich.{ResolvedWhich}
-use Rattle.group_store.specs.Stores.{Kept, SameButSpare, put_tables}
+use Rattle.group_store.specs.Stores.{HasRootKeys, Kept, SameButSpare, put_tables}
 use Rattle.cache_tier.specs.declared.reply.Last.TheVariants.{Done, No}
 use Rattle.cache_tier.specs.declared.reply.Reply.{Reply}
 use Rattle.cache_tier.specs.Conditions.{is_id, overflow_fault}
@@ -43,6 +43,7 @@ pub record IsSameElsewhere (old new : Stored) : Type 0 where
   pub visible : new.visible ≡ old.visible
   pub stale : new.stale ≡ old.stale
   pub directory : new.directory ≡ old.directory
+  pub hidden : new.hidden ≡ old.hidden
   pub sessions : new.sessions ≡ old.sessions
   pub unsettled : new.unsettled ≡ old.unsettled
   pub writers : new.writers ≡ old.writers
@@ -63,8 +64,8 @@ pub record IsSameButRoom (old new : Stored) : Type 0 where
   pub catalog : new.catalog ≡ old.catalog
   pub verified : new.verified ≡ old.verified
 
--- The group at a place has the instances of these tables that match, beside its own, and is loaded. The reply tells how
--- many came, or how many match.
+-- The writethrough group at a place has the instances of these tables that match, beside its own, and is loaded. The reply
+-- tells how many came, or how many match.
 pub record TakesIn (old new : Stored) (place : ℕ) (which : ResolvedWhich) (refreshes : Bool) (s : TableState)
     (reply : Reply) : Type 0 where
   pub group : Group
@@ -72,6 +73,8 @@ pub record TakesIn (old new : Stored) (place : ℕ) (which : ResolvedWhich) (ref
   pub filled : Kept
   pub there : slice_get (groups_in old.catalog) place ≡ Some group
   pub kept : slice_get old.stores.items place ≡ Some store
+  pub writes : is_read_only group ≡ false
+  pub keyed : HasRootKeys store
   pub fits : overflows_in s group.def.tree which ≡ false
   pub rows : SameButSpare (put_tables 0 (map values (gathered_in s group.def.tree store which)) store) filled
   pub stores : new.stores.items ≡ slice_set old.stores.items place filled
@@ -124,6 +127,11 @@ pub record AsksTree (t : Stored) (place : ℕ) (asked : List TableId) : Type 0 w
   pub group : Group
   pub there : slice_get (groups_in t.catalog) place ≡ Some group
   pub is : asked ≡ group.def.tree.root.table ∷ map (λ (c : Child). c.table) group.def.tree.children
+
+-- LOAD of the group at a place, or REFRESH where it isn't dynamic
+abbrev pub MayTake : Stored → ℕ → Bool → Type 0
+MayTake t place refreshes =
+    (g : Group) → slice_get (groups_in t.catalog) place ≡ Some g → (refreshes && g.def.dynamic) ≡ false
 
 -- LOAD of a group that is found, or REFRESH
 abbrev pub LoadsTarget : Bool → Target → Part

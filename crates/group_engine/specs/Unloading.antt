@@ -1,6 +1,6 @@
 -- UNLOAD over what is stored. (TimesTen SQL Reference, "UNLOAD CACHE GROUP".)
 
-use Rattle.std.specs.Prelude.{◌≡◌, ℕ, List, [], ◌∷◌, Bool, true, false, Option, None, Some, Result, Ok, Err, filter, length, map, set, slice_get, if◌then◌else◌}
+use Rattle.std.specs.Prelude.{◌≡◌, ℕ, List, [], ◌∷◌, Bool, true, false, ◌||◌, Option, None, Some, Result, Ok, Err, filter, length, map, set, slice_get, if◌then◌else◌}
 use Rattle.std.specs.FinMap.{len, values}
 use Rattle.row_types.specs.declared.rule.Refused.{Refused}
 use Rattle.row_types.specs.declared.rule.Refused.TheVariants as refused
@@ -29,6 +29,7 @@ use Rattle.stored_tier.specs.declared.tier.Tier.{Tier as Stored}
 use Rattle.group_engine.specs.Aiming.{IsAimed}
 use Rattle.stored_tier.specs.Choosing.{matches_at}
 use Rattle.stored_tier.specs.Grouping.{KeepsBesideGroups}
+use Rattle.stored_tier.specs.Lists.{hides_keys, is_by_use}
 use Rattle.stored_tier.specs.Performing.{IsPerformedOver, StandsFor}
 use Rattle.stored_tier.specs.Sites.{IsAt}
 use Rattle.table_defs.specs.declared.definition.TableDef.{TableDef}
@@ -124,13 +125,21 @@ pub record LeavesGroup (t new : Stored) (place : ℕ) (all : Bool) (does : Group
   pub left : Kept
   pub there : slice_get (groups_in t.catalog) place ≡ Some group
   pub kept : slice_get t.stores.items place ≡ Some store
+  pub hides : hides_keys group ≡ false
   pub did : does group store left
   pub stores : new.stores.items ≡ set t.stores.items place left
   pub groups : groups_in new.catalog ≡ flagged all place (groups_in t.catalog)
   pub beside : KeepsBesideGroups t new
   pub visible : new.visible ≡ t.visible
   pub directory : new.directory ≡ t.directory
+  pub hidden : new.hidden ≡ t.hidden
   pub unverified : new.verified ≡ false
+
+-- the group at a place is explicit, and its instances don't leave by last use
+abbrev pub IsWholeAt : Stored → ℕ → Type 0
+IsWholeAt t place =
+    (g : Group) → slice_get (groups_in t.catalog) place ≡ Some g
+    → (g.def.dynamic || is_by_use g.def.aging) ≡ false
 
 -- the instances that match, so many
 abbrev pub IsCutGroup : Stored → Stored → Aim → Bool → ℕ → Type 0
@@ -140,7 +149,9 @@ IsCutGroup t new aim all n =
 
 -- all of them
 abbrev pub IsClearedGroup : Stored → Stored → ℕ → ℕ → Type 0
-IsClearedGroup t new place n = LeavesGroup t new place true (λ g store left. IsClearedBy store left n)
+IsClearedGroup t new place n =
+    LeavesGroup t new place true
+    (λ g store left. IsClearedBy store left n × ((g.def.dynamic || is_by_use g.def.aging) ≡ false))
 
 -- an explicit READONLY group is asked for whole
 abbrev pub AsksWhole : Target → Bool → Type 0

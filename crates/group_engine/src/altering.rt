@@ -1,18 +1,15 @@
 //! ALTER CACHE GROUP .. SET AUTOREFRESH STATE.
 
-ghost use Rattle.std.specs.Prelude.{◌≡◌, ◌<◌, ◌&&◌, ◌||◌, IfOk, length, true};
-ghost use Rattle.std.specs.List.{list_all};
+ghost use Rattle.std.specs.Prelude.{◌≡◌, ◌<◌, IfOk, length};
 ghost use Rattle.sql_subset.specs.declared.stmt.Stmt.TheVariants as statement;
 ghost use Rattle.sql_subset.specs.declared.stmt.RefreshState.TheVariants.{On, Paused};
 ghost use Rattle.table_defs.specs.Declarations.{Tells};
 ghost use Rattle.group_catalog.specs.Catalogs.{groups_in};
 ghost use Rattle.group_catalog.specs.Kept.{group_seen};
-ghost use Rattle.cache_tier.specs.Groups.{is_explicit};
-ghost use Rattle.cache_tier.specs.Sets.{shows_something};
-ghost use Rattle.group_engine.specs.Altering.{alter_state, AimsAlterIn, AltersAlone, AltersHere, AltersReady, AltersWith, IsReadyAt};
+ghost use Rattle.group_engine.specs.Altering.{alter_state, AimsAlterIn, AltersAlone, AltersHere, AltersReady, AltersWith, IsReadyAt, TellsJoining, TellsLeaving};
 ghost use Rattle.group_engine.specs.Ready.{IsMemoryOf, IsPlacedReady};
 ghost use Rattle.kept_journal.specs.Drafts.{StaysKept};
-ghost use Rattle.stored_tier.specs.Refreshing.{choice_of, is_off};
+ghost use Rattle.stored_tier.specs.Refreshing.{choice_of};
 ghost use Rattle.stored_tier.specs.Performing.{Executes, IsCausedOver, PerformsInOver, reply_of};
 ghost use Rattle.stored_tier.specs.Stored.{IsSound};
 
@@ -27,7 +24,9 @@ use outside::Site;
 use row_types::Refused;
 use sql_subset::stmt::{Alter, RefreshState};
 use std::alloc::{AllocError, Global};
-use stored_tier::refreshing::{Chosen, is_off, make_moment, note_moment, shows_something};
+use stored_tier::refreshing::{
+    Chosen, has_something, is_off, make_moment, note_moment, shows_something,
+};
 use stored_tier::tier::Tier;
 use table_state::Op;
 use tier_base::{Code, SessionId};
@@ -146,11 +145,11 @@ fn alter_to_on<P: Site>(
     ensures sound { IsSound tier.new }
     ensures cause { IsCausedOver journal.old (P.Disk.state site.old) (P.Disk.state site.new) (reply_of result) }
 {
-    let (joins, interval) = match tier.catalog.get(place) {
+    let interval = match tier.catalog.get(place) {
         None => return Err(Refused::Memory),
-        Some(group) => (joins_something(&tier.catalog, group), group.def.interval),
+        Some(group) => group.def.interval,
     };
-    if !joins {
+    if !joins_something(tier, place) {
         return Ok(give_state(tier, alloc, site, journal, place, ready, RefreshState::On));
     }
     make_moment(&mut tier.clock.sets, interval)?;
@@ -168,7 +167,7 @@ fn alter_to_on<P: Site>(
     ))
 }
 
-// Where it was OFF and is loaded, it alone is refreshed.
+// Where it was OFF and has something to show, it alone is refreshed.
 fn alter_to_paused<P: Site>(
     tier: &mut Tier,
     alloc: Global,
@@ -185,11 +184,7 @@ fn alter_to_paused<P: Site>(
     ensures sound { IsSound tier.new }
     ensures cause { IsCausedOver journal.old (P.Disk.state site.old) (P.Disk.state site.new) (reply_of result) }
 {
-    let leaves = match tier.catalog.get(place) {
-        None => return Err(Refused::Memory),
-        Some(group) => leaves_off(group),
-    };
-    if !leaves {
+    if !leaves_off(tier, place) {
         return Ok(give_state(
             tier,
             alloc,
@@ -280,17 +275,34 @@ fn judge_alter(alloc: Global, group: &KeptGroup, own: &[Op]) -> Result<(), Refus
     judge_writes(own)
 }
 
-// Whether there is something to show in a group's set, with the group in it.
-fn joins_something(catalog: &Catalog, group: &KeptGroup) -> bool
-    requires { list_all is_explicit (groups_in catalog.now) ≡ true }
-    ensures { result ≡ (group.now.loaded || shows_something group.now.def.interval (groups_in catalog.now)) }
+// Whether there is something to show in the set of the group at a place, with the group in it.
+fn joins_something(tier: &Tier, place: usize) -> bool
+    requires { IsSound tier.now }
+    ensures { TellsJoining tier.now place result }
 {
-    group.loaded || shows_something(catalog, group.def.interval)
+    match tier.catalog.get(place) {
+        None => false,
+        Some(group) => {
+            if has_something(tier, place) {
+                return true;
+            }
+            shows_something(tier, group.def.interval)
+        }
+    }
 }
 
-// Whether a group that becomes PAUSED is refreshed: it is OFF, and loaded.
-fn leaves_off(group: &KeptGroup) -> bool
-    ensures { result ≡ (is_off group.now.state && group.now.loaded) }
+// Whether the group at a place is refreshed where it becomes PAUSED: it is OFF, and has something to show.
+fn leaves_off(tier: &Tier, place: usize) -> bool
+    requires { IsSound tier.now }
+    ensures { TellsLeaving tier.now place result }
 {
-    is_off(group.state) && group.loaded
+    match tier.catalog.get(place) {
+        None => false,
+        Some(group) => {
+            if !is_off(group.state) {
+                return false;
+            }
+            has_something(tier, place)
+        }
+    }
 }

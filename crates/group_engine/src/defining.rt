@@ -26,6 +26,7 @@ use outside::Site;
 use row_types::Refused;
 use sql_subset::stmt::{CreateGroup, GroupKind};
 use std::alloc::{AllocError, Global};
+use stored_tier::filling::none_hidden;
 use stored_tier::tier::Tier;
 use table_defs::TableDef;
 use tier_base::{Moment, SessionId, TableId, Ticket};
@@ -37,9 +38,9 @@ use tier_statements::done;
 ///
 /// The refusal is the first broken rule, as `group_catalog::define` tells it: 102, 103, 113; 122; 104, 105; 114 by
 /// letter; 119 of the groups; then 119 where the journal has no room; or memory was wanting. All then stays. It is 202
-/// where a call of the journal's disk failed; the run is to end then. Groups that are DYNAMIC or age are refused before
-/// by the reader's lines that aren't done yet; here memory is said to be wanting for one. (TimesTen SQL Reference,
-/// "CREATE CACHE GROUP".)
+/// where a call of the journal's disk failed; the run is to end then. User-managed groups are refused before by the
+/// reader's lines that aren't done yet; here memory is said to be wanting for one. (TimesTen SQL Reference, "CREATE
+/// CACHE GROUP".)
 pub fn create_group<P: Site>(
     tier: &mut Tier,
     alloc: Global,
@@ -129,7 +130,8 @@ fn add_group(tier: &mut Tier, alloc: Global, def: GroupDef) -> Result<(), AllocE
 {
     let store = bare_store(alloc, tier.schema.as_slice(), &def.tree)?;
     let group = KeptGroup::new(def, Ticket(tier.next), Moment(tier.clock.now));
-    keep_group(tier, alloc, group, store)?;
+    let hidden = none_hidden(alloc, &tier.schema, &group, 0)?;
+    keep_group(tier, alloc, group, store, hidden)?;
     tier.verified = false;
     Ok(())
 }
@@ -138,7 +140,10 @@ fn add_group(tier: &mut Tier, alloc: Global, def: GroupDef) -> Result<(), AllocE
 fn is_done(def: &GroupDef) -> bool
     ensures { result ≡ is_done def.now }
 {
-    !def.dynamic && def.aging.is_none()
+    match def.kind {
+        GroupKind::UserManaged => false,
+        _ => true,
+    }
 }
 
 // Whether the root table of a writethrough group refers to no table. The letters of 114 see to it.

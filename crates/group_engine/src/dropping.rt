@@ -230,16 +230,18 @@ fn judge_writers(tier: &Tier, alloc: Global, id: SessionId, place: usize) -> Res
     }
 }
 
-// The group at a place goes with its store. It fails for want of memory alone; all then stays.
+// The group at a place goes with its store and its hidden rows. It fails for want of memory alone; all then stays.
 fn remove_group(tier: &mut Tier, alloc: Global, place: usize) -> Result<(), AllocError>
     requires within { place < length (groups_in tier.old.catalog) }
     requires kept { place < length tier.old.stores.items }
+    requires hidden { place < length tier.old.hidden.items }
     ensures ok { OnOk result (IsWithoutGroup tier.old tier.new place) }
     ensures err { OnErr result (KeepsGroups tier.old tier.new) }
 {
     let visible = names_without(alloc, &tier.catalog, place, tier.schema.as_slice())?;
     let tables = count_tables(tier.schema.as_slice())?;
     let directory = take_store(alloc, &mut tier.stores, place, tables)?;
+    let _ = tier.hidden.remove(place);
     tier.catalog.drop_group(place);
     tier.visible = visible;
     tier.directory = directory;

@@ -10,11 +10,10 @@ ghost use Rattle.propagators.specs.Certainty.{KeepsCertain};
 ghost use Rattle.stored_tier.specs.Performing.{Performs};
 ghost use Rattle.stored_tier.specs.Stored.{IsSound};
 
-use group_store::Store;
 use outside::{BankError, Site};
 use std::alloc::Global;
 use stored_tier::refreshing::{
-    Chosen, exchange, give_position, made_stores, note_moment, tables_read,
+    Chosen, Made, exchange, give_position, make_stores, note_moment, tables_read,
 };
 use stored_tier::tier::Tier;
 use tier_base::Position;
@@ -23,8 +22,8 @@ use tier_base::Position;
 pub struct Fresh {
     // the position in the backing history
     pub(crate) position: Position,
-    // the stores of the groups that get one
-    pub(crate) made: Vec<Option<Store>>,
+    // the stores of the groups that get one, with their hidden rows
+    pub(crate) made: Vec<Option<Made>>,
 }
 
 impl Drop for Fresh {
@@ -37,7 +36,7 @@ impl Drop for Fresh {
 }
 
 impl Fresh {
-    fn into_parts(self) -> (Position, Vec<Option<Store>>)
+    fn into_parts(self) -> (Position, Vec<Option<Made>>)
         ensures { result ≡ (self.position, self.made) }
     {
         let Self { position, made } = self;
@@ -45,8 +44,8 @@ impl Fresh {
     }
 }
 
-/// The tables of the chosen groups are read from one snapshot, and stores are made that show the views of those that are
-/// loaded, or are so from now on. Nothing changes.
+/// The tables of the chosen groups are read from one snapshot, and stores are made that show of those that are loaded, or
+/// are so from now on, the views past the horizon, and of dynamic ones the instances that they have. Nothing changes.
 ///
 /// It is `Failed` where the call failed, and `Memory` where memory was wanting.
 pub fn read_fresh<P: Site>(
@@ -72,14 +71,7 @@ pub fn read_fresh<P: Site>(
         return Err(BankError::Memory);
     };
     let snapshot = site.snapshot(tables.as_slice())?;
-    match made_stores(
-        alloc,
-        &tier.schema,
-        &tier.catalog,
-        chosen,
-        loads,
-        &snapshot.tables,
-    ) {
+    match make_stores(alloc, tier, chosen, loads, &snapshot.tables) {
         Err(_) => Err(BankError::Memory),
         Ok(made) => Ok(Fresh {
             position: snapshot.position,
@@ -88,8 +80,8 @@ pub fn read_fresh<P: Site>(
     }
 }
 
-/// What was read is shown: the stores come in the place of the old ones, and the chosen groups are at the position. It
-/// takes no memory.
+/// What was read is shown: the stores come in the place of the old ones, with their hidden rows, and the chosen groups
+/// are at the position. It takes no memory.
 pub fn show_fresh(tier: &mut Tier, chosen: Chosen, fresh: Fresh)
     requires sound { IsSound tier.old }
     requires formed { AreFormed tier.old.schema (groups_in tier.old.catalog) fresh.made.items }
@@ -97,7 +89,7 @@ pub fn show_fresh(tier: &mut Tier, chosen: Chosen, fresh: Fresh)
     ensures sound { IsSound tier.new }
 {
     let (position, made) = fresh.into_parts();
-    exchange(&mut tier.stores, made);
+    exchange(&mut tier.stores, &mut tier.hidden, made);
     give_position(&mut tier.catalog, chosen, position);
     tier.verified = false;
 }

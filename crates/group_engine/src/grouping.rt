@@ -10,25 +10,28 @@ ghost use Rattle.group_catalog.specs.Catalogs.{groups_in};
 use group_catalog::KeptGroup;
 use group_store::Store;
 use instances::Tree;
+use slot_rows::SlotRows;
 use std::alloc::{AllocError, Global};
 use stored_tier::tier::Tier;
 use table_defs::{TableDef, copied_places};
 use tier_base::{Seq, TableId};
 
-// A group comes behind the others, with its store. It fails for want of memory alone; all then stays.
+// A group comes behind the others, with its store and its hidden rows. It fails for want of memory alone; all then stays.
 pub(crate) fn keep_group(
     tier: &mut Tier,
     alloc: Global,
     group: KeptGroup,
     store: Store,
+    hidden: SlotRows,
 ) -> Result<(), AllocError>
     ensures ok { OnOk result (HasGroups tier.old tier.new
-        (groups_in tier.old.catalog ++ group_seen group ∷ []) (tier.old.stores.items ++ store ∷ [])) }
+        (groups_in tier.old.catalog ++ group_seen group ∷ []) (tier.old.stores.items ++ store ∷ [])
+        (tier.old.hidden.items ++ hidden ∷ [])) }
     ensures err { OnErr result (KeepsGroups tier.old tier.new) }
 {
     let place = tier.catalog.len();
     tier.catalog.add(group)?;
-    match keep_store(tier, alloc, store) {
+    match keep_rows(tier, alloc, store, hidden) {
         Ok(()) => Ok(()),
         Err(e) => {
             tier.catalog.drop_group(place);
@@ -37,10 +40,31 @@ pub(crate) fn keep_group(
     }
 }
 
+// A store comes behind the others, with hidden rows; tables are named and found anew.
+fn keep_rows(
+    tier: &mut Tier,
+    alloc: Global,
+    store: Store,
+    hidden: SlotRows,
+) -> Result<(), AllocError>
+    ensures ok { OnOk result (HasGroups tier.old tier.new (groups_in tier.old.catalog)
+        (tier.old.stores.items ++ store ∷ []) (tier.old.hidden.items ++ hidden ∷ [])) }
+    ensures err { OnErr result (KeepsGroups tier.old tier.new) }
+{
+    tier.hidden.push(hidden)?;
+    match keep_store(tier, alloc, store) {
+        Ok(()) => Ok(()),
+        Err(e) => {
+            tier.hidden.pop();
+            Err(e)
+        }
+    }
+}
+
 // A store comes behind the others, and tables are named and found anew.
 fn keep_store(tier: &mut Tier, alloc: Global, store: Store) -> Result<(), AllocError>
     ensures ok { OnOk result (HasGroups tier.old tier.new (groups_in tier.old.catalog)
-        (tier.old.stores.items ++ store ∷ [])) }
+        (tier.old.stores.items ++ store ∷ []) tier.old.hidden.items) }
     ensures err { OnErr result (KeepsGroups tier.old tier.new) }
 {
     tier.stores.push(store)?;

@@ -9,7 +9,7 @@ ghost use Rattle.cache_tier.specs.Targets.{Target};
 ghost use Rattle.cache_tier.specs.Worlds.{Tries};
 ghost use Rattle.group_catalog.specs.Catalogs.{groups_in};
 ghost use Rattle.stored_tier.specs.Refreshing.{IsStateAt, choice_of, roots_kept};
-ghost use Rattle.group_engine.specs.Loaded.{IsReadyToLoad, LoadsWhole};
+ghost use Rattle.group_engine.specs.Loaded.{IsExplicitAt, IsReadyToLoad, LoadsWhole};
 ghost use Rattle.group_engine.specs.Ready.{IsMemoryOf, IsPlacedReady};
 ghost use Rattle.kept_journal.specs.Drafts.{StaysKept};
 ghost use Rattle.stored_tier.specs.Performing.{IsCausedOver, PerformsOver, reply_of};
@@ -111,6 +111,10 @@ fn load_ready<P: Site>(
             if !is_read_only(group) {
                 return Err(Refused::Memory);
             }
+            // A dynamic group isn't loaded yet.
+            if group.def.dynamic {
+                return Err(Refused::Memory);
+            }
             (group.state, group.def.interval)
         }
     };
@@ -148,6 +152,7 @@ fn load_with<P: Site>(
     requires sound { IsSound tier.old }
     requires within { place < length (groups_in tier.old.catalog) }
     requires state { IsStateAt (groups_in tier.old.catalog) place state }
+    requires explicit { IsExplicitAt (groups_in tier.old.catalog) place }
     requires ready { IsReadyToLoad (groups_in tier.old.catalog) journal.old place ready.now }
     requires placed { IsPlacedReady journal.old ready.now }
     ensures loads { LoadsWhole P.Disk.state P.Disk.possible tier.old tier.new journal.old journal.new

@@ -1,6 +1,6 @@
 //! LOAD and REFRESH of a writethrough group, behind the rules that refuse them and the round that comes first.
 
-ghost use Rattle.std.specs.Prelude.{◌≡◌, ◌∷◌, IfOk, Some, map, option_copied, slice_get, true};
+ghost use Rattle.std.specs.Prelude.{◌≡◌, ◌∷◌, IfOk, Some, false, map, option_copied, slice_get, true};
 ghost use Rattle.instances.specs.declared.tree.Child.{Child as OneChild};
 ghost use Rattle.cache_tier.specs.Groups.{is_writethrough};
 ghost use Rattle.cache_tier.specs.Targets.{Target};
@@ -10,7 +10,7 @@ ghost use Rattle.stored_tier.specs.Stored.{IsSound};
 ghost use Rattle.group_catalog.specs.Catalogs.{groups_in};
 ghost use Rattle.group_engine.specs.Loaded.{IsReadyToLoad};
 ghost use Rattle.group_engine.specs.Ready.{IsPlacedReady};
-ghost use Rattle.group_engine.specs.Taking.{AsksTree, IsOfTarget, IsSettledAt, JudgesFull, PerformsWhere, ReadsMatching, TakesMatching};
+ghost use Rattle.group_engine.specs.Taking.{AsksTree, IsOfTarget, IsSettledAt, MayTake, JudgesFull, PerformsWhere, ReadsMatching, TakesMatching};
 
 use crate::loading_whole::ready_to_load;
 use crate::ready::{Ready, answer_behind, slot_is_full};
@@ -22,6 +22,7 @@ use outside::Site;
 use row_types::{Refused, Row};
 use std::alloc::{AllocError, Global};
 use stored_tier::gathering::{Gathered, fill, gather};
+use stored_tier::refreshing::is_read_only;
 use stored_tier::tier::Tier;
 use table_state::Tables;
 use tier_base::{Seq, TableId};
@@ -77,6 +78,9 @@ fn load_matching<P: Site>(
     ensures sound { IsSound tier.new }
     ensures cause { IsCausedOver journal.old (P.Disk.state site.old) (P.Disk.state site.new) (reply_of result) }
 {
+    if waits_at(tier, place, refreshes) {
+        return Err(Refused::Memory);
+    }
     match tables_of_tree(tier, alloc, place) {
         Err(_) => Err(Refused::Memory),
         Ok(asked) => match site.snapshot(asked.as_slice()) {
@@ -112,6 +116,16 @@ fn judge_full(
             let _ = gathered;
             Ok(slot_is_full(alloc))
         }
+    }
+}
+
+// Whether the group at a place isn't refreshed yet: it is dynamic.
+fn waits_at(tier: &Tier, place: usize, refreshes: bool) -> bool
+    ensures { result ≡ false → MayTake tier.now place refreshes }
+{
+    match tier.catalog.get(place) {
+        None => true,
+        Some(group) => refreshes && group.def.dynamic,
     }
 }
 
@@ -169,10 +183,18 @@ fn gather_at(
 {
     match tier.catalog.get(place) {
         None => Err(Refused::Memory),
-        Some(group) => match store_at(tier.stores.as_slice(), place) {
-            None => Err(Refused::Memory),
-            Some(store) => gather(alloc, tables, &group.def.tree, store, which, refreshes),
-        },
+        Some(group) => {
+            if is_read_only(group) {
+                return Err(Refused::Memory);
+            }
+            match store_at(tier.stores.as_slice(), place) {
+                None => Err(Refused::Memory),
+                Some(store) => {
+                    store.keys_law();
+                    gather(alloc, tables, &group.def.tree, store, which, refreshes)
+                }
+            }
+        }
     }
 }
 

@@ -14,7 +14,7 @@ ghost use Rattle.tier_statements.specs.Seen.{session_seen};
 ghost use Rattle.cache_tier.specs.Locks.{locked_by};
 ghost use Rattle.cache_tier.specs.Conditions.{overflows};
 ghost use Rattle.stored_tier.specs.Grouping.{KeepsGroups};
-ghost use Rattle.group_engine.specs.Unloading.{IsClearedAt, IsClearedBy, IsClearedGroup, IsCutAt, IsCutBy, IsCutGroup, IsReadyToLeave, UnloadsHere, UnloadsReady, cut_all, flagged, leaving, unload_state, AimsUnloadIn};
+ghost use Rattle.group_engine.specs.Unloading.{IsClearedAt, IsClearedBy, IsClearedGroup, IsCutAt, IsCutBy, IsCutGroup, IsReadyToLeave, IsWholeAt, UnloadsHere, UnloadsReady, cut_all, flagged, leaving, unload_state, AimsUnloadIn};
 ghost use Rattle.group_engine.specs.UnloadLocks.{LocksTold, RootsTold, UnloadTold};
 ghost use Rattle.group_catalog.specs.Catalogs.{groups_in};
 ghost use Rattle.kept_journal.specs.Drafts.{StaysKept};
@@ -40,6 +40,7 @@ use row_types::{Detail, Key, Refused, Rule};
 use session_state::Session;
 use sql_subset::stmt::{OfGroup, Which};
 use std::alloc::{AllocError, Global};
+use stored_tier::filling::{hides_keys, is_by_use};
 use stored_tier::tier::Tier;
 use table_state::Op;
 use table_state::scan_laws::keyed_law;
@@ -186,12 +187,25 @@ fn unload_whole<P: Site>(
     ensures sound { IsSound tier.new }
     ensures cause { IsCausedOver journal.old (P.Disk.state site.old) (P.Disk.state site.new) (reply_of result) }
 {
+    if waits_at(tier, aim.place) {
+        return Err(Refused::Memory);
+    }
     if ready.is_full() {
         return Ok(slot_is_full(alloc));
     }
     match clear_group(tier, alloc, aim.place) {
         Err(AllocError) => Err(Refused::Memory),
         Ok(count) => Ok(answer_behind(alloc, site, journal, ready, done(alloc, count as u64))),
+    }
+}
+
+// Whether the group at a place isn't unloaded yet: it is dynamic, or its instances leave by last use.
+fn waits_at(tier: &Tier, place: usize) -> bool
+    ensures { result ≡ false → IsWholeAt tier.now place }
+{
+    match tier.catalog.get(place) {
+        None => true,
+        Some(group) => group.def.dynamic || is_by_use(&group.def.aging),
     }
 }
 
@@ -283,6 +297,9 @@ fn cut_group(tier: &mut Tier, alloc: Global, aim: &Aim, all: bool) -> Result<usi
                 if place >= tier.stores.len() || place >= tier.catalog.len() {
                     return Err(AllocError);
                 }
+                if hides_keys(group) {
+                    return Err(AllocError);
+                }
                 let columns = def.primary_key.as_slice();
                 match cut_at(alloc, &mut tier.stores, place, columns, &aim.which) {
                     Err(AllocError) => Err(AllocError),
@@ -301,6 +318,9 @@ fn clear_group(tier: &mut Tier, alloc: Global, place: usize) -> Result<usize, Al
     ensures ok { IfOk result (IsClearedGroup tier.old tier.new place) }
     ensures err { OnErr result (KeepsGroups tier.old tier.new) }
 {
+    if waits_at(tier, place) {
+        return Err(AllocError);
+    }
     match tier.catalog.get(place) {
         None => Err(AllocError),
         Some(group) => {

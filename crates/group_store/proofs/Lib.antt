@@ -1,6 +1,6 @@
 mod ChildLaws
 mod ClearLaws
-mod CommitLaws
+pub mod CommitLaws
 mod EnterLaws
 pub mod FormLaws
 mod HidingLaws
@@ -10,7 +10,7 @@ mod KeepingLaws
 mod OnceLaws
 mod PutLaws
 mod RecentLaws
-mod RootLaws
+pub mod RootLaws
 mod RunLaws
 mod StoreLaws
 mod TreeLaws

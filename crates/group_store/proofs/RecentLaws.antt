@@ -17,7 +17,7 @@ use Rattle.slot_rows.specs.SlotKeys.{IsPlaceOf, RowsHeld, SlotKeys}
 use Rattle.slot_rows.proofs.SlotKeyLaws.{number_itself, same_number}
 use Rattle.cache_store.specs.Tying.{HasOwnKey}
 use Rattle.cache_store.proofs.TieLaws.{ties_keys}
-use Rattle.group_store.specs.Recent.{AreRecent, IsRowPlace, key_in, keys_of}
+use Rattle.group_store.specs.Recent.{AreOnce, AreRecent, IsRowPlace, key_in, keys_of}
 
 abbrev Row : Type 0
 Row = List Value
@@ -298,6 +298,58 @@ module _ (slots : SlotKeys) (recent : List ℕ) (are : AreRecent slots recent) w
 
     pub more_recent : AreRecent (fm.insert slots slot key) (recent ++ slot ∷ [])
     more_recent s = any_append (nat_eq s) recent (slot ∷ []) ∙ ap (λ b. b || (nat_eq s slot || false)) (are s) ∙ sym (has_more slots slot key s)
+
+-- the keys are those of the table that the slots are of
+module _ (slots : SlotKeys) (recent : List ℕ) (are : AreRecent slots recent) (table : Table) where
+  found_key : (xs : List ℕ) (s : ℕ) (k : Row) → any s xs ≡ true → key_in slots s ≡ k → list_any (is_same k) (map (key_in slots) xs) ≡ true
+  found_key [] s k e is = cc
+  found_key (x ∷ xs) s k e is = by (nat_eq s x) refl e (found_key xs s k)
+    where
+      by : (b : Bool) → nat_eq s x ≡ b → (b || any s xs) ≡ true → (any s xs ≡ true → key_in slots s ≡ k → list_any (is_same k) (map (key_in slots) xs) ≡ true)
+          → (is_same k (key_in slots x) || list_any (is_same k) (map (key_in slots) xs)) ≡ true
+      by true p e rest = ap (λ b. b || list_any (is_same k) (map (key_in slots) xs)) (ap (λ t. is_same k (key_in slots t)) (sym (eqb-true s x p)) ∙ ap (is_same k) is ∙ same_itself k)
+      by false p e rest = ap (λ b. is_same k (key_in slots x) || b) (rest e is) ∙ or_true (is_same k (key_in slots x))
+
+  slot_with : (xs : List ℕ) (k : Row) → ((i s : ℕ) → slice_get xs i ≡ Some s → (q : Row) × (fm.get slots s ≡ Some q)) → list_any (is_same k) (map (key_in slots) xs) ≡ true → (s : ℕ) × (fm.get slots s ≡ Some k)
+  slot_with [] k each e = cc
+  slot_with (x ∷ xs) k each e = by (is_same k (key_in slots x)) refl e (slot_with xs k (λ i s at. each (suc i) s at))
+    where
+      by : (b : Bool) → is_same k (key_in slots x) ≡ b → (b || list_any (is_same k) (map (key_in slots) xs)) ≡ true → (list_any (is_same k) (map (key_in slots) xs) ≡ true → (s : ℕ) × (fm.get slots s ≡ Some k)) → (s : ℕ) × (fm.get slots s ≡ Some k)
+      by true p e rest =
+          let q = each 0 x refl in
+          (x, q.1 ∙ ap Some (sym (same_values k q.0 (ap (is_same k) (sym (in_slot slots x q.0 q.1)) ∙ p))))
+      by false p e rest = rest e
+
+  pub recent_keys : ((slot : ℕ) (key : Row) → fm.get slots slot ≡ Some key → fm.contains_key table key ≡ true) → ((key : Row) → fm.contains_key table key ≡ true → (slot : ℕ) × (fm.get slots slot ≡ Some key))
+      → (k : Row) → list_any (is_same k) (keys_of slots recent) ≡ fm.contains_key table k
+  recent_keys row slot k = by (fm.contains_key table k) refl
+    where
+      other : (a : Bool) → list_any (is_same k) (keys_of slots recent) ≡ a → fm.contains_key table k ≡ false → list_any (is_same k) (keys_of slots recent) ≡ false
+      other true p e = let s = slot_with recent k (of_recent slots recent are) p in let z : true ≡ false = sym (row s.0 k s.1) ∙ e in cc
+      other false p e = p
+
+      by : (b : Bool) → fm.contains_key table k ≡ b → list_any (is_same k) (keys_of slots recent) ≡ fm.contains_key table k
+      by true e = let s = slot k e in found_key recent s.0 k (are s.0 ∙ ap is_some s.1) (in_slot slots s.0 k s.1) ∙ sym e
+      by false e = other (list_any (is_same k) (keys_of slots recent)) refl e ∙ sym e
+
+-- each of them once
+pub recent_once : (slots : SlotKeys) (recent : List ℕ) → AreRecent slots recent → AreOnce recent → ((key : Row) (slot other : ℕ) → fm.get slots slot ≡ Some key → fm.get slots other ≡ Some key → slot ≡ other)
+    → (k : Row) (slot : ℕ) → fm.get slots slot ≡ Some k → filter (is_same k) (keys_of slots recent) ≡ k ∷ []
+recent_once slots recent are once only k slot e =
+    let own = own_key slots recent are k slot e (λ other f. ap Some (only k slot other e f)) in
+    let there : any slot recent ≡ true = are slot ∙ ap is_some e in
+    ap (λ q. filter (is_same q) (keys_of slots recent)) (sym (in_slot slots slot k e))
+    ∙ sym (keys_filtered (key_in slots) (is_same (key_in slots slot)) (nat_eq slot) recent own)
+    ∙ ap (map (key_in slots)) (once slot ∙ ap (λ b. cond b (slot ∷ []) []) there)
+    ∙ ap (λ q. q ∷ []) (in_slot slots slot k e)
+  where
+    keys_filtered : (f : ℕ → Row) (t : Row → Bool) (u : ℕ → Bool) (xs : List ℕ) → ((i x : ℕ) → slice_get xs i ≡ Some x → t (f x) ≡ u x) → map f (filter u xs) ≡ filter t (map f xs)
+    keys_filtered f t u [] h = refl
+    keys_filtered f t u (x ∷ xs) h = by (u x) refl (h 0 x refl) (keys_filtered f t u xs (λ i y at. h (suc i) y at))
+      where
+        by : (b : Bool) → u x ≡ b → t (f x) ≡ u x → map f (filter u xs) ≡ filter t (map f xs) → map f (cond (u x) (x ∷ filter u xs) (filter u xs)) ≡ cond (t (f x)) (f x ∷ filter t (map f xs)) (filter t (map f xs))
+        by true is same rest = ap (λ b. map f (cond b (x ∷ filter u xs) (filter u xs))) is ∙ ap (λ l. f x ∷ l) rest ∙ sym (ap (λ b. cond b (f x ∷ filter t (map f xs)) (filter t (map f xs))) (same ∙ is))
+        by false is same rest = ap (λ b. map f (cond b (x ∷ filter u xs) (filter u xs))) is ∙ rest ∙ sym (ap (λ b. cond b (f x ∷ filter t (map f xs)) (filter t (map f xs))) (same ∙ is))
 
 pub sure : {A E P : Type 0} (r : Result A E) → OnOk r P → IsOk r → P
 sure (Ok x) h k = h

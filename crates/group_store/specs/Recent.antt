@@ -1,6 +1,6 @@
 -- The rows of a root table, and their keys in the order of last use. (TimesTen Cache User's Guide, "Implementing aging
 -- in a cache group".)
-use Rattle.std.specs.Prelude.{◌≡◌, ℕ, List, [], ◌∷◌, ◌++◌, Option, Some, None, false, nat_eq, map, unwrap_or, refl, if◌then◌else◌}
+use Rattle.std.specs.Prelude.{◌≡◌, ℕ, List, [], ◌∷◌, ◌++◌, Option, Some, None, true, false, nat_eq, map, unwrap_or, refl, if◌then◌else◌}
 use Rattle.std.specs.List.{filter, list_any}
 use Rattle.std.specs.Coded.{Coded, code_by, coded×, coded_list, coded_ℕ}
 use Rattle.std.specs.FinMap as fm
@@ -64,6 +64,11 @@ AreRecent slots recent = (s : ℕ) → list_any (nat_eq s) recent ≡ fm.contain
 -- no slot stands twice
 abbrev pub AreOnce : List ℕ → Type 0
 AreOnce recent = (s : ℕ) → filter (nat_eq s) recent ≡ (if list_any (nat_eq s) recent then s ∷ [] else [])
+
+-- the keys in the order of last use are those that have rows, each once
+pub record HasItsKeys (held : RecentHeld) : Type 0 where
+  pub are : (key : List Value) → list_any (is_same key) held.keys ≡ fm.contains_key held.table key
+  pub once : (key : List Value) → fm.contains_key held.table key ≡ true → filter (is_same key) held.keys ≡ key ∷ []
 
 -- a key becomes the newest, where the table doesn't have it yet
 abbrev pub entered_last : Table → List Value → List (List Value) → List (List Value)

@@ -1,6 +1,6 @@
 -- What a cache group keeps, and what becomes of it. (TimesTen Cache User's Guide, "Cache groups" and "Implementing
 -- aging in a cache group".)
-use Rattle.std.specs.Prelude.{◌≡◌, ℕ, suc, List, [], ◌∷◌, ◌++◌, ◌+◌, Option, Some, None, length, nat_eq, position, refl, if◌then◌else◌}
+use Rattle.std.specs.Prelude.{◌≡◌, ℕ, suc, List, [], ◌∷◌, ◌++◌, ◌+◌, Option, Some, None, true, filter, length, nat_eq, position, refl, if◌then◌else◌}
 use Rattle.std.specs.Option.{option_map}
 use Rattle.std.specs.Coded.{Coded, code_by, coded×, coded_list, coded_ℕ}
 use Rattle.std.specs.FinMap as fm
@@ -14,6 +14,7 @@ use Rattle.instances.specs.Trees.{same_table}
 use Rattle.instances.specs.Views.{kept_at}
 use Rattle.recency.specs.Rings.{keys_without, touched}
 use Rattle.cache_store.specs.Operating.{change_at}
+use Rattle.cache_store.specs.Shown.{is_among}
 use Rattle.group_store.specs.Recent.{entered_last, row_code}
 use Rattle.group_store.specs.Trees.{Layer, all_empty, cut_from, foreign_at, key_at}
 
@@ -79,6 +80,11 @@ pub record SameButSpare (old new : Kept) : Type 0 where
   pub layers : new.layers ≡ old.layers
   pub tables : new.tables ≡ old.tables
   pub keys : new.keys ≡ old.keys
+
+-- the keys in the order of last use are those of the root rows, each once
+pub record HasRootKeys (s : Kept) : Type 0 where
+  pub are : (key : List Value) → is_among s.keys key ≡ fm.contains_key (kept_at s.tables 0) key
+  pub once : (key : List Value) → fm.contains_key (kept_at s.tables 0) key ≡ true → filter (is_same key) s.keys ≡ key ∷ []
 
 -- a root table with these columns and without rows
 pub record IsNewStore (root : TableId) (primary columns : List ℕ) (s : Kept) : Type 0 where

@@ -9,7 +9,7 @@ ghost use Rattle.indexed_rows.specs.Places.{IsKeyAt};
 ghost use Rattle.row_types.specs.declared.value.Value.{Value as OneValue};
 ghost use Rattle.slot_rows.specs.SlotKeys.{IsKeyedBy};
 ghost use Rattle.slot_rows.specs.Orders.{place_from};
-ghost use Rattle.group_store.specs.Recent.{HasNoRows, HasOrders, IsRowPlace, LosesRecent, TakesRecent, entered_last};
+ghost use Rattle.group_store.specs.Recent.{HasItsKeys, HasNoRows, HasOrders, IsRowPlace, LosesRecent, TakesRecent, entered_last};
 
 use crate::columns::{joined, place_of_child};
 use recency::Recency;
@@ -95,6 +95,20 @@ impl RecentRows {
         ensures keyed { IsKeyedBy self.now.places self.now.table }
     {
         self.rows.len()
+    }
+
+    /// The keys in the order of last use are those that have rows, each once. It does nothing.
+    pub fn keys_law(&self)
+        ensures { HasItsKeys self.now }
+    {
+        self.rows.slots_law();
+    }
+
+    /// How many keys there are.
+    pub fn count(&self) -> usize
+        ensures { result ≡ length self.now.keys }
+    {
+        self.recent.len()
     }
 
     /// The row of a key.

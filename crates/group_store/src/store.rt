@@ -13,7 +13,7 @@ ghost use Rattle.slot_rows.specs.SlotKeys.{IsKeyedBy};
 ghost use Rattle.group_store.specs.Trees.{key_at};
 ghost use Rattle.group_store.specs.Entering.{commit_done, entered, keys_of_rows, root_entered};
 ghost use Rattle.group_store.specs.Hiding.{hidden_with};
-ghost use Rattle.group_store.specs.Stores.{AddsChild, IsNewStore, SameButSpare, cleared_store, count_all, foreign_columns, key_columns, cut_store, op_done, ops_done, place_in, put_rows, put_store, put_tables, touched_store};
+ghost use Rattle.group_store.specs.Stores.{AddsChild, HasRootKeys, IsNewStore, SameButSpare, cleared_store, count_all, foreign_columns, key_columns, cut_store, op_done, ops_done, place_in, put_rows, put_store, put_tables, touched_store};
 
 use crate::columns::joined;
 use crate::recent::RecentRows;
@@ -131,6 +131,13 @@ impl Store {
         }
     }
 
+    /// The columns of the root's primary key.
+    pub fn key(&self) -> &[usize]
+        ensures { result.now ≡ self.now.key }
+    {
+        self.rows.roots.places()
+    }
+
     /// The row of a key in the table at a place of the tree. It costs O(log n) comparisons.
     pub fn get(&self, place: usize, key: &Key) -> Option<&Row>
         requires { place ≤ length self.now.layers }
@@ -164,6 +171,20 @@ impl Store {
         ensures { result ≡ place_from (kept_at self.now.tables place) (foreign_columns self.now place) key.now from }
     {
         self.rows.child(place, key.values(), from)
+    }
+
+    /// The keys in the order of last use are those of the root rows, each once. It does nothing.
+    pub fn keys_law(&self)
+        ensures { HasRootKeys self.now }
+    {
+        self.rows.roots.keys_law();
+    }
+
+    /// How many root keys there are.
+    pub fn count(&self) -> usize
+        ensures { result ≡ length self.now.keys }
+    {
+        self.rows.roots.count()
     }
 
     /// The root row that was not used for longest.

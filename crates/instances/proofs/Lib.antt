@@ -1,4 +1,5 @@
 pub mod ChildLaws
+pub mod FollowLaws
 pub mod Gathering
 pub mod InstanceLaws
 pub mod OnlyLaws

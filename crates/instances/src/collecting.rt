@@ -54,8 +54,8 @@ pub(crate) fn child_rows(
     referring_rows(alloc, rows, &child.filter, parents, def)
 }
 
-// The rows at a place, or else those of `none`.
-fn kept_at<'a>(kept: &'a [Rows], place: usize, none: &'a Rows) -> &'a Rows
+/// The rows at a place, or else those of `none`.
+pub(crate) fn kept_at<'a>(kept: &'a [Rows], place: usize, none: &'a Rows) -> &'a Rows
     ensures { result.now ≡ unwrap_or (slice_get kept.now place) none.now }
 {
     match kept.get(place) {
@@ -64,8 +64,8 @@ fn kept_at<'a>(kept: &'a [Rows], place: usize, none: &'a Rows) -> &'a Rows
     }
 }
 
-// The rows, or else those of `none`.
-fn or_none<'a>(rows: Option<&'a Rows>, none: &'a Rows) -> &'a Rows
+/// The rows, or else those of `none`.
+pub(crate) fn or_none<'a>(rows: Option<&'a Rows>, none: &'a Rows) -> &'a Rows
     ensures { result.now ≡ unwrap_or (option_copied rows.entry) none.now }
 {
     match rows {
@@ -140,7 +140,7 @@ fn refers_to_one(
 }
 
 /// The columns of the foreign key, none where there is no foreign key.
-pub(crate) fn foreign_places(foreign_key: &Option<ForeignKey>) -> &[usize]
+pub fn foreign_places(foreign_key: &Option<ForeignKey>) -> &[usize]
     ensures { result.now ≡ foreign_places foreign_key.now }
 {
     match foreign_key {
@@ -165,8 +165,8 @@ fn selected_row<'a>(tables: &'a Tables, root: &Root, key: &Key) -> Option<&'a Ro
     }
 }
 
-// Whether the WHERE selects the row; one that is 120 on it doesn't, and where there is none each row is selected.
-fn selects(filter: &Option<Cond>, row: &Row) -> bool
+/// Whether the WHERE selects the row; one that is 120 on it doesn't, and where there is none each row is selected.
+pub fn selects(filter: &Option<Cond>, row: &Row) -> bool
     ensures { result ≡ selects filter.now row.now }
 {
     match filter {
@@ -186,8 +186,13 @@ fn one_row(alloc: Global, key: &Key, row: &Row) -> Result<Rows, AllocError>
     Ok(out)
 }
 
-// Puts a copy of a row in where its key has none.
-fn add_copy(alloc: Global, out: &mut Rows, key: &Key, row: &Row) -> Result<(), AllocError>
+/// Puts a copy of a row in where its key has none.
+pub(crate) fn add_copy(
+    alloc: Global,
+    out: &mut Rows,
+    key: &Key,
+    row: &Row,
+) -> Result<(), AllocError>
     ensures { OnOk result (out.new ≡ added out.old key.now row.now) }
 {
     let key = key.copied(alloc)?;

@@ -2,11 +2,13 @@
 #![tactic(auto)]
 
 mod collecting;
+mod following;
 pub mod laws;
 pub mod rooting;
 pub mod tree;
 pub mod viewing;
 
+pub use collecting::{foreign_places, selects};
 pub use laws::instance_law;
 pub use rooting::root_of;
 pub use tree::{Child, Root, Tree};

@@ -4,6 +4,7 @@ ghost use Rattle.std.specs.Prelude.{◌≡◌, [], ◌∷◌, IfOk};
 ghost use Rattle.instances.specs.Views.{instance_of, view_of, with_children};
 
 use crate::collecting::{child_rows, root_row, root_rows};
+use crate::following::followed_rows;
 use crate::tree::{Child, Tree};
 use indexed_rows::Rows;
 use row_types::Key;
@@ -29,7 +30,8 @@ pub fn view(alloc: Global, tree: &Tree, tables: &Tables) -> Result<Seq<Rows>, Al
 /// The instance of a root key in these tables: for each table of the tree the rows of the view that are reached from
 /// the root row of this key, by primary key. There are none where that row isn't in the view.
 ///
-/// It fails for want of memory alone.
+/// Rows are found by key and by the index by parent, so it costs what the instance has, whatever the tables have. It
+/// fails for want of memory alone.
 ///
 /// (TimesTen Cache User's Guide, "Cache instances".)
 pub fn instance(
@@ -41,7 +43,7 @@ pub fn instance(
     ensures { IfOk result (λ rows. rows ≡ instance_of tables.now tree.now key.now) }
 {
     let root = root_row(alloc, tables, &tree.root, key)?;
-    with_children(alloc, tables, tree.children.as_slice(), root)
+    with_followed(alloc, tables, tree.children.as_slice(), root)
 }
 
 // The rows of the root, and behind them what is kept of the children.
@@ -57,6 +59,24 @@ fn with_children(
     kept.push(root)?;
     for child in children {
         let rows = child_rows(alloc, tables, kept.as_slice(), child)?;
+        kept.push(rows)?;
+    }
+    Ok(Seq::from_vec(kept))
+}
+
+// The same, where the rows are found from those of their parents.
+fn with_followed(
+    alloc: Global,
+    tables: &Tables,
+    children: &[Child],
+    root: Rows,
+) -> Result<Seq<Rows>, AllocError>
+    ensures { IfOk result (λ kept. kept ≡ with_children tables.now children.now (root ∷ [])) }
+{
+    let mut kept = Vec::new(alloc);
+    kept.push(root)?;
+    for child in children {
+        let rows = followed_rows(alloc, tables, kept.as_slice(), child)?;
         kept.push(rows)?;
     }
     Ok(Seq::from_vec(kept))

@@ -1,8 +1,5 @@
 -- A stored tier that is left so in a world.
-use Rattle.std.proofs.Common.{◌≡◌, ◌&&◌, true, Option, Some, None, List, [], ◌∷◌, map, is_none, refl, sym, ap, subst, ◌∙◌, arith}
-use Rattle.std.specs.List.{list_all}
-use Rattle.order_laws.proofs.TruthLaws.{both_true}
-use Rattle.cache_tier.specs.Groups.{Group, is_explicit}
+use Rattle.std.proofs.Common.{◌≡◌, true, Option, Some, None, map, sym, ap, subst, ◌∙◌, arith}
 use Rattle.cache_tier.specs.TierStates.{Tier}
 use Rattle.cache_tier.specs.Worlds.{IsUnshared, World}
 use Rattle.group_catalog.specs.Catalogs.{groups_in}
@@ -13,9 +10,8 @@ use Rattle.session_engine.specs.declared.doubt.Doubted.TheVariants.{Commit, Pass
 use Rattle.session_engine.proofs.KindLaws.{bare_later}
 use Rattle.stored_tier.specs.declared.tier.Tier.{Tier as Stored}
 use Rattle.stored_tier.specs.Stored.{IsSound, without_list}
-use Rattle.group_catalog.specs.Catalogs.{is_plain}
 use Rattle.stored_tier.proofs.QuietLaws.{its_session}
-use Rattle.run_laws.specs.Lines.{IsLeftBy, MayGoOn, are_ageless, are_later}
+use Rattle.run_laws.specs.Lines.{IsLeftBy, MayGoOn, are_later}
 use Rattle.run_laws.specs.Lines as lines
 
 -- what is unsettled waits for the bank
@@ -23,22 +19,9 @@ later_in : (t : Stored) (a : Tier) → IsSound t → map without_list a.groups �
 later_in t a sound groups unsettled =
     sym (bare_later a.groups a.unsettled) ∙ ap (λ gs. are_later gs a.unsettled) groups ∙ ap (are_later (groups_in t.catalog)) unsettled ∙ sound.later
 
--- no group ages
-plain_ageless : (gs : List Group) → list_all is_plain (map without_list gs) ≡ true → are_ageless gs ≡ true
-plain_ageless [] e = refl
-plain_ageless (g ∷ gs) e =
-    let both = both_true (is_plain (without_list g)) (list_all is_plain (map without_list gs)) e in
-    let one = (both_true (is_explicit g) (is_none g.def.aging) both.0).1 in
-    let rest = plain_ageless gs both.1 in
-    λ i. one i && rest i
-
-ageless_in : (t : Stored) (a : Tier) → IsSound t → map without_list a.groups ≡ groups_in t.catalog → are_ageless a.groups ≡ true
-ageless_in t a sound groups = plain_ageless a.groups (ap (list_all is_plain) groups ∙ sound.plain)
-
 -- what is told of the world
 record IsHeld (w : World) : Type 0 where
   left : lines.IsLeft w
-  ageless : are_ageless w.tier.groups ≡ true
   later : are_later w.tier.groups w.tier.unsettled ≡ true
 
 -- a commit is in doubt
@@ -65,7 +48,6 @@ module _ (t : Stored) (d : Doubt) (w : World) (sound : IsSound t) (x : CommitIsI
   commit_left : IsHeld w
   commit_left = record {
     left = subst (λ o. IsLeftBy o w) (sym (ap (λ (a : Tier). a.doubt) x.tier)) in_doubt;
-    ageless = ap (λ (a : Tier). are_ageless a.groups) x.tier ∙ ageless_in t x.was.tier sound x.stands.stored.groups;
     later = ap (λ (a : Tier). are_later a.groups a.unsettled) x.tier ∙ was_later;
   }
 
@@ -91,14 +73,12 @@ module _ (t : Stored) (d : Doubt) (w : World) (sound : IsSound t) (x : WriteIsIn
   write_left : IsHeld w
   write_left = record {
     left = subst (λ o. IsLeftBy o w) (sym (ap (λ (a : Tier). a.doubt) x.tier)) write_in_doubt;
-    ageless = ap (λ (a : Tier). are_ageless a.groups) x.tier ∙ ageless_in t x.was.tier sound x.stands.stored.groups;
     later = ap (λ (a : Tier). are_later a.groups a.unsettled) x.tier ∙ later_in t x.was.tier sound x.stands.stored.groups x.stands.stored.unsettled;
   }
 
 held : (t : Stored) (doubt : Option Doubt) (w : World) → IsSound t → IsLeft t doubt w → IsHeld w
 held t None w sound x = record {
   left = subst (λ o. IsLeftBy o w) (sym x.stored.doubt) x.stands;
-  ageless = ageless_in t w.tier sound x.stored.groups;
   later = later_in t w.tier sound x.stored.groups x.stored.unsettled;
 }
 held t (Some d) w sound x = by d.of x
@@ -108,7 +88,7 @@ held t (Some d) w sound x = by d.of x
     by PassedWrite x = write_left t d w sound x
 
 pub goes_on : (t : Stored) (doubt : Option Doubt) (w : World) → IsSound t → IsLeft t doubt w → IsUnshared w → MayGoOn w
-goes_on t doubt w sound x apart = let h = held t doubt w sound x in record { left = h.left; unshared = apart; ageless = h.ageless }
+goes_on t doubt w sound x apart = let h = held t doubt w sound x in record { left = h.left; unshared = apart }
 
 pub waits : (t : Stored) (doubt : Option Doubt) (w : World) → IsSound t → IsLeft t doubt w → are_later w.tier.groups w.tier.unsettled ≡ true
 waits t doubt w sound x = (held t doubt w sound x).later

@@ -7,5 +7,6 @@ pub mod Faults
 pub mod Holding
 pub mod Others
 pub mod Passing
+pub mod Reaching
 pub mod Sites
 pub mod Writing

@@ -20,6 +20,6 @@ pub use memory_sink::MemorySink;
 pub use memory_source::MemorySource;
 pub use script_clock::ScriptClock;
 pub use sink::Sink;
-pub use site::{Applied, Done, Receipt, Site, Snapshot};
+pub use site::{Applied, Done, Instance, Reached, Receipt, Site, Snapshot};
 pub use source::Source;
 pub use write::put_all;

@@ -5,15 +5,18 @@ ghost use Rattle.outside.specs.Calls.{BankGoesOn, BankTold};
 ghost use Rattle.outside.specs.Console.{TakesSnapshot, WritesForeign};
 ghost use Rattle.outside.specs.Faults.{BankHasCause};
 ghost use Rattle.outside.specs.Passing.{CommitsAlone};
+ghost use Rattle.outside.specs.Reaching.{Reaches};
 ghost use Rattle.table_defs.specs.Declarations.{IsChecked};
 
 use crate::disk::Disk;
 use crate::fault::BankError;
 use evaluator::Change;
+use indexed_rows::Rows;
+use instances::Tree;
 use row_types::{Key, Row, Rule};
 use table_defs::{BackingSchema, TableDef};
 use table_state::{Sealed, Tables};
-use tier_base::{Position, TableId, Ticket};
+use tier_base::{Position, Seq, TableId, Ticket};
 
 /// That a transaction of the tier stands in the backing history.
 #[derive(Clone, Copy, Debug, PartialEq, Eq)]
@@ -54,6 +57,39 @@ pub struct Snapshot {
     pub position: Position,
     /// All tables, but rows of those alone that were asked for.
     pub tables: Tables,
+}
+
+/// The instance of a root key.
+pub struct Instance {
+    /// The root key.
+    pub root: Key,
+    /// For each table of the tree, the root first, the rows of the view that are reached from the root row, by primary
+    /// key. There are none where that row isn't in the view.
+    pub rows: Seq<Rows>,
+}
+
+impl Drop for Instance {
+    fn drop(self) {
+        let Self { root: _, rows: _ } = self;
+    }
+}
+
+/// The instance that a row is in, at one position of the backing history.
+pub struct Reached {
+    /// The position: how many entries the history had.
+    pub position: Position,
+    /// The instance; none where the tree doesn't cover the row's table, and where the row, or one that it leads to, isn't
+    /// there.
+    pub instance: Option<Instance>,
+}
+
+impl Drop for Reached {
+    fn drop(self) {
+        let Self {
+            position: _,
+            instance: _,
+        } = self;
+    }
 }
 
 /// The backing database. Each call is one moment. Calls keep the slots of the disk, and no call changes what was
@@ -129,5 +165,14 @@ pub trait Site: Disk {
     fn snapshot(&mut self, tables: &[TableId]) -> Result<Snapshot, BankError>
         ensures told { BankTold (Self.state self.old) (Self.state self.new) (TakesSnapshot tables.now result) }
         ensures crash { BankGoesOn Self.state Self.possible self.old self.new (TakesSnapshot tables.now result) }
+        ensures cause { BankHasCause (Self.state self.old) (Self.state self.new) result };
+
+    /// The instance of the tree that the row of a key is in, at one position of the history: that of the root row to
+    /// which it leads over foreign keys, whatever the WHERE conditions say. Its rows are those of the view alone.
+    ///
+    /// (TimesTen Cache User's Guide, "Dynamically loading a cache instance".)
+    fn reach(&mut self, tree: &Tree, table: TableId, key: &Key) -> Result<Reached, BankError>
+        ensures told { BankTold (Self.state self.old) (Self.state self.new) (Reaches tree.now table key.now result) }
+        ensures crash { BankGoesOn Self.state Self.possible self.old self.new (Reaches tree.now table key.now result) }
         ensures cause { BankHasCause (Self.state self.old) (Self.state self.new) result };
 }

@@ -8,18 +8,19 @@ use Rattle.tier_base.specs.declared.number.TableId.{TableId}
 use Rattle.table_defs.specs.Names.{same_name}
 use Rattle.table_defs.specs.declared.definition.TableDef.{TableDef}
 use Rattle.sql_subset.specs.declared.stmt.RefreshState.{RefreshState}
-use Rattle.order_laws.proofs.TruthLaws.{both_true, first_true, never_both, not_both}
+use Rattle.order_laws.proofs.TruthLaws.{both_true, never_both, not_both}
 use Rattle.cache_tier.specs.AlterSteps.{with_state}
 use Rattle.cache_tier.specs.Definitions.{defined_by, new_group}
 use Rattle.cache_tier.specs.Groups.{Group, covers, defines_name, definitions_of, is_called, is_defined_on}
 use Rattle.cache_tier.specs.Journals.{Commits, Defines, Drops, JournalEntry, Marks, Numbers, Prepares, SetsLoaded, SetsState}
+use Rattle.cache_tier.specs.Undone.{is_user_managed}
 use Rattle.cache_tier.specs.StandingBetween.{Each, HasNoTableOf, HaveOwnTables, IsCatalogued}
 use Rattle.cache_tier.specs.declared.group.GroupDef.{GroupDef}
 use Rattle.cache_tier.proofs.GroupTables.{each_changed, each_last, each_left}
 use Rattle.group_catalog.specs.ReadBack.{StandsReadBack, read_back_fault}
 use Rattle.recovery.specs.Recalling.{with_loaded}
 use Rattle.recovery.proofs.FoldLaws.{any_filter}
-use Rattle.recalling.specs.Fitting.{fits, is_done, is_user_managed}
+use Rattle.recalling.specs.Fitting.{fits}
 use Rattle.recalling.specs.Recalled.{AreInOrder, IsBare}
 use Rattle.group_catalog.specs.Catalogs.{HaveOwnNames, is_plain}
 use Rattle.recalling.specs.Steps.{AreNamedApart, Moves}
@@ -164,7 +165,7 @@ module _ (schema : List TableDef) (change : Group → Group) (steady : IsSteady 
 
   plain_changed : (groups : List Group) → list_all is_plain (map change groups) ≡ list_all is_plain groups
   plain_changed [] = refl
-  plain_changed (g ∷ groups) = λ i. (not (steady.def g i).dynamic && is_none (steady.def g i).aging) && plain_changed groups i
+  plain_changed (g ∷ groups) = λ i. not (is_user_managed (steady.def g i).kind) && plain_changed groups i
 
   ordered_changed : (groups : List Group) → IsOrdered schema groups → IsOrdered schema (map change groups)
   ordered_changed groups o = record {
@@ -225,8 +226,8 @@ ordered_more law schema moment above (SetsLoaded name flag) groups groups' fit m
 ordered_more law schema moment above (Defines d text) groups groups' fit m o =
     let g : Group = new_group above moment d (defined_by schema d m.tree) in
     let stands = law schema groups d m.tree m.back above moment in
-    let (fault, done) = both_true (is_none (read_back_fault schema (definitions_of groups) d)) (is_done schema d) fit in
-    let plain : is_plain g ≡ true = first_true (is_plain g) (not (is_user_managed d.kind)) done in
+    let (fault, done) = both_true (is_none (read_back_fault schema (definitions_of groups) d)) (not (is_user_managed d.kind)) fit in
+    let plain : is_plain g ≡ true = done in
     moved schema (groups ++ g ∷ []) groups' m.left (record {
       each = each_last (IsCatalogued schema) groups g o.each stands.sound;
       apart = own_last groups g o.apart stands.apart;

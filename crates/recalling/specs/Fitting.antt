@@ -2,7 +2,7 @@
 -- greatest ticket so far. (This project's rule; TimesTen SQL Reference, "CREATE CACHE GROUP", and TimesTen Cache User's
 -- Guide, "Asynchronous writethrough", "Synchronous writethrough", "Automatically refreshing a cache group".)
 
-use Rattle.std.specs.Prelude.{ℕ, ◌^◌, ◌==◌, nat_le, List, Bool, true, false, ◌&&◌, not, Option, Some, None, is_none, is_some, find, length, slice_get}
+use Rattle.std.specs.Prelude.{ℕ, ◌^◌, ◌==◌, nat_le, List, Bool, false, ◌&&◌, not, Option, Some, None, is_none, is_some, find, length, slice_get}
 use Rattle.std.specs.List.{list_all}
 use Rattle.tier_base.specs.Limits.{greatest}
 use Rattle.tier_base.specs.declared.limit.Limit.TheVariants as limit
@@ -15,12 +15,10 @@ use Rattle.table_state.specs.declared.operation.Op.TheVariants.{Insert, Update, 
 use Rattle.table_state.specs.Operations.{table_of}
 use Rattle.table_state.specs.Tables.{fits_columns}
 use Rattle.sql_subset.specs.declared.stmt.CreateGroup.{CreateGroup}
-use Rattle.sql_subset.specs.declared.stmt.GroupKind.{GroupKind}
-use Rattle.sql_subset.specs.declared.stmt.GroupKind.TheVariants.{ReadOnly, AsynchronousWritethrough, SynchronousWritethrough, UserManaged}
-use Rattle.cache_tier.specs.Definitions.{placed_tables, root_aging}
 use Rattle.cache_tier.specs.Groups.{Group, definitions_of, is_asynchronous, is_called, is_read_only, is_synchronous, is_table_of}
 use Rattle.cache_tier.specs.Journals.{Commits, Defines, Drops, JournalEntry, Marks, Numbers, Prepares, SetsLoaded, SetsState}
 use Rattle.cache_tier.specs.TierStates.{Tier}
+use Rattle.cache_tier.specs.Undone.{is_user_managed}
 use Rattle.group_catalog.specs.ReadBack.{read_back_fault}
 
 -- ---- tickets
@@ -63,20 +61,10 @@ sealed_fits schema groups test above s =
 
 -- ---- definitions
 
-abbrev pub is_user_managed : GroupKind → Bool
-is_user_managed ReadOnly = false
-is_user_managed AsynchronousWritethrough = false
-is_user_managed SynchronousWritethrough = false
-is_user_managed UserManaged = true
-
--- What isn't done yet: groups that are loaded on demand, that age, and that their users manage. This line goes once
--- they are.
-abbrev pub is_done : List TableDef → CreateGroup → Bool
-is_done schema d = not d.dynamic && is_none (root_aging d (placed_tables schema d)) && not (is_user_managed d.kind)
-
--- it breaks no rule
+-- it breaks no rule, and is of what is done yet: not a group that its users manage
 abbrev pub definition_fits : List TableDef → List Group → CreateGroup → Bool
-definition_fits schema groups d = is_none (read_back_fault schema (definitions_of groups) d) && is_done schema d
+definition_fits schema groups d =
+    is_none (read_back_fault schema (definitions_of groups) d) && not (is_user_managed d.kind)
 
 -- ---- the groups that drops and flags name
 

@@ -1,6 +1,6 @@
 -- What one entry that fits makes of the groups, the tickets and the commits. (This project's rule.)
 
-use Rattle.std.specs.Prelude.{◌≡◌, ℕ, ◌+◌, List, [], ◌∷◌, ◌++◌, Bool, true, false, ◌&&◌, not, is_none, Option, Some, None, find, slice_get}
+use Rattle.std.specs.Prelude.{◌≡◌, ℕ, ◌+◌, List, [], ◌∷◌, ◌++◌, Bool, true, false, not, Option, Some, None, find, slice_get}
 use Rattle.std.specs.List.{filter, list_any}
 use Rattle.table_defs.specs.declared.definition.TableDef.{TableDef}
 use Rattle.table_state.specs.declared.history.Sealed.{Sealed}
@@ -9,13 +9,12 @@ use Rattle.sql_subset.specs.declared.stmt.CreateGroup.{CreateGroup}
 use Rattle.cache_tier.specs.AlterSteps.{with_state}
 use Rattle.cache_tier.specs.Definitions.{defined_by, new_group}
 use Rattle.cache_tier.specs.Groups.{Group, changed_where, is_asynchronous, is_called, is_synchronous}
-use Rattle.cache_tier.specs.declared.group.GroupDef.{GroupDef}
 use Rattle.cache_tier.specs.Journals.{Commits, Defines, Drops, JournalEntry, Marks, Numbers, Prepares, SetsLoaded, SetsState, next_with}
 use Rattle.group_catalog.specs.Catalogs.{groups_in}
 use Rattle.group_catalog.specs.ReadBack.{IsReadBack}
 use Rattle.recovery.specs.Recalling.{with_loaded}
 use Rattle.recalling.specs.declared.folding.Fold.{Fold}
-use Rattle.recalling.specs.Fitting.{fits, is_user_managed}
+use Rattle.recalling.specs.Fitting.{fits}
 
 -- the group of a definition that is read back comes behind the others
 pub record IsDefinedBehind (schema : List TableDef) (moment above : ℕ) (d : CreateGroup) (groups groups' : List Group)
@@ -73,10 +72,6 @@ pub record IsNewFold (fold : Fold) : Type 0 where
   pub above : fold.above ≡ 1
   pub next : fold.next ≡ 1
   pub commits : fold.commits.items ≡ []
-
--- the definition of a group of what is done yet
-abbrev pub is_done_as : GroupDef → Bool
-is_done_as def = not def.dynamic && is_none def.aging && not (is_user_managed def.kind)
 
 -- no two groups have one name
 abbrev pub AreNamedApart : List Group → Type 0

@@ -3,13 +3,11 @@
 ghost use Rattle.std.specs.Prelude.{◌≡◌, ◌+◌, IfOk, List, ℕ, false, max, true};
 ghost use Rattle.cache_tier.specs.StandingBetween.{HaveOwnTables};
 ghost use Rattle.cache_tier.specs.Journals.{Commits, Defines};
-ghost use Rattle.recalling.specs.Fitting.{is_user_managed};
-ghost use Rattle.recalling.specs.Steps.{is_done_as};
+ghost use Rattle.cache_tier.specs.Undone.{is_user_managed};
 
 use crate::fitting::{is_mark, is_next_ticket, ops_fit};
 use crate::naming::{drop_named, set_loaded, set_state};
 use crate::recalled::Recalled;
-use cache_tier::group::GroupDef;
 use group_catalog::{Catalog, KeptGroup, define_read_back};
 use row_types::Refused;
 use sql_subset::stmt::{CreateGroup, GroupKind};
@@ -131,13 +129,12 @@ impl Fold {
             Err(Refused::Memory) => Err(AllocError),
             Err(Refused::Rule(_)) => Ok(false),
             Ok(def) => {
-                if is_done(&def) {
-                    self.catalog
-                        .add(KeptGroup::new(def, Ticket(self.above), now))?;
-                    Ok(true)
-                } else {
-                    Ok(false)
+                if is_user_managed(def.kind) {
+                    return Ok(false);
                 }
+                self.catalog
+                    .add(KeptGroup::new(def, Ticket(self.above), now))?;
+                Ok(true)
             }
         }
     }
@@ -212,13 +209,7 @@ impl Fold {
     }
 }
 
-// Whether the definition is of what is done yet: no group that is loaded on demand, ages, or is managed by its users.
-fn is_done(def: &GroupDef) -> bool
-    ensures { result ≡ is_done_as def.now }
-{
-    !def.dynamic && def.aging.is_none() && !is_user_managed(def.kind)
-}
-
+// USERMANAGED.
 fn is_user_managed(kind: GroupKind) -> bool
     ensures { result ≡ is_user_managed kind }
 {

@@ -18,6 +18,7 @@ use Rattle.open_sessions.specs.Opening.{AreSessions}
 use Rattle.group_catalog.specs.Catalogs.{groups_in}
 use Rattle.group_catalog.specs.Kept.{groups_seen}
 use Rattle.group_catalog.specs.declared.kept.KeptGroup.{KeptGroup}
+use Rattle.slot_rows.specs.SlotKeys.{RowsHeld}
 use Rattle.group_store.specs.Stores.{Kept}
 use Rattle.tier_statements.specs.Seen.{session_seen}
 use Rattle.cache_tier.specs.Groups.{Group, covers, is_read_only}
@@ -30,16 +31,19 @@ use Rattle.cache_tier.proofs.GroupTables.{over_is_found}
 use Rattle.cache_tier.proofs.ShownTables.{no_table_shown, table_shown}
 use Rattle.stored_tier.specs.declared.moments.SetMoment.{SetMoment}
 use Rattle.stored_tier.specs.declared.tier.Tier.{Tier as Stored}
+use Rattle.stored_tier.specs.Filling.{HidesNone}
 use Rattle.stored_tier.specs.Grouping.{IsBareStore}
+use Rattle.stored_tier.specs.Lists.{AreHiding, AreListed}
 use Rattle.stored_tier.specs.Moments.{refreshed_in, set_seen}
 use Rattle.stored_tier.specs.Naming.{AreNamed}
 use Rattle.stored_tier.specs.Performing.{StandsFor}
 use Rattle.stored_tier.specs.Stored.{AreKept, AreWhole, IsSound, IsStoredAs, are_later, first_unsettled, pace_of, without_list}
 use Rattle.group_catalog.specs.Catalogs.{HaveOwnNames, is_plain}
 use Rattle.stored_tier.proofs.FillSteps.{take_one, take_past}
+use Rattle.stored_tier.proofs.ListLaws.{no_rows_fit, none_listed}
 use Rattle.stored_tier.proofs.StoreChanges.{all_over_for}
 use Rattle.stored_tier.proofs.StoreRows.{are_kept, shows_kept}
-use Rattle.reopening.specs.Building.{AreBare, IsBuilt, set_from, sets_from, settled_tier}
+use Rattle.reopening.specs.Building.{AreBare, HideNone, HoldsNothing, IsBuilt, set_from, sets_from, settled_tier}
 use Rattle.reopening.specs.Starting.{BeginsAs, IsUnread}
 use Rattle.reopening.specs.declared.start.Start.{Start}
 
@@ -59,6 +63,64 @@ one_bare schema groups i g s old new at one is are =
 
 pub all_bare : (schema : List TableDef) (groups : List Group) (i : ℕ) (stores : List Kept) → length groups ≤ i → AreBare schema (take i groups) stores → AreBare schema groups stores
 all_bare schema groups i stores le are = subst (λ gs. AreBare schema gs stores) (take_past groups i le) are
+
+-- no hidden root rows, group by group
+
+hide_more : (schema : List TableDef) (groups : List Group) (hidden : List RowsHeld) (g : Group) (h : RowsHeld) → HideNone schema groups hidden → HidesNone schema g 0 h → HideNone schema (groups ++ g ∷ []) (hidden ++ h ∷ [])
+hide_more schema [] [] g h are one = (one, tt)
+hide_more schema [] (x ∷ hidden) g h are one = absurd are
+hide_more schema (y ∷ groups) [] g h are one = absurd are
+hide_more schema (y ∷ groups) (x ∷ hidden) g h are one = (are.0, hide_more schema groups hidden g h are.1 one)
+
+pub one_hides : (schema : List TableDef) (groups : List Group) (i : ℕ) (g : Group) (h : RowsHeld) (old new : List RowsHeld) → slice_get groups i ≡ Some g → HidesNone schema g 0 h → new ≡ old ++ h ∷ []
+    → HideNone schema (take i groups) old → HideNone schema (take (i + 1) groups) new
+one_hides schema groups i g h old new at one is are =
+    subst (HideNone schema (take (i + 1) groups)) (sym is)
+    (subst (λ gs. HideNone schema gs (old ++ h ∷ [])) (sym (take_one groups i g at)) (hide_more schema (take i groups) old g h are one))
+
+pub all_hide : (schema : List TableDef) (groups : List Group) (i : ℕ) (hidden : List RowsHeld) → length groups ≤ i → HideNone schema (take i groups) hidden → HideNone schema groups hidden
+all_hide schema groups i hidden le are = subst (λ gs. HideNone schema gs hidden) (take_past groups i le) are
+
+hiding_bare : (schema : List TableDef) (groups : List Group) (stores : List Kept) (hidden : List RowsHeld) → AreBare schema groups stores → HideNone schema groups hidden → AreHiding schema groups stores hidden
+hiding_bare schema [] stores [] bare none = tt
+hiding_bare schema [] stores (h ∷ hidden) bare none = absurd none
+hiding_bare schema (g ∷ groups) stores [] bare none = absurd none
+hiding_bare schema (g ∷ groups) [] (h ∷ hidden) bare none = absurd bare
+hiding_bare schema (g ∷ groups) (s ∷ stores) (h ∷ hidden) bare none = (
+  record {
+    key = none.0.key;
+    room = λ e. no_rows_fit (kept_at s.tables 0) h.spare (bare.0.rows 0);
+    none = λ e. none.0.none;
+  },
+  hiding_bare schema groups stores hidden bare.1 none.1,
+)
+
+-- no keys are listed
+
+lists_bare : (schema : List TableDef) (groups : List Group) (stores : List Kept) (hidden : List RowsHeld) → Each (λ (g : Group). g.keys ≡ []) groups → AreBare schema groups stores → HideNone schema groups hidden → AreListed groups stores hidden
+lists_bare schema [] stores hidden keys bare none = tt
+lists_bare schema (g ∷ groups) [] hidden keys bare none = absurd bare
+lists_bare schema (g ∷ groups) (s ∷ stores) [] keys bare none = absurd none
+lists_bare schema (g ∷ groups) (s ∷ stores) (h ∷ hidden) keys bare none = (none_listed g s h.table keys.0 bare.0.keys none.0.none, lists_bare schema groups stores hidden keys.1 bare.1 none.1)
+
+keys_bare : (schema : List TableDef) (groups : List Group) (stores : List Kept) → AreBare schema groups stores → (k : ℕ) (s : Kept) → slice_get stores k ≡ Some s → s.keys ≡ []
+keys_bare schema groups [] are k s at = cc
+keys_bare schema [] (x ∷ stores) are k s at = absurd are
+keys_bare schema (h ∷ groups) (x ∷ stores) are zero s at =
+    let same : x ≡ s = cc in
+    subst (λ (y : Kept). y.keys ≡ []) same are.0.keys
+keys_bare schema (h ∷ groups) (x ∷ stores) are (suc k) s at = keys_bare schema groups stores are.1 k s at
+
+hidden_bare : (schema : List TableDef) (groups : List Group) (hidden : List RowsHeld) → HideNone schema groups hidden → (k : ℕ) (h : RowsHeld) → slice_get hidden k ≡ Some h → h.table ≡ empty
+hidden_bare schema groups [] are k h at = cc
+hidden_bare schema [] (x ∷ hidden) are k h at = absurd are
+hidden_bare schema (g ∷ groups) (x ∷ hidden) are zero h at =
+    let same : x ≡ h = cc in
+    subst (λ (y : RowsHeld). y.table ≡ empty) same are.0.none
+hidden_bare schema (g ∷ groups) (x ∷ hidden) are (suc k) h at = hidden_bare schema groups hidden are.1 k h at
+
+pub built_bare : (schema : List TableDef) (groups : List Group) (t : Stored) → AreBare schema groups t.stores.items → HideNone schema groups t.hidden.items → HoldsNothing t
+built_bare schema groups t bare none = record { stores = keys_bare schema groups t.stores.items bare; hidden = hidden_bare schema groups t.hidden.items none }
 
 kept_bare : (schema : List TableDef) (groups : List Group) (stores : List Kept) → AreBare schema groups stores → AreKept schema groups stores
 kept_bare schema [] [] are = tt
@@ -84,15 +146,16 @@ rows_bare schema (h ∷ groups) (x ∷ stores) are (suc k) s at p = rows_bare sc
 
 -- what the parts ask of one another
 
-pub sound_built : (t : Stored) → AreBare t.schema (groups_in t.catalog) t.stores.items → AreSessions t.schema t.sessions → AreNamed (groups_in t.catalog) t.stores.items t.schema t.visible t.directory
+pub sound_built : (t : Stored) → AreBare t.schema (groups_in t.catalog) t.stores.items → HideNone t.schema (groups_in t.catalog) t.hidden.items → AreSessions t.schema t.sessions → AreNamed (groups_in t.catalog) t.stores.items t.schema t.visible t.directory
     → list_all is_plain (groups_in t.catalog) ≡ true → HaveOwnNames (groups_in t.catalog) → t.unsettled.items ≡ [] → 1 ≤ t.next → ((known : List TableDef) (first : ℕ) → TellsWriters known first [] t.writers) → t.verified ≡ false → IsSound t
-sound_built t bare sessions naming plain named none first writers unverified =
+sound_built t bare none_hidden sessions naming plain named none first writers unverified =
     let kept = kept_bare t.schema (groups_in t.catalog) t.stores.items bare in
     record {
       sessions = sessions;
       stores = record { homes = naming.directory; over = all_over_for t.schema (groups_in t.catalog) t.stores.items kept };
       kept = kept;
       whole = whole_bare t.schema (groups_in t.catalog) t.stores.items bare;
+      hiding = hiding_bare t.schema (groups_in t.catalog) t.stores.items t.hidden.items bare none_hidden;
       plain = plain;
       named = named;
       visible = naming.visible;
@@ -197,6 +260,7 @@ module _ (start : Start) (a : Tier) (begins : BeginsAs start a) (t : Stored) (bu
     schema = ap (λ (x : Tier). x.schema) is ∙ begins.schema ∙ sym built.schema_is;
     stale = ap (λ (x : Tier). x.stale) is ∙ begins.told ∙ sym built.told;
     groups = ap (map without_list) groups_are ∙ unlisted start.catalog.groups.items ∙ sym built.groups_are;
+    lists = subst (λ gs. AreListed gs t.stores.items t.hidden.items) (sym groups_are) (lists_bare start.schema (groups_in start.catalog) t.stores.items t.hidden.items (no_keys start.catalog.groups.items) built.stores built.hidden);
     sessions = ap (λ (x : Tier). x.sessions) is ∙ begins.sessions ∙ sym (ap (map session_seen) built.sessions);
     unsettled = ap (λ (x : Tier). x.unsettled) is ∙ sym built.unsettled;
     next = ap (λ (x : Tier). x.next) is ∙ begins.next ∙ sym built.next_is;

@@ -37,7 +37,7 @@ use Rattle.stored_tier.proofs.FillSteps.{drop_one, drop_past}
 use Rattle.stored_tier.proofs.OverLaws.{stands_written}
 use Rattle.group_engine.specs.Fresh.{IsRead as IsCallRead}
 use Rattle.group_engine.specs.Loaded.{whole_target}
-use Rattle.group_engine.specs.Taking.{AsksTree, IsOfTarget, IsSameButRoom, IsSettledAt, TakesIn, TakesMatching}
+use Rattle.group_engine.specs.Taking.{AsksTree, IsOfTarget, IsSameButRoom, IsSettledAt, MayTake, TakesIn, TakesMatching}
 use Rattle.group_engine.proofs.ReadLaws.{not_called, read_failed, snapshot_grows, unmapped, was_read}
 use Rattle.group_engine.proofs.TakenLaws as taken
 use Rattle.group_engine.proofs.TakenParts.{rows_room, stored_room}
@@ -104,20 +104,23 @@ module _ {D : Type 0} (state : D → SiteState) (possible : D → ℕ → Held �
     of : IsOfTarget (whole_target place its.group) place all_instances
     of = record { place = refl; filter = refl; id = λ key. refl }
 
+    may : MayTake old place false
+    may g spot = refl
+
     here : IsSettledAt place its.group (record w { journal = no_journal })
     here = record { there = its.there; settled = stands.stored.unsettled ∙ settled }
 
     abbrev mid : World
-    mid = taken.mid state possible old None d d' place all_instances false x of its.writes sound asked asks snapshot told faults moment shares certain bare at_bare stands_bare apart refl here
+    mid = taken.mid state possible old None d d' place all_instances false x of its.writes sound asked asks may snapshot told faults moment shares certain bare at_bare stands_bare apart refl here
 
     abbrev n : ℕ
     n = snapshot.position.0
 
     abbrev M : Table
-    M = taken.M state possible old None d d' place all_instances false x of its.writes sound asked asks snapshot told faults moment shares certain bare at_bare stands_bare apart refl here
+    M = taken.M state possible old None d d' place all_instances false x of its.writes sound asked asks may snapshot told faults moment shares certain bare at_bare stands_bare apart refl here
 
     matched : matching (backing_at mid n) x ≡ M
-    matched = taken.matched_n state possible old None d d' place all_instances false x of its.writes sound asked asks snapshot told faults moment shares certain bare at_bare stands_bare apart refl here new said took sound_new
+    matched = taken.matched_n state possible old None d d' place all_instances false x of its.writes sound asked asks may snapshot told faults moment shares certain bare at_bare stands_bare apart refl here new said took sound_new
 
     -- with the journal again
     abbrev mid_kept : World
@@ -141,16 +144,16 @@ module _ {D : Type 0} (state : D → SiteState) (possible : D → ℕ → Held �
     stands_held =
         stands_written new (with_tier held_tier mid) w.journal mid.disk_faults mid.moment
         (subst (λ a. StandsFor new (with_tier a mid)) tier_is
-        (taken.stands_done state possible old None d d' place all_instances false x of its.writes sound asked asks snapshot told faults moment shares certain bare at_bare stands_bare apart refl here new said took sound_new))
+        (taken.stands_done state possible old None d d' place all_instances false x of its.writes sound asked asks may snapshot told faults moment shares certain bare at_bare stands_bare apart refl here new said took sound_new))
 
     call : BankCall (TellsPosition (Ok n)) w mid_kept
     call =
-        let c = taken.reads_call state possible old None d d' place all_instances false x of its.writes sound asked asks snapshot told faults moment shares certain bare at_bare stands_bare apart refl here in
+        let c = taken.reads_call state possible old None d d' place all_instances false x of its.writes sound asked asks may snapshot told faults moment shares certain bare at_bare stands_bare apart refl here in
         record { history = c.history; journal = refl; faults = c.faults; disk = c.disk; moment = c.moment; shared = c.shared }
 
     pub held_all : IsPerformed new (state d') (λ w'. HoldsAgainAt place w w' None)
     held_all =
-        let spot = taken.at_mid state possible old None d d' place all_instances false x of its.writes sound asked asks snapshot told faults moment shares certain bare at_bare stands_bare apart refl here in
+        let spot = taken.at_mid state possible old None d d' place all_instances false x of its.writes sound asked asks may snapshot told faults moment shares certain bare at_bare stands_bare apart refl here in
         record {
           world = record mid_kept { tier = held_tier };
           at = record { there = spot.there; told = spot.told; history = spot.history; faults = spot.faults; moment = spot.moment; shared = spot.shared };
@@ -201,7 +204,7 @@ held_wanting t seen place w at stands apart = after_error t seen place Memory w 
 pub quiet_taken : (old new : Stored) (place : ℕ) (s : TableState) (said : Reply) → old.unsettled.items ≡ [] → TakesIn old new place all_instances false s said → IsQuiet old new
 quiet_taken old new place s said settled took = record {
   unsettled = ap (λ u. u.items) took.rest.unsettled ∙ settled;
-  groups = ap length took.groups ∙ Rattle.group_engine.proofs.FreshLaws.changed_long (alone place) (λ g. record g { loaded = true }) 0 (groups_in old.catalog);
+  groups = ap length took.groups ∙ Rattle.group_engine.proofs.ChangedLists.changed_long (alone place) (λ g. record g { loaded = true }) 0 (groups_in old.catalog);
 }
 
 pub quiet_room : (old new : Stored) (place : ℕ) (s : TableState) (e : Refused) → old.unsettled.items ≡ [] → TakesMatching old new place all_instances false s (Err e) → IsQuiet old new
@@ -212,7 +215,7 @@ quiet_room old new place s e settled took =
 -- where it is wanted
 
 seen_there : (t : Stored) (w : World) (place : ℕ) (g : Group) → StandsFor t w → slice_get w.tier.groups place ≡ Some g → slice_get (groups_in t.catalog) place ≡ Some (without_list g)
-seen_there t w place g stands at = ap (λ l. slice_get l place) (sym stands.stored.groups) ∙ Rattle.group_engine.proofs.FreshLaws.mapped_there w.tier.groups place g at
+seen_there t w place g stands at = ap (λ l. slice_get l place) (sym stands.stored.groups) ∙ Rattle.group_engine.proofs.ChangedLists.mapped_there w.tier.groups place g at
 
 -- the group at the place, as the catalog has it, isn't to hold its instances
 pub unwanted : (t : Stored) (seen : SiteState) (place : ℕ) → is_held_at (slice_get (groups_in t.catalog) place) ≡ false → Performs t t seen seen (λ w w'. HoldsIfWanted place w w' None)

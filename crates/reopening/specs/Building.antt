@@ -1,6 +1,7 @@
 -- A tier as it is built from what entries leave, and what its commits do at the bank before. (This project's model.)
 
-use Rattle.std.specs.Prelude.{◌≡◌, ℕ, List, [], ◌∷◌, false, map, Result, Ok, Err}
+use Rattle.std.specs.Prelude.{◌≡◌, ℕ, List, [], ◌∷◌, false, map, Some, Result, Ok, Err, slice_get}
+use Rattle.std.specs.FinMap.{empty}
 use Rattle.std.specs.List.{filter}
 use Rattle.table_defs.specs.declared.definition.TableDef.{TableDef}
 use Rattle.table_state.specs.declared.history.Sealed.{Sealed}
@@ -8,6 +9,7 @@ use Rattle.outside.specs.Sites.{SiteState}
 use Rattle.order_laws.specs.Commits.{RiseBetween}
 use Rattle.open_sessions.specs.Opening.{seen_all}
 use Rattle.group_catalog.specs.Catalogs.{groups_in}
+use Rattle.slot_rows.specs.SlotKeys.{RowsHeld}
 use Rattle.group_store.specs.Stores.{Kept}
 use Rattle.cache_tier.specs.Groups.{Group, is_read_only}
 use Rattle.cache_tier.specs.Rounds.{Applies, Drained, RoundEnd, round_stop}
@@ -17,6 +19,7 @@ use Rattle.cache_tier.specs.Worlds.{IsUnshared, World}
 use Rattle.stored_tier.specs.declared.clock.Pace.{Pace}
 use Rattle.stored_tier.specs.declared.clock.TierClock.{TierClock}
 use Rattle.stored_tier.specs.declared.tier.Tier.{Tier as Stored}
+use Rattle.stored_tier.specs.Filling.{HidesNone}
 use Rattle.stored_tier.specs.Grouping.{IsBareStore}
 use Rattle.stored_tier.specs.Moments.{set_seen}
 use Rattle.stored_tier.specs.Sites.{IsAt}
@@ -29,6 +32,18 @@ AreBare schema [] [] = Unit {0}
 AreBare schema [] (s ∷ stores) = ⊥
 AreBare schema (g ∷ groups) [] = ⊥
 AreBare schema (g ∷ groups) (s ∷ stores) = IsBareStore schema g.def.tree s × AreBare schema groups stores
+
+-- no group has hidden root rows
+abbrev pub HideNone : List TableDef → List Group → List RowsHeld → Type 0
+HideNone schema [] [] = Unit {0}
+HideNone schema [] (h ∷ hidden) = ⊥
+HideNone schema (g ∷ groups) [] = ⊥
+HideNone schema (g ∷ groups) (h ∷ hidden) = HidesNone schema g 0 h × HideNone schema groups hidden
+
+-- no store has a root key, and no root row is hidden
+pub record HoldsNothing (t : Stored) : Type 0 where
+  pub stores : (k : ℕ) (s : Kept) → slice_get t.stores.items k ≡ Some s → s.keys ≡ []
+  pub hidden : (k : ℕ) (h : RowsHeld) → slice_get t.hidden.items k ≡ Some h → h.table ≡ empty
 
 -- the set of each READONLY group counts from a moment on
 abbrev pub set_from : ℕ → Group → SetState
@@ -52,6 +67,7 @@ pub record IsBuilt (t : Stored) (schema : List TableDef) (groups : List Group) (
   pub told : t.stale ≡ false
   pub groups_are : groups_in t.catalog ≡ groups
   pub stores : AreBare schema groups t.stores.items
+  pub hidden : HideNone schema groups t.hidden.items
   pub sessions : seen_all t.sessions ≡ []
   pub unsettled : t.unsettled.items ≡ []
   pub next_is : t.next ≡ next

@@ -8,16 +8,18 @@ ghost use Rattle.group_catalog.specs.Kept.{group_seen};
 ghost use Rattle.stored_tier.specs.Moments.{set_seen};
 ghost use Rattle.stored_tier.specs.Stored.{IsSound};
 ghost use Rattle.group_catalog.specs.Catalogs.{HaveOwnNames, is_plain};
-ghost use Rattle.reopening.specs.Building.{AreBare, IsBegunClock, IsBuilt, sets_from};
+ghost use Rattle.reopening.specs.Building.{AreBare, HideNone, HoldsNothing, IsBegunClock, IsBuilt, sets_from};
 
 use group_catalog::{Catalog, KeptGroup};
 use group_engine::grouping::bare_store;
 use group_store::Store;
 use open_sessions::Sessions;
 use pending_writes::PendingWrites;
+use slot_rows::SlotRows;
 use std::alloc::{AllocError, Global};
 use std::collections::VecDeque;
 use stored_tier::clock::{Pace, TierClock};
+use stored_tier::filling::none_hidden;
 use stored_tier::moments::SetMoment;
 use stored_tier::naming::name_tables;
 use stored_tier::refreshing::is_read_only;
@@ -40,8 +42,10 @@ pub(crate) fn built_tier(
     requires first { 1 ≤ next }
     ensures built { IfOk result (λ tier. IsBuilt tier schema (groups_in catalog) next now.0 pace) }
     ensures sound { IfOk result IsSound }
+    ensures bare { IfOk result HoldsNothing }
 {
     let stores = bare_stores(alloc, schema.as_slice(), &catalog)?;
+    let hidden = bare_hidden(alloc, &schema, &catalog)?;
     let (visible, directory) = name_tables(alloc, &catalog, stores.as_slice(), schema.as_slice())?;
     let clock = begun_clock(alloc, &catalog, now, pace)?;
     Ok(Tier {
@@ -50,6 +54,7 @@ pub(crate) fn built_tier(
         stale: false,
         catalog,
         stores,
+        hidden,
         directory,
         sessions: Sessions::new(alloc),
         unsettled: VecDeque::new(alloc),
@@ -77,6 +82,25 @@ fn bare_stores(
         stores.push(store)?;
     }
     Ok(stores)
+}
+
+// No hidden root rows of each group.
+fn bare_hidden(
+    alloc: Global,
+    schema: &BackingSchema,
+    catalog: &Catalog,
+) -> Result<Vec<SlotRows>, AllocError>
+    ensures { IfOk result (λ hidden. HideNone schema.now (groups_in catalog.now) hidden.items) }
+{
+    let mut hidden = Vec::new(alloc);
+    for place in 0..catalog.len() {
+        let Some(group) = catalog.get(place) else {
+            return Err(AllocError);
+        };
+        let rows = none_hidden(alloc, schema, group, 0)?;
+        hidden.push(rows)?;
+    }
+    Ok(hidden)
 }
 
 // The clock of a tier that is opened at a moment.

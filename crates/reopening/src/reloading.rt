@@ -9,6 +9,7 @@ ghost use Rattle.recovery.specs.Reopening.{HoldAgain, Reloads, ViewsAgain};
 ghost use Rattle.stored_tier.specs.Performing.{Performs};
 ghost use Rattle.stored_tier.specs.Refreshing.{end_of, is_shown_again};
 ghost use Rattle.stored_tier.specs.Stored.{IsSound};
+ghost use Rattle.reopening.specs.Building.{HoldsNothing};
 ghost use Rattle.reopening.specs.Reloading.{IsQuiet};
 
 use crate::holding::hold_if_wanted;
@@ -26,6 +27,7 @@ use stored_tier::tier::Tier;
 pub(crate) fn reload<P: Site>(tier: &mut Tier, alloc: Global, site: &mut P) -> Result<(), BankError>
     requires sound { IsSound tier.old }
     requires settled { tier.old.unsettled.items ≡ [] }
+    requires bare { HoldsNothing tier.old }
     ensures performs { Performs tier.old tier.new
         (P.Disk.state site.old)
         (P.Disk.state site.new)
@@ -47,6 +49,7 @@ pub(crate) fn reload<P: Site>(tier: &mut Tier, alloc: Global, site: &mut P) -> R
 fn view_again<P: Site>(tier: &mut Tier, alloc: Global, site: &mut P) -> Result<(), BankError>
     requires sound { IsSound tier.old }
     requires settled { tier.old.unsettled.items ≡ [] }
+    requires bare { HoldsNothing tier.old }
     ensures performs { Performs tier.old tier.new
         (P.Disk.state site.old)
         (P.Disk.state site.new)
@@ -69,6 +72,7 @@ fn view_again<P: Site>(tier: &mut Tier, alloc: Global, site: &mut P) -> Result<(
 fn show_again<P: Site>(tier: &mut Tier, alloc: Global, site: &mut P) -> Result<(), BankError>
     requires sound { IsSound tier.old }
     requires settled { tier.old.unsettled.items ≡ [] }
+    requires bare { HoldsNothing tier.old }
     requires some { list_any is_shown_again (groups_in tier.old.catalog) ≡ true }
     ensures performs { Performs tier.old tier.new
         (P.Disk.state site.old)

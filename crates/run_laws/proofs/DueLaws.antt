@@ -1,5 +1,5 @@
 -- What is due before a line keeps what holds where a part begins.
-use Rattle.std.proofs.Common.{◌≡◌, inl, inr, ℕ, ◌+◌, ◌≤◌, zero, suc, Bool, true, false, cond, ◌&&◌, ◌||◌, not, is_none, Option, Some, None, Result, Ok, Err, List, [], ◌∷◌, ◌++◌, map, filter, length, take, refl, sym, ap, subst, ◌∙◌, arith, append-nil}
+use Rattle.std.proofs.Common.{◌≡◌, inl, inr, ℕ, ◌+◌, ◌≤◌, Bool, true, false, cond, ◌&&◌, ◌||◌, not, Option, Some, None, Result, Ok, Err, List, [], ◌∷◌, ◌++◌, filter, length, take, refl, sym, ap, subst, ◌∙◌, arith, append-nil}
 use Rattle.std.specs.List.{list_all}
 use Rattle.std.proofs.lemmas.List.{length-append}
 use Rattle.table_state.specs.declared.history.Entry.{Entry}
@@ -12,7 +12,7 @@ use Rattle.outside.specs.Others.{Around}
 use Rattle.outside.specs.declared.fault.BankError.{BankError}
 use Rattle.table_defs.specs.declared.definition.TableDef.{TableDef}
 use Rattle.sql_subset.specs.declared.request.Line.{Line}
-use Rattle.cache_tier.specs.Aging.{aged, is_aged_by, is_aging_due}
+use Rattle.cache_tier.specs.Aging.{after_aging}
 use Rattle.cache_tier.specs.ConsoleSteps.{Asked, AsksSchema, asks_schema, told}
 use Rattle.cache_tier.specs.declared.reply.Note.{Note}
 use Rattle.cache_tier.specs.declared.reply.Reply.{Reply}
@@ -27,6 +27,7 @@ use Rattle.cache_tier.specs.Sets.{RefreshesIfShown, RefreshesSet, of_set, refres
 use Rattle.cache_tier.specs.StandingBetween.{Each, Stands}
 use Rattle.cache_tier.specs.TierStates.{Session, Tier, refresh_tried}
 use Rattle.cache_tier.specs.Worlds.{Becomes, IsUnshared, OnlyWhere, StageFollows, World}
+use Rattle.cache_tier.proofs.AgingLaws.{aging_stands}
 use Rattle.cache_tier.proofs.HistoryKeeps.{around_goes_on, others_go_on}
 use Rattle.cache_tier.proofs.RefreshLaws.{groups_refresh}
 use Rattle.cache_tier.proofs.SetLaws.{refresh_has_one_position}
@@ -38,9 +39,10 @@ use Rattle.line_laws.proofs.AskedLaws.{asks_kept}
 use Rattle.line_laws.proofs.DueStatements.{not_broken}
 use Rattle.line_laws.proofs.GroupStatements.{refreshes_if_shown}
 use Rattle.line_laws.proofs.OtherLaws.{others_schema}
-use Rattle.line_laws.proofs.QuietTiers.{refreshed_quiet}
+use Rattle.line_laws.proofs.PartWords.{quiet_on}
+use Rattle.line_laws.proofs.QuietTiers.{aging_quiet, refreshed_quiet}
 use Rattle.line_laws.proofs.RoundLaws.{round_goes}
-use Rattle.run_laws.specs.Lines.{IsOfOneKind, are_ageless, are_later}
+use Rattle.run_laws.specs.Lines.{IsOfOneKind, are_later}
 use Rattle.run_laws.proofs.ReadyLaws.{Moves, Ready, ReadyOn, ready_moved, ready_same, ready_then}
 use Rattle.run_laws.proofs.StandLaws.{IsSeenAs, seen_as, seen_self, stands_seen}
 
@@ -102,7 +104,7 @@ round_sits w w' stop q = by q.stop q.next
 pub round_ready : (w w' : World) (early : List Sealed) (stop : Option Reply) → Ready w early → Round w w' stop → is_broken stop ≡ false → ReadyOn w' early
 round_ready w w' early stop r q ok =
     let g = (round_goes w w' early stop r.stands r.journalled r.unshared q ok).0 in
-    ready_moved w w' early r.unshared r.ageless (record {
+    ready_moved w w' early r.unshared (record {
       shared = g.shared;
       alike = subst (λ (t : Tier). AreAlike w.tier.groups t.groups) (sym g.tier) (alike_self w.tier.groups);
       later = round_all _ w w' stop q r.kinds.later;
@@ -183,12 +185,12 @@ module _ (w mid : World) (early : List Sealed) (r : Ready w early) where
   }
 
   pub same_ready : mid.shared ≡ w.shared → IsSeenAs w.tier mid.tier → Stands mid → IsJournalledOn mid early → ReadyOn mid early
-  same_ready shared seen stands on = ready_moved w mid early r.unshared r.ageless (same_moves shared seen) stands on
+  same_ready shared seen stands on = ready_moved w mid early r.unshared (same_moves shared seen) stands on
 
   -- only the groups are others, which are alike
   pub alike_ready : mid.shared ≡ w.shared → AreAlike w.tier.groups mid.tier.groups → mid.tier.unsettled ≡ w.tier.unsettled → mid.tier.sessions ≡ w.tier.sessions → Stands mid → IsJournalledOn mid early → ReadyOn mid early
   alike_ready shared alike unsettled sessions stands on =
-      ready_moved w mid early r.unshared r.ageless (record {
+      ready_moved w mid early r.unshared (record {
         shared = shared;
         alike = alike;
         later = ap (λ us. are_later w.tier.groups us) unsettled ∙ r.kinds.later;
@@ -252,22 +254,15 @@ sets_ready (interval ∷ more) w w' early notes stop r q ok = by q.end q.first q
 pub due_sets_ready : (w w' : World) (early : List Sealed) (notes : List Note) (stop : Option Reply) → Ready w early → DueSets w w' notes stop → is_broken stop ≡ false → ReadyOn w' early
 due_sets_ready w w' early notes stop r q ok = sets_ready (due_sets w.tier) w w' early notes stop r q ok
 
--- ---- aging: no group ages
-
-none_is : {X : Type 0} (o : Option X) → is_none o ≡ true → o ≡ None
-none_is None e = refl
-none_is (Some x) e = Prim.cc
-
-not_aged : (h : List Entry) (t : Tier) (gs : List Group) → are_ageless gs ≡ true → map (λ g. cond (is_aging_due t g) (aged h t g) g) gs ≡ gs
-not_aged h t [] all = refl
-not_aged h t (g ∷ gs) all =
-    let both = both_true (is_none g.def.aging) (are_ageless gs) all in
-    let due : is_aging_due t g ≡ false = ap (λ o. is_aged_by t.settings t.now g o) (none_is g.def.aging both.0) in
-    λ i. cond (due i) (aged h t g) g ∷ not_aged h t gs both.1 i
+-- ---- aging
 
 pub due_aging_ready : (w w' : World) (early : List Sealed) (notes : List Note) (stop : Option Reply) → Ready w early → DueAging w w' notes stop → ReadyOn w' early
-due_aging_ready w w' early notes stop r q =
-    ready_same w w' early (q.0 ∙ (λ i. record w { tier = record (w.tier) { groups = not_aged w.history w.tier w.tier.groups r.ageless i } })) r
+due_aging_ready w w' early notes stop r (inr q) = ready_same w w' early q.0 r
+due_aging_ready w w' early notes stop r (inl q) =
+    let t = after_aging w.history w.tier in
+    let quiet = aging_quiet w.history w.tier in
+    subst (λ x. ReadyOn x early) (sym q.0)
+    (alike_ready w (with_tier t w) early r refl quiet.groups refl refl (aging_stands w r.stands) (quiet_on w early t r.journalled quiet))
 
 -- ---- the question for the schema
 
@@ -322,5 +317,5 @@ asks_ready l w w' early stop r q ok = by (asks_schema w.tier l) q
     on = asks_kept l w w' early stop r.stands r.journalled r.unshared q ok
 
     by : (b : Bool) → OnlyWhere b Asked w w' stop → ReadyOn w' early
-    by true q = ready_moved w w' early r.unshared r.ageless (asked_moves w w' stop early r q) (asked_stands w w' stop r.stands r.unshared q) on
+    by true q = ready_moved w w' early r.unshared (asked_moves w w' stop early r q) (asked_stands w w' stop r.stands r.unshared q) on
     by false q = ready_same w w' early q.0 r

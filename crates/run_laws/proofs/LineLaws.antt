@@ -110,7 +110,7 @@ moment_left base l w x = by w.tier.doubt x
 
 moment_begins : (base : ℕ) (l : Line) (w : World) → MayBegin w → MayBegin (with_moment base l w)
 moment_begins base l w m = record {
-  goes_on = record { left = moment_left base l w m.goes_on.left; unshared = m.goes_on.unshared; ageless = m.goes_on.ageless };
+  goes_on = record { left = moment_left base l w m.goes_on.left; unshared = m.goes_on.unshared };
   kinds = record { later = m.kinds.later; own = m.kinds.own };
 }
 
@@ -161,7 +161,7 @@ doubt_done w w' early notes stop m j q ok = record { on = on; kinds = kinds w.ti
         answered : (result : Result Bool BankError) → BankCall (Rattle.outside.specs.Bank.TellsRecorded x.was.tier.next result) w w' → w'.tier ≡ settled (in_doubt w x) w'.history result w.tier → stop ≡ settled_stop result → ReadyOn w' early
         answered (Err e) call tier is = let bad : Some (Rattle.cache_tier.specs.Worlds.bank_fault e) ≡ None = sym is ∙ end in Prim.cc
         answered (Ok true) call tier is =
-            ready_moved w w' early m.goes_on.unshared m.goes_on.ageless (record {
+            ready_moved w w' early m.goes_on.unshared (record {
               shared = call.shared;
               alike = subst (λ (t : Tier). AreAlike w.tier.groups t.groups) (sym tier)
                   (alike_commit (no_rows w.tier) (stood (in_doubt w x) w'.history).ops w.tier.groups w.tier.groups (alike_self w.tier.groups));
@@ -170,7 +170,7 @@ doubt_done w w' early notes stop m j q ok = record { on = on; kinds = kinds w.ti
                   (each_rested w.tier.groups x.session.label w.tier.sessions m.kinds.own);
             }) (doubt_settles w x w' true call tier) on
         answered (Ok false) call tier is =
-            ready_moved w w' early m.goes_on.unshared m.goes_on.ageless (record {
+            ready_moved w w' early m.goes_on.unshared (record {
               shared = call.shared;
               alike = subst (λ (t : Tier). AreAlike w.tier.groups t.groups) (sym tier) (alike_self w.tier.groups);
               later = ap (λ (t : Tier). are_later w.tier.groups t.unsettled) tier ∙ m.kinds.later;
@@ -193,7 +193,7 @@ doubt_done w w' early notes stop m j q ok = record { on = on; kinds = kinds w.ti
         answered : (result : Result Bool BankError) → BankCall (Rattle.outside.specs.Bank.TellsRecorded x.was.tier.next result) w w' → w'.tier ≡ settled (write_in_doubt w x) w'.history result w.tier → stop ≡ settled_stop result → ReadyOn w' early
         answered (Err e) call tier is = let bad : Some (Rattle.cache_tier.specs.Worlds.bank_fault e) ≡ None = sym is ∙ end in Prim.cc
         answered (Ok b) call tier is =
-            ready_moved w w' early m.goes_on.unshared m.goes_on.ageless (record {
+            ready_moved w w' early m.goes_on.unshared (record {
               shared = call.shared;
               alike = subst (AreAlike w.tier.groups) (sym ((write_moves w w' x b tier).groups)) (alike_self w.tier.groups);
               later = ap (are_later w.tier.groups) ((write_moves w w' x b tier).unsettled) ∙ m.kinds.later;
@@ -218,7 +218,7 @@ doubt_done w w' early notes stop m j q ok = record { on = on; kinds = kinds w.ti
             write_told_kinds x a.result a.tier
 
     by : (o : Option Doubt) → w.tier.doubt ≡ o → IsLeftBy o w → SettlesDoubt o w w' notes stop → stop ≡ None → ReadyOn w' early
-    by None e x q end = ready_same w w' early q.0 (record { journalled = j; stands = x; unshared = m.goes_on.unshared; ageless = m.goes_on.ageless; kinds = m.kinds })
+    by None e x q end = ready_same w w' early q.0 (record { journalled = j; stands = x; unshared = m.goes_on.unshared; kinds = m.kinds })
     by (Some d) e x q end = of d.of x
       where
         of : (k : Doubted) → IsInDoubt k w → ReadyOn w' early

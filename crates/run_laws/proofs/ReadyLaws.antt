@@ -1,5 +1,5 @@
 -- What holds of a world where the next part of a line begins, and what a part moves.
-use Rattle.std.proofs.Common.{◌≡◌, Bool, true, false, cond, ◌&&◌, ◌||◌, not, Option, None, List, [], ◌∷◌, ◌++◌, map, refl, sym, ap, subst, ◌∙◌, is_none}
+use Rattle.std.proofs.Common.{◌≡◌, Bool, true, false, cond, ◌&&◌, ◌||◌, List, [], ◌∷◌, ◌++◌, map, refl, sym, ap, subst, ◌∙◌}
 use Rattle.std.specs.List.{list_any}
 use Rattle.tier_base.specs.declared.number.TableId.{TableId}
 use Rattle.table_state.specs.declared.history.Sealed.{Sealed}
@@ -11,7 +11,7 @@ use Rattle.cache_tier.specs.TierStates.{Session, at_rest, is_labelled}
 use Rattle.cache_tier.specs.Worlds.{IsUnshared, World}
 use Rattle.recovery.specs.Journalled.{AreAlike, IsAlike, IsJournalled, IsJournalledOn}
 use Rattle.line_laws.proofs.PartWords.{unshared_still}
-use Rattle.run_laws.specs.Lines.{AreOfKinds, IsOfOneKind, are_ageless, are_later, are_on_kind}
+use Rattle.run_laws.specs.Lines.{AreOfKinds, IsOfOneKind, are_later, are_on_kind}
 
 -- ---- groups that are alike
 
@@ -50,12 +50,6 @@ later_alike gs hs (u ∷ us) are = let one = on_alike is_asynchronous asynchrono
 kind_alike : (gs hs : List Group) (ops : List Op) → AreAlike gs hs → IsOfOneKind gs ops → IsOfOneKind hs ops
 kind_alike gs hs ops are one e = on_alike is_synchronous synchronous_def gs hs ops are ∙ one (sym (any_alike gs hs ops are) ∙ e)
 
-pub ageless_alike : (gs hs : List Group) → AreAlike gs hs → are_ageless hs ≡ are_ageless gs
-ageless_alike [] [] are = refl
-ageless_alike [] (h ∷ hs) are = absurd are
-ageless_alike (g ∷ gs) [] are = absurd are
-ageless_alike (g ∷ gs) (h ∷ hs) are = let rest = ageless_alike gs hs are.1 in λ i. is_none (are.0.def i).aging && rest i
-
 each_kind : (gs hs : List Group) (ss : List Session) → AreAlike gs hs → Each (λ (s : Session). IsOfOneKind gs s.own) ss → Each (λ (s : Session). IsOfOneKind hs s.own) ss
 each_kind gs hs [] are each = tt
 each_kind gs hs (s ∷ ss) are each = (kind_alike gs hs s.own are each.0, each_kind gs hs ss are each.1)
@@ -71,13 +65,12 @@ each_rested gs label (s ∷ ss) each = (by (is_labelled label s), each_rested gs
 
 -- ---- what holds
 
--- where a part begins: the tier stands, its journal is its own, others change no live table, no group ages, and what is
--- written is of one kind
+-- where a part begins: the tier stands, its journal is its own, others change no live table, and what is written is of
+-- one kind
 pub record Ready (w : World) (early : List Sealed) : Type 0 where
   pub journalled : IsJournalled w early
   pub stands : Stands w
   pub unshared : IsUnshared w
-  pub ageless : are_ageless w.tier.groups ≡ true
   pub kinds : AreOfKinds w.tier
 
 -- so it is, and what was held is held
@@ -100,15 +93,14 @@ kinds_moved w w' m = record {
   own = each_kind w.tier.groups w'.tier.groups w'.tier.sessions m.alike m.own;
 }
 
-pub ready_moved : (w w' : World) (early : List Sealed) → IsUnshared w → are_ageless w.tier.groups ≡ true → Moves w w' → Stands w' → IsJournalledOn w' early → ReadyOn w' early
-ready_moved w w' early apart ageless m stands on = record {
+pub ready_moved : (w w' : World) (early : List Sealed) → IsUnshared w → Moves w w' → Stands w' → IsJournalledOn w' early → ReadyOn w' early
+ready_moved w w' early apart m stands on = record {
   now = on.now;
   is =
       record {
         journalled = on.is;
         stands = stands;
         unshared = unshared_still w w' apart m.shared m.alike;
-        ageless = ageless_alike w.tier.groups w'.tier.groups m.alike ∙ ageless;
         kinds = kinds_moved w w' m;
       };
   more = on.more;

@@ -2,7 +2,7 @@
 -- passed on. (This project's rule, over the synchronous writethrough cache groups and the passthrough levels of the
 -- TimesTen Cache User's Guide.)
 
-use Rattle.std.specs.Prelude.{◌≡◌, ◌+◌, ◌^◌, ◌≤◌, Bool, true, false, is_none, Option, Some, None, List, [], Err}
+use Rattle.std.specs.Prelude.{◌≡◌, ◌+◌, ◌^◌, ◌≤◌, Bool, true, false, Option, Some, None, List, [], Err}
 use Rattle.std.specs.List.{list_all, list_any}
 use Rattle.table_state.specs.declared.history.Sealed.{Sealed}
 use Rattle.table_state.specs.declared.operation.Op.{Op}
@@ -37,10 +37,6 @@ IsOfOneKind groups ops =
 pub record AreOfKinds (t : Tier) : Type 0 where
   pub later : are_later t.groups t.unsettled ≡ true
   pub own : Each (λ (s : Session). IsOfOneKind t.groups s.own) t.sessions
-
--- no group ages
-abbrev pub are_ageless : List Group → Bool
-are_ageless groups = list_all (λ (g : Group). is_none g.def.aging) groups
 
 -- The commit of a session is in doubt in this world: it came of one in which the tier stood, by a call of the bank that
 -- failed. The session's writes are on tables of synchronous groups.
@@ -83,12 +79,11 @@ IsLeftBy (Some d) w = IsInDoubt d.of w
 abbrev pub IsLeft : World → Type 0
 IsLeft w = IsLeftBy w.tier.doubt w
 
--- What is asked of a world between two lines: the tier stands, or a ticket is in doubt; others change no table of a
--- live writethrough group; and no group ages.
+-- What is asked of a world between two lines: the tier stands, or a ticket is in doubt; and others change no table of a
+-- live writethrough group.
 pub record MayGoOn (w : World) : Type 0 where
   pub left : IsLeft w
   pub unshared : IsUnshared w
-  pub ageless : are_ageless w.tier.groups ≡ true
 
 -- What is asked of a world where a line begins: this, and what is unsettled, and what sessions have written, is of one
 -- kind each.

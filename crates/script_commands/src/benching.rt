@@ -16,6 +16,9 @@ use tier_base::Moment;
 const DEFAULT_PACE: Pace = Pace {
     propagate_ms: 0,
     rotate_bytes: 16_777_216,
+    lru_high: 10_000,
+    lru_low: 9_000,
+    lru_cycle_ms: 60_000,
 };
 
 /// Opens a tier over a new site in memory, with default settings, lets it answer each line of the script of a number,

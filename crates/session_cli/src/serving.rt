@@ -135,6 +135,9 @@ pub(crate) fn pace_in(settings: &Settings) -> Pace
     Pace {
         propagate_ms: settings.propagate_ms,
         rotate_bytes: settings.rotate_bytes,
+        lru_high: settings.lru_high,
+        lru_low: settings.lru_low,
+        lru_cycle_ms: settings.lru_cycle_ms,
     }
 }
 

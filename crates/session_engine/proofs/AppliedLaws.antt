@@ -32,9 +32,9 @@ use Rattle.group_store.proofs.HomeLaws.{its_home}
 use Rattle.cache_tier.specs.Groups.{Group}
 use Rattle.tier_statements.specs.Judging.{AreSmall}
 use Rattle.stored_tier.specs.declared.tier.Tier.{Tier as Stored}
-use Rattle.session_engine.specs.Committing.{are_housed, at_home, bare_all, home_in, ops_at}
+use Rattle.session_engine.specs.Committing.{StoresCommit, are_housed, at_home, bare_all, home_in, ops_at}
 use Rattle.stored_tier.specs.Stored.{AreApplied, AreKept, AreWhole, IsSound, IsVerified, rows_of}
-use Rattle.session_engine.proofs.CommitPerformed.{kept_bare, shown_bare, whole_bare}
+use Rattle.session_engine.proofs.CommitPerformed.{commit_shown, kept_bare, shown_bare, whole_bare}
 use Rattle.session_engine.proofs.OpStores.{kept_home, op_shown, whole_home}
 use Rattle.stored_tier.proofs.SoundParts.{housed_exchanged}
 use Rattle.stored_tier.proofs.VerifyLaws.{verified_by}
@@ -168,8 +168,8 @@ module _ (xs : List OpenSession) (id : SessionId) (s : TableState) (all : All (L
 -- behind a commit
 
 pub applied_behind : (t new : Stored) (id : SessionId) → IsSound t → t.verified ≡ true → are_housed t.directory (open_ops id (seen_all t.sessions)) ≡ true → new.schema ≡ t.schema
-    → bare_all new.stores.items ≡ ops_at t.directory (open_ops id (seen_all t.sessions)) (bare_all t.stores.items) → seen_all new.sessions ≡ on_session id rested (seen_all t.sessions) → AreApplied new
-applied_behind t new id sound noted homes schema bares seen = record {
+    → StoresCommit t (open_ops id (seen_all t.sessions)) new.stores.items → seen_all new.sessions ≡ on_session id rested (seen_all t.sessions) → AreApplied new
+applied_behind t new id sound noted homes schema commit seen = record {
   keyed = subst IsKeyed (sym rows) (ops_keyed own (rows_of t) become.then_ become.leads is.rows.keyed);
   own = subst (All (Applies (rows_of new))) (sym seen) (subst (λ z. All (Applies z) (on_session id rested (seen_all t.sessions))) (sym rows)
       (all_then (seen_all t.sessions) id (rows_of t) is.own sound.sessions.apart become.then_ become.leads));
@@ -189,8 +189,7 @@ applied_behind t new id sound noted homes schema bares seen = record {
 
     rows : rows_of new ≡ become.then_
     rows =
-        ap (λ defs. shown_by defs new.stores.items) schema ∙ sym (shown_bare t.schema new.stores.items)
-        ∙ ap (shown_by t.schema) bares
+        ap (λ defs. shown_by defs new.stores.items) schema ∙ commit_shown t.schema t own new.stores.items commit
         ∙ ops_housed t.schema (groups_in t.catalog) t.directory own (bare_all t.stores.items) become.then_
         (housed_exchanged t.schema (groups_in t.catalog) t.stores.items (bare_all t.stores.items) t.directory sound.stores sound.kept bare_are)
         bare_are (whole_bare t.stores.items sound.whole) homes (ap (applied_all own) (shown_bare t.schema t.stores.items) ∙ become.leads)

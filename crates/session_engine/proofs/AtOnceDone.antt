@@ -39,6 +39,7 @@ use Rattle.cache_tier.specs.Groups.{is_synchronous, is_table_of}
 use Rattle.cache_tier.specs.JournalSteps.{Flushes, journal_fault}
 use Rattle.cache_tier.specs.Journals.{Prepares}
 use Rattle.cache_tier.specs.PassedSteps.{ticket_fault, with_ticket}
+use Rattle.cache_tier.specs.Recency.{with_commit}
 use Rattle.cache_tier.specs.Rules.{broken_if, past}
 use Rattle.cache_tier.specs.Shown.{no_rows, shown_state}
 use Rattle.cache_tier.specs.Steps.{tells}
@@ -50,6 +51,7 @@ use Rattle.cache_tier.specs.Events.{with_tier}
 use Rattle.cache_tier.specs.StandingBetween.{Stands}
 use Rattle.tier_statements.specs.Seen.{session_seen}
 use Rattle.stored_tier.specs.declared.tier.Tier.{Tier as Stored}
+use Rattle.stored_tier.specs.Lists.{AreListed}
 use Rattle.stored_tier.specs.Performing.{Executes, IsCaused, IsPerformed, StandsFor, reply_of}
 use Rattle.stored_tier.specs.Refusing.{TellsDifference}
 use Rattle.stored_tier.specs.Sites.{IsAt}
@@ -65,11 +67,15 @@ use Rattle.session_engine.specs.declared.at_once.Ready.{Ready}
 use Rattle.session_engine.specs.declared.doubt.Doubt.{Doubt}
 use Rattle.session_engine.specs.declared.doubt.Doubted.TheVariants.{Commit}
 use Rattle.session_engine.specs.AtOnce.{Concludes, Draws, Finishes, Rooms}
-use Rattle.session_engine.specs.Committing.{bare_all, ops_at}
+use Rattle.session_engine.specs.Committing.{StoresCommit}
 use Rattle.session_engine.specs.Doubting.{EndsIn, IsEnded, CommitIsInDoubt}
+use Rattle.session_engine.specs.Using.{Uses}
 use Rattle.session_engine.proofs.AtOnceLaws.{AreLaws, came_leads, came_stands, came_to, none_came, unused}
 use Rattle.session_engine.proofs.CommitLaws.{groups_kept, sealed_same}
-use Rattle.session_engine.proofs.CommitPerformed.{rows_then, same_shown}
+use Rattle.session_engine.proofs.CommitPerformed.{own_through, rows_then, same_shown}
+use Rattle.session_engine.proofs.CommittedLists.{lists_committed}
+use Rattle.session_engine.proofs.CommittedStores.{commit_drawn}
+use Rattle.session_engine.proofs.UsedLists.{lists_roomed}
 use Rattle.session_engine.proofs.KindLaws.{bare_later, bare_on, none_met}
 use Rattle.session_engine.proofs.LegalLaws.{in_doubt_stands}
 
@@ -89,6 +95,7 @@ sound_drawn t sound = record {
   stores = sound.stores;
   kept = sound.kept;
   whole = sound.whole;
+  hiding = sound.hiding;
   plain = sound.plain;
   named = sound.named;
   visible = sound.visible;
@@ -197,6 +204,7 @@ module _ (t mid : Stored) (id : SessionId) (ready : Ready) (draws : Draws t mid 
     schema = is.schema ∙ ap (λ (z : Stored). z.schema) (sym draws.rest);
     stale = is.stale ∙ ap (λ (z : Stored). z.stale) (sym draws.rest);
     groups = is.groups ∙ ap (λ (z : Stored). groups_in z.catalog) (sym draws.rest);
+    lists = subst (λ (z : Stored). AreListed a.groups mid.stores.items z.hidden.items) (sym draws.rest) (lists_roomed a.groups t.stores.items mid.stores.items t.hidden.items draws.stores is.lists);
     sessions = is.sessions ∙ ap (λ (z : Stored). map session_seen (seen_all z.sessions)) (sym draws.rest);
     unsettled = is.unsettled ∙ ap (λ (z : Stored). z.unsettled.items) (sym draws.rest);
     next = ap (λ n. n + 1) is.next ∙ ap (λ (z : Stored). z.next) (sym draws.rest);
@@ -210,6 +218,7 @@ module _ (t mid : Stored) (id : SessionId) (ready : Ready) (draws : Draws t mid 
     schema = is.schema ∙ ap (λ (z : Stored). z.schema) (sym draws.rest);
     stale = is.stale ∙ ap (λ (z : Stored). z.stale) (sym draws.rest);
     groups = is.groups ∙ ap (λ (z : Stored). groups_in z.catalog) (sym draws.rest);
+    lists = subst (λ (z : Stored). AreListed a.groups mid.stores.items z.hidden.items) (sym draws.rest) (lists_roomed a.groups t.stores.items mid.stores.items t.hidden.items draws.stores is.lists);
     sessions = is.sessions ∙ ap (λ (z : Stored). map session_seen (seen_all z.sessions)) (sym draws.rest);
     unsettled = is.unsettled ∙ ap (λ (z : Stored). z.unsettled.items) (sym draws.rest);
     next = is.next;
@@ -293,11 +302,10 @@ module _ (laws : AreLaws) (numbers : NumberLaw) (changes : ChangeLaw) (t mid new
         stands
         (executes (behind w a now.there after) reply result call tier answer))
       where
-        stores_finished : Finishes mid new id → bare_all new.stores.items ≡ ops_at t.directory (open_ops id (seen_all t.sessions)) (bare_all t.stores.items)
+        stores_finished : Finishes mid new id → StoresCommit t (open_ops id (seen_all t.sessions)) new.stores.items
         stores_finished fin =
-            fin.stores
-            ∙ ap (λ (z : Stored). ops_at z.directory (open_ops id (seen_all z.sessions)) (bare_all mid.stores.items)) draws.rest
-            ∙ ap (ops_at t.directory (open_ops id (seen_all t.sessions))) draws.stores
+            commit_drawn t mid draws.rest draws.stores (open_ops id (seen_all t.sessions)) new.stores.items
+            (subst (λ (z : Stored). StoresCommit mid (open_ops id (seen_all z.sessions)) new.stores.items) draws.rest fin.stores)
 
         stored_finished : Finishes mid new id → IsStoredAs new (committed (sealed_own w.tier s) s.label (with_ticket w.tier))
         stored_finished fin =
@@ -307,6 +315,7 @@ module _ (laws : AreLaws) (numbers : NumberLaw) (changes : ChangeLaw) (t mid new
               schema = m.schema ∙ ap (λ (z : Stored). z.schema) (sym fin.rest);
               stale = m.stale ∙ ap (λ (z : Stored). z.stale) (sym fin.rest);
               groups = groups_kept (no_rows (with_ticket w.tier)) s.own w.tier.groups ∙ m.groups ∙ ap (λ (z : Stored). groups_in z.catalog) (sym fin.rest);
+              lists = subst (λ h. AreListed (map (with_commit (no_rows (with_ticket w.tier)) s.own) w.tier.groups) new.stores.items h.items) (sym (ap (λ (z : Stored). z.hidden) fin.rest ∙ ap (λ (z : Stored). z.hidden) draws.rest)) (lists_committed t w.tier new.stores.items s.own sound is.stored is.stands.catalog (own_through w s is.stands there) (subst (λ ops. StoresCommit t ops new.stores.items) own (stores_finished fin)));
               sessions = rest.sessions;
               unsettled = m.unsettled ∙ ap (λ (z : Stored). z.unsettled.items) (sym fin.rest);
               next = m.next ∙ ap (λ (z : Stored). z.next) (sym fin.rest);
@@ -315,7 +324,7 @@ module _ (laws : AreLaws) (numbers : NumberLaw) (changes : ChangeLaw) (t mid new
             }
 
     -- nobody knows
-    unknown : (doubt : Option Doubt) (reply : Reply) → CalledOnce (sealed_own w.tier s) before after (Err Failed) → new ≡ mid → doubt ≡ Some (record { ticket = t.next; session = id; of = Commit (open_ops id (seen_all mid.sessions)) }) → reply ≡ faulty code.BackingFault
+    unknown : (doubt : Option Doubt) (reply : Reply) → CalledOnce (sealed_own w.tier s) before after (Err Failed) → new ≡ mid → doubt ≡ Some (record { ticket = t.next; session = id; of = Commit (open_ops id (seen_all mid.sessions)); entered = ready.entered }) → reply ≡ faulty code.BackingFault
         → IsEnded new doubt after (λ w'. AppliesDrawn s w w' reply)
     unknown doubt reply called new_is some_doubt answer =
         let now = told_behind at.there before.held after.held (site.BankCall before.shared (AppliesOnce (sealed_own w.tier s) [] (Err Failed))) at.told called.told in
@@ -327,7 +336,7 @@ module _ (laws : AreLaws) (numbers : NumberLaw) (changes : ChangeLaw) (t mid new
         (record {
           world = w';
           at = behind_at w a before after now.there at now.told called.shares;
-          left = subst (λ z. CommitIsInDoubt z (record { ticket = t.next; session = id; of = Commit (open_ops id (seen_all mid.sessions)) }) w') (sym new_is) (record {
+          left = subst (λ z. CommitIsInDoubt z (record { ticket = t.next; session = id; of = Commit (open_ops id (seen_all mid.sessions)); entered = ready.entered }) w') (sym new_is) (record {
             was = w;
             stands = stands_still t (record mid { next = t.next }) w is (stored_before t mid id ready draws w.tier is.stored) (rows_drawn t mid id ready draws);
             unshared = unshared;
@@ -345,7 +354,7 @@ module _ (laws : AreLaws) (numbers : NumberLaw) (changes : ChangeLaw) (t mid new
         })
 
     -- by the bank's answer
-    by_answer : (result : Result Applied BankError) (doubt : Option Doubt) (reply : Reply) → CalledOnce (sealed_own w.tier s) before after result → Concludes mid new doubt id t.next result reply → IsEnded new doubt after (λ w'. AppliesDrawn s w w' reply)
+    by_answer : (result : Result Applied BankError) (doubt : Option Doubt) (reply : Reply) → CalledOnce (sealed_own w.tier s) before after result → Concludes ready.entered mid new doubt id t.next result reply → IsEnded new doubt after (λ w'. AppliesDrawn s w w' reply)
     by_answer (Ok (Now receipt)) doubt reply called did =
         finished (Ok (Now receipt)) doubt reply called (λ o n step. step.0) refl did.0 did.1 (did.2 ∙ ap (λ n. only (Done n)) (sym is.stored.next))
     by_answer (Ok (Before receipt)) doubt reply called did =
@@ -370,11 +379,11 @@ module _ (laws : AreLaws) (numbers : NumberLaw) (changes : ChangeLaw) (t mid new
 -- COMMIT of a session that has written tables of synchronous groups alone
 pub concluded : AreLaws → NumberLaw → ChangeLaw → (t mid new : Stored) (id : SessionId) (ready : Ready) → IsSound t → IsSound mid → Draws t mid id ready → (open_ops id (seen_all t.sessions) ≡ [] → ⊥)
     → are_on is_synchronous (groups_in t.catalog) (open_ops id (seen_all t.sessions)) ≡ true → (before after : SiteState) (result : Result Applied BankError) (doubt : Option Doubt) (reply : Reply)
-    → CalledOnce ready.sealed before after result → Concludes mid new doubt id ready.sealed.ticket.0 result reply → EndsIn t new doubt before after id AppliesDrawn (Ok reply)
+    → CalledOnce ready.sealed before after result → Concludes ready.entered mid new doubt id ready.sealed.ticket.0 result reply → EndsIn t new doubt before after id AppliesDrawn (Ok reply)
 concluded laws numbers changes t mid new id ready sound drawn draws some on before after result doubt reply called did = λ s has w at is unshared.
     by_answer laws numbers changes t mid new id ready sound drawn draws some on w s is unshared has before after at result doubt reply
     (subst (λ x. CalledOnce x before after result) (sealed_is laws numbers changes t mid new id ready sound drawn draws some on w s is unshared has) called)
-    (subst (λ n. Concludes mid new doubt id n result reply) (ap (λ (x : Sealed). x.ticket.0) draws.sealed) did)
+    (subst (λ n. Concludes ready.entered mid new doubt id n result reply) (ap (λ (x : Sealed). x.ticket.0) draws.sealed) did)
 
 -- the session's writes are on tables of synchronous groups
 pub does_now : NumberLaw → (t : Stored) (id : SessionId) → IsSound t → (open_ops id (seen_all t.sessions) ≡ [] → ⊥) → are_on is_synchronous (groups_in t.catalog) (open_ops id (seen_all t.sessions)) ≡ true
@@ -403,6 +412,7 @@ undrawn t new rooms w is = stands_still t new w is (stored_same w.tier is.stored
       schema = is.schema;
       stale = is.stale;
       groups = is.groups;
+      lists = lists_roomed a.groups t.stores.items new.stores.items t.hidden.items rooms.stores is.lists;
       sessions = is.sessions;
       unsettled = is.unsettled;
       next = is.next;
@@ -427,20 +437,20 @@ caused x before after result reply called bare bank disk = record {
   disk = disk;
 }
 
-pub concluded_cause : (x : Sealed) (mid new : Stored) (doubt : Option Doubt) (id : SessionId) (before after : SiteState) (result : Result Applied BankError) (reply : Reply) → CalledOnce x before after result → BankHasCause before after result → Concludes mid new doubt id x.ticket.0 result reply → IsCaused before after reply
-concluded_cause x mid new doubt id before after (Ok (Now receipt)) reply called cause did =
+pub concluded_cause : (entered : Uses) (x : Sealed) (mid new : Stored) (doubt : Option Doubt) (id : SessionId) (before after : SiteState) (result : Result Applied BankError) (reply : Reply) → CalledOnce x before after result → BankHasCause before after result → Concludes entered mid new doubt id x.ticket.0 result reply → IsCaused before after reply
+concluded_cause entered x mid new doubt id before after (Ok (Now receipt)) reply called cause did =
     subst (IsCaused before after) (sym did.2) (caused x before after (Ok (Now receipt)) (only (Done x.ticket.0)) called refl (λ told. cc) refl)
-concluded_cause x mid new doubt id before after (Ok (Before receipt)) reply called cause did =
+concluded_cause entered x mid new doubt id before after (Ok (Before receipt)) reply called cause did =
     subst (IsCaused before after) (sym did.2) (caused x before after (Ok (Before receipt)) (only (Done x.ticket.0)) called refl (λ told. cc) refl)
-concluded_cause x mid new doubt id before after (Ok (NotReady ticket)) reply called cause did = absurd did
-concluded_cause x mid new doubt id before after (Ok (Differs table key row)) reply called cause did = by did.2
+concluded_cause entered x mid new doubt id before after (Ok (NotReady ticket)) reply called cause did = absurd did
+concluded_cause entered x mid new doubt id before after (Ok (Differs table key row)) reply called cause did = by did.2
   where
     by : TellsDifference mid table key reply ⊎ (reply ≡ faulty code.Memory) → IsCaused before after reply
     by (inl told) =
         subst (IsCaused before after) (sym told.is)
         (caused x before after (Ok (Differs table key row)) (only (Fault (record { code = code.RowDiffers; detail = detail.Row told.def.name key }))) called refl (λ b. cc) refl)
     by (inr wants) = subst (IsCaused before after) (sym wants) (caused x before after (Ok (Differs table key row)) (faulty code.Memory) called refl (λ b. cc) refl)
-concluded_cause x mid new doubt id before after (Err Memory) reply called cause did =
+concluded_cause entered x mid new doubt id before after (Err Memory) reply called cause did =
     subst (IsCaused before after) (sym did.2) (caused x before after (Err Memory) (faulty code.Memory) called refl (λ told. cc) refl)
-concluded_cause x mid new doubt id before after (Err Failed) reply called cause did =
+concluded_cause entered x mid new doubt id before after (Err Failed) reply called cause did =
     subst (IsCaused before after) (sym did.2) (caused x before after (Err Failed) (faulty code.BackingFault) called refl (λ told. cause.failed refl) refl)

@@ -1,5 +1,5 @@
 -- What a commit leaves of the stores, and of what is stored.
-use Rattle.std.proofs.Common.{◌≡◌, ◌+◌, ◌<◌, ◌≤◌, ℕ, zero, suc, Bool, true, false, not, cond, nat_le, Option, Some, None, Err, List, [], ◌∷◌, ◌++◌, length, map, set, get_or, slice_get, arith, refl, sym, ap, ◌∙◌, subst}
+use Rattle.std.proofs.Common.{◌≡◌, ◌+◌, ◌<◌, ◌≤◌, ℕ, zero, suc, Bool, true, false, not, cond, nat_le, Option, Some, None, Err, List, [], ◌∷◌, ◌++◌, length, map, set, get_or, slice_get, arith, refl, sym, ap, ◌∙◌, subst, Result}
 use Rattle.std.specs.Option.{option_and_then, option_or}
 use Rattle.std.proofs.lemmas.Bool.{le-leb, lt-leb}
 use Rattle.row_types.specs.declared.rule.Rule.{Rule}
@@ -15,7 +15,8 @@ use Rattle.group_store.specs.declared.directory.Home.{Home}
 use Rattle.row_types.specs.declared.rule.Refused.{Refused}
 use Rattle.row_types.specs.declared.rule.Refused.TheVariants as refused
 use Rattle.table_defs.specs.Declarations.{Tells}
-use Rattle.cache_tier.specs.Worlds.{Answer}
+use Rattle.cache_tier.specs.Worlds.{Answer, World}
+use Rattle.cache_tier.specs.declared.reply.Reply.{Reply}
 use Rattle.stored_tier.specs.Answering.{Replies}
 use Rattle.cache_tier.specs.Groups.{Group, is_writethrough}
 use Rattle.cache_tier.specs.CommitSteps.{committed_unsettled, sealed_own}
@@ -27,9 +28,16 @@ use Rattle.cache_tier.specs.Shown.{no_rows}
 use Rattle.table_state.specs.Tables.{TableState}
 use Rattle.stored_tier.specs.declared.tier.Tier.{Tier as Stored}
 use Rattle.stored_tier.proofs.StoreLists.{got}
-use Rattle.session_engine.specs.Committing.{HaveRoomFor, at_home, at_number, bare, bare_all, commit_fault, home_in, ops_at}
+use Rattle.session_engine.specs.Committing.{AnswersInWorlds, HaveRoomFor, StoresCommit, at_home, at_number, bare, bare_all, commit_answer, commit_fault, home_in, ops_at}
+use Rattle.session_engine.proofs.CommitPerformed.{own_through}
+use Rattle.session_engine.proofs.CommittedLists.{lists_committed}
+use Rattle.session_engine.proofs.UsedLists.{lists_roomed}
+use Rattle.tier_statements.specs.Seen.{session_seen}
+use Rattle.stored_tier.specs.Lists.{AreListed}
+use Rattle.stored_tier.specs.Performing.{StandsFor}
 use Rattle.stored_tier.specs.Stored.{HasSession, IsSound, IsStoredAs, KeepsTime, without_list}
 use Rattle.stored_tier.proofs.OwnSeen.{NumberLaw, own_found}
+use Rattle.stored_tier.proofs.QuietLaws.{its_session}
 use Rattle.stored_tier.proofs.SessionLaws.{ChangeLaw, session_changed}
 use Rattle.group_catalog.specs.Catalogs.{groups_in}
 use Rattle.open_sessions.specs.Lookups.{open_ops}
@@ -141,14 +149,18 @@ sealed_same law t a id s sound is has =
     ap (λ n. sealed_of (record { 0 = n }) (open_ops id (seen_all t.sessions))) (sym is.next)
     ∙ ap (sealed_of (record { 0 = a.next })) (own_found law t id s sound has)
 
-pub stored_behind_commit : NumberLaw → ChangeLaw → (t new : Stored) (a : Tier) (id : SessionId) (s : Session) → IsSound t → IsStoredAs t a → HasSession t id s → new.schema ≡ t.schema → new.stale ≡ t.stale → new.catalog ≡ t.catalog → seen_all new.sessions ≡ on_session id rested (seen_all t.sessions) → new.unsettled.items ≡ t.unsettled.items ++ sealed_of (record { 0 = t.next }) (open_ops id (seen_all t.sessions)) ∷ [] → new.next ≡ t.next + 1 → new.clock ≡ t.clock → IsStoredAs new (committed_unsettled (sealed_own a s) s.label a)
-stored_behind_commit numbers changes t new a id s sound is has schema stale catalog sessions unsettled next clock =
+pub stored_behind_commit : NumberLaw → ChangeLaw → (t new : Stored) (w : World) (id : SessionId) (s : Session) → IsSound t → StandsFor t w → HasSession t id s → StoresCommit t (open_ops id (seen_all t.sessions)) new.stores.items → new.hidden ≡ t.hidden → new.schema ≡ t.schema → new.stale ≡ t.stale → new.catalog ≡ t.catalog → seen_all new.sessions ≡ on_session id rested (seen_all t.sessions) → new.unsettled.items ≡ t.unsettled.items ++ sealed_of (record { 0 = t.next }) (open_ops id (seen_all t.sessions)) ∷ [] → new.next ≡ t.next + 1 → new.clock ≡ t.clock → IsStoredAs new (committed_unsettled (sealed_own w.tier s) s.label w.tier)
+stored_behind_commit numbers changes t new w id s sound stands has commit hidden schema stale catalog sessions unsettled next clock =
+    let a = w.tier in
+    let is = stands.stored in
+    let there = its_session t a id s is has in
     let rest : IsStoredAs (record t { sessions = new.sessions }) (record a { sessions = map (λ y. cond (is_labelled s.label y) (at_rest y) y) a.sessions }) =
     session_changed changes t new.sessions a s id rested at_rest (λ x. refl) sound is has sessions in
     record {
       schema = is.schema ∙ sym schema;
       stale = is.stale ∙ sym stale;
       groups = groups_kept (no_rows (with_ticket a)) s.own a.groups ∙ is.groups ∙ ap groups_in (sym catalog);
+      lists = subst (λ h. AreListed (map (with_commit (no_rows (with_ticket a)) s.own) a.groups) new.stores.items h.items) (sym hidden) (lists_committed t a new.stores.items s.own sound is stands.stands.catalog (own_through w s stands.stands there) (subst (λ ops. StoresCommit t ops new.stores.items) (own_found numbers t id s sound has) commit));
       sessions = rest.sessions;
       unsettled = ap (λ xs. xs ++ sealed_own a s ∷ []) is.unsettled
           ∙ ap (λ x. t.unsettled.items ++ x ∷ []) (sym (sealed_same numbers t a id s sound is has)) ∙ sym unsettled;
@@ -156,6 +168,24 @@ stored_behind_commit numbers changes t new a id s sound is has schema stale cata
       doubt = is.doubt;
       time = subst (λ c. KeepsTime c a.now a.added a.round a.sets a.settings) (sym clock) is.time;
     }
+
+-- where no more changed than the room of the stores
+pub stored_roomed : (t new : Stored) (a : Tier) → IsStoredAs t a → new.schema ≡ t.schema → new.stale ≡ t.stale → new.catalog ≡ t.catalog → new.hidden ≡ t.hidden → new.sessions ≡ t.sessions → new.unsettled.items ≡ t.unsettled.items → new.next ≡ t.next → new.clock ≡ t.clock → bare_all new.stores.items ≡ bare_all t.stores.items → IsStoredAs new a
+stored_roomed t new a is schema stale catalog hidden sessions unsettled next clock bares = record {
+  schema = is.schema ∙ sym schema;
+  stale = is.stale ∙ sym stale;
+  groups = is.groups ∙ ap groups_in (sym catalog);
+  lists = subst (λ h. AreListed a.groups new.stores.items h.items) (sym hidden) (lists_roomed a.groups t.stores.items new.stores.items t.hidden.items bares is.lists);
+  sessions = is.sessions ∙ ap (λ ss. map session_seen (seen_all ss)) (sym sessions);
+  unsettled = is.unsettled ∙ sym unsettled;
+  next = is.next ∙ sym next;
+  doubt = is.doubt;
+  time = subst (λ c. KeepsTime c a.now a.added a.round a.sets a.settings) (sym clock) is.time;
+}
+
+-- memory was wanting
+pub wanting_answers : (t new : Stored) (id : SessionId) (r : Result Reply Refused) → r ≡ Err refused.Memory → ((w : World) → StandsFor t w → IsStoredAs new w.tier) → AnswersInWorlds t new id commit_fault commit_answer r
+wanting_answers t new id r is stored = λ w s stands has. subst (Replies new w.tier (commit_fault s w.tier) (commit_answer s w.tier)) (sym is) (stored w stands)
 
 -- 119
 

@@ -40,12 +40,15 @@ use Rattle.cache_tier.specs.declared.reply.Reply.{Reply}
 use Rattle.cache_tier.specs.Events.{TakesOwn, with_tier}
 use Rattle.cache_tier.specs.StandingBetween.{Stands, are_written_through, own_writes}
 use Rattle.stored_tier.specs.declared.tier.Tier.{Tier as Stored}
-use Rattle.session_engine.specs.Committing.{are_deferred, bare, bare_all, commit_answer, commit_fault, ops_at}
+use Rattle.session_engine.specs.Committing.{SparesHidden, StoresCommit, are_deferred, bare, bare_all, commit_answer, commit_fault, ops_at}
+use Rattle.stored_tier.specs.Lists.{AreHiding}
 use Rattle.stored_tier.specs.Performing.{Executes, StandsFor}
 use Rattle.stored_tier.specs.Stored.{AreKept, AreWhole, HasSession, IsSound, IsStoredAs, IsVerified, are_later, named_where_cached, rows_of}
 use Rattle.group_catalog.specs.Catalogs.{is_plain}
 use Rattle.session_engine.proofs.KindLaws.{bare_deferred, deferred_not}
+use Rattle.session_engine.proofs.CommittedStores.{bare_like, committed_like, hiding_ops, like_bare}
 use Rattle.session_engine.proofs.OpStores.{kept_ops, ops_shown, whole_ops}
+use Rattle.session_engine.proofs.TouchedLaws.{AreLike, all_like, hiding_like, kept_like, shown_like, whole_like}
 use Rattle.pending_writes.specs.Noting.{TellsWriters}
 use Rattle.stored_tier.specs.Stored.{first_unsettled}
 use Rattle.stored_tier.proofs.WriterLaws.{writers_told}
@@ -104,11 +107,12 @@ same_shown schema stores others same = sym (shown_bare schema others) ∙ ap (sh
 pub record KeepsParts (t new : Stored) : Type 0 where
   pub schema : new.schema ≡ t.schema
   pub catalog : new.catalog ≡ t.catalog
+  pub hidden : new.hidden ≡ t.hidden
   pub directory : new.directory ≡ t.directory
   pub visible : new.visible ≡ t.visible
 
-sound_parts : (t new : Stored) → IsSound t → KeepsParts t new → AreSessions t.schema new.sessions → AreKept t.schema (groups_in t.catalog) new.stores.items → AreWhole new.stores.items → RiseBetween 1 new.unsettled.items new.next → are_later (groups_in t.catalog) new.unsettled.items ≡ true → TellsWriters new.schema (first_unsettled new.unsettled.items new.next) new.unsettled.items new.writers → (new.verified ≡ true → IsVerified new) → IsSound new
-sound_parts t new sound same sessions kept whole numbered later writers verified =
+sound_parts : (t new : Stored) → IsSound t → KeepsParts t new → AreSessions t.schema new.sessions → AreKept t.schema (groups_in t.catalog) new.stores.items → AreWhole new.stores.items → AreHiding t.schema (groups_in t.catalog) new.stores.items t.hidden.items → RiseBetween 1 new.unsettled.items new.next → are_later (groups_in t.catalog) new.unsettled.items ≡ true → TellsWriters new.schema (first_unsettled new.unsettled.items new.next) new.unsettled.items new.writers → (new.verified ≡ true → IsVerified new) → IsSound new
+sound_parts t new sound same sessions kept whole hiding numbered later writers verified =
     let housed = housed_exchanged t.schema (groups_in t.catalog) t.stores.items new.stores.items t.directory sound.stores sound.kept kept in
     let groups = ap groups_in same.catalog in
     record {
@@ -116,6 +120,7 @@ sound_parts t new sound same sessions kept whole numbered later writers verified
       stores = subst (AreHoused new.schema new.stores.items) (sym same.directory) (subst (λ defs. AreHoused defs new.stores.items t.directory) (sym same.schema) housed);
       kept = subst (λ gs. AreKept new.schema gs new.stores.items) (sym groups) (subst (λ defs. AreKept defs (groups_in t.catalog) new.stores.items) (sym same.schema) kept);
       whole = whole;
+      hiding = subst (λ h. AreHiding new.schema (groups_in new.catalog) new.stores.items h.items) (sym same.hidden) (subst (λ gs. AreHiding new.schema gs new.stores.items t.hidden.items) (sym groups) (subst (λ defs. AreHiding defs (groups_in t.catalog) new.stores.items t.hidden.items) (sym same.schema) hiding));
       plain = ap (list_all is_plain) groups ∙ sound.plain;
       named = subst Rattle.group_catalog.specs.Catalogs.HaveOwnNames (sym groups) sound.named;
       visible = same.visible ∙ sound.visible ∙ sym (λ i. named_where_cached (groups i) (same.schema i));
@@ -131,6 +136,7 @@ sound_roomed t new sound same bares sessions unsettled next told noted =
     sound_parts t new sound same (subst (AreSessions t.schema) (sym sessions) sound.sessions)
     (bare_kept t.schema (groups_in t.catalog) new.stores.items (subst (AreKept t.schema (groups_in t.catalog)) (sym bares) (kept_bare t.schema (groups_in t.catalog) t.stores.items sound.kept)))
     (bare_whole new.stores.items (subst AreWhole (sym bares) (whole_bare t.stores.items sound.whole)))
+    (hiding_like t.schema (groups_in t.catalog) t.stores.items new.stores.items t.hidden.items (all_like [] t.stores.items new.stores.items bares) sound.hiding)
     (subst (RiseBetween 1 new.unsettled.items) (sym next) (subst (λ xs. RiseBetween 1 xs t.next) (sym unsettled) sound.numbered))
     (ap (are_later (groups_in t.catalog)) unsettled ∙ sound.later)
     (writers_told t new same.schema unsettled next told)
@@ -145,13 +151,37 @@ sound_roomed t new sound same bares sessions unsettled next told noted =
       own = subst (λ z. Rattle.std.specs.Prelude.All (λ s. Rattle.own_rows.specs.OwnTables.AreShown s.ops z) (seen_all new.sessions)) (sym rows) (subst (λ ss. Rattle.std.specs.Prelude.All (λ s. Rattle.own_rows.specs.OwnTables.AreShown s.ops (rows_of t)) (seen_all ss)) (sym sessions) v.own);
     }
 
--- the stores have done operations
-pub sound_written : (t new : Stored) (ops : List Op) → IsSound t → KeepsParts t new → bare_all new.stores.items ≡ ops_at t.directory ops (bare_all t.stores.items) → AreSessions t.schema new.sessions → RiseBetween 1 new.unsettled.items new.next → are_later (groups_in t.catalog) new.unsettled.items ≡ true → TellsWriters new.schema (first_unsettled new.unsettled.items new.next) new.unsettled.items new.writers → new.verified ≡ false → IsSound new
-sound_written t new ops sound same bares sessions numbered later writers noted =
-    sound_parts t new sound same sessions
-    (bare_kept t.schema (groups_in t.catalog) new.stores.items (subst (AreKept t.schema (groups_in t.catalog)) (sym bares) (kept_ops t.schema t.directory ops (groups_in t.catalog) (bare_all t.stores.items) (kept_bare t.schema (groups_in t.catalog) t.stores.items sound.kept))))
-    (bare_whole new.stores.items (subst AreWhole (sym bares) (whole_ops t.directory ops (bare_all t.stores.items) (whole_bare t.stores.items sound.whole))))
+-- the stores have committed operations
+pub sound_written : (t new : Stored) (ops : List Op) → IsSound t → KeepsParts t new → SparesHidden (groups_in t.catalog) ops → StoresCommit t ops new.stores.items → AreSessions t.schema new.sessions → RiseBetween 1 new.unsettled.items new.next → are_later (groups_in t.catalog) new.unsettled.items ≡ true → TellsWriters new.schema (first_unsettled new.unsettled.items new.next) new.unsettled.items new.writers → new.verified ≡ false → IsSound new
+sound_written t new ops sound same spares commit sessions numbered later writers noted =
+    sound_parts t new sound same sessions (bare_kept t.schema groups new.stores.items (kept_like t.schema groups made (bare_all new.stores.items) like made_kept))
+    (bare_whole new.stores.items (whole_like made (bare_all new.stores.items) like (whole_ops t.directory ops (bare_all t.stores.items) (whole_bare t.stores.items sound.whole))))
+    (hiding_like t.schema groups (bare_all new.stores.items) new.stores.items t.hidden.items (like_bare new.stores.items) (hiding_like t.schema groups made (bare_all new.stores.items) t.hidden.items like made_hiding))
     numbered later writers (λ is. absurd (Rattle.order_laws.proofs.TruthLaws.never_both new.verified is noted))
+  where
+    groups : List Group
+    groups = groups_in t.catalog
+
+    made : List Kept
+    made = ops_at t.directory ops (bare_all t.stores.items)
+
+    like : AreLike made (bare_all new.stores.items)
+    like = committed_like t ops new.stores.items commit
+
+    bare_are : AreKept t.schema groups (bare_all t.stores.items)
+    bare_are = kept_bare t.schema groups t.stores.items sound.kept
+
+    made_kept : AreKept t.schema groups made
+    made_kept = kept_ops t.schema t.directory ops groups (bare_all t.stores.items) bare_are
+
+    made_hiding : AreHiding t.schema groups made t.hidden.items
+    made_hiding = hiding_ops t.schema t.directory ops groups (bare_all t.stores.items) t.hidden.items bare_are spares (hiding_like t.schema groups t.stores.items (bare_all t.stores.items) t.hidden.items (bare_like t.stores.items) sound.hiding)
+
+-- what the stores show behind a commit is what its operations make
+pub commit_shown : (schema : List TableDef) (t : Stored) (ops : List Op) (stores : List Kept) → StoresCommit t ops stores → shown_by schema stores ≡ shown_by schema (ops_at t.directory ops (bare_all t.stores.items))
+commit_shown schema t ops stores commit =
+    sym (shown_bare schema stores)
+    ∙ shown_like schema (ops_at t.directory ops (bare_all t.stores.items)) (bare_all stores) (committed_like t ops stores commit)
 
 -- the new ticket is the next one
 pub rise_sealed : (old new : List Sealed) (x : Sealed) (next : ℕ) (ops : List Op) → RiseBetween 1 old next → new ≡ old ++ x ∷ [] → x ≡ record { ticket = record { 0 = next }; ops = ops } → RiseBetween 1 new (next + 1)
@@ -172,6 +202,10 @@ own_passes q p (y ∷ xs) x found all = by (p y) found (own_passes q p xs x)
     by : (b : Bool) → cond b (Some y) (find p xs) ≡ Some x → (find p xs ≡ Some x → list_all q (own_writes xs) ≡ true → q x.own ≡ true) → q x.own ≡ true
     by true e rest = let one : y ≡ x = cc in ap (λ (z : Session). q z.own) (sym one) ∙ both.0
     by false e rest = rest e both.1
+
+-- they are on tables of writethrough groups
+pub own_through : (w : World) (s : Session) → Stands w → session_of w.tier s.label ≡ Some s → are_written_through w.tier.groups s.own ≡ true
+own_through w s stands there = own_passes (are_written_through w.tier.groups) (is_labelled s.label) w.tier.sessions s there stands.sessions.through
 
 -- what the tier of a world does
 
@@ -244,7 +278,7 @@ module _ (law : CommitLaw) (numbers : NumberLaw) (t new : Stored) (w : World) (i
   there = its_session t w.tier id s is.stored has
 
   through : are_written_through w.tier.groups s.own ≡ true
-  through = own_passes (are_written_through w.tier.groups) (is_labelled s.label) w.tier.sessions s there is.stands.sessions.through
+  through = own_through w s is.stands there
 
   are : AreKept t.schema w.tier.groups t.stores.items
   are = are_kept t w.tier sound is.stored
@@ -258,19 +292,19 @@ module _ (law : CommitLaw) (numbers : NumberLaw) (t new : Stored) (w : World) (i
   takes : commit_fault s w.tier ≡ None → TakesOwn s.own w (with_tier (commit_answer s w.tier).0 w)
   takes none = law w s is.stands there (ticket_left s w.tier none)
 
-  pub rows_then : (n : TableState) → new.schema ≡ t.schema → bare_all new.stores.items ≡ ops_at t.directory (open_ops id (seen_all t.sessions)) (bare_all t.stores.items) → applied_all s.own (shown_state w.history w.tier) ≡ Some n → rows_of new ≡ n
-  rows_then n schema bares leads =
-      ap (λ defs. shown_by defs new.stores.items) schema ∙ sym (shown_bare t.schema new.stores.items)
-      ∙ ap (shown_by t.schema) (bares ∙ ap (λ ops. ops_at t.directory ops (bare_all t.stores.items)) own_is)
+  pub rows_then : (n : TableState) → new.schema ≡ t.schema → StoresCommit t (open_ops id (seen_all t.sessions)) new.stores.items → applied_all s.own (shown_state w.history w.tier) ≡ Some n → rows_of new ≡ n
+  rows_then n schema commit leads =
+      ap (λ defs. shown_by defs new.stores.items) schema ∙ commit_shown t.schema t (open_ops id (seen_all t.sessions)) new.stores.items commit
+      ∙ ap (λ ops. shown_by t.schema (ops_at t.directory ops (bare_all t.stores.items))) own_is
       ∙ ops_shown t.schema w.tier.groups t.directory s.own (bare_all t.stores.items) n bare_housed bare_are (whole_bare t.stores.items sound.whole) through
       (ap (applied_all s.own) (shown_bare t.schema t.stores.items ∙ is.shows) ∙ leads)
 
-  pub stands_then : commit_fault s w.tier ≡ None → IsStoredAs new (commit_answer s w.tier).0 → bare_all new.stores.items ≡ ops_at t.directory (open_ops id (seen_all t.sessions)) (bare_all t.stores.items) → StandsFor new (with_tier (commit_answer s w.tier).0 w)
-  stands_then none stored bares =
+  pub stands_then : commit_fault s w.tier ≡ None → IsStoredAs new (commit_answer s w.tier).0 → StoresCommit t (open_ops id (seen_all t.sessions)) new.stores.items → StandsFor new (with_tier (commit_answer s w.tier).0 w)
+  stands_then none stored commit =
       let own = takes none in
       record {
         stored = stored;
-        shows = rows_then (shown_state w.history (commit_answer s w.tier).0) (sym stored.schema ∙ is.stored.schema) bares own.leads;
+        shows = rows_then (shown_state w.history (commit_answer s w.tier).0) (sym stored.schema ∙ is.stored.schema) commit own.leads;
         stands = own.stands;
         waits = last_more w.tier.log w.tier.unsettled (sealed_own w.tier s) is.waits;
       }

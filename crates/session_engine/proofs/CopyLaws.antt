@@ -1,13 +1,13 @@
 -- Rows that stand under their keys and fit their columns, by place in key order.
-use Rattle.std.proofs.Common.{◌≡◌, ℕ, ◌+◌, ◌<◌, ◌≤◌, ◌⊎◌, inl, inr, Some, true, List, length, slice_get, refl, sym, ap, subst, ◌∙◌, arith}
+use Rattle.std.proofs.Common.{◌≡◌, ℕ, ◌+◌, ◌<◌, ◌≤◌, ◌⊎◌, inl, inr, Some, List, length, slice_get, sym, ap, subst, ◌∙◌, arith}
 use Rattle.std.proofs.lemmas.Bool.{cases_lt}
-use Rattle.std.specs.FinMap.{entries, get, keys, len, len-entries, values}
+use Rattle.std.specs.FinMap.{entries, len, len-entries}
 use Rattle.row_types.specs.declared.value.Value.{Value}
 use Rattle.table_defs.specs.declared.definition.TableDef.{TableDef}
 use Rattle.indexed_rows.specs.Rows.{Table, key_of}
 use Rattle.indexed_rows.proofs.EntryLaws.{has_at, mapped_at, read}
 use Rattle.table_state.specs.Keyed.{HasFit, IsKeyed, IsUnderKeys}
-use Rattle.table_state.specs.Tables.{TableState, fits_columns}
+use Rattle.table_state.specs.Tables.{TableState}
 use Rattle.session_engine.specs.Copying.{StandsAt}
 
 below : (i n : ℕ) → i < n + 1 → (i < n) ⊎ (i ≡ n)

@@ -1,8 +1,7 @@
 -- A doubt that is settled: what is shown where the transaction came, and where it didn't.
-use Rattle.std.proofs.Common.{◌≡◌, ◌⊎◌, ◌≤◌, ◌^◌, ◌+◌, ℕ, Bool, true, false, ◌||◌, nat_eq, cond, Option, Some, None, Result, Ok, Err, List, [], ◌∷◌, ◌++◌, inl, inr, refl, sym, ap, subst, ◌∙◌, append_assoc, arith, length}
+use Rattle.std.proofs.Common.{◌≡◌, ◌⊎◌, ◌≤◌, ◌^◌, ◌+◌, ℕ, Bool, true, false, ◌||◌, nat_eq, cond, Option, Some, None, Result, Ok, Err, List, [], ◌∷◌, ◌++◌, inl, inr, refl, sym, ap, subst, ◌∙◌, append_assoc, arith, length, map}
 use Rattle.std.proofs.lemmas.Bool.{eq-eqb}
 use Rattle.std.proofs.lemmas.List.{append-nil}
-use Rattle.tier_base.specs.declared.number.SessionId.{SessionId}
 use Rattle.tier_base.specs.declared.number.TableId.{TableId}
 use Rattle.table_state.specs.declared.history.Entry.{Entry}
 use Rattle.table_state.specs.declared.history.Entry.TheVariants.{Definition, Foreign, Own}
@@ -25,6 +24,7 @@ use Rattle.cache_tier.specs.CommitSteps.{committed, ends, sealed_own}
 use Rattle.cache_tier.specs.DoubtSteps.{SettlesDoubt, ops_of, settled, settled_notes, settled_stop, stood}
 use Rattle.cache_tier.specs.DueWork.{DueDoubt}
 use Rattle.cache_tier.specs.PassedSteps.{with_ticket}
+use Rattle.cache_tier.specs.Recency.{with_commit}
 use Rattle.cache_tier.specs.Shown.{no_rows, shown_state}
 use Rattle.cache_tier.specs.TierStates.{ACommit, Doubt as Doubtful, Session, Tier, at_rest, session_of, with_session}
 use Rattle.cache_tier.specs.Worlds.{BankCall, World}
@@ -34,6 +34,7 @@ use Rattle.cache_tier.specs.Events.{StaysShown, at_history, with_tier}
 use Rattle.cache_tier.specs.StandingBetween.{AreReadAt, Stands}
 use Rattle.order_laws.specs.Commits.{KeepsCommitOrder}
 use Rattle.stored_tier.specs.declared.tier.Tier.{Tier as Stored}
+use Rattle.stored_tier.specs.Lists.{AreListed}
 use Rattle.stored_tier.specs.Performing.{StandsFor}
 use Rattle.stored_tier.specs.Sites.{IsAt}
 use Rattle.stored_tier.specs.Stored.{IsSound, IsStoredAs, KeepsTime, are_later, rows_of}
@@ -43,13 +44,15 @@ use Rattle.stored_tier.proofs.QuietLaws.{its_session}
 use Rattle.stored_tier.proofs.SessionLaws.{ChangeLaw, session_changed}
 use Rattle.stored_tier.proofs.StandingLaws.{last_at_once}
 use Rattle.session_engine.specs.AtOnce.{Finishes}
+use Rattle.session_engine.specs.Committing.{StoresCommit}
 use Rattle.session_engine.specs.Doubting.{CommitIsInDoubt, IsEnded, IsInDoubt, IsReady}
 use Rattle.session_engine.specs.Settling.{Forgets, end_of, note_of}
 use Rattle.session_engine.specs.declared.doubt.Doubt.{Doubt}
 use Rattle.session_engine.specs.declared.doubt.Doubted.{Doubted}
 use Rattle.session_engine.proofs.AtOnceLaws.{AreLaws, came_leads, came_stands, came_to, drawn, none_came, stands_last, unused}
 use Rattle.session_engine.proofs.CommitLaws.{groups_kept}
-use Rattle.session_engine.proofs.CommitPerformed.{rows_then}
+use Rattle.session_engine.proofs.CommitPerformed.{own_through, rows_then}
+use Rattle.session_engine.proofs.CommittedLists.{lists_committed}
 use Rattle.session_engine.proofs.KindLaws.{bare_later, none_met}
 use Rattle.session_engine.proofs.LegalLaws.{StandsInDoubt, in_doubt_stands}
 use Rattle.session_engine.proofs.OthersLaws.{CameBy, came_by, others_more}
@@ -126,6 +129,7 @@ stored_drawn t d w x = record {
   schema = x.stands.stored.schema;
   stale = x.stands.stored.stale;
   groups = x.stands.stored.groups;
+  lists = x.stands.stored.lists;
   sessions = x.stands.stored.sessions;
   unsettled = x.stands.stored.unsettled;
   next = ap (λ n. n + 1) x.stands.stored.next ∙ sym x.next;
@@ -267,6 +271,7 @@ module _ (laws : AreLaws) (numbers : NumberLaw) (changes : ChangeLaw) (t : Store
           schema = stored.schema ∙ ap (λ (z : Stored). z.schema) (sym fin.rest);
           stale = stored.stale ∙ ap (λ (z : Stored). z.stale) (sym fin.rest);
           groups = groups_kept (no_rows (with_ticket was.tier)) s.own was.tier.groups ∙ stored.groups ∙ ap (λ (z : Stored). groups_in z.catalog) (sym fin.rest);
+          lists = subst (λ h. AreListed (map (with_commit (no_rows (with_ticket was.tier)) s.own) was.tier.groups) new.stores.items h.items) (sym (ap (λ (z : Stored). z.hidden) fin.rest)) (lists_committed t (with_ticket was.tier) new.stores.items s.own sound stored (record { each = x.stands.stands.catalog.each; apart = x.stands.stands.catalog.apart }) (own_through was s x.stands.stands there) (subst (λ ops. StoresCommit t ops new.stores.items) own fin.stores));
           sessions = rest.sessions;
           unsettled = stored.unsettled ∙ ap (λ (z : Stored). z.unsettled.items) (sym fin.rest);
           next = stored.next ∙ ap (λ (z : Stored). z.next) (sym fin.rest);

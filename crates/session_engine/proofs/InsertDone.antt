@@ -24,8 +24,7 @@ use Rattle.outside.specs.Others.{Around}
 use Rattle.evaluator.specs.Cascades.{key_in}
 use Rattle.open_sessions.specs.Lookups.{open_ops}
 use Rattle.open_sessions.specs.Opening.{seen_all}
-use Rattle.sql_query.specs.declared.write.Write.{Write}
-use Rattle.sql_subset.specs.declared.stmt.Stmt.TheVariants as statement
+use Rattle.evaluator.specs.declared.change.Change.{Change}
 use Rattle.transactions.specs.Transactions.{rows_in}
 use Rattle.group_catalog.specs.Catalogs.{groups_in}
 use Rattle.cache_tier.specs.declared.reply.Last.TheVariants.{Done, No}
@@ -50,17 +49,17 @@ use Rattle.cache_tier.proofs.PendingRows.{all_written}
 use Rattle.session_engine.specs.declared.inserting.Weighed.{Weighed}
 use Rattle.session_engine.specs.declared.preparing.Prepared.{Prepared}
 use Rattle.stored_tier.specs.declared.tier.Tier.{Tier as Stored}
-use Rattle.session_engine.specs.Changing.{Changed, Holds, IsPrepared, IsUnbroken}
+use Rattle.session_engine.specs.Changing.{Changed, ChangesUnwritten, HoldsUsed, IsPrepared, IsUnbroken}
 use Rattle.session_engine.specs.declared.inserting.Known.{Known}
 use Rattle.session_engine.specs.declared.inserting.Known.TheVariants as kind
 use Rattle.session_engine.specs.Inserting.{IsLeft, IsWeighed, KnowsKey, TakenFree, TakenIn, TellsRule, has_row, leaves_row, some_writes_key, writes_key}
-use Rattle.stored_tier.specs.Performing.{AreLast, ExecutesUnwritten, IsCalm, IsCaused, IsPerformed, StandsFor, StaysWritten, Waits, reply_of}
+use Rattle.stored_tier.specs.Performing.{AreLast, IsCalm, IsCaused, IsPerformed, StandsFor, StaysWritten, Waits, reply_of}
 use Rattle.session_engine.proofs.WaitingLaws.{waits_split}
 use Rattle.stored_tier.specs.Sites.{IsAt}
 use Rattle.outside.specs.Sites.{SiteState}
 use Rattle.stored_tier.specs.Stored.{HasSession, IsSound, IsStoredAs, IsVerified, rows_of, without_list}
 use Rattle.stored_tier.proofs.BankLaws.{behind, call_behind, told_behind}
-use Rattle.session_engine.proofs.ChangedLaws.{WrittenLaw, rows_same, stored_written, through_seen, unheld}
+use Rattle.session_engine.proofs.ChangedLaws.{WrittenLaw, rows_used, stored_written, through_seen, unheld, uses_seen}
 use Rattle.session_engine.proofs.InsertLaws.{seen_schema}
 use Rattle.session_engine.proofs.InsertedLaws.{EntriesLaw, IsLeftIn, KnowsIn, PendingLaw, asked, behind_call}
 use Rattle.session_engine.proofs.OthersLaws.{only_reads}
@@ -68,7 +67,7 @@ use Rattle.stored_tier.proofs.QuietLaws.{calm_by, its_session}
 use Rattle.stored_tier.proofs.OwnSeen.{NumberLaw, any_map, own_found}
 use Rattle.stored_tier.proofs.SessionLaws.{ChangeLaw}
 use Rattle.stored_tier.proofs.StandingLaws.{performed_behind, slots_kept}
-use Rattle.session_engine.proofs.WriteLaws.{sees}
+use Rattle.session_engine.proofs.SeenStates.{sees}
 
 abbrev pub AroundLaw : Type 0
 AroundLaw =
@@ -121,8 +120,8 @@ stays_behind law new before after w t key result does at is apart c done =
     performed_behind new before after w w.tier c.held does at c.told c.shares is.waits is.stored (is.shows ∙ sym stays.same) stays.stands done
 
 -- the part of the line
-inserts_by : (s : Session) (write : Write) (w w' : World) (p : Prepared) (t : TableId) (row : List Value) (reply : Reply) → IsPrepared s write w p → p.ops ≡ Insert t row ∷ [] → has_key_in (seen_by s w.history w.tier) t row ≡ false → StaysWritten w w' → Finds s t row w w' reply → ExecutesUnwritten (statement.Write write) s w w' reply
-inserts_by s write w w' p t row reply prepared is hidden still finds = (
+inserts_by : (s : Session) (change : Change) (w w' : World) (p : Prepared) (t : TableId) (row : List Value) (reply : Reply) → IsPrepared s change w p → p.ops ≡ Insert t row ∷ [] → has_key_in (seen_by s w.history w.tier) t row ≡ false → StaysWritten w w' → Finds s t row w w' reply → ChangesUnwritten change s w w' reply
+inserts_by s change w w' p t row reply prepared is hidden still finds = (
   prepared.leads w' reply
       (subst (λ ops. WritesOps s p.table ops w w' reply) (sym is)
       (subst (λ b. MatchBool b (Refuses (taken w.tier t row) w w' reply) (Finds s t row w w' reply)) (sym hidden) finds)),
@@ -130,21 +129,21 @@ inserts_by s write w w' p t row reply prepared is hidden still finds = (
 )
 
 -- the bank's call failed, or memory was wanting
-pub call_failed : AroundLaw → (new : Stored) (before after : SiteState) (w : World) (s : Session) (write : Write) (p : Prepared) (t : TableId) (row : List Value) (e : BankError) → IsAt before w → StandsFor new w → IsUnshared w → IsPrepared s write w p → p.ops ≡ Insert t row ∷ [] → has_key_in (seen_by s w.history w.tier) t row ≡ false
-    → Called before after w t (key_in (slice_get w.tier.schema t.0) row) (Err e) → IsPerformed new after (λ w'. ExecutesUnwritten (statement.Write write) s w w' (bank_fault e))
-call_failed law new before after w s write p t row e at is apart prepared ops hidden c =
-    stays_behind law new before after w t (key_in (slice_get w.tier.schema t.0) row) (Err e) (λ w'. ExecutesUnwritten (statement.Write write) s w w' (bank_fault e)) at is apart c
-    (inserts_by s write w (behind w w.tier c.held after) p t row (bank_fault e) prepared ops hidden (record { journal = refl; schema = refl })
+pub call_failed : AroundLaw → (new : Stored) (before after : SiteState) (w : World) (s : Session) (change : Change) (p : Prepared) (t : TableId) (row : List Value) (e : BankError) → IsAt before w → StandsFor new w → IsUnshared w → IsPrepared s change w p → p.ops ≡ Insert t row ∷ [] → has_key_in (seen_by s w.history w.tier) t row ≡ false
+    → Called before after w t (key_in (slice_get w.tier.schema t.0) row) (Err e) → IsPerformed new after (λ w'. ChangesUnwritten change s w w' (bank_fault e))
+call_failed law new before after w s change p t row e at is apart prepared ops hidden c =
+    stays_behind law new before after w t (key_in (slice_get w.tier.schema t.0) row) (Err e) (λ w'. ChangesUnwritten change s w w' (bank_fault e)) at is apart c
+    (inserts_by s change w (behind w w.tier c.held after) p t row (bank_fault e) prepared ops hidden (record { journal = refl; schema = refl })
     (record { result = Err e; call = c.call w.tier; answer = refl }))
 
 -- the key has a row, or the row breaks a rule
-pub answer_refused : AroundLaw → (new : Stored) (before after : SiteState) (w : World) (s : Session) (write : Write) (p : Prepared) (t : TableId) (row : List Value) (found : Option (List Value)) (has : Bool) (rule : Rule) → IsAt before w → StandsFor new w → IsUnshared w → IsPrepared s write w p → p.ops ≡ Insert t row ∷ [] → has_key_in (seen_by s w.history w.tier) t row ≡ false
+pub answer_refused : AroundLaw → (new : Stored) (before after : SiteState) (w : World) (s : Session) (change : Change) (p : Prepared) (t : TableId) (row : List Value) (found : Option (List Value)) (has : Bool) (rule : Rule) → IsAt before w → StandsFor new w → IsUnshared w → IsPrepared s change w p → p.ops ≡ Insert t row ∷ [] → has_key_in (seen_by s w.history w.tier) t row ≡ false
     → (c : Called before after w t (key_in (slice_get w.tier.schema t.0) row) (Ok found)) → has_key_in (written_on s (w.history ++ (c.call w.tier).history.before) w.tier) t row ≡ has
     → cond has (Some (taken w.tier t row)) (apply_fault s w (Insert t row ∷ [])) ≡ Some rule
-    → IsPerformed new after (λ w'. ExecutesUnwritten (statement.Write write) s w w' (only (No rule)))
-answer_refused law new before after w s write p t row found has rule at is apart prepared ops hidden c asked fault =
-    stays_behind law new before after w t (key_in (slice_get w.tier.schema t.0) row) (Ok found) (λ w'. ExecutesUnwritten (statement.Write write) s w w' (only (No rule))) at is apart c
-    (inserts_by s write w (behind w w.tier c.held after) p t row (only (No rule)) prepared ops hidden (record { journal = refl; schema = refl })
+    → IsPerformed new after (λ w'. ChangesUnwritten change s w w' (only (No rule)))
+answer_refused law new before after w s change p t row found has rule at is apart prepared ops hidden c asked fault =
+    stays_behind law new before after w t (key_in (slice_get w.tier.schema t.0) row) (Ok found) (λ w'. ChangesUnwritten change s w w' (only (No rule))) at is apart c
+    (inserts_by s change w (behind w w.tier c.held after) p t row (only (No rule)) prepared ops hidden (record { journal = refl; schema = refl })
     (record {
       result = Ok found;
       call = c.call w.tier;
@@ -154,23 +153,23 @@ answer_refused law new before after w s write p t row found has rule at is apart
     }))
 
 -- the row is the session's
-pub answer_taken : AroundLaw → WrittenLaw → (new : Stored) (before after : SiteState) (w : World) (s : Session) (write : Write) (p : Prepared) (t : TableId) (row : List Value) (found : Option (List Value)) → IsAt before w → IsUnshared w → Stands w → AreLast w.tier.log w.tier.unsettled → rows_of new ≡ shown_state w.history w.tier → IsPrepared s write w p → p.ops ≡ Insert t row ∷ [] → has_key_in (seen_by s w.history w.tier) t row ≡ false
+pub answer_taken : AroundLaw → WrittenLaw → (new : Stored) (before after : SiteState) (w : World) (s : Session) (change : Change) (p : Prepared) (t : TableId) (row : List Value) (found : Option (List Value)) → IsAt before w → IsUnshared w → Stands w → AreLast w.tier.log w.tier.unsettled → rows_of new ≡ shown_state w.history w.tier → IsPrepared s change w p → p.ops ≡ Insert t row ∷ [] → has_key_in (seen_by s w.history w.tier) t row ≡ false
     → (c : Called before after w t (key_in (slice_get w.tier.schema t.0) row) (Ok found)) → has_key_in (written_on s (w.history ++ (c.call (written s t (Insert t row ∷ []) w).0).history.before) w.tier) t row ≡ false
     → apply_fault s w (Insert t row ∷ []) ≡ None
     → IsStoredAs new (written s t (Insert t row ∷ []) w).0
     → (Stands (at_history c.held.history w) → MayWriteMore (at_history c.held.history w) s (Insert t row ∷ []))
-    → IsPerformed new after (λ w'. ExecutesUnwritten (statement.Write write) s w w' (only (Done (rows_in t (Insert t row ∷ [])))))
-answer_taken around law new before after w s write p t row found at apart stands waits shows prepared ops hidden c asked fault stored may =
+    → IsPerformed new after (λ w'. ChangesUnwritten change s w w' (only (Done (rows_in t (Insert t row ∷ [])))))
+answer_taken around law new before after w s change p t row found at apart stands waits shows prepared ops hidden c asked fault stored may =
     let ins = Insert t row ∷ [] in
     let done = written s t ins w in
     let stays = around w c.held.history stands apart (only_reads w.shared (TellsRow t (key_in (slice_get w.tier.schema t.0) row) (Ok found)) w.history c.held.history (row_reads t (key_in (slice_get w.tier.schema t.0) row) (Ok found)) (c.call w.tier).history) in
     let later = at_history c.held.history w in
     let after_law = law later s t ins stays.stands (may stays.stands) in
     let tiers : (written s t ins later).0 ≡ done.0 = ap (λ st. with_session s.label (with_writes ins) (after_writes over ins (all_over s.own st) w.tier)) stays.same in
-    performed_behind new before after w done.0 c.held (λ w'. ExecutesUnwritten (statement.Write write) s w w' (only (Done (rows_in t (Insert t row ∷ []))))) at c.told c.shares waits stored
+    performed_behind new before after w done.0 c.held (λ w'. ChangesUnwritten change s w w' (only (Done (rows_in t (Insert t row ∷ []))))) at c.told c.shares waits stored
     (shows ∙ sym stays.same ∙ sym after_law.same ∙ ap (shown_state c.held.history) tiers)
     (subst (λ a. Stands (with_tier a later)) tiers after_law.stands)
-    (inserts_by s write w (behind w done.0 c.held after) p t row (only (Done (rows_in t (Insert t row ∷ [])))) prepared ops hidden (record { journal = refl; schema = refl })
+    (inserts_by s change w (behind w done.0 c.held after) p t row (only (Done (rows_in t (Insert t row ∷ [])))) prepared ops hidden (record { journal = refl; schema = refl })
     (record {
       result = Ok found;
       call = c.call done.0;
@@ -230,8 +229,8 @@ not_broken false rule e = refl
 -- ---- what becomes of it
 
 module _ (over_law : OverIsApplied) (numbers : NumberLaw) (changes : ChangeLaw) (pending : PendingLaw) (entries : EntriesLaw) (around : AroundLaw) (law : WrittenLaw)
-    (t : Stored) (before after : SiteState) (id : SessionId) (w : World) (s : Session) (write : Write) (p : Prepared) (x : Weighed)
-    (sound : IsSound t) (noted : IsVerified t) (has : HasSession t id s) (at : IsAt before w) (is : StandsFor t w) (apart : IsUnshared w) (prepared : IsPrepared s write w p) (weighed : IsWeighed t id p x) where
+    (t : Stored) (before after : SiteState) (id : SessionId) (w : World) (s : Session) (change : Change) (p : Prepared) (x : Weighed)
+    (sound : IsSound t) (noted : IsVerified t) (has : HasSession t id s) (at : IsAt before w) (is : StandsFor t w) (apart : IsUnshared w) (prepared : IsPrepared s change w p) (weighed : IsWeighed t id p x) where
   abbrev ins : List Op
   ins = Insert weighed.table weighed.row ∷ []
 
@@ -280,8 +279,8 @@ module _ (over_law : OverIsApplied) (numbers : NumberLaw) (changes : ChangeLaw) 
       (subst (λ ops. TellsRule x.fault (broken_by_all ops sight.state)) weighed.is (weighed.weighed.judged sight.state sight.applied))
 
   -- the call failed
-  pub failed : (e : BankError) → Called before after w weighed.table x.key (Err e) → IsPerformed t after (λ w'. ExecutesUnwritten (statement.Write write) s w w' (bank_fault e))
-  failed e c = call_failed around t before after w s write p weighed.table weighed.row e at is apart prepared weighed.is hidden (subst (λ k. Called before after w weighed.table k (Err e)) key_same c)
+  pub failed : (e : BankError) → Called before after w weighed.table x.key (Err e) → IsPerformed t after (λ w'. ChangesUnwritten change s w w' (bank_fault e))
+  failed e c = call_failed around t before after w s change p weighed.table weighed.row e at is apart prepared weighed.is hidden (subst (λ k. Called before after w weighed.table k (Err e)) key_same c)
 
   module _ (new : Stored) (found : Option (List Value)) (call : Called before after w weighed.table x.key (Ok found)) where
     c : Called before after w weighed.table its_key (Ok found)
@@ -290,46 +289,46 @@ module _ (over_law : OverIsApplied) (numbers : NumberLaw) (changes : ChangeLaw) 
     told : (a : Tier) → has_key_in (written_on s (w.history ++ (c.call a).history.before) w.tier) weighed.table weighed.row ≡ has_row x.known found
     told a = asked pending entries w s weighed.table weighed.row x.known is.stands apart there through knows shown gone found c.held.history (c.call a).history
 
-    refusal_by : (rule : Rule) (b : Bool) → has_row x.known found ≡ b → cond b (Some (taken w.tier weighed.table weighed.row)) (apply_fault s w ins) ≡ Some rule → IsPerformed t after (λ w'. ExecutesUnwritten (statement.Write write) s w w' (only (No rule)))
+    refusal_by : (rule : Rule) (b : Bool) → has_row x.known found ≡ b → cond b (Some (taken w.tier weighed.table weighed.row)) (apply_fault s w ins) ≡ Some rule → IsPerformed t after (λ w'. ChangesUnwritten change s w w' (only (No rule)))
     refusal_by rule b e fault =
-        answer_refused around t before after w s write p weighed.table weighed.row found b rule at is apart prepared weighed.is hidden c (told w.tier ∙ e) fault
+        answer_refused around t before after w s change p weighed.table weighed.row found b rule at is apart prepared weighed.is hidden c (told w.tier ∙ e) fault
 
-    held_by : (reply : Reply) → has_row x.known found ≡ false → broken_by_all ins (seen_by s w.history w.tier) ≡ None → Changed t new id p (Ok reply) → IsPerformed new after (λ w'. ExecutesUnwritten (statement.Write write) s w w' reply)
+    held_by : (reply : Reply) → has_row x.known found ≡ false → broken_by_all ins (seen_by s w.history w.tier) ≡ None → Changed t new id p (Ok reply) → IsPerformed new after (λ w'. ChangesUnwritten change s w w' reply)
     held_by reply e unbroken changed =
-        let holds = subst (λ ops. Holds t new id ops) weighed.is changed.0 in
+        let used = subst (λ ops. HoldsUsed t new id ops) weighed.is changed.0 in
         let says : reply ≡ only (Done (rows_in weighed.table ins)) = changed.1 ∙ ap (λ n. only (Done n)) (ap (rows_in p.table) weighed.is ∙ ap (λ u. rows_in u ins) weighed.named) in
         let may : Stands (at_history c.held.history w) → MayWriteMore (at_history c.held.history w) s ins = λ stands.
         let stays = around w c.held.history is.stands apart (only_reads w.shared (TellsRow weighed.table its_key (Ok found)) w.history c.held.history (row_reads weighed.table its_key (Ok found)) (c.call w.tier).history) in
         record {
           there = there;
-          through = sym (through_seen t w.tier ins is.stored) ∙ holds.through;
+          through = sym (through_seen t w.tier ins is.stored) ∙ used.holds.through;
           unbroken = subst (λ z. broken_by_all ins (all_over s.own z) ≡ None) (sym stays.same) unbroken;
           unlocked = subst (λ ops. lock_fault s.label w.tier ops ≡ None) weighed.is prepared.free;
           fresh = (behind_call pending entries w s weighed.table weighed.row x.known is.stands apart there through knows shown gone found c.held.history (c.call w.tier).history stands ∙ e, tt);
         } in
-        subst (λ r. IsPerformed new after (λ w'. ExecutesUnwritten (statement.Write write) s w w' r)) (sym says)
-        (answer_taken around law new before after w s write p weighed.table weighed.row found at apart is.stands is.waits (rows_same t new holds.rest ∙ is.shows) prepared weighed.is hidden c
+        subst (λ r. IsPerformed new after (λ w'. ChangesUnwritten change s w w' r)) (sym says)
+        (answer_taken around law new before after w s change p weighed.table weighed.row found at apart is.stands is.waits (rows_used t new id ins used ∙ is.shows) prepared weighed.is hidden c
         (told (written s weighed.table ins w).0 ∙ e) (ap rule_of_apply unbroken)
-        (stored_written changes t new w.tier s id ins (seen_by s w.history w.tier) sound is.stored has holds) may)
+        (stored_written changes t new w s id ins (seen_by s w.history w.tier) sound is has used (uses_seen over_law numbers t new w s id ins sound noted is has used)) may)
 
-    free : (result : Result Reply Refused) (fault : Option Rule) → has_row x.known found ≡ false → TellsRule fault (broken_by_all ins (seen_by s w.history w.tier)) → TakenFree t new id p fault result → IsPerformed new after (λ w'. ExecutesUnwritten (statement.Write write) s w w' (reply_of result))
+    free : (result : Result Reply Refused) (fault : Option Rule) → has_row x.known found ≡ false → TellsRule fault (broken_by_all ins (seen_by s w.history w.tier)) → TakenFree t new id p fault result → IsPerformed new after (λ w'. ChangesUnwritten change s w w' (reply_of result))
     free result (Some rule) e tells taken_in =
-        subst (λ r. IsPerformed new after (λ w'. ExecutesUnwritten (statement.Write write) s w w' (reply_of r))) (sym taken_in.0)
-        (subst (λ y. IsPerformed y after (λ w'. ExecutesUnwritten (statement.Write write) s w w' (only (No rule)))) (sym taken_in.1)
+        subst (λ r. IsPerformed new after (λ w'. ChangesUnwritten change s w w' (reply_of r))) (sym taken_in.0)
+        (subst (λ y. IsPerformed y after (λ w'. ChangesUnwritten change s w w' (only (No rule)))) (sym taken_in.1)
         (refusal_by rule false e (ap rule_of_apply tells)))
     free (Ok reply) None e tells taken_in = held_by reply e tells taken_in
     free (Err (refused.Rule rule)) None e tells taken_in = absurd taken_in
     free (Err refused.Memory) None e tells taken_in =
-        call_failed around new before after w s write p weighed.table weighed.row bank.Memory at (unheld t new w taken_in is) apart prepared weighed.is hidden
+        call_failed around new before after w s change p weighed.table weighed.row bank.Memory at (unheld t new w taken_in is) apart prepared weighed.is hidden
         (wanted before after w weighed.table its_key (Ok found) c)
 
-    pub taken_in : (result : Result Reply Refused) → TakenIn t new id p x found result → IsPerformed new after (λ w'. ExecutesUnwritten (statement.Write write) s w w' (reply_of result))
+    pub taken_in : (result : Result Reply Refused) → TakenIn t new id p x found result → IsPerformed new after (λ w'. ChangesUnwritten change s w w' (reply_of result))
     taken_in result done = by (has_row x.known found) refl done
       where
-        by : (b : Bool) → has_row x.known found ≡ b → MatchBool b ((result ≡ Err (refused.Rule x.taken)) × (new ≡ t)) (TakenFree t new id p x.fault result) → IsPerformed new after (λ w'. ExecutesUnwritten (statement.Write write) s w w' (reply_of result))
+        by : (b : Bool) → has_row x.known found ≡ b → MatchBool b ((result ≡ Err (refused.Rule x.taken)) × (new ≡ t)) (TakenFree t new id p x.fault result) → IsPerformed new after (λ w'. ChangesUnwritten change s w w' (reply_of result))
         by true e all =
-            subst (λ r. IsPerformed new after (λ w'. ExecutesUnwritten (statement.Write write) s w w' (reply_of r))) (sym all.0)
-            (subst (λ y. IsPerformed y after (λ w'. ExecutesUnwritten (statement.Write write) s w w' (only (No x.taken)))) (sym all.1)
+            subst (λ r. IsPerformed new after (λ w'. ChangesUnwritten change s w w' (reply_of r))) (sym all.0)
+            (subst (λ y. IsPerformed y after (λ w'. ChangesUnwritten change s w w' (only (No x.taken)))) (sym all.1)
             (refusal_by x.taken true e (ap Some (sym (weighed.weighed.taken w.tier is.stored.schema)))))
         by false e all = free result x.fault e judged all
 

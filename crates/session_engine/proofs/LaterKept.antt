@@ -27,12 +27,11 @@ use Rattle.cache_tier.specs.TierStates.{Session}
 use Rattle.cache_tier.specs.Worlds.{Passes, World}
 use Rattle.cache_tier.specs.declared.reply.Reply.{Reply}
 use Rattle.stored_tier.specs.declared.tier.Tier.{Tier as Stored}
-use Rattle.stored_tier.specs.Answering.{AnswersIn}
 use Rattle.stored_tier.specs.Performing.{Executes, PerformsIn, PerformsInOver, StandsFor, reply_of}
 use Rattle.stored_tier.specs.Stored.{HasSession, IsSound, IsStoredAs}
 use Rattle.stored_tier.proofs.OverLaws.{answered_over, ended_over, flush_breaks, keeps_stays, keeps_tier}
 use Rattle.stored_tier.proofs.OwnSeen.{NumberLaw, number_found, own_found}
-use Rattle.session_engine.specs.Committing.{StoresOps, are_deferred, bare_all, commit_answer, commit_fault, sealed_next}
+use Rattle.session_engine.specs.Committing.{AnswersInWorlds, StoresOps, are_deferred, bare_all, commit_answer, commit_fault, sealed_next}
 use Rattle.session_engine.proofs.CommitPerformed.{CommitLaw, broken_later, done_so, ends_commit, journal_later, later_answer, refused_by, stands_then, stays}
 use Rattle.session_engine.proofs.KeptLaws.{draft_own, kept_same, room_so, stayed_over}
 
@@ -110,8 +109,8 @@ module _ {D : Type 0} (state : D → SiteState) (possible : D → ℕ → Held �
         )))
 
     -- it is refused behind that
-    pub unanswered_over : (new : Stored) (d : D) (why : Refused) → AnswersIn t new id commit_fault commit_answer (Err why) → StoresOps t new id (Err why) → PerformsInOver state possible t new k k' d d id (Executes statement.Commit) (Err why)
-    unanswered_over new d why answers bares = stayed_over state possible t new k k' d id why kept (λ s has w is keeps. by s has w is why (answers w.tier s is.stored has) bares)
+    pub unanswered_over : (new : Stored) (d : D) (why : Refused) → AnswersInWorlds t new id commit_fault commit_answer (Err why) → StoresOps t new id (Err why) → PerformsInOver state possible t new k k' d d id (Executes statement.Commit) (Err why)
+    unanswered_over new d why answers bares = stayed_over state possible t new k k' d id why kept (λ s has w is keeps. by s has w is why (answers w s is has) bares)
       where
         by : (s : Session) → HasSession t id s → (w : World) → StandsFor t w → (why : Refused) → Rattle.stored_tier.specs.Answering.Replies new w.tier (commit_fault s w.tier) (commit_answer s w.tier) (Err why) → bare_all new.stores.items ≡ bare_all t.stores.items
             → StandsFor new w × Executes statement.Commit s w w (reply_of (Err why))
@@ -120,7 +119,7 @@ module _ {D : Type 0} (state : D → SiteState) (possible : D → ℕ → Held �
 
     -- it is done, and its entry is recorded
     module _ (new : Stored) (k'' : Option TierJournal) (d d' : D) (durable : Bool) (reply : Reply) (fits : is_full_draft draft ≡ false) (durable_is : (s : Session) → HasSession t id s → durable ≡ s.durable)
-        (answers : AnswersIn t new id commit_fault commit_answer (Ok reply)) (bares : StoresOps t new id (Ok reply)) where
+        (answers : AnswersInWorlds t new id commit_fault commit_answer (Ok reply)) (bares : StoresOps t new id (Ok reply)) where
       written_in : (stop : Option Reply) → ((e : JournalEntry) → WritesDraft state possible k' k'' d d' draft e stop (Records durable e)) → (s : Session) → HasSession t id s → (w : World) → w.moment ≡ (state d).moment → StandsFor t w → KeepsOver state possible d k' w
           → IsWrittenOver state possible k'' d d' stop (Records s.durable (Commits (sealed_own w.tier s))) w
       written_in stop writes s has w now is keeps =
@@ -129,14 +128,14 @@ module _ {D : Type 0} (state : D → SiteState) (possible : D → ℕ → Held �
 
       free : (s : Session) → HasSession t id s → (w : World) → StandsFor t w → KeepsOver state possible d k' w → Rattle.session_engine.proofs.CommitPerformed.later_fault s w ≡ None
       free s has w is keeps =
-          journal_later s w (answers w.tier s is.stored has).0
+          journal_later s w (answers w s is has).0
           ∙ room_so state possible d k' w draft (Commits (sealed_own w.tier s)) false keeps (draft_own numbers t id k' draft Commits sound of s has w is) fits
 
       pub recorded : ((e : JournalEntry) → WritesDraft state possible k' k'' d d' draft e None (Records durable e)) → DiskIsCaused k' (state d) (state d') None → PerformsInOver state possible t new k k'' d d' id (Executes statement.Commit) (Ok reply)
       recorded writes cause = λ s has w at is apart keeps.
           let here = keeps_stays state possible d k k' w kept keeps in
           let x = written_in None writes s has w at.moment is here in
-          let said = answers w.tier s is.stored has in
+          let said = answers w s is has in
           let it = answered_over state possible new k'' d d' w (Records s.durable (Commits (sealed_own w.tier s))) (later_answer s w) reply at x cause.bank cause.shared
           (stands_then law numbers t new w id s sound is has said.0 said.1 bares) refl refl said.2 in
           record {

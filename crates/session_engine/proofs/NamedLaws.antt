@@ -26,10 +26,10 @@ front_same : {A B : Type 0} (p : B → Bool) (f : A → B) (xs : List A) → pre
 front_same p f [] = refl
 front_same p f (x ∷ xs) = ap (λ n. cond (p (f x)) (1 + n) 0) (front_same p f xs)
 
-position_same : {A B : Type 0} (p : B → Bool) (f : A → B) (xs : List A) → position p (map f xs) ≡ position (λ x. p (f x)) xs
+pub position_same : {A B : Type 0} (p : B → Bool) (f : A → B) (xs : List A) → position p (map f xs) ≡ position (λ x. p (f x)) xs
 position_same p f xs = λ i. cond (nat_lt (front_same (λ y. not (p y)) f xs i) (length-map xs f i)) (Some (front_same (λ y. not (p y)) f xs i)) None
 
-got_same : {A B : Type 0} (f : A → B) (xs : List A) (i : ℕ) → slice_get (map f xs) i ≡ option_map f (slice_get xs i)
+pub got_same : {A B : Type 0} (f : A → B) (xs : List A) (i : ℕ) → slice_get (map f xs) i ≡ option_map f (slice_get xs i)
 got_same f [] i = refl
 got_same f (x ∷ xs) zero = refl
 got_same f (x ∷ xs) (suc i) = got_same f xs i

@@ -54,7 +54,7 @@ kept_here [] place f w = absurd (omega (arith, w))
 kept_here (t ∷ ts) zero f w = refl
 kept_here (t ∷ ts) (suc place) f w = kept_here ts place f (omega (arith, w))
 
-kept_else : (ts : List Table) (place : ℕ) (f : Table → Table) (q : ℕ) → (q ≡ place → ⊥) → kept_at (change_at place f ts) q ≡ kept_at ts q
+pub kept_else : (ts : List Table) (place : ℕ) (f : Table → Table) (q : ℕ) → (q ≡ place → ⊥) → kept_at (change_at place f ts) q ≡ kept_at ts q
 kept_else [] place f q n = refl
 kept_else (t ∷ ts) zero f zero n = absurd (n refl)
 kept_else (t ∷ ts) zero f (suc q) n = refl
@@ -80,12 +80,12 @@ op_tree (Insert t row) s = tree_at (λ n. put_store n row) s (λ n. record { tab
 op_tree (Update t old row) s = tree_at (λ n. replace_store n row) s (λ n. record { table = refl; key = refl; foreign = refl; layers = refl }) (place_in s t)
 op_tree (Delete t row) s = tree_at (λ n. take_store n row) s (λ n. record { table = refl; key = refl; foreign = refl; layers = refl }) (place_in s t)
 
-op_absent : (op : Op) (s : Kept) → place_in s (table_of op) ≡ None → op_done op s ≡ s
+pub op_absent : (op : Op) (s : Kept) → place_in s (table_of op) ≡ None → op_done op s ≡ s
 op_absent (Insert t row) s e = ap (λ o. at_place o (λ n. put_store n row) s) e
 op_absent (Update t old row) s e = ap (λ o. at_place o (λ n. replace_store n row) s) e
 op_absent (Delete t row) s e = ap (λ o. at_place o (λ n. take_store n row) s) e
 
-op_there : (op : Op) (s : Kept) (p : ℕ) → place_in s (table_of op) ≡ Some p → (op_done op s).tables ≡ change_at p (op_on (key_at s.key s.layers p) op) s.tables
+pub op_there : (op : Op) (s : Kept) (p : ℕ) → place_in s (table_of op) ≡ Some p → (op_done op s).tables ≡ change_at p (op_on (key_at s.key s.layers p) op) s.tables
 op_there (Insert t row) s p e = ap (λ o. (at_place o (λ n. put_store n row) s).tables) e
 op_there (Update t old row) s p e = ap (λ o. (at_place o (λ n. replace_store n row) s).tables) e
 op_there (Delete t row) s p e = ap (λ o. (at_place o (λ n. take_store n row) s).tables) e
@@ -138,11 +138,11 @@ whole_ops directory (op ∷ ops) stores whole = whole_ops directory ops (at_home
 
 -- the first store that has the operation's table does it
 
-abbrev done_with : Option ℕ → Op → Kept → List Kept → List Kept → List Kept
+abbrev pub done_with : Option ℕ → Op → Kept → List Kept → List Kept → List Kept
 done_with None op s stores rest = s ∷ rest
 done_with (Some p) op s stores rest = op_done op s ∷ stores
 
-abbrev done_first : Op → List Kept → List Kept
+abbrev pub done_first : Op → List Kept → List Kept
 done_first op [] = []
 done_first op (s ∷ stores) = done_with (place_in s (table_of op)) op s stores (done_first op stores)
 
@@ -183,7 +183,7 @@ got_below [] i x at = cc
 got_below (y ∷ xs) zero x at = omega arith
 got_below (y ∷ xs) (suc i) x at = let lt = got_below xs i x at in omega (arith, lt)
 
-home_is : (schema : List TableDef) (stores : List Kept) (directory : List (Option Home)) (op : Op) (def : TableDef) → AreHoused schema stores directory → slice_get schema (table_of op).0 ≡ Some def → home_in directory op ≡ home_of stores (table_of op)
+pub home_is : (schema : List TableDef) (stores : List Kept) (directory : List (Option Home)) (op : Op) (def : TableDef) → AreHoused schema stores directory → slice_get schema (table_of op).0 ≡ Some def → home_in directory op ≡ home_of stores (table_of op)
 home_is schema stores directory op def housed there =
     let z : 0 + (table_of op).0 ≡ (table_of op).0 = omega arith in
     ap (λ d. option_and_then (λ (home : Option Home). home) (slice_get d (table_of op).0)) housed.homes

@@ -1,5 +1,5 @@
 -- A write that is passed on by the stored tier: what the bank's answer makes of the tier.
-use Rattle.std.proofs.Common.{◌≡◌, ◌⊎◌, ◌≤◌, ◌^◌, ◌+◌, ℕ, Bool, true, false, not, ◌&&◌, ◌||◌, nat_eq, Option, Some, None, Result, Ok, Err, List, [], ◌∷◌, ◌++◌, length, map, inl, inr, refl, sym, ap, subst, ◌∙◌, arith, eqb-true}
+use Rattle.std.proofs.Common.{◌≡◌, ◌⊎◌, ◌≤◌, ◌^◌, ◌+◌, ℕ, Bool, true, false, not, ◌&&◌, ◌||◌, nat_eq, Option, Some, None, Result, Ok, Err, List, [], ◌∷◌, ◌++◌, length, inl, inr, refl, sym, ap, subst, ◌∙◌, arith, eqb-true}
 use Rattle.std.specs.List.{list_any}
 use Rattle.tier_base.specs.Limits.{greatest}
 use Rattle.tier_base.specs.declared.limit.Limit.TheVariants.{Operations}
@@ -11,7 +11,6 @@ use Rattle.table_state.specs.declared.operation.Op.{Op}
 use Rattle.table_state.specs.Copies.{is_one_of}
 use Rattle.table_state.specs.Histories.{entry_of}
 use Rattle.table_state.specs.Operations.{table_of}
-use Rattle.table_state.specs.Tables.{TableState}
 use Rattle.evaluator.specs.declared.change.Change.{Change}
 use Rattle.transactions.specs.Transactions.{Done}
 use Rattle.resolution.specs.Writes.{PlacedChange, change_seen}
@@ -31,11 +30,9 @@ use Rattle.order_laws.proofs.AgreeLaws.{all_closed}
 use Rattle.order_laws.proofs.FlowLaws.{flow_skips}
 use Rattle.order_laws.proofs.TruthLaws.{both_true, never_both, untrue}
 use Rattle.group_catalog.specs.Catalogs.{groups_in}
-use Rattle.open_sessions.specs.Opening.{seen_all}
 use Rattle.cache_tier.specs.Groups.{Group, covers, is_asynchronous, is_synchronous, is_table_of, is_writethrough}
 use Rattle.cache_tier.specs.PassedSteps.{WritesPassed, after_passed, passed_reply, with_ticket}
 use Rattle.cache_tier.specs.Routes.{is_written_through}
-use Rattle.cache_tier.specs.Shown.{shown_state}
 use Rattle.cache_tier.specs.StandingBetween.{AreReadAt, Stands, live_groups_of}
 use Rattle.cache_tier.specs.TierStates.{Session, Tier, session_of}
 use Rattle.cache_tier.specs.Worlds.{BankCall, IsUnshared, Part, World}
@@ -45,15 +42,14 @@ use Rattle.cache_tier.proofs.CommitLaws.{session_commits}
 use Rattle.cache_tier.proofs.GroupTables.{live_table}
 use Rattle.cache_tier.proofs.HistoryKeeps.{others_go_on, round_goes_on}
 use Rattle.cache_tier.proofs.ShownTables.{live_of}
-use Rattle.tier_statements.specs.Seen.{session_seen}
 use Rattle.stored_tier.specs.declared.tier.Tier.{Tier as Stored}
 use Rattle.stored_tier.specs.Performing.{StandsFor, is_written, meets}
 use Rattle.stored_tier.specs.Sites.{IsAt}
-use Rattle.stored_tier.specs.Stored.{HasSession, IsSound, IsStoredAs, KeepsTime, are_later, are_on, rows_of}
+use Rattle.stored_tier.specs.Stored.{HasSession, IsSound, IsStoredAs, are_later, are_on, rows_of}
 use Rattle.stored_tier.proofs.BankLaws.{TellsBehind, behind, behind_at, call_behind, told_behind}
 use Rattle.stored_tier.proofs.QuietLaws.{its_session, stands_still}
 use Rattle.stored_tier.proofs.StandingLaws.{last_at_once, performed_behind}
-use Rattle.session_engine.specs.Doubting.{IsEnded, WriteIsInDoubt}
+use Rattle.session_engine.specs.Doubting.{IsEnded}
 use Rattle.session_engine.specs.Passing.{doubt_of}
 use Rattle.session_engine.specs.declared.doubt.Doubt.{Doubt}
 use Rattle.session_engine.specs.declared.doubt.Doubted.TheVariants.{PassedWrite}
@@ -193,6 +189,7 @@ module _ (t mid : Stored) (drawn : mid ≡ record t { next = t.next + 1 }) where
     schema = is.schema;
     stale = is.stale;
     groups = is.groups;
+    lists = is.lists;
     sessions = is.sessions;
     unsettled = is.unsettled;
     next = ap (λ n. n + 1) is.next;
@@ -205,6 +202,7 @@ module _ (t mid : Stored) (drawn : mid ≡ record t { next = t.next + 1 }) where
     schema = is.schema;
     stale = is.stale;
     groups = is.groups;
+    lists = is.lists;
     sessions = is.sessions;
     unsettled = is.unsettled;
     next = ap (λ n. n + 1) is.next;
@@ -218,6 +216,7 @@ module _ (t mid : Stored) (drawn : mid ≡ record t { next = t.next + 1 }) where
     schema = is.schema;
     stale = is.stale;
     groups = is.groups;
+    lists = is.lists;
     sessions = is.sessions;
     unsettled = is.unsettled;
     next = is.next;
@@ -307,7 +306,7 @@ module _ (t mid : Stored) (id : SessionId) (drawn : mid ≡ record t { next = t.
 
   -- nobody knows
   unknown : (before after : SiteState) (at : IsAt before w) (called : PassedAt w.tier.next change before after (Err Failed)) (reply : Reply) → reply ≡ passed_reply (Err Failed)
-      → IsEnded mid (Some (record { ticket = t.next; session = id; of = PassedWrite })) after (λ w'. PassesDrawn (change_seen change) s w w' reply)
+      → IsEnded mid (Some (record { ticket = t.next; session = id; of = PassedWrite; entered = [] })) after (λ w'. PassesDrawn (change_seen change) s w w' reply)
   unknown before after at called reply answer =
       let seen = now before after at (Err Failed) called in
       let a = after_passed s w.tier.next (around before after at (Err Failed) called).own.ops (Err Failed) (with_ticket w.tier) in

@@ -4,9 +4,7 @@ use Rattle.std.proofs.lemmas.List.{append-nil}
 use Rattle.tier_base.specs.declared.number.TableId.{TableId}
 use Rattle.table_state.specs.declared.history.Entry.{Entry}
 use Rattle.table_state.specs.declared.history.Sealed.{Sealed}
-use Rattle.table_state.specs.declared.operation.Op.{Op}
 use Rattle.table_state.specs.Histories.{entry_of, has_ticket}
-use Rattle.evaluator.specs.declared.change.Change.{Change}
 use Rattle.outside.specs.Bank.{Grows, TellsRecorded}
 use Rattle.outside.specs.Calls as site
 use Rattle.outside.specs.Others.{AreOthers, Around}
@@ -19,7 +17,7 @@ use Rattle.order_laws.proofs.TruthLaws.{never_both}
 use Rattle.group_catalog.specs.Catalogs.{groups_in}
 use Rattle.cache_tier.specs.DoubtSteps.{SettlesDoubt, ops_of, settled, settled_notes, settled_stop, stood}
 use Rattle.cache_tier.specs.DueWork.{DueDoubt}
-use Rattle.cache_tier.specs.PassedSteps.{after_passed, with_ticket}
+use Rattle.cache_tier.specs.PassedSteps.{with_ticket}
 use Rattle.cache_tier.specs.TierStates.{APassedWrite, Doubt as Doubtful, Session, Tier, session_of}
 use Rattle.cache_tier.specs.Worlds.{BankCall, World}
 use Rattle.cache_tier.specs.declared.reply.Note.{Note}
@@ -29,7 +27,7 @@ use Rattle.cache_tier.specs.StandingBetween.{AreReadAt}
 use Rattle.stored_tier.specs.declared.tier.Tier.{Tier as Stored}
 use Rattle.stored_tier.specs.Performing.{StandsFor}
 use Rattle.stored_tier.specs.Sites.{IsAt}
-use Rattle.stored_tier.specs.Stored.{HasSession, IsSound, IsStoredAs, are_later}
+use Rattle.stored_tier.specs.Stored.{IsSound, IsStoredAs, are_later}
 use Rattle.stored_tier.proofs.BankLaws.{TellsBehind, behind, behind_at, call_behind, told_behind}
 use Rattle.stored_tier.proofs.QuietLaws.{its_session}
 use Rattle.stored_tier.proofs.StandingLaws.{last_at_once}
@@ -103,6 +101,7 @@ module _ (t : Stored) (d : Doubt) (w : World) (sound : IsSound t) (x : WriteIsIn
     schema = x.stands.stored.schema;
     stale = x.stands.stored.stale;
     groups = x.stands.stored.groups;
+    lists = x.stands.stored.lists;
     sessions = x.stands.stored.sessions;
     unsettled = x.stands.stored.unsettled;
     next = next_is;
@@ -115,6 +114,7 @@ module _ (t : Stored) (d : Doubt) (w : World) (sound : IsSound t) (x : WriteIsIn
     schema = x.stands.stored.schema;
     stale = x.stands.stored.stale;
     groups = x.stands.stored.groups;
+    lists = x.stands.stored.lists;
     sessions = x.stands.stored.sessions;
     unsettled = x.stands.stored.unsettled;
     next = next_is;

@@ -1,5 +1,5 @@
 -- A write that is passed on, over a journal that the tier may keep.
-use Rattle.std.proofs.Common.{◌≡◌, ◌≤◌, ℕ, Bool, true, false, Option, Some, None, Result, Ok, Err, List, [], ◌∷◌, inl, inr, refl, sym, ap, subst, ◌∙◌}
+use Rattle.std.proofs.Common.{◌≡◌, ◌≤◌, ℕ, true, false, Option, Some, None, Result, Ok, Err, List, [], ◌∷◌, inl, inr, refl, sym, ap, subst, ◌∙◌}
 use Rattle.std.specs.Bool.{MatchBool}
 use Rattle.std.specs.Option.{option_or}
 use Rattle.tier_base.specs.declared.code.Code.TheVariants as code
@@ -31,16 +31,15 @@ use Rattle.cache_tier.specs.Events.{with_tier}
 use Rattle.cache_tier.specs.JournalSteps.{Flushes, FlushesFitting, journal_fault}
 use Rattle.cache_tier.specs.Journals.{JournalEntry, Numbers}
 use Rattle.cache_tier.specs.PassedSteps.{PassesOn, WritesPassed, after_passed, passed_reply, ticket_fault, with_ticket}
-use Rattle.cache_tier.specs.Routes.{is_written_through}
 use Rattle.cache_tier.specs.Rules.{past}
 use Rattle.cache_tier.specs.Steps.{tells}
 use Rattle.cache_tier.specs.TierStates.{Session, Tier}
 use Rattle.cache_tier.specs.Worlds.{Becomes, Part, Then, ThenStage, Tries, Unless, World, only}
-use Rattle.cache_tier.specs.declared.reply.Last.TheVariants.{Done, No}
+use Rattle.cache_tier.specs.declared.reply.Last.TheVariants.{No}
 use Rattle.cache_tier.specs.declared.reply.Reply.{Reply}
 use Rattle.stored_tier.specs.declared.tier.Tier.{Tier as Stored}
 use Rattle.stored_tier.specs.Performing.{IsCaused, StandsFor, reply_of}
-use Rattle.stored_tier.specs.Stored.{HasSession, IsSound, IsStoredAs}
+use Rattle.stored_tier.specs.Stored.{IsStoredAs}
 use Rattle.stored_tier.proofs.OverLaws.{at_written, flush_breaks, keeps_called, keeps_stays, never_both, stands_written}
 use Rattle.stored_tier.proofs.StandingLaws.{slots_kept}
 use Rattle.session_engine.specs.Doubting.{IsReady}

@@ -1,5 +1,5 @@
 -- A query that is answered at the backing database.
-use Rattle.std.proofs.Common.{◌≡◌, ◌≤◌, ℕ, ◌*◌, Bool, true, false, cond, ◌||◌, nat_eq, Option, Some, None, Result, Ok, Err, List, [], ◌∷◌, ◌++◌, length, map, take, inl, inr, refl, sym, ap, subst, ◌∙◌, nat_lt}
+use Rattle.std.proofs.Common.{◌≡◌, ◌≤◌, ℕ, ◌*◌, Bool, true, false, cond, ◌||◌, nat_eq, Some, Result, Ok, Err, List, [], ◌∷◌, ◌++◌, length, map, take, inl, inr, refl, sym, ap, subst, ◌∙◌, nat_lt}
 use Rattle.std.specs.Result.{IsErrOf}
 use Rattle.std.specs.FinMap.{empty, len, values}
 use Rattle.std.proofs.lemmas.Bool.{eq-eqb}
@@ -33,29 +33,23 @@ use Rattle.outside.specs.declared.fault.BankError.TheVariants.{Failed, Memory}
 use Rattle.outside.specs.declared.site.Snapshot.{Snapshot}
 use Rattle.resolution.specs.declared.resolved.ResolvedQuery.{ResolvedQuery}
 use Rattle.resolution.specs.declared.resolved.ResolvedQuery.TheVariants.{Rows, Totals}
-use Rattle.resolution.specs.Queries.{query_seen, resolved_query}
-use Rattle.sql_query.specs.declared.query.Query.{Query}
-use Rattle.sql_subset.specs.declared.stmt.Stmt.TheVariants as statement
+use Rattle.resolution.specs.Queries.{query_seen}
 use Rattle.cache_tier.specs.declared.reply.Last.TheVariants.{No}
 use Rattle.cache_tier.specs.declared.reply.Reply.{Reply}
 use Rattle.cache_tier.specs.Events.{StaysShown, at_history}
-use Rattle.cache_tier.specs.Reading.{Reads, TellsPosition, as_it_was, backing_at, state_or_none}
-use Rattle.cache_tier.specs.Routes as route
-use Rattle.cache_tier.specs.Routes.{query_route, visible}
-use Rattle.cache_tier.specs.SelectSteps.{AnswersQuery, Selects, SelectsBy, SelectsOn, SelectsPassed, SelectsPlaced, plan_of, rows_reply}
+use Rattle.cache_tier.specs.Reading.{TellsPosition, backing_at, state_or_none}
+use Rattle.cache_tier.specs.SelectSteps.{AnswersQuery, SelectsOn, SelectsPassed, plan_of, rows_reply}
 use Rattle.cache_tier.specs.Steps.{tells}
-use Rattle.cache_tier.specs.TierStates.{Session, level_of}
 use Rattle.cache_tier.specs.Worlds.{BankCall, IsUnshared, Tries, World, bank_fault, faulty, only}
 use Rattle.cache_tier.proofs.HistoryKeeps.{around_goes_on, others_go_on}
 use Rattle.tier_statements.specs.Answering.{IsAnswerTo}
 use Rattle.stored_tier.specs.declared.tier.Tier.{Tier as Stored}
-use Rattle.stored_tier.specs.Performing.{Executes, ExecutesUnwritten, IsCalm, IsCaused, IsPerformed, StandsFor, StaysWritten, reply_of}
+use Rattle.stored_tier.specs.Performing.{IsCaused, IsPerformed, StandsFor, StaysWritten, reply_of}
 use Rattle.stored_tier.specs.Sites.{IsAt}
 use Rattle.stored_tier.proofs.BankLaws.{TellsBehind, behind, call_behind, told_behind}
 use Rattle.stored_tier.proofs.StandingLaws.{performed_behind, slots_kept}
-use Rattle.session_engine.specs.Selecting.{IsPassedOn, PassesQuery}
+use Rattle.session_engine.specs.Selecting.{PassesQuery}
 use Rattle.session_engine.proofs.OthersLaws.{only_reads}
-use Rattle.session_engine.proofs.QueryLaws.{selects_unless}
 
 -- the tables that were asked for are those of the state, and a query reads no other
 
@@ -260,27 +254,3 @@ answered_cause query asked s before after result (Ok reply) called a =
     subst (IsCaused before after) (sym a.is) (caused asked before after result (rows_reply a.rows) called refl (λ told. cc) refl)
 answered_cause query asked s before after result (Err (refused.Rule rule)) called a = caused asked before after result (only (No rule)) called refl (λ told. cc) refl
 answered_cause query asked s before after result (Err refused.Memory) called a = caused asked before after result (faulty code.Memory) called refl (λ told. cc) refl
-
--- the statement
-
-pub executes_passed : (s : Session) (q : Query) (w w' : World) (resolved : ResolvedQuery) (reply : Reply) → IsPassedOn s q w resolved → Tries (SelectsPassed (query_seen resolved)) w w' reply → Executes (statement.Select q) s w w' reply
-executes_passed s q w w' resolved reply here (inr wants) = inr wants
-executes_passed s q w w' resolved reply here (inl passes) = inl (selects_unless s q w w' reply selects)
-  where
-    placed : SelectsPlaced s (Ok (query_seen resolved)) w w' reply
-    placed = subst (λ r. SelectsBy r s (query_seen resolved) w w' reply) (sym here.way) passes
-
-    selects : Selects s q w w' reply
-    selects = subst (λ r. SelectsPlaced s r w w' reply) (sym here.is) placed
-
--- in the worlds
-pub passed_done : (t : Stored) (before after : SiteState) (s : Session) (q : Query) (w : World) (resolved : ResolvedQuery) (result : Result Reply Refused) → IsAt before w → StandsFor t w → IsUnshared w → IsPassedOn s q w resolved → PassesQuery t before after resolved result
-    → IsPerformed t after (λ w'. ExecutesUnwritten (statement.Select q) s w w' (reply_of result))
-passed_done t before after s q w resolved result at stands apart here passes =
-    let it = passes w at stands apart in
-    record {
-      world = it.world;
-      at = it.at;
-      stands = it.stands;
-      is = (executes_passed s q w it.world resolved (reply_of result) here it.is.0, it.is.1);
-    }

@@ -15,7 +15,7 @@ use Rattle.instances.specs.Views.{kept_at}
 use Rattle.order_laws.specs.Commits.{NoneConflicts, pending, virtual_state}
 use Rattle.order_laws.specs.Pipelines.{FlowsAs, FlowsWithLive}
 use Rattle.order_laws.specs.Sides.{AgreeOn, IsClosed, are_off}
-use Rattle.order_laws.specs.Standing.{Progress, live_tables, progress_of}
+use Rattle.order_laws.specs.Standing.{progress_of}
 use Rattle.order_laws.specs.Steps.{after_coming}
 use Rattle.order_laws.specs.OpenWrites.{OpenWrites}
 use Rattle.order_laws.proofs.AtOnceLaws.{applies_behind_pending, sides_conflict_not}

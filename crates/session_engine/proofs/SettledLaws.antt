@@ -1,17 +1,16 @@
 -- A doubt that is settled, of a commit or of a write that was passed on.
-use Rattle.std.proofs.Common.{◌≡◌, Bool, true, false, Option, Some, None, Result, Ok, Err, [], ◌∷◌, refl, sym, ap, subst}
+use Rattle.std.proofs.Common.{◌≡◌, Bool, true, false, Option, Some, None, Ok, Err, List, [], ◌∷◌, refl, sym, ap, subst}
 use Rattle.tier_base.specs.declared.number.SessionId.{SessionId}
 use Rattle.outside.specs.Sites.{SiteState}
 use Rattle.outside.specs.declared.fault.BankError.{BankError}
 use Rattle.cache_tier.specs.DueWork.{DueDoubt}
-use Rattle.cache_tier.specs.Worlds.{World}
 use Rattle.cache_tier.specs.declared.reply.Note.{Note}
+use Rattle.table_state.specs.declared.operation.Op.{Op}
 use Rattle.stored_tier.specs.declared.tier.Tier.{Tier as Stored}
-use Rattle.stored_tier.specs.Sites.{IsAt}
 use Rattle.stored_tier.specs.Stored.{IsSound}
 use Rattle.stored_tier.proofs.OwnSeen.{NumberLaw}
 use Rattle.stored_tier.proofs.SessionLaws.{ChangeLaw}
-use Rattle.session_engine.specs.Doubting.{IsEnded, IsInDoubt, IsReady, IsReadyFor, Leads}
+use Rattle.session_engine.specs.Doubting.{IsEnded, IsInDoubt, IsReady, IsReadyCommit, IsReadyFor, Leads}
 use Rattle.session_engine.specs.Settling.{KeepsRest, Settles, end_of, note_of}
 use Rattle.session_engine.specs.declared.doubt.Doubt.{Doubt}
 use Rattle.session_engine.specs.declared.doubt.Doubted.{Doubted}
@@ -55,9 +54,9 @@ leads_unsettled laws numbers changes law t left d before after e sound is asked 
 pub ready_some : (t : Stored) (left : Option Doubt) (d : Doubt) → left ≡ Some d → IsReady t left → IsReady t (Some d)
 ready_some t left d is ready = subst (IsReady t) is ready
 
--- of a commit what the session has written is kept with it
-pub ready_of : (t : Stored) (d : Doubt) (o : Doubted) (id : SessionId) → d.of ≡ o → d.session ≡ id → IsReady t (Some d) → IsReadyFor o id t
-ready_of t d o id of same ready = subst (λ i. IsReadyFor o i t) same (subst (λ k. IsReadyFor k d.session t) of ready)
+-- of a commit what the session has written is kept with it, and what it enters
+pub ready_commit : (t : Stored) (d : Doubt) (ops : List Op) → d.of ≡ Commit ops → IsReady t (Some d) → IsReadyCommit ops d.entered d.session t
+ready_commit t d ops of ready = subst (λ o. IsReadyFor o d.entered d.session t) of ready
 
 -- what is as it was
 pub rest_kept : (t new : Stored) (o : Doubted) (id : SessionId) (stands : Bool) → Settles o t new id stands → KeepsRest t new

@@ -1,5 +1,5 @@
 -- A session's write, as the parts of the tier make it.
-use Rattle.std.proofs.Common.{◌≡◌, ℕ, suc, Bool, true, false, cond, ◌&&◌, Option, Some, None, is_some, Result, Ok, Err, List, [], ◌∷◌, All, IfOk, map, inl, refl, sym, ap, subst, ◌∙◌, arith}
+use Rattle.std.proofs.Common.{◌≡◌, ℕ, suc, Bool, true, false, cond, ◌&&◌, Option, Some, None, Result, Ok, Err, List, [], ◌∷◌, All, IfOk, map, inl, refl, sym, ap, subst, ◌∙◌, arith}
 use Rattle.std.specs.Bool.{MatchBool}
 use Rattle.std.specs.List.{list_any}
 use Rattle.std.specs.Option.{option_or}
@@ -21,39 +21,27 @@ use Rattle.group_catalog.specs.Catalogs.{groups_in}
 use Rattle.evaluator.specs.declared.change.Change.{Change}
 use Rattle.evaluator.specs.Rules.{Gives, then_do}
 use Rattle.evaluator.specs.Writes.{effects_of}
-use Rattle.resolution.specs.Writes.{change_seen, resolved_write}
 use Rattle.sql_query.specs.declared.write.Write.{Write}
-use Rattle.sql_subset.specs.declared.stmt.Stmt.TheVariants as statement
 use Rattle.cache_tier.specs.declared.reply.Last.TheVariants.{No}
 use Rattle.cache_tier.specs.declared.reply.Reply.{Reply}
 use Rattle.cache_tier.specs.ChangeSteps.{Changes}
-use Rattle.cache_tier.specs.DynamicLoads.{Brings}
-use Rattle.cache_tier.specs.Facts.{OverIsApplied}
 use Rattle.cache_tier.specs.Groups.{Group, covers, is_read_only, is_synchronous, is_table_of, is_writethrough}
 use Rattle.cache_tier.specs.InsertSteps.{Finds, Inserts, has_key_in, taken}
 use Rattle.cache_tier.specs.Locks.{lock_fault}
 use Rattle.cache_tier.specs.OwnWrites.{apply_fault, room_of, written}
-use Rattle.cache_tier.specs.Routes as route
-use Rattle.cache_tier.specs.Routes.{visible, write_route}
 use Rattle.cache_tier.specs.Rules.{broken_if}
 use Rattle.cache_tier.specs.Shown.{seen_by}
-use Rattle.cache_tier.specs.Steps.{DoesStatement}
 use Rattle.cache_tier.specs.TierStates.{Session, Tier, level_of}
-use Rattle.cache_tier.specs.Wants.{wanted_by_write}
-use Rattle.cache_tier.specs.WriteSteps.{Writes, WritesBy, WritesEffects, WritesOps, WritesPlaced, WritesShown}
+use Rattle.cache_tier.specs.WriteSteps.{WritesEffects, WritesOps}
 use Rattle.cache_tier.specs.Worlds.{Refuses, Unless, World, only, unless}
 use Rattle.tier_statements.specs.Preparing.{inserted_row, prepared, shown_fault, unless_broken, write_refused_by}
-use Rattle.tier_statements.specs.Routing.{IsRouted, Routes, route_seen, write_refusal}
+use Rattle.tier_statements.specs.Routing.{Routes}
 use Rattle.tier_statements.specs.Seen.{HasGroups, HasSessions, IsNumberOf, session_seen}
-use Rattle.tier_statements.specs.declared.routing.Route.TheVariants.{Cached}
 use Rattle.tier_statements.specs.declared.routing.RoutedWrite.{RoutedWrite}
 use Rattle.stored_tier.specs.declared.tier.Tier.{Tier as Stored}
-use Rattle.session_engine.specs.Changing.{IsPrepared, Prepares}
-use Rattle.stored_tier.specs.Performing.{Executes}
-use Rattle.stored_tier.specs.Stored.{HasSession, IsSound, IsStoredAs, IsVerified, ShowsRows, rows_of, without_list}
-use Rattle.session_engine.proofs.QueryLaws.{has_no_dynamic}
-use Rattle.session_engine.proofs.SelectLaws.{nothing_wanted}
-use Rattle.stored_tier.proofs.OwnSeen.{NumberLaw, any_map, number_found, own_found, own_lies, seen_is}
+use Rattle.session_engine.specs.Changing.{DoesChange, IsPrepared, Prepares}
+use Rattle.stored_tier.specs.Stored.{HasSession, IsSound, IsStoredAs, without_list}
+use Rattle.stored_tier.proofs.OwnSeen.{NumberLaw, any_map, number_found, own_found}
 use Rattle.stored_tier.proofs.SessionLaws.{ChangeLaw}
 
 -- the groups by their tables
@@ -141,35 +129,24 @@ unbroken_over own shown rows st (Err e) same one applies = tt
 pub gives_over : (a : Tier) (s : Session) (change : Change) (st seen : TableState) (r : Result (List Op) Refused) → st ≡ seen → Gives (prepared a s change st) r → Gives (prepared a s change seen) r
 gives_over a s change st seen r same gives = subst (λ z. Gives (prepared a s change z) r) same gives
 
--- what comes of a write whose names are found and that is done in the cache
+-- what comes of a write in the cache whose names are found
 
-module _ (t : Stored) (s : Session) (write : Write) (w : World) (change : Change) (sound : IsSound t) (is : IsStoredAs t w.tier) (unbroken : write_refusal w.tier s write ≡ None) (resolved : resolved_write (visible (level_of s) w.tier) write ≡ Ok (change_seen change)) (way : write_route (level_of s) w.tier change.table ≡ Ok route.Cached) where
-  pub by_effects : (w' : World) (reply : Reply) → WritesEffects s change.table (effects_of (room_of s) change (seen_by s w.history w.tier)) w w' reply → Executes (statement.Write write) s w w' reply
-  by_effects w' reply effects =
-      let shown : WritesShown s (change_seen change) w w' reply = record { change = change; stands_for = refl; writes = effects } in
-      let by : WritesBy (Ok route.Cached) s (change_seen change) w w' reply = record {
-        mid = w;
-        stop = None;
-        first = subst (λ o. Brings w.tier o w w None) (sym (nothing_wanted w.tier w.history (wanted_by_write w.tier (change_seen change)) (has_no_dynamic t w.tier sound is))) (refl, refl);
-        next = inl shown;
-      } in
-      let placed : WritesPlaced s (Ok (change_seen change)) w w' reply = subst (λ r. WritesBy r s (change_seen change) w w' reply) (sym way) by in
-      let writes : Writes s write w w' reply = subst (λ r. WritesPlaced s r w w' reply) (sym resolved) placed in
-      inl (subst (λ f. Unless f (DoesStatement s (statement.Write write)) w w' reply) (sym unbroken) writes)
+by_effects : (s : Session) (change : Change) (w w' : World) (reply : Reply) → WritesEffects s change.table (effects_of (room_of s) change (seen_by s w.history w.tier)) w w' reply → DoesChange change s w w' reply
+by_effects s change w w' reply effects = inl (record { change = change; stands_for = refl; writes = effects })
 
-  -- its operations
-  module _ (ops : List Op) (effects : effects_of (room_of s) change (seen_by s w.history w.tier) ≡ Ok ops) where
-    pub by_ops : lock_fault s.label w.tier ops ≡ None → (w' : World) (reply : Reply) → WritesOps s change.table ops w w' reply → Executes (statement.Write write) s w w' reply
-    by_ops free w' reply does =
-        by_effects w' reply
-        (subst (λ r. WritesEffects s change.table r w w' reply) (sym effects)
-        (subst (λ f. Unless f (WritesOps s change.table ops) w w' reply) (sym free) does))
+-- its operations
+module _ (s : Session) (change : Change) (w : World) (ops : List Op) (effects : effects_of (room_of s) change (seen_by s w.history w.tier) ≡ Ok ops) where
+  by_ops : lock_fault s.label w.tier ops ≡ None → (w' : World) (reply : Reply) → WritesOps s change.table ops w w' reply → DoesChange change s w w' reply
+  by_ops free w' reply does =
+      by_effects s change w w' reply
+      (subst (λ r. WritesEffects s change.table r w w' reply) (sym effects)
+      (subst (λ f. Unless f (WritesOps s change.table ops) w w' reply) (sym free) does))
 
-    pub locked : (rule : Rule) → lock_fault s.label w.tier ops ≡ Some rule → Executes (statement.Write write) s w w (only (No rule))
-    locked rule held =
-        by_effects w (only (No rule))
-        (subst (λ r. WritesEffects s change.table r w w (only (No rule))) (sym effects)
-        (subst (λ f. Unless f (WritesOps s change.table ops) w w (only (No rule))) (sym held) (refl, refl)))
+  locked : (rule : Rule) → lock_fault s.label w.tier ops ≡ Some rule → DoesChange change s w w (only (No rule))
+  locked rule held =
+      by_effects s change w w (only (No rule))
+      (subst (λ r. WritesEffects s change.table r w w (only (No rule))) (sym effects)
+      (subst (λ f. Unless f (WritesOps s change.table ops) w w (only (No rule))) (sym held) (refl, refl)))
 
 -- what nothing but the operations says
 
@@ -207,72 +184,51 @@ both_none : {A : Type 0} (a b : Option A) → option_or a b ≡ None → (a ≡ 
 both_none None b e = (refl, e)
 both_none (Some x) b e = cc
 
--- a state that the session sees
-pub record Sees (t : Stored) (id : SessionId) (s : Session) (w : World) : Type 0 where
-  pub state : TableState
-  pub applied : applied_all (open_ops id (seen_all t.sessions)) (rows_of t) ≡ Some state
-  pub is : state ≡ seen_by s w.history w.tier
-
-pub sees : OverIsApplied → NumberLaw → (t : Stored) (id : SessionId) (s : Session) (w : World) → IsSound t → IsVerified t → ShowsRows t w → HasSession t id s → Sees t id s w
-sees over law t id s w sound verified shows has = by (applied_all (open_ops id (seen_all t.sessions)) (rows_of t)) refl (own_lies t id verified).applies
-  where
-    by : (o : Option TableState) → applied_all (open_ops id (seen_all t.sessions)) (rows_of t) ≡ o → is_some o ≡ true → Sees t id s w
-    by None is some = cc
-    by (Some st) is some = record { state = st; applied = is; is = seen_is over law t id s w st sound shows has is }
-
-pub route_refused : (s : Session) (write : Write) (w : World) (e : Refused) → Routes w.tier s write (Err e) → Prepares s write w (Err e)
-route_refused s write w (refused.Rule rule) broken =
-    inl (subst (λ f. Unless f (DoesStatement s (statement.Write write)) w w (only (No rule))) (sym broken) (refl, refl))
-route_refused s write w refused.Memory broken = tt
-
-module _ (t : Stored) (s : Session) (write : Write) (w : World) (routed : RoutedWrite) (sound : IsSound t) (is : IsStoredAs t w.tier) (found : IsRouted w.tier s write routed) (here : routed.route ≡ Cached) where
-  way : write_route (level_of s) w.tier routed.change.table ≡ Ok route.Cached
-  way = found.way ∙ ap (λ r. Ok (route_seen r)) here
-
+module _ (s : Session) (change : Change) (w : World) where
   abbrev seen : TableState
   seen = seen_by s w.history w.tier
 
-  refused_rule : (rule : Rule) → prepared w.tier s routed.change seen ≡ Err rule → Executes (statement.Write write) s w w (only (No rule))
-  refused_rule rule e = by (effects_of (room_of s) routed.change seen) refl e
+  refused_rule : (rule : Rule) → prepared w.tier s change seen ≡ Err rule → DoesChange change s w w (only (No rule))
+  refused_rule rule e = by (effects_of (room_of s) change seen) refl e
     where
-      by_ops_of : (ops : List Op) → effects_of (room_of s) routed.change seen ≡ Ok ops → (lock shown : Option Rule) → lock_fault s.label w.tier ops ≡ lock → shown_fault w.tier seen ops ≡ shown → unless_broken (option_or lock shown) ops ≡ Err rule → Executes (statement.Write write) s w w (only (No rule))
+      by_ops_of : (ops : List Op) → effects_of (room_of s) change seen ≡ Ok ops → (lock shown : Option Rule) → lock_fault s.label w.tier ops ≡ lock → shown_fault w.tier seen ops ≡ shown → unless_broken (option_or lock shown) ops ≡ Err rule → DoesChange change s w w (only (No rule))
       by_ops_of ops effects (Some r) shown lock_is shown_is h =
           let same : r ≡ rule = cc in
-          locked t s write w routed.change sound is found.unbroken found.resolved way ops effects rule (lock_is ∙ ap Some same)
+          locked s change w ops effects rule (lock_is ∙ ap Some same)
       by_ops_of ops effects None (Some r) lock_is shown_is h =
           let same : r ≡ rule = cc in
-          by_ops t s write w routed.change sound is found.unbroken found.resolved way ops effects lock_is w (only (No rule))
-          (shown_refused s routed.change.table ops w rule (shown_is ∙ ap Some same))
+          by_ops s change w ops effects lock_is w (only (No rule))
+          (shown_refused s change.table ops w rule (shown_is ∙ ap Some same))
       by_ops_of ops effects None None lock_is shown_is h = cc
 
-      by : (r : Result (List Op) Rule) → effects_of (room_of s) routed.change seen ≡ r → then_do (λ ops. unless_broken (write_refused_by s.label w.tier seen ops) ops) r ≡ Err rule → Executes (statement.Write write) s w w (only (No rule))
+      by : (r : Result (List Op) Rule) → effects_of (room_of s) change seen ≡ r → then_do (λ ops. unless_broken (write_refused_by s.label w.tier seen ops) ops) r ≡ Err rule → DoesChange change s w w (only (No rule))
       by (Ok ops) effects h = by_ops_of ops effects (lock_fault s.label w.tier ops) (shown_fault w.tier seen ops) refl refl h
       by (Err r) effects h =
           let same : r ≡ rule = cc in
-          by_effects t s write w routed.change sound is found.unbroken found.resolved way w (only (No rule))
-          (subst (λ x. WritesEffects s routed.change.table x w w (only (No rule))) (sym effects) (refl, ap (λ x. only (No x)) (sym same)))
+          by_effects s change w w (only (No rule))
+          (subst (λ x. WritesEffects s change.table x w w (only (No rule))) (sym effects) (refl, ap (λ x. only (No x)) (sym same)))
 
-  pub effects_refused : (e : Refused) → Gives {A = List Op} (prepared w.tier s routed.change seen) (Err e) → Prepares s write w (Err e)
+  pub effects_refused : (e : Refused) → Gives {A = List Op} (prepared w.tier s change seen) (Err e) → Prepares s change w (Err e)
   effects_refused (refused.Rule rule) e = refused_rule rule e
   effects_refused refused.Memory e = tt
 
-  pub effects_done : (ops : List Op) → prepared w.tier s routed.change seen ≡ Ok ops → IsPrepared s write w (record { table = routed.change.table; ops = ops })
-  effects_done ops e = by (effects_of (room_of s) routed.change seen) refl e
+  pub effects_done : (ops : List Op) → prepared w.tier s change seen ≡ Ok ops → IsPrepared s change w (record { table = change.table; ops = ops })
+  effects_done ops e = by (effects_of (room_of s) change seen) refl e
     where
-      of_these : (more : List Op) → more ≡ ops → effects_of (room_of s) routed.change seen ≡ Ok more → write_refused_by s.label w.tier seen more ≡ None → IsPrepared s write w (record { table = routed.change.table; ops = ops })
+      of_these : (more : List Op) → more ≡ ops → effects_of (room_of s) change seen ≡ Ok more → write_refused_by s.label w.tier seen more ≡ None → IsPrepared s change w (record { table = change.table; ops = ops })
       of_these more same effects none =
           let parts = both_none (lock_fault s.label w.tier more) (shown_fault w.tier seen more) none in
-          subst (λ (l : List Op). IsPrepared s write w (record { table = routed.change.table; ops = l })) same
+          subst (λ (l : List Op). IsPrepared s change w (record { table = change.table; ops = l })) same
           (record {
-            leads = by_ops t s write w routed.change sound is found.unbroken found.resolved way more effects parts.0;
+            leads = by_ops s change w more effects parts.0;
             free = parts.0;
             shown = parts.1;
           })
 
-      by_told : (more : List Op) → effects_of (room_of s) routed.change seen ≡ Ok more → (o : Option Rule) → write_refused_by s.label w.tier seen more ≡ o → unless_broken o more ≡ Ok ops → IsPrepared s write w (record { table = routed.change.table; ops = ops })
+      by_told : (more : List Op) → effects_of (room_of s) change seen ≡ Ok more → (o : Option Rule) → write_refused_by s.label w.tier seen more ≡ o → unless_broken o more ≡ Ok ops → IsPrepared s change w (record { table = change.table; ops = ops })
       by_told more effects None none h = let same : more ≡ ops = cc in of_these more same effects none
       by_told more effects (Some r) none h = cc
 
-      by : (r : Result (List Op) Rule) → effects_of (room_of s) routed.change seen ≡ r → then_do (λ ops. unless_broken (write_refused_by s.label w.tier seen ops) ops) r ≡ Ok ops → IsPrepared s write w (record { table = routed.change.table; ops = ops })
+      by : (r : Result (List Op) Rule) → effects_of (room_of s) change seen ≡ r → then_do (λ ops. unless_broken (write_refused_by s.label w.tier seen ops) ops) r ≡ Ok ops → IsPrepared s change w (record { table = change.table; ops = ops })
       by (Ok more) effects h = by_told more effects (write_refused_by s.label w.tier seen more) refl h
       by (Err r) effects h = cc

@@ -14,25 +14,24 @@ use Rattle.transactions.specs.Transactions.{rows_in}
 use Rattle.session_state.specs.Sessions.{with_ops}
 use Rattle.open_sessions.specs.Lookups.{open_ops}
 use Rattle.open_sessions.specs.Opening.{on_session, seen_all}
-use Rattle.sql_query.specs.declared.write.Write.{Write}
-use Rattle.sql_subset.specs.declared.stmt.Stmt.TheVariants as statement
 use Rattle.group_catalog.specs.Catalogs.{groups_in}
 use Rattle.cache_tier.specs.declared.reply.Last.TheVariants.{Done, No}
 use Rattle.cache_tier.specs.declared.reply.Reply.{Reply}
 use Rattle.cache_tier.specs.Locks.{lock_fault}
+use Rattle.cache_tier.specs.Routes.{Cached}
 use Rattle.cache_tier.specs.Shown.{seen_by}
-use Rattle.cache_tier.specs.TierStates.{Session, Tier}
-use Rattle.cache_tier.specs.Worlds.{IsUnshared, World, only}
+use Rattle.cache_tier.specs.TierStates.{Session}
+use Rattle.cache_tier.specs.Worlds.{IsUnshared, Part, Tries, World, only}
 use Rattle.evaluator.specs.declared.change.Change.{Change}
 use Rattle.outside.specs.Sites.{SiteState}
-use Rattle.cache_tier.specs.WriteSteps.{WritesOps}
+use Rattle.cache_tier.specs.WriteSteps.{WritesBy, WritesOps, WritesShown}
+use Rattle.resolution.specs.Writes.{change_seen}
 use Rattle.cache_tier.specs.StandingBetween.{are_written_through}
 use Rattle.tier_statements.specs.Preparing.{shown_fault}
-use Rattle.tier_statements.specs.Routing.{IsRouted}
-use Rattle.tier_statements.specs.declared.routing.Route.TheVariants.{Cached}
 use Rattle.session_engine.specs.declared.preparing.Prepared.{Prepared}
+use Rattle.session_engine.specs.Using.{AreWriteUses, Touches, Uses}
 use Rattle.stored_tier.specs.declared.tier.Tier.{Tier as Stored}
-use Rattle.stored_tier.specs.Performing.{Executes, ExecutesUnwritten, IsPerformed, StandsFor, reply_of}
+use Rattle.stored_tier.specs.Performing.{IsPerformed, StandsFor, StaysWritten, reply_of}
 use Rattle.stored_tier.specs.Sites.{IsAt}
 use Rattle.stored_tier.specs.Stored.{HasSession, rows_of}
 
@@ -47,23 +46,30 @@ abbrev pub IsUnbroken : Stored → SessionId → List Op → Type 0
 IsUnbroken t id ops =
     (seen : TableState) → applied_all (open_ops id (seen_all t.sessions)) (rows_of t) ≡ Some seen → broken_by_all ops seen ≡ None
 
--- the write breaks no rule of its names, and stands for this change, which is done in the cache
-abbrev pub IsCachedWrite : Tier → Session → Write → Change → Type 0
-IsCachedWrite a s write change = IsRouted a s write (record { change = change; route = Cached })
+-- what a write with its names found does in the cache; memory may be wanting at any time
+abbrev pub DoesChange : Change → Session → Part
+DoesChange change s = Tries (WritesShown s (change_seen change))
+
+-- it writes nothing to the journal
+abbrev pub ChangesUnwritten : Change → Session → Part
+ChangesUnwritten change s w w' reply = DoesChange change s w w' reply × StaysWritten w w'
+
+-- the same, with what the write wants loaded before
+abbrev pub ChangesWhole : Change → Session → Part
+ChangesWhole change s w w' reply = Tries (WritesBy (Ok Cached) s (change_seen change)) w w' reply × StaysWritten w w'
 
 -- The write stands for these operations: what they do as the cache does them, it does. They meet no lock, and nothing
 -- shown keeps them back.
-pub record IsPrepared (s : Session) (write : Write) (w : World) (p : Prepared) : Type 0 where
-  pub leads :
-      (w' : World) (reply : Reply) → WritesOps s p.table p.ops w w' reply → Executes (statement.Write write) s w w' reply
+pub record IsPrepared (s : Session) (change : Change) (w : World) (p : Prepared) : Type 0 where
+  pub leads : (w' : World) (reply : Reply) → WritesOps s p.table p.ops w w' reply → DoesChange change s w w' reply
   pub free : lock_fault s.label w.tier p.ops ≡ None
   pub shown : shown_fault w.tier (seen_by s w.history w.tier) p.ops ≡ None
 
 -- the write stands for operations, or is refused before the bank is asked; memory may be wanting at any time
-abbrev pub Prepares : Session → Write → World → Result Prepared Refused → Type 0
-Prepares s write w (Ok p) = IsPrepared s write w p
-Prepares s write w (Err (refused.Rule rule)) = Executes (statement.Write write) s w w (only (No rule))
-Prepares s write w (Err refused.Memory) = Unit {0}
+abbrev pub Prepares : Session → Change → World → Result Prepared Refused → Type 0
+Prepares s change w (Ok p) = IsPrepared s change w p
+Prepares s change w (Err (refused.Rule rule)) = DoesChange change s w w (only (No rule))
+Prepares s change w (Err refused.Memory) = Unit {0}
 
 -- the operations stand behind those of the session of this number, and are on tables of writethrough groups
 pub record Holds (old new : Stored) (id : SessionId) (ops : List Op) : Type 0 where
@@ -76,15 +82,28 @@ pub record HoldsNothing (old new : Stored) : Type 0 where
   pub rest : new ≡ record old { sessions = new.sessions }
   pub seen : seen_all new.sessions ≡ seen_all old.sessions
 
+-- the same, and the instances that they change were used
+pub record HoldsUsed (old new : Stored) (id : SessionId) (ops : List Op) : Type 0 where
+  pub held : Stored
+  pub uses : Uses
+  pub are : AreWriteUses old id ops uses
+  pub holds : Holds old held id ops
+  pub touches : Touches held new uses
+
 -- the session holds the operations, and the reply tells how many are on the named table; or memory was wanting
 abbrev pub Changed : Stored → Stored → SessionId → Prepared → Result Reply Refused → Type 0
-Changed old new id p (Ok reply) = Holds old new id p.ops × (reply ≡ only (Done (rows_in p.table p.ops)))
+Changed old new id p (Ok reply) = HoldsUsed old new id p.ops × (reply ≡ only (Done (rows_in p.table p.ops)))
 Changed old new id p (Err (refused.Rule rule)) = ⊥
 Changed old new id p (Err refused.Memory) = HoldsNothing old new
 
--- in each world in which the write stands for this change in the cache, it is done
+-- in each world the write is done
 abbrev pub WritesCached : Stored → Stored → SiteState → SiteState → SessionId → Change → Result Reply Refused → Type 0
 WritesCached old new before behind id change result =
-    (w : World) (s : Session) (write : Write) → HasSession old id s → IsAt before w → StandsFor old w → IsUnshared w
-    → IsCachedWrite w.tier s write change
-    → IsPerformed new behind (λ w'. ExecutesUnwritten (statement.Write write) s w w' (reply_of result))
+    (w : World) (s : Session) → HasSession old id s → IsAt before w → StandsFor old w → IsUnshared w
+    → IsPerformed new behind (λ w'. ChangesUnwritten change s w w' (reply_of result))
+
+-- the same, with what the write wants loaded before
+abbrev pub WritesWhole : Stored → Stored → SiteState → SiteState → SessionId → Change → Result Reply Refused → Type 0
+WritesWhole old new before behind id change result =
+    (w : World) (s : Session) → HasSession old id s → IsAt before w → StandsFor old w → IsUnshared w
+    → IsPerformed new behind (λ w'. ChangesWhole change s w w' (reply_of result))

@@ -1,8 +1,8 @@
 -- COMMIT over the stored tier. (TimesTen Cache User's Guide: asynchronous writethrough cache groups; tickets are this
 -- project's.)
 
-use Rattle.std.specs.Prelude.{◌≡◌, ℕ, zero, suc, ◌≤◌, List, [], ◌∷◌, Option, Some, None, Bool, ◌&&◌, not, Result, Ok, Err, is_some, length, map, slice_get}
-use Rattle.std.specs.List.{list_all}
+use Rattle.std.specs.Prelude.{◌≡◌, ℕ, zero, suc, ◌≤◌, List, [], ◌∷◌, Option, Some, None, Bool, true, false, ◌&&◌, not, Result, Ok, Err, is_some, length, map, slice_get}
+use Rattle.std.specs.List.{list_all, list_any}
 use Rattle.std.specs.Option.{option_and_then, option_or}
 use Rattle.tier_base.specs.declared.limit.Limit.TheVariants as limit
 use Rattle.tier_base.specs.declared.number.SessionId.{SessionId}
@@ -12,6 +12,7 @@ use Rattle.row_types.specs.declared.rule.Rule.{Rule}
 use Rattle.table_state.specs.declared.history.Sealed.{Sealed}
 use Rattle.table_state.specs.declared.operation.Op.{Op}
 use Rattle.table_state.specs.Operations.{table_of}
+use Rattle.instances.specs.Trees.{same_table}
 use Rattle.open_sessions.specs.Lookups.{open_ops}
 use Rattle.open_sessions.specs.Opening.{seen_all}
 use Rattle.group_store.specs.Stores.{Kept, op_done}
@@ -23,8 +24,15 @@ use Rattle.cache_tier.specs.Groups.{Group, is_synchronous, is_table_of, is_write
 use Rattle.cache_tier.specs.PassedSteps.{ticket_fault}
 use Rattle.cache_tier.specs.Rules.{at_limit}
 use Rattle.cache_tier.specs.TierStates.{Session, Tier}
-use Rattle.cache_tier.specs.Worlds.{Answer, only}
+use Rattle.cache_tier.specs.Worlds.{Answer, World, only}
+use Rattle.group_catalog.specs.Catalogs.{groups_in}
+use Rattle.statement_uses.specs.Touching.{HaveEntered, HaveRowsIn, newest_stores, touched_stores}
+use Rattle.session_engine.specs.Using.{Uses}
 use Rattle.stored_tier.specs.declared.tier.Tier.{Tier as Stored}
+use Rattle.stored_tier.specs.Answering.{Replies}
+use Rattle.stored_tier.specs.Lists.{hides_keys}
+use Rattle.stored_tier.specs.Performing.{StandsFor}
+use Rattle.stored_tier.specs.Stored.{HasSession}
 
 -- the session's writes under the next ticket
 abbrev pub sealed_next : Stored → SessionId → Sealed
@@ -80,9 +88,33 @@ are_housed directory ops = list_all (λ op. is_some (home_in directory op)) ops
 abbrev pub HaveRoomFor : ℕ → List Kept → Type 0
 HaveRoomFor n stores = (k : ℕ) (s : Kept) → slice_get stores k ≡ Some s → n ≤ s.spare
 
--- The stores have done the session's writes, but for room; where the commit is refused they are as they were.
+-- operations write no root table of a group that keeps hidden keys
+abbrev pub SparesHidden : List Group → List Op → Type 0
+SparesHidden groups ops =
+    (place : ℕ) (g : Group) → slice_get groups place ≡ Some g → hides_keys g ≡ true
+    → list_any (λ op. same_table g.def.tree.root.table (table_of op)) ops ≡ false
+
+-- Stores have done operations, and then these root keys became the newest of each. Where each has a row then, they stand
+-- at the end.
+pub record CommitsOps (directory : List (Option Home)) (ops : List Op) (entered : Uses) (old new : List Kept) : Type 0
+  where
+    pub touched : new ≡ touched_stores entered (ops_at directory ops old)
+    pub newest : HaveRowsIn entered (ops_at directory ops old) → new ≡ newest_stores entered (ops_at directory ops old)
+
+-- The stores of a tier have done operations, but for room; the root keys that these enter are the newest then.
+pub record StoresCommit (t : Stored) (ops : List Op) (stores : List Kept) : Type 0 where
+  pub entered : Uses
+  pub have : HaveEntered (groups_in t.catalog) (bare_all t.stores.items) ops entered
+  pub does : CommitsOps t.directory ops entered (bare_all t.stores.items) (bare_all stores)
+
+-- for each world for which the old tier stands a statement of the session of this number answers so
+abbrev pub AnswersInWorlds : Stored → Stored → SessionId → (Session → Tier → Option Rule) → (Session → Tier → Answer)
+    → Result Reply Refused → Type 0
+AnswersInWorlds old new id fault answer result =
+    (w : World) (s : Session) → StandsFor old w → HasSession old id s
+    → Replies new w.tier (fault s w.tier) (answer s w.tier) result
+
+-- The stores have done the session's writes; where the commit is refused they are as they were, but for room.
 abbrev pub StoresOps : Stored → Stored → SessionId → Result Reply Refused → Type 0
-StoresOps old new id (Ok reply) =
-    bare_all new.stores.items
-    ≡ ops_at old.directory (open_ops id (seen_all old.sessions)) (bare_all old.stores.items)
+StoresOps old new id (Ok reply) = StoresCommit old (open_ops id (seen_all old.sessions)) new.stores.items
 StoresOps old new id (Err refused) = bare_all new.stores.items ≡ bare_all old.stores.items

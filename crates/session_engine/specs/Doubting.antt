@@ -28,7 +28,10 @@ use Rattle.stored_tier.specs.Sites.{IsAt}
 use Rattle.stored_tier.specs.Stored.{HasSession, are_on}
 use Rattle.open_sessions.specs.Lookups.{open_ops}
 use Rattle.open_sessions.specs.Opening.{seen_all}
-use Rattle.session_engine.specs.Committing.{HaveRoomFor}
+use Rattle.group_catalog.specs.Catalogs.{groups_in}
+use Rattle.statement_uses.specs.Touching.{HaveEntered}
+use Rattle.session_engine.specs.Committing.{HaveRoomFor, SparesHidden, bare_all}
+use Rattle.session_engine.specs.Using.{Uses}
 use Rattle.session_engine.specs.declared.doubt.Doubt.{Doubt}
 use Rattle.session_engine.specs.declared.doubt.Doubted.{Doubted}
 use Rattle.session_engine.specs.declared.doubt.Doubted.TheVariants.{Commit, PassedWrite}
@@ -77,14 +80,21 @@ abbrev pub IsLeft : Stored → Option Doubt → World → Type 0
 IsLeft t None w = StandsFor t w
 IsLeft t (Some d) w = IsInDoubt d.of t d w
 
--- Of a commit what the session has written is kept with its ticket, and the stores have room for it.
-abbrev pub IsReadyFor : Doubted → SessionId → Stored → Type 0
-IsReadyFor (Commit ops) id t = (ops ≡ open_ops id (seen_all t.sessions)) × HaveRoomFor (length ops) t.stores.items
-IsReadyFor PassedWrite id t = Unit {0}
+-- What the session has written is kept with its ticket, and the stores have room for it. So are the root keys that it
+-- enters, and no hidden key is of it.
+pub record IsReadyCommit (ops : List Op) (entered : Uses) (id : SessionId) (t : Stored) : Type 0 where
+  pub own : ops ≡ open_ops id (seen_all t.sessions)
+  pub room : HaveRoomFor (length ops) t.stores.items
+  pub have : HaveEntered (groups_in t.catalog) (bare_all t.stores.items) ops entered
+  pub spared : SparesHidden (groups_in t.catalog) ops
+
+abbrev pub IsReadyFor : Doubted → Uses → SessionId → Stored → Type 0
+IsReadyFor (Commit ops) entered id t = IsReadyCommit ops entered id t
+IsReadyFor PassedWrite entered id t = Unit {0}
 
 abbrev pub IsReady : Stored → Option Doubt → Type 0
 IsReady t None = Unit {0}
-IsReady t (Some d) = IsReadyFor d.of d.session t
+IsReady t (Some d) = IsReadyFor d.of d.entered d.session t
 
 -- a world at the site behind, in which the new tier is left so, and which comes so
 pub record IsEnded (new : Stored) (doubt : Option Doubt) (site : SiteState) (does : World → Type 0) : Type 0 where

@@ -30,10 +30,9 @@ use Rattle.cache_tier.specs.TierStates.{Session, Tier}
 use Rattle.cache_tier.specs.Worlds.{IsUnshared, World}
 use Rattle.cache_tier.specs.declared.reply.Reply.{Reply}
 use Rattle.cache_tier.specs.Pending.{last_written}
-use Rattle.sql_query.specs.declared.write.Write.{Write}
-use Rattle.sql_subset.specs.declared.stmt.Stmt.TheVariants as statement
-use Rattle.session_engine.specs.Changing.{Changed, IsPrepared}
-use Rattle.stored_tier.specs.Performing.{ExecutesUnwritten, IsPerformed, StandsFor, reply_of}
+use Rattle.evaluator.specs.declared.change.Change.{Change}
+use Rattle.session_engine.specs.Changing.{Changed, ChangesUnwritten, IsPrepared}
+use Rattle.stored_tier.specs.Performing.{IsPerformed, StandsFor, reply_of}
 use Rattle.stored_tier.specs.Sites.{IsAt}
 use Rattle.outside.specs.Sites.{SiteState}
 use Rattle.session_engine.specs.declared.preparing.Prepared.{Prepared}
@@ -135,6 +134,5 @@ TakenIn old new id p x found result =
 -- in each world, the prepared write is done
 abbrev pub InsertsAt : Stored → Stored → SiteState → SiteState → SessionId → Prepared → Result Reply Refused → Type 0
 InsertsAt old new before behind id p result =
-    (w : World) (s : Session) (write : Write) → HasSession old id s → IsAt before w → StandsFor old w → IsUnshared w
-    → IsPrepared s write w p
-    → IsPerformed new behind (λ w'. ExecutesUnwritten (statement.Write write) s w w' (reply_of result))
+    (w : World) (s : Session) (change : Change) → HasSession old id s → IsAt before w → StandsFor old w → IsUnshared w
+    → IsPrepared s change w p → IsPerformed new behind (λ w'. ChangesUnwritten change s w w' (reply_of result))

@@ -4,6 +4,8 @@ pub mod Committing
 pub mod Copying
 pub mod Doubting
 pub mod Inserting
+pub mod Loading
 pub mod Passing
 pub mod Selecting
 pub mod Settling
+pub mod Using

@@ -1,7 +1,7 @@
 -- A write that is passed on, over the stored tier. (TimesTen Cache User's Guide, "Setting a passthrough level"; tickets and
 -- the journal are this project's.)
 
-use Rattle.std.specs.Prelude.{◌≡◌, ℕ, Option, Some, None, Result, Ok, Err, false}
+use Rattle.std.specs.Prelude.{◌≡◌, ℕ, [], Option, Some, None, Result, Ok, Err, false}
 use Rattle.tier_base.specs.declared.number.SessionId.{SessionId}
 use Rattle.row_types.specs.declared.rule.Refused.{Refused}
 use Rattle.evaluator.specs.declared.change.Change.{Change}
@@ -32,7 +32,7 @@ abbrev pub doubt_of : SessionId → ℕ → Result Wrote BankError → Option Do
 doubt_of id ticket (Ok (Rows n)) = None
 doubt_of id ticket (Ok (Broken rule)) = None
 doubt_of id ticket (Err Memory) = None
-doubt_of id ticket (Err Failed) = Some (record { ticket = ticket; session = id; of = PassedWrite })
+doubt_of id ticket (Err Failed) = Some (record { ticket = ticket; session = id; of = PassedWrite; entered = [] })
 
 -- For each world at the site before, for which the old tier stands, in which the table is of no writethrough group, and
 -- over whose disk the old journal is kept: a world at the site behind, which comes by the write that is passed on.

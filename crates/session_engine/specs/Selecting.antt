@@ -1,61 +1,69 @@
 -- SELECT over the stored tier. (TimesTen SQL Reference, "SELECT"; TimesTen Cache User's Guide, "Setting a passthrough
 -- level".)
 
-use Rattle.std.specs.Prelude.{◌≡◌, false, Result, Ok, Err}
-use Rattle.std.specs.List.{list_any}
+use Rattle.std.specs.Prelude.{◌≡◌, Result, Ok, Err}
 use Rattle.row_types.specs.declared.rule.Refused.{Refused}
 use Rattle.row_types.specs.declared.rule.Refused.TheVariants as refused
-use Rattle.evaluator.specs.declared.plan.Plan.{Plan}
+use Rattle.tier_base.specs.declared.number.SessionId.{SessionId}
 use Rattle.resolution.specs.declared.resolved.ResolvedQuery.{ResolvedQuery}
 use Rattle.resolution.specs.Queries.{query_seen, resolved_query}
 use Rattle.sql_query.specs.declared.query.Query.{Query}
-use Rattle.cache_tier.specs.declared.reply.Last.TheVariants.{No}
 use Rattle.cache_tier.specs.declared.reply.Reply.{Reply}
-use Rattle.cache_tier.specs.Recency.{after_query}
 use Rattle.cache_tier.specs.Routes as route
 use Rattle.cache_tier.specs.Routes.{query_route, visible}
-use Rattle.cache_tier.specs.SelectSteps.{Selects, SelectsPassed}
+use Rattle.cache_tier.specs.SelectSteps.{SelectsBy, SelectsPassed, SelectsShown, plan_of}
 use Rattle.cache_tier.specs.Shown.{seen_by}
 use Rattle.cache_tier.specs.TierStates.{Session, Tier, level_of}
-use Rattle.cache_tier.specs.Worlds.{Tries, World, only}
+use Rattle.cache_tier.specs.Worlds.{Part, Tries, World}
 use Rattle.outside.specs.Sites.{SiteState}
-use Rattle.session_engine.specs.declared.query.Selected.{Selected}
-use Rattle.session_engine.specs.declared.query.Selected.TheVariants.{Answered, PassedOn}
+use Rattle.tier_statements.specs.Answering.{IsAnswerTo}
+use Rattle.session_engine.specs.declared.query.Routed.{Routed}
+use Rattle.session_engine.specs.declared.query.Routed.TheVariants.{Cached, PassedOn}
+use Rattle.session_engine.specs.Using.{AreQueryUses, Touches, Uses}
 use Rattle.stored_tier.specs.declared.tier.Tier.{Tier as Stored}
-use Rattle.stored_tier.specs.Performing.{IsCalm, Performs, StaysWritten, reply_of}
-use Rattle.stored_tier.specs.Stored.{IsStoredAs}
+use Rattle.stored_tier.specs.Performing.{Performs, StaysWritten, reply_of}
+use Rattle.stored_tier.specs.Stored.{HasSession, ShowsRows}
 
--- no group loads on demand
-abbrev pub HasNoDynamic : Tier → Type 0
-HasNoDynamic a = list_any (λ g. g.def.dynamic) a.groups ≡ false
+-- the query's names are found, and it is answered there
+pub record IsRoutedQuery (a : Tier) (s : Session) (q : Query) (resolved : ResolvedQuery) (way : route.Route) : Type 0 where
+  pub is : resolved_query (visible (level_of s) a) q ≡ Ok (query_seen resolved)
+  pub there : query_route (level_of s) a (query_seen resolved).tables ≡ way
 
--- The world behind a query that is answered in the cache: the instances that it selects are used. Which were used last
--- isn't stored.
-abbrev pub after_select : Plan → Session → World → World
-after_select plan s w = record w { tier = after_query plan (seen_by s w.history w.tier) w.tier }
+-- where a query is answered, or the first rule that its names break; memory may be wanting at any time
+abbrev pub RoutesQuery : Tier → Session → Query → Result Routed Refused → Type 0
+RoutesQuery a s q (Ok (Cached resolved)) = IsRoutedQuery a s q resolved route.Cached
+RoutesQuery a s q (Ok (PassedOn resolved)) = IsRoutedQuery a s q resolved route.PassedOn
+RoutesQuery a s q (Err (refused.Rule rule)) = resolved_query (visible (level_of s) a) q ≡ Err rule
+RoutesQuery a s q (Err refused.Memory) = Unit {0}
 
--- the query is answered so, and the tier is stored as it was
-pub record IsSelected (t : Stored) (s : Session) (q : Query) (w : World) (reply : Reply) : Type 0 where
-  pub plan : Plan
-  pub selects : Selects s q w (after_select plan s w) reply
-  pub stored : IsStoredAs t (after_select plan s w).tier
+-- the query is answered in the cache, and the instances that it selects are used; the journal isn't written to
+abbrev pub SelectsUnwritten : ResolvedQuery → Session → Part
+SelectsUnwritten query s w w' reply = Tries (SelectsShown s (query_seen query)) w w' reply × StaysWritten w w'
 
--- its names are found, and it is for the backing database
-pub record IsPassedOn (s : Session) (q : Query) (w : World) (resolved : ResolvedQuery) : Type 0 where
-  pub is : resolved_query (visible (level_of s) w.tier) q ≡ Ok (query_seen resolved)
-  pub way : query_route (level_of s) w.tier (query_seen resolved).tables ≡ route.PassedOn
+-- the same, with what the query wants loaded before
+abbrev pub SelectsWhole : ResolvedQuery → Session → Part
+SelectsWhole query s w w' reply =
+    Tries (SelectsBy route.Cached s (query_seen query)) w w' reply × StaysWritten w w'
 
--- a reply from the cache tells no fault
-abbrev pub IsCalmHere : Selected → Type 0
-IsCalmHere (Answered reply) = IsCalm reply
-IsCalmHere (PassedOn resolved) = Unit {0}
+-- so a query is answered in each world
+abbrev pub AnswersInEach : Stored → SessionId → ResolvedQuery → Result Reply Refused → Type 0
+AnswersInEach t id query result =
+    (w : World) (s : Session) → ShowsRows t w → HasSession t id s
+    → IsAnswerTo query (seen_by s w.history w.tier) result
 
--- what becomes of a query, or the first rule that it breaks; memory may be wanting at any time
-abbrev pub SelectsHere : Stored → Session → Query → World → Result Selected Refused → Type 0
-SelectsHere t s q w (Ok (Answered reply)) = IsSelected t s q w reply
-SelectsHere t s q w (Ok (PassedOn resolved)) = IsPassedOn s q w resolved
-SelectsHere t s q w (Err (refused.Rule rule)) = Selects s q w w (only (No rule))
-SelectsHere t s q w (Err refused.Memory) = Unit {0}
+-- the reply is the query's, and the instances that it selects were used
+pub record IsSelected (old new : Stored) (id : SessionId) (query : ResolvedQuery) (reply : Reply) : Type 0 where
+  pub uses : Uses
+  pub are : AreQueryUses old id (plan_of query) uses
+  pub touches : Touches old new uses
+  pub answers : AnswersInEach old id query (Ok reply)
+
+-- or the first rule that it breaks; memory may be wanting at any time
+abbrev pub SelectsOver : Stored → Stored → SessionId → ResolvedQuery → Result Reply Refused → Type 0
+SelectsOver old new id query (Ok reply) = IsSelected old new id query reply
+SelectsOver old new id query (Err (refused.Rule rule)) =
+    (new ≡ old) × AnswersInEach old id query (Err (refused.Rule rule))
+SelectsOver old new id query (Err refused.Memory) = new ≡ old
 
 -- The query is answered at the backing database, over one state of it: the tier stays as it is, and the journal isn't
 -- written to.

@@ -17,10 +17,11 @@ ghost use Rattle.kept_journal.specs.Drafts.{IsDraftOf, is_full_draft};
 ghost use Rattle.stored_tier.specs.Performing.{Executes, IsCausedOver, reply_of};
 ghost use Rattle.stored_tier.specs.Stored.{IsSound, IsStoredAs, are_on};
 ghost use Rattle.session_engine.specs.AtOnce.{Concludes, Draws, Finishes, Rooms};
-ghost use Rattle.session_engine.specs.Committing.{HaveRoomFor, sealed_next};
-ghost use Rattle.session_engine.specs.Doubting.{EndsInOver, IsReady};
+ghost use Rattle.statement_uses.specs.Touching.{HaveEntered};
+ghost use Rattle.session_engine.specs.Committing.{HaveRoomFor, SparesHidden, bare_all, sealed_next};
+ghost use Rattle.session_engine.specs.Doubting.{EndsInOver, IsReady, IsReadyCommit};
 
-use crate::commit::{past, reserve_all, store_ops};
+use crate::commit::{commit_ops, past, reserve_all, spares_hidden};
 use crate::doubt::{Doubt, Doubted};
 use crate::drafting::draft_prepare;
 use crate::noting::{is_verified_for, note_verified};
@@ -32,11 +33,12 @@ use kept_journal::{Draft, flush_draft};
 use open_sessions::laws::label_law;
 use order_laws::flow_skip_law;
 use outside::{Applied, BankError, Site};
-use row_types::Refused;
+use row_types::{Key, Refused};
+use statement_uses::entered_by_ops;
 use std::alloc::{AllocError, Global};
 use stored_tier::tier::Tier;
 use table_state::{Op, Ops, Sealed, copied_ops};
-use tier_base::{Code, Limit, SessionId, Ticket};
+use tier_base::{Code, Limit, Seq, SessionId, Ticket};
 use tier_journal::TierJournal;
 use tier_statements::{done, faulty};
 
@@ -47,6 +49,8 @@ pub(crate) struct Ready {
     pub sealed: Sealed,
     /// The operations.
     pub ops: Ops,
+    /// For each group the root keys that they enter.
+    pub entered: Seq<Seq<Key>>,
 }
 
 /// COMMIT: of writes on tables of synchronous groups at the backing database, as `commit_at_once`; else as
@@ -203,15 +207,26 @@ fn make_ready(tier: &mut Tier, alloc: Global, id: SessionId) -> Result<Ready, Al
     requires { IsSound tier.old }
     ensures rooms { Rooms tier.old tier.new }
     ensures ops { IfOk result (λ ready. ready.ops ≡ open_ops id (seen_all tier.old.sessions)) }
+    ensures entered { IfOk result (λ ready. HaveEntered (groups_in tier.old.catalog) (bare_all tier.old.stores.items)
+        ready.ops ready.entered) }
+    ensures spared { IfOk result (λ ready. SparesHidden (groups_in tier.old.catalog) ready.ops) }
     ensures sealed { IfOk result (λ ready. ready.sealed
         ≡ record { ticket = record { 0 = tier.old.next }; ops = open_ops id (seen_all tier.old.sessions) }) }
     ensures room { IfOk result (λ ready. HaveRoomFor (length ready.ops) tier.new.stores.items) }
     ensures sound { IsSound tier.new }
 {
+    if !spares_hidden(&tier.catalog, tier.sessions.ops(id)) {
+        return Err(AllocError);
+    }
     let sealed = tier.sessions.seal(alloc, id, Ticket(tier.next))?;
     let ops = copied_ops(alloc, tier.sessions.ops(id))?;
+    let entered = entered_by_ops(alloc, &tier.catalog, tier.stores.as_slice(), &ops)?;
     reserve_all(alloc, &mut tier.stores, ops.len())?;
-    Ok(Ready { sealed, ops })
+    Ok(Ready {
+        sealed,
+        ops,
+        entered,
+    })
 }
 
 // What the bank's answer makes of the tier, and what is replied.
@@ -226,9 +241,8 @@ fn conclude(
     requires sound { IsSound tier.old }
     requires waits { WaitsForOne [] applied }
     requires free { doubt.old ≡ None }
-    requires ops { ready.ops ≡ open_ops id (seen_all tier.old.sessions) }
-    requires room { HaveRoomFor (length ready.ops) tier.old.stores.items }
-    ensures concludes { Concludes tier.old tier.new doubt.new id ready.sealed.ticket.0 applied result }
+    requires ready { IsReadyCommit ready.ops ready.entered id tier.old }
+    ensures concludes { Concludes ready.entered tier.old tier.new doubt.new id ready.sealed.ticket.0 applied result }
     ensures sound { IsSound tier.new }
     ensures ready { IsReady tier.new doubt.new }
 {
@@ -244,6 +258,7 @@ fn conclude(
                 ticket,
                 session: id,
                 of: Doubted::Commit(ready.ops),
+                entered: ready.entered,
             });
             faulty(alloc, Code::BackingFault)
         }
@@ -253,29 +268,31 @@ fn conclude(
 // The transaction is in the cache, too.
 fn finish(tier: &mut Tier, alloc: Global, id: SessionId, ready: Ready) -> Reply
     requires sound { IsSound tier.old }
-    requires ops { ready.ops ≡ open_ops id (seen_all tier.old.sessions) }
-    requires room { HaveRoomFor (length ready.ops) tier.old.stores.items }
+    requires ready { IsReadyCommit ready.ops ready.entered id tier.old }
     ensures finishes { Finishes tier.old tier.new id }
     ensures reply { result ≡ only (Done ready.sealed.ticket.0) }
     ensures sound { IsSound tier.new }
 {
-    let Ready { sealed, ops } = ready;
-    end_transaction(tier, id, ops);
+    let Ready {
+        sealed,
+        ops,
+        entered,
+    } = ready;
+    end_transaction(tier, id, ops, entered.as_slice());
     done(alloc, sealed.ticket.0)
 }
 
 /// The stores do a session's writes, and its transaction ends. It takes no memory.
-pub(crate) fn end_transaction(tier: &mut Tier, id: SessionId, ops: Ops)
+pub(crate) fn end_transaction(tier: &mut Tier, id: SessionId, ops: Ops, entered: &[Seq<Key>])
     requires sound { IsSound tier.old }
-    requires ops { ops ≡ open_ops id (seen_all tier.old.sessions) }
-    requires room { HaveRoomFor (length ops) tier.old.stores.items }
+    requires ready { IsReadyCommit ops entered.now id tier.old }
     ensures finishes { Finishes tier.old tier.new id }
     ensures sound { IsSound tier.new }
 {
     label_law();
     let known = is_verified_for(tier, ops.as_slice());
     tier.verified = false;
-    store_ops(&mut tier.stores, &tier.directory, ops);
+    commit_ops(&mut tier.stores, &tier.directory, ops, entered);
     tier.sessions.rest(id);
     note_verified(tier, known);
 }

@@ -1,7 +1,8 @@
 //! A ticket of which nobody knows whether its transaction came.
 
+use row_types::Key;
 use table_state::Ops;
-use tier_base::SessionId;
+use tier_base::{Seq, SessionId};
 
 /// What a ticket in doubt is of.
 #[derive(Drop)]
@@ -22,4 +23,6 @@ pub struct Doubt {
     pub session: SessionId,
     /// What the ticket is of.
     pub of: Doubted,
+    /// For each group the root keys that a commit enters.
+    pub entered: Seq<Seq<Key>>,
 }

@@ -7,9 +7,10 @@ ghost use Rattle.open_sessions.specs.Lookups.{room_of};
 ghost use Rattle.open_sessions.specs.Opening.{seen_all};
 ghost use Rattle.group_catalog.specs.Catalogs.{groups_in};
 ghost use Rattle.cache_tier.specs.StandingBetween.{are_written_through};
-ghost use Rattle.session_engine.specs.Changing.{Holds, HoldsNothing, IsUnbroken};
+ghost use Rattle.session_engine.specs.Changing.{Holds, HoldsNothing, HoldsUsed, IsUnbroken};
 ghost use Rattle.stored_tier.specs.Stored.{IsSound};
 
+use crate::using::{touch, write_uses};
 use group_catalog::Catalog;
 use std::alloc::{AllocError, Global};
 use stored_tier::tier::Tier;
@@ -21,12 +22,7 @@ use tier_base::SessionId;
 ///
 /// It fails for want of memory, and where they meet another session's lock, aren't on tables of writethrough groups, or
 /// are too many; the sessions then are as they were.
-pub(crate) fn hold(
-    tier: &mut Tier,
-    alloc: Global,
-    id: SessionId,
-    ops: Ops,
-) -> Result<(), AllocError>
+fn hold(tier: &mut Tier, alloc: Global, id: SessionId, ops: Ops) -> Result<(), AllocError>
     requires sound { IsSound tier.old }
     requires unbroken { IsUnbroken tier.old id ops }
     ensures ok { OnOk result (Holds tier.old tier.new id ops) }
@@ -38,6 +34,32 @@ pub(crate) fn hold(
     }
     tier.sessions.write(alloc, &tier.schema, id, ops)?;
     Ok(())
+}
+
+/// The same, and the instances that they change are used. It fails, too, where memory is wanting to tell which they are.
+pub(crate) fn hold_used(
+    tier: &mut Tier,
+    alloc: Global,
+    id: SessionId,
+    ops: Ops,
+) -> Result<(), AllocError>
+    requires sound { IsSound tier.old }
+    requires verified { tier.old.verified ≡ true }
+    requires unbroken { IsUnbroken tier.old id ops }
+    ensures ok { OnOk result (HoldsUsed tier.old tier.new id ops) }
+    ensures err { OnErr result (HoldsNothing tier.old tier.new) }
+    ensures sound { IsSound tier.new }
+{
+    match write_uses(tier, alloc, id, ops.as_slice()) {
+        Err(error) => Err(error),
+        Ok(uses) => match hold(tier, alloc, id, ops) {
+            Err(error) => Err(error),
+            Ok(()) => {
+                touch(tier, uses.as_slice());
+                Ok(())
+            }
+        },
+    }
 }
 
 // Whether operations may go behind those of a session.

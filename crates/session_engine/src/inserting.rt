@@ -101,6 +101,7 @@ fn take_in(
     found: Option<Row>,
 ) -> Result<Reply, Refused>
     requires sound { IsSound tier.old }
+    requires verified { tier.old.verified ≡ true }
     requires weighed { IsWeighed tier.old id prepared weighed }
     ensures taken { TakenIn tier.old tier.new id prepared weighed found result }
     ensures sound { IsSound tier.new }

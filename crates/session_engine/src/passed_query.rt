@@ -24,7 +24,7 @@ use tier_statements::{answer_query, bank_fault};
 /// as the evaluator tells it; or memory was wanting, which is also said where a row doesn't stand under its key or
 /// doesn't fit its table. (TimesTen SQL Reference, "SELECT"; TimesTen Cache User's Guide, "Setting a passthrough
 /// level".)
-pub(crate) fn select_passed<P: Site>(
+pub fn select_passed<P: Site>(
     alloc: Global,
     site: &mut P,
     query: &ResolvedQuery,

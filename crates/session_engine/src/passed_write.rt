@@ -19,7 +19,7 @@ use outside::{BankError, Done, Site};
 use row_types::Refused;
 use std::alloc::Global;
 use stored_tier::tier::Tier;
-use tier_base::{Code, Limit, SessionId, Ticket};
+use tier_base::{Code, Limit, Seq, SessionId, Ticket};
 use tier_journal::TierJournal;
 use tier_statements::{done, faulty, refuses};
 
@@ -33,7 +33,7 @@ use tier_statements::{done, faulty, refuses};
 /// was wanting there. It is 201 where that call failed, and the ticket is in doubt then. A ticket that was drawn isn't
 /// used again. (TimesTen Cache User's Guide, "Setting a passthrough level"; tickets and the journal are this
 /// project's.)
-pub(crate) fn pass_write<P: Site>(
+pub fn pass_write<P: Site>(
     tier: &mut Tier,
     alloc: Global,
     site: &mut P,
@@ -133,6 +133,7 @@ fn conclude_passed(
                 ticket,
                 session: id,
                 of: Doubted::PassedWrite,
+                entered: Seq::new(alloc),
             });
             faulty(alloc, Code::BackingFault)
         }

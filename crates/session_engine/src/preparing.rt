@@ -10,8 +10,7 @@ ghost use Rattle.cache_tier.specs.TierStates.{Session as OneSession, Tier as Abs
 ghost use Rattle.cache_tier.specs.Worlds.{World};
 ghost use Rattle.tier_statements.specs.Preparing.{inserted_row, prepared};
 ghost use Rattle.tier_statements.specs.Routing.{Routes};
-ghost use Rattle.session_engine.specs.Changing.{IsCachedWrite, IsUnbroken, Prepares};
-ghost use Rattle.sql_query.specs.declared.write.Write.{Write as OneWrite};
+ghost use Rattle.session_engine.specs.Changing.{IsUnbroken, Prepares};
 ghost use Rattle.stored_tier.specs.Stored.{HasSession, IsSound, IsStoredAs, ShowsRows, rows_of};
 
 use crate::query::level;
@@ -27,7 +26,7 @@ use stored_tier::tier::Tier;
 use table_state::Ops;
 use table_state::scan_laws::keyed_law;
 use tier_base::{SessionId, TableId};
-use tier_statements::{RoutedWrite, prepare_write, route_write};
+use tier_statements::{RoutedWrite, prepare_write};
 
 /// The operations of a write, and the table that it names.
 #[derive(Drop)]
@@ -69,8 +68,8 @@ impl tier_statements::Catalog for ByTable<'_> {
     }
 }
 
-/// The operations of a write of an open session whose names are found, and that is done in the cache, all tested that can
-/// be before the bank is asked.
+/// The operations of a write of an open session in the cache, whose names are found, all tested that can be before the
+/// bank is asked.
 pub(crate) fn prepare(
     tier: &Tier,
     alloc: Global,
@@ -79,9 +78,8 @@ pub(crate) fn prepare(
 ) -> Result<Prepared, Refused>
     requires sound { IsSound tier.now }
     requires verified { tier.now.verified ≡ true }
-    ensures prepared { (w : World) (s : OneSession) (write : OneWrite) → IsStoredAs tier.now w.tier
-        → ShowsRows tier.now w → HasSession tier.now id s → IsCachedWrite w.tier s write change.now
-        → Prepares s write w result }
+    ensures prepared { (w : World) (s : OneSession) → IsStoredAs tier.now w.tier → ShowsRows tier.now w
+        → HasSession tier.now id s → Prepares s change.now w result }
     ensures unbroken { IfOk result (λ p. inserted_row p.ops ≡ None → IsUnbroken tier.now id p.ops) }
 {
     tier_law();
@@ -95,9 +93,12 @@ pub(crate) fn prepare(
     }
 }
 
-/// A write of an open session with its names found, and where it is done; or the first rule that it breaks before that;
-/// or memory was wanting.
-pub(crate) fn routed(
+/// Finds the names of a write of an open session, and where it is done.
+///
+/// The refusal is the first rule that it breaks before that: 102, 103; 118, 104, 105; 121, 110, 117; or memory was
+/// wanting. (TimesTen SQL Reference, "INSERT", "UPDATE", "DELETE"; TimesTen Cache User's Guide, "Setting a passthrough
+/// level"; the codes and their order are this project's rule.)
+pub fn route_write(
     tier: &Tier,
     alloc: Global,
     id: SessionId,
@@ -110,7 +111,7 @@ pub(crate) fn routed(
     label_law();
     let groups = ByTable(&tier.catalog);
     let level = level(tier, id);
-    route_write(
+    tier_statements::route_write(
         alloc,
         &groups,
         &tier.schema,

@@ -1,6 +1,6 @@
 //! SELECT.
 
-ghost use Rattle.std.specs.Prelude.{◌≡◌, [], IfErr, IfOk, true};
+ghost use Rattle.std.specs.Prelude.{◌≡◌, [], true};
 ghost use Rattle.std.specs.List.{list_all, list_any};
 ghost use Rattle.resolution.specs.Queries.{query_seen};
 ghost use Rattle.tier_statements.specs.Answering.{IsAnswerTo};
@@ -10,8 +10,7 @@ ghost use Rattle.cache_tier.specs.Routes.{is_cached, visible};
 ghost use Rattle.cache_tier.specs.Shown.{seen_by};
 ghost use Rattle.cache_tier.specs.TierStates.{Session as OneSession, Tier as AbstractTier, level_of};
 ghost use Rattle.cache_tier.specs.Worlds.{World};
-ghost use Rattle.session_engine.specs.Selecting.{HasNoDynamic, IsCalmHere, SelectsHere};
-ghost use Rattle.session_engine.specs.declared.query.Selected.TheVariants.{Answered};
+ghost use Rattle.session_engine.specs.Selecting.{RoutesQuery};
 ghost use Rattle.stored_tier.specs.Performing.{IsCalm, reply_of};
 ghost use Rattle.stored_tier.specs.Stored.{HasSession, IsSound, IsStoredAs, ShowsRows};
 
@@ -30,40 +29,37 @@ use table_state::scan_laws::keyed_law;
 use tier_base::{SessionId, TableId};
 use tier_statements::answer_query;
 
-/// What becomes of a query that breaks no rule of its names.
+/// A query with its names found, and where it is answered.
 #[derive(Drop)]
-pub enum Selected {
-    /// It is answered in the cache.
-    Answered(Reply),
-    /// It is for the backing database, whole.
+pub enum Routed {
+    /// In the cache, over what the session sees.
+    Cached(ResolvedQuery),
+    /// At the backing database, whole.
     PassedOn(ResolvedQuery),
 }
 
-/// SELECT of an open session: it is answered in the cache, over what the session sees; or it is for the backing
-/// database, at level 3 and where a table isn't cached. The tier stays as it is.
+/// Finds the names of a query of an open session, and where it is answered: at the backing database at level 3 and where
+/// a table isn't cached, else in the cache.
 ///
-/// The refusal is the first broken rule: that of its names over the tables that the session's level lets it see, or
-/// what the evaluator tells of it; or memory was wanting. (TimesTen SQL Reference, "SELECT"; TimesTen Cache User's
-/// Guide, "Setting a passthrough level".)
-pub fn select_rows(
+/// The refusal is the first broken rule of its names over the tables that the session's level lets it see; or memory was
+/// wanting. (TimesTen SQL Reference, "SELECT"; TimesTen Cache User's Guide, "Setting a passthrough level".)
+pub fn route_query(
     tier: &Tier,
     alloc: Global,
     id: SessionId,
     query: &Query,
-) -> Result<Selected, Refused>
+) -> Result<Routed, Refused>
     requires sound { IsSound tier.now }
-    requires verified { tier.now.verified ≡ true }
     requires simple { query.now.groups ≡ [] }
-    ensures calm { IfOk result IsCalmHere }
-    ensures selects { (w : World) (s : OneSession) → IsStoredAs tier.now w.tier → ShowsRows tier.now w
-        → HasNoDynamic w.tier → HasSession tier.now id s → SelectsHere tier.now s query.now w result }
+    ensures { (a : AbstractTier) (s : OneSession) → IsStoredAs tier.now a → HasSession tier.now id s
+        → RoutesQuery a s query.now result }
 {
     let level = level(tier, id);
     let resolved = resolve_query(alloc, names(tier, level), query)?;
     if level < 3 && has_all(tier, tables_of(&resolved)) {
-        answered(answer(tier, alloc, id, &resolved))
+        Ok(Routed::Cached(resolved))
     } else {
-        Ok(Selected::PassedOn(resolved))
+        Ok(Routed::PassedOn(resolved))
     }
 }
 
@@ -98,8 +94,8 @@ fn has_all(tier: &Tier, tables: &[TableId]) -> bool
     have_all(&tier.catalog, tables)
 }
 
-// The answer to a query over what a session sees.
-fn answer(
+/// The answer to a query over what a session sees.
+pub(crate) fn answer(
     tier: &Tier,
     alloc: Global,
     id: SessionId,
@@ -125,17 +121,6 @@ fn have_all(catalog: &Catalog, tables: &[TableId]) -> bool
         tables.now }
 {
     tables.iter().all(|table| catalog.has_table(*table))
-}
-
-// A reply as an answer in the cache.
-fn answered(answer: Result<Reply, Refused>) -> Result<Selected, Refused>
-    ensures ok { IfOk answer (λ reply. result ≡ Ok (Answered reply)) }
-    ensures err { IfErr answer (λ error. result ≡ Err error) }
-{
-    match answer {
-        Ok(reply) => Ok(Selected::Answered(reply)),
-        Err(refused) => Err(refused),
-    }
 }
 
 /// The tables of a query.

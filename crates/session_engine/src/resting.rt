@@ -15,10 +15,11 @@ ghost use Rattle.stored_tier.specs.Stored.{IsSound};
 
 use crate::commit::may_wait;
 use crate::passed_query::select_passed;
-use crate::query::{Selected, select_rows};
+use crate::query::{Routed, route_query};
 use crate::recording::commit_recorded;
+use crate::selecting::select_whole;
 use cache_tier::reply::Reply;
-use cache_tier::{session_law, use_shown_law};
+use cache_tier::session_law;
 use group_catalog::{KeptGroup, resolve_which};
 use open_sessions::laws::label_law;
 use outside::Site;
@@ -122,8 +123,9 @@ pub fn flush_group(
     }
 }
 
-/// SELECT without GROUP BY: as `select_rows` answers it in the cache, or as `select_passed` does at the backing
-/// database. It writes nothing to the journal.
+/// SELECT without GROUP BY: as `select_cached` answers it, or as `select_passed` does at the backing database. It
+/// writes nothing to the journal. Nothing is loaded so far: one in the cache that wants an instance of a group that
+/// loads on demand, and isn't shown, is answered with want of memory.
 pub fn run_query<P: Site>(
     tier: &mut Tier,
     alloc: Global,
@@ -149,14 +151,10 @@ pub fn run_query<P: Site>(
     ensures certain { KeepsCertain P.Disk.state P.Disk.possible site.old site.new }
     ensures disk { (P.Disk.state site.new).disk_faults ≡ (P.Disk.state site.old).disk_faults }
 {
-    use_shown_law();
-    match tier.verify(alloc) {
-        Err(_) => Err(Refused::Memory),
-        Ok(()) => match select_rows(tier, alloc, id, query) {
-            Err(refused) => Err(refused),
-            Ok(Selected::Answered(reply)) => Ok(reply),
-            Ok(Selected::PassedOn(resolved)) => select_passed(alloc, site, &resolved),
-        },
+    match route_query(tier, alloc, id, query) {
+        Err(refused) => Err(refused),
+        Ok(Routed::Cached(resolved)) => select_whole(tier, alloc, id, resolved),
+        Ok(Routed::PassedOn(resolved)) => select_passed(alloc, site, &resolved),
     }
 }
 

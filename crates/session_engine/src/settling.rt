@@ -4,7 +4,7 @@ ghost use Rattle.std.specs.Prelude.{◌≡◌, None, OnOk, Some};
 ghost use Rattle.cache_tier.specs.DueWork.{DueDoubt};
 ghost use Rattle.propagators.specs.Certainty.{KeepsCertain};
 ghost use Rattle.stored_tier.specs.Stored.{IsSound};
-ghost use Rattle.session_engine.specs.Doubting.{IsReady, IsReadyFor, Leads};
+ghost use Rattle.session_engine.specs.Doubting.{IsReady, IsReadyCommit, Leads};
 ghost use Rattle.session_engine.specs.declared.doubt.Doubted.TheVariants.{Commit};
 ghost use Rattle.session_engine.specs.Settling.{Forgets, IsAsked, KeepsRest, Settles, end_of, note_for, note_of, told_of};
 
@@ -15,9 +15,10 @@ use cache_tier::{commit_shown_law, others_shown_law, round_shown_law, session_la
 use open_sessions::laws::label_law;
 use order_laws::flow_skip_law;
 use outside::{BankError, Site};
+use row_types::Key;
 use stored_tier::tier::Tier;
 use table_state::Ops;
-use tier_base::{SessionId, Ticket};
+use tier_base::{Seq, SessionId, Ticket};
 
 /// Settles a doubt, where there is one. Where a commit stands at the backing database (131) the stores do it, and where
 /// it doesn't (132) what the session has written is forgotten; its transaction ends in both cases. Behind a write that
@@ -78,23 +79,24 @@ fn settle(tier: &mut Tier, asked: Doubt, stands: bool) -> Note
         ticket,
         session,
         of,
+        entered,
     } = asked;
     match of {
-        Doubted::Commit(ops) => settle_commit(tier, session, ops, stands),
+        Doubted::Commit(ops) => settle_commit(tier, session, ops, entered.as_slice(), stands),
         Doubted::PassedWrite => {}
     }
     note_of(ticket, stands)
 }
 
 // What the session has written is done in the stores, or forgotten.
-fn settle_commit(tier: &mut Tier, id: SessionId, ops: Ops, stands: bool)
+fn settle_commit(tier: &mut Tier, id: SessionId, ops: Ops, entered: &[Seq<Key>], stands: bool)
     requires sound { IsSound tier.old }
-    requires ready { IsReadyFor (Commit ops) id tier.old }
+    requires ready { IsReadyCommit ops entered.now id tier.old }
     ensures settles { Settles (Commit ops) tier.old tier.new id stands }
     ensures sound { IsSound tier.new }
 {
     if stands {
-        end_transaction(tier, id, ops);
+        end_transaction(tier, id, ops, entered);
     } else {
         forget(tier, id);
     }

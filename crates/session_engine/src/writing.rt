@@ -1,20 +1,21 @@
 //! INSERT, UPDATE and DELETE of a session.
 
-ghost use Rattle.std.specs.Prelude.{◌≡◌, None};
+ghost use Rattle.std.specs.Prelude.{◌≡◌, None, true};
 ghost use Rattle.std.specs.List.{list_all};
 ghost use Rattle.sql_subset.specs.declared.stmt.Stmt.TheVariants as statement;
 ghost use Rattle.transactions.specs.Transactions.{rows_in};
-ghost use Rattle.session_engine.specs.Changing.{is_change, Changed, IsUnbroken, WritesCached};
+ghost use Rattle.session_engine.specs.Changing.{is_change, Changed, IsUnbroken, WritesCached, WritesWhole};
 ghost use Rattle.session_engine.specs.Doubting.{EndsInOver, IsReady};
 ghost use Rattle.propagators.specs.Certainty.{KeepsCertain};
 ghost use Rattle.stored_tier.specs.Performing.{Executes, IsCalm, IsCaused, IsCausedOver, reply_of};
 ghost use Rattle.stored_tier.specs.Stored.{IsSound};
 
 use crate::doubt::Doubt;
-use crate::holding::hold;
+use crate::holding::hold_used;
 use crate::inserting::insert_rows;
 use crate::passed_write::pass_write;
-use crate::preparing::{Prepared, prepare, routed};
+use crate::preparing::{Prepared, prepare, route_write};
+use crate::wanting::is_loaded_for_write;
 use cache_tier::laws::tier_law;
 use cache_tier::reply::Reply;
 use cache_tier::use_shown_law;
@@ -30,7 +31,9 @@ use tier_base::{SessionId, TableId};
 use tier_journal::TierJournal;
 use tier_statements::{Route, done};
 
-/// INSERT, UPDATE and DELETE of an open session: in the cache, as `write_cached`; or they are passed on, as `pass_write`.
+/// INSERT, UPDATE and DELETE of an open session: in the cache, as `write_cached`; or they are passed on, as
+/// `pass_write`. Nothing is loaded so far: one in the cache that wants an instance of a group that loads on demand,
+/// and isn't shown, is answered with want of memory.
 ///
 /// The refusal is the first broken rule: 102, 103; 118, 104, 105; 121, 110, 117; then as these tell; or memory was
 /// wanting. (TimesTen SQL Reference, "INSERT", "UPDATE", "DELETE"; TimesTen Cache User's Guide, "Setting a passthrough
@@ -55,25 +58,58 @@ pub fn write_rows<P: Site>(
         (P.Disk.state site.new)
         (reply_of result) }
 {
-    match routed(tier, alloc, id, write) {
+    match route_write(tier, alloc, id, write) {
         Err(refused) => Err(refused),
         Ok(routed) => match routed.route {
-            Route::Cached => write_cached(tier, alloc, site, id, &routed.change),
+            Route::Cached => write_whole(tier, alloc, site, id, &routed.change),
             Route::PassedOn => pass_write(tier, alloc, site, journal, id, &routed.change, doubt),
         },
     }
 }
 
+// A write of an open session in the cache, whose names are found, with what it wants loaded before.
+fn write_whole<P: Site>(
+    tier: &mut Tier,
+    alloc: Global,
+    site: &mut P,
+    id: SessionId,
+    named: &Change,
+) -> Result<Reply, Refused>
+    requires { IsSound tier.old }
+    ensures unwritten { WritesWhole tier.old tier.new
+        (P.Disk.state site.old)
+        (P.Disk.state site.new)
+        id named.now result }
+    ensures sound { IsSound tier.new }
+    ensures cause { IsCaused
+        (P.Disk.state site.old)
+        (P.Disk.state site.new)
+        (reply_of result) }
+    ensures certain { KeepsCertain P.Disk.state P.Disk.possible site.old site.new }
+    ensures disk { (P.Disk.state site.new).disk_faults ≡ (P.Disk.state site.old).disk_faults }
+{
+    match is_loaded_for_write(tier, alloc, named) {
+        Err(_) => Err(Refused::Memory),
+        Ok(loaded) => {
+            if !loaded {
+                return Err(Refused::Memory);
+            }
+            write_cached(tier, alloc, site, id, named)
+        }
+    }
+}
+
 /// A write of an open session in the cache, whose names are found: its operations stand behind the session's own, and
 /// hold the keys that they write and the parents that they name, until the transaction ends. The reply tells how many
-/// rows of the named table they write. The bank is asked for the key of an INSERT that isn't shown. The journal isn't
-/// written to.
+/// rows of the named table they write. The bank is asked for the key of an INSERT that isn't shown. In each group in
+/// which the order of last use counts, the instances that they change are used. Nothing is loaded for it, and the journal
+/// isn't written to.
 ///
 /// The refusal is the first broken rule: row by row 120, 105, 106; 119 of the operations; 111 with the holder of a key;
 /// 107, 108, 109. It is 201 where the bank's call failed; or memory was wanting. All then stays. (TimesTen SQL
 /// Reference, "INSERT", "UPDATE", "DELETE"; TimesTen Cache User's Guide, writethrough cache groups; the codes and their
 /// order are this project's rule.)
-pub(crate) fn write_cached<P: Site>(
+pub fn write_cached<P: Site>(
     tier: &mut Tier,
     alloc: Global,
     site: &mut P,
@@ -111,7 +147,7 @@ pub(crate) fn write_cached<P: Site>(
     }
 }
 
-/// Operations go behind the session's own.
+/// Operations go behind the session's own, and the instances that they change are used.
 pub(crate) fn change(
     tier: &mut Tier,
     alloc: Global,
@@ -119,13 +155,14 @@ pub(crate) fn change(
     prepared: Prepared,
 ) -> Result<Reply, Refused>
     requires sound { IsSound tier.old }
+    requires verified { tier.old.verified ≡ true }
     requires unbroken { IsUnbroken tier.old id prepared.ops }
     ensures changed { Changed tier.old tier.new id prepared result }
     ensures sound { IsSound tier.new }
     ensures calm { IsCalm (reply_of result) }
 {
     let rows = rows_in(prepared.table, prepared.ops.as_slice());
-    match hold(tier, alloc, id, prepared.ops) {
+    match hold_used(tier, alloc, id, prepared.ops) {
         Err(_) => Err(Refused::Memory),
         Ok(()) => Ok(done(alloc, rows as u64)),
     }

@@ -1,5 +1,5 @@
 -- The keys of the rows in slots.
-use Rattle.std.proofs.Common.{◌≡◌, ℕ, zero, suc, ◌<◌, Bool, true, false, cond, List, [], ◌∷◌, length, slice_get, Option, Some, None, Less, Equal, Greater, Ordering, unwrap_or, refl, sym, ap, subst, ◌∙◌, arith}
+use Rattle.std.proofs.Common.{◌≡◌, ℕ, zero, suc, ◌<◌, Bool, true, false, cond, List, [], ◌∷◌, length, slice_get, Option, Some, None, is_some, Less, Equal, Greater, Ordering, unwrap_or, refl, sym, ap, subst, ◌∙◌, arith}
 use Rattle.std.specs.List.{insert, remove}
 use Rattle.std.specs.Ordering.{eq_by_cmp, is_eq, nat_cmp}
 use Rattle.std.proofs.lemmas.Cmp.{nat_cmp_total, tied_itself}
@@ -9,6 +9,7 @@ use Rattle.row_types.specs.declared.value.Value.{Value}
 use Rattle.row_types.specs.Order.{key_order}
 use Rattle.row_types.proofs.OrderLaws.{key_exact}
 use Rattle.indexed_rows.specs.Places.{IsGapFor, IsKeyAt}
+use Rattle.indexed_rows.proofs.EntryLaws.{same_values}
 use Rattle.indexed_rows.proofs.MapLaws.{entries_of, has_key, no_key}
 use Rattle.indexed_rows.specs.Rows.{key_of}
 use Rattle.slot_rows.specs.Slots.{AreOrdered, entries_in, row_in, slots_of, table_in}
@@ -125,6 +126,15 @@ inside [] i x e = cc
 inside (y ∷ xs) zero x e = omega arith
 inside (y ∷ xs) (suc i) x e = let r = inside xs i x e in omega (arith, r)
 
+-- a key that is found has a place
+at_some : (es : List (Row × Row)) (k : Row) → is_some (fm.find key_order k es) ≡ true → (j : ℕ) × IsKeyAt es k j
+at_some [] k e = cc
+at_some (x ∷ es) k e = by (eq_by_cmp key_order k x.0) refl e (at_some es k)
+  where
+    by : (b : Bool) → eq_by_cmp key_order k x.0 ≡ b → is_some (cond b (Some x.1) (fm.find key_order k es)) ≡ true → (is_some (fm.find key_order k es) ≡ true → (j : ℕ) × IsKeyAt es k j) → (j : ℕ) × IsKeyAt (x ∷ es) k j
+    by true p e rest = (0, ap Some (sym (same_values k x.0 p)))
+    by false p e rest = let r = rest e in (suc r.0, r.1)
+
 -- the keys by slot of rows in order
 module _ (slab : Slab Row) (places : List ℕ) (entries : List Entry) (are : AreOrdered slab places entries) where
   got : (q : ℕ) → fm.get (slot_keys_in slab places entries) q ≡ fm.find nat_cmp q (slot_entries slab places (slots_of entries))
@@ -158,6 +168,19 @@ module _ (slab : Slab Row) (places : List ℕ) (entries : List Entry) (are : Are
   in_table slot k e =
       let w = slot_at_front slot k e in
       has_key (table_in slab places entries) k w.0 (subst (λ x. IsKeyAt (fm.entries (table_in slab places entries)) x w.0) w.2 (key_of_slot slab places entries are w.0 slot w.1))
+
+  -- a key in the table has a slot
+  pub in_slots : (k : Row) → fm.contains_key (table_in slab places entries) k ≡ true → (slot : ℕ) × (fm.get (slot_keys_in slab places entries) slot ≡ Some k)
+  in_slots k e =
+      let table = table_in slab places entries in
+      let found = at_some (fm.entries table) k (ap is_some (sym (fm.get-entries table k)) ∙ e) in
+      slot_at_key k found.0 found.1
+
+  -- and no other
+  pub one_slot : (k : Row) (slot other : ℕ) → fm.get (slot_keys_in slab places entries) slot ≡ Some k → fm.get (slot_keys_in slab places entries) other ≡ Some k → slot ≡ other
+  one_slot k slot other e f =
+      let w = slot_at_front slot k e in
+      only_slot k w.0 slot w.1 w.2 other f
 
   pub no_slot : (k : Row) (at : ℕ) → IsGapFor (fm.entries (table_in slab places entries)) k at → (slot : ℕ) → fm.get (slot_keys_in slab places entries) slot ≡ Some k → ⊥
   no_slot k at gap slot e = let z : true ≡ false = sym (in_table slot k e) ∙ no_key (table_in slab places entries) k at gap in cc

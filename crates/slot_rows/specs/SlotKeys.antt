@@ -77,6 +77,14 @@ LeavesSlot old new key =
     (fm.contains_key old.table key ≡ false → new.slots ≡ old.slots) ×
     ((slot : ℕ) → fm.get old.slots slot ≡ Some key → (new.slots ≡ fm.remove old.slots slot) × (new.vacant ≡ slot))
 
+-- the keys in slots are those that have rows, each in one slot
+pub record HasSlotKeys (held : RowsHeld) : Type 0 where
+  pub row : (slot : ℕ) (key : List Value) → fm.get held.slots slot ≡ Some key → fm.contains_key held.table key ≡ true
+  pub slot : (key : List Value) → fm.contains_key held.table key ≡ true
+      → (slot : ℕ) × (fm.get held.slots slot ≡ Some key)
+  pub only : (key : List Value) (slot other : ℕ) → fm.get held.slots slot ≡ Some key
+      → fm.get held.slots other ≡ Some key → slot ≡ other
+
 -- each row stands under its values at these columns
 abbrev pub IsKeyedBy : List ℕ → Table → Type 0
 IsKeyedBy places table = (key row : List Value) → fm.get table key ≡ Some row → key_of places row ≡ key

@@ -6,7 +6,7 @@ ghost use Rattle.indexed_rows.specs.Places.{IsKeyAt};
 ghost use Rattle.indexed_rows.specs.Rows.{key_of, put_in, put_over};
 ghost use Rattle.row_types.specs.declared.value.Value.{Value as OneValue};
 ghost use Rattle.slot_rows.specs.Orders.{HasBefore, IsRowWith, IsWider, TakesRow, first_columns, place_from};
-ghost use Rattle.slot_rows.specs.SlotKeys.{IsKeyedBy, IsPlaceOf, IsSlotOf, LeavesSlot, PutsInSlot};
+ghost use Rattle.slot_rows.specs.SlotKeys.{HasSlotKeys, IsKeyedBy, IsPlaceOf, IsSlotOf, LeavesSlot, PutsInSlot};
 
 use crate::compare::values_in;
 use crate::lead::lead_of_row;
@@ -106,6 +106,13 @@ impl SlotRows {
             Ok(place) => self.rows.get(self.by_key.slot_at(place)),
             Err(_) => None,
         }
+    }
+
+    /// The keys in slots are those that have rows, each in one slot. It does nothing.
+    pub fn slots_law(&self)
+        ensures { HasSlotKeys self.now }
+    {
+        let _ = self.by_key.entries.len();
     }
 
     /// The slot of the row of a key.

@@ -10,14 +10,14 @@ use Rattle.indexed_rows.specs.Rows.{Table}
 use Rattle.instances.specs.declared.tree.Child.{Child}
 use Rattle.instances.specs.declared.tree.Tree.{Tree}
 use Rattle.instances.specs.Trees.{table_of}
-use Rattle.instances.specs.Views.{child_rows, kept_at, root_rows, view_of, with_children}
+use Rattle.instances.specs.Views.{child_rows, kept_at, with_children}
 use Rattle.table_state.specs.Tables.{TableState}
 use Rattle.group_store.specs.Keeping.{layer_for, primary_of}
 use Rattle.group_store.specs.Stores.{AddsChild, IsNewStore, Kept, SameButSpare, put_rows, put_store, put_tables}
 use Rattle.group_store.specs.Shown.{foreign_key_of}
 use Rattle.group_store.specs.Trees.{key_at}
 use Rattle.stored_tier.proofs.StoreForms.{layers_put, row_more, same_both, same_rows, same_tables, table_more}
-use Rattle.stored_tier.specs.Filling.{bare_front, bare_store, parent_key, viewed_store}
+use Rattle.stored_tier.specs.Filling.{bare_front, bare_store, parent_key}
 
 -- lists by place
 
@@ -169,24 +169,13 @@ adds_so schema c old new key foreign key_is foreign_is adds = record {
   keys = adds.keys;
 }
 
-view_all : (s : TableState) (children : List Child) (kept : List Table) → length (with_children s children kept) ≡ length kept + length children
-view_all s [] kept = let z : length kept ≡ length kept + 0 = omega arith in z
-view_all s (c ∷ children) kept =
-    let rest = view_all s children (kept ++ child_rows s (kept_at kept c.parent) c ∷ []) in
+pub children_long : (s : TableState) (children : List Child) (kept : List Table) → length (with_children s children kept) ≡ length kept + length children
+children_long s [] kept = let z : length kept ≡ length kept + 0 = omega arith in z
+children_long s (c ∷ children) kept =
+    let rest = children_long s children (kept ++ child_rows s (kept_at kept c.parent) c ∷ []) in
     let more = longer kept (child_rows s (kept_at kept c.parent) c) in
     omega (arith, rest, more)
   where
     longer : (ts : List Table) (t : Table) → length (ts ++ t ∷ []) ≡ suc (length ts)
     longer [] t = refl
     longer (x ∷ ts) t = ap suc (longer ts t)
-
-pub view_fits : (schema : List TableDef) (tree : Tree) (s : TableState) (store : Kept) → SameButSpare (bare_store schema tree) store → length (view_of s tree) ≤ length store.layers + 1
-view_fits schema tree s store bare =
-    let long = view_all s tree.children (root_rows s tree.root ∷ []) in
-    let layers : length store.layers ≡ length tree.children = ap length bare.layers ∙ mapped_long (layer_for schema) tree.children in
-    omega (arith, long, layers)
-
-pub filled_so : (schema : List TableDef) (tree : Tree) (s : TableState) (rows : List Table) (bare store : Kept) → SameButSpare (bare_store schema tree) bare → rows ≡ view_of s tree → SameButSpare (put_tables 0 (map fm.values rows) bare) store → SameButSpare (viewed_store schema tree s) store
-filled_so schema tree s rows bare store is view filled =
-    same_both (viewed_store schema tree s) (put_tables 0 (map fm.values (view_of s tree)) bare) store (same_tables 0 (map fm.values (view_of s tree)) (bare_store schema tree) bare is)
-    (subst (λ r. SameButSpare (put_tables 0 (map fm.values r) bare) store) view filled)

@@ -1,6 +1,8 @@
+pub mod AnewLaws
 pub mod BankLaws
 pub mod DrainLaws
 pub mod LaterLaws
+pub mod ListLaws
 pub mod NamingLaws
 pub mod NewSlotLaws
 pub mod OverLaws

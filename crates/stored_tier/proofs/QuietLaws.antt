@@ -80,6 +80,7 @@ stored_noted t b a is = record {
   schema = is.schema;
   stale = is.stale;
   groups = is.groups;
+  lists = is.lists;
   sessions = is.sessions;
   unsettled = is.unsettled;
   next = is.next;

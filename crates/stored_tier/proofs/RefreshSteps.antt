@@ -1,25 +1,35 @@
 -- Steps of the loops of a refresh.
-use Rattle.std.proofs.Common.{◌≡◌, ◌≤◌, ◌<◌, ℕ, zero, suc, ◌+◌, Bool, true, false, cond, ◌&&◌, ◌||◌, nat_eq, nat_lt, ltb, Option, Some, None, is_some, List, [], ◌∷◌, ◌++◌, length, map, filter, find, get_or, set, slice_get, slice_set, take, drop, unwrap_or, count_by, refl, sym, ap, subst, ◌∙◌, append_assoc, arith}
+use Rattle.std.proofs.Common.{◌≡◌, ◌≤◌, ◌<◌, ◌⊎◌, inl, inr, ℕ, zero, suc, ◌+◌, Bool, true, false, not, cond, ◌&&◌, ◌||◌, nat_eq, nat_lt, ltb, Option, Some, None, Result, Ok, Err, IfOk, is_some, List, [], ◌∷◌, ◌++◌, length, map, filter, find, get_or, set, slice_get, slice_set, take, drop, unwrap_or, count_by, refl, sym, ap, subst, ◌∙◌, append_assoc, arith}
 use Rattle.std.proofs.lemmas.Bool.{eq-eqb, eqb-true}
-use Rattle.std.proofs.lemmas.List.{append-nil}
+use Rattle.std.proofs.lemmas.List.{append-nil, length-map, map-append}
 use Rattle.std.proofs.lemmas.List.Sums.{count_by_more_no, count_by_more_yes}
 use Rattle.std.specs.Option.{option_map}
-use Rattle.std.specs.List.{list_all, list_any}
+use Rattle.std.specs.List.{list_any}
+use Rattle.std.specs.FinMap.{contains_key, empty_of_len, entries, get-empty, len, len-entries}
+use Rattle.row_types.specs.Order.{key_order}
+use Rattle.row_types.specs.declared.value.Value.{Value}
+use Rattle.indexed_rows.specs.Places.{IsKeyAt}
+use Rattle.indexed_rows.specs.Rows.{Table}
+use Rattle.indexed_rows.proofs.EntryLaws.{same_itself}
+use Rattle.indexed_rows.proofs.MapLaws.{has_key}
+use Rattle.slot_rows.specs.SlotKeys.{RowsHeld}
 use Rattle.tier_base.specs.declared.number.TableId.{TableId}
-use Rattle.table_defs.specs.declared.definition.TableDef.{TableDef}
 use Rattle.table_state.specs.Tables.{TableState}
 use Rattle.instances.specs.declared.tree.Child.{Child}
 use Rattle.instances.specs.declared.tree.Tree.{Tree}
 use Rattle.group_store.specs.Stores.{Kept}
-use Rattle.order_laws.proofs.TruthLaws.{both_true}
+use Rattle.group_catalog.specs.Catalogs.{groups_in}
 use Rattle.cache_tier.specs.Commits.{tables_of}
-use Rattle.cache_tier.specs.Groups.{Group, is_explicit}
-use Rattle.cache_tier.specs.Sets.{Choice, alone, changed_from, has_something, is_in_set, shows_something}
-use Rattle.cache_tier.specs.TierStates.{SetState, is_of_interval}
+use Rattle.cache_tier.specs.Groups.{Group, is_key}
+use Rattle.cache_tier.specs.Sets.{Choice, alone, changed_from, has_something, holds_some, is_in_set, shows_something}
+use Rattle.cache_tier.specs.TierStates.{SetState, Tier, is_of_interval}
 use Rattle.stored_tier.specs.declared.moments.SetMoment.{SetMoment}
-use Rattle.stored_tier.specs.Refreshing.{AreMade, IsMade, exchanged, has_moment, is_chosen_by, is_chosen_in, is_noted, moment_in, moments_with, put_at, tables_read}
+use Rattle.stored_tier.specs.declared.refreshing.Made.{Made}
+use Rattle.stored_tier.specs.declared.tier.Tier.{Tier as Stored}
+use Rattle.stored_tier.specs.Stored.{IsStoredAs, without_list}
+use Rattle.stored_tier.specs.Refreshing.{AreMade, IsMade, IsMadeAt, exchanged, has_moment, is_chosen_by, is_chosen_in, is_noted, moment_in, moments_with, put_at, tables_read}
 use Rattle.stored_tier.specs.Moments.{refreshed_in, set_seen}
-use Rattle.stored_tier.proofs.FillSteps.{drop_one, drop_past, take_one, take_past}
+use Rattle.stored_tier.proofs.FillSteps.{drop_one, drop_past, mapped_at, take_one, take_past}
 
 drop_none : {X : Type 0} (l : List X) → drop 0 l ≡ l
 drop_none [] = refl
@@ -87,30 +97,67 @@ all_pushed tree i start now le before = before ∙ ap (λ l. start ++ tree.root.
 
 -- stores that are made
 
-abbrev pub MakesRest : Choice → List TableDef → TableState → List Group → ℕ → List (Option Kept) → Type 0
-MakesRest filled schema state groups i made =
-    (rest : List (Option Kept)) → AreMade filled schema state i (drop i groups) rest → AreMade filled schema state 0 groups (made ++ rest)
+pushed : {X : Type 0} (xs : List X) (x : X) (k : ℕ) (y : X) → slice_get (xs ++ x ∷ []) k ≡ Some y → (slice_get xs k ≡ Some y) ⊎ ((k ≡ length xs) × (x ≡ y))
+pushed [] x zero y at = inr (refl, (let same : x ≡ y = cc in same))
+pushed [] x (suc k) y at = cc
+pushed (z ∷ xs) x zero y at = inl at
+pushed (z ∷ xs) x (suc k) y at = later (pushed xs x k y at)
+  where
+    later : (slice_get xs k ≡ Some y) ⊎ ((k ≡ length xs) × (x ≡ y)) → (slice_get (z ∷ xs) (suc k) ≡ Some y) ⊎ ((suc k ≡ length (z ∷ xs)) × (x ≡ y))
+    later (inl e) = inl e
+    later (inr e) = inr (ap suc e.0, e.1)
 
-pub making_begun : (filled : Choice) (schema : List TableDef) (state : TableState) (groups : List Group) → MakesRest filled schema state groups 0 []
-making_begun filled schema state groups rest are = subst (λ l. AreMade filled schema state 0 l rest) (drop_none groups) are
+pushed_long : {X : Type 0} (xs : List X) (x : X) → length (xs ++ x ∷ []) ≡ length xs + 1
+pushed_long [] x = let one : 1 ≡ 0 + 1 = omega arith in one
+pushed_long (y ∷ xs) x = let rest = pushed_long xs x in omega (arith, rest)
 
-pub one_made : (filled : Choice) (schema : List TableDef) (state : TableState) (groups : List Group) (i : ℕ) (g : Group) (o : Option Kept) (made next : List (Option Kept)) → slice_get groups i ≡ Some g → IsMade (filled i g) schema g.def.tree state o → next ≡ made ++ o ∷ []
-    → MakesRest filled schema state groups i made → MakesRest filled schema state groups (i + 1) next
-one_made filled schema state groups i g o made next at is next_is before rest are =
-    let z : i + 1 ≡ suc i = omega arith in
-    subst (AreMade filled schema state 0 groups) (sym (append_assoc made (o ∷ []) rest) ∙ ap (λ l. l ++ rest) (sym next_is))
-    (before (o ∷ rest) (subst (λ l. AreMade filled schema state i l (o ∷ rest)) (sym (drop_one groups i g at)) (is, subst (λ n. AreMade filled schema state n (drop (i + 1) groups) rest) z are)))
+-- so many groups have what is made of them
+pub record MakesUpTo (filled : Choice) (t : Stored) (state : TableState) (n : ℕ) (made : List (Option Made)) : Type 0 where
+  pub long : length made ≡ n
+  pub each : (k : ℕ) (o : Option Made) → slice_get made k ≡ Some o → IsMadeAt filled t state k o
 
-pub all_made : (filled : Choice) (schema : List TableDef) (state : TableState) (groups : List Group) (i : ℕ) (made : List (Option Kept)) → length groups ≤ i → MakesRest filled schema state groups i made → AreMade filled schema state 0 groups made
-all_made filled schema state groups i made le before = subst (AreMade filled schema state 0 groups) (append-nil made) (before [] (subst (λ l. AreMade filled schema state i l []) (sym (drop_past groups i le)) tt))
+pub makes_none : (filled : Choice) (t : Stored) (state : TableState) → MakesUpTo filled t state 0 []
+makes_none filled t state = record { long = refl; each = λ k o at. cc }
+
+pub makes_more : (filled : Choice) (t : Stored) (state : TableState) (n : ℕ) (made next : List (Option Made)) (o : Option Made) → MakesUpTo filled t state n made → next ≡ made ++ o ∷ [] → IsMadeAt filled t state n o → MakesUpTo filled t state (n + 1) next
+makes_more filled t state n made next o before is one = record {
+  long = ap length is ∙ pushed_long made o ∙ ap (λ m. m + 1) before.long;
+  each = λ k x at. by k x (pushed made o k x (ap (λ l. slice_get l k) (sym is) ∙ at));
+}
+  where
+    by : (k : ℕ) (x : Option Made) → (slice_get made k ≡ Some x) ⊎ ((k ≡ length made) × (o ≡ x)) → IsMadeAt filled t state k x
+    by k x (inl at) = before.each k x at
+    by k x (inr last) = subst (λ m. IsMadeAt filled t state m x) (sym (last.0 ∙ before.long)) (subst (IsMadeAt filled t state n) last.1 one)
+
+pub makes_all : (filled : Choice) (t : Stored) (state : TableState) (n : ℕ) (made : List (Option Made)) → n ≡ length (groups_in t.catalog) → MakesUpTo filled t state n made → AreMade filled t.schema state (groups_in t.catalog) t.stores.items t.hidden.items made
+makes_all filled t state n made all makes = record {
+  long = makes.long ∙ all;
+  each = λ k g s h o at kept held there. makes.each k o there g s h at kept held;
+}
+
+pub if_made : {T E : Type 0} {P Q : T → Type 0} (r : Result T E) → ((o : T) → P o → Q o) → IfOk r P → IfOk r Q
+if_made (Ok o) step is = step o is
+if_made (Err e) step is = is
+
+pub made_at : (filled : Choice) (t : Stored) (state : TableState) (place : ℕ) (g : Group) (s : Kept) (h : RowsHeld) (o : Option Made) → Some g ≡ slice_get (groups_in t.catalog) place → Some s ≡ slice_get t.stores.items place → Some h ≡ slice_get t.hidden.items place → IsMade (filled place g) t.schema state g s h.table o
+    → IsMadeAt filled t state place o
+made_at filled t state place g s h o at kept held is x y z x_at y_at z_at =
+    let group : Some g ≡ Some x = at ∙ x_at in
+    let store : Some s ≡ Some y = kept ∙ y_at in
+    let hidden : Some h ≡ Some z = held ∙ z_at in
+    let same_group : g ≡ x = cc in
+    let same_store : s ≡ y = cc in
+    let same_hidden : h ≡ z = cc in
+    subst (λ (q : RowsHeld). IsMade (filled place x) t.schema state x y q.table o) same_hidden
+    (subst (λ q. IsMade (filled place x) t.schema state x q h.table o) same_store (subst (λ q. IsMade (filled place q) t.schema state q s h.table o) same_group is))
 
 -- stores that are exchanged
 
-none_made : (l : List Kept) → exchanged l [] ≡ l
+none_made : {X : Type 0} (l : List X) → exchanged l [] ≡ l
 none_made [] = refl
 none_made (z ∷ l) = refl
 
-pub last_put : (stores : List Kept) (front : List (Option Kept)) (o : Option Kept) → exchanged stores (front ++ o ∷ []) ≡ exchanged (put_at (length front) o stores) front
+last_put : {X : Type 0} (stores : List X) (front : List (Option X)) (o : Option X) → exchanged stores (front ++ o ∷ []) ≡ exchanged (put_at (length front) o stores) front
 last_put [] front None = refl
 last_put [] [] (Some s) = refl
 last_put [] (x ∷ front) (Some s) = refl
@@ -119,10 +166,23 @@ last_put (y ∷ stores) [] (Some s) = ap (λ l. s ∷ l) (none_made stores)
 last_put (y ∷ stores) (x ∷ front) None = ap (λ l. unwrap_or x y ∷ l) (last_put stores front None)
 last_put (y ∷ stores) (x ∷ front) (Some s) = ap (λ l. unwrap_or x y ∷ l) (last_put stores front (Some s))
 
-pub none_left : (stores : List Kept) (made : List (Option Kept)) → length made ≡ 0 → exchanged stores made ≡ stores
+none_left : {X : Type 0} (stores : List X) (made : List (Option X)) → length made ≡ 0 → exchanged stores made ≡ stores
 none_left [] [] e = refl
 none_left (y ∷ stores) [] e = refl
 none_left stores (x ∷ made) e = absurd (omega (arith, e))
+
+-- the last of what was made comes in its place
+pub put_last : {X : Type 0} (f : Made → X) (old new : List X) (made front : List (Option Made)) (o : Option Made) (n : ℕ) → made ≡ front ++ o ∷ [] → n ≡ length front → new ≡ put_at n (option_map f o) old
+    → exchanged new (map (option_map f) front) ≡ exchanged old (map (option_map f) made)
+put_last f old new made front o n made_is n_is is =
+    ap (λ l. exchanged l (map (option_map f) front)) is
+    ∙ ap (λ m. exchanged (put_at m (option_map f o) old) (map (option_map f) front)) (n_is ∙ sym (length-map front (option_map f)))
+    ∙ sym (last_put old (map (option_map f) front) (option_map f o))
+    ∙ ap (exchanged old) (sym (map-append (option_map f) front (o ∷ [])))
+    ∙ ap (λ l. exchanged old (map (option_map f) l)) (sym made_is)
+
+pub none_put : {X : Type 0} (f : Made → X) (old : List X) (made : List (Option Made)) → length made ≡ 0 → exchanged old (map (option_map f) made) ≡ old
+none_put f old made e = none_left old (map (option_map f) made) (length-map made (option_map f) ∙ e)
 
 -- positions that are given
 
@@ -348,13 +408,87 @@ counted_all test groups i size le before = before ∙ ap (count_by test) (take_p
 pub shows_one : (interval : ℕ) (groups : List Group) (i : ℕ) (g : Group) → slice_get groups i ≡ Some g → shows_something interval (drop i groups) ≡ ((is_in_set interval g && has_something g) || shows_something interval (drop (i + 1) groups))
 shows_one interval groups i g at = ap (shows_something interval) (drop_one groups i g at)
 
-pub explicit_there : (groups : List Group) (i : ℕ) (g : Group) → list_all is_explicit groups ≡ true → slice_get groups i ≡ Some g → is_explicit g ≡ true
-explicit_there [] i g all at = cc
-explicit_there (x ∷ groups) zero g all at = let same : x ≡ g = cc in ap is_explicit (sym same) ∙ (both_true (is_explicit x) (list_all is_explicit groups) all).0
-explicit_there (x ∷ groups) (suc i) g all at = explicit_there groups i g (both_true (is_explicit x) (list_all is_explicit groups) all).1 at
+some_at : {X : Type 0} (xs : List X) (i : ℕ) → i < length xs → (x : X) × (slice_get xs i ≡ Some x)
+some_at [] i lt = absurd (omega (arith, lt))
+some_at (x ∷ xs) zero lt = (x, refl)
+some_at (x ∷ xs) (suc i) lt = some_at xs i (omega (arith, lt))
 
-pub something_there : (g : Group) → is_explicit g ≡ true → has_something g ≡ g.loaded
-something_there g e = ap (λ b. cond b g.loaded (Rattle.cache_tier.specs.Sets.holds_some g.keys)) e
+-- what the group at a place shows in a set
+pub shows_there : (interval place : ℕ) (groups : List Group) (b : Bool) → place < length groups → ((g : Group) → slice_get groups place ≡ Some g → b ≡ (is_in_set interval g && has_something g))
+    → shows_something interval (drop place groups) ≡ (b || shows_something interval (drop (place + 1) groups))
+shows_there interval place groups b lt is =
+    let (g, at) = some_at groups place lt in
+    shows_one interval groups place g at ∙ ap (λ x. x || shows_something interval (drop (place + 1) groups)) (sym (is g at))
+
+pub none_shown : (interval place : ℕ) (groups : List Group) → length groups ≤ place → shows_something interval (drop place groups) ≡ false
+none_shown interval place groups le = ap (shows_something interval) (drop_past groups place le)
+
+pub all_shown : (interval : ℕ) (groups : List Group) → shows_something interval (drop 0 groups) ≡ shows_something interval groups
+all_shown interval groups = ap (shows_something interval) (drop_none groups)
+
+-- the group that is stored at a place
+pub stored_group : (t : Stored) (a : Tier) (place : ℕ) (g h : Group) → IsStoredAs t a → slice_get a.groups place ≡ Some g → Some h ≡ slice_get (groups_in t.catalog) place → h ≡ without_list g
+stored_group t a place g h is at there =
+    let both : Some h ≡ Some (without_list g) = there ∙ ap (λ l. slice_get l place) (sym is.groups) ∙ mapped_at without_list a.groups place g at in cc
+
+pub no_group_stored : (t : Stored) (a : Tier) (place : ℕ) (g : Group) → IsStoredAs t a → slice_get a.groups place ≡ Some g → None ≡ slice_get (groups_in t.catalog) place → ⊥
+no_group_stored t a place g is at there =
+    let both : None ≡ Some (without_list g) = there ∙ ap (λ l. slice_get l place) (sym is.groups) ∙ mapped_at without_list a.groups place g at in cc
+
+pub in_set_bare : (t : Stored) (a : Tier) (place interval : ℕ) (g h : Group) → IsStoredAs t a → slice_get a.groups place ≡ Some g → Some h ≡ slice_get (groups_in t.catalog) place → is_in_set interval h ≡ is_in_set interval g
+in_set_bare t a place interval g h is at there = ap (is_in_set interval) (stored_group t a place g h is at there)
+
+pub loaded_something : (t : Stored) (a : Tier) (place : ℕ) (g h : Group) → IsStoredAs t a → slice_get a.groups place ≡ Some g → Some h ≡ slice_get (groups_in t.catalog) place → h.def.dynamic ≡ false → h.loaded ≡ has_something g
+loaded_something t a place g h is at there explicit =
+    let same = stored_group t a place g h is at there in
+    let dynamic : g.def.dynamic ≡ false = ap (λ (x : Group). x.def.dynamic) (sym same) ∙ explicit in
+    ap (λ (x : Group). x.loaded) same ∙ sym (ap (λ b. cond (not b) g.loaded (holds_some g.keys)) dynamic)
+
+pub listed_something : (g : Group) (b : Bool) → g.def.dynamic ≡ true → b ≡ holds_some g.keys → b ≡ has_something g
+listed_something g b dynamic is = is ∙ sym (ap (λ d. cond (not d) g.loaded (holds_some g.keys)) dynamic)
+
+-- whether the list of a dynamic group has a key
+
+some_entry : (m : Table) → 0 < len m → (k : List Value) × (contains_key m k ≡ true)
+some_entry m lt =
+    let place = key_there m 0 lt in
+    (place.0, has_key m place.0 0 place.1)
+  where
+    key_there : (m : Table) (i : ℕ) → i < len m → (k : List Value) × IsKeyAt (entries m) k i
+    key_there m i h = by (entries m) i (subst (λ n. i < n) (len-entries m) h)
+      where
+        by : (es : List (List Value × List Value)) (i : ℕ) → i < length es → (k : List Value) × IsKeyAt es k i
+        by [] i h = absurd (omega (arith, h))
+        by (e ∷ es) zero h = (e.0, refl)
+        by (e ∷ es) (suc i) h = by es i (omega (arith, h))
+
+some_key : (keys : List (List Value)) (k : List Value) → is_key keys k ≡ true → holds_some keys ≡ true
+some_key [] k e = cc
+some_key (x ∷ keys) k e = refl
+
+no_entry : (m : Table) → nat_lt 0 (len m) ≡ false → (k : List Value) → contains_key m k ≡ false
+no_entry m none k = ap (λ (x : Table). contains_key x k) (empty_of_len m (let le : len m ≤ 0 = Rattle.std.proofs.Common.ltb-false 0 (len m) none in omega (arith, le))) ∙ ap is_some (get-empty key_order k)
+
+no_key : (keys : List (List Value)) → ((k : List Value) → is_key keys k ≡ false) → holds_some keys ≡ false
+no_key [] none = refl
+no_key (x ∷ keys) none = let wrong : true ≡ false = sym (ap (λ b. b || is_key keys x) (same_itself x x refl)) ∙ none x in cc
+
+-- of keys that are those of two tables
+pub some_held : (keys : List (List Value)) (roots hidden : Table) → ((k : List Value) → is_key keys k ≡ (contains_key roots k || contains_key hidden k)) → (nat_lt 0 (len roots) || nat_lt 0 (len hidden)) ≡ holds_some keys
+some_held keys roots hidden are = by (nat_lt 0 (len roots)) refl (nat_lt 0 (len hidden)) refl
+  where
+    or_true : (b : Bool) → (b || true) ≡ true
+    or_true true = refl
+    or_true false = refl
+
+    by : (a : Bool) → nat_lt 0 (len roots) ≡ a → (b : Bool) → nat_lt 0 (len hidden) ≡ b → (nat_lt 0 (len roots) || nat_lt 0 (len hidden)) ≡ holds_some keys
+    by true p b q =
+        let e = some_entry roots (Rattle.std.proofs.Common.ltb-true 0 (len roots) p) in
+        ap (λ x. x || nat_lt 0 (len hidden)) p ∙ sym (some_key keys e.0 (are e.0 ∙ ap (λ x. x || contains_key hidden e.0) e.1))
+    by false p true q =
+        let e = some_entry hidden (Rattle.std.proofs.Common.ltb-true 0 (len hidden) q) in
+        (λ i. p i || q i) ∙ sym (some_key keys e.0 (are e.0 ∙ ap (λ x. contains_key roots e.0 || x) e.1 ∙ or_true (contains_key roots e.0)))
+    by false p false q = (λ i. p i || q i) ∙ sym (no_key keys (λ k. are k ∙ (λ i. no_entry roots p k i || no_entry hidden q k i)))
 
 -- the moments so far
 

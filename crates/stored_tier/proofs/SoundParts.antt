@@ -18,6 +18,7 @@ use Rattle.stored_tier.specs.declared.tier.Tier.{Tier as Stored}
 use Rattle.stored_tier.specs.Stored.{AreKept, IsSound, named_where_cached}
 use Rattle.group_catalog.specs.Catalogs.{HaveOwnNames, is_plain}
 use Rattle.stored_tier.proofs.LaterLaws.{later_by}
+use Rattle.stored_tier.proofs.ListLaws.{hiding_defined}
 use Rattle.stored_tier.proofs.StoreChanges.{all_over_for, kept_defined}
 use Rattle.stored_tier.proofs.StoreRows.{place_same}
 
@@ -118,6 +119,7 @@ sound_regrouped t catalog s defs = record {
   stores = s.stores;
   kept = kept_defined t.schema (groups_in t.catalog) (groups_in catalog) t.stores.items defs s.kept;
   whole = s.whole;
+  hiding = hiding_defined t.schema (groups_in t.catalog) (groups_in catalog) t.stores.items t.hidden.items defs s.hiding;
   plain = all_plain (groups_in t.catalog) (groups_in catalog) defs s.plain;
   named = named_by (groups_in t.catalog) (groups_in catalog) defs s.named;
   visible = s.visible ∙ sym (visible_by (groups_in t.catalog) (groups_in catalog) t.schema defs);

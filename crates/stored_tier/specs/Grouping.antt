@@ -9,6 +9,7 @@ use Rattle.group_catalog.specs.Catalogs.{groups_in}
 use Rattle.group_store.specs.Keeping.{IsFor, layer_for, primary_of}
 use Rattle.group_store.specs.Shown.{foreign_key_of, homes_of}
 use Rattle.group_store.specs.Stores.{Kept}
+use Rattle.slot_rows.specs.SlotKeys.{RowsHeld}
 use Rattle.cache_tier.specs.Groups.{Group}
 use Rattle.stored_tier.specs.declared.tier.Tier.{Tier as Stored}
 use Rattle.stored_tier.specs.Stored.{named_where_cached}
@@ -30,11 +31,12 @@ pub record KeepsBesideGroups (t new : Stored) : Type 0 where
   pub next : new.next ≡ t.next
   pub clock : new.clock ≡ t.clock
 
--- these are the groups and their stores now; tables are named and found by them
-pub record HasGroups (t new : Stored) (all : List Group) (kept : List Kept) : Type 0 where
+-- these are the groups, their stores and their hidden rows now; tables are named and found by them
+pub record HasGroups (t new : Stored) (all : List Group) (kept : List Kept) (rows : List RowsHeld) : Type 0 where
   pub beside : KeepsBesideGroups t new
   pub groups : groups_in new.catalog ≡ all
   pub stores : new.stores.items ≡ kept
+  pub hidden : new.hidden.items ≡ rows
   pub visible : new.visible ≡ named_where_cached all t.schema
   pub directory : new.directory ≡ homes_of kept (length t.schema)
 
@@ -43,6 +45,7 @@ pub record KeepsGroups (t new : Stored) : Type 0 where
   pub beside : KeepsBesideGroups t new
   pub groups : groups_in new.catalog ≡ groups_in t.catalog
   pub stores : new.stores.items ≡ t.stores.items
+  pub hidden : new.hidden.items ≡ t.hidden.items
   pub visible : new.visible ≡ t.visible
   pub directory : new.directory ≡ t.directory
   pub verified : new.verified ≡ t.verified

@@ -1,6 +1,7 @@
 pub mod Answering
 pub mod Draining
 pub mod Grouping
+pub mod Lists
 pub mod Naming
 pub mod NewSlots
 pub mod Performing

@@ -25,6 +25,7 @@ use Rattle.cache_tier.specs.Shown.{shown_state}
 use Rattle.cache_tier.specs.TierStates.{Session, SetState, Settings, Tier}
 use Rattle.cache_tier.specs.Worlds.{World}
 use Rattle.tier_statements.specs.Seen.{session_seen}
+use Rattle.stored_tier.specs.Lists.{AreHiding, AreListed}
 use Rattle.stored_tier.specs.Moments.{refreshed_in, set_seen}
 use Rattle.stored_tier.specs.declared.clock.Pace.{Pace}
 use Rattle.stored_tier.specs.declared.clock.TierClock.{TierClock}
@@ -36,7 +37,13 @@ without_list g = record g { keys = [] }
 
 -- the settings that say when work is done
 abbrev pub pace_of : Settings → Pace
-pace_of settings = record { propagate_ms = settings.propagate_ms; rotate_bytes = settings.rotate_bytes }
+pace_of settings = record {
+  propagate_ms = settings.propagate_ms;
+  rotate_bytes = settings.rotate_bytes;
+  lru_high = settings.lru_high;
+  lru_low = settings.lru_low;
+  lru_cycle_ms = settings.lru_cycle_ms;
+}
 
 -- The clock is that of a tier: its moment, the console's additions, the last round tried, the last refresh of each set,
 -- and when work is done.
@@ -47,12 +54,13 @@ pub record KeepsTime (c : TierClock) (now added round : ℕ) (sets : List SetSta
   pub refreshes : (interval : ℕ) → refreshed_in sets interval ≡ refreshed_in (map set_seen c.sets.items) interval
   pub due : pace_of settings ≡ c.pace
 
--- What is stored is the abstract tier's. Its log, its other settings and the order of its keys aren't stored, and no
--- ticket of it is in doubt.
+-- What is stored is the abstract tier's. Its log and the number of its workers aren't stored, nor is the order of keys
+-- where it plays no part, and no ticket of it is in doubt.
 pub record IsStoredAs (t : Stored) (a : Tier) : Type 0 where
   pub schema : a.schema ≡ t.schema
   pub stale : a.stale ≡ t.stale
   pub groups : map without_list a.groups ≡ groups_in t.catalog
+  pub lists : AreListed a.groups t.stores.items t.hidden.items
   pub sessions : a.sessions ≡ map session_seen (seen_all t.sessions)
   pub unsettled : a.unsettled ≡ t.unsettled.items
   pub next : a.next ≡ t.next
@@ -111,6 +119,7 @@ first_unsettled (x ∷ unsettled) next = x.ticket.0
 --   stores    the tables of the groups are found by the directory, and their foreign keys are the schema's
 --   kept      each group's store has the tables of its tree
 --   whole     and rows for each of them
+--   hiding    each group has its hidden root rows, and room for more
 --   plain     the groups are such as the tier does
 --   named     no two of them have one name
 --   visible   the names that a session finds at level 0
@@ -123,6 +132,7 @@ pub record IsSound (t : Stored) : Type 0 where
   pub stores : AreHoused t.schema t.stores.items t.directory
   pub kept : AreKept t.schema (groups_in t.catalog) t.stores.items
   pub whole : AreWhole t.stores.items
+  pub hiding : AreHiding t.schema (groups_in t.catalog) t.stores.items t.hidden.items
   pub plain : list_all is_plain (groups_in t.catalog) ≡ true
   pub named : HaveOwnNames (groups_in t.catalog)
   pub visible : t.visible ≡ named_where_cached (groups_in t.catalog) t.schema

@@ -9,6 +9,12 @@ pub struct Pace {
     pub propagate_ms: u64,
     /// A round begins the journal's other slot anew where the live one is longer than so many bytes.
     pub rotate_bytes: u64,
+    /// An aging cycle by last use takes instances of a group that has more than so many,
+    pub lru_high: u64,
+    /// until so many are left.
+    pub lru_low: u64,
+    /// After how many milliseconds the next such cycle is due.
+    pub lru_cycle_ms: u64,
 }
 
 /// The tier's clock, and when what is due was done last. Moments are in milliseconds since 1970.

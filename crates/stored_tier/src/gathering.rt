@@ -240,7 +240,7 @@ pub fn foreign_places(foreign_key: &Option<ForeignKey>) -> &[usize]
 }
 
 // Whether the WHERE selects the row; one that is 120 on it doesn't, and where there is none each row is selected.
-fn selects(filter: &Option<Cond>, row: &Row) -> bool
+pub(crate) fn selects(filter: &Option<Cond>, row: &Row) -> bool
     ensures { result ≡ selects filter.now row.now }
 {
     match filter {
@@ -253,7 +253,12 @@ fn selects(filter: &Option<Cond>, row: &Row) -> bool
 }
 
 // Puts a copy of a row in where its key has none.
-fn add_copy(alloc: Global, out: &mut Rows, key: &Key, row: &Row) -> Result<(), AllocError>
+pub(crate) fn add_copy(
+    alloc: Global,
+    out: &mut Rows,
+    key: &Key,
+    row: &Row,
+) -> Result<(), AllocError>
     ensures { OnOk result (out.new ≡ added out.old key.now row.now) }
 {
     let key = key.copied(alloc)?;

@@ -1,20 +1,28 @@
 //! A refresh of READONLY groups from one snapshot.
 
-ghost use Rattle.std.specs.Prelude.{◌≡◌, ◌&&◌, ◌++◌, ℕ, IfOk, OnOk, count_by, true};
+ghost use Rattle.std.specs.Prelude.{◌≡◌, ◌&&◌, ◌||◌, ◌++◌, ℕ, Some, IfOk, OnOk, count_by, nat_lt, slice_get, slice_set, true};
+ghost use Rattle.std.specs.FinMap.{len};
+ghost use Rattle.instances.specs.Views.{kept_at};
+ghost use Rattle.group_store.specs.Stores.{HasRootKeys};
 ghost use Rattle.cache_tier.specs.Commits.{tables_of};
-ghost use Rattle.std.specs.List.{list_all};
+ghost use Rattle.std.specs.Option.{option_copied, option_map};
 ghost use Rattle.instances.specs.Trees.{is_place};
-ghost use Rattle.cache_tier.specs.Groups.{is_explicit, is_on, is_read_only};
-ghost use Rattle.cache_tier.specs.Sets.{changed_from, is_in_set, shows_something};
+ghost use Rattle.cache_tier.specs.Groups.{Group as OneGroup, is_on, is_read_only};
+ghost use Rattle.cache_tier.specs.Sets.{changed_from, has_something, holds_some, is_in_set, shows_something};
+ghost use Rattle.cache_tier.specs.TierStates.{Tier as AbstractTier};
 ghost use Rattle.group_catalog.specs.Catalogs.{groups_in};
 ghost use Rattle.group_catalog.specs.Kept.{group_seen};
-ghost use Rattle.stored_tier.specs.Refreshing.{AreMade, IsMade, choice_of, exchanged, has_moment, is_chosen_in, is_filled, is_off, is_reloaded, is_shown_again, moment_in, moments_with, positioned, put_at, tables_read};
+ghost use Rattle.stored_tier.specs.Stored.{IsSound, IsStoredAs};
+ghost use Rattle.stored_tier.specs.declared.refreshing.Made.{Made as OneMade};
+ghost use Rattle.stored_tier.specs.Refreshing.{AreMade, IsMade, IsMadeAnew, IsMadeAt, choice_of, exchanged, has_moment, is_chosen_in, is_filled, is_off, is_reloaded, is_shown_again, made_hidden, made_stores, moment_in, moments_with, positioned, put_at, tables_read};
 
-use crate::filling::viewed_store;
+use crate::filling::{none_hidden, store_anew};
 use crate::moments::SetMoment;
+use crate::tier::Tier;
 use group_catalog::{Catalog, KeptGroup};
 use group_store::Store;
 use instances::Tree;
+use slot_rows::SlotRows;
 use sql_subset::stmt::{GroupKind, RefreshState};
 use std::alloc::{AllocError, Global};
 use table_defs::BackingSchema;
@@ -141,74 +149,158 @@ fn push_tables(tables: &mut Vec<TableId>, tree: &Tree) -> Result<(), AllocError>
     Ok(())
 }
 
-/// The stores of the chosen groups that are loaded, or are so from now on, with their views of these tables; none for the
-/// other groups.
-pub fn made_stores(
+/// What is made of a group for a refresh.
+pub struct Made {
+    /// Its store.
+    pub store: Store,
+    /// Its hidden root rows: none, with room for those of the store, where it hides some.
+    pub hidden: SlotRows,
+}
+
+impl Drop for Made {
+    fn drop(self) {
+        let Self {
+            store: _,
+            hidden: _,
+        } = self;
+    }
+}
+
+impl Made {
+    fn into_parts(self) -> (Store, SlotRows)
+        ensures { result ≡ (self.store, self.hidden) }
+    {
+        let Self { store, hidden } = self;
+        (store, hidden)
+    }
+}
+
+/// What is made of the chosen groups that are dynamic, or loaded, or are so from now on, with the instances of these
+/// tables that they show; nothing for the other groups. The stores are theirs, and these are their hidden root rows.
+pub fn make_stores(
     alloc: Global,
-    schema: &BackingSchema,
-    catalog: &Catalog,
+    tier: &Tier,
     chosen: Chosen,
     loads: Option<usize>,
     tables: &Tables,
-) -> Result<Vec<Option<Store>>, AllocError>
-    ensures { IfOk result (λ made. AreMade (is_filled (choice_of chosen) loads) schema.now tables.now 0
-        (groups_in catalog.now) made.items) }
+) -> Result<Vec<Option<Made>>, AllocError>
+    ensures { IfOk result (λ made. AreMade (is_filled (choice_of chosen) loads) tier.now.schema tables.now
+        (groups_in tier.now.catalog) tier.now.stores.items tier.now.hidden.items made.items) }
 {
     let mut made = Vec::new(alloc);
-    for place in 0..catalog.len() {
-        let Some(group) = catalog.get(place) else {
-            return Err(AllocError);
-        };
-        let filled = is_filled(chosen, loads, place, group);
-        let store = made_store(alloc, schema, group, filled, tables)?;
-        made.push(store)?;
+    for place in 0..tier.catalog.len() {
+        let one = make_at(alloc, tier, chosen, loads, place, tables)?;
+        made.push(one)?;
     }
     Ok(made)
 }
 
-// Whether the group at a place is chosen, and is loaded, or is so from now on.
+// The same of the group at a place.
+fn make_at(
+    alloc: Global,
+    tier: &Tier,
+    chosen: Chosen,
+    loads: Option<usize>,
+    place: usize,
+    tables: &Tables,
+) -> Result<Option<Made>, AllocError>
+    ensures { IfOk result (IsMadeAt (is_filled (choice_of chosen) loads) tier.now tables.now place) }
+{
+    match tier.catalog.get(place) {
+        None => Err(AllocError),
+        Some(group) => match store_at(tier, place) {
+            None => Err(AllocError),
+            Some(store) => match hidden_at(tier, place) {
+                None => Err(AllocError),
+                Some(hidden) => {
+                    let filled = is_filled(chosen, loads, place, group);
+                    make_where(alloc, &tier.schema, group, filled, store, hidden, tables)
+                }
+            },
+        },
+    }
+}
+
+// Whether the group at a place is chosen, and is dynamic, or loaded, or is so from now on.
 fn is_filled(chosen: Chosen, loads: Option<usize>, place: usize, group: &KeptGroup) -> bool
     ensures { result ≡ is_filled (choice_of chosen) loads place (group_seen group.now) }
 {
-    is_chosen(chosen, place, group) && (group.loaded || is_place(place, loads))
+    is_chosen(chosen, place, group) && (group.def.dynamic || group.loaded || is_place(place, loads))
 }
 
-fn made_store(
+fn make_where(
     alloc: Global,
     schema: &BackingSchema,
     group: &KeptGroup,
     filled: bool,
+    store: &Store,
+    hidden: &SlotRows,
     tables: &Tables,
-) -> Result<Option<Store>, AllocError>
-    ensures { IfOk result (IsMade filled schema.now group.now.def.tree tables.now) }
+) -> Result<Option<Made>, AllocError>
+    ensures { IfOk result (IsMade filled schema.now tables.now (group_seen group.now) store.now hidden.now.table) }
 {
     if !filled {
         return Ok(None);
     }
-    let store = viewed_store(alloc, schema, &group.def.tree, tables)?;
-    Ok(Some(store))
+    let made = make_one(alloc, schema, group, store, hidden, tables)?;
+    Ok(Some(made))
 }
 
-/// The stores that were made come in the place of the old ones. It takes no memory.
-pub fn exchange(stores: &mut Vec<Store>, made: Vec<Option<Store>>)
-    ensures { stores.new.items ≡ exchanged stores.old.items made.items }
+fn make_one(
+    alloc: Global,
+    schema: &BackingSchema,
+    group: &KeptGroup,
+    old: &Store,
+    hidden: &SlotRows,
+    tables: &Tables,
+) -> Result<Made, AllocError>
+    ensures { IfOk result (IsMadeAnew schema.now tables.now (group_seen group.now) old.now hidden.now.table) }
+{
+    old.keys_law();
+    let store = store_anew(alloc, schema, group, old, hidden, tables)?;
+    store.keys_law();
+    let hidden = none_hidden(alloc, schema, group, store.len(0))?;
+    Ok(Made { store, hidden })
+}
+
+/// The stores that were made come in the place of the old ones, and so do the hidden rows. It takes no memory.
+pub fn exchange(stores: &mut Vec<Store>, hidden: &mut Vec<SlotRows>, made: Vec<Option<Made>>)
+    ensures stores { stores.new.items ≡ exchanged stores.old.items (made_stores made.items) }
+    ensures hidden { hidden.new.items ≡ exchanged hidden.old.items (made_hidden made.items) }
 {
     let mut made = made;
-    while let Some(store) = made.pop() {
-        put_store(stores, made.len(), store);
+    while let Some(one) = made.pop() {
+        put_made(stores, hidden, made.len(), one);
     }
 }
 
-fn put_store(stores: &mut Vec<Store>, place: usize, store: Option<Store>)
-    ensures { stores.new.items ≡ put_at place store stores.old.items }
+fn put_made(stores: &mut Vec<Store>, hidden: &mut Vec<SlotRows>, place: usize, made: Option<Made>)
+    ensures stores { stores.new.items ≡ put_at place (option_map (λ (m : OneMade). m.store) made) stores.old.items }
+    ensures hidden { hidden.new.items ≡ put_at place (option_map (λ (m : OneMade). m.hidden) made) hidden.old.items }
 {
-    match store {
+    match made {
         None => {}
-        Some(store) => {
-            if place < stores.len() {
-                stores[place] = store;
-            }
+        Some(made) => {
+            let (store, rows) = made.into_parts();
+            put_store(stores, place, store);
+            put_hidden(hidden, place, rows);
         }
+    }
+}
+
+fn put_store(stores: &mut Vec<Store>, place: usize, store: Store)
+    ensures { stores.new.items ≡ slice_set stores.old.items place store }
+{
+    if place < stores.len() {
+        stores[place] = store;
+    }
+}
+
+fn put_hidden(hidden: &mut Vec<SlotRows>, place: usize, rows: SlotRows)
+    ensures { hidden.new.items ≡ slice_set hidden.old.items place rows }
+{
+    if place < hidden.len() {
+        hidden[place] = rows;
     }
 }
 
@@ -268,28 +360,84 @@ pub fn note_moment(sets: &mut Vec<SetMoment>, interval: u64, now: u64)
 }
 
 /// Whether the set of an interval has something to show.
-pub fn shows_something(catalog: &Catalog, interval: u64) -> bool
-    requires { list_all is_explicit (groups_in catalog.now) ≡ true }
-    ensures { result ≡ shows_something interval (groups_in catalog.now) }
+pub fn shows_something(tier: &Tier, interval: u64) -> bool
+    requires { IsSound tier.now }
+    ensures { (a : AbstractTier) → IsStoredAs tier.now a → result ≡ shows_something interval a.groups }
 {
-    for place in 0..catalog.len() {
-        match catalog.get(place) {
-            None => {}
-            Some(group) => {
-                if shows_in_set(interval, group) {
-                    return true;
-                }
-            }
+    for place in 0..tier.catalog.len() {
+        if shows_in_set(tier, interval, place) {
+            return true;
         }
     }
     false
 }
 
-// Whether the group is in the set of an interval, and is loaded.
-fn shows_in_set(interval: u64, group: &KeptGroup) -> bool
-    ensures { result ≡ (is_in_set interval (group_seen group.now) && group.now.loaded) }
+// Whether the group at a place is in the set of an interval, and has something to show.
+fn shows_in_set(tier: &Tier, interval: u64, place: usize) -> bool
+    requires { IsSound tier.now }
+    ensures { (a : AbstractTier) (g : OneGroup) → IsStoredAs tier.now a → slice_get a.groups place ≡ Some g
+        → result ≡ (is_in_set interval g && has_something g) }
 {
-    is_in_set(interval, group) && group.loaded
+    match tier.catalog.get(place) {
+        None => false,
+        Some(group) => is_in_set(interval, group) && has_something(tier, place),
+    }
+}
+
+/// Whether the group at a place has something to show: an explicit one is loaded, a dynamic one has a key in its list.
+pub fn has_something(tier: &Tier, place: usize) -> bool
+    requires { IsSound tier.now }
+    ensures { (a : AbstractTier) (g : OneGroup) → IsStoredAs tier.now a → slice_get a.groups place ≡ Some g
+        → result ≡ has_something g }
+{
+    match tier.catalog.get(place) {
+        None => false,
+        Some(group) => {
+            if group.def.dynamic {
+                holds_some(tier, place)
+            } else {
+                group.loaded
+            }
+        }
+    }
+}
+
+// Whether the dynamic group at a place has a key in its list.
+fn holds_some(tier: &Tier, place: usize) -> bool
+    requires { IsSound tier.now }
+    ensures { (a : AbstractTier) (g : OneGroup) → IsStoredAs tier.now a → slice_get a.groups place ≡ Some g
+        → g.def.dynamic ≡ true → result ≡ holds_some g.keys }
+{
+    match store_at(tier, place) {
+        None => false,
+        Some(store) => match hidden_at(tier, place) {
+            None => false,
+            Some(hidden) => has_keys(store, hidden),
+        },
+    }
+}
+
+// Whether the store has an instance, or one is hidden.
+fn has_keys(store: &Store, hidden: &SlotRows) -> bool
+    ensures keys { HasRootKeys store.now }
+    ensures some { result ≡ (nat_lt 0 (len (kept_at store.now.tables 0)) || nat_lt 0 (len hidden.now.table)) }
+{
+    store.keys_law();
+    store.len(0) > 0 || hidden.len() > 0
+}
+
+// The store at a place.
+fn store_at(tier: &Tier, place: usize) -> Option<&Store>
+    ensures { option_copied result ≡ slice_get tier.now.stores.items place }
+{
+    tier.stores.get(place)
+}
+
+// The hidden root rows at a place.
+fn hidden_at(tier: &Tier, place: usize) -> Option<&SlotRows>
+    ensures { option_copied result ≡ slice_get tier.now.hidden.items place }
+{
+    tier.hidden.get(place)
 }
 
 /// How many groups the set of an interval has.

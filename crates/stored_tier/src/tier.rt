@@ -8,6 +8,7 @@ use group_catalog::Catalog;
 use group_store::{Directory, Store};
 use open_sessions::Sessions;
 use pending_writes::PendingWrites;
+use slot_rows::SlotRows;
 use std::collections::VecDeque;
 use table_defs::BackingSchema;
 use table_state::Sealed;
@@ -26,6 +27,8 @@ pub struct Tier {
     pub catalog: Catalog,
     /// The rows of each group.
     pub stores: Vec<Store>,
+    /// The root rows of each group's instances that aging by time hides, until the group's next refresh.
+    pub hidden: Vec<SlotRows>,
     /// Where each table is kept.
     pub directory: Directory,
     /// The open sessions.
@@ -50,6 +53,7 @@ impl Drop for Tier {
             stale: _,
             catalog: _,
             stores: _,
+            hidden: _,
             directory: _,
             sessions: _,
             unsettled: _,

@@ -12,14 +12,15 @@ returns-clause-sound c =
       told = refl;
       groups = c.new-catalog.ensures;
       stores = c.new-stores.ensures.items;
-      sessions = c.new.ensures.seen;
-      unsettled = c.new-2.ensures.items;
-      writers = c.new-3.ensures;
+      hidden = c.new.ensures.items;
+      sessions = c.new-2.ensures.seen;
+      unsettled = c.new-3.ensures.items;
+      writers = c.new-4.ensures;
       next = refl;
       clock = c.new_clock.ensures;
       judged = refl;
     })
-    (c.new.ensures.sound c.args.schema)
+    (c.new-2.ensures.sound c.args.schema)
     (named_as (groups_in c.new-catalog.result) c.as_slice.result.now c.new-stores.result.items c.as_slice-2.result.now
     c.args.schema c.in_ok-visible.visible c.in_ok-visible.directory c.as_slice.ensures.value c.as_slice-2.ensures
     c.in_ok-visible.ensures)

@@ -4,7 +4,7 @@ use Rattle.cache_tier.specs.Sets.{alone, changed_from}
 use Rattle.group_catalog.specs.Catalogs.{groups_in}
 use Rattle.stored_tier.specs.Refreshing.{choice_of, positioned}
 use Rattle.group_engine.proofs.AlteringLaws.{full_with, not_refreshed, refreshed_with}
-use Rattle.group_engine.proofs.FreshLaws.{changed_long}
+use Rattle.group_engine.proofs.ChangedLists.{changed_long}
 use Rattle.group_engine.proofs.ReadyLaws.{calm_cause, fault_cause, read_cause}
 use Rattle.stored_tier.proofs.SoundParts.{changed_defs, sound_regrouped}
 use Rattle.group_engine.proofs.altering.alter_with.Goals as goal
@@ -41,9 +41,10 @@ returns-else-is_full-clause-alters g c = λ w x at stands apart keeps of there r
       beside = record { schema = shown.schema; stale = shown.stale; sessions = shown.sessions; unsettled = shown.unsettled; writers = shown.writers; next = shown.next; clock = shown.clock };
       groups = c.with_state.ensures ∙ ap (changed_from (alone c.args.place) _ 0) shown.groups;
       stores = shown.stores;
+      hidden = shown.hidden;
       was = c.requires.sound.kept;
       kept = sound.kept;
-      plain = c.requires.sound.plain;
+      hid = c.requires.sound.hiding;
       long = c.in-Ok.ensures.formed.long;
     })
     c.answer_behind.ensures.answers c.done.ensures

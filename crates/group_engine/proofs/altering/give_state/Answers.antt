@@ -27,6 +27,7 @@ returns-clause-alters g c = λ w x at stands keeps of there none.
       beside = record { schema = refl; stale = refl; sessions = refl; unsettled = refl; writers = refl; next = refl; clock = refl };
       groups = c.with_state.ensures;
       stores = refl;
+      hidden = refl;
       was = c.requires.sound.kept;
       kept = sound.kept;
     })

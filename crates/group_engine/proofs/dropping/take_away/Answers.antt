@@ -1,5 +1,6 @@
 use Rattle.std.proofs.Common.{◌∙◌, arith, refl, sym}
 use Rattle.group_catalog.specs.Catalogs.{groups_in}
+use Rattle.stored_tier.proofs.ListLaws.{hiding_long}
 use Rattle.group_engine.proofs.DroppingLaws.{drop_full, drop_wanting, dropped, sound_without}
 use Rattle.group_engine.proofs.GroupGoes.{as_many}
 use Rattle.group_engine.proofs.ReadyLaws.{calm_cause, kept_here}
@@ -10,6 +11,11 @@ pub remove_group-requires-clause-kept : goal.remove_group-requires-clause-kept
 remove_group-requires-clause-kept g c =
     let same = as_many c.args.tier.now.schema (groups_in c.args.tier.now.catalog) c.args.tier.now.stores.items c.requires.sound.kept in
     omega (arith, same, c.requires.within)
+
+pub remove_group-requires-clause-hidden : goal.remove_group-requires-clause-hidden
+remove_group-requires-clause-hidden g c =
+    let long = hiding_long c.args.tier.now.schema (groups_in c.args.tier.now.catalog) c.args.tier.now.stores.items c.args.tier.now.hidden.items c.requires.sound.hiding in
+    omega (arith, long, c.requires.within)
 
 pub returns-then-is_full-clause-performs : goal.returns-then-is_full-clause-performs
 returns-then-is_full-clause-performs g c =

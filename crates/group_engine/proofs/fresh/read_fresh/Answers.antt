@@ -20,14 +20,14 @@ returns-in-Err-clause-reads g c = λ w at stands apart.
 
 pub returns-clause-reads : goal.returns-clause-reads
 returns-clause-reads g c = λ w at stands apart. (
-  read_here c.args.tier.now _ _ c.as_slice.result.now c.in_ok-snapshot.snapshot (choice_of c.args.chosen) c.args.loads c.in-Ok-made_stores.made.items (c.as_slice.ensures.value ∙ c.in-Ok.ensures) c.in-Ok-made_stores.ensures
+  read_here c.args.tier.now _ _ c.as_slice.result.now c.in_ok-snapshot.snapshot (choice_of c.args.chosen) c.args.loads c.in-Ok-make_stores.made.items (c.as_slice.ensures.value ∙ c.in-Ok.ensures) c.in-Ok-make_stores.ensures
       c.in_ok-snapshot.ensures.told c.in_ok-snapshot.ensures.cause.later c.in_ok-snapshot.ensures.crash.later c.in_ok-snapshot.ensures.cause.shared w at stands apart,
-  fresh_here c.args.tier.now _ _ c.as_slice.result.now c.in_ok-snapshot.snapshot (choice_of c.args.chosen) c.args.loads c.in-Ok-made_stores.made.items (c.as_slice.ensures.value ∙ c.in-Ok.ensures) c.in-Ok-made_stores.ensures
+  fresh_here c.args.tier.now _ _ c.as_slice.result.now c.in_ok-snapshot.snapshot (choice_of c.args.chosen) c.args.loads c.in-Ok-make_stores.made.items (c.as_slice.ensures.value ∙ c.in-Ok.ensures) c.in-Ok-make_stores.ensures
       c.in_ok-snapshot.ensures.told c.in_ok-snapshot.ensures.cause.later c.in_ok-snapshot.ensures.crash.later c.in_ok-snapshot.ensures.cause.shared w at stands apart,
 )
 
 pub returns-clause-formed : goal.returns-clause-formed
-returns-clause-formed g c = are_formed (is_filled (choice_of c.args.chosen) c.args.loads) c.args.tier.now.schema _ _ c.in-Ok-made_stores.made.items c.in-Ok-made_stores.ensures
+returns-clause-formed g c = are_formed (is_filled (choice_of c.args.chosen) c.args.loads) c.args.tier.now _ c.in-Ok-make_stores.made.items c.requires c.in-Ok-make_stores.ensures
 
 pub returns-in_err-snapshot-clause-certain : goal.returns-in_err-snapshot-clause-certain
 returns-in_err-snapshot-clause-certain g c = bank_certain g.P.Disk.state g.P.Disk.possible g.met.P.Disk.certain c.args.site.now c.snapshot.new.self _ c.in_err-snapshot.ensures.told c.in_err-snapshot.ensures.crash

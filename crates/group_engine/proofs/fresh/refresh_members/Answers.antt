@@ -24,9 +24,10 @@ returns-in-Ok-clause-performs g c =
       beside = record { schema = shown.schema; stale = shown.stale; sessions = shown.sessions; unsettled = shown.unsettled; writers = shown.writers; next = shown.next; clock = shown.clock };
       groups = shown.groups ∙ set_groups c.args.interval c.in-Ok.fresh.position.0 (groups_in c.args.tier.now.catalog);
       stores = shown.stores;
+      hidden = shown.hidden;
       was = c.requires.sound.kept;
+      hid = c.requires.sound.hiding;
       kept = c.show_fresh.ensures.sound.kept;
-      plain = c.requires.sound.plain;
       long = c.in-Ok.ensures.formed.long;
     })
 

@@ -5,7 +5,7 @@ use Rattle.cache_tier.specs.Sets.{alone, changed_from}
 use Rattle.cache_tier.specs.Worlds.{only}
 use Rattle.group_catalog.specs.Catalogs.{groups_in}
 use Rattle.stored_tier.specs.Refreshing.{choice_of, positioned}
-use Rattle.group_engine.proofs.FreshLaws.{changed_long}
+use Rattle.group_engine.proofs.ChangedLists.{changed_long}
 use Rattle.group_engine.proofs.ReadyLaws.{calm_cause, fault_cause, read_cause}
 use Rattle.group_engine.proofs.WholeLaws.{keeps_read, loaded_once, ready_read, whole_failed, whole_full, whole_read}
 use Rattle.stored_tier.proofs.SoundParts.{changed_defs, sound_regrouped}
@@ -49,11 +49,12 @@ returns-else-is_full-clause-loads g c = λ w x at stands apart keeps there reads
     (record {
       beside = record { schema = shown.schema; stale = shown.stale; sessions = shown.sessions; unsettled = shown.unsettled; writers = shown.writers; next = shown.next; clock = shown.clock };
       groups = c.with_state.ensures ∙ ap (changed_from (alone c.args.place) _ 0) (c.with_loaded.ensures ∙ ap (changed_from (alone c.args.place) _ 0) shown.groups)
-          ∙ loaded_once (groups_in c.args.tier.now.catalog) c.args.place c.in-Ok.fresh.position.0 (choice_of c.args.chosen) c.args.state c.requires.sound.plain c.requires.state;
+          ∙ loaded_once (groups_in c.args.tier.now.catalog) c.args.place c.in-Ok.fresh.position.0 (choice_of c.args.chosen) c.args.state c.requires.explicit c.requires.state;
       stores = shown.stores;
+      hidden = shown.hidden;
       was = c.requires.sound.kept;
       kept = sound.kept;
-      plain = c.requires.sound.plain;
+      hid = c.requires.sound.hiding;
       long = c.in-Ok.ensures.formed.long;
     })
     c.done-reply.result (c.done-reply.ensures ∙ ap (λ m. only (Done m)) c.roots_shown.ensures) sound

@@ -58,7 +58,7 @@ returns-in-Ok-flush_draft-clause-performs g c =
 pub returns-in-Ok-flush_draft-clause-cause : goal.returns-in-Ok-flush_draft-clause-cause
 returns-in-Ok-flush_draft-clause-cause g c =
     caused_then c.args.journal.now _ _ _ c.conclude.result c.in-Ok-flush_draft.ensures.cause c.apply_once-applied.ensures.cause.disk
-    (concluded_cause c.in-Ok.ready.sealed c.draw.new.tier c.conclude.new.tier c.conclude.new.doubt c.args.id _ _
+    (concluded_cause c.in-Ok.ready.entered c.in-Ok.ready.sealed c.draw.new.tier c.conclude.new.tier c.conclude.new.doubt c.args.id _ _
     c.apply_once-applied.result c.conclude.result
     (record {
       told = c.apply_once-applied.ensures.told;

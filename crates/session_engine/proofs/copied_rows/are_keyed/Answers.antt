@@ -1,5 +1,5 @@
-use Rattle.std.proofs.Common.{arith, refl}
-use Rattle.session_engine.proofs.CopyLaws.{all_keyed, keyed_more}
+use Rattle.std.proofs.Common.{refl}
+use Rattle.session_engine.proofs.CopyLaws.{keyed_more}
 use Rattle.session_engine.proofs.copied_rows.are_keyed.Goals as goal
 
 pub loop-place-preserved : goal.loop-place-preserved

@@ -1,4 +1,4 @@
-use Rattle.std.proofs.Common.{Ok, ◌∙◌, sym}
+use Rattle.std.proofs.Common.{Ok}
 use Rattle.cache_tier.specs.Journals.{Numbers}
 use Rattle.kept_journal.proofs.DraftLaws.{placed_so}
 use Rattle.propagators.proofs.CertainLaws.{bank_certain}

@@ -1,20 +1,23 @@
 use Rattle.std.proofs.Common.{◌≡◌, ◌∙◌, ap, length, sym}
-use Rattle.stored_tier.specs.Refreshing.{exchanged, put_at}
-use Rattle.stored_tier.proofs.RefreshSteps.{last_put, none_left, none_more}
+use Rattle.stored_tier.specs.declared.refreshing.Made.{Made}
+use Rattle.stored_tier.proofs.RefreshSteps.{none_more, none_put, put_last}
 use Rattle.stored_tier.proofs.refreshing.exchange.Goals as goal
 
-pub loop-store-preserved : goal.loop-store-preserved
-loop-store-preserved c =
-    let stores = c.loop-store.stores.items in
+pub loop-one-preserved : goal.loop-one-preserved
+loop-one-preserved c =
     let front = c.pop.new.self.items in
-    let store = c.in-Some.store in
     let long : c.len.result ≡ length c.pop.new.self.items = c.len.ensures ∙ c.pop.new.self.ok.0 in
-    ap (λ ss. exchanged ss front) c.put_store.ensures
-    ∙ ap (λ n. exchanged (put_at n store stores) front) long
-    ∙ sym (last_put stores front store)
-    ∙ sym (ap (exchanged stores) c.in-Some.ensures.items)
-    ∙ c.loop-store.invariant
+    record {
+      stores = put_last (λ (m : Made). m.store) c.loop-one.stores.items c.put_made.new.stores.items c.loop-one.made.items front c.in-Some.one c.len.result c.in-Some.ensures.items long c.put_made.ensures.stores
+          ∙ c.loop-one.invariant.stores;
+      hidden = put_last (λ (m : Made). m.hidden) c.loop-one.hidden.items c.put_made.new.hidden.items c.loop-one.made.items front c.in-Some.one c.len.result c.in-Some.ensures.items long c.put_made.ensures.hidden
+          ∙ c.loop-one.invariant.hidden;
+    }
 
 pub returns : goal.returns
 returns c =
-    sym (none_left c.loop-store.stores.items c.loop-store.made.items (none_more _ _ c.loop-store.made.ok.0 c.in_default.ensures.variant.1)) ∙ c.loop-store.invariant
+    let none = none_more _ _ c.loop-one.made.ok.0 c.in_default.ensures.variant.1 in
+    record {
+      stores = sym (none_put (λ (m : Made). m.store) c.loop-one.stores.items c.loop-one.made.items none) ∙ c.loop-one.invariant.stores;
+      hidden = sym (none_put (λ (m : Made). m.hidden) c.loop-one.hidden.items c.loop-one.made.items none) ∙ c.loop-one.invariant.hidden;
+    }

@@ -1,0 +1,17 @@
+pub mod AgesRun
+pub mod Answered
+pub mod Behind
+pub mod CycleLaws
+pub mod GainedRoots
+pub mod HiddenLaws
+pub mod KeyLists
+pub mod Places
+pub mod RootRows
+pub mod ShownPlaces
+pub mod Shows
+pub mod Sides
+pub mod SoundRun
+pub mod Steps
+pub mod Walks
+pub mod Within
+pub mod Writers

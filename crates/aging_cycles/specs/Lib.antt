@@ -1,0 +1,4 @@
+pub mod Ages
+pub mod Busy
+pub mod Cycles
+pub mod Running

@@ -1,0 +1,17 @@
+pub mod ConfirmedRows
+pub mod EnteredRows
+pub mod FitLaws
+pub mod FoundRoots
+pub mod JoinedLoads
+pub mod JoinedStatements
+pub mod ListsSet
+pub mod ReachedWorlds
+pub mod RootRows
+pub mod RoundLaws
+pub mod StageLaws
+pub mod StopLaws
+pub mod StoreShown
+pub mod TakenKeys
+pub mod TakenLaws
+pub mod TakenParts
+pub mod TakenSound

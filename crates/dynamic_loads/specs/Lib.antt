@@ -1,0 +1,3 @@
+pub mod Bringing
+pub mod Running
+pub mod Taking

@@ -1,0 +1,11 @@
+//! What a statement of a session wants of an instance that isn't shown is brought in first.
+#![tactic(auto)]
+
+pub mod bringing;
+mod bringing_whole;
+pub mod bringing_written;
+mod confirming;
+pub mod loading;
+pub mod querying;
+mod taking;
+pub mod writing;

@@ -1,0 +1,5 @@
+pub mod Keys
+pub mod Loading
+pub mod Touching
+pub mod Uses
+pub mod Wanting
