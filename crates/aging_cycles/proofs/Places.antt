@@ -1,19 +1,14 @@
 -- A group behind its cycle, with its store.
-use Rattle.std.proofs.Common.{◌≡◌, ℕ, ◌⊎◌, inl, inr, Bool, true, false, not, cond, ◌&&◌, ◌||◌, Option, Some, None, is_some, ℤ, int_lt, List, [], slice_get, unwrap_or, refl, sym, ap, ◌∙◌, arith}
+use Rattle.std.proofs.Common.{◌≡◌, ℕ, Bool, true, false, not, cond, ◌&&◌, ◌||◌, Option, Some, None, is_some, ℤ, int_lt, List, [], slice_get, refl, sym, ap, ◌∙◌, arith}
 use Rattle.std.proofs.lemmas.Int.{ints}
 use Rattle.std.specs.Bool.{MatchBool}
-use Rattle.std.specs.Option.{option_map}
 use Rattle.std.specs.FinMap as fm
 use Rattle.row_types.specs.declared.value.Value.{Value}
 use Rattle.row_types.specs.declared.value.Value.TheVariants.{Null, Number, Text, Time}
 use Rattle.row_types.specs.Order.{key_order}
-use Rattle.indexed_rows.specs.Rows.{Table, key_of, value_at}
-use Rattle.table_defs.specs.declared.definition.TableDef.{TableDef}
-use Rattle.table_state.specs.Tables.{TableState, table_at}
-use Rattle.evaluator.specs.Cascades.{key_in}
-use Rattle.instances.specs.Views.{kept_at, passes, root_rows, selects}
-use Rattle.instances.proofs.Gathering.{get_where}
-use Rattle.group_store.specs.Keeping.{primary_of}
+use Rattle.indexed_rows.specs.Rows.{Table, value_at}
+use Rattle.table_state.specs.Tables.{TableState}
+use Rattle.instances.specs.Views.{kept_at, passes, root_rows}
 use Rattle.group_store.specs.Stores.{Kept, SameButSpare}
 use Rattle.order_laws.proofs.TruthLaws.{both_true}
 use Rattle.cache_tier.specs.declared.group.AgingRule.{AgingRule}
@@ -24,10 +19,8 @@ use Rattle.cache_tier.specs.Groups.{Group, has_list, is_explicit, is_key, is_rea
 use Rattle.cache_tier.specs.Locks.{is_busy}
 use Rattle.cache_tier.specs.Shown.{exceeds, exceeds_by, is_past, root_key, shown, shown_roots, shown_where, shows_root, state_behind}
 use Rattle.cache_tier.specs.Worlds.{World}
-use Rattle.cache_tier.proofs.HistoryKeeps.{root_covers}
 use Rattle.cache_tier.proofs.KeyListLaws.{key_left, key_without}
 use Rattle.cache_tier.proofs.SessionLaws.{known}
-use Rattle.cache_tier.proofs.ShownTables.{cond_some}
 use Rattle.stored_tier.specs.declared.tier.Tier.{Tier as Stored}
 use Rattle.stored_tier.specs.Lists.{HasKeysOf, IsListed, hides_keys, is_by_time, is_by_use}
 use Rattle.stored_tier.specs.Performing.{StandsFor}
@@ -35,11 +28,10 @@ use Rattle.stored_tier.specs.Stored.{IsSound, rows_of}
 use Rattle.aging_cycles.specs.Busy.{is_written_in, owns_of}
 use Rattle.aging_cycles.specs.Cycles.{IsReady, expired_in, is_expired}
 use Rattle.aging_cycles.specs.Running.{cut_all, hidden_all}
-use Rattle.aging_cycles.proofs.Behind.{defined}
 use Rattle.aging_cycles.proofs.KeyLists.{cut_keys, hidden_has}
 use Rattle.aging_cycles.proofs.RootRows.{Drops, keys_picked, nothing_kept}
 use Rattle.aging_cycles.proofs.ShownPlaces.{shown_by_keys, shown_virtual}
-use Rattle.aging_cycles.proofs.Shows.{about, form, left_shows, root_is, roots_are, store_root}
+use Rattle.aging_cycles.proofs.Shows.{keyed, left_shows, root_is, roots_are, store_root}
 use Rattle.aging_cycles.proofs.Writers.{busy_is}
 
 abbrev Row : Type 0
@@ -162,50 +154,9 @@ module _ (t : Stored) (w : World) (sound : IsSound t) (ready : IsReady t) (stand
           let wrong : None ≡ Some r = sym (fm.get-empty key_order q) ∙ ap (λ (m : Table). fm.get m q) (sym (roots_are t w sound stands place g at store kept ∙ ap (λ o. kept_at (shown_where o g) 0) is ∙ nothing_kept 0)) ∙ e in cc
       by (Some s) is = of s is (fm.get (root_rows s g.def.tree.root) q) refl
 
-  -- its rows stand under their keys
-  keyed : (q r : Row) → fm.get (kept_at store.tables 0) q ≡ Some r → key_of store.key r ≡ q
-  keyed q r e = by (state_behind w.history w.tier.log g) refl
-    where
-      of : (s : TableState) (is : state_behind w.history w.tier.log g ≡ Some s) (o : Option Row) → fm.get (root_rows s g.def.tree.root) q ≡ o → key_of store.key r ≡ q
-      of s is None there =
-          let wrong : None ≡ Some r = sym (store_root t w sound stands place g at store kept s is q ∙ ap (λ (o : Option Row). cond (passes (shows_root s g) o) o None) there) ∙ e in cc
-      of s is (Some row) there =
-          let shown_so : cond (shows_root s g row) (Some row) None ≡ Some r = sym (store_root t w sound stands place g at store kept s is q ∙ ap (λ (o : Option Row). cond (passes (shows_root s g) o) o None) there) ∙ e in
-          let same : row ≡ r = chosen_row (shows_root s g row) row shown_so in
-          ap (key_of store.key) (sym same) ∙ columns (slice_get s.schema g.def.tree.root.table.0) row (known_root row there) ∙ root_is t w sound stands place g at store kept s is q row there
-        where
-          chosen_row : (b : Bool) (x : Row) → cond b (Some x) None ≡ Some r → x ≡ r
-          chosen_row true x y = cc
-          chosen_row false x y = cc
-
-          table_row : (x : Row) → fm.get (root_rows s g.def.tree.root) q ≡ Some x → fm.get (table_at s g.def.tree.root.table) q ≡ Some x
-          table_row x y = cond_some (passes (selects g.def.tree.root.filter) (fm.get (table_at s g.def.tree.root.table) q)) (fm.get (table_at s g.def.tree.root.table) q) x
-              (sym (get_where (selects g.def.tree.root.filter) (table_at s g.def.tree.root.table) q) ∙ y)
-
-          its_def : (d : TableDef) × (slice_get w.tier.schema g.def.tree.root.table.0 ≡ Some d)
-          its_def = defined w stands.stands place g at g.def.tree.root.table (root_covers g)
-
-          known_root : (x : Row) → fm.get (root_rows s g.def.tree.root) q ≡ Some x → slice_get s.schema g.def.tree.root.table.0 ≡ slice_get w.tier.schema g.def.tree.root.table.0
-          known_root x y = pick ((about t w sound stands place g at store kept s is).known g.def.tree.root.table (root_covers g))
-            where
-              pick : (slice_get s.schema g.def.tree.root.table.0 ≡ slice_get w.tier.schema g.def.tree.root.table.0) ⊎ (table_at s g.def.tree.root.table ≡ fm.empty) → slice_get s.schema g.def.tree.root.table.0 ≡ slice_get w.tier.schema g.def.tree.root.table.0
-              pick (inl same) = same
-              pick (inr none) = let wrong : None ≡ Some x = sym (fm.get-empty key_order q) ∙ ap (λ (m : Table). fm.get m q) (sym none) ∙ table_row x y in cc
-
-          columns : (o : Option TableDef) (x : Row) → o ≡ slice_get w.tier.schema g.def.tree.root.table.0 → key_of store.key x ≡ key_in o x
-          columns o x same =
-              let d = its_def in
-              ap (λ ks. key_of ks x) ((form t w sound stands place g at store kept).key ∙ ap (λ defs. primary_of defs g.def.tree.root.table) (sym stands.stored.schema) ∙ ap (λ z. unwrap_or (option_map (λ (def : TableDef). def.primary_key) z) []) d.1)
-              ∙ sym (ap (λ z. key_in z x) (same ∙ d.1))
-
-      by : (o : Option TableState) → state_behind w.history w.tier.log g ≡ o → key_of store.key r ≡ q
-      by None is =
-          let wrong : None ≡ Some r = sym (fm.get-empty key_order q) ∙ ap (λ (m : Table). fm.get m q) (sym (roots_are t w sound stands place g at store kept ∙ ap (λ o. kept_at (shown_where o g) 0) is ∙ nothing_kept 0)) ∙ e in cc
-      by (Some s) is = of s is (fm.get (root_rows s g.def.tree.root) q) refl
-
   -- the keys that leave by time
   expired_key : (horizon : ℤ) (column : ℕ) (q : Row) → is_key (expired_in (Some horizon) column busy store.key (kept_at store.tables 0)) q ≡ passes (is_expired (Some horizon) column busy q) (fm.get (kept_at store.tables 0) q)
-  expired_key horizon column q = keys_picked store.key (is_expired (Some horizon) column busy) (kept_at store.tables 0) keyed q
+  expired_key horizon column q = keys_picked store.key (is_expired (Some horizon) column busy) (kept_at store.tables 0) (keyed t w sound stands place g at store kept) q
 
   module _ (ks : List Row) (left : Kept) (gone : SameButSpare (cut_all ks store) left) (behind : Table) (rows : behind ≡ cond (hides_keys g) (hidden_all ks store hidden) hidden) where
     left_keys : left.keys ≡ without_keys ks store.keys

@@ -1,11 +1,15 @@
 -- What a store keeps of its group, and what is shown of the group behind instances that leave.
-use Rattle.std.proofs.Common.{◌≡◌, ◌<◌, ◌≤◌, ℕ, zero, suc, ◌⊎◌, inl, inr, Bool, not, cond, ◌&&◌, Option, Some, None, is_some, List, [], ◌∷◌, length, slice_get, refl, sym, ap, ◌∙◌, arith}
+use Rattle.std.proofs.Common.{◌≡◌, ◌<◌, ◌≤◌, ℕ, zero, suc, ◌⊎◌, inl, inr, Bool, true, false, not, cond, ◌&&◌, Option, Some, None, is_some, List, [], ◌∷◌, length, slice_get, unwrap_or, refl, sym, ap, ◌∙◌, arith}
 use Rattle.std.proofs.lemmas.Bool.{cases_lt}
 use Rattle.std.proofs.lemmas.List.{length-map}
+use Rattle.std.specs.Option.{option_map}
 use Rattle.std.specs.FinMap as fm
 use Rattle.row_types.specs.declared.value.Value.{Value}
+use Rattle.row_types.specs.Order.{key_order}
 use Rattle.tier_base.specs.declared.number.TableId.{TableId}
-use Rattle.indexed_rows.specs.Rows.{Table}
+use Rattle.indexed_rows.specs.Rows.{Table, key_of}
+use Rattle.table_defs.specs.declared.definition.TableDef.{TableDef}
+use Rattle.evaluator.specs.Cascades.{key_in}
 use Rattle.table_state.specs.Tables.{TableState, table_at}
 use Rattle.instances.specs.declared.tree.Child.{Child}
 use Rattle.instances.specs.Trees.{place_of}
@@ -13,14 +17,15 @@ use Rattle.instances.specs.Views.{kept_at, passes, root_rows, selects, with_chil
 use Rattle.instances.proofs.Gathering.{get_where}
 use Rattle.cache_store.specs.Shown.{shown_of}
 use Rattle.cache_store.proofs.ShownLaws.{shown_length}
-use Rattle.group_store.specs.Keeping.{IsFor, KeepsShown, layer_for}
+use Rattle.group_store.specs.Keeping.{IsFor, KeepsShown, layer_for, primary_of}
 use Rattle.group_store.specs.Stores.{Kept, SameButSpare}
 use Rattle.cache_tier.specs.declared.group.GroupDef.{GroupDef}
 use Rattle.cache_tier.specs.Groups.{Group, is_key}
-use Rattle.cache_tier.specs.Shown.{instances_where, root_key, shown, shown_in, shown_where, shows_root, state_behind}
+use Rattle.cache_tier.specs.Shown.{instances_where, no_rows, root_key, shown, shown_in, shown_where, shows_root, state_behind}
 use Rattle.cache_tier.specs.Worlds.{World}
 use Rattle.cache_tier.specs.StandingBetween.{IsCatalogued}
 use Rattle.cache_tier.proofs.ChosenGroups.{each_at}
+use Rattle.cache_tier.proofs.HistoryKeeps.{root_covers}
 use Rattle.cache_tier.proofs.ShownTables.{cond_some}
 use Rattle.cache_tier.proofs.ShownTrees.{place_there, sound_child}
 use Rattle.stored_tier.specs.declared.tier.Tier.{Tier as Stored}
@@ -29,7 +34,7 @@ use Rattle.stored_tier.specs.Stored.{IsSound}
 use Rattle.stored_tier.proofs.StoreRows.{form_here, kept_is_shown}
 use Rattle.aging_cycles.specs.Running.{cut_all}
 use Rattle.aging_cycles.proofs.ShownPlaces.{shown_of_place}
-use Rattle.aging_cycles.proofs.Behind.{IsBehind, behind}
+use Rattle.aging_cycles.proofs.Behind.{IsBehind, behind, defined}
 use Rattle.aging_cycles.proofs.RootRows.{Drops, after, after_is, children_alike, cut_kept, cut_nothing, nothing_kept, retain_alike, root_shown, same_kept, table_there}
 
 abbrev Row : Type 0
@@ -144,3 +149,46 @@ module _ (t : Stored) (w : World) (sound : IsSound t) (stands : StandsFor t w) (
       by (Some s) e =
           ap (λ ts. kept_at ts p) (left_in s e drops h ks left gone def (fits s e))
           ∙ sym (ap (λ o. kept_at (shown_where o h) p) (same ∙ e))
+
+  -- root rows by the columns of their key
+  key_is : (row : Row) → key_of store.key row ≡ key_in (slice_get w.tier.schema g.def.tree.root.table.0) row
+  key_is row =
+      let d = defined w stands.stands place g at g.def.tree.root.table (root_covers g) in
+      ap (λ ks. key_of ks row) (form.key ∙ ap (λ defs. primary_of defs g.def.tree.root.table) (sym stands.stored.schema) ∙ ap (λ z. unwrap_or (option_map (λ (def : TableDef). def.primary_key) z) []) d.1)
+      ∙ sym (ap (λ z. key_in z row) d.1)
+
+  -- they stand under their keys
+  pub keyed : (q r : Row) → fm.get (kept_at store.tables 0) q ≡ Some r → key_of store.key r ≡ q
+  keyed q r e = by (state_behind w.history w.tier.log g) refl
+    where
+      of : (s : TableState) (is : state_behind w.history w.tier.log g ≡ Some s) (o : Option Row) → fm.get (root_rows s g.def.tree.root) q ≡ o → key_of store.key r ≡ q
+      of s is None there =
+          let wrong : None ≡ Some r = sym (store_root s is q ∙ ap (λ (o : Option Row). cond (passes (shows_root s g) o) o None) there) ∙ e in cc
+      of s is (Some row) there =
+          let shown_so : cond (shows_root s g row) (Some row) None ≡ Some r = sym (store_root s is q ∙ ap (λ (o : Option Row). cond (passes (shows_root s g) o) o None) there) ∙ e in
+          let same : row ≡ r = chosen_row (shows_root s g row) row shown_so in
+          ap (key_of store.key) (sym same) ∙ key_is row ∙ ap (λ o. key_in o row) (sym (known_root row there)) ∙ root_is s is q row there
+        where
+          chosen_row : (b : Bool) (x : Row) → cond b (Some x) None ≡ Some r → x ≡ r
+          chosen_row true x y = cc
+          chosen_row false x y = cc
+
+          table_row : (x : Row) → fm.get (root_rows s g.def.tree.root) q ≡ Some x → fm.get (table_at s g.def.tree.root.table) q ≡ Some x
+          table_row x y = cond_some (passes (selects g.def.tree.root.filter) (fm.get (table_at s g.def.tree.root.table) q)) (fm.get (table_at s g.def.tree.root.table) q) x
+              (sym (get_where (selects g.def.tree.root.filter) (table_at s g.def.tree.root.table) q) ∙ y)
+
+          known_root : (x : Row) → fm.get (root_rows s g.def.tree.root) q ≡ Some x → slice_get s.schema g.def.tree.root.table.0 ≡ slice_get w.tier.schema g.def.tree.root.table.0
+          known_root x y = pick ((about s is).known g.def.tree.root.table (root_covers g))
+            where
+              pick : (slice_get s.schema g.def.tree.root.table.0 ≡ slice_get w.tier.schema g.def.tree.root.table.0) ⊎ (table_at s g.def.tree.root.table ≡ fm.empty) → slice_get s.schema g.def.tree.root.table.0 ≡ slice_get w.tier.schema g.def.tree.root.table.0
+              pick (inl same) = same
+              pick (inr none) = let wrong : None ≡ Some x = sym (fm.get-empty key_order q) ∙ ap (λ (m : Table). fm.get m q) (sym none) ∙ table_row x y in cc
+
+      by : (o : Option TableState) → state_behind w.history w.tier.log g ≡ o → key_of store.key r ≡ q
+      by None is =
+          let wrong : None ≡ Some r = sym (fm.get-empty key_order q) ∙ ap (λ (m : Table). fm.get m q) (sym (roots_are ∙ ap (λ o. kept_at (shown_where o g) 0) is ∙ nothing_kept 0)) ∙ e in cc
+      by (Some s) is = of s is (fm.get (root_rows s g.def.tree.root) q) refl
+
+  -- by the definitions alone
+  pub keyed_alone : (q r : Row) → fm.get (kept_at store.tables 0) q ≡ Some r → root_key (no_rows w.tier) g r ≡ q
+  keyed_alone q r e = sym (key_is r) ∙ keyed q r e

@@ -19,6 +19,8 @@ use crate::define::definition_text;
 use crate::schema::ask_schema;
 use crate::serving::serve_console;
 use cache_tier::reply::Reply;
+use dynamic_loads::querying::run_query;
+use dynamic_loads::writing::run_write;
 use group_engine::altering::alter_group;
 use group_engine::defining::create_group;
 use group_engine::dropping::drop_group;
@@ -28,8 +30,7 @@ use outside::Site;
 use row_types::Refused;
 use session_engine::at_once::commit_transaction;
 use session_engine::doubt::Doubt;
-use session_engine::resting::{close_session, flush_group, open_session, roll_back, run_query};
-use session_engine::writing::write_rows;
+use session_engine::resting::{close_session, flush_group, open_session, roll_back};
 use sql_subset::request::{Line, Request};
 use sql_subset::stmt::Stmt;
 use std::alloc::Global;
@@ -184,8 +185,8 @@ fn execute<P: Site>(
         (reply_of result) }
 {
     match statement {
-        Stmt::Select(query) => run_query(tier, alloc, site, id, &query),
-        Stmt::Write(write) => write_rows(tier, alloc, site, journal, id, &write, doubt),
+        Stmt::Select(query) => run_query(tier, alloc, site, journal, id, &query),
+        Stmt::Write(write) => run_write(tier, alloc, site, journal, id, &write, doubt),
         Stmt::CreateGroup(group) => { create_group(tier, alloc, site, journal, id, group, text) }
         Stmt::Load(load) => load_group(tier, alloc, site, journal, id, &load),
         Stmt::Refresh(load) => refresh_group(tier, alloc, site, journal, id, &load),

@@ -1,12 +1,11 @@
 //! What is read but isn't done yet.
 
 ghost use Rattle.std.specs.Prelude.{◌≡◌};
-ghost use Rattle.std.specs.Option.{is_some};
-ghost use Rattle.cache_tier.specs.Undone.{has_aging, is_grouped, is_undone, is_undone_group, is_undone_request, is_undone_statement, is_user_managed};
+ghost use Rattle.cache_tier.specs.Undone.{is_grouped, is_undone, is_undone_group, is_undone_request, is_undone_statement, is_user_managed};
 
 use sql_query::Query;
 use sql_subset::request::{Line, Request};
-use sql_subset::stmt::{CreateGroup, GroupKind, GroupTable, Stmt};
+use sql_subset::stmt::{CreateGroup, GroupKind, Stmt};
 
 // USERMANAGED.
 fn is_user_managed(kind: GroupKind) -> bool
@@ -20,24 +19,10 @@ fn is_user_managed(kind: GroupKind) -> bool
     }
 }
 
-// The table has an AGING clause.
-fn ages(table: &GroupTable) -> bool
-    ensures { result ≡ is_some table.now.aging }
-{
-    table.aging.is_some()
-}
-
-// One of the tables has.
-fn has_aging(group: &CreateGroup) -> bool
-    ensures { result ≡ has_aging group.now }
-{
-    group.tables.as_slice().iter().any(|table| ages(table))
-}
-
 fn is_undone_group(group: &CreateGroup) -> bool
     ensures { result ≡ is_undone_group group.now }
 {
-    is_user_managed(group.kind) || group.dynamic || has_aging(group)
+    is_user_managed(group.kind)
 }
 
 // GROUP BY.

@@ -1,18 +1,14 @@
--- What is read but isn't done yet. User-managed groups, GROUP BY, indexes, dynamic groups and aging come later.
--- (TimesTen Cache User's Guide, "User managed cache groups", "Dynamic cache groups", "Implementing aging on a cache
--- group"; TimesTen SQL Reference, "SELECT", "CREATE INDEX", "DROP INDEX"; that such a line is 101 at byte 0, before all
--- but its own 101 and 119, is this project's rule.)
+-- What is read but isn't done yet. User-managed groups, GROUP BY and indexes come later. (TimesTen Cache User's Guide,
+-- "User managed cache groups"; TimesTen SQL Reference, "SELECT", "CREATE INDEX", "DROP INDEX"; that such a line is 101 at
+-- byte 0, before all but its own 101 and 119, is this project's rule.)
 
-use Rattle.std.specs.Prelude.{Bool, true, false, ◌||◌, is_some, length, nat_lt}
-use Rattle.std.specs.List.{list_any}
+use Rattle.std.specs.Prelude.{Bool, true, false, length, nat_lt}
 use Rattle.sql_query.specs.declared.query.Query.{Query}
 use Rattle.sql_subset.specs.declared.stmt.CreateGroup.{CreateGroup}
-use Rattle.sql_subset.specs.declared.stmt.GroupTable.{GroupTable}
 use Rattle.sql_subset.specs.declared.stmt.GroupKind.{GroupKind}
 use Rattle.sql_subset.specs.declared.stmt.GroupKind.TheVariants as kind
 use Rattle.sql_subset.specs.declared.stmt.Stmt.{Stmt}
 use Rattle.sql_subset.specs.declared.stmt.Stmt.TheVariants as says
-use Rattle.sql_subset.specs.declared.request.ConsoleRequest.{ConsoleRequest}
 use Rattle.sql_subset.specs.declared.request.Request.{Request}
 use Rattle.sql_subset.specs.declared.request.Request.TheVariants as asks_for
 use Rattle.sql_subset.specs.declared.request.Line.{Line}
@@ -25,13 +21,9 @@ is_user_managed kind.AsynchronousWritethrough = false
 is_user_managed kind.SynchronousWritethrough = false
 is_user_managed kind.UserManaged = true
 
--- one of its tables has an AGING clause
-abbrev pub has_aging : CreateGroup → Bool
-has_aging d = list_any (λ (t : GroupTable). is_some t.aging) d.tables
-
--- a definition of a group that isn't done yet: DYNAMIC is one, too
+-- a definition of a group that isn't done yet
 abbrev pub is_undone_group : CreateGroup → Bool
-is_undone_group d = is_user_managed d.kind || d.dynamic || has_aging d
+is_undone_group d = is_user_managed d.kind
 
 -- the query groups its rows
 abbrev pub is_grouped : Query → Bool

@@ -20,8 +20,7 @@ pub enum ClockSource {
     System,
 }
 
-/// The settings, each by its key. So far `propagate_ms`, `rotate_bytes`, `clock` and `start_ms` act; all are read and
-/// checked.
+/// The settings, each by its key. All are read and checked, and all but `workers` act.
 #[derive(Clone, Copy, Debug, PartialEq, Eq)]
 pub struct Settings {
     /// How many threads propagate committed transactions, from 1 to 16; 1 by default.

@@ -11,12 +11,11 @@ use outside::Site;
 use statement_uses::Want;
 use std::alloc::Global;
 use stored_tier::tier::Tier;
-use tier_base::Code;
 use tier_journal::TierJournal;
-use tier_statements::faulty;
 
 /// The instance that a statement wants of the READONLY group at a place is brought in with its whole set, which is
-/// refreshed at one position; PAUSED becomes ON. That isn't done yet: memory is said to be wanting, and all stays.
+/// refreshed at one position; PAUSED becomes ON. Where the place has no dynamic READONLY group, memory is said to be
+/// wanting.
 pub(crate) fn bring_whole<P: Site>(
     tier: &mut Tier,
     alloc: Global,
@@ -37,5 +36,5 @@ pub(crate) fn bring_whole<P: Site>(
         (P.Disk.state site.new)
         (stop_of result) }
 {
-    Err(faulty(alloc, Code::Memory))
+    group_engine::bringing::bring_whole(tier, alloc, site, journal, place, want)
 }

@@ -1,5 +1,5 @@
 -- ALTER CACHE GROUP: what it names, and the STATE of a group that changes, alone or behind a refresh.
-use Rattle.std.proofs.Common.{◌≡◌, ℕ, Bool, true, false, cond, not, ◌&&◌, ◌||◌, nat_eq, is_none, Option, Some, None, List, length, map, slice_get, refl, sym, ap, subst, ◌∙◌, inl, inr}
+use Rattle.std.proofs.Common.{◌≡◌, ℕ, Bool, true, false, cond, not, ◌&&◌, ◌||◌, nat_eq, Option, Some, None, List, length, map, slice_get, refl, sym, ap, subst, ◌∙◌, inl, inr}
 use Rattle.std.specs.Prelude.{Result, Ok, Err}
 use Rattle.std.specs.Bool.{MatchBool}
 use Rattle.std.specs.Option.{option_or}
@@ -23,13 +23,12 @@ use Rattle.outside.specs.declared.fault.BankError.{BankError}
 use Rattle.open_sessions.specs.Lookups.{open_ops}
 use Rattle.open_sessions.specs.Opening.{seen_all}
 use Rattle.group_catalog.specs.Catalogs.{groups_in}
-use Rattle.group_store.specs.Stores.{Kept}
 use Rattle.order_laws.proofs.TruthLaws.{both_true}
 use Rattle.cache_tier.specs.declared.group.GroupDef.{GroupDef}
 use Rattle.cache_tier.specs.declared.reply.Last.TheVariants.{Done, No}
 use Rattle.cache_tier.specs.declared.reply.Reply.{Reply}
 use Rattle.cache_tier.specs.AlterSteps.{AltersTo, SetsStateAlone, SetsStateRefreshed, altered_entries, joins_something, refreshed_state, same_state, state_answer, with_state}
-use Rattle.cache_tier.specs.Groups.{Group, is_explicit, is_on, is_read_only, is_writethrough, place_called}
+use Rattle.cache_tier.specs.Groups.{Group, is_on, is_read_only, is_writethrough, place_called}
 use Rattle.cache_tier.specs.Order.{Broken, alter_broken, first_broken, of_group, refusal}
 use Rattle.cache_tier.specs.Reading.{Answers, TellsPosition, as_it_was, backing_at}
 use Rattle.cache_tier.specs.Rules.{named, past}

@@ -1,56 +1,11 @@
 -- Lists of groups and of stores of which some elements change.
-use Rattle.std.proofs.Common.{◌≡◌, ◌≤◌, ℕ, zero, suc, ◌+◌, Bool, true, false, cond, not, ◌&&◌, ◌||◌, nat_eq, Option, Some, None, is_some, List, [], ◌∷◌, ◌++◌, length, map, slice_get, unwrap_or, refl, sym, ap, subst, ◌∙◌, arith}
-use Rattle.std.proofs.lemmas.Bool.{eq-eqb, eqb-true}
-use Rattle.std.specs.Bool.{MatchBool}
-use Rattle.std.specs.Option.{option_and_then, option_map}
+use Rattle.std.proofs.Common.{◌≡◌, ℕ, zero, suc, ◌+◌, Bool, true, false, cond, Option, Some, List, [], ◌∷◌, length, map, slice_get, unwrap_or, refl, sym, ap, ◌∙◌, arith}
 use Rattle.std.specs.List.{list_all}
-use Rattle.std.specs.FinMap as fm
-use Rattle.std.specs.FinMap.{empty}
-use Rattle.row_types.specs.Order.{key_order}
-use Rattle.row_types.specs.declared.value.Value.{Value}
-use Rattle.row_types.proofs.OrderLaws.{key_exact, key_total}
-use Rattle.table_defs.specs.Declarations.{foreign_places}
-use Rattle.table_defs.specs.declared.definition.TableDef.{TableDef}
-use Rattle.indexed_rows.specs.Rows.{Table, key_of}
-use Rattle.table_state.specs.declared.history.Entry.{Entry}
-use Rattle.table_state.specs.declared.history.Sealed.{Sealed}
-use Rattle.table_state.specs.Histories.{state_at}
-use Rattle.table_state.specs.Tables.{TableState, table_at}
-use Rattle.instances.specs.declared.tree.Child.{Child}
-use Rattle.instances.specs.Trees.{is_place, place_of}
-use Rattle.instances.specs.Views.{child_rows, is_kept, kept_at, passes, refers_to_one, root_rows, rows_where, selects, with_children}
-use Rattle.instances.proofs.Gathering.{get_where}
-use Rattle.group_catalog.specs.Catalogs.{groups_in}
-use Rattle.group_store.specs.Stores.{HasRootKeys, Kept}
-use Rattle.slot_rows.specs.SlotKeys.{RowsHeld}
-use Rattle.cache_store.specs.Shown.{shown_of}
-use Rattle.cache_store.proofs.OwnLaws.{keeps}
-use Rattle.order_laws.specs.Commits.{virtual_state}
-use Rattle.order_laws.proofs.TruthLaws.{both_true, never_both}
-use Rattle.cache_tier.specs.Groups.{Group, is_explicit, is_key, is_read_only, is_writethrough}
-use Rattle.cache_tier.specs.Sets.{Choice, OnePosition, alone, at_position, changed, changed_from, is_in_view, refreshed}
-use Rattle.cache_tier.specs.Shown.{exceeds, root_key, shown, shown_in, shown_state, shown_where, shows_root, state_behind}
-use Rattle.cache_tier.specs.Standing.{AreDistinct}
-use Rattle.cache_tier.specs.StandingBetween.{HasKeys}
-use Rattle.cache_tier.proofs.ChosenGroups.{each_at}
-use Rattle.cache_tier.proofs.KeyListLaws.{key_left}
-use Rattle.cache_tier.specs.TierStates.{Tier}
-use Rattle.cache_tier.specs.Worlds.{World}
-use Rattle.cache_tier.proofs.ApartLaws.{refresh}
-use Rattle.cache_tier.proofs.GroupTables.{read_only_not}
-use Rattle.stored_tier.specs.declared.tier.Tier.{Tier as Stored}
-use Rattle.stored_tier.specs.declared.refreshing.Made.{Made}
-use Rattle.stored_tier.specs.Filling.{is_held}
-use Rattle.stored_tier.specs.Lists.{AreHiding, AreListed, HasKeysOf, IsListed, is_by_use}
-use Rattle.stored_tier.proofs.FillSteps.{mapped_at}
-use Rattle.stored_tier.proofs.ListLaws.{all_listed, hiding_long, hiding_same, hiding_there, kept_long, keys_held, listed_there}
-use Rattle.group_engine.specs.Fresh.{AreFresh, HasOwnKeys, IsFreshFor, IsViewed, is_fresh}
-use Rattle.group_engine.proofs.FreshLists.{explicit_listed, fresh_listed}
-use Rattle.stored_tier.specs.Performing.{StandsFor}
-use Rattle.stored_tier.specs.Refreshing.{exchanged, is_filled, made_hidden, made_stores, positioned}
-use Rattle.stored_tier.specs.Stored.{AreKept, IsStoredAs, without_list}
-use Rattle.group_engine.proofs.GroupRows.{AllBecome, Becomes, same_there, stands_after, there_too}
-use Rattle.group_engine.proofs.ShownStores.{EachShows, all_shown, each_shows}
+use Rattle.order_laws.proofs.TruthLaws.{both_true}
+use Rattle.cache_tier.specs.Groups.{Group}
+use Rattle.cache_tier.specs.Sets.{Choice, changed_from}
+use Rattle.stored_tier.specs.Refreshing.{exchanged}
+use Rattle.stored_tier.specs.Stored.{without_list}
 
 -- lists of which some elements change
 

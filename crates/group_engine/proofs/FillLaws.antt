@@ -41,10 +41,11 @@ use Rattle.stored_tier.specs.Choosing.{chosen}
 use Rattle.stored_tier.specs.Filling.{bare_store, comes_anew, is_held, ordered, roots_anew, tables_anew, touched_all}
 use Rattle.stored_tier.specs.Lists.{IsHidingFor, is_by_use}
 use Rattle.stored_tier.specs.Refreshing.{IsMadeAnew}
-use Rattle.cache_tier.specs.Groups.{Group}
+use Rattle.cache_tier.specs.Groups.{Group, is_key}
 use Rattle.cache_tier.specs.Shown.{exceeds}
 use Rattle.evaluator.specs.Cascades.{key_in}
 use Rattle.group_engine.specs.Fresh.{IsFreshFor, is_fresh, keys_touched}
+use Rattle.group_engine.specs.Gaining.{IsMadeWith}
 
 abbrev Row : Type 0
 Row = List Value
@@ -62,7 +63,7 @@ change_both zero f g (t ∷ ts) = refl
 change_both (suc p) f g (t ∷ ts) = ap (λ l. t ∷ l) (change_both p f g ts)
 
 -- a row with its key
-abbrev keyed_row : List ℕ → Row → Row × Row
+abbrev pub keyed_row : List ℕ → Row → Row × Row
 keyed_row places row = (key_of places row, row)
 
 rows_in_one : (place : ℕ) (rows : List Row) (k : Kept) → (put_rows place rows k).tables ≡ change_at place (λ t. with_rows t (map (keyed_row (key_at k.key k.layers place)) rows)) k.tables
@@ -98,7 +99,7 @@ entries_by places (e ∷ es) h =
     let rest = entries_by places es (λ i x at. h (suc i) x at) in
     λ i. first i ∷ rest i
 
-keyed_entries : (places : List ℕ) (t : Table) → IsKeyedBy places t → map (keyed_row places) (fm.values t) ≡ fm.entries t
+pub keyed_entries : (places : List ℕ) (t : Table) → IsKeyedBy places t → map (keyed_row places) (fm.values t) ≡ fm.entries t
 keyed_entries places t keyed = entries_by places (fm.entries t) (λ i e at. keyed e.0 e.1 (at_has t i e at))
 
 -- one table after another
@@ -125,7 +126,7 @@ tables_in n (b ∷ bs) k keyed =
     ∙ ap (changed_from (suc n) bs) (rows_in_one n (fm.values b) k ∙ ap (λ es. change_at n (λ t. with_rows t es) k.tables) (keyed_entries (key_at k.key k.layers n) b first))
 
 -- tables that were empty are those that are put in
-from_empty : (b : Table) → with_rows empty (fm.entries b) ≡ b
+pub from_empty : (b : Table) → with_rows empty (fm.entries b) ≡ b
 from_empty b = fm.same_map key_total key_exact (with_rows empty (fm.entries b)) b (λ key. get_with_rows (fm.entries b) empty key ∙ ap (λ v. option_or v (fm.find key_order key (fm.entries b))) (fm.get-empty key_order key) ∙ sym (fm.get-entries b key))
 
 abbrev empties : List Child → List Table
@@ -141,7 +142,7 @@ all_changed (c ∷ children) (b ∷ bs) e =
 
 -- a schema that goes on
 
-get_front : (defs more : List TableDef) (i : ℕ) → is_some (slice_get defs i) ≡ true → slice_get (defs ++ more) i ≡ slice_get defs i
+pub get_front : (defs more : List TableDef) (i : ℕ) → is_some (slice_get defs i) ≡ true → slice_get (defs ++ more) i ≡ slice_get defs i
 get_front [] more i e = Prim.cc
 get_front (d ∷ defs) more zero e = refl
 get_front (d ∷ defs) more (suc i) e = get_front defs more i e
@@ -234,7 +235,7 @@ module _ (s : TableState) (tree : Tree) (test : Row → Bool) (is : IsSoundState
 
 -- A copy of the tables of a tree has the same rows of it.
 
-first_one : (t : TableId) (tables : List TableId) → is_one_of (t ∷ tables) t ≡ true
+pub first_one : (t : TableId) (tables : List TableId) → is_one_of (t ∷ tables) t ≡ true
 first_one t tables = ap (λ (b : Bool). b || is_one_of tables t) (eq-eqb t.0 t.0 refl)
 
 later_one : (u t : TableId) (tables : List TableId) → is_one_of tables t ≡ true → is_one_of (u ∷ tables) t ≡ true
@@ -263,16 +264,20 @@ module _ (s copy : TableState) (schema : copy.schema ≡ s.schema) where
       ap (λ (t : Table). with_children copy tree.children (chosen (comes_anew g old hidden) t ∷ [])) (rows tree.root.table (first_one tree.root.table (map (λ (c : Child). c.table) tree.children)))
       ∙ children_copied tree.children (roots_anew s g old hidden ∷ []) (λ t e. rows t (later_one tree.root.table t (map (λ (c : Child). c.table) tree.children) e))
 
+-- the root key is that of an instance past the horizon, and of a dynamic group it is one of those that it has
+abbrev had : TableState → Group → Kept → Table → Row → Bool
+had s g old hidden key = (not g.def.dynamic || is_held old hidden key) && passes (exceeds g) (fm.get (root_rows s g.def.tree.root) key)
+
 -- the roots that come are those of the view that pass
-roots_are : (s : TableState) (g : Group) (old : Kept) (hidden : Table) → roots_anew s g old hidden ≡ fm.retain_keys (root_rows s g.def.tree.root) (is_fresh s g old hidden)
-roots_are s g old hidden = fm.same_map key_total key_exact (roots_anew s g old hidden) (fm.retain_keys (root_rows s g.def.tree.root) (is_fresh s g old hidden)) (λ q.
+roots_are : (s : TableState) (g : Group) (old : Kept) (hidden : Table) → roots_anew s g old hidden ≡ fm.retain_keys (root_rows s g.def.tree.root) (had s g old hidden)
+roots_are s g old hidden = fm.same_map key_total key_exact (roots_anew s g old hidden) (fm.retain_keys (root_rows s g.def.tree.root) (had s g old hidden)) (λ q.
     get_chosen (comes_anew g old hidden) (table_at s g.def.tree.root.table) q ∙ by q (fm.get (table_at s g.def.tree.root.table) q) refl
-    ∙ sym (fm.get-retain_keys (root_rows s g.def.tree.root) (is_fresh s g old hidden) q (λ x tie. ap (is_fresh s g old hidden) (sym (key_exact q x tie)))))
+    ∙ sym (fm.get-retain_keys (root_rows s g.def.tree.root) (had s g old hidden) q (λ x tie. ap (had s g old hidden) (sym (key_exact q x tie)))))
   where
-    by : (q : Row) (o : Option Row) → fm.get (table_at s g.def.tree.root.table) q ≡ o → cond (passes (comes_anew g old hidden q) o) o None ≡ cond (is_fresh s g old hidden q) (fm.get (root_rows s g.def.tree.root) q) None
+    by : (q : Row) (o : Option Row) → fm.get (table_at s g.def.tree.root.table) q ≡ o → cond (passes (comes_anew g old hidden q) o) o None ≡ cond (had s g old hidden q) (fm.get (root_rows s g.def.tree.root) q) None
     by q None e =
         let none : fm.get (root_rows s g.def.tree.root) q ≡ None = get_where (selects g.def.tree.root.filter) (table_at s g.def.tree.root.table) q ∙ ap (λ o. cond (passes (selects g.def.tree.root.filter) o) o None) e in
-        sym (no_row (is_fresh s g old hidden q) (fm.get (root_rows s g.def.tree.root) q) none)
+        sym (no_row (had s g old hidden q) (fm.get (root_rows s g.def.tree.root) q) none)
       where
         no_row : (b : Bool) (o : Option Row) → o ≡ None → cond b o None ≡ None
         no_row true o e = e
@@ -288,8 +293,20 @@ roots_are s g old hidden = fm.same_map key_total key_exact (roots_anew s g old h
         pick false true = refl
         pick false false = refl
 
-pub shown_anew : (s : TableState) (g : Group) (old : Kept) (hidden : Table) → tables_anew s g old hidden ≡ shown_of s g.def.tree (is_fresh s g old hidden)
+pub shown_anew : (s : TableState) (g : Group) (old : Kept) (hidden : Table) → tables_anew s g old hidden ≡ shown_of s g.def.tree (had s g old hidden)
 shown_anew s g old hidden = ap (λ t. with_children s g.def.tree.children (t ∷ [])) (roots_are s g old hidden)
+
+-- with those that it gains
+module _ (s : TableState) (g : Group) (old : Kept) (hidden wider : Table) (more : List Row) (holds : (q : Row) → is_held old wider q ≡ (is_held old hidden q || is_key more q)) where
+  pub shown_gained : shown_of s g.def.tree (had s g old wider) ≡ shown_of s g.def.tree (is_fresh s g old hidden more)
+  shown_gained = λ i. shown_of s g.def.tree (λ q. (not g.def.dynamic || holds q i) && passes (exceeds g) (fm.get (root_rows s g.def.tree.root) q))
+
+pub gains_none : (old : Kept) (hidden : Table) (q : Row) → is_held old hidden q ≡ (is_held old hidden q || is_key [] q)
+gains_none old hidden q = by (is_held old hidden q)
+  where
+    by : (b : Bool) → b ≡ (b || false)
+    by true = refl
+    by false = refl
 
 -- only keys are put in order
 
@@ -310,39 +327,64 @@ ordered_keys : (g : Group) (old s : Kept) → is_by_use g.def.aging ≡ true →
 ordered_keys g old s leaves = ap (λ b. (cond b (touched_all old.keys s) s).keys) leaves ∙ (touched_form old.keys s).2
 
 -- what is made from a copy of a group's tables shows what the group does of the state
-pub filled_from : (s copy : TableState) (schema more : List TableDef) (g : Group) (old : Kept) (hidden : Table) (m : Made) → IsSoundState s → is_sound schema g.def.tree ≡ true → s.schema ≡ schema ++ more → copy.schema ≡ s.schema
-    → ((t : TableId) → is_one_of (tables_of g.def.tree) t ≡ true → table_at copy t ≡ table_at s t) → IsMadeAnew schema copy g old hidden m → IsFreshFor s g old hidden m
-filled_from s copy schema more g old hidden m is sound front same rows made = record {
-  rows =
-      made.store.tables
-      ∙ (ordered_form g old (put_tables 0 (map fm.values (tables_anew copy g old hidden)) (bare_store schema g.def.tree))).1
-      ∙ ap (λ v. (put_tables 0 (map fm.values v) (bare_store schema g.def.tree)).tables) (anew_copied s copy same g old hidden rows ∙ shown_anew s g old hidden)
-      ∙ ap (λ b. (put_tables 0 (map fm.values (shown_of s g.def.tree (is_fresh s g old hidden))) b).tables) (sym (bare_later schema more g.def.tree sound) ∙ ap (λ defs. bare_store defs g.def.tree) (sym front))
-      ∙ filled_here s g.def.tree (is_fresh s g old hidden) is (subst (λ defs. is_sound defs g.def.tree ≡ true) (sym front) (sound_later schema more g.def.tree sound));
-  before = (put_tables 0 (map fm.values (tables_anew copy g old hidden)) (bare_store schema g.def.tree)).keys;
-  order = λ leaves. made.store.keys ∙ ordered_keys g old (put_tables 0 (map fm.values (tables_anew copy g old hidden)) (bare_store schema g.def.tree)) leaves;
-  old = made.old;
-  new = made.new;
-  bare = made.hiding.none;
-}
+pub filled_with : (s copy : TableState) (schema more : List TableDef) (g : Group) (old : Kept) (hidden wider : Table) (gained : List Row) (m : Made) → IsSoundState s → is_sound schema g.def.tree ≡ true → s.schema ≡ schema ++ more → copy.schema ≡ s.schema
+    → ((t : TableId) → is_one_of (tables_of g.def.tree) t ≡ true → table_at copy t ≡ table_at s t) → ((q : Row) → is_held old wider q ≡ (is_held old hidden q || is_key gained q)) → IsMadeWith schema copy g old wider gained m → IsFreshFor s g old hidden gained m
+filled_with s copy schema more g old hidden wider gained m is sound front same rows holds made =
+    let put = put_tables 0 (map fm.values (tables_anew copy g old wider)) (bare_store schema g.def.tree) in
+    let used = touched_form gained (ordered g old put) in
+    record {
+      rows =
+          made.store.tables
+          ∙ used.1
+          ∙ (ordered_form g old put).1
+          ∙ ap (λ v. (put_tables 0 (map fm.values v) (bare_store schema g.def.tree)).tables) (anew_copied s copy same g old wider rows ∙ shown_anew s g old wider)
+          ∙ ap (λ b. (put_tables 0 (map fm.values (shown_of s g.def.tree (had s g old wider))) b).tables) (sym (bare_later schema more g.def.tree sound) ∙ ap (λ defs. bare_store defs g.def.tree) (sym front))
+          ∙ filled_here s g.def.tree (had s g old wider) is (subst (λ defs. is_sound defs g.def.tree ≡ true) (sym front) (sound_later schema more g.def.tree sound))
+          ∙ shown_gained s g old hidden wider gained holds;
+      before = put.keys;
+      order = λ leaves. made.store.keys ∙ used.2 ∙ ap (keys_touched gained) (ordered_keys g old put leaves);
+      old = made.old;
+      new = made.new;
+      bare = made.hiding.none;
+    }
 
 -- and has the tables of the tree
-pub filled_form : (copy : TableState) (schema : List TableDef) (g : Group) (old : Kept) (hidden : Table) (m : Made) → IsMadeAnew schema copy g old hidden m → IsFor schema g.def.tree m.store
-filled_form copy schema g old hidden m made =
+pub form_with : (copy : TableState) (schema : List TableDef) (g : Group) (old : Kept) (hidden : Table) (more : List Row) (m : Made) → IsMadeWith schema copy g old hidden more m → IsFor schema g.def.tree m.store
+form_with copy schema g old hidden more m made =
     let put = put_tables 0 (map fm.values (tables_anew copy g old hidden)) (bare_store schema g.def.tree) in
     let f = form_tables 0 (map fm.values (tables_anew copy g old hidden)) (bare_store schema g.def.tree) in
     let o = (ordered_form g old put).0 in
+    let u = (touched_form more (ordered g old put)).0 in
     let filled = made.store in
-    record { table = filled.table ∙ o.table ∙ f.table; key = filled.key ∙ o.key ∙ f.key; foreign = filled.foreign ∙ o.foreign ∙ f.foreign; layers = filled.layers ∙ o.layers ∙ f.layers }
+    record { table = filled.table ∙ u.table ∙ o.table ∙ f.table; key = filled.key ∙ u.key ∙ o.key ∙ f.key; foreign = filled.foreign ∙ u.foreign ∙ o.foreign ∙ f.foreign; layers = filled.layers ∙ u.layers ∙ o.layers ∙ f.layers }
 
 -- a table for each
-pub filled_long : (copy : TableState) (schema : List TableDef) (g : Group) (old : Kept) (hidden : Table) (m : Made) → IsMadeAnew schema copy g old hidden m → length m.store.tables ≡ suc (length m.store.layers)
-filled_long copy schema g old hidden m made =
+pub long_with : (copy : TableState) (schema : List TableDef) (g : Group) (old : Kept) (hidden : Table) (more : List Row) (m : Made) → IsMadeWith schema copy g old hidden more m → length m.store.tables ≡ suc (length m.store.layers)
+long_with copy schema g old hidden more m made =
     let put = put_tables 0 (map fm.values (tables_anew copy g old hidden)) (bare_store schema g.def.tree) in
-    let form = filled_form copy schema g old hidden m made in
-    ap (λ (ts : List Table). length ts) (made.store.tables ∙ (ordered_form g old put).1)
+    let form = form_with copy schema g old hidden more m made in
+    ap (λ (ts : List Table). length ts) (made.store.tables ∙ (touched_form more (ordered g old put)).1 ∙ (ordered_form g old put).1)
     ∙ long_tables 0 (map fm.values (tables_anew copy g old hidden)) (bare_store schema g.def.tree)
     ∙ ap suc (length-map g.def.tree.children (λ (c : Child). empty) ∙ sym (length-map g.def.tree.children (layer_for schema)) ∙ ap length (sym form.layers))
 
+pub hiding_with : (copy : TableState) (schema : List TableDef) (g : Group) (old : Kept) (hidden : Table) (more : List Row) (m : Made) → IsMadeWith schema copy g old hidden more m → IsHidingFor schema g m.store m.hidden
+hiding_with copy schema g old hidden more m made = record { key = made.hiding.key; room = made.hiding.room; none = λ shows. made.hiding.none }
+
+-- the same where nothing is gained
+
+with_none : (schema : List TableDef) (copy : TableState) (g : Group) (old : Kept) (hidden : Table) (m : Made) → IsMadeAnew schema copy g old hidden m → IsMadeWith schema copy g old hidden [] m
+with_none schema copy g old hidden m made = record { store = made.store; hiding = made.hiding; old = made.old; new = made.new }
+
+pub filled_from : (s copy : TableState) (schema more : List TableDef) (g : Group) (old : Kept) (hidden : Table) (m : Made) → IsSoundState s → is_sound schema g.def.tree ≡ true → s.schema ≡ schema ++ more → copy.schema ≡ s.schema
+    → ((t : TableId) → is_one_of (tables_of g.def.tree) t ≡ true → table_at copy t ≡ table_at s t) → IsMadeAnew schema copy g old hidden m → IsFreshFor s g old hidden [] m
+filled_from s copy schema more g old hidden m is sound front same rows made =
+    filled_with s copy schema more g old hidden hidden [] m is sound front same rows (gains_none old hidden) (with_none schema copy g old hidden m made)
+
+pub filled_form : (copy : TableState) (schema : List TableDef) (g : Group) (old : Kept) (hidden : Table) (m : Made) → IsMadeAnew schema copy g old hidden m → IsFor schema g.def.tree m.store
+filled_form copy schema g old hidden m made = form_with copy schema g old hidden [] m (with_none schema copy g old hidden m made)
+
+pub filled_long : (copy : TableState) (schema : List TableDef) (g : Group) (old : Kept) (hidden : Table) (m : Made) → IsMadeAnew schema copy g old hidden m → length m.store.tables ≡ suc (length m.store.layers)
+filled_long copy schema g old hidden m made = long_with copy schema g old hidden [] m (with_none schema copy g old hidden m made)
+
 pub filled_hiding : (copy : TableState) (schema : List TableDef) (g : Group) (old : Kept) (hidden : Table) (m : Made) → IsMadeAnew schema copy g old hidden m → IsHidingFor schema g m.store m.hidden
-filled_hiding copy schema g old hidden m made = record { key = made.hiding.key; room = made.hiding.room; none = λ shows. made.hiding.none }
+filled_hiding copy schema g old hidden m made = hiding_with copy schema g old hidden [] m (with_none schema copy g old hidden m made)

@@ -1,58 +1,36 @@
 -- Behind a refresh the stored tier stands for the refreshed one.
-use Rattle.std.proofs.Common.{◌≡◌, ◌≤◌, ℕ, zero, suc, ◌+◌, Bool, true, false, cond, not, ◌&&◌, ◌||◌, nat_eq, Option, Some, None, is_some, List, [], ◌∷◌, ◌++◌, length, map, slice_get, unwrap_or, refl, sym, ap, subst, ◌∙◌, arith}
-use Rattle.std.proofs.lemmas.Bool.{eq-eqb, eqb-true}
-use Rattle.std.specs.Bool.{MatchBool}
-use Rattle.std.specs.Option.{option_and_then, option_map}
-use Rattle.std.specs.List.{list_all}
-use Rattle.std.specs.FinMap as fm
-use Rattle.std.specs.FinMap.{empty}
-use Rattle.row_types.specs.Order.{key_order}
+use Rattle.std.proofs.Common.{◌≡◌, ℕ, Bool, true, false, cond, ◌&&◌, ◌||◌, nat_eq, Option, Some, None, List, [], length, map, slice_get, refl, sym, ap, subst, ◌∙◌}
+use Rattle.std.proofs.lemmas.Bool.{eqb-true}
+use Rattle.std.specs.Option.{option_map}
 use Rattle.row_types.specs.declared.value.Value.{Value}
-use Rattle.row_types.proofs.OrderLaws.{key_exact, key_total}
-use Rattle.table_defs.specs.Declarations.{foreign_places}
-use Rattle.table_defs.specs.declared.definition.TableDef.{TableDef}
-use Rattle.indexed_rows.specs.Rows.{Table, key_of}
-use Rattle.table_state.specs.declared.history.Entry.{Entry}
-use Rattle.table_state.specs.declared.history.Sealed.{Sealed}
-use Rattle.table_state.specs.Histories.{state_at}
-use Rattle.table_state.specs.Tables.{TableState, table_at}
-use Rattle.instances.specs.declared.tree.Child.{Child}
+use Rattle.indexed_rows.specs.Rows.{Table}
+use Rattle.table_state.specs.Tables.{TableState}
 use Rattle.instances.specs.Trees.{is_place, place_of}
-use Rattle.instances.specs.Views.{child_rows, is_kept, kept_at, passes, refers_to_one, root_rows, rows_where, selects, with_children}
-use Rattle.instances.proofs.Gathering.{get_where}
+use Rattle.instances.specs.Views.{kept_at}
 use Rattle.group_catalog.specs.Catalogs.{groups_in}
 use Rattle.group_store.specs.Stores.{HasRootKeys, Kept}
 use Rattle.slot_rows.specs.SlotKeys.{RowsHeld}
-use Rattle.cache_store.specs.Shown.{shown_of}
-use Rattle.cache_store.proofs.OwnLaws.{keeps}
-use Rattle.order_laws.specs.Commits.{virtual_state}
-use Rattle.order_laws.proofs.TruthLaws.{both_true, never_both}
-use Rattle.cache_tier.specs.Groups.{Group, is_explicit, is_key, is_read_only, is_writethrough}
-use Rattle.cache_tier.specs.Sets.{Choice, OnePosition, alone, at_position, changed, changed_from, is_in_view, refreshed}
-use Rattle.cache_tier.specs.Shown.{exceeds, root_key, shown, shown_in, shown_state, shown_where, shows_root, state_behind}
-use Rattle.cache_tier.specs.Standing.{AreDistinct}
+use Rattle.cache_tier.specs.Groups.{Group, is_key, is_read_only}
+use Rattle.cache_tier.specs.Sets.{Choice, OnePosition, alone, at_position, changed, changed_from, refreshed}
+use Rattle.cache_tier.specs.Shown.{shown}
 use Rattle.cache_tier.specs.StandingBetween.{HasKeys}
 use Rattle.cache_tier.proofs.ChosenGroups.{each_at}
-use Rattle.cache_tier.proofs.KeyListLaws.{key_left}
 use Rattle.cache_tier.specs.TierStates.{Tier}
 use Rattle.cache_tier.specs.Worlds.{World}
-use Rattle.cache_tier.proofs.ApartLaws.{refresh}
-use Rattle.cache_tier.proofs.GroupTables.{read_only_not}
 use Rattle.stored_tier.specs.declared.tier.Tier.{Tier as Stored}
 use Rattle.stored_tier.specs.declared.refreshing.Made.{Made}
 use Rattle.stored_tier.specs.Filling.{is_held}
-use Rattle.stored_tier.specs.Lists.{AreHiding, AreListed, HasKeysOf, IsListed, is_by_use}
+use Rattle.stored_tier.specs.Lists.{AreHiding, AreListed, IsListed}
 use Rattle.stored_tier.proofs.FillSteps.{mapped_at}
 use Rattle.stored_tier.proofs.ListLaws.{all_listed, hiding_long, hiding_same, hiding_there, kept_long, keys_held, listed_there}
-use Rattle.group_engine.specs.Fresh.{AreFresh, HasOwnKeys, IsFreshFor, IsViewed, is_fresh}
-use Rattle.group_engine.proofs.FreshLists.{explicit_listed, fresh_listed}
+use Rattle.group_engine.specs.Fresh.{AreFresh, AreGained, HasOwnKeys, IsViewed, gained_at}
 use Rattle.stored_tier.specs.Performing.{StandsFor}
 use Rattle.stored_tier.specs.Refreshing.{exchanged, is_filled, made_hidden, made_stores, positioned}
 use Rattle.stored_tier.specs.Stored.{AreKept, IsStoredAs, without_list}
 use Rattle.group_engine.proofs.GroupRows.{AllBecome, Becomes, same_there, stands_after, there_too}
 use Rattle.group_engine.proofs.ShownStores.{EachShows, all_shown, each_shows}
 use Rattle.group_engine.proofs.ChangedLists.{changed_at, changed_long, changed_mapped, exchanged_long, exchanged_there, mapped_long, mapped_there}
-use Rattle.group_engine.proofs.FreshGroup.{Changes, hidden_or, store_or, last, one_becomes, one_shows, one_listed}
+use Rattle.group_engine.proofs.FreshGroup.{Changes, GainChanges, GainsOnly, changes_none, gained_here, gains_nothing, hidden_or, store_or, last, one_becomes, one_shows, one_listed}
 
 abbrev Row : Type 0
 Row = List Value
@@ -85,10 +63,11 @@ pub record IsRefreshed (t t' : Stored) (chosen : Choice) (place : ℕ) (change :
   pub kept : AreKept t'.schema (groups_in t'.catalog) t'.stores.items
   pub long : length made ≡ length (groups_in t.catalog)
 
-module _ (t t' : Stored) (mid : World) (flag : Bool) (place : ℕ) (chosen : Choice) (loads : Option ℕ) (change : Group → Group) (ch : Changes flag place chosen loads change) (n : ℕ) (made : List (Option Made))
-    (x : StandsFor t mid) (fresh : AreFresh t mid (is_filled chosen loads) n made) (is : IsRefreshed t t' chosen place change n made)
+module _ (t t' : Stored) (mid : World) (flag : Bool) (place : ℕ) (chosen : Choice) (loads : Option ℕ) (more : List Row) (change seen : Group → Group) (ch : GainChanges flag place chosen loads more change) (n : ℕ) (made : List (Option Made))
+    (x : StandsFor t mid) (fresh : AreGained t mid (is_filled chosen loads) place more n made) (is : IsRefreshed t t' chosen place seen n made)
+    (gains : (g : Group) → slice_get mid.tier.groups place ≡ Some g → GainsOnly fresh.state g more)
     (reads : (k : ℕ) (g : Group) → slice_get mid.tier.groups k ≡ Some g → chosen k g ≡ true → is_read_only g ≡ true)
-    (mapped : (g : Group) → without_list (change g) ≡ change (without_list g)) where
+    (mapped : (g : Group) → without_list (change g) ≡ seen (without_list g)) where
   abbrev gs : List Group
   gs = mid.tier.groups
 
@@ -96,7 +75,7 @@ module _ (t t' : Stored) (mid : World) (flag : Bool) (place : ℕ) (chosen : Cho
   final = groups_behind chosen place change n fresh.state mid.tier.groups
 
   abbrev one : ℕ → Group → Group
-  one = last mid.history mid.tier.log (length mid.history) n fresh.state fresh.there fresh.within flag place chosen loads change ch
+  one = last mid.history mid.tier.log (length mid.history) n fresh.state fresh.there fresh.within flag place chosen loads more change ch
 
   final_there : (k : ℕ) (g : Group) → slice_get gs k ≡ Some g → slice_get final k ≡ Some (one k g)
   final_there k g at = changed_at (alone place) change (changed_from chosen (at_position n fresh.state) 0 gs) k (cond (chosen k g) (at_position n fresh.state g) g) (changed_at chosen (at_position n fresh.state) gs k g at)
@@ -107,19 +86,26 @@ module _ (t t' : Stored) (mid : World) (flag : Bool) (place : ℕ) (chosen : Cho
   in_catalog : (k : ℕ) (g : Group) → slice_get gs k ≡ Some g → slice_get (groups_in t.catalog) k ≡ Some (without_list g)
   in_catalog k g at = ap (λ l. slice_get l k) (sym x.stored.groups) ∙ mapped_there gs k g at
 
+  gains_at : (k : ℕ) (g : Group) → slice_get gs k ≡ Some g → GainsOnly fresh.state g (gained_at place more k)
+  gains_at k g at = by (nat_eq k place) refl
+    where
+      by : (b : Bool) → nat_eq k place ≡ b → GainsOnly fresh.state g (gained_at place more k)
+      by true e = subst (GainsOnly fresh.state g) (sym (gained_here place more k true e)) (gains g (ap (slice_get gs) (sym (eqb-true k place e)) ∙ at))
+      by false e = subst (GainsOnly fresh.state g) (sym (gained_here place more k false e)) (gains_nothing fresh.state g)
+
   become : AllBecome mid final
   become = record {
     long = final_long;
     one = λ k g h at there.
         let same : h ≡ one k g = same_there final k h (one k g) there (final_there k g at) in
         subst (Becomes mid g) (sym same)
-        (one_becomes mid.history mid.tier.log (length mid.history) n fresh.state fresh.there fresh.within flag place chosen loads change ch k g (reads k g at) mid refl refl refl);
+        (one_becomes mid.history mid.tier.log (length mid.history) n fresh.state fresh.there fresh.within flag place chosen loads more change ch k g (reads k g at) (gains_at k g at) mid refl refl refl);
   }
 
   groups_then : map without_list final ≡ groups_in t'.catalog
   groups_then =
-      changed_mapped (alone place) change change 0 (changed_from chosen (at_position n fresh.state) 0 gs) (λ k g. refl) mapped
-      ∙ ap (changed_from (alone place) change 0) (changed_mapped chosen (at_position n fresh.state) (positioned n) 0 gs ch.unlisted (λ g. refl) ∙ ap (changed_from chosen (positioned n) 0) x.stored.groups)
+      changed_mapped (alone place) change seen 0 (changed_from chosen (at_position n fresh.state) 0 gs) (λ k g. refl) mapped
+      ∙ ap (changed_from (alone place) seen 0) (changed_mapped chosen (at_position n fresh.state) (positioned n) 0 gs ch.unlisted (λ g. refl) ∙ ap (changed_from chosen (positioned n) 0) x.stored.groups)
       ∙ sym is.groups
 
   shows_before : EachShows mid.history mid.tier.log gs t.stores.items
@@ -136,7 +122,7 @@ module _ (t t' : Stored) (mid : World) (flag : Bool) (place : ℕ) (chosen : Cho
     store_then : slice_get t'.stores.items k ≡ Some (store_or new store)
     rows_then : slice_get t'.hidden.items k ≡ Some (hidden_or new rows)
     keyed : HasOwnKeys fresh.state g
-    viewed : IsViewed (is_filled chosen loads k g) fresh.state g store rows.table new
+    viewed : IsViewed (is_filled chosen loads k g) fresh.state g store rows.table (gained_at place more k) new
     listed : IsListed g store rows.table
     held : g.def.dynamic ≡ true → HasRootKeys store → (q : Row) → is_key g.keys q ≡ is_held store rows.table q
 
@@ -159,15 +145,15 @@ module _ (t t' : Stored) (mid : World) (flag : Bool) (place : ℕ) (chosen : Cho
         store_then = ap (λ l. slice_get l k) is.stores ∙ exchanged_there t.stores.items (made_stores made) k s (option_map (λ (m : Made). m.store) o) s_at (mapped_at (option_map (λ (m : Made). m.store)) made k o o_at);
         rows_then = ap (λ l. slice_get l k) is.hidden ∙ exchanged_there t.hidden.items (made_hidden made) k r (option_map (λ (m : Made). m.hidden) o) r_at (mapped_at (option_map (λ (m : Made). m.hidden)) made k o o_at);
         keyed = fresh.keyed k (without_list g) (in_catalog k g at);
-        viewed = subst (λ b. IsViewed (b && (g.def.dynamic || (g.loaded || is_place k loads))) fresh.state g s r.table o) (ch.unlisted k g) (views_of (is_filled chosen loads k (without_list g)) o s r.table (fresh.views k (without_list g) s r o (in_catalog k g at) s_at r_at o_at));
+        viewed = subst (λ b. IsViewed (b && (g.def.dynamic || (g.loaded || is_place k loads))) fresh.state g s r.table (gained_at place more k) o) (ch.unlisted k g) (views_of (is_filled chosen loads k (without_list g)) o s r.table (gained_at place more k) (fresh.views k (without_list g) s r o (in_catalog k g at) s_at r_at o_at));
         listed = listed;
         held = λ dynamic has q. keys_held t.schema g s r listed hiding has dynamic q;
       }
     where
-      views_of : (b : Bool) (o : Option Made) (s : Kept) (r : Table) → IsViewed b fresh.state (without_list g) s r o → IsViewed b fresh.state g s r o
-      views_of true None s r v = v
-      views_of true (Some m) s r v = record { rows = v.rows; before = v.before; order = v.order; old = v.old; new = v.new; bare = v.bare }
-      views_of false o s r v = v
+      views_of : (b : Bool) (o : Option Made) (s : Kept) (r : Table) (l : List Row) → IsViewed b fresh.state (without_list g) s r l o → IsViewed b fresh.state g s r l o
+      views_of true None s r l v = v
+      views_of true (Some m) s r l v = record { rows = v.rows; before = v.before; order = v.order; old = v.old; new = v.new; bare = v.bare }
+      views_of false o s r l v = v
 
   shows_then : EachShows mid.history mid.tier.log final t'.stores.items
   shows_then k h s' u p at there spot =
@@ -178,7 +164,7 @@ module _ (t t' : Stored) (mid : World) (flag : Bool) (place : ℕ) (chosen : Cho
       let kept_def = (become.one k g h was at).kept.def in
       let spot_before : place_of g.def.tree u ≡ Some p = ap (λ (d : Rattle.cache_tier.specs.declared.group.GroupDef.GroupDef). place_of d.tree u) (sym kept_def) ∙ spot in
       ap (λ (y : Kept). kept_at y.tables p) store
-      ∙ one_shows mid.history mid.tier.log (length mid.history) n fresh.state fresh.there fresh.within flag place chosen loads change ch k g (reads k g was) here.store here.rows here.new here.keyed here.viewed p here.held (shows_before k g here.store u p was here.store_at spot_before)
+      ∙ one_shows mid.history mid.tier.log (length mid.history) n fresh.state fresh.there fresh.within flag place chosen loads more change ch k g (reads k g was) (gains_at k g was) here.store here.rows here.new here.keyed here.viewed p here.held (shows_before k g here.store u p was here.store_at spot_before)
       ∙ ap (λ (y : Group). kept_at (shown mid.history mid.tier.log y) p) (sym same)
 
   lists_then : AreListed final t'.stores.items t'.hidden.items
@@ -195,7 +181,7 @@ module _ (t t' : Stored) (mid : World) (flag : Bool) (place : ℕ) (chosen : Cho
       subst (λ y. IsListed y s' r'.table) (sym same)
       (subst (λ y. IsListed (one k g) y r'.table) (sym store)
       (subst (λ (y : RowsHeld). IsListed (one k g) (store_or here.new here.store) y.table) (sym rows)
-      (one_listed mid.history mid.tier.log (length mid.history) n fresh.state fresh.there fresh.within flag place chosen loads change ch k g (reads k g was) here.store here.rows here.new here.keyed here.viewed distinct here.held here.listed))))
+      (one_listed mid.history mid.tier.log (length mid.history) n fresh.state fresh.there fresh.within flag place chosen loads more change ch k g (reads k g was) (gains_at k g was) here.store here.rows here.new here.keyed here.viewed distinct here.held here.listed))))
     where
       catalog_long : length (groups_in t.catalog) ≡ length final
       catalog_long = ap length (sym x.stored.groups) ∙ mapped_long gs ∙ sym final_long
@@ -223,6 +209,14 @@ module _ (t t' : Stored) (mid : World) (flag : Bool) (place : ℕ) (chosen : Cho
   }
 
   -- so it is of the world that the refresh leads to
-  pub stands_behind : ((s : TableState) → OnePosition (groups_behind chosen place change n s mid.tier.groups)) → StandsFor t' (record mid { tier = tier_behind chosen place change n (Rattle.cache_tier.specs.Reading.backing_at mid n) mid.tier })
-  stands_behind positions =
+  pub gained_behind : ((s : TableState) → OnePosition (groups_behind chosen place change n s mid.tier.groups)) → StandsFor t' (record mid { tier = tier_behind chosen place change n (Rattle.cache_tier.specs.Reading.backing_at mid n) mid.tier })
+  gained_behind positions =
       subst (λ s. StandsFor t' (record mid { tier = tier_behind chosen place change n s mid.tier })) (sym (ap Rattle.cache_tier.specs.Reading.state_or_none fresh.there)) (behind_here (positions fresh.state))
+
+-- the same where none is gained
+pub stands_behind : (t t' : Stored) (mid : World) (flag : Bool) (place : ℕ) (chosen : Choice) (loads : Option ℕ) (change : Group → Group) → Changes flag place chosen loads change → (n : ℕ) (made : List (Option Made)) → StandsFor t mid → AreFresh t mid (is_filled chosen loads) n made
+    → IsRefreshed t t' chosen place change n made → ((k : ℕ) (g : Group) → slice_get mid.tier.groups k ≡ Some g → chosen k g ≡ true → is_read_only g ≡ true) → ((g : Group) → without_list (change g) ≡ change (without_list g))
+    → ((s : TableState) → OnePosition (groups_behind chosen place change n s mid.tier.groups)) → StandsFor t' (record mid { tier = tier_behind chosen place change n (Rattle.cache_tier.specs.Reading.backing_at mid n) mid.tier })
+stands_behind t t' mid flag place chosen loads change ch n made x fresh is reads mapped positions =
+    gained_behind t t' mid flag place chosen loads [] change change (changes_none flag place chosen loads change ch) n made x
+    (record { state = fresh.state; there = fresh.there; within = fresh.within; keyed = fresh.keyed; views = fresh.views }) is (λ g at. gains_nothing fresh.state g) reads mapped positions

@@ -1,10 +1,11 @@
 -- The list of a group behind a refresh of its store.
-use Rattle.std.proofs.Common.{◌≡◌, Bool, true, false, cond, not, ◌&&◌, ◌||◌, List, [], ◌∷◌, ◌++◌, filter, map, is_some, refl, sym, ap, subst, ◌∙◌}
+use Rattle.std.proofs.Common.{◌≡◌, Bool, true, false, cond, not, ◌&&◌, ◌||◌, List, [], ◌∷◌, ◌++◌, filter, is_some, refl, sym, ap, subst, ◌∙◌}
 use Rattle.std.specs.Bool.{MatchBool}
 use Rattle.std.specs.FinMap as fm
 use Rattle.std.specs.FinMap.{empty}
-use Rattle.std.specs.List.{flat_map, list_any}
+use Rattle.std.specs.List.{flat_map}
 use Rattle.std.proofs.lemmas.List.{append-nil}
+use Rattle.std.proofs.lemmas.List.Folds.{list_any-append}
 use Rattle.row_types.specs.Order.{key_order}
 use Rattle.row_types.specs.declared.value.Value.{Value}
 use Rattle.indexed_rows.specs.Rows.{Table, is_same}
@@ -12,8 +13,9 @@ use Rattle.indexed_rows.proofs.EntryLaws.{same_itself, same_values}
 use Rattle.instances.specs.Views.{kept_at}
 use Rattle.recency.specs.Rings.{keys_without, touched}
 use Rattle.group_store.specs.Stores.{HasRootKeys, Kept}
-use Rattle.cache_tier.specs.Groups.{Group, has_list, is_key, is_read_only}
+use Rattle.cache_tier.specs.Groups.{Group, has_list, is_key, is_read_only, without_keys}
 use Rattle.cache_tier.specs.Standing.{AreDistinct}
+use Rattle.cache_tier.proofs.ApartLaws.{with_apart}
 use Rattle.cache_tier.proofs.KeyListLaws.{key_left}
 use Rattle.stored_tier.specs.Lists.{HasKeysOf, IsListed, is_by_use}
 use Rattle.group_engine.specs.Fresh.{keys_touched}
@@ -214,7 +216,7 @@ module _ (used keys final : List Row) (distinct : AreDistinct used) (is : final 
       ∙ ap (λ l. l ++ in_turn used keys) (none_over keys (λ k e. e))
       ∙ in_order used
 
-filter_same : (p q : Row → Bool) (xs : List Row) → ((k : Row) → is_key xs k ≡ true → p k ≡ q k) → filter p xs ≡ filter q xs
+pub filter_same : (p q : Row → Bool) (xs : List Row) → ((k : Row) → is_key xs k ≡ true → p k ≡ q k) → filter p xs ≡ filter q xs
 filter_same p q [] same = refl
 filter_same p q (x ∷ xs) same =
     ap (λ b. cond b (x ∷ filter p xs) (filter p xs)) (same x (ap (λ b. b || is_key xs x) (same_itself x x refl)))
@@ -224,11 +226,43 @@ filter_same p q (x ∷ xs) same =
     or_true true = refl
     or_true false = refl
 
--- The list of a group that was made anew: of the keys that it had those that pass. The store has the root keys of these;
--- where instances leave by last use they were touched in the old order.
-pub fresh_listed : (g : Group) (p : Row → Bool) (keys : List Row) (old new : Kept) (hidden : Table) (before : List Row) → AreDistinct keys → g.keys ≡ filter p keys → hidden ≡ empty → HasRootKeys new
-    → ((q : Row) → fm.contains_key (kept_at new.tables 0) q ≡ (is_key keys q && p q)) → (is_by_use g.def.aging ≡ true → new.keys ≡ keys_touched old.keys before) → (is_by_use g.def.aging ≡ true → keys ≡ old.keys) → g.def.dynamic ≡ true → IsListed g new hidden
-fresh_listed g p keys old new hidden before distinct are bare has rows order same dynamic = by (has_list g && is_by_use g.def.aging) refl
+pub filter_true : (xs : List Row) → filter (λ key. true) xs ≡ xs
+filter_true [] = refl
+filter_true (x ∷ xs) = ap (λ l. x ∷ l) (filter_true xs)
+
+filter_all : (p : Row → Bool) (xs : List Row) → ((k : Row) → is_key xs k ≡ true → p k ≡ true) → filter p xs ≡ xs
+filter_all p xs all = filter_same p (λ key. true) xs all ∙ filter_true xs
+
+-- keys that a list doesn't have come behind its own
+
+abbrev pub more_keys : List Row → List Row → List Row
+more_keys keys [] = keys
+more_keys keys (key ∷ more) = keys ++ key ∷ more
+
+pub more_is : (keys more : List Row) → more_keys keys more ≡ keys ++ more
+more_is keys [] = sym (append-nil keys)
+more_is keys (key ∷ more) = refl
+
+pub key_more : (keys more : List Row) (q : Row) → is_key (more_keys keys more) q ≡ (is_key keys q || is_key more q)
+key_more keys more q = ap (λ l. is_key l q) (more_is keys more) ∙ list_any-append (is_same q) keys more
+
+-- keys of which a list has none
+pub all_new : (keys more : List Row) → ((q : Row) → is_key more q ≡ true → is_key keys q ≡ false) → without_keys keys more ≡ more
+all_new keys more new = filter_all (λ key. not (is_key keys key)) more (λ k e. ap not (new k e))
+
+pub more_apart : (keys more : List Row) → AreDistinct keys → AreDistinct more → ((q : Row) → is_key more q ≡ true → is_key keys q ≡ false) → AreDistinct (keys ++ more)
+more_apart keys more distinct apart new = subst (λ l. AreDistinct (keys ++ l)) (all_new keys more new) (with_apart more keys apart distinct)
+
+touched_append : (a b keys : List Row) → keys_touched (a ++ b) keys ≡ keys_touched b (keys_touched a keys)
+touched_append [] b keys = refl
+touched_append (q ∷ a) b keys = touched_append a b (touched is_same q keys)
+
+-- The list of a group that was made anew: of the keys that it had those that pass, and those that it gains behind them.
+-- The store has the root keys of these; where instances leave by last use they were touched in this order.
+pub gained_listed : (g : Group) (p : Row → Bool) (keys more : List Row) (old new : Kept) (hidden : Table) (before : List Row) → AreDistinct keys → AreDistinct more → ((q : Row) → is_key more q ≡ true → is_key keys q ≡ false) → ((q : Row) → is_key more q ≡ true → p q ≡ true)
+    → g.keys ≡ more_keys (filter p keys) more → hidden ≡ empty → HasRootKeys new → ((q : Row) → fm.contains_key (kept_at new.tables 0) q ≡ ((is_key keys q || is_key more q) && p q))
+    → (is_by_use g.def.aging ≡ true → new.keys ≡ keys_touched more (keys_touched old.keys before)) → (is_by_use g.def.aging ≡ true → keys ≡ old.keys) → g.def.dynamic ≡ true → IsListed g new hidden
+gained_listed g p keys more old new hidden before distinct apart unheld passing are bare has rows order same dynamic = by (has_list g && is_by_use g.def.aging) refl
   where
     second : (a b : Bool) → (a && b) ≡ true → b ≡ true
     second true b e = e
@@ -238,26 +272,42 @@ fresh_listed g p keys old new hidden before distinct are bare has rows order sam
     first true b e = refl
     first false b e = cc
 
-    new_keys : (q : Row) → is_key new.keys q ≡ (is_key keys q && p q)
+    or_true : (b : Bool) → (b || true) ≡ true
+    or_true true = refl
+    or_true false = refl
+
+    new_keys : (q : Row) → is_key new.keys q ≡ ((is_key keys q || is_key more q) && p q)
     new_keys q = has.are q ∙ rows q
+
+    had_key : (k : Row) → is_key keys k ≡ true → is_key new.keys k ≡ p k
+    had_key k e = new_keys k ∙ ap (λ b. (b || is_key more k) && p k) e
+
+    gained_key : (k : Row) → is_key more k ≡ true → is_key new.keys k ≡ true
+    gained_key k e = new_keys k ∙ ap (λ b. (is_key keys k || b) && p k) e ∙ ap (λ b. b && p k) (or_true (is_key keys k)) ∙ passing k e
 
     in_order : is_by_use g.def.aging ≡ true → g.keys ≡ new.keys
     in_order leaves =
-        are
-        ∙ filter_same p (is_key new.keys) keys (λ k e. sym (new_keys k ∙ ap (λ b. b && p k) e))
-        ∙ ap (filter (is_key new.keys)) (same leaves)
-        ∙ sym (in_use_order old.keys before new.keys (subst AreDistinct (same leaves) distinct) (order leaves)
+        are ∙ more_is (filter p keys) more
+        ∙ (let front = filter_same p (is_key new.keys) keys (λ k e. sym (had_key k e)) in let behind = sym (filter_all (is_key new.keys) more gained_key) in λ i. front i ++ behind i)
+        ∙ sym (filter_append (is_key new.keys) keys more)
+        ∙ sym (in_use_order (keys ++ more) before new.keys (more_apart keys more distinct apart unheld)
+        (order leaves ∙ ap (λ l. keys_touched more (keys_touched l before)) (sym (same leaves)) ∙ sym (touched_append keys more before))
         (λ k e. has.once k (sym (has.are k) ∙ e))
-        (λ k e. ap (λ l. is_key l k) (sym (same leaves)) ∙ first (is_key keys k) (p k) (sym (new_keys k) ∙ e)))
+        (λ k e. list_any-append (is_same k) keys more ∙ first (is_key keys k || is_key more k) (p k) (sym (new_keys k) ∙ e)))
 
     of_both : HasKeysOf g.keys new hidden
     of_both q =
-        ap (λ l. is_key l q) are ∙ key_left p keys q ∙ sym (new_keys q)
+        ap (λ l. is_key l q) are ∙ key_more (filter p keys) more q ∙ ap (λ b. b || is_key more q) (key_left p keys q)
+        ∙ swapped (is_key keys q) (p q) (is_key more q) (passing q) ∙ sym (new_keys q)
         ∙ sym (ap (λ b. is_key new.keys q || b) (ap (λ (t : Table). fm.contains_key t q) bare ∙ ap is_some (fm.get-empty key_order q)) ∙ or_false (is_key new.keys q))
       where
         or_false : (b : Bool) → (b || false) ≡ b
         or_false true = refl
         or_false false = refl
+
+        swapped : (a b m : Bool) → (m ≡ true → b ≡ true) → ((a && b) || m) ≡ ((a || m) && b)
+        swapped a b false so = or_false (a && b) ∙ sym (ap (λ c. c && b) (or_false a))
+        swapped a b true so = or_true (a && b) ∙ sym (ap (λ c. c && b) (or_true a) ∙ so refl)
 
     by : (b : Bool) → (has_list g && is_by_use g.def.aging) ≡ b → MatchBool b (g.keys ≡ new.keys) (MatchBool g.def.dynamic (HasKeysOf g.keys new hidden) (Unit {0}))
     by true leaves = in_order (second (has_list g) (is_by_use g.def.aging) leaves)

@@ -1,5 +1,5 @@
 -- The lists of keys and the hidden rows of groups, where the store of one of them becomes another.
-use Rattle.std.proofs.Common.{◌≡◌, ◌≤◌, ℕ, Bool, true, false, cond, not, ◌&&◌, ◌||◌, nat_eq, Some, List, [], ◌∷◌, zero, suc, length, set, slice_get, slice_set, arith, refl, sym, ap, subst, ◌∙◌}
+use Rattle.std.proofs.Common.{◌≡◌, ◌≤◌, ℕ, Bool, true, false, cond, ◌&&◌, ◌||◌, nat_eq, Some, List, [], ◌∷◌, zero, suc, length, set, slice_get, refl, sym, ap, subst, ◌∙◌}
 use Rattle.std.specs.Bool.{MatchBool}
 use Rattle.std.specs.FinMap.{contains_key, len}
 use Rattle.std.proofs.lemmas.Bool.{eqb-true}
@@ -9,7 +9,7 @@ use Rattle.indexed_rows.specs.Rows.{Table}
 use Rattle.table_defs.specs.declared.definition.TableDef.{TableDef}
 use Rattle.slot_rows.specs.SlotKeys.{RowsHeld}
 use Rattle.group_store.specs.Stores.{Kept, SameButSpare}
-use Rattle.cache_tier.specs.Groups.{Group, has_list, is_explicit, is_key, is_read_only, with_keys}
+use Rattle.cache_tier.specs.Groups.{Group, has_list, is_key, is_read_only, with_keys}
 use Rattle.cache_tier.specs.Sets.{alone, changed_from}
 use Rattle.cache_tier.proofs.KeyListLaws.{key_with}
 use Rattle.stored_tier.specs.Lists.{AreHiding, AreListed, HasKeysOf, IsHidingFor, IsListed, hides_keys, is_by_time, is_by_use}
@@ -101,16 +101,6 @@ module _ (place : ℕ) (f : Group → Group) (gs : List Group) (stores : List Ke
           subst (λ y. IsHidingFor schema (f g) y x) (sym (left_here k n e kept)) (one g x g_at x_at (hiding_there schema gs stores hidden place g s x are g_at at x_at))
       by k n x g there kept held false e = hiding_there schema gs stores hidden k g n x are there (kept_there k n e kept) held
 
--- an explicit group whose instances don't leave by last use tells its list by what it shows
-pub none_asked : (h : Group) (n : Kept) (hidden : Table) → (h.def.dynamic || is_by_use h.def.aging) ≡ false → IsListed h n hidden
-none_asked h n hidden e = by (has_list h) (is_by_use h.def.aging) h.def.dynamic e
-  where
-    by : (l u d : Bool) → (d || u) ≡ false → MatchBool (l && u) (h.keys ≡ n.keys) (MatchBool d (HasKeysOf h.keys n hidden) (Unit {0}))
-    by l u true e = cc
-    by true true false e = cc
-    by true false false e = tt
-    by false u false e = tt
-
 -- the list grows as the keys of the store do
 pub grown_listed : (g : Group) (more : List Row) (s n : Kept) (hidden : Table) → n.keys ≡ with_keys more s.keys → IsListed g s hidden → IsListed (record g { keys = with_keys more g.keys }) n hidden
 grown_listed g more s n hidden keys is = by (has_list g && is_by_use g.def.aging) g.def.dynamic is
@@ -136,21 +126,13 @@ pub writes_hides : (g : Group) → is_read_only g ≡ false → hides_keys g ≡
 writes_hides g e = ap (λ b. (b && g.def.dynamic) && is_by_time g.def.aging) e
 
 -- an explicit group hides no rows
-pub unhidden : (g : Group) → (g.def.dynamic || is_by_use g.def.aging) ≡ false → hides_keys g ≡ false
-unhidden g e = by (is_read_only g) g.def.dynamic (is_by_time g.def.aging) (is_by_use g.def.aging) e
+pub unhidden : (g : Group) → g.def.dynamic ≡ false → hides_keys g ≡ false
+unhidden g e = by (is_read_only g) g.def.dynamic (is_by_time g.def.aging) e
   where
-    by : (r d t u : Bool) → (d || u) ≡ false → ((r && d) && t) ≡ false
-    by r true t u e = cc
-    by true false t u e = refl
-    by false false t u e = refl
-
--- and it is explicit
-pub explicit_so : (g : Group) → (g.def.dynamic || is_by_use g.def.aging) ≡ false → is_explicit g ≡ true
-explicit_so g e = by g.def.dynamic (is_by_use g.def.aging) e
-  where
-    by : (d u : Bool) → (d || u) ≡ false → not d ≡ true
-    by true u e = cc
-    by false u e = refl
+    by : (r d t : Bool) → d ≡ false → ((r && d) && t) ≡ false
+    by r true t e = cc
+    by true false t e = refl
+    by false false t e = refl
 
 -- a group that hides no rows hides none with another store
 pub hides_none : (schema : List TableDef) (g : Group) (s n : Kept) (x : RowsHeld) → hides_keys g ≡ false → IsHidingFor schema g s x → IsHidingFor schema g n x

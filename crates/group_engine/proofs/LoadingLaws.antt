@@ -22,7 +22,7 @@ use Rattle.stored_tier.specs.declared.tier.Tier.{Tier as Stored}
 use Rattle.group_engine.specs.Aiming.{AimsIn, FindsTarget, aimed}
 use Rattle.stored_tier.specs.Performing.{Executes, PerformsInOver, PerformsOver, reply_of}
 use Rattle.outside.specs.Sites.{SiteState}
-use Rattle.group_engine.specs.Taking.{IsGroupAt, IsOfTarget, IsSettledAt, LoadsTarget, PerformsWhere, ReadsMatching}
+use Rattle.group_engine.specs.Taking.{IsGroupAt, IsOfTarget, IsSettledAt, LoadsTarget, PerformsWhere, ReadsMatching, ReadsTried}
 use Rattle.group_engine.proofs.ReadyLaws.{kept_here, refused_over, wanting_over}
 use Rattle.tier_journal.specs.declared.journal.TierJournal.{TierJournal}
 use Rattle.outside.specs.Holding.{Held}
@@ -95,15 +95,14 @@ module _ {D : Type 0} (state : D → SiteState) (possible : D → ℕ → Held �
 -- what is aimed at
 
 pub aimed_whole : {D : Type 0} (state : D → SiteState) (possible : D → ℕ → Held → Type 0) (old new : Stored) (k k' : Option TierJournal) (d d' : D) (place : ℕ) (x : Target) (refreshes : Bool) (reply : Reply) → is_read_only x.group ≡ true
-    → PerformsOver state possible old new k k' d d' (Some reply) (λ w w'. slice_get w.tier.groups place ≡ Some x.group → Tries (LoadsReadOnly x) w w' reply)
-    → PerformsOver state possible old new k k' d d' (Some reply) (λ w w'. slice_get w.tier.groups place ≡ Some x.group → Tries (RefreshesReadOnly x) w w' reply)
+    → PerformsWhere (IsGroupAt place x.group) state possible old new k k' d d' (Some reply) (λ w w'. Tries (ReadsTried refreshes x) w w' reply)
     → PerformsWhere (IsGroupAt place x.group) state possible old new k k' d d' (Some reply) (λ w w'. Tries (LoadsTarget refreshes x) w w' reply)
-aimed_whole state possible old new k k' d d' place x true reply reads loads refreshing_it w at stands apart keeps there =
-    let it = refreshing_it w at stands apart keeps in
-    record { world = it.world; at = it.at; stands = it.stands; keeps = it.keeps; is = subst (λ b. Tries (λ v v' r. MatchBool b (RefreshesReadOnly x v v' r) (RefreshesWritethrough x v v' r)) w it.world reply) (sym reads) (it.is there) }
-aimed_whole state possible old new k k' d d' place x false reply reads loads refreshing_it w at stands apart keeps there =
-    let it = loads w at stands apart keeps in
-    record { world = it.world; at = it.at; stands = it.stands; keeps = it.keeps; is = subst (λ b. Tries (λ v v' r. MatchBool b (LoadsReadOnly x v v' r) (LoadsWritethrough x v v' r)) w it.world reply) (sym reads) (it.is there) }
+aimed_whole state possible old new k k' d d' place x true reply reads does w at stands apart keeps there =
+    let it = does w at stands apart keeps there in
+    record { world = it.world; at = it.at; stands = it.stands; keeps = it.keeps; is = subst (λ b. Tries (λ v v' r. MatchBool b (RefreshesReadOnly x v v' r) (RefreshesWritethrough x v v' r)) w it.world reply) (sym reads) it.is }
+aimed_whole state possible old new k k' d d' place x false reply reads does w at stands apart keeps there =
+    let it = does w at stands apart keeps there in
+    record { world = it.world; at = it.at; stands = it.stands; keeps = it.keeps; is = subst (λ b. Tries (λ v v' r. MatchBool b (LoadsReadOnly x v v' r) (LoadsWritethrough x v v' r)) w it.world reply) (sym reads) it.is }
 
 pub aimed_behind : {D : Type 0} (state : D → SiteState) (possible : D → ℕ → Held → Type 0) (old new : Stored) (k k' : Option TierJournal) (d d' : D) (place : ℕ) (x : Target) (refreshes : Bool) (reply : Reply) → is_read_only x.group ≡ false
     → PerformsWhere (IsGroupAt place x.group) state possible old new k k' d d' (Some reply) (λ w w'. Then RoundIfUnsettled (ReadsMatching refreshes x) w w' reply)

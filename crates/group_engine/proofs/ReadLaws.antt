@@ -1,5 +1,6 @@
 -- What is read for a refresh, in the worlds at the site.
 use Rattle.std.proofs.Common.{◌≡◌, ◌≤◌, ℕ, zero, suc, ◌+◌, Bool, true, false, cond, ◌||◌, nat_eq, Option, Some, None, List, [], ◌∷◌, ◌++◌, length, map, slice_get, take, refl, sym, ap, subst, ◌∙◌, arith}
+use Rattle.std.proofs.lemmas.Bool.{eqb-true}
 use Rattle.std.proofs.lemmas.List.{append-nil}
 use Rattle.std.proofs.lemmas.List.Folds.{list_any-append}
 use Rattle.std.specs.Prelude.{Result, Ok, Err}
@@ -8,11 +9,12 @@ use Rattle.std.specs.FinMap.{empty}
 use Rattle.row_types.specs.declared.value.Value.{Value}
 use Rattle.tier_base.specs.declared.number.TableId.{TableId}
 use Rattle.table_defs.specs.declared.definition.TableDef.{TableDef}
-use Rattle.indexed_rows.specs.Rows.{Table}
+use Rattle.indexed_rows.specs.Rows.{Table, key_of}
 use Rattle.table_state.specs.declared.history.Entry.{Entry}
 use Rattle.table_state.specs.Copies.{is_one_of}
 use Rattle.table_state.specs.Histories.{state_at, state_of}
 use Rattle.table_state.specs.Tables.{TableState, table_at}
+use Rattle.instances.specs.declared.tree.Child.{Child}
 use Rattle.instances.specs.Trees.{is_place}
 use Rattle.outside.specs.Bank.{Grows}
 use Rattle.outside.specs.Calls as site
@@ -24,10 +26,11 @@ use Rattle.outside.specs.declared.fault.BankError.TheVariants.{Memory}
 use Rattle.outside.specs.declared.site.Snapshot.{Snapshot}
 use Rattle.order_laws.proofs.TruthLaws.{both_true, or_true}
 use Rattle.group_catalog.specs.Catalogs.{groups_in}
+use Rattle.group_store.specs.Keeping.{primary_of}
 use Rattle.group_store.specs.Stores.{Kept}
 use Rattle.slot_rows.specs.SlotKeys.{RowsHeld}
 use Rattle.cache_tier.specs.Commits.{tables_of}
-use Rattle.cache_tier.specs.Groups.{Group}
+use Rattle.cache_tier.specs.Groups.{Group, is_key}
 use Rattle.cache_tier.specs.Reading.{TellsPosition}
 use Rattle.cache_tier.specs.Sets.{Choice}
 use Rattle.cache_tier.specs.Worlds.{BankCall, IsUnshared, World}
@@ -39,14 +42,18 @@ use Rattle.cache_tier.proofs.SoundStates.{sound_history}
 use Rattle.stored_tier.specs.declared.tier.Tier.{Tier as Stored}
 use Rattle.stored_tier.specs.declared.refreshing.Made.{Made}
 use Rattle.stored_tier.proofs.ListLaws.{hidden_kept, store_kept}
-use Rattle.group_engine.specs.Fresh.{AreFormed, AreFresh, HasOwnKeys, IsRead, IsViewed}
+use Rattle.group_engine.specs.Fresh.{AreFormed, AreFresh, AreGained, HasOwnKeys, IsFreshFor, IsRead, IsViewed, gained_at}
+use Rattle.group_engine.specs.Gaining.{AreMadeGaining, IsMadeFor, IsMadeWith, IsStoredAt, widened}
 use Rattle.stored_tier.specs.Performing.{StandsFor}
+use Rattle.stored_tier.specs.Filling.{is_held}
 use Rattle.stored_tier.specs.Refreshing.{AreMade, IsMade, IsMadeAnew, is_filled, tables_read}
 use Rattle.stored_tier.specs.Sites.{IsAt}
 use Rattle.outside.specs.Sites.{SiteState}
 use Rattle.stored_tier.specs.Stored.{IsSound, without_list}
 use Rattle.stored_tier.proofs.BankLaws.{TellsBehind, behind, behind_at, call_behind, told_behind}
-use Rattle.group_engine.proofs.FillLaws.{filled_form, filled_from, filled_hiding, filled_long, root_under}
+use Rattle.group_engine.proofs.FillLaws.{filled_form, filled_from, filled_hiding, filled_long, filled_with, first_one, gains_none, root_under}
+use Rattle.group_engine.proofs.FreshGroup.{gained_here}
+use Rattle.group_engine.proofs.WidenedLaws.{held_widened, primary_key}
 
 -- nothing was called
 pub not_called : (t : Stored) (seen : SiteState) (w : World) → IsAt seen w → StandsFor t w → IsRead t seen (Err Memory) w
@@ -205,9 +212,16 @@ unmapped [] k g at = cc
 unmapped (x ∷ groups) zero g at = let same : without_list x ≡ g = cc in (x, refl, same)
 unmapped (x ∷ groups) (suc k) g at = unmapped groups k g at
 
+-- the state that was read, of which the tables of the chosen groups are copied
+pub record ReadsState (t : Stored) (mid : World) (chosen : Choice) (snapshot : Snapshot) : Type 0 where
+  pub state : TableState
+  pub there : state_at mid.history snapshot.position.0 ≡ Some state
+  pub schema : snapshot.tables.schema ≡ state.schema
+  pub keyed : (k : ℕ) (g : Group) → slice_get (groups_in t.catalog) k ≡ Some g → HasOwnKeys state g
+  pub copied : (k : ℕ) (g : Group) → slice_get (groups_in t.catalog) k ≡ Some g → chosen k g ≡ true → (u : TableId) → is_one_of (tables_of g.def.tree) u ≡ true → table_at snapshot.tables u ≡ table_at state u
+
 -- what was read for a refresh
-module _ (t : Stored) (before after : SiteState) (asked : List TableId) (snapshot : Snapshot) (chosen : Choice) (loads : Option ℕ) (made : List (Option Made)) (read : asked ≡ tables_read chosen 0 (groups_in t.catalog))
-    (are : AreMade (is_filled chosen loads) t.schema snapshot.tables (groups_in t.catalog) t.stores.items t.hidden.items made) (given : site.Told before.held after.held (site.BankCall before.shared (TakesSnapshot asked (Ok snapshot))))
+module _ (t : Stored) (before after : SiteState) (asked : List TableId) (snapshot : Snapshot) (chosen : Choice) (read : asked ≡ tables_read chosen 0 (groups_in t.catalog)) (given : site.Told before.held after.held (site.BankCall before.shared (TakesSnapshot asked (Ok snapshot))))
     (faults : before.bank_faults ≤ after.bank_faults) (moment : before.moment ≤ after.moment) (shares : after.shared ≡ before.shared) (w : World) (at : IsAt before w) (stands : StandsFor t w) (apart : IsUnshared w) where
   abbrev step : List Entry → List Entry → Type 0
   step = TakesSnapshot asked (Ok snapshot)
@@ -267,35 +281,97 @@ module _ (t : Stored) (before after : SiteState) (asked : List TableId) (snapsho
       root_under first.stands.flow.stand.over.backing g.def.tree (λ q. true) sound_state
       (subst (λ defs. Rattle.instances.specs.Trees.is_sound defs g.def.tree ≡ true) (sym front.1) (Rattle.cache_tier.proofs.ShownTrees.sound_later t.schema front.0 g.def.tree (sound_tree k g spot))) key row e
 
-  viewed : (k : ℕ) (g : Group) (s : Kept) (h : RowsHeld) (o : Option Made) → slice_get (groups_in t.catalog) k ≡ Some g → slice_get t.stores.items k ≡ Some s → slice_get t.hidden.items k ≡ Some h → slice_get made k ≡ Some o
-      → IsViewed (is_filled chosen loads k g) first.stands.flow.stand.over.backing g s h.table o
-  viewed k g s h o spot kept held made_o = by (is_filled chosen loads k g) refl o (are.each k g s h o spot kept held made_o)
-    where
-      asked_all : is_filled chosen loads k g ≡ true → (u : TableId) → is_one_of (tables_of g.def.tree) u ≡ true → table_at snapshot.tables u ≡ table_at first.stands.flow.stand.over.backing u
-      asked_all f u e =
-          let zero_k : 0 + k ≡ k = omega arith in
-          let c : chosen (0 + k) g ≡ true = ap (λ m. chosen m g) zero_k ∙ (both_true (chosen k g) (g.def.dynamic || (g.loaded || is_place k loads)) f).0 in
-          let one : is_one_of asked u ≡ true = ap (λ l. is_one_of l u) read ∙ read_there chosen 0 (groups_in t.catalog) k g u spot c e in
-          copy.rows u ∙ ap (λ b. cond b (table_at first.stands.flow.stand.over.backing u) empty) one
+  -- the tables of a group that is chosen are copied
+  copied : (k : ℕ) (g : Group) → slice_get (groups_in t.catalog) k ≡ Some g → chosen k g ≡ true → (u : TableId) → is_one_of (tables_of g.def.tree) u ≡ true → table_at snapshot.tables u ≡ table_at first.stands.flow.stand.over.backing u
+  copied k g spot c u e =
+      let zero_k : 0 + k ≡ k = omega arith in
+      let one : is_one_of asked u ≡ true = ap (λ l. is_one_of l u) read ∙ read_there chosen 0 (groups_in t.catalog) k g u spot (ap (λ m. chosen m g) zero_k ∙ c) e in
+      copy.rows u ∙ ap (λ b. cond b (table_at first.stands.flow.stand.over.backing u) empty) one
 
-      by : (b : Bool) → is_filled chosen loads k g ≡ b → (x : Option Made) → IsMade (is_filled chosen loads k g) t.schema snapshot.tables g s h.table x → IsViewed (is_filled chosen loads k g) first.stands.flow.stand.over.backing g s h.table x
-      by true f None is = absurd (subst (λ c. IsMade c t.schema snapshot.tables g s h.table None) f is)
-      by true f (Some x) is =
-          subst (λ c. IsViewed c first.stands.flow.stand.over.backing g s h.table (Some x)) (sym f)
-          (filled_from first.stands.flow.stand.over.backing snapshot.tables t.schema front.0 g s h.table x sound_state (sound_tree k g spot) front.1 copy.schema (asked_all f)
-          (subst (λ c. IsMade c t.schema snapshot.tables g s h.table (Some x)) f is))
-      by false f x is = subst (λ c. IsViewed c first.stands.flow.stand.over.backing g s h.table x) (sym f) (subst (λ c. IsMade c t.schema snapshot.tables g s h.table x) f is)
+  within_it : snapshot.position.0 ≤ length told_now.there.history
+  within_it =
+      let le = longer around.middle around.behind in
+      let n_is = around.own.1 in
+      let long = ap length around.is in
+      omega (arith, le, n_is, long)
 
-  pub fresh_here : AreFresh t read_here.world (is_filled chosen loads) snapshot.position.0 made
+  pub reads_state : ReadsState t read_here.world chosen snapshot
   unfolding read_here told_now was_read now
-  fresh_here = record {
-    state = first.stands.flow.stand.over.backing;
-    there = at_it;
-    within =
-        let le = longer around.middle around.behind in
-        let n_is = around.own.1 in
-        let long = ap length around.is in
-        omega (arith, le, n_is, long);
-    keyed = own_keys;
-    views = viewed;
-  }
+  reads_state = record { state = first.stands.flow.stand.over.backing; there = at_it; schema = copy.schema; keyed = own_keys; copied = copied }
+
+  -- stores that were made
+  module _ (loads : Option ℕ) (made : List (Option Made)) (are : AreMade (is_filled chosen loads) t.schema snapshot.tables (groups_in t.catalog) t.stores.items t.hidden.items made) where
+    viewed : (k : ℕ) (g : Group) (s : Kept) (h : RowsHeld) (o : Option Made) → slice_get (groups_in t.catalog) k ≡ Some g → slice_get t.stores.items k ≡ Some s → slice_get t.hidden.items k ≡ Some h → slice_get made k ≡ Some o
+        → IsViewed (is_filled chosen loads k g) first.stands.flow.stand.over.backing g s h.table [] o
+    viewed k g s h o spot kept held made_o = by (is_filled chosen loads k g) refl o (are.each k g s h o spot kept held made_o)
+      where
+        by : (b : Bool) → is_filled chosen loads k g ≡ b → (x : Option Made) → IsMade (is_filled chosen loads k g) t.schema snapshot.tables g s h.table x → IsViewed (is_filled chosen loads k g) first.stands.flow.stand.over.backing g s h.table [] x
+        by true f None is = absurd (subst (λ c. IsMade c t.schema snapshot.tables g s h.table None) f is)
+        by true f (Some x) is =
+            subst (λ c. IsViewed c first.stands.flow.stand.over.backing g s h.table [] (Some x)) (sym f)
+            (filled_from first.stands.flow.stand.over.backing snapshot.tables t.schema front.0 g s h.table x sound_state (sound_tree k g spot) front.1 copy.schema
+            (copied k g spot (both_true (chosen k g) (g.def.dynamic || (g.loaded || is_place k loads)) f).0)
+            (subst (λ c. IsMade c t.schema snapshot.tables g s h.table (Some x)) f is))
+        by false f x is = subst (λ c. IsViewed c first.stands.flow.stand.over.backing g s h.table [] x) (sym f) (subst (λ c. IsMade c t.schema snapshot.tables g s h.table x) f is)
+
+    pub fresh_here : AreFresh t read_here.world (is_filled chosen loads) snapshot.position.0 made
+    unfolding read_here told_now was_read now
+    fresh_here = record {
+      state = first.stands.flow.stand.over.backing;
+      there = at_it;
+      within = within_it;
+      keyed = own_keys;
+      views = viewed;
+    }
+
+  -- the same where the group at a place gains these root rows
+  module _ (loads : Option ℕ) (made : List (Option Made)) (place : ℕ) (gained : Table) (are : AreMadeGaining (is_filled chosen loads) t place gained snapshot.tables made)
+      (picks : (g : Group) → slice_get (groups_in t.catalog) place ≡ Some g → chosen place g ≡ true)
+      (from : (g : Group) (s : Kept) (h : RowsHeld) → IsStoredAt t place g s h → (q row : List Value) → fm.get gained q ≡ Some row → fm.get (table_at snapshot.tables g.def.tree.root.table) q ≡ Some row)
+      (primary : (g : Group) (s : Kept) (h : RowsHeld) → IsStoredAt t place g s h → h.places ≡ primary_of t.schema g.def.tree.root.table) where
+    holds : (g : Group) (s : Kept) (h : RowsHeld) → IsStoredAt t place g s h → (q : List Value) → is_held s (widened h gained) q ≡ (is_held s h.table q || is_key (fm.keys gained) q)
+    holds g s h there = held_widened s h gained (λ q row e.
+        ap (λ ps. key_of ps row) (primary g s h there)
+        ∙ primary_key t.schema front.0 g.def.tree first.stands.flow.stand.over.backing sound_state (sound_tree place g there.there) front.1 q row
+        (ap (λ (m : Table). fm.get m q) (sym (copied place g there.there (picks g there.there) g.def.tree.root.table (first_one g.def.tree.root.table (map (λ (c : Child). c.table) g.def.tree.children)))) ∙ from g s h there q row e))
+
+    gains_viewed : (k : ℕ) (g : Group) (s : Kept) (h : RowsHeld) (o : Option Made) → slice_get (groups_in t.catalog) k ≡ Some g → slice_get t.stores.items k ≡ Some s → slice_get t.hidden.items k ≡ Some h → slice_get made k ≡ Some o
+        → IsViewed (is_filled chosen loads k g) first.stands.flow.stand.over.backing g s h.table (gained_at place (fm.keys gained) k) o
+    gains_viewed k g s h o spot kept held made_o = by (nat_eq k place) refl (is_filled chosen loads k g) refl o (are.each k g s h o (record { there = spot; kept = kept; held = held }) made_o)
+      where
+        of : (x : Made) (wider : Table) (more : List (List Value)) → chosen k g ≡ true → ((q : List Value) → is_held s wider q ≡ (is_held s h.table q || is_key more q)) → IsMadeWith t.schema snapshot.tables g s wider more x → IsFreshFor first.stands.flow.stand.over.backing g s h.table more x
+        of x wider more c same made_x = filled_with first.stands.flow.stand.over.backing snapshot.tables t.schema front.0 g s h.table wider more x sound_state (sound_tree k g spot) front.1 copy.schema (copied k g spot c) same made_x
+
+        by : (b : Bool) → nat_eq k place ≡ b → (f : Bool) → is_filled chosen loads k g ≡ f → (x : Option Made)
+            → IsMadeFor (is_filled chosen loads k g) t.schema snapshot.tables g s (cond (nat_eq k place) (widened h gained) h.table) (cond (nat_eq k place) (fm.keys gained) []) x
+            → IsViewed (is_filled chosen loads k g) first.stands.flow.stand.over.backing g s h.table (gained_at place (fm.keys gained) k) x
+        by b e true f None is = absurd (subst (λ c. IsMadeFor c t.schema snapshot.tables g s (cond (nat_eq k place) (widened h gained) h.table) (cond (nat_eq k place) (fm.keys gained) []) None) f is)
+        by true e true f (Some x) is =
+            subst (λ c. IsViewed c first.stands.flow.stand.over.backing g s h.table (gained_at place (fm.keys gained) k) (Some x)) (sym f)
+            (subst (λ l. IsFreshFor first.stands.flow.stand.over.backing g s h.table l x) (sym (gained_here place (fm.keys gained) k true e))
+            (of x (widened h gained) (fm.keys gained) (both_true (chosen k g) (g.def.dynamic || (g.loaded || is_place k loads)) f).0
+            (holds g s h (there_at (eqb-true k place e)))
+            (subst (λ c. IsMadeWith t.schema snapshot.tables g s (cond c (widened h gained) h.table) (cond c (fm.keys gained) []) x) e
+            (subst (λ c. IsMadeFor c t.schema snapshot.tables g s (cond (nat_eq k place) (widened h gained) h.table) (cond (nat_eq k place) (fm.keys gained) []) (Some x)) f is))))
+          where
+            there_at : k ≡ place → IsStoredAt t place g s h
+            there_at same = record { there = ap (slice_get (groups_in t.catalog)) (sym same) ∙ spot; kept = ap (slice_get t.stores.items) (sym same) ∙ kept; held = ap (slice_get t.hidden.items) (sym same) ∙ held }
+        by false e true f (Some x) is =
+            subst (λ c. IsViewed c first.stands.flow.stand.over.backing g s h.table (gained_at place (fm.keys gained) k) (Some x)) (sym f)
+            (subst (λ l. IsFreshFor first.stands.flow.stand.over.backing g s h.table l x) (sym (gained_here place (fm.keys gained) k false e))
+            (of x h.table [] (both_true (chosen k g) (g.def.dynamic || (g.loaded || is_place k loads)) f).0 (gains_none s h.table)
+            (subst (λ c. IsMadeWith t.schema snapshot.tables g s (cond c (widened h gained) h.table) (cond c (fm.keys gained) []) x) e
+            (subst (λ c. IsMadeFor c t.schema snapshot.tables g s (cond (nat_eq k place) (widened h gained) h.table) (cond (nat_eq k place) (fm.keys gained) []) (Some x)) f is))))
+        by b e false f x is =
+            subst (λ c. IsViewed c first.stands.flow.stand.over.backing g s h.table (gained_at place (fm.keys gained) k) x) (sym f)
+            (subst (λ c. IsMadeFor c t.schema snapshot.tables g s (cond (nat_eq k place) (widened h gained) h.table) (cond (nat_eq k place) (fm.keys gained) []) x) f is)
+
+    pub gained_read : AreGained t read_here.world (is_filled chosen loads) place (fm.keys gained) snapshot.position.0 made
+    unfolding read_here told_now was_read now
+    gained_read = record {
+      state = first.stands.flow.stand.over.backing;
+      there = at_it;
+      within = within_it;
+      keyed = own_keys;
+      views = gains_viewed;
+    }

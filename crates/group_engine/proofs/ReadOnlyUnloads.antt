@@ -51,10 +51,13 @@ Row = List Value
 
 -- a READONLY group that isn't loaded shows nothing
 
-hidden_in : (s : TableState) (h : Group) → is_read_only h ≡ true → is_explicit h ≡ true → h.loaded ≡ false → (p : ℕ) → kept_at (shown_in s h) p ≡ empty
-hidden_in s h reads explicit loaded p =
+hidden_by : (s : TableState) (h : Group) → ((row : Row) → shows_root s h row ≡ false) → (p : ℕ) → kept_at (shown_in s h) p ≡ empty
+hidden_by s h hides p =
     ap (λ (test : Row → Bool). kept_at (instances_where s h.def.tree test) p) (λ i row. hides row i)
     ∙ shows_nothing s (record h { def = record h.def { kind = AsynchronousWritethrough }; keys = [] }) refl refl p
+
+hidden_in : (s : TableState) (h : Group) → is_read_only h ≡ true → is_explicit h ≡ true → h.loaded ≡ false → (p : ℕ) → kept_at (shown_in s h) p ≡ empty
+hidden_in s h reads explicit loaded p = hidden_by s h hides p
   where
     hides : (row : Row) → shows_root s h row ≡ false
     hides row =
@@ -77,6 +80,11 @@ unloaded_is gone g explicit =
     by true = refl
     by false = refl
 
+pub explicit_bare : (w : World) (g : Group) (gone : List Row) → is_read_only g ≡ true → is_explicit g ≡ true → (p : ℕ) → kept_at (shown w.history w.tier.log (unloaded gone true g)) p ≡ empty
+explicit_bare w g gone reads explicit p =
+    ap (λ h. kept_at (shown w.history w.tier.log h) p) (unloaded_is gone g explicit)
+    ∙ hidden_where (state_behind w.history w.tier.log (record g { keys = without_keys gone g.keys; loaded = false })) (record g { keys = without_keys gone g.keys; loaded = false }) reads explicit refl p
+
 module _ (w : World) (x : Stands w) (place : ℕ) (g : Group) (at : slice_get w.tier.groups place ≡ Some g) (reads : is_read_only g ≡ true) where
   k : Known w x.flow.stand.over.virtual
   k = known w x
@@ -95,20 +103,15 @@ module _ (w : World) (x : Stands w) (place : ℕ) (g : Group) (at : slice_get w.
       never_both (is_read_only g) reads (read_only_not g (ap is_writethrough (sym same) ∙ l.through)))
 
   -- what is shown behind it
-  module _ (explicit : is_explicit g ≡ true) (gone : List Row) where
+  module _ (gone : List Row) (all : Bool) where
     abbrev f : Group → Group
-    f = unloaded gone true
+    f = unloaded gone all
 
     abbrev groups : List Group
-    groups = changed_from (alone place) (unloaded gone true) 0 w.tier.groups
+    groups = changed_from (alone place) (unloaded gone all) 0 w.tier.groups
 
     abbrev after : Tier
-    after = record w.tier { groups = changed_from (alone place) (unloaded gone true) 0 w.tier.groups }
-
-    hidden : (p : ℕ) → kept_at (shown w.history w.tier.log (unloaded gone true g)) p ≡ empty
-    hidden p =
-        ap (λ h. kept_at (shown w.history w.tier.log h) p) (unloaded_is gone g explicit)
-        ∙ hidden_where (state_behind w.history w.tier.log (record g { keys = without_keys gone g.keys; loaded = false })) (record g { keys = without_keys gone g.keys; loaded = false }) reads explicit refl p
+    after = record w.tier { groups = changed_from (alone place) (unloaded gone all) 0 w.tier.groups }
 
     one_table : (u : TableId) → table_of_group w.history w.tier.log u (group_over groups u) ≡ table_of_group w.history w.tier.log u (group_over w.tier.groups u) → table_at (shown_state w.history after) u ≡ table_at (shown_state w.history w.tier) u
     one_table u e = by (slice_get w.tier.schema u.0) refl
@@ -117,18 +120,17 @@ module _ (w : World) (x : Stands w) (place : ℕ) (g : Group) (at : slice_get w.
         by None d = no_table_shown w.history after u d ∙ sym (no_table_shown w.history w.tier u d)
         by (Some def) d = table_shown w.history after u (ap is_some d) ∙ e ∙ sym (table_shown w.history w.tier u (ap is_some d))
 
-    tables_stay : (u : TableId) → covers u g ≡ false → table_at (shown_state w.history after) u ≡ table_at (shown_state w.history w.tier) u
-    tables_stay u off = one_table u (table_unchosen (alone place) (unloaded gone true) (unload_keeps gone true) w.history w.tier.log w.tier.groups u x.catalog.apart (λ i h there c. not_both (nat_eq i place) (λ e.
+    pub tables_stay : (u : TableId) → covers u g ≡ false → table_at (shown_state w.history after) u ≡ table_at (shown_state w.history w.tier) u
+    tables_stay u off = one_table u (table_unchosen (alone place) (unloaded gone all) (unload_keeps gone all) w.history w.tier.log w.tier.groups u x.catalog.apart (λ i h there c. not_both (nat_eq i place) (λ e.
         let same : h ≡ g = same_some (sym there ∙ ap (slice_get w.tier.groups) (eqb-true i place e) ∙ at) in
         never_both (covers u g) (ap (covers u) (sym same) ∙ c) off)))
 
-    tables_then : (u : TableId) → covers u g ≡ true → table_at (shown_state w.history after) u ≡ empty
+    pub tables_then : (u : TableId) → covers u g ≡ true → table_at (shown_state w.history after) u ≡ kept_at (shown w.history w.tier.log (unloaded gone all g)) (unwrap_or (place_of (unloaded gone all g).def.tree u) 0)
     tables_then u c =
         let here : 0 + place ≡ place = omega arith in
         table_shown w.history after u (covered_defined w.tier.schema g u its c)
-        ∙ ap (table_of_group w.history w.tier.log u) (over_is_found groups u ∙ found_changed (alone place) (unloaded gone true) (unload_keeps gone true) 0 w.tier.groups place g u x.catalog.apart at c
-        ∙ ap (λ b. Some (cond b (unloaded gone true g) g)) (ap (λ n. nat_eq n place) here ∙ Rattle.std.proofs.Common.eq-eqb place place refl))
-        ∙ hidden (unwrap_or (place_of (unloaded gone true g).def.tree u) 0)
+        ∙ ap (table_of_group w.history w.tier.log u) (over_is_found groups u ∙ found_changed (alone place) (unloaded gone all) (unload_keeps gone all) 0 w.tier.groups place g u x.catalog.apart at c
+        ∙ ap (λ b. Some (cond b (unloaded gone all g) g)) (ap (λ n. nat_eq n place) here ∙ Rattle.std.proofs.Common.eq-eqb place place refl))
 
     agree : AgreeOn (live_of w.tier) (shown_state w.history w.tier) (shown_state w.history after)
     agree = record {
@@ -137,28 +139,33 @@ module _ (w : World) (x : Stands w) (place : ℕ) (g : Group) (at : slice_get w.
       rows = λ u on. tables_stay u (not_both (covers u g) (λ c. never_both (is_one_of (live_of w.tier) u) on (not_live u c)));
     }
 
-    keys_one : HasKeys x.flow.stand.over.virtual g → HasKeys x.flow.stand.over.virtual (unloaded gone true g)
+    keys_one : HasKeys x.flow.stand.over.virtual g → HasKeys x.flow.stand.over.virtual (unloaded gone all g)
     keys_one keys = record {
-      distinct = subst AreDistinct (sym (unload_keys gone true g)) (unload gone g.keys keys.distinct);
-      rooted = λ writes key e. absurd (never_both (is_read_only g) reads (read_only_not g (sym (Rattle.cache_tier.proofs.GroupPairs.same_kind g (unloaded gone true g) (unload_keeps gone true g)) ∙ writes)));
+      distinct = subst AreDistinct (sym (unload_keys gone all g)) (unload gone g.keys keys.distinct);
+      rooted = λ writes key e. absurd (never_both (is_read_only g) reads (read_only_not g (sym (Rattle.cache_tier.proofs.GroupPairs.same_kind g (unloaded gone all g) (unload_keeps gone all g)) ∙ writes)));
     }
 
-    pub unload_shows : ShowsWithout g w (with_tier after w)
-    unload_shows = record {
-      stands = regrouped w x groups (changed_kept (alone place) (unloaded gone true) (unload_keeps gone true) 0 w.tier.groups)
-          (each_chosen (alone place) (unloaded gone true) (unload_keeps gone true) (HasKeys x.flow.stand.over.virtual) (HasKeys x.flow.stand.over.virtual) 0 w.tier.groups (λ i h there p c.
-          let here : 0 + i ≡ i = omega arith in
-          let same : h ≡ g = same_some (sym there ∙ ap (slice_get w.tier.groups) (eqb-true i place (ap (λ n. nat_eq n place) (sym here) ∙ c)) ∙ at) in
-          subst (λ z. HasKeys x.flow.stand.over.virtual (unloaded gone true z)) (sym same) (keys_one (subst (HasKeys x.flow.stand.over.virtual) same p))) (λ h p. p) x.keys)
-          (record {
-            within = each_chosen (alone place) (unloaded gone true) (unload_keeps gone true) (IsReadWithin (length w.history)) (IsReadWithin (length w.history)) 0 w.tier.groups (λ i h there p c n e. p n (sym (unload_stays gone true h) ∙ e)) (λ h p. p) x.read.within;
-            one = alone_one w.tier.groups place (unloaded gone true) (λ h there. inl (unloaded_weaker gone true h)) x.read.one;
-          })
-          (record {
-            apply = applies_stay (live_of w.tier) (shown_state w.history w.tier) (shown_state w.history after) (own_writes w.tier.sessions) k.closed_shown agree (all_through_on w.tier.groups (own_writes w.tier.sessions) ∙ x.sessions.through) x.sessions.shown.apply;
-            apart = x.sessions.shown.apart;
-          });
-      its = tables_then;
+    pub unload_stands : Stands (with_tier after w)
+    unload_stands =
+        regrouped w x groups (changed_kept (alone place) (unloaded gone all) (unload_keeps gone all) 0 w.tier.groups)
+        (each_chosen (alone place) (unloaded gone all) (unload_keeps gone all) (HasKeys x.flow.stand.over.virtual) (HasKeys x.flow.stand.over.virtual) 0 w.tier.groups (λ i h there p c.
+        let here : 0 + i ≡ i = omega arith in
+        let same : h ≡ g = same_some (sym there ∙ ap (slice_get w.tier.groups) (eqb-true i place (ap (λ n. nat_eq n place) (sym here) ∙ c)) ∙ at) in
+        subst (λ z. HasKeys x.flow.stand.over.virtual (unloaded gone all z)) (sym same) (keys_one (subst (HasKeys x.flow.stand.over.virtual) same p))) (λ h p. p) x.keys)
+        (record {
+          within = each_chosen (alone place) (unloaded gone all) (unload_keeps gone all) (IsReadWithin (length w.history)) (IsReadWithin (length w.history)) 0 w.tier.groups (λ i h there p c n e. p n (sym (unload_stays gone all h) ∙ e)) (λ h p. p) x.read.within;
+          one = alone_one w.tier.groups place (unloaded gone all) (λ h there. inl (unloaded_weaker gone all h)) x.read.one;
+        })
+        (record {
+          apply = applies_stay (live_of w.tier) (shown_state w.history w.tier) (shown_state w.history after) (own_writes w.tier.sessions) k.closed_shown agree (all_through_on w.tier.groups (own_writes w.tier.sessions) ∙ x.sessions.through) x.sessions.shown.apply;
+          apart = x.sessions.shown.apart;
+        })
+
+    -- where it shows nothing then
+    pub unload_shows : ((p : ℕ) → kept_at (shown w.history w.tier.log (unloaded gone all g)) p ≡ empty) → ShowsWithout g w (with_tier after w)
+    unload_shows bare = record {
+      stands = unload_stands;
+      its = λ u c. tables_then u c ∙ bare (unwrap_or (place_of (unloaded gone all g).def.tree u) 0);
       others = tables_stay;
     }
 

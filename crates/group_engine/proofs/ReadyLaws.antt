@@ -232,7 +232,7 @@ module _ {D : Type 0} (state : D → SiteState) (possible : D → ℕ → Held �
       let x = writes w entries at.moment over of in
       answered_over state possible t k' d d' w (FlushesSome entries) answer told at x cause.bank cause.shared stands schema (ignores x.journal x.faults (state d').moment) is
 
-  breaks : (w w' : World) (entries : List JournalEntry) (reply : Reply) → (has_entries entries ≡ true → journal_full w entries ≡ false) → FlushesSome entries w w' (Some reply) → is_broken (Some reply) ≡ true
+  pub breaks : (w w' : World) (entries : List JournalEntry) (reply : Reply) → (has_entries entries ≡ true → journal_full w entries ≡ false) → FlushesSome entries w w' (Some reply) → is_broken (Some reply) ≡ true
   breaks w w' entries reply fits is = by (has_entries entries) refl is
     where
       by : (b : Bool) → has_entries entries ≡ b → MatchBool b (FlushesFitting entries w w' (Some reply)) (Passes w w' (Some reply)) → is_broken (Some reply) ≡ true

@@ -1,5 +1,5 @@
 -- What a new moment, and a refresh that was tried, leave of what is stored.
-use Rattle.std.proofs.Common.{◌≡◌, ℕ, Bool, true, false, cond, not, ◌&&◌, ◌||◌, nat_eq, find, filter, Option, Some, None, List, [], ◌∷◌, ◌++◌, map, unwrap_or, refl, sym, ap, subst, ◌∙◌, arith}
+use Rattle.std.proofs.Common.{◌≡◌, ℕ, Bool, true, false, cond, not, ◌||◌, nat_eq, find, filter, Option, Some, None, List, [], ◌∷◌, ◌++◌, map, unwrap_or, refl, sym, ap, subst, ◌∙◌, arith}
 use Rattle.std.specs.Prelude.{Err}
 use Rattle.std.specs.Bool.{MatchBool}
 use Rattle.std.specs.Option.{option_map}
@@ -8,7 +8,6 @@ use Rattle.std.proofs.lemmas.List.{append-nil}
 use Rattle.tier_base.specs.declared.code.Code.TheVariants as code
 use Rattle.outside.specs.declared.fault.BankError.{BankError}
 use Rattle.outside.specs.declared.fault.BankError.TheVariants as bank
-use Rattle.cache_tier.specs.Groups.{Group}
 use Rattle.cache_tier.specs.Sets.{RefreshesIfShown, RefreshesSet, shows_something}
 use Rattle.cache_tier.specs.TierStates.{SetState, Tier, is_of_interval, refresh_tried}
 use Rattle.cache_tier.specs.Worlds.{Passes, World, bank_fault, faulty}
@@ -21,7 +20,7 @@ use Rattle.stored_tier.specs.declared.tier.Tier.{Tier as Stored}
 use Rattle.stored_tier.specs.Performing.{Performs}
 use Rattle.stored_tier.specs.Refreshing.{has_moment, is_noted, moment_in, moments_with}
 use Rattle.outside.specs.Sites.{SiteState}
-use Rattle.stored_tier.specs.Stored.{IsSound, IsStoredAs, KeepsTime, without_list}
+use Rattle.stored_tier.specs.Stored.{IsSound, IsStoredAs, KeepsTime}
 use Rattle.stored_tier.specs.Moments.{refreshed_in, set_seen}
 use Rattle.stored_tier.proofs.QuietLaws.{at_still}
 

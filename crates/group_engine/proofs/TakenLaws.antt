@@ -1,5 +1,5 @@
 -- LOAD and REFRESH of a writethrough group, in the worlds for which the tier stands.
-use Rattle.std.proofs.Common.{◌≡◌, ◌≤◌, inl, inr, ℕ, zero, suc, Bool, true, false, cond, not, ◌&&◌, ◌||◌, nat_eq, Option, Some, None, Result, Ok, Err, List, [], ◌∷◌, ◌++◌, is_some, length, map, slice_get, slice_set, arith, refl, sym, ap, subst, ◌∙◌}
+use Rattle.std.proofs.Common.{◌≡◌, ◌≤◌, inl, inr, ℕ, Bool, true, false, cond, not, ◌&&◌, ◌||◌, nat_eq, Option, Some, None, Result, Ok, Err, List, [], ◌∷◌, ◌++◌, is_some, length, map, slice_get, slice_set, arith, refl, sym, ap, subst, ◌∙◌}
 use Rattle.std.proofs.lemmas.Bool.{eq-eqb, eqb-true}
 use Rattle.std.proofs.lemmas.List.{append-nil, take_all}
 use Rattle.std.specs.FinMap as fm
@@ -44,7 +44,7 @@ use Rattle.cache_tier.specs.RefreshSteps.{judged_roots, refreshed_answer}
 use Rattle.cache_tier.specs.Rules.{broken_if, past, plain as plain_rule}
 use Rattle.cache_tier.specs.Sets.{alone, changed, changed_from}
 use Rattle.cache_tier.specs.Shown.{shown_state}
-use Rattle.cache_tier.specs.Targets.{Settles, Target, backing_roots, has_flag, held_roots, load_entries, matching, new_keys, with_flag}
+use Rattle.cache_tier.specs.Targets.{Settles, Target, backing_roots, held_roots, load_entries, matching, new_keys, with_flag}
 use Rattle.cache_tier.specs.TierStates.{Tier}
 use Rattle.cache_tier.specs.Worlds.{Answer, BankCall, IsUnshared, Unless, World, bank_fault, faulty, only}
 use Rattle.cache_tier.specs.Events.{StaysShown, at_history, with_tier}
@@ -91,7 +91,7 @@ never e = cc
 -- calls that read, in the worlds
 
 -- nothing was called, for want of memory
-no_call : (w : World) → BankCall (TellsPosition (Err Memory)) w w
+pub no_call : (w : World) → BankCall (TellsPosition (Err Memory)) w w
 no_call w = record {
   history = record { before = []; middle = w.history; behind = []; came_before = tt; own = sym (append-nil (w.history ++ []) ∙ append-nil w.history); came_behind = tt; is = sym (append-nil w.history) };
   journal = refl;

@@ -50,14 +50,16 @@ use Rattle.stored_tier.proofs.LaterLaws.{later_by}
 use Rattle.stored_tier.specs.Stored.{AreKept, AreWhole, HasSession, IsSound, IsStoredAs, are_later, named_where_cached, without_list}
 use Rattle.group_engine.specs.Taking.{IsOfTarget}
 use Rattle.slot_rows.specs.SlotKeys.{RowsHeld}
-use Rattle.stored_tier.specs.Lists.{AreHiding, AreListed, IsListed, hides_keys, is_by_use}
+use Rattle.stored_tier.specs.Lists.{AreHiding, AreListed, IsListed, hides_keys}
 use Rattle.stored_tier.proofs.ListLaws.{hidden_long, hides_there, hiding_defined, hiding_long, kept_long, listed_same, stores_long}
 use Rattle.group_engine.proofs.GroupRows.{same_there}
 use Rattle.group_engine.proofs.ListsKept.{hides_none, hiding_set, listed_set, unhidden, writes_hides}
-use Rattle.group_engine.proofs.UnloadLists.{cut_all_keys, gone_is, shrunk_listed, without_alike}
+use Rattle.aging_cycles.proofs.KeyLists.{cut_keys}
+use Rattle.group_engine.proofs.UnloadLists.{gone_is, shrunk_listed, without_alike}
 use Rattle.cache_tier.proofs.GroupTables.{read_only_not}
 use Rattle.cache_tier.proofs.LoadLaws.{unload_keys}
-use Rattle.group_engine.specs.Unloading.{AimsUnloadIn, FindsUnload, IsClearedAt, IsClearedGroup, IsCutBy, IsCutAt, IsCutGroup, LeavesGroup, UnloadsHere, UnloadsReady, UnloadsTarget, cut_all, flagged, leaving}
+use Rattle.aging_cycles.specs.Running.{cut_all}
+use Rattle.group_engine.specs.Unloading.{AimsUnloadIn, FindsUnload, IsClearedAt, IsClearedGroup, IsCutBy, IsCutAt, IsCutGroup, LeavesGroup, UnloadsHere, UnloadsReady, UnloadsTarget, flagged, leaving}
 use Rattle.group_engine.specs.UnloadLocks.{UnloadTold}
 use Rattle.group_engine.specs.declared.ready.Ready.{Ready}
 use Rattle.group_engine.specs.Ready.{AnswersBehind, is_full_ready}
@@ -95,7 +97,7 @@ cut_long : (keys : List (List Value)) (s : Kept) → length (cut_all keys s).tab
 cut_long [] s = refl
 cut_long (k ∷ keys) s = cut_long keys (cut_store 0 k s) ∙ keep_long (λ place key. not (leads s.layers s.tables 0 k (length s.layers) place key)) s.tables
 
-left_tree : (keys : List (List Value)) (s left : Kept) → SameButSpare (cut_all keys s) left → SameTree s left
+pub left_tree : (keys : List (List Value)) (s left : Kept) → SameButSpare (cut_all keys s) left → SameTree s left
 left_tree keys s left same =
     let r = cut_tree keys s in
     record { table = same.table ∙ r.table; key = same.key ∙ r.key; foreign = same.foreign ∙ r.foreign; layers = same.layers ∙ r.layers }
@@ -118,7 +120,7 @@ same_ones place from (g ∷ groups) = λ i. by (alone place from g) i ∷ same_o
     by true = refl
     by false = refl
 
-marked_all : (all : Bool) (place : ℕ) (groups : List Group) → changed_from (alone place) (marked all) 0 groups ≡ flagged all place groups
+pub marked_all : (all : Bool) (place : ℕ) (groups : List Group) → changed_from (alone place) (marked all) 0 groups ≡ flagged all place groups
 marked_all true place groups = refl
 marked_all false place groups = same_ones place 0 groups
 
@@ -242,7 +244,7 @@ module _ (law : UnloadLaw) (drops : (state : TableState) (tree : Tree) → Keeps
   left_keys : cut.left.keys ≡ without_keys (gone_keys w x) cut.store.keys
   left_keys =
       let L = leaving aim.which (primary_of t.schema x.group.def.tree.root.table) (kept_at cut.store.tables 0) in
-      gone.keys ∙ cut_all_keys L cut.store
+      gone.keys ∙ cut_keys L cut.store
       ∙ without_alike L (gone_keys w x) cut.store.keys (λ k. keys_are t w sound stands aim.place x.group at writes cut.store cut.kept x aim.which refl of k ∙ sym (gone_is w x stands.stands reads_not k))
 
   none_hidden_at : (g : Group) (h : RowsHeld) → slice_get w.tier.groups aim.place ≡ Some g → slice_get t.hidden.items aim.place ≡ Some h → h.table ≡ fm.empty
@@ -374,7 +376,7 @@ unload_done state possible t new k k' d d' id u aim result aims here = λ s has 
 
 -- the store and the flag of the group
 
-pub group_cleared : (t mid new : Stored) (place n : ℕ) (seen : Group) → slice_get (groups_in t.catalog) place ≡ Some seen → (seen.def.dynamic || is_by_use seen.def.aging) ≡ false → IsClearedAt place t.stores.items mid.stores.items n → mid ≡ record t { stores = mid.stores } → new ≡ record mid { catalog = new.catalog; verified = false }
+pub group_cleared : (t mid new : Stored) (place n : ℕ) (seen : Group) → slice_get (groups_in t.catalog) place ≡ Some seen → seen.def.dynamic ≡ false → IsClearedAt place t.stores.items mid.stores.items n → mid ≡ record t { stores = mid.stores } → new ≡ record mid { catalog = new.catalog; verified = false }
     → groups_in new.catalog ≡ flagged true place (groups_in mid.catalog) → IsClearedGroup t new place n
 group_cleared t mid new place n seen at whole cleared same then groups = record {
   group = seen;

@@ -54,7 +54,8 @@ use Rattle.group_engine.specs.Taking.{IsOfTarget}
 use Rattle.group_engine.specs.UnloadLocks.{FitsIn, LocksTold, RootsTold, UnloadTold, leaves, writer_within, writes_within}
 use Rattle.group_engine.proofs.DropLocks.{ClosedLaw, find_left, find_map, group_stored, others_seen}
 use Rattle.group_engine.proofs.MatchLaws.{get_retained}
-use Rattle.group_engine.proofs.UnloadLaws.{matching_is, roots_shown}
+use Rattle.group_engine.proofs.MatchedRoots.{fits_is}
+use Rattle.group_engine.proofs.UnloadLaws.{matching_is}
 use Rattle.stored_tier.proofs.QuietLaws.{session_over, stands_over}
 use Rattle.group_engine.proofs.UnloadWithin.{touches_is}
 
@@ -144,11 +145,6 @@ module _ (t : Stored) (w : World) (sound : IsSound t) (stands : StandsFor t w) (
   catalogued : IsCatalogued w.tier.schema x.group
   catalogued = each_at (IsCatalogued w.tier.schema) w.tier.groups place x.group stands.stands.catalog.each at
 
-  pub fits_is : overflow_fault x.filter (shown_roots w.history w.tier.log x.group) ≡ broken_if (overflows which.filter S) (plain code.Overflow)
-  fits_is =
-      ap (overflow_fault x.filter) (sym (roots_shown t w sound stands place x.group at writes store kept))
-      ∙ ap (λ f. broken_if (overflows f S) (plain code.Overflow)) (sym of.filter)
-
   module _ (over_law : OverIsApplied) (keyed_law : KeyedLaw) (closed_law : ClosedLaw) (verified : IsVerified t) (id : SessionId) (s : Session) (has : HasSession t id s) where
     abbrev test : Row → Bool
     test = fm.contains_key (matching_shown w x)
@@ -182,7 +178,7 @@ unlocked t w x s test is rested =
 pub roots_refused : (t : Stored) (id : SessionId) (aim : Aim) (e : Refused) → IsSound t → RootsTold t aim (Err e) → UnloadTold t id aim (Err e)
 roots_refused t id aim (refused.Rule rule) sound over s w x has stands at writes of =
     let fault : overflow_fault x.filter (shown_roots w.history w.tier.log x.group) ≡ Some rule =
-    fits_is t w sound stands x aim.place aim.which at writes of over.store over.kept ∙ ap (λ b. broken_if b (plain code.Overflow)) over.is ∙ ap Some (sym over.told) in
+    fits_is t w sound stands x aim.place aim.which at of over.store over.kept ∙ ap (λ b. broken_if b (plain code.Overflow)) over.is ∙ ap Some (sym over.told) in
     ap (λ o. option_or o (instance_lock s.label w.history w.tier x.group (fm.contains_key (matching_shown w x)))) fault
 roots_refused t id aim refused.Memory sound over s w x has stands at writes of = tt
 
@@ -191,7 +187,7 @@ fault_is : (t : Stored) (w : World) (aim : Aim) (s : Session) (x : Target) → I
     → unload_fault s x w ≡ instance_lock s.label w.history w.tier x.group (fm.contains_key (matching_shown w x))
 fault_is t w aim s x sound stands at writes of fits =
     ap (λ o. option_or o (instance_lock s.label w.history w.tier x.group (fm.contains_key (matching_shown w x))))
-    (fits_is t w sound stands x aim.place aim.which at writes of fits.store fits.kept ∙ ap (λ b. broken_if b (plain code.Overflow)) fits.fits)
+    (fits_is t w sound stands x aim.place aim.which at of fits.store fits.kept ∙ ap (λ b. broken_if b (plain code.Overflow)) fits.fits)
 
 pub rested_free : (t : Stored) (id : SessionId) (aim : Aim) → IsSound t → FitsIn t aim → list_all is_resting (seen_all t.sessions) ≡ true → UnloadTold t id aim (Ok tt)
 rested_free t id aim sound fits rested s w x has stands at writes of =

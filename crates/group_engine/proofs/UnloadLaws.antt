@@ -42,10 +42,12 @@ use Rattle.stored_tier.specs.Choosing.{chosen, matches_at}
 use Rattle.stored_tier.specs.Performing.{StandsFor}
 use Rattle.stored_tier.specs.Stored.{IsSound}
 use Rattle.group_engine.specs.Taking.{IsOfTarget}
-use Rattle.group_engine.specs.Unloading.{cut_all, leaving}
+use Rattle.aging_cycles.specs.Running.{cut_all}
+use Rattle.group_engine.specs.Unloading.{leaving}
 use Rattle.stored_tier.proofs.GatherLaws.{entries_kept}
 use Rattle.group_engine.proofs.GroupRows.{shown_of_place}
 use Rattle.group_engine.proofs.LoadLaws.{same_kept}
+use Rattle.group_engine.proofs.MatchedRoots.{leaving_is, leaving_long, shown_matching}
 use Rattle.group_engine.proofs.MatchLaws.{HasRoots, instances_of_keys, retain_alike, root_of_shown, shown_alike, shown_by_keys}
 use Rattle.stored_tier.proofs.StoreRows.{form_here, kept_is_shown}
 
@@ -88,36 +90,6 @@ same_children a b (c ∷ children) kept tables look =
     λ i. rows_where (λ row. views.selects c.filter row && refers_to_one (kept_at kept c.parent) (look 0 c refl i) row) (unwrap_or (slice_get (tables i) c.table.0) fm.empty) in
     ap (λ (m : Table). with_children a children (kept ++ m ∷ [])) here
     ∙ same_children a b children (kept ++ views.child_rows b (kept_at kept c.parent) c ∷ []) tables (λ i d at. look (suc i) d at)
-
--- keys of rows that match
-
-filter_alike : {A : Type 0} (p q : A → Bool) (xs : List A) → ((i : ℕ) (x : A) → slice_get xs i ≡ Some x → p x ≡ q x) → filter p xs ≡ filter q xs
-filter_alike p q [] same = refl
-filter_alike p q (x ∷ xs) same =
-    ap (λ b. cond b (x ∷ filter p xs) (filter p xs)) (same 0 x refl)
-    ∙ ap (λ ys. cond (q x) (x ∷ ys) ys) (filter_alike p q xs (λ i y at. same (suc i) y at))
-
-entries_chosen : (test : Row → Row → Bool) (table : Table) → fm.entries (chosen test table) ≡ filter (λ (e : Row × Row). test e.0 e.1) (fm.entries table)
-entries_chosen test table =
-    entries_kept table (λ key. passes (test key) (fm.get table key))
-    ∙ filter_alike (λ (e : Row × Row). passes (test e.0) (fm.get table e.0)) (λ e. test e.0 e.1) (fm.entries table) (λ i e at. ap (passes (test e.0)) (entry_found table i e at))
-
-keys_listed : (key : Row → Row) (m : Row → Row → Bool) (es : List (Row × Row)) → ((i : ℕ) (e : Row × Row) → slice_get es i ≡ Some e → key e.1 ≡ e.0)
-    → map key (filter (λ row. m (key row) row) (map (λ (e : Row × Row). e.1) es)) ≡ map (λ (e : Row × Row). e.0) (filter (λ (e : Row × Row). m e.0 e.1) es)
-keys_listed key m [] keyed = refl
-keys_listed key m (e ∷ es) keyed =
-    ap (λ k. map key (cond (m k e.1) (e.1 ∷ filter (λ row. m (key row) row) (map (λ (x : Row × Row). x.1) es)) (filter (λ row. m (key row) row) (map (λ (x : Row × Row). x.1) es)))) (keyed 0 e refl)
-    ∙ by (m e.0 e.1) (keys_listed key m es (λ i x at. keyed (suc i) x at))
-  where
-    by : (b : Bool) → map key (filter (λ row. m (key row) row) (map (λ (x : Row × Row). x.1) es)) ≡ map (λ (x : Row × Row). x.0) (filter (λ (x : Row × Row). m x.0 x.1) es)
-        → map key (cond b (e.1 ∷ filter (λ row. m (key row) row) (map (λ (x : Row × Row). x.1) es)) (filter (λ row. m (key row) row) (map (λ (x : Row × Row). x.1) es))) ≡ map (λ (x : Row × Row). x.0) (cond b (e ∷ filter (λ (x : Row × Row). m x.0 x.1) es) (filter (λ (x : Row × Row). m x.0 x.1) es))
-    by true rest = λ i. keyed 0 e refl i ∷ rest i
-    by false rest = rest
-
-leaving_keys : (which : ResolvedWhich) (columns : List ℕ) (S : Table) → ((k r : Row) → fm.get S k ≡ Some r → key_of columns r ≡ k) → leaving which columns S ≡ fm.keys (chosen (matches_at which) S)
-leaving_keys which columns S keyed =
-    keys_listed (key_of columns) (matches_at which) (fm.entries S) (λ i e at. keyed e.0 e.1 (entry_found S i e at))
-    ∙ ap (map (λ (e : Row × Row). e.0)) (sym (entries_chosen (matches_at which) S))
 
 -- What is known of a writethrough group in a world, and of its store.
 module _ (t : Stored) (w : World) (sound : IsSound t) (stands : StandsFor t w) (place : ℕ) (g : Group) (at : slice_get w.tier.groups place ≡ Some g) (writes : is_writethrough g ≡ true) (store : Kept) (kept : slice_get t.stores.items place ≡ Some store) where
@@ -215,31 +187,20 @@ module _ (t : Stored) (w : World) (sound : IsSound t) (stands : StandsFor t w) (
 
   -- what matches
   module _ (x : Target) (which : ResolvedWhich) (its : x.group ≡ g) (of : IsOfTarget x place which) where
-    no_rows_key : (k r : Row) → fm.get S k ≡ Some r → root_key (no_rows w.tier) g r ≡ k
-    no_rows_key k r e = ap (λ o. key_in o r) root_def_is ∙ root_keyed k r (in_virtual k r e)
+    no_rows_key : (k r : Row) → fm.get S k ≡ Some r → root_key (no_rows w.tier) x.group r ≡ k
+    no_rows_key k r e = ap (λ (y : Group). root_key (no_rows w.tier) y r) its ∙ ap (λ o. key_in o r) root_def_is ∙ root_keyed k r (in_virtual k r e)
 
-    same_match : (k r : Row) → fm.get S k ≡ Some r → matches x.filter x.id (no_rows w.tier) g r ≡ matches_at which k r
-    same_match k r e =
-        ap (λ f. is_true (selects f r) && is_id (root_key (no_rows w.tier) g r) x.id) (sym of.filter)
-        ∙ ap (λ q. is_true (selects which.filter r) && is_id q x.id) (no_rows_key k r e)
-        ∙ ap (λ b. is_true (selects which.filter r) && b) (sym (of.id k))
+    here : S ≡ shown_roots w.history w.tier.log x.group
+    here = roots_shown ∙ ap (λ (y : Group). shown_roots w.history w.tier.log y) (sym its)
 
     pub matching_is : matching_shown w x ≡ chosen (matches_at which) S
-    matching_is =
-        ap (λ (y : Group). rows_where (matches x.filter x.id (no_rows w.tier) y) (shown_roots w.history w.tier.log y)) its
-        ∙ ap (rows_where (matches x.filter x.id (no_rows w.tier) g)) (sym roots_shown)
-        ∙ retain_alike S (λ key. passes (matches x.filter x.id (no_rows w.tier) g) (fm.get S key)) (λ key. passes (matches_at which key) (fm.get S key)) (λ k r e.
-        ap (passes (matches x.filter x.id (no_rows w.tier) g)) e ∙ same_match k r e ∙ sym (ap (passes (matches_at which k)) e))
+    matching_is = shown_matching w x place which of S columns here no_rows_key keyed
 
     pub keys_are : (k : Row) → is_key (leaving which columns S) k ≡ fm.contains_key (matching_shown w x) k
-    keys_are k =
-        ap (λ ks. is_key ks k) (leaving_keys which columns S keyed) ∙ key_in_map (chosen (matches_at which) S) k
-        ∙ ap (λ (m : Table). fm.contains_key m k) (sym matching_is)
+    keys_are = leaving_is w x place which of S columns here no_rows_key keyed
 
     pub count_is : length (leaving which columns S) ≡ fm.len (matching_shown w x)
-    count_is =
-        ap length (leaving_keys which columns S keyed) ∙ length-map (fm.entries (chosen (matches_at which) S)) (λ (e : Row × Row). e.0)
-        ∙ sym (fm.len-entries (chosen (matches_at which) S)) ∙ ap (λ (m : Table). fm.len m) (sym matching_is)
+    count_is = leaving_long w x place which of S columns here no_rows_key keyed
 
     -- the store has what is shown of the keys that stay
     pub left_shown : KeepsOthers (record v { schema = t.schema }) tree → (left : Kept) → SameButSpare (cut_all (leaving which columns S) store) left

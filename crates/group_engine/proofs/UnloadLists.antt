@@ -1,16 +1,16 @@
 -- The keys of a store that instances leave, and the list of its group.
-use Rattle.std.proofs.Common.{◌≡◌, ℕ, Bool, true, false, cond, not, ◌&&◌, ◌||◌, List, [], ◌∷◌, filter, is_some, refl, sym, ap, ◌∙◌}
+use Rattle.std.proofs.Common.{◌≡◌, Bool, true, false, cond, not, ◌&&◌, ◌||◌, List, [], ◌∷◌, filter, is_some, refl, sym, ap, ◌∙◌}
 use Rattle.std.specs.Bool.{MatchBool}
 use Rattle.std.specs.Option.{option_and_then}
 use Rattle.std.specs.FinMap as fm
 use Rattle.row_types.specs.declared.value.Value.{Value}
-use Rattle.indexed_rows.specs.Rows.{Table, is_same}
+use Rattle.indexed_rows.specs.Rows.{Table}
 use Rattle.instances.specs.Views.{kept_at, rows_where}
 use Rattle.row_types.specs.Order.{key_order}
 use Rattle.table_state.specs.Histories.{state_at}
 use Rattle.table_state.specs.Tables.{TableState}
 use Rattle.order_laws.specs.Commits.{virtual_state}
-use Rattle.group_store.specs.Stores.{Kept, cut_store}
+use Rattle.group_store.specs.Stores.{Kept}
 use Rattle.cache_tier.specs.Conditions.{matches}
 use Rattle.cache_tier.specs.Groups.{Group, has_list, is_explicit, is_key, is_read_only, without_keys}
 use Rattle.cache_tier.specs.Shown.{exceeds, instances_where, no_rows, root_key, shown_roots, shown_where, state_behind}
@@ -20,44 +20,15 @@ use Rattle.cache_tier.specs.UnloadSteps.{gone_keys, listed_in, matching_shown}
 use Rattle.cache_tier.specs.Worlds.{World}
 use Rattle.cache_tier.proofs.KeyListLaws.{key_in_map, key_without}
 use Rattle.stored_tier.specs.Lists.{HasKeysOf, IsListed, is_by_use}
-use Rattle.group_engine.specs.Unloading.{cut_all}
-use Rattle.group_engine.proofs.FreshLists.{turned}
 
 abbrev Row : Type 0
 Row = List Value
 
 -- keys that leave
 
-filter_all : (p : Row → Bool) (xs : List Row) → ((k : Row) → p k ≡ true) → filter p xs ≡ xs
-filter_all p [] all = refl
-filter_all p (x ∷ xs) all = ap (λ b. cond b (x ∷ filter p xs) (filter p xs)) (all x) ∙ ap (λ l. x ∷ l) (filter_all p xs all)
-
-filter_twice : (p q : Row → Bool) (xs : List Row) → filter p (filter q xs) ≡ filter (λ k. q k && p k) xs
-filter_twice p q [] = refl
-filter_twice p q (x ∷ xs) = by (q x) (filter_twice p q xs)
-  where
-    of : (b : Bool) → filter p (filter q xs) ≡ filter (λ k. q k && p k) xs → cond b (x ∷ filter p (filter q xs)) (filter p (filter q xs)) ≡ cond b (x ∷ filter (λ k. q k && p k) xs) (filter (λ k. q k && p k) xs)
-    of true e = ap (λ l. x ∷ l) e
-    of false e = e
-
-    by : (b : Bool) → filter p (filter q xs) ≡ filter (λ k. q k && p k) xs → filter p (cond b (x ∷ filter q xs) (filter q xs)) ≡ cond (b && p x) (x ∷ filter (λ k. q k && p k) xs) (filter (λ k. q k && p k) xs)
-    by true e = of (p x) e
-    by false e = e
-
 filter_alike : (p q : Row → Bool) (xs : List Row) → ((k : Row) → p k ≡ q k) → filter p xs ≡ filter q xs
 filter_alike p q [] same = refl
 filter_alike p q (x ∷ xs) same = ap (λ b. cond b (x ∷ filter p xs) (filter p xs)) (same x) ∙ ap (λ l. cond (q x) (x ∷ l) l) (filter_alike p q xs same)
-
-neither : (a b : Bool) → (not a && not b) ≡ not (a || b)
-neither true b = refl
-neither false b = refl
-
-pub cut_all_keys : (gone : List Row) (s : Kept) → (cut_all gone s).keys ≡ without_keys gone s.keys
-cut_all_keys [] s = sym (filter_all (λ k. not (is_key [] k)) s.keys (λ k. refl))
-cut_all_keys (key ∷ gone) s =
-    cut_all_keys gone (cut_store 0 key s)
-    ∙ filter_twice (λ k. not (is_key gone k)) (λ k. not (is_same key k)) s.keys
-    ∙ filter_alike (λ k. not (is_same key k) && not (is_key gone k)) (λ k. not (is_key (key ∷ gone) k)) s.keys (λ k. ap (λ b. not b && not (is_key gone k)) (turned key k) ∙ neither (is_same k key) (is_key gone k))
 
 pub without_alike : (a b keys : List Row) → ((k : Row) → is_key a k ≡ is_key b k) → without_keys a keys ≡ without_keys b keys
 without_alike a b keys same = filter_alike (λ k. not (is_key a k)) (λ k. not (is_key b k)) keys (λ k. ap not (same k))

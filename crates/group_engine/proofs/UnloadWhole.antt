@@ -41,9 +41,8 @@ use Rattle.stored_tier.specs.Grouping.{KeepsGroups, SameTree}
 use Rattle.stored_tier.specs.Performing.{StandsFor, reply_of}
 use Rattle.outside.specs.Sites.{SiteState}
 use Rattle.stored_tier.specs.Stored.{HasSession, IsSound, IsStoredAs, without_list}
-use Rattle.stored_tier.specs.Lists.{is_by_use}
 use Rattle.cache_tier.specs.declared.group.GroupDef.{GroupDef}
-use Rattle.group_engine.proofs.ListsKept.{explicit_so, none_asked}
+use Rattle.group_engine.proofs.FreshLists.{explicit_listed}
 use Rattle.group_engine.specs.Unloading.{IsClearedGroup, IsReadyToLeave, IsWholeAt, UnloadsHere, UnloadsReady, UnloadsTarget}
 use Rattle.group_engine.specs.declared.ready.Ready.{Ready}
 use Rattle.group_engine.specs.Ready.{AnswersBehind, IsReadyFor, is_full_ready}
@@ -61,7 +60,7 @@ use Rattle.group_engine.proofs.DropLocks.{group_stored}
 use Rattle.group_engine.proofs.FlagLaws.{flagged_seen}
 use Rattle.group_engine.proofs.GroupComes.{stands_kept, time_kept}
 use Rattle.group_engine.proofs.GroupRows.{shown_of_place}
-use Rattle.group_engine.proofs.ReadOnlyUnloads.{unheld, unload_shows, unloaded_is}
+use Rattle.group_engine.proofs.ReadOnlyUnloads.{explicit_bare, unheld, unload_shows, unloaded_is}
 use Rattle.stored_tier.proofs.SoundParts.{changed_defs}
 use Rattle.stored_tier.proofs.StoreChanges.{form_kept, shows_changed}
 use Rattle.stored_tier.proofs.StoreRows.{form_here, kept_is_shown}
@@ -72,10 +71,10 @@ Row = List Value
 
 -- a store without rows
 
-cleared_tree : (old new : Kept) → SameButSpare (cleared_store old) new → SameTree old new
+pub cleared_tree : (old new : Kept) → SameButSpare (cleared_store old) new → SameTree old new
 cleared_tree old new same = record { table = same.table; key = same.key; foreign = same.foreign; layers = same.layers }
 
-none_at : (ts : List Table) (p : ℕ) → kept_at (all_empty ts) p ≡ empty
+pub none_at : (ts : List Table) (p : ℕ) → kept_at (all_empty ts) p ≡ empty
 none_at [] zero = refl
 none_at [] (suc p) = refl
 none_at (t ∷ ts) zero = refl
@@ -88,7 +87,7 @@ sound_cleared t new aim n sound cleared =
 
 -- nothing is asked of the rows
 
-all_pass : (test : Row → Bool) (m : Table) → ((row : Row) → test row ≡ true) → rows_where test m ≡ m
+pub all_pass : (test : Row → Bool) (m : Table) → ((row : Row) → test row ≡ true) → rows_where test m ≡ m
 all_pass test m good = fm.same_map key_total key_exact (rows_where test m) m (λ k. get_where test m k ∙ by (fm.get m k))
   where
     by : (o : Option Row) → cond (passes test o) o None ≡ o
@@ -101,7 +100,7 @@ no_overflow w x filter =
     ∙ ap (λ b. Rattle.cache_tier.specs.Rules.broken_if b (Rattle.cache_tier.specs.Rules.plain Rattle.tier_base.specs.declared.code.Code.TheVariants.Overflow))
     (any_false (λ row. is_none (selects None row)) (fm.values (shown_roots w.history w.tier.log x.group)) (λ row. refl))
 
-whole_free : (s : Session) (w : World) (x : Target) (place : ℕ) → Stands w → slice_get w.tier.groups place ≡ Some x.group → is_read_only x.group ≡ true → x.filter ≡ None → unload_fault s x w ≡ None
+pub whole_free : (s : Session) (w : World) (x : Target) (place : ℕ) → Stands w → slice_get w.tier.groups place ≡ Some x.group → is_read_only x.group ≡ true → x.filter ≡ None → unload_fault s x w ≡ None
 whole_free s w x place stands at reads filter = λ i. option_or (no_overflow w x filter i) (unheld w stands place x.group at reads s.label (fm.contains_key (matching_shown w x)) i)
 
 module _ (t new : Stored) (id : SessionId) (aim : Aim) (n : ℕ) (sound : IsSound t) (cleared : IsClearedGroup t new aim.place n)
@@ -114,7 +113,7 @@ module _ (t new : Stored) (id : SessionId) (aim : Aim) (n : ℕ) (sound : IsSoun
 
   explicit : is_explicit x.group ≡ true
   explicit =
-      explicit_so x.group (subst (λ (y : Group). (y.def.dynamic || is_by_use y.def.aging) ≡ false)
+      ap not (subst (λ (y : Group). y.def.dynamic ≡ false)
       (same_there (groups_in t.catalog) aim.place cleared.group (without_list x.group) cleared.there (group_stored t w.tier aim.place x.group stands.stored at)) cleared.did.1)
 
   roots : kept_at cleared.store.tables 0 ≡ shown_roots w.history w.tier.log x.group
@@ -134,7 +133,7 @@ module _ (t new : Stored) (id : SessionId) (aim : Aim) (n : ℕ) (sound : IsSoun
   count = cleared.did.0.count ∙ ap (λ (m : Table). fm.len m) (roots ∙ sym matching)
 
   behind : ShowsWithout x.group w (with_tier (unload_answer x true w).0 w)
-  behind = unload_shows w stands.stands x.place x.group there reads explicit (gone_keys w x)
+  behind = unload_shows w stands.stands x.place x.group there reads (gone_keys w x) true (explicit_bare w x.group (gone_keys w x) reads explicit)
 
   groups_behind : map without_list (unload_answer x true w).0.groups ≡ groups_in new.catalog
   groups_behind =
@@ -156,10 +155,11 @@ module _ (t new : Stored) (id : SessionId) (aim : Aim) (n : ℕ) (sound : IsSoun
     stale = stands.stored.stale ∙ sym cleared.beside.stale;
     groups = groups_behind;
     lists = left_listed t new aim.place true _ cleared w.tier x.place place (unloaded (gone_keys w x) true) sound stands.stored
-        (λ g h at_g held is. none_asked (unloaded (gone_keys w x) true g) cleared.left h.table
-        (subst (λ (d : GroupDef). (d.dynamic || is_by_use d.aging) ≡ false)
+        (λ g h at_g held is. explicit_listed (unloaded (gone_keys w x) true g) cleared.left h.table
+        (subst (λ (d : GroupDef). d.dynamic ≡ false)
         (ap (λ (y : Group). y.def) (same_there (groups_in t.catalog) aim.place cleared.group (without_list g) cleared.there (group_stored t w.tier aim.place g stands.stored at_g)) ∙ sym (unloaded_def (gone_keys w x) true g))
-        cleared.did.1));
+        cleared.did.1)
+        (ap (λ (d : GroupDef). is_read_only (record x.group { def = d })) (unloaded_def (gone_keys w x) true g ∙ ap (λ (y : Group). y.def) (same_there w.tier.groups aim.place g x.group at_g at)) ∙ reads));
     sessions = stands.stored.sessions ∙ ap (λ y. map session_seen (seen_all y)) (sym cleared.beside.sessions);
     unsettled = stands.stored.unsettled ∙ ap (λ u. u.items) (sym cleared.beside.unsettled);
     next = stands.stored.next ∙ sym cleared.beside.next;
@@ -188,11 +188,11 @@ module _ (t new : Stored) (id : SessionId) (aim : Aim) (n : ℕ) (sound : IsSoun
   counted reply is = is ∙ ap (λ m. only (Done m)) count
 
 -- what is done where nothing is at fault
-unload_so : (s : Session) (x : Target) (all : Bool) (w w' : World) (reply : Reply) → unload_fault s x w ≡ None → Then (FlushesSome (unload_entries all x.group)) (Answers (unload_answer x all)) w w' reply → UnloadsTarget s x all w w' reply
+pub unload_so : (s : Session) (x : Target) (all : Bool) (w w' : World) (reply : Reply) → unload_fault s x w ≡ None → Then (FlushesSome (unload_entries all x.group)) (Answers (unload_answer x all)) w w' reply → UnloadsTarget s x all w w' reply
 unload_so s x all w w' reply free then = subst (λ o. Unless o (Then (FlushesSome (unload_entries all x.group)) (Answers (unload_answer x all))) w w' reply) (sym free) then
 
 explicit_there : (t : Stored) (w : World) (place : ℕ) (g : Group) → IsWholeAt t place → StandsFor t w → slice_get w.tier.groups place ≡ Some g → is_explicit g ≡ true
-explicit_there t w place g whole stands at = explicit_so g (whole (without_list g) (group_stored t w.tier place g stands.stored at))
+explicit_there t w place g whole stands at = ap not (whole (without_list g) (group_stored t w.tier place g stands.stored at))
 
 module _ {D : Type 0} (state : D → SiteState) (possible : D → ℕ → Held → Type 0) where
   pub cleared_here : (t new : Stored) (k k' : Option TierJournal) (d d' : D) (ready : Ready) (id : SessionId) (aim : Aim) (all : Bool) (n : ℕ) (told reply : Reply) → IsSound t → IsWholeAt t aim.place → aim.read_only ≡ true → IsClearedGroup t new aim.place n → AnswersBehind state possible k k' d d' ready told reply → told ≡ only (Done n)

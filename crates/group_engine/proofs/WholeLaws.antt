@@ -17,32 +17,28 @@ use Rattle.cache_tier.specs.Rules.{past}
 use Rattle.tier_base.specs.declared.limit.Limit.TheVariants as limit
 use Rattle.cache_tier.specs.Groups.{Group, is_explicit, is_on, is_read_only, is_writethrough}
 use Rattle.cache_tier.specs.DynamicLoads.{state_loaded}
-use Rattle.cache_tier.specs.Reading.{Answers, FollowsAt, Reads, TellsPosition, backing_at}
+use Rattle.cache_tier.specs.Reading.{Answers, FollowsAt, backing_at}
 use Rattle.cache_tier.specs.Sets.{Choice, OnePosition, alone, at_position, changed_from, loaded_state, loaded_with, of_set, is_in_set, set_tried}
 use Rattle.cache_tier.specs.Shown.{shown}
 use Rattle.cache_tier.specs.Targets.{Settles, Target, has_flag, load_entries, shown_count, whole_answer, with_flag}
 use Rattle.cache_tier.specs.TierStates.{Tier, refresh_tried}
-use Rattle.cache_tier.specs.Worlds.{BankCall, IsUnshared, Part, Tries, World, bank_fault, only}
+use Rattle.cache_tier.specs.Worlds.{BankCall, World, bank_fault, only}
 use Rattle.cache_tier.proofs.PositionLaws.{alone_twice, hidden_state, join_base, join_one, join_step}
 use Rattle.order_laws.proofs.TruthLaws.{both_true, or_true}
 use Rattle.instances.specs.Trees.{place_of}
 use Rattle.stored_tier.specs.declared.tier.Tier.{Tier as Stored}
 use Rattle.group_engine.specs.Fresh.{AreFresh, IsRead}
-use Rattle.group_engine.specs.Loaded.{IsExplicitAt, IsReadyToLoad, LoadsWhole, ReadsWhole, whole_target}
+use Rattle.group_engine.specs.Loaded.{IsExplicitAt, IsReadyToLoad, ReadsWhole, whole_target}
 use Rattle.group_engine.specs.declared.ready.Ready.{Ready}
 use Rattle.group_engine.specs.Ready.{AnswersBehind, IsReadyFor, is_full_ready}
 use Rattle.group_engine.proofs.ReadyLaws.{full_then}
-use Rattle.row_types.specs.declared.rule.Refused.{Refused}
-use Rattle.row_types.specs.declared.rule.Refused.TheVariants as refused
 use Rattle.table_defs.specs.declared.definition.TableDef.{TableDef}
 use Rattle.outside.specs.Holding.{Held}
-use Rattle.kept_journal.specs.Drafts.{StaysKept}
 use Rattle.kept_journal.specs.Keeping.{KeepsOver}
 use Rattle.propagators.specs.Certainty.{KeepsCertain}
 use Rattle.tier_journal.specs.declared.journal.TierJournal.{TierJournal}
-use Rattle.stored_tier.proofs.OverLaws.{keeps_called, keeps_stays, keeps_tier}
-use Rattle.group_engine.proofs.ReadLaws.{unmapped}
-use Rattle.stored_tier.specs.Performing.{IsPerformedOver, PerformsOver, StandsFor, reply_of}
+use Rattle.stored_tier.proofs.OverLaws.{keeps_called}
+use Rattle.stored_tier.specs.Performing.{IsPerformedOver, StandsFor}
 use Rattle.stored_tier.specs.Refreshing.{IsStateAt, is_filled, is_off, positioned, roots_kept}
 use Rattle.stored_tier.specs.Sites.{IsAt}
 use Rattle.outside.specs.Sites.{SiteState}
@@ -85,14 +81,14 @@ flag_there g e = ap (λ b. is_writethrough g || b) e ∙ or_true (is_writethroug
 loads_is : (g : Group) → is_explicit g ≡ true → loads_group g ≡ record g { state = loaded_state g.state; loaded = true }
 loads_is g e = ap (λ b. cond b (record (state_loaded g) { loaded = true }) (state_loaded g)) (flag_there g e)
 
-loads_mapped : (g : Group) → without_list (loads_group g) ≡ loads_group (without_list g)
+pub loads_mapped : (g : Group) → without_list (loads_group g) ≡ loads_group (without_list g)
 loads_mapped g = by (has_flag g)
   where
     by : (b : Bool) → without_list (cond b (record (state_loaded g) { loaded = true }) (state_loaded g)) ≡ cond b (record (state_loaded (without_list g)) { loaded = true }) (state_loaded (without_list g))
     by true = refl
     by false = refl
 
-loads_flagged : (g : Group) → (true ≡ true → is_read_only g ≡ true) → IsFlagged (is_explicit g) g (loads_group g)
+pub loads_flagged : (g : Group) → (true ≡ true → is_read_only g ≡ true) → IsFlagged (is_explicit g) g (loads_group g)
 loads_flagged g reads = by (is_explicit g) refl
   where
     or_none : (b : Bool) → b ≡ (b || false)
@@ -110,19 +106,19 @@ loads_flagged g reads = by (is_explicit g) refl
         let state = ap (λ (x : Group). x.state) is in
         record { is = is ∙ (λ i. record g { state = sym state i; loaded = or_none g.loaded i }) }
 
-flag_keeps : (b : Bool) (g : Group) → (cond b (record g { loaded = true }) g).position ≡ g.position
+pub flag_keeps : (b : Bool) (g : Group) → (cond b (record g { loaded = true }) g).position ≡ g.position
 flag_keeps true g = refl
 flag_keeps false g = refl
 
-flag_defined : (b : Bool) (g : Group) → (cond b (record g { loaded = true }) g).def.interval ≡ g.def.interval
+pub flag_defined : (b : Bool) (g : Group) → (cond b (record g { loaded = true }) g).def.interval ≡ g.def.interval
 flag_defined true g = refl
 flag_defined false g = refl
 
-flag_state : (b : Bool) (g : Group) → (cond b (record g { loaded = true }) g).state ≡ g.state
+pub flag_state : (b : Bool) (g : Group) → (cond b (record g { loaded = true }) g).state ≡ g.state
 flag_state true g = refl
 flag_state false g = refl
 
-chosen_there : (g : Group) (place : ℕ) (x : Group) → loaded_with g place place x ≡ true
+pub chosen_there : (g : Group) (place : ℕ) (x : Group) → loaded_with g place place x ≡ true
 chosen_there g place x = by g.state
   where
     here : nat_eq place place ≡ true
@@ -133,7 +129,7 @@ chosen_there g place x = by g.state
     by Paused = ap (λ b. is_in_set g.def.interval x || b) here ∙ or_true (is_in_set g.def.interval x)
     by Off = here
 
-unlisted_with : (g : Group) (place k : ℕ) (x : Group) → loaded_with g place k (without_list x) ≡ loaded_with g place k x
+pub unlisted_with : (g : Group) (place k : ℕ) (x : Group) → loaded_with g place k (without_list x) ≡ loaded_with g place k x
 unlisted_with g place k x = by g.state
   where
     by : (st : RefreshState) → loaded_with (record g { state = st }) place k (without_list x) ≡ loaded_with (record g { state = st }) place k x
@@ -297,7 +293,7 @@ module _ {D : Type 0} (state : D → SiteState) (possible : D → ℕ → Held �
 
 -- the statements
 
-one_call : (step : List Rattle.table_state.specs.declared.history.Entry.Entry → List Rattle.table_state.specs.declared.history.Entry.Entry → Type 0) (w mid : World) (a : Tier) → BankCall step (record w { tier = a }) mid → BankCall step w mid
+pub one_call : (step : List Rattle.table_state.specs.declared.history.Entry.Entry → List Rattle.table_state.specs.declared.history.Entry.Entry → Type 0) (w mid : World) (a : Tier) → BankCall step (record w { tier = a }) mid → BankCall step w mid
 one_call step w mid a c = record { history = c.history; journal = c.journal; faults = c.faults; disk = c.disk; moment = c.moment; shared = c.shared }
 
 settled_so : (x : Target) (place n : ℕ) (g : Group) (w w' : World) (reply : Reply) → x.place ≡ place → x.group ≡ g → Settles (whole_target place g) (whole_answer (whole_target place g) n) w w' reply → Settles x (whole_answer x n) w w' reply
@@ -306,39 +302,12 @@ settled_so x place n g w w' reply place_is group_is s =
     (subst (λ y. Settles (whole_target place y) (whole_answer (whole_target place y) n) w w' reply) (sym group_is) s)
 
 module _ (x : Target) (place : ℕ) (g : Group) (place_is : x.place ≡ place) (group_is : x.group ≡ g) (explicit : is_explicit g ≡ true) (other : ℕ → World → World → Reply → Type 0) where
-  follows_so : (told : Result ℕ BankError) (mid w' : World) (reply : Reply) → FollowsAt told (λ n. Settles (whole_target place g) (whole_answer (whole_target place g) n)) mid w' reply
+  pub follows_so : (told : Result ℕ BankError) (mid w' : World) (reply : Reply) → FollowsAt told (λ n. Settles (whole_target place g) (whole_answer (whole_target place g) n)) mid w' reply
       → FollowsAt told (λ n w v r. MatchBool (is_explicit x.group) (Settles x (whole_answer x n) w v r) (other n w v r)) mid w' reply
   follows_so (Err e) mid w' reply f = f
   follows_so (Ok n) mid w' reply f = ⊎_elim
       (λ s. inl (subst (λ b. MatchBool b (Settles x (whole_answer x n) mid w' reply) (other n mid w' reply)) (sym (ap is_explicit group_is ∙ explicit)) (settled_so x place n g mid w' reply place_is group_is s)))
       (λ m. inr m) f
-
-  pub reads_whole : (w w' : World) (a : Tier) (reply : Reply) → a ≡ set_tried x.group w.tier → ReadsWhole place g (record w { tier = a }) w' reply
-      → Reads (set_tried x.group) (λ n v v' r. MatchBool (is_explicit x.group) (Settles x (whole_answer x n) v v' r) (other n v v' r)) w w' reply
-  reads_whole w w' a reply tried r = record {
-    result = r.told;
-    mid = r.mid;
-    call = one_call (TellsPosition r.told) w r.mid a r.call;
-    tier = r.tier ∙ tried;
-    goes_on = follows_so r.told r.mid w' reply r.goes_on;
-  }
-
--- the group at a place of the catalog
-pub record GroupAt (t : Stored) (w : World) (place : ℕ) (seen : Group) : Type 0 where
-  pub group : Group
-  pub there : slice_get w.tier.groups place ≡ Some group
-  pub is : without_list group ≡ seen
-  pub explicit : is_explicit group ≡ true
-
-pub group_at : (t : Stored) (w : World) (place : ℕ) (seen : Group) → is_explicit seen ≡ true → StandsFor t w → slice_get (groups_in t.catalog) place ≡ Some seen → GroupAt t w place seen
-group_at t w place seen explicit stands at =
-    let (h, h_at, same) = unmapped w.tier.groups place seen (ap (λ l. slice_get l place) stands.stored.groups ∙ at) in
-    record {
-      group = h;
-      there = h_at;
-      is = same;
-      explicit = ap is_explicit same ∙ explicit;
-    }
 
 -- it is loaded alone, or with its set
 pub off_is : (st : RefreshState) → is_off st ≡ true → st ≡ Off
@@ -346,10 +315,10 @@ off_is On e = cc
 off_is Paused e = cc
 off_is Off e = refl
 
-with_alone : (g : Group) (place : ℕ) → g.state ≡ Off → alone place ≡ loaded_with g place
+pub with_alone : (g : Group) (place : ℕ) → g.state ≡ Off → alone place ≡ loaded_with g place
 with_alone g place e = ap (λ st. loaded_with (record g { state = st }) place) (sym e)
 
-with_set : (g : Group) (place : ℕ) → is_off g.state ≡ false → of_set g.def.interval (Some place) ≡ loaded_with g place
+pub with_set : (g : Group) (place : ℕ) → is_off g.state ≡ false → of_set g.def.interval (Some place) ≡ loaded_with g place
 with_set g place e = by g.state e
   where
     by : (st : RefreshState) → is_off st ≡ false → of_set g.def.interval (Some place) ≡ loaded_with (record g { state = st }) place
@@ -357,73 +326,16 @@ with_set g place e = by g.state e
     by Paused e = refl
     by Off e = cc
 
-tried_alone : (g : Group) (a : Tier) → g.state ≡ Off → a ≡ set_tried g a
+pub tried_alone : (g : Group) (a : Tier) → g.state ≡ Off → a ≡ set_tried g a
 tried_alone g a e = ap (λ st. set_tried (record g { state = st }) a) (sym e)
 
-tried_set : (g : Group) (a : Tier) → is_off g.state ≡ false → refresh_tried g.def.interval a ≡ set_tried g a
+pub tried_set : (g : Group) (a : Tier) → is_off g.state ≡ false → refresh_tried g.def.interval a ≡ set_tried g a
 tried_set g a e = by g.state e
   where
     by : (st : RefreshState) → is_off st ≡ false → refresh_tried g.def.interval a ≡ set_tried (record g { state = st }) a
     by On e = refl
     by Paused e = refl
     by Off e = cc
-
-abbrev pub WholeReads : Target → (ℕ → World → World → Reply → Type 0) → World → World → Reply → Type 0
-WholeReads x other = Reads (set_tried x.group) (λ n v v' r. MatchBool (is_explicit x.group) (Settles x (whole_answer x n) v v' r) (other n v v' r))
-
--- behind the load alone
-pub loaded_alone : {D : Type 0} (state : D → SiteState) (possible : D → ℕ → Held → Type 0) (t new : Stored) (k k' : Option TierJournal) (d d' : D) (place : ℕ) (seen : Group) (reply : Reply) → is_explicit seen ≡ true → slice_get (groups_in t.catalog) place ≡ Some seen → is_read_only seen ≡ true → seen.state ≡ Off → LoadsWhole state possible t new k k' d d' place (alone place) reply
-    → (x : Target) → x.place ≡ place → (other : ℕ → World → World → Reply → Type 0) → (w : World) → IsAt (state d) w → StandsFor t w → IsUnshared w → KeepsOver state possible d k w → IsPerformedOver state possible new k' d' (Some reply) (λ w'. slice_get w.tier.groups place ≡ Some x.group → Tries (WholeReads x other) w w' reply)
-loaded_alone state possible t new k k' d d' place seen reply explicit at reads off loads x place_is other w at_w stands apart keeps =
-    let g = group_at t w place seen explicit stands at in
-    let off_there : g.group.state ≡ Off = ap (λ (y : Group). y.state) g.is ∙ off in
-    let p = loads w g.group at_w stands apart keeps g.there (ap is_read_only g.is ∙ reads) (with_alone g.group place off_there) in
-    record {
-      world = p.world;
-      at = p.at;
-      stands = p.stands;
-      keeps = p.keeps;
-      is = λ there.
-          let both : Some x.group ≡ Some g.group = sym there ∙ g.there in
-          let same : x.group ≡ g.group = cc in
-          inl (reads_whole x place g.group place_is same g.explicit other w p.world w.tier reply (tried_alone g.group w.tier off_there ∙ ap (λ y. set_tried y w.tier) (sym same)) p.is);
-    }
-
--- behind the load with its set, which was noted
-pub loaded_joined : {D : Type 0} (state : D → SiteState) (possible : D → ℕ → Held → Type 0) (t noted new : Stored) (k k' : Option TierJournal) (d d' : D) (place : ℕ) (seen : Group) (reply : Reply) → is_explicit seen ≡ true → slice_get (groups_in t.catalog) place ≡ Some seen → is_read_only seen ≡ true → is_off seen.state ≡ false
-    → ((w : World) → StandsFor t w → StandsFor noted (record w { tier = refresh_tried seen.def.interval w.tier })) → LoadsWhole state possible noted new k k' d d' place (of_set seen.def.interval (Some place)) reply
-    → (x : Target) → x.place ≡ place → (other : ℕ → World → World → Reply → Type 0) → (w : World) → IsAt (state d) w → StandsFor t w → IsUnshared w → KeepsOver state possible d k w → IsPerformedOver state possible new k' d' (Some reply) (λ w'. slice_get w.tier.groups place ≡ Some x.group → Tries (WholeReads x other) w w' reply)
-loaded_joined state possible t noted new k k' d d' place seen reply explicit at reads on notes loads x place_is other w at_w stands apart keeps =
-    let g = group_at t w place seen explicit stands at in
-    let on_there : is_off g.group.state ≡ false = ap (λ (y : Group). is_off y.state) g.is ∙ on in
-    let interval : g.group.def.interval ≡ seen.def.interval = ap (λ (y : Group). y.def.interval) g.is in
-    let p = loads (record w { tier = refresh_tried seen.def.interval w.tier }) g.group (record { there = at_w.there; told = at_w.told; history = at_w.history; faults = at_w.faults; moment = at_w.moment; shared = at_w.shared }) (notes w stands) apart (keeps_tier state possible d k w (refresh_tried seen.def.interval w.tier) refl keeps) g.there (ap is_read_only g.is ∙ reads)
-    (ap (λ i. of_set i (Some place)) (sym interval) ∙ with_set g.group place on_there) in
-    record {
-      world = p.world;
-      at = p.at;
-      stands = p.stands;
-      keeps = p.keeps;
-      is = λ there.
-          let both : Some x.group ≡ Some g.group = sym there ∙ g.there in
-          let same : x.group ≡ g.group = cc in
-          inl (reads_whole x place g.group place_is same g.explicit other w p.world (refresh_tried seen.def.interval w.tier) reply (ap (λ i. refresh_tried i w.tier) (sym interval) ∙ tried_set g.group w.tier on_there ∙ ap (λ y. set_tried y w.tier) (sym same)) p.is);
-    }
-
--- with what was made ready
-pub over_moved : {D : Type 0} (state : D → SiteState) (possible : D → ℕ → Held → Type 0) (old new : Stored) (k mid k' : Option TierJournal) (d d' : D) (stop : Option Reply) (does : World → World → Type 0) → StaysKept k mid → PerformsOver state possible old new mid k' d d' stop does → PerformsOver state possible old new k k' d d' stop does
-over_moved state possible old new k mid k' d d' stop does stays performs w at stands apart keeps = performs w at stands apart (keeps_stays state possible d k mid w stays keeps)
-
--- memory was wanting
-pub whole_wanting : {D : Type 0} (state : D → SiteState) (possible : D → ℕ → Held → Type 0) (t new : Stored) (k k' : Option TierJournal) (d : D) (place : ℕ) (x : Target) (part : Part) (e : Refused) → StaysKept k k' → ((w : World) → StandsFor t w → StandsFor new w) → e ≡ refused.Memory
-    → PerformsOver state possible t new k k' d d (Some (reply_of (Err e))) (λ w w'. slice_get w.tier.groups place ≡ Some x.group → Tries part w w' (reply_of (Err e)))
-whole_wanting state possible t new k k' d place x part e stays still is w at stands apart keeps = record {
-  world = w;
-  at = at;
-  is = λ there. inr (refl, ap (λ y. reply_of (Err y)) is);
-  stands = λ whole. still w stands;
-  keeps = λ whole. keeps_stays state possible d k k' w stays keeps;
-}
 
 -- what was made ready for the group that is stored at a place
 pub load_there : (groups : List Group) (k : Option TierJournal) (place : ℕ) (seen : Group) (ready : Ready) → slice_get groups place ≡ Some seen → ((schema : List TableDef) → IsReadyFor schema k ready (load_entries seen)) → IsReadyToLoad groups k place ready

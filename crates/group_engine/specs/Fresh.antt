@@ -1,7 +1,7 @@
 -- What is read of the bank for a refresh, and what is stored behind it. (TimesTen Cache User's Guide, "Automatically
 -- refreshing a cache group"; that all groups of a refresh have one position is this project's rule.)
 
-use Rattle.std.specs.Prelude.{◌≡◌, ◌≤◌, ℕ, suc, List, [], ◌∷◌, Bool, true, false, ◌&&◌, ◌||◌, not, Option, Some, None, Result, Ok, Err, length, slice_get}
+use Rattle.std.specs.Prelude.{◌≡◌, ◌≤◌, ℕ, suc, List, [], ◌∷◌, Bool, true, false, ◌&&◌, ◌||◌, not, nat_eq, if◌then◌else◌, Option, Some, None, Result, Ok, Err, length, slice_get}
 use Rattle.std.specs.FinMap.{empty, get}
 use Rattle.row_types.specs.declared.value.Value.{Value}
 use Rattle.indexed_rows.specs.Rows.{Table, is_same}
@@ -19,7 +19,7 @@ use Rattle.outside.specs.declared.fault.BankError.TheVariants.{Failed}
 use Rattle.group_catalog.specs.Catalogs.{groups_in}
 use Rattle.group_store.specs.Keeping.{IsFor}
 use Rattle.group_store.specs.Stores.{HasRootKeys, Kept}
-use Rattle.cache_tier.specs.Groups.{Group}
+use Rattle.cache_tier.specs.Groups.{Group, is_key}
 use Rattle.cache_tier.specs.Reading.{TellsPosition}
 use Rattle.cache_tier.specs.Sets.{Choice, changed_from}
 use Rattle.cache_tier.specs.Shown.{exceeds, root_key}
@@ -54,46 +54,59 @@ pub record AreFormed (schema : List TableDef) (groups : List Group) (made : List
   pub hiding : (k : ℕ) (g : Group) (m : Made) → slice_get groups k ≡ Some g → slice_get made k ≡ Some (Some m)
       → IsHidingFor schema g m.store m.hidden
 
--- the root key is that of an instance past the horizon, and of a dynamic group it is one of those that it has
-abbrev pub is_fresh : TableState → Group → Kept → Table → List Value → Bool
-is_fresh state g s hidden key =
-    (not g.def.dynamic || is_held s hidden key) && passes (exceeds g) (get (root_rows state g.def.tree.root) key)
+-- the root key is that of an instance past the horizon, and of a dynamic group it is one of those that it has, or gains
+abbrev pub is_fresh : TableState → Group → Kept → Table → List (List Value) → List Value → Bool
+is_fresh state g s hidden more key =
+    (not g.def.dynamic || (is_held s hidden key || is_key more key))
+    && passes (exceeds g) (get (root_rows state g.def.tree.root) key)
 
 -- keys that are used one after another
 abbrev pub keys_touched : List (List Value) → List (List Value) → List (List Value)
 keys_touched [] keys = keys
 keys_touched (key ∷ used) keys = keys_touched used (touched is_same key keys)
 
--- What was made shows the instances of a state, where this was the store of the group, and these its hidden root rows.
--- Where instances leave by last use they are in the order of the old store. None is hidden.
-pub record IsFreshFor (state : TableState) (g : Group) (s : Kept) (hidden : Table) (m : Made) : Type 0 where
-  pub rows : m.store.tables ≡ shown_of state g.def.tree (is_fresh state g s hidden)
+-- What was made shows the instances of a state, where this was the store of the group, these its hidden root rows, and
+-- these the root keys that it gains. Where instances leave by last use they are in the order of the old store, and
+-- behind them those that are gained. None is hidden.
+pub record IsFreshFor (state : TableState) (g : Group) (s : Kept) (hidden : Table) (more : List (List Value))
+    (m : Made) : Type 0 where
+  pub rows : m.store.tables ≡ shown_of state g.def.tree (is_fresh state g s hidden more)
   pub before : List (List Value)
-  pub order : is_by_use g.def.aging ≡ true → m.store.keys ≡ keys_touched s.keys before
+  pub order : is_by_use g.def.aging ≡ true → m.store.keys ≡ keys_touched more (keys_touched s.keys before)
   pub old : HasRootKeys s
   pub new : HasRootKeys m.store
   pub bare : m.hidden.table ≡ empty
 
 -- so it is where it is wanted
-abbrev pub IsViewed : Bool → TableState → Group → Kept → Table → Option Made → Type 0
-IsViewed true state g s hidden None = ⊥
-IsViewed true state g s hidden (Some m) = IsFreshFor state g s hidden m
-IsViewed false state g s hidden o = o ≡ None
+abbrev pub IsViewed : Bool → TableState → Group → Kept → Table → List (List Value) → Option Made → Type 0
+IsViewed true state g s hidden more None = ⊥
+IsViewed true state g s hidden more (Some m) = IsFreshFor state g s hidden more m
+IsViewed false state g s hidden more o = o ≡ None
+
+-- what a group gains where the one at a place gains these keys
+abbrev pub gained_at : ℕ → List (List Value) → ℕ → List (List Value)
+gained_at place [] k = []
+gained_at place (key ∷ more) k = if nat_eq k place then key ∷ more else []
 
 -- root rows of a state stand under their keys
 abbrev pub HasOwnKeys : TableState → Group → Type 0
 HasOwnKeys state g =
     (key row : List Value) → get (root_rows state g.def.tree.root) key ≡ Some row → root_key state g row ≡ key
 
--- the stores show instances of the state at this position of a world's history
-pub record AreFresh (t : Stored) (w : World) (filled : Choice) (n : ℕ) (made : List (Option Made)) : Type 0 where
+-- the stores show instances of the state at this position of a world's history; the group at a place gains these keys
+pub record AreGained (t : Stored) (w : World) (filled : Choice) (place : ℕ) (more : List (List Value)) (n : ℕ)
+    (made : List (Option Made)) : Type 0 where
   pub state : TableState
   pub there : state_at w.history n ≡ Some state
   pub within : n ≤ length w.history
   pub keyed : (k : ℕ) (g : Group) → slice_get (groups_in t.catalog) k ≡ Some g → HasOwnKeys state g
   pub views : (k : ℕ) (g : Group) (s : Kept) (h : RowsHeld) (o : Option Made) → slice_get (groups_in t.catalog) k ≡ Some g
       → slice_get t.stores.items k ≡ Some s → slice_get t.hidden.items k ≡ Some h → slice_get made k ≡ Some o
-      → IsViewed (filled k g) state g s h.table o
+      → IsViewed (filled k g) state g s h.table (gained_at place more k) o
+
+-- none gains any
+abbrev pub AreFresh : Stored → World → Choice → ℕ → List (Option Made) → Type 0
+AreFresh t w filled n made = AreGained t w filled 0 [] n made
 
 -- a world behind a call that tells a position: the tier is as it was, and stands
 pub record IsRead (t : Stored) (behind : SiteState) (told : Result ℕ BankError) (w : World) : Type 0 where

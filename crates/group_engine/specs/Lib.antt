@@ -1,12 +1,15 @@
 pub mod Aiming
 pub mod Altering
+pub mod Bringing
 pub mod Defining
 pub mod Dropping
 pub mod Fresh
+pub mod Gaining
 pub mod Loaded
 pub mod Putting
 pub mod Ready
 pub mod Readying
 pub mod Taking
+pub mod Touching
 pub mod UnloadLocks
 pub mod Unloading

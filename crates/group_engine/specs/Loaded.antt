@@ -44,6 +44,10 @@ LoadsWhole state possible old new k k' d d' place chosen reply =
 abbrev pub IsExplicitAt : List Group → ℕ → Type 0
 IsExplicitAt groups place = (g : Group) → slice_get groups place ≡ Some g → is_explicit g ≡ true
 
+-- or dynamic
+abbrev pub IsDynamicAt : List Group → ℕ → Type 0
+IsDynamicAt groups place = (g : Group) → slice_get groups place ≡ Some g → g.def.dynamic ≡ true
+
 -- what was made ready for the group at a place, which is loaded
 abbrev pub IsReadyToLoad : List Group → Option TierJournal → ℕ → Ready → Type 0
 IsReadyToLoad groups k place ready =

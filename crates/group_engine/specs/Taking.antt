@@ -18,13 +18,13 @@ use Rattle.group_store.specs.Stores.{HasRootKeys, Kept, SameButSpare, put_tables
 use Rattle.cache_tier.specs.declared.reply.Last.TheVariants.{Done, No}
 use Rattle.cache_tier.specs.declared.reply.Reply.{Reply}
 use Rattle.cache_tier.specs.Conditions.{is_id, overflow_fault}
-use Rattle.cache_tier.specs.Groups.{Group, is_read_only}
-use Rattle.cache_tier.specs.LoadSteps.{LoadsReadOnly, LoadsWritethrough, added_answer}
+use Rattle.cache_tier.specs.Groups.{Group, is_explicit, is_read_only}
+use Rattle.cache_tier.specs.LoadSteps.{LoadsReadOnly, LoadsWritethrough, added_answer, gained_answer}
 use Rattle.cache_tier.specs.Reading.{Reads, as_it_was, backing_at}
-use Rattle.cache_tier.specs.RefreshSteps.{RefreshesReadOnly, RefreshesWritethrough, judged_roots, refreshed_answer}
+use Rattle.cache_tier.specs.RefreshSteps.{RefreshesReadOnly, RefreshesWritethrough, held_answer, judged_roots, refreshed_answer}
 use Rattle.cache_tier.specs.Rules.{past, plain}
-use Rattle.cache_tier.specs.Sets.{alone, changed_from}
-use Rattle.cache_tier.specs.Targets.{Settles, Target, backing_roots}
+use Rattle.cache_tier.specs.Sets.{Choice, alone, changed_from, loaded_with, set_tried}
+use Rattle.cache_tier.specs.Targets.{Settles, Target, backing_roots, held_roots, view_roots, whole_answer}
 use Rattle.cache_tier.specs.Worlds.{IsUnshared, Part, Unless, World, only}
 use Rattle.stored_tier.specs.declared.tier.Tier.{Tier as Stored}
 use Rattle.stored_tier.specs.Choosing.{counted}
@@ -122,6 +122,28 @@ ReadsMatching true x =
     (λ n w w' reply.
     Unless (overflow_fault x.filter (judged_roots (backing_at w n) x)) (Settles x (refreshed_answer x n)) w w' reply)
 
+-- what LOAD of a dynamic READONLY group does at a position, and REFRESH
+abbrev pub TakesAtPosition : Bool → Target → ℕ → Part
+TakesAtPosition false x n w w' reply =
+    Unless (overflow_fault x.filter (view_roots (backing_at w n) x)) (Settles x (gained_answer x n)) w w' reply
+TakesAtPosition true x n w w' reply =
+    Unless (overflow_fault x.filter (held_roots x (view_roots (backing_at w n) x))) (Settles x (held_answer x n)) w
+    w' reply
+
+abbrev pub ReadsDynamic : Bool → Target → Part
+ReadsDynamic refreshes x = Reads as_it_was (TakesAtPosition refreshes x)
+
+-- so it is of a READONLY group, explicit or dynamic; the note that a refresh of its set is tried stands, or comes with it
+abbrev pub ShowsAtPosition : Bool → Target → ℕ → Part
+ShowsAtPosition refreshes x n w w' reply =
+    MatchBool (is_explicit x.group) (Settles x (whole_answer x n) w w' reply) (TakesAtPosition refreshes x n w w' reply)
+
+abbrev pub ReadsNoted : Bool → Target → Part
+ReadsNoted refreshes x = Reads as_it_was (ShowsAtPosition refreshes x)
+
+abbrev pub ReadsTried : Bool → Target → Part
+ReadsTried refreshes x = Reads (set_tried x.group) (ShowsAtPosition refreshes x)
+
 -- these are the tables of the group at a place
 pub record AsksTree (t : Stored) (place : ℕ) (asked : List TableId) : Type 0 where
   pub group : Group
@@ -162,3 +184,11 @@ pub record IsSettledAt (place : ℕ) (g : Group) (w : World) : Type 0 where
 -- the group is at the place
 abbrev pub IsGroupAt : ℕ → Group → World → Type 0
 IsGroupAt place g w = slice_get w.tier.groups place ≡ Some g
+
+-- LOAD or REFRESH of a READONLY group that is refreshed with these, in each world at the site
+abbrev pub LoadsNoted : {D : Type 0} → (D → SiteState) → (D → ℕ → Held → Type 0) → Stored → Stored
+    → Option TierJournal → Option TierJournal → D → D → ℕ → ResolvedWhich → Bool → Choice → Reply → Type 0
+LoadsNoted state possible old new k k' d d' place which refreshes chosen reply =
+    (x : Target) → IsOfTarget x place which → is_read_only x.group ≡ true → chosen ≡ loaded_with x.group place
+    → PerformsWhere (IsGroupAt place x.group) state possible old new k k' d d' (Some reply)
+    (λ w w'. ReadsNoted refreshes x w w' reply)

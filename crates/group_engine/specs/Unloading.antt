@@ -1,6 +1,6 @@
 -- UNLOAD over what is stored. (TimesTen SQL Reference, "UNLOAD CACHE GROUP".)
 
-use Rattle.std.specs.Prelude.{◌≡◌, ℕ, List, [], ◌∷◌, Bool, true, false, ◌||◌, Option, None, Some, Result, Ok, Err, filter, length, map, set, slice_get, if◌then◌else◌}
+use Rattle.std.specs.Prelude.{◌≡◌, ℕ, List, [], ◌∷◌, Bool, true, false, ◌&&◌, not, Option, None, Some, Result, Ok, Err, filter, length, map, set, slice_get, if◌then◌else◌}
 use Rattle.std.specs.FinMap.{len, values}
 use Rattle.row_types.specs.declared.rule.Refused.{Refused}
 use Rattle.row_types.specs.declared.rule.Refused.TheVariants as refused
@@ -16,7 +16,7 @@ use Rattle.table_state.specs.declared.operation.Op.{Op}
 use Rattle.group_catalog.specs.Catalogs.{groups_in}
 use Rattle.group_catalog.specs.declared.which.ResolvedWhich.{ResolvedWhich}
 use Rattle.group_store.specs.Keeping.{primary_of}
-use Rattle.group_store.specs.Stores.{Kept, SameButSpare, cleared_store, cut_store}
+use Rattle.group_store.specs.Stores.{Kept, SameButSpare, cleared_store}
 use Rattle.std.specs.Option.{option_or}
 use Rattle.row_types.specs.declared.rule.Rule.{Rule}
 use Rattle.cache_tier.specs.Conditions.{overflows, root_def}
@@ -24,12 +24,13 @@ use Rattle.cache_tier.specs.Groups.{Group, is_explicit, is_read_only, place_call
 use Rattle.cache_tier.specs.Order.{is_whole_only, refusal, wrong_state}
 use Rattle.cache_tier.specs.Rules.{open_writes, plain}
 use Rattle.cache_tier.specs.TierStates.{Session, Tier}
+use Rattle.aging_cycles.specs.Running.{cut_all}
 use Rattle.group_engine.specs.declared.aiming.Aim.{Aim}
 use Rattle.stored_tier.specs.declared.tier.Tier.{Tier as Stored}
 use Rattle.group_engine.specs.Aiming.{IsAimed}
 use Rattle.stored_tier.specs.Choosing.{matches_at}
 use Rattle.stored_tier.specs.Grouping.{KeepsBesideGroups}
-use Rattle.stored_tier.specs.Lists.{hides_keys, is_by_use}
+use Rattle.stored_tier.specs.Lists.{hides_keys}
 use Rattle.stored_tier.specs.Performing.{IsPerformedOver, StandsFor}
 use Rattle.stored_tier.specs.Sites.{IsAt}
 use Rattle.table_defs.specs.declared.definition.TableDef.{TableDef}
@@ -76,11 +77,6 @@ AimsUnloadIn t id u result =
 abbrev pub leaving : ResolvedWhich → List ℕ → Table → List (List Value)
 leaving which columns rows =
     map (key_of columns) (filter (λ row. matches_at which (key_of columns row) row) (values rows))
-
--- without the instances of these root keys
-abbrev pub cut_all : List (List Value) → Kept → Kept
-cut_all [] s = s
-cut_all (key ∷ keys) s = cut_all keys (cut_store 0 key s)
 
 -- the instances that match left, so many
 pub record IsCutBy (which : ResolvedWhich) (columns : List ℕ) (old new : Kept) (n : ℕ) : Type 0 where
@@ -135,11 +131,15 @@ pub record LeavesGroup (t new : Stored) (place : ℕ) (all : Bool) (does : Group
   pub hidden : new.hidden ≡ t.hidden
   pub unverified : new.verified ≡ false
 
--- the group at a place is explicit, and its instances don't leave by last use
+-- the group at a place is explicit
 abbrev pub IsWholeAt : Stored → ℕ → Type 0
 IsWholeAt t place =
-    (g : Group) → slice_get (groups_in t.catalog) place ≡ Some g
-    → (g.def.dynamic || is_by_use g.def.aging) ≡ false
+    (g : Group) → slice_get (groups_in t.catalog) place ≡ Some g → g.def.dynamic ≡ false
+
+-- the group's list is that of what it shows: it is dynamic, and hides none
+abbrev pub lists_shown : Option Group → Bool
+lists_shown None = false
+lists_shown (Some g) = g.def.dynamic && not (hides_keys g)
 
 -- the instances that match, so many
 abbrev pub IsCutGroup : Stored → Stored → Aim → Bool → ℕ → Type 0
@@ -151,7 +151,7 @@ IsCutGroup t new aim all n =
 abbrev pub IsClearedGroup : Stored → Stored → ℕ → ℕ → Type 0
 IsClearedGroup t new place n =
     LeavesGroup t new place true
-    (λ g store left. IsClearedBy store left n × ((g.def.dynamic || is_by_use g.def.aging) ≡ false))
+    (λ g store left. IsClearedBy store left n × (g.def.dynamic ≡ false))
 
 -- an explicit READONLY group is asked for whole
 abbrev pub AsksWhole : Target → Bool → Type 0

@@ -3,14 +3,19 @@
 
 pub mod aiming;
 pub mod altering;
+pub mod bringing;
 pub mod defining;
 pub mod dropping;
 pub mod fresh;
+mod gaining;
 pub mod grouping;
 pub mod loading;
+mod loading_dynamic;
 pub mod loading_whole;
 pub mod loading_written;
 mod ready;
 mod readying;
+mod touching;
+mod unload_listed;
 pub mod unload_locks;
 pub mod unloading;

@@ -96,7 +96,7 @@ fn load_aimed<P: Site>(
     ensures cause { IsCausedOver journal.old (P.Disk.state site.old) (P.Disk.state site.new) (reply_of result) }
 {
     if aim.read_only {
-        load_whole(tier, alloc, site, journal, aim.place)
+        load_whole(tier, alloc, site, journal, aim, refreshes)
     } else {
         load_behind(tier, alloc, site, journal, aim.place, &aim.which, refreshes)
     }

@@ -1,6 +1,6 @@
 //! LOAD and REFRESH of a writethrough group, behind the rules that refuse them and the round that comes first.
 
-ghost use Rattle.std.specs.Prelude.{◌≡◌, ◌∷◌, IfOk, Some, false, map, option_copied, slice_get, true};
+ghost use Rattle.std.specs.Prelude.{◌≡◌, ◌<◌, ◌∷◌, IfOk, Some, false, length, map, option_copied, slice_get, true};
 ghost use Rattle.instances.specs.declared.tree.Child.{Child as OneChild};
 ghost use Rattle.cache_tier.specs.Groups.{is_writethrough};
 ghost use Rattle.cache_tier.specs.Targets.{Target};
@@ -10,10 +10,12 @@ ghost use Rattle.stored_tier.specs.Stored.{IsSound};
 ghost use Rattle.group_catalog.specs.Catalogs.{groups_in};
 ghost use Rattle.group_engine.specs.Loaded.{IsReadyToLoad};
 ghost use Rattle.group_engine.specs.Ready.{IsPlacedReady};
+ghost use Rattle.group_engine.specs.Touching.{IsTouchedAt};
 ghost use Rattle.group_engine.specs.Taking.{AsksTree, IsOfTarget, IsSettledAt, MayTake, JudgesFull, PerformsWhere, ReadsMatching, TakesMatching};
 
 use crate::loading_whole::ready_to_load;
 use crate::ready::{Ready, answer_behind, slot_is_full};
+use crate::touching::refresh_held;
 use cache_tier::reply::Reply;
 use group_catalog::ResolvedWhich;
 use group_store::Store;
@@ -53,7 +55,12 @@ pub(crate) fn load_written<P: Site>(
 {
     match ready_to_load(&tier.catalog, alloc, journal, place) {
         Err(refused) => Err(refused),
-        Ok(ready) => load_matching(tier, alloc, site, journal, place, which, refreshes, &ready),
+        Ok(ready) => {
+            if is_touched(tier, place, refreshes) {
+                return refresh_held(tier, alloc, site, journal, place, which, &ready);
+            }
+            load_matching(tier, alloc, site, journal, place, which, refreshes, &ready)
+        }
     }
 }
 
@@ -69,6 +76,7 @@ fn load_matching<P: Site>(
     ready: &Ready,
 ) -> Result<Reply, Refused>
     requires sound { IsSound tier.old }
+    requires may { MayTake tier.old place refreshes }
     requires ready { IsReadyToLoad (groups_in tier.old.catalog) journal.old place ready.now }
     requires placed { IsPlacedReady journal.old ready.now }
     ensures reads { (x : Target) → IsOfTarget x place which.now → is_writethrough x.group ≡ true
@@ -78,9 +86,6 @@ fn load_matching<P: Site>(
     ensures sound { IsSound tier.new }
     ensures cause { IsCausedOver journal.old (P.Disk.state site.old) (P.Disk.state site.new) (reply_of result) }
 {
-    if waits_at(tier, place, refreshes) {
-        return Err(Refused::Memory);
-    }
     match tables_of_tree(tier, alloc, place) {
         Err(_) => Err(Refused::Memory),
         Ok(asked) => match site.snapshot(asked.as_slice()) {
@@ -119,12 +124,14 @@ fn judge_full(
     }
 }
 
-// Whether the group at a place isn't refreshed yet: it is dynamic.
-fn waits_at(tier: &Tier, place: usize, refreshes: bool) -> bool
-    ensures { result ≡ false → MayTake tier.now place refreshes }
+// Whether it is REFRESH of a group that is dynamic.
+fn is_touched(tier: &Tier, place: usize, refreshes: bool) -> bool
+    ensures touched { result ≡ true → IsTouchedAt tier.now place × (refreshes ≡ true)
+        × (place < length (groups_in tier.now.catalog)) }
+    ensures taken { result ≡ false → MayTake tier.now place refreshes }
 {
     match tier.catalog.get(place) {
-        None => true,
+        None => false,
         Some(group) => refreshes && group.def.dynamic,
     }
 }

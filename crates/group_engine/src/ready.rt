@@ -103,8 +103,8 @@ pub(crate) fn answer_behind<P: Site>(
     }
 }
 
-// What was made ready is flushed with the tail before it.
-fn flush_ready<D: Disk>(
+/// What was made ready is flushed with the tail before it.
+pub(crate) fn flush_ready<D: Disk>(
     alloc: Global,
     disk: &mut D,
     journal: &mut Option<TierJournal>,

@@ -14,7 +14,8 @@ ghost use Rattle.tier_statements.specs.Seen.{session_seen};
 ghost use Rattle.cache_tier.specs.Locks.{locked_by};
 ghost use Rattle.cache_tier.specs.Conditions.{overflows};
 ghost use Rattle.stored_tier.specs.Grouping.{KeepsGroups};
-ghost use Rattle.group_engine.specs.Unloading.{IsClearedAt, IsClearedBy, IsClearedGroup, IsCutAt, IsCutBy, IsCutGroup, IsReadyToLeave, IsWholeAt, UnloadsHere, UnloadsReady, cut_all, flagged, leaving, unload_state, AimsUnloadIn};
+ghost use Rattle.aging_cycles.specs.Running.{cut_all};
+ghost use Rattle.group_engine.specs.Unloading.{IsClearedAt, IsClearedBy, IsClearedGroup, IsCutAt, IsCutBy, IsCutGroup, IsReadyToLeave, IsWholeAt, UnloadsHere, UnloadsReady, flagged, leaving, unload_state, AimsUnloadIn};
 ghost use Rattle.group_engine.specs.UnloadLocks.{LocksTold, RootsTold, UnloadTold};
 ghost use Rattle.group_catalog.specs.Catalogs.{groups_in};
 ghost use Rattle.kept_journal.specs.Drafts.{StaysKept};
@@ -26,6 +27,7 @@ use crate::aiming::{Aim, about, aim_by, asks_all, is_read_only, is_whole_only, j
 use crate::dropping::refuse_locked;
 use crate::ready::{Ready, answer_behind, slot_is_full};
 use crate::readying::ready_unload;
+use crate::unload_listed::unload_listed;
 use crate::unload_locks::writer_within;
 use cache_tier::laws::tier_law;
 use cache_tier::reply::Reply;
@@ -40,7 +42,7 @@ use row_types::{Detail, Key, Refused, Rule};
 use session_state::Session;
 use sql_subset::stmt::{OfGroup, Which};
 use std::alloc::{AllocError, Global};
-use stored_tier::filling::{hides_keys, is_by_use};
+use stored_tier::filling::hides_keys;
 use stored_tier::tier::Tier;
 use table_state::Op;
 use table_state::scan_laws::keyed_law;
@@ -48,8 +50,7 @@ use tier_base::{Code, SessionId};
 use tier_journal::TierJournal;
 use tier_statements::done;
 
-/// UNLOAD CACHE GROUP: the instances that match leave the cache, and nothing changes at the backing database. The reply
-/// tells how many left.
+/// UNLOAD CACHE GROUP: the instances that match leave the cache alone. The reply tells how many left.
 ///
 /// The refusal is 112, 103, 115, 122, 104 and 105 in the order of refusals, then 120 of the condition on a shown root,
 /// then 111 of an instance in which another session has uncommitted writes, then 119 where the journal has no room; 202
@@ -170,7 +171,7 @@ fn unload_matching<P: Site>(
     }
 }
 
-// All instances of a READONLY group leave, or 119: nothing is asked of its rows, and no session writes in it.
+// Instances of a READONLY group leave, or 119: all of an explicit one, of a dynamic one those that match.
 fn unload_whole<P: Site>(
     tier: &mut Tier,
     alloc: Global,
@@ -187,8 +188,8 @@ fn unload_whole<P: Site>(
     ensures sound { IsSound tier.new }
     ensures cause { IsCausedOver journal.old (P.Disk.state site.old) (P.Disk.state site.new) (reply_of result) }
 {
-    if waits_at(tier, aim.place) {
-        return Err(Refused::Memory);
+    if is_listed_at(tier, aim.place) {
+        return unload_listed(tier, alloc, site, journal, aim, ready);
     }
     if ready.is_full() {
         return Ok(slot_is_full(alloc));
@@ -199,18 +200,17 @@ fn unload_whole<P: Site>(
     }
 }
 
-// Whether the group at a place isn't unloaded yet: it is dynamic, or its instances leave by last use.
-fn waits_at(tier: &Tier, place: usize) -> bool
+// Whether the group at a place is dynamic.
+fn is_listed_at(tier: &Tier, place: usize) -> bool
     ensures { result ≡ false → IsWholeAt tier.now place }
 {
     match tier.catalog.get(place) {
         None => true,
-        Some(group) => group.def.dynamic || is_by_use(&group.def.aging),
+        Some(group) => group.def.dynamic,
     }
 }
 
-// 120 of the condition on a root row; then 111, where another session has uncommitted writes in an instance that
-// matches. Where no session has any, no row is looked at for it.
+// 120 of the condition on a root row; then 111 of another session's uncommitted writes in an instance that matches.
 fn judge_instances(tier: &mut Tier, alloc: Global, id: SessionId, aim: &Aim) -> Result<(), Refused>
     requires { IsSound tier.old }
     ensures told { UnloadTold tier.old id aim.now result }
@@ -234,8 +234,8 @@ fn judge_instances(tier: &mut Tier, alloc: Global, id: SessionId, aim: &Aim) -> 
     }
 }
 
-// 120 of the condition on a root row.
-fn judge_roots(tier: &Tier, aim: &Aim) -> Result<(), Refused>
+/// 120 of the condition on a root row.
+pub(crate) fn judge_roots(tier: &Tier, aim: &Aim) -> Result<(), Refused>
     requires { IsSound tier.now }
     ensures { RootsTold tier.now aim.now result }
 {
@@ -283,8 +283,13 @@ fn judge_locks(tier: &Tier, alloc: Global, id: SessionId, aim: &Aim) -> Result<(
     }
 }
 
-// The instances of the group that match leave its store; how many. Where all of it is asked for, its flag is cleared.
-fn cut_group(tier: &mut Tier, alloc: Global, aim: &Aim, all: bool) -> Result<usize, AllocError>
+/// The instances of the group that match leave its store; how many. Where all of it is asked for, its flag is cleared.
+pub(crate) fn cut_group(
+    tier: &mut Tier,
+    alloc: Global,
+    aim: &Aim,
+    all: bool,
+) -> Result<usize, AllocError>
     ensures ok { IfOk result (IsCutGroup tier.old tier.new aim.now all) }
     ensures err { OnErr result (KeepsGroups tier.old tier.new) }
 {
@@ -318,7 +323,7 @@ fn clear_group(tier: &mut Tier, alloc: Global, place: usize) -> Result<usize, Al
     ensures ok { IfOk result (IsClearedGroup tier.old tier.new place) }
     ensures err { OnErr result (KeepsGroups tier.old tier.new) }
 {
-    if waits_at(tier, place) {
+    if is_listed_at(tier, place) {
         return Err(AllocError);
     }
     match tier.catalog.get(place) {
@@ -412,8 +417,7 @@ fn cut_at(
     cut_matching(alloc, &mut stores[place], columns, which)
 }
 
-// The instances leave whose root rows match, with their keys at these columns; how many. It fails for want of memory
-// alone, and all then stays.
+// The instances leave whose root rows match; how many. It fails for want of memory alone, and all then stays.
 fn cut_matching(
     alloc: Global,
     store: &mut Store,

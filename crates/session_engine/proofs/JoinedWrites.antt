@@ -1,4 +1,4 @@
--- INSERT, UPDATE and DELETE whole: names and route, what is loaded for them, and what they write.
+-- INSERT, UPDATE and DELETE whole: names and route, and what is done by it.
 use Rattle.std.proofs.Common.{◌≡◌, Bool, true, false, cond, nat_lt, ◌&&◌, ℕ, Option, None, Result, Ok, Err, inl, inr, refl, sym, ap, subst, ◌∙◌}
 use Rattle.tier_base.specs.declared.code.Code.TheVariants as code
 use Rattle.tier_base.specs.declared.number.SessionId.{SessionId}
@@ -6,35 +6,28 @@ use Rattle.tier_base.specs.declared.number.TableId.{TableId}
 use Rattle.row_types.specs.declared.rule.Refused.{Refused}
 use Rattle.row_types.specs.declared.rule.Refused.TheVariants as refused
 use Rattle.row_types.specs.declared.rule.Rule.{Rule}
-use Rattle.resolution.specs.Writes.{PlacedChange, change_seen}
+use Rattle.resolution.specs.Writes.{change_seen}
 use Rattle.sql_query.specs.declared.write.Write.{Write}
 use Rattle.sql_subset.specs.declared.stmt.Stmt.TheVariants as statement
 use Rattle.outside.specs.Holding.{Held}
 use Rattle.outside.specs.Sites.{SiteState}
-use Rattle.propagators.specs.Certainty.{KeepsCertain}
 use Rattle.tier_journal.specs.declared.journal.TierJournal.{TierJournal}
-use Rattle.evaluator.specs.declared.change.Change.{Change}
-use Rattle.cache_tier.specs.DynamicLoads.{Brings}
 use Rattle.cache_tier.specs.Routes as route
 use Rattle.cache_tier.specs.Routes.{is_only_read, is_written_through, table_name, write_route}
 use Rattle.cache_tier.specs.Rules.{named}
 use Rattle.cache_tier.specs.Steps.{DoesStatement}
 use Rattle.cache_tier.specs.TierStates.{Session, Tier, level_of}
-use Rattle.cache_tier.specs.Wants.{loaded_want, wanted_by_write}
 use Rattle.cache_tier.specs.Worlds.{Tries, Unless, World, only}
-use Rattle.cache_tier.specs.WriteSteps.{Writes, WritesBy, WritesPlaced, WritesShown}
+use Rattle.cache_tier.specs.WriteSteps.{Writes, WritesBy, WritesPlaced}
 use Rattle.cache_tier.specs.declared.reply.Last.TheVariants.{No}
 use Rattle.cache_tier.specs.declared.reply.Reply.{Reply}
 use Rattle.tier_statements.specs.Routing.{IsRouted, Routes, route_seen}
-use Rattle.tier_statements.specs.declared.routing.Route.TheVariants.{Cached, PassedOn}
+use Rattle.tier_statements.specs.declared.routing.Route.TheVariants.{PassedOn}
 use Rattle.tier_statements.specs.declared.routing.RoutedWrite.{RoutedWrite}
 use Rattle.stored_tier.specs.declared.tier.Tier.{Tier as Stored}
 use Rattle.stored_tier.specs.Performing.{Executes, reply_of}
 use Rattle.stored_tier.specs.Stored.{HasSession, IsStoredAs}
-use Rattle.stored_tier.proofs.OverLaws.{keeps_called}
-use Rattle.session_engine.specs.Changing.{WritesCached, WritesWhole}
 use Rattle.session_engine.specs.Doubting.{EndsInOver}
-use Rattle.session_engine.specs.Loading.{LoadsNothing}
 use Rattle.session_engine.specs.Passing.{EndsPassed}
 use Rattle.session_engine.specs.declared.doubt.Doubt.{Doubt}
 
@@ -69,30 +62,7 @@ executes_unrouted s write w (refused.Rule rule) broken =
     inl (subst (λ f. Unless f (DoesStatement s (statement.Write write)) w w (only (No rule))) (sym broken) (refl, refl))
 executes_unrouted s write w refused.Memory broken = inr (refl, refl)
 
--- it is done in the cache where nothing has to be loaded for it
-pub nothing_loaded : (s : Session) (w w' : World) (placed : PlacedChange) (reply : Reply) → loaded_want w.history w.tier (wanted_by_write w.tier placed) ≡ None → Tries (WritesShown s placed) w w' reply → WritesBy (Ok route.Cached) s placed w w' reply
-nothing_loaded s w w' placed reply none part = record {
-  mid = w;
-  stop = None;
-  first = subst (λ o. Brings w.tier o w w None) (sym none) (refl, refl);
-  next = part;
-}
-
 -- ---- over the stored tier
-
-pub whole_done : (old new : Stored) (before behind : SiteState) (id : SessionId) (change : Change) (result : Result Reply Refused) → LoadsNothing old (λ a. wanted_by_write a (change_seen change)) → WritesCached old new before behind id change result → WritesWhole old new before behind id change result
-whole_done old new before behind id change result none writes = λ w s has at stands unshared.
-    let it = writes w s has at stands unshared in
-    record {
-      world = it.world;
-      at = it.at;
-      stands = it.stands;
-      is = (inl (nothing_loaded s w it.world (change_seen change) (reply_of result) (none w stands) it.is.0), it.is.1);
-    }
-
-pub whole_wanting : (t : Stored) (site : SiteState) (id : SessionId) (change : Change) → WritesWhole t t site site id change (Err refused.Memory)
-whole_wanting t site id change = λ w s has at stands unshared.
-    record { world = w; at = at; stands = stands; is = (inr (refl, refl), record { journal = refl; schema = refl }) }
 
 module _ {D : Type 0} (state : D → SiteState) (possible : D → ℕ → Held → Type 0) (t new : Stored) (doubt : Option Doubt) (id : SessionId) (write : Write) where
   -- it is refused before
@@ -105,21 +75,6 @@ module _ {D : Type 0} (state : D → SiteState) (possible : D → ℕ → Held �
         is = executes_unrouted s write w e (told w.tier s is.stored has);
         left = λ whole. is;
         keeps = λ whole. keeps;
-      })
-
-  -- in the cache
-  pub cached_over : (k : Option TierJournal) (d d' : D) (routed : RoutedWrite) (result : Result Reply Refused) → doubt ≡ None → routed.route ≡ Cached → ((a : Tier) (s : Session) → IsStoredAs t a → HasSession t id s → Routes a s write (Ok routed)) → KeepsCertain state possible d d'
-      → WritesWhole t new (state d) (state d') id routed.change result → EndsInOver state possible t new doubt k k d d' id (Executes (statement.Write write)) result
-  cached_over k d d' routed result none is_cached told certain writes =
-      subst (λ o. EndsInOver state possible t new o k k d d' id (Executes (statement.Write write)) result) (sym none)
-      (λ s has w at is apart keeps.
-      let it = writes w s has at is apart in
-      record {
-        world = it.world;
-        at = it.at;
-        is = executes_routed s write w it.world routed (reply_of result) (told w.tier s is.stored has) (subst (λ r. Tries (WritesBy (Ok (route_seen r)) s (change_seen routed.change)) w it.world (reply_of result)) (sym is_cached) it.is.0);
-        left = λ whole. it.stands;
-        keeps = λ whole. keeps_called state possible k d d' w it.world keeps certain it.is.1.journal it.is.1.schema;
       })
 
   -- passed on

@@ -18,13 +18,12 @@ use Rattle.group_catalog.specs.Catalogs.{groups_in}
 use Rattle.cache_tier.specs.declared.reply.Last.TheVariants.{Done, No}
 use Rattle.cache_tier.specs.declared.reply.Reply.{Reply}
 use Rattle.cache_tier.specs.Locks.{lock_fault}
-use Rattle.cache_tier.specs.Routes.{Cached}
 use Rattle.cache_tier.specs.Shown.{seen_by}
 use Rattle.cache_tier.specs.TierStates.{Session}
 use Rattle.cache_tier.specs.Worlds.{IsUnshared, Part, Tries, World, only}
 use Rattle.evaluator.specs.declared.change.Change.{Change}
 use Rattle.outside.specs.Sites.{SiteState}
-use Rattle.cache_tier.specs.WriteSteps.{WritesBy, WritesOps, WritesShown}
+use Rattle.cache_tier.specs.WriteSteps.{WritesOps, WritesShown}
 use Rattle.resolution.specs.Writes.{change_seen}
 use Rattle.cache_tier.specs.StandingBetween.{are_written_through}
 use Rattle.tier_statements.specs.Preparing.{shown_fault}
@@ -53,10 +52,6 @@ DoesChange change s = Tries (WritesShown s (change_seen change))
 -- it writes nothing to the journal
 abbrev pub ChangesUnwritten : Change → Session → Part
 ChangesUnwritten change s w w' reply = DoesChange change s w w' reply × StaysWritten w w'
-
--- the same, with what the write wants loaded before
-abbrev pub ChangesWhole : Change → Session → Part
-ChangesWhole change s w w' reply = Tries (WritesBy (Ok Cached) s (change_seen change)) w w' reply × StaysWritten w w'
 
 -- The write stands for these operations: what they do as the cache does them, it does. They meet no lock, and nothing
 -- shown keeps them back.
@@ -101,9 +96,3 @@ abbrev pub WritesCached : Stored → Stored → SiteState → SiteState → Sess
 WritesCached old new before behind id change result =
     (w : World) (s : Session) → HasSession old id s → IsAt before w → StandsFor old w → IsUnshared w
     → IsPerformed new behind (λ w'. ChangesUnwritten change s w w' (reply_of result))
-
--- the same, with what the write wants loaded before
-abbrev pub WritesWhole : Stored → Stored → SiteState → SiteState → SessionId → Change → Result Reply Refused → Type 0
-WritesWhole old new before behind id change result =
-    (w : World) (s : Session) → HasSession old id s → IsAt before w → StandsFor old w → IsUnshared w
-    → IsPerformed new behind (λ w'. ChangesWhole change s w w' (reply_of result))

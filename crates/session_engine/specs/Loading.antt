@@ -2,14 +2,10 @@
 
 use Rattle.std.specs.Prelude.{◌≡◌, ℕ, Option, Some, None}
 use Rattle.cache_tier.specs.Groups.{place_over}
-use Rattle.cache_tier.specs.TierStates.{Tier}
-use Rattle.cache_tier.specs.Wants as wants
 use Rattle.cache_tier.specs.Wants.{loaded_want}
 use Rattle.cache_tier.specs.Worlds.{World}
 use Rattle.statement_uses.specs.Wanting.{want_seen}
 use Rattle.statement_uses.specs.declared.wanting.Want.{Want}
-use Rattle.stored_tier.specs.declared.tier.Tier.{Tier as Stored}
-use Rattle.stored_tier.specs.Performing.{StandsFor}
 
 -- the want is loaded by the group at this place, or it isn't loaded
 abbrev pub IsLoadedAt : World → Want → Option ℕ → Type 0
@@ -17,7 +13,3 @@ IsLoadedAt w want None = loaded_want w.history w.tier (Some (want_seen want)) �
 IsLoadedAt w want (Some place) =
     (loaded_want w.history w.tier (Some (want_seen want)) ≡ Some (want_seen want))
     × (place_over w.tier.groups want.table ≡ Some place)
-
--- in each world for which the tier stands nothing is loaded for what is wanted there
-abbrev pub LoadsNothing : Stored → (Tier → Option wants.Want) → Type 0
-LoadsNothing t wanted = (w : World) → StandsFor t w → loaded_want w.history w.tier (wanted w.tier) ≡ None

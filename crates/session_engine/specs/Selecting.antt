@@ -11,7 +11,7 @@ use Rattle.sql_query.specs.declared.query.Query.{Query}
 use Rattle.cache_tier.specs.declared.reply.Reply.{Reply}
 use Rattle.cache_tier.specs.Routes as route
 use Rattle.cache_tier.specs.Routes.{query_route, visible}
-use Rattle.cache_tier.specs.SelectSteps.{SelectsBy, SelectsPassed, SelectsShown, plan_of}
+use Rattle.cache_tier.specs.SelectSteps.{SelectsPassed, SelectsShown, plan_of}
 use Rattle.cache_tier.specs.Shown.{seen_by}
 use Rattle.cache_tier.specs.TierStates.{Session, Tier, level_of}
 use Rattle.cache_tier.specs.Worlds.{Part, Tries, World}
@@ -39,11 +39,6 @@ RoutesQuery a s q (Err refused.Memory) = Unit {0}
 -- the query is answered in the cache, and the instances that it selects are used; the journal isn't written to
 abbrev pub SelectsUnwritten : ResolvedQuery → Session → Part
 SelectsUnwritten query s w w' reply = Tries (SelectsShown s (query_seen query)) w w' reply × StaysWritten w w'
-
--- the same, with what the query wants loaded before
-abbrev pub SelectsWhole : ResolvedQuery → Session → Part
-SelectsWhole query s w w' reply =
-    Tries (SelectsBy route.Cached s (query_seen query)) w w' reply × StaysWritten w w'
 
 -- so a query is answered in each world
 abbrev pub AnswersInEach : Stored → SessionId → ResolvedQuery → Result Reply Refused → Type 0

@@ -1,6 +1,6 @@
-//! OPEN and CLOSE, COMMIT, ROLLBACK, FLUSH and SELECT of a session.
+//! OPEN and CLOSE, COMMIT, ROLLBACK and FLUSH of a session.
 
-ghost use Rattle.std.specs.Prelude.{◌≡◌, [], Some, slice_get};
+ghost use Rattle.std.specs.Prelude.{Some, slice_get};
 ghost use Rattle.std.specs.Option.{option_or};
 ghost use Rattle.tier_base.specs.declared.code.Code.TheVariants as code;
 ghost use Rattle.table_defs.specs.Declarations.{IsRefusedBy};
@@ -8,23 +8,18 @@ ghost use Rattle.sql_subset.specs.declared.stmt.Stmt.TheVariants as statement;
 ghost use Rattle.cache_tier.specs.Conditions.{which_names};
 ghost use Rattle.cache_tier.specs.Rules.{named};
 ghost use Rattle.cache_tier.specs.Worlds.{Tries};
-ghost use Rattle.stored_tier.specs.Performing.{ClosesSession, Executes, ExecutesUnwritten, IsCalm, IsCaused, IsCausedOver, OpensSession, Performs, PerformsIn, PerformsInOver, reply_of};
+ghost use Rattle.stored_tier.specs.Performing.{ClosesSession, Executes, IsCalm, IsCausedOver, OpensSession, Performs, PerformsIn, PerformsInOver, reply_of};
 ghost use Rattle.outside.specs.Sites.{SiteState};
-ghost use Rattle.propagators.specs.Certainty.{KeepsCertain};
 ghost use Rattle.stored_tier.specs.Stored.{IsSound};
 
 use crate::commit::may_wait;
-use crate::passed_query::select_passed;
-use crate::query::{Routed, route_query};
 use crate::recording::commit_recorded;
-use crate::selecting::select_whole;
 use cache_tier::reply::Reply;
 use cache_tier::session_law;
 use group_catalog::{KeptGroup, resolve_which};
 use open_sessions::laws::label_law;
 use outside::Site;
 use row_types::{Detail, Refused, Rule};
-use sql_query::Query;
 use sql_subset::request::OpenOptions;
 use sql_subset::stmt::{OfGroup, Which};
 use std::alloc::Global;
@@ -120,41 +115,6 @@ pub fn flush_group(
     match tier.catalog.named(&flush.group) {
         None => Err(refuse_name(alloc, Code::UnknownGroup, &flush.group)),
         Some(group) => Err(refuse_flush(tier, alloc, group, &flush.which)),
-    }
-}
-
-/// SELECT without GROUP BY: as `select_cached` answers it, or as `select_passed` does at the backing database. It
-/// writes nothing to the journal. Nothing is loaded so far: one in the cache that wants an instance of a group that
-/// loads on demand, and isn't shown, is answered with want of memory.
-pub fn run_query<P: Site>(
-    tier: &mut Tier,
-    alloc: Global,
-    site: &mut P,
-    id: SessionId,
-    query: &Query,
-) -> Result<Reply, Refused>
-    requires sound { IsSound tier.old }
-    requires simple { query.now.groups ≡ [] }
-    ensures performs { PerformsIn tier.old tier.new
-        (P.Disk.state site.old)
-        (P.Disk.state site.new)
-        id (Executes (statement.Select query.now)) result }
-    ensures unwritten { PerformsIn tier.old tier.new
-        (P.Disk.state site.old)
-        (P.Disk.state site.new)
-        id (ExecutesUnwritten (statement.Select query.now)) result }
-    ensures sound { IsSound tier.new }
-    ensures cause { IsCaused
-        (P.Disk.state site.old)
-        (P.Disk.state site.new)
-        (reply_of result) }
-    ensures certain { KeepsCertain P.Disk.state P.Disk.possible site.old site.new }
-    ensures disk { (P.Disk.state site.new).disk_faults ≡ (P.Disk.state site.old).disk_faults }
-{
-    match route_query(tier, alloc, id, query) {
-        Err(refused) => Err(refused),
-        Ok(Routed::Cached(resolved)) => select_whole(tier, alloc, id, resolved),
-        Ok(Routed::PassedOn(resolved)) => select_passed(alloc, site, &resolved),
     }
 }
 

@@ -3,14 +3,13 @@
 ghost use Rattle.std.specs.Prelude.{◌≡◌, IfOk, true};
 ghost use Rattle.outside.specs.Sites.{SiteState};
 ghost use Rattle.cache_tier.specs.SelectSteps.{plan_of};
-ghost use Rattle.session_engine.specs.Selecting.{SelectsOver, SelectsUnwritten, SelectsWhole};
+ghost use Rattle.session_engine.specs.Selecting.{SelectsOver, SelectsUnwritten};
 ghost use Rattle.session_engine.specs.Using.{AreQueryUses};
 ghost use Rattle.stored_tier.specs.Performing.{IsCalm, PerformsIn, reply_of};
 ghost use Rattle.stored_tier.specs.Stored.{IsSound};
 
 use crate::query::answer;
 use crate::using::{query_uses, touch};
-use crate::wanting::is_loaded_for_query;
 use cache_tier::laws::tier_law;
 use cache_tier::reply::Reply;
 use cache_tier::use_shown_law;
@@ -44,32 +43,6 @@ pub fn select_cached(
     match tier.verify(alloc) {
         Err(_) => Err(Refused::Memory),
         Ok(()) => select_verified(tier, alloc, id, query),
-    }
-}
-
-/// SELECT of an open session in the cache, its names found, with what it wants loaded before. Nothing is loaded so
-/// far: a query that wants an instance of a group that loads on demand, and isn't shown, is answered with want of
-/// memory. Any other is answered as by `select_cached`.
-pub(crate) fn select_whole(
-    tier: &mut Tier,
-    alloc: Global,
-    id: SessionId,
-    query: ResolvedQuery,
-) -> Result<Reply, Refused>
-    requires { IsSound tier.old }
-    ensures performs { (site : SiteState) → PerformsIn tier.old tier.new site site id
-        (SelectsWhole query) result }
-    ensures sound { IsSound tier.new }
-    ensures calm { IsCalm (reply_of result) }
-{
-    match is_loaded_for_query(tier, alloc, &query) {
-        Err(_) => Err(Refused::Memory),
-        Ok(loaded) => {
-            if !loaded {
-                return Err(Refused::Memory);
-            }
-            select_cached(tier, alloc, id, query)
-        }
     }
 }
 

@@ -1,14 +1,14 @@
 //! Which instance a session's statement wants, and which group loads it.
 
-ghost use Rattle.std.specs.Prelude.{◌≡◌, IfOk, IsTrue, None};
+ghost use Rattle.std.specs.Prelude.{◌≡◌, IfOk};
 ghost use Rattle.std.specs.Option.{option_map};
 ghost use Rattle.resolution.specs.Queries.{query_seen};
 ghost use Rattle.resolution.specs.Writes.{change_seen};
 ghost use Rattle.cache_tier.specs.TierStates.{Tier as AbstractTier};
-ghost use Rattle.cache_tier.specs.Wants.{loaded_want, wanted_by_query, wanted_by_write};
+ghost use Rattle.cache_tier.specs.Wants.{wanted_by_query, wanted_by_write};
 ghost use Rattle.cache_tier.specs.Worlds.{World};
 ghost use Rattle.statement_uses.specs.Wanting.{want_seen};
-ghost use Rattle.session_engine.specs.Loading.{IsLoadedAt, LoadsNothing};
+ghost use Rattle.session_engine.specs.Loading.{IsLoadedAt};
 ghost use Rattle.stored_tier.specs.Performing.{StandsFor};
 ghost use Rattle.stored_tier.specs.Stored.{IsSound, IsStoredAs};
 
@@ -52,48 +52,4 @@ pub fn is_wanted(tier: &Tier, want: &Want) -> Option<usize>
 {
     let shown = Shown::new(&tier.schema, tier.stores.as_slice(), &tier.directory);
     loading_place(&tier.catalog, &shown, want)
-}
-
-/// Whether nothing has to be loaded for a query before it is answered in the cache, its names found. It fails for want
-/// of memory alone.
-pub(crate) fn is_loaded_for_query(
-    tier: &Tier,
-    alloc: Global,
-    query: &ResolvedQuery,
-) -> Result<bool, AllocError>
-    requires { IsSound tier.now }
-    ensures { IfOk result (λ loaded. IsTrue loaded
-        → LoadsNothing tier.now (λ a. wanted_by_query a (query_seen query.now))) }
-{
-    let want = wanted_by_query(tier, alloc, query)?;
-    Ok(is_loaded(tier, &want))
-}
-
-/// The same of a write.
-pub(crate) fn is_loaded_for_write(
-    tier: &Tier,
-    alloc: Global,
-    change: &Change,
-) -> Result<bool, AllocError>
-    requires { IsSound tier.now }
-    ensures { IfOk result (λ loaded. IsTrue loaded
-        → LoadsNothing tier.now (λ a. wanted_by_write a (change_seen change.now))) }
-{
-    let want = wanted_by_write(tier, alloc, change)?;
-    Ok(is_loaded(tier, &want))
-}
-
-// Whether nothing has to be loaded for what is wanted.
-fn is_loaded(tier: &Tier, want: &Option<Want>) -> bool
-    requires { IsSound tier.now }
-    ensures { IsTrue result → (w : World) → StandsFor tier.now w
-        → loaded_want w.history w.tier (option_map want_seen want.now) ≡ None }
-{
-    match want {
-        None => true,
-        Some(want) => match is_wanted(tier, want) {
-            None => true,
-            Some(_) => false,
-        },
-    }
 }

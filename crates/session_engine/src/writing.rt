@@ -1,21 +1,16 @@
-//! INSERT, UPDATE and DELETE of a session.
+//! INSERT, UPDATE and DELETE of a session in the cache.
 
-ghost use Rattle.std.specs.Prelude.{◌≡◌, None, true};
+ghost use Rattle.std.specs.Prelude.{◌≡◌, true};
 ghost use Rattle.std.specs.List.{list_all};
-ghost use Rattle.sql_subset.specs.declared.stmt.Stmt.TheVariants as statement;
 ghost use Rattle.transactions.specs.Transactions.{rows_in};
-ghost use Rattle.session_engine.specs.Changing.{is_change, Changed, IsUnbroken, WritesCached, WritesWhole};
-ghost use Rattle.session_engine.specs.Doubting.{EndsInOver, IsReady};
+ghost use Rattle.session_engine.specs.Changing.{is_change, Changed, IsUnbroken, WritesCached};
 ghost use Rattle.propagators.specs.Certainty.{KeepsCertain};
-ghost use Rattle.stored_tier.specs.Performing.{Executes, IsCalm, IsCaused, IsCausedOver, reply_of};
+ghost use Rattle.stored_tier.specs.Performing.{IsCalm, IsCaused, reply_of};
 ghost use Rattle.stored_tier.specs.Stored.{IsSound};
 
-use crate::doubt::Doubt;
 use crate::holding::hold_used;
 use crate::inserting::insert_rows;
-use crate::passed_write::pass_write;
-use crate::preparing::{Prepared, prepare, route_write};
-use crate::wanting::is_loaded_for_write;
+use crate::preparing::{Prepared, prepare};
 use cache_tier::laws::tier_law;
 use cache_tier::reply::Reply;
 use cache_tier::use_shown_law;
@@ -23,81 +18,11 @@ use evaluator::Change;
 use open_sessions::laws::label_law;
 use outside::Site;
 use row_types::Refused;
-use sql_query::Write;
 use std::alloc::Global;
 use stored_tier::tier::Tier;
 use table_state::Op;
 use tier_base::{SessionId, TableId};
-use tier_journal::TierJournal;
-use tier_statements::{Route, done};
-
-/// INSERT, UPDATE and DELETE of an open session: in the cache, as `write_cached`; or they are passed on, as
-/// `pass_write`. Nothing is loaded so far: one in the cache that wants an instance of a group that loads on demand,
-/// and isn't shown, is answered with want of memory.
-///
-/// The refusal is the first broken rule: 102, 103; 118, 104, 105; 121, 110, 117; then as these tell; or memory was
-/// wanting. (TimesTen SQL Reference, "INSERT", "UPDATE", "DELETE"; TimesTen Cache User's Guide, "Setting a passthrough
-/// level"; the codes and their order are this project's rule.)
-pub fn write_rows<P: Site>(
-    tier: &mut Tier,
-    alloc: Global,
-    site: &mut P,
-    journal: &mut Option<TierJournal>,
-    id: SessionId,
-    write: &Write,
-    doubt: &mut Option<Doubt>,
-) -> Result<Reply, Refused>
-    requires sound { IsSound tier.old }
-    requires free { doubt.old ≡ None }
-    ensures performs { EndsInOver P.Disk.state P.Disk.possible tier.old tier.new doubt.new journal.old journal.new
-        site.old site.new id (Executes (statement.Write write.now)) result }
-    ensures sound { IsSound tier.new }
-    ensures ready { IsReady tier.new doubt.new }
-    ensures cause { IsCausedOver journal.old
-        (P.Disk.state site.old)
-        (P.Disk.state site.new)
-        (reply_of result) }
-{
-    match route_write(tier, alloc, id, write) {
-        Err(refused) => Err(refused),
-        Ok(routed) => match routed.route {
-            Route::Cached => write_whole(tier, alloc, site, id, &routed.change),
-            Route::PassedOn => pass_write(tier, alloc, site, journal, id, &routed.change, doubt),
-        },
-    }
-}
-
-// A write of an open session in the cache, whose names are found, with what it wants loaded before.
-fn write_whole<P: Site>(
-    tier: &mut Tier,
-    alloc: Global,
-    site: &mut P,
-    id: SessionId,
-    named: &Change,
-) -> Result<Reply, Refused>
-    requires { IsSound tier.old }
-    ensures unwritten { WritesWhole tier.old tier.new
-        (P.Disk.state site.old)
-        (P.Disk.state site.new)
-        id named.now result }
-    ensures sound { IsSound tier.new }
-    ensures cause { IsCaused
-        (P.Disk.state site.old)
-        (P.Disk.state site.new)
-        (reply_of result) }
-    ensures certain { KeepsCertain P.Disk.state P.Disk.possible site.old site.new }
-    ensures disk { (P.Disk.state site.new).disk_faults ≡ (P.Disk.state site.old).disk_faults }
-{
-    match is_loaded_for_write(tier, alloc, named) {
-        Err(_) => Err(Refused::Memory),
-        Ok(loaded) => {
-            if !loaded {
-                return Err(Refused::Memory);
-            }
-            write_cached(tier, alloc, site, id, named)
-        }
-    }
-}
+use tier_statements::done;
 
 /// A write of an open session in the cache, whose names are found: its operations stand behind the session's own, and
 /// hold the keys that they write and the parents that they name, until the transaction ends. The reply tells how many

@@ -3,7 +3,7 @@ use Rattle.session_engine.proofs.DoubtLaws.{ready_none}
 use Rattle.stored_tier.specs.Performing.{reply_of}
 use Rattle.propagators.proofs.CertainLaws.{same_certain}
 use Rattle.cache_engine.proofs.CauseLaws.{caused_bank}
-use Rattle.cache_engine.proofs.EngineLaws.{ended_executes, flush_executes, roll_back_executes, unwritten_executes}
+use Rattle.cache_engine.proofs.EngineLaws.{ended_executes, flush_executes, roll_back_executes}
 use Rattle.cache_engine.proofs.statement.execute.Goals as goal
 
 pub returns-in-Commit-clause-performs : goal.returns-in-Commit-clause-performs
@@ -11,20 +11,15 @@ returns-in-Commit-clause-performs g c = rw c.in-Commit.is c.commit_transaction.e
 
 pub returns-in-Select-clause-performs : goal.returns-in-Select-clause-performs
 returns-in-Select-clause-performs g c =
-    unwritten_executes g.P.Disk.state g.P.Disk.possible c.args.tier.now c.run_query.new.tier c.args.doubt.now c.args.journal.now c.args.site.now
-    c.run_query.new.site c.args.id c.args.statement c.run_query.result c.requires.free c.run_query.ensures.certain
-    (rw c.in-Select.is c.run_query.ensures.unwritten)
+    ended_executes g.P.Disk.state g.P.Disk.possible c.args.tier.now c.run_query.new.tier c.args.doubt.now c.args.journal.now c.run_query.new.journal
+    c.args.site.now c.run_query.new.site c.args.id c.args.statement c.run_query.result c.requires.free
+    (rw c.in-Select.is c.run_query.ensures.performs)
 
 pub returns-in-Select-clause-ready : goal.returns-in-Select-clause-ready
 returns-in-Select-clause-ready g c = ready_none c.run_query.new.tier c.args.doubt.now c.requires.free
 
-pub returns-in-Select-clause-cause : goal.returns-in-Select-clause-cause
-returns-in-Select-clause-cause g c =
-    caused_bank c.args.journal.now (g.P.Disk.state c.args.site.now) (g.P.Disk.state c.run_query.new.site) (reply_of c.run_query.result)
-    c.run_query.ensures.disk c.run_query.ensures.cause
-
 pub returns-in-Write-clause-performs : goal.returns-in-Write-clause-performs
-returns-in-Write-clause-performs g c = rw c.in-Write.is c.write_rows.ensures.performs
+returns-in-Write-clause-performs g c = rw c.in-Write.is c.run_write.ensures.performs
 
 pub returns-in-CreateGroup-clause-performs : goal.returns-in-CreateGroup-clause-performs
 returns-in-CreateGroup-clause-performs g c =

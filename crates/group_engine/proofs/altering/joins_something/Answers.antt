@@ -1,4 +1,3 @@
-use Rattle.std.proofs.Common.{sym}
 use Rattle.group_catalog.specs.Kept.{group_seen}
 use Rattle.group_engine.proofs.AlteringLaws.{joins_alone, joins_none, joins_set}
 use Rattle.group_engine.proofs.altering.joins_something.Goals as goal

@@ -20,10 +20,11 @@ returns-in-Err-clause-reads g c = λ w at stands apart.
 
 pub returns-clause-reads : goal.returns-clause-reads
 returns-clause-reads g c = λ w at stands apart. (
-  read_here c.args.tier.now _ _ c.as_slice.result.now c.in_ok-snapshot.snapshot (choice_of c.args.chosen) c.args.loads c.in-Ok-make_stores.made.items (c.as_slice.ensures.value ∙ c.in-Ok.ensures) c.in-Ok-make_stores.ensures
+  read_here c.args.tier.now _ _ c.as_slice.result.now c.in_ok-snapshot.snapshot (choice_of c.args.chosen) (c.as_slice.ensures.value ∙ c.in-Ok.ensures)
       c.in_ok-snapshot.ensures.told c.in_ok-snapshot.ensures.cause.later c.in_ok-snapshot.ensures.crash.later c.in_ok-snapshot.ensures.cause.shared w at stands apart,
-  fresh_here c.args.tier.now _ _ c.as_slice.result.now c.in_ok-snapshot.snapshot (choice_of c.args.chosen) c.args.loads c.in-Ok-make_stores.made.items (c.as_slice.ensures.value ∙ c.in-Ok.ensures) c.in-Ok-make_stores.ensures
-      c.in_ok-snapshot.ensures.told c.in_ok-snapshot.ensures.cause.later c.in_ok-snapshot.ensures.crash.later c.in_ok-snapshot.ensures.cause.shared w at stands apart,
+  fresh_here c.args.tier.now _ _ c.as_slice.result.now c.in_ok-snapshot.snapshot (choice_of c.args.chosen) (c.as_slice.ensures.value ∙ c.in-Ok.ensures)
+      c.in_ok-snapshot.ensures.told c.in_ok-snapshot.ensures.cause.later c.in_ok-snapshot.ensures.crash.later c.in_ok-snapshot.ensures.cause.shared w at stands apart
+      c.args.loads c.in-Ok-make_stores.made.items c.in-Ok-make_stores.ensures,
 )
 
 pub returns-clause-formed : goal.returns-clause-formed

@@ -7,7 +7,7 @@ pub returns-then-aim-clause-loads : goal.returns-then-aim-clause-loads
 returns-then-aim-clause-loads g c = λ x of kind.
     let reads = kind ∙ c.if-aim.true in
     aimed_whole g.P.Disk.state g.P.Disk.possible c.args.tier.now c.load_whole.new.tier c.args.journal.now c.load_whole.new.journal c.args.site.now c.load_whole.new.site c.args.aim.now.place x c.args.refreshes (reply_of c.load_whole.result) reads
-    (c.load_whole.ensures.loads x of.place reads) (c.load_whole.ensures.refreshes x of.place reads)
+    (c.load_whole.ensures.reads x of reads)
 
 pub returns-else-aim-clause-loads : goal.returns-else-aim-clause-loads
 returns-else-aim-clause-loads g c = λ x of kind.

@@ -10,12 +10,6 @@ use Rattle.group_engine.proofs.TakenParts.{matching_sound}
 use Rattle.stored_tier.proofs.QuietLaws.{calm_refused}
 use Rattle.group_engine.proofs.loading_written.load_matching.Goals as goal
 
-pub returns-then-waits_at-clause-reads : goal.returns-then-waits_at-clause-reads
-returns-then-waits_at-clause-reads g c = λ x of writes. reads_wanting g.P.Disk.state g.P.Disk.possible c.args.tier.now c.args.journal.now c.args.journal.now c.args.site.now c.args.place x c.args.refreshes (kept_here _)
-
-pub returns-then-waits_at-clause-cause : goal.returns-then-waits_at-clause-cause
-returns-then-waits_at-clause-cause g c = calm_cause _ _ _ (calm_refused refused.Memory)
-
 pub returns-in-Err-clause-reads : goal.returns-in-Err-clause-reads
 returns-in-Err-clause-reads g c = λ x of writes. reads_wanting g.P.Disk.state g.P.Disk.possible c.args.tier.now c.args.journal.now c.args.journal.now c.args.site.now c.args.place x c.args.refreshes (kept_here _)
 
@@ -28,7 +22,7 @@ returns-in-Err-snapshot-clause-reads g c = λ x of writes.
 pub returns-then-is_full-clause-reads : goal.returns-then-is_full-clause-reads
 returns-then-is_full-clause-reads g c = λ x of writes.
     read_full g.P.Disk.state g.P.Disk.possible c.args.tier.now c.args.journal.now c.args.site.now c.snapshot.new.self c.args.place c.args.which.now c.args.refreshes c.as_slice.result.now c.in-Ok-snapshot.snapshot c.requires.sound
-    (subst (AsksTree c.args.tier.now c.args.place) (sym c.as_slice.ensures.value) c.in-Ok.ensures) (c.waits_at.ensures c.if-waits_at.false)
+    (subst (AsksTree c.args.tier.now c.args.place) (sym c.as_slice.ensures.value) c.in-Ok.ensures) c.requires.may
     c.in-Ok-snapshot.ensures.told c.in-Ok-snapshot.ensures.cause.later c.in-Ok-snapshot.ensures.crash.later c.in-Ok-snapshot.ensures.cause.shared
     (bank_certain g.P.Disk.state g.P.Disk.possible g.met.P.Disk.certain c.args.site.now c.snapshot.new.self _ c.in-Ok-snapshot.ensures.told c.in-Ok-snapshot.ensures.crash)
     x of writes c.args.ready.now c.judge_full.result c.requires.ready (sym c.is_full.ensures ∙ c.if-is_full.true) c.judge_full.ensures.judges
@@ -36,7 +30,7 @@ returns-then-is_full-clause-reads g c = λ x of writes.
 pub returns-in-Err-take_matching-clause-reads : goal.returns-in-Err-take_matching-clause-reads
 returns-in-Err-take_matching-clause-reads g c = λ x of writes.
     read_refused g.P.Disk.state g.P.Disk.possible c.args.tier.now c.args.journal.now c.args.site.now c.snapshot.new.self c.args.place c.args.which.now c.args.refreshes c.as_slice.result.now c.in-Ok-snapshot.snapshot c.requires.sound
-    (subst (AsksTree c.args.tier.now c.args.place) (sym c.as_slice.ensures.value) c.in-Ok.ensures) (c.waits_at.ensures c.if-waits_at.false)
+    (subst (AsksTree c.args.tier.now c.args.place) (sym c.as_slice.ensures.value) c.in-Ok.ensures) c.requires.may
     c.in-Ok-snapshot.ensures.told c.in-Ok-snapshot.ensures.cause.later c.in-Ok-snapshot.ensures.crash.later c.in-Ok-snapshot.ensures.cause.shared
     (bank_certain g.P.Disk.state g.P.Disk.possible g.met.P.Disk.certain c.args.site.now c.snapshot.new.self _ c.in-Ok-snapshot.ensures.told c.in-Ok-snapshot.ensures.crash)
     x of writes c.take_matching.new.tier c.in-Err-take_matching.refused c.in-Err-take_matching.ensures
@@ -44,7 +38,7 @@ returns-in-Err-take_matching-clause-reads g c = λ x of writes.
 pub returns-clause-reads : goal.returns-clause-reads
 returns-clause-reads g c = λ x of writes.
     read_all g.P.Disk.state g.P.Disk.possible c.args.tier.now c.args.journal.now c.args.site.now c.snapshot.new.self c.args.place c.args.which.now c.args.refreshes c.as_slice.result.now c.in-Ok-snapshot.snapshot c.requires.sound
-    (subst (AsksTree c.args.tier.now c.args.place) (sym c.as_slice.ensures.value) c.in-Ok.ensures) (c.waits_at.ensures c.if-waits_at.false)
+    (subst (AsksTree c.args.tier.now c.args.place) (sym c.as_slice.ensures.value) c.in-Ok.ensures) c.requires.may
     c.in-Ok-snapshot.ensures.told c.in-Ok-snapshot.ensures.cause.later c.in-Ok-snapshot.ensures.crash.later c.in-Ok-snapshot.ensures.cause.shared
     (bank_certain g.P.Disk.state g.P.Disk.possible g.met.P.Disk.certain c.args.site.now c.snapshot.new.self _ c.in-Ok-snapshot.ensures.told c.in-Ok-snapshot.ensures.crash)
     x of writes c.take_matching.new.tier c.answer_behind.new.journal c.answer_behind.new.site c.args.ready.now c.in-Ok-take_matching.reply c.answer_behind.result c.requires.ready c.in-Ok-take_matching.ensures c.answer_behind.ensures.answers

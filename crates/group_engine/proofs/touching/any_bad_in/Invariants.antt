@@ -1,0 +1,10 @@
+-- On none of the rows so far it is 120.
+use Rattle.std.proofs.Common.{◌≡◌, List, false, take}
+use Rattle.std.specs.List.{list_any}
+use Rattle.std.specs.FinMap.{entries}
+use Rattle.row_types.specs.declared.value.Value.{Value}
+use Rattle.group_engine.specs.Touching.{is_held_bad}
+use Rattle.group_engine.proofs.touching.any_bad_in.Given as goal
+
+abbrev pub invariant-loop-place : goal.invariant-loop-place
+invariant-loop-place l = list_any (λ (e : List Value × List Value). is_held_bad l.which l.store l.hidden.table e.0 e.1) (take l.place (entries l.rows)) ≡ false
