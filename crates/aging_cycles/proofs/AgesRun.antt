@@ -39,6 +39,7 @@ use Rattle.aging_cycles.specs.Busy.{is_busy_in, owns_of}
 use Rattle.aging_cycles.specs.Cycles.{AreCycles, IsCycle, IsCycleOf, IsOrdered, IsReady, NoneIsDue, horizon_behind, is_due, is_due_by, leaving_by}
 use Rattle.aging_cycles.specs.Running.{HasLeft, HaveRun, RunsIn}
 use Rattle.aging_cycles.specs.declared.cycles.Cycle.{Cycle}
+use Rattle.aging_cycles.proofs.HiddenViews.{hides_run}
 use Rattle.aging_cycles.proofs.Places.{PlaceAged, time_read, time_write, use_listed, use_unlisted, was_true}
 use Rattle.aging_cycles.proofs.RootRows.{Drops}
 use Rattle.aging_cycles.proofs.ShownPlaces.{shown_of_place}
@@ -300,6 +301,7 @@ module _ (drops : Drops) (t new : Stored) (w : World) (cycles : List (Option Cyc
   stands_behind = record {
     stored = stored_then;
     shows = shows_then;
+    hides = hides_run t new w cycles sound are run stands;
     stands = stand_then;
     waits = stands.waits;
   }

@@ -4,6 +4,7 @@ pub mod Behind
 pub mod CycleLaws
 pub mod GainedRoots
 pub mod HiddenLaws
+pub mod HiddenViews
 pub mod KeyLists
 pub mod Places
 pub mod RootRows

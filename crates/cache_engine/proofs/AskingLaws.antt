@@ -28,8 +28,10 @@ use Rattle.stored_tier.specs.declared.tier.Tier.{Tier as Stored}
 use Rattle.cache_engine.specs.Growing.{Learns, has_to_ask, misses}
 use Rattle.stored_tier.specs.Performing.{Performs}
 use Rattle.outside.specs.Sites.{SiteState}
-use Rattle.stored_tier.specs.Stored.{IsStoredAs, without_list}
+use Rattle.stored_tier.specs.Stored.{IsStoredAs, KeepsHidden, without_list}
 use Rattle.stored_tier.proofs.BankLaws.{behind, call_behind, told_behind}
+use Rattle.stored_tier.proofs.HiddenRows.{hidden_as, hides_later, hides_then}
+use Rattle.stored_tier.proofs.LongerLaws.{read_longer}
 use Rattle.stored_tier.proofs.NamingLaws.{cached_seen}
 use Rattle.session_engine.proofs.OthersLaws.{only_reads, schema_told}
 use Rattle.stored_tier.proofs.StandingLaws.{performed_behind, performed_here}
@@ -121,7 +123,8 @@ asked_in_vain law t before after line result e reply is asks called reads w at s
       end = ap Some is;
     } in
     performed_behind t before after w w.tier now.there (λ w'. AsksSchema line w w' (Some reply)) at now.told called.shares stands.waits
-    stands.stored (stands.shows ∙ sym stays.same) stays.stands
+    stands.stored (stands.shows ∙ sym stays.same)
+    (hides_later t w now.there.history stands (read_longer w (TellsSchema result) now.there.history reads call.history)) stays.stands
     (subst (λ b. MatchBool b (Asked w w' (Some reply)) (Passes w w' (Some reply))) (sym (asks_seen t w.tier line stands.stored ∙ asks)) asked)
 
 -- the schema was told
@@ -137,6 +140,11 @@ stored_learned t new a schema is learns = subst (λ z. IsStoredAs z (record a { 
   doubt = is.doubt;
   time = is.time;
 })
+
+-- groups and their hidden rows stay
+pub hidden_learned : (t new : Stored) (schema : List TableDef) → Learns t new schema → KeepsHidden t new
+hidden_learned t new schema learns =
+    hidden_as t (record t { schema = schema; stale = false; visible = new.visible; directory = new.directory; verified = false }) new learns.kept (record { groups = refl; hidden = refl })
 
 pub asked_and_told : AroundLaw → SchemaLaw → (t new : Stored) (before after : SiteState) (line : Line) (schema : List TableDef) → has_to_ask t line ≡ true → CalledAt before after (TellsSchema (Ok schema)) → Learns t new schema → Performs t new before after (λ w w'. AsksSchema line w w' None)
 asked_and_told others tables t new before after line schema asks called learns w at stands apart =
@@ -158,5 +166,6 @@ asked_and_told others tables t new before after line schema asks called learns w
     performed_behind new before after w a now.there (λ w'. AsksSchema line w w' None) at now.told called.shares stands.waits
     (stored_learned t new w.tier schema stands.stored learns)
     (learns.rows ∙ ap (with_tables more) (stands.shows ∙ sym stays.same) ∙ sym shows.same)
+    (hides_then t new w now.there.history (hidden_learned t new schema learns) stands (read_longer w (TellsSchema (Ok schema)) now.there.history (λ x y tells. tells.0) call.history))
     shows.stands
     (subst (λ b. MatchBool b (Asked w w' None) (Passes w w' None)) (sym (asks_seen t w.tier line stands.stored ∙ asks)) asked)

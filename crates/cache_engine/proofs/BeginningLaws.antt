@@ -103,6 +103,7 @@ opened_there : OpenedLaw → (t : Stored) (schema : List TableDef) (start : Mome
 opened_there law t schema start pace history seen told new settings s due is may = record {
   stored = stored_fresh t schema start.0 pace settings s due (told s is) new;
   shows = shows_fresh t schema start.0 pace settings s history (told s is) new;
+  hides = λ k g h at hides there. absurd (none_there (groups_in t.catalog) k g new.groups at);
   stands = law (opened_world settings start.0 s history seen) settings start.0 s is may;
   waits = record { settled = []; behind = []; is = refl; waits = refl };
 }

@@ -48,7 +48,9 @@ use Rattle.stored_tier.specs.declared.tier.Tier.{Tier as Stored}
 use Rattle.stored_tier.specs.Performing.{AreLast, IsCaused, Performs, StandsFor}
 use Rattle.stored_tier.specs.Sites.{Serves}
 use Rattle.outside.specs.Sites.{SiteState}
-use Rattle.stored_tier.specs.Stored.{rows_of}
+use Rattle.stored_tier.specs.Stored.{HidesRows, rows_of}
+use Rattle.stored_tier.proofs.HiddenRows.{hides_later}
+use Rattle.stored_tier.proofs.LongerLaws.{around_longer, foreign_longer}
 use Rattle.cache_engine.proofs.AskingLaws.{CalledAt}
 use Rattle.session_engine.proofs.OffLaws.{AreApart, written_off}
 use Rattle.cache_engine.proofs.ConsoleLaws.{live_of, resolved_apart}
@@ -122,17 +124,19 @@ stands_as w w' same x = subst (λ (a : Tier). Stands (record w' { tier = a })) (
 
 record StandsStill (t : Stored) (w' : World) : Type 0 where
   shows : rows_of t ≡ shown_state w'.history w'.tier
+  hides : HidesRows t w'.history
   stands : Stands w'
   waits : AreLast w'.tier.log w'.tier.unsettled
 
 still : (t : Stored) (w w' : World) → StandsFor t w → w' ≡ w → StandsStill t w'
-still t w w' stands same = subst (StandsStill t) (sym same) (record { shows = stands.shows; stands = stands.stands; waits = stands.waits })
+still t w w' stands same = subst (StandsStill t) (sym same) (record { shows = stands.shows; hides = stands.hides; stands = stands.stands; waits = stands.waits })
 
 written_still : EntriesLaw → ShownLaw → (t : Stored) (w w' : World) (writes : List Write) (reply : Reply) → StandsFor t w → IsUnshared w → writes_fault w.tier writes ≡ None → WritesAll writes w w' reply → StandsStill t w'
 written_still others law t w w' writes reply stands unshared free did =
     let stays = written_around others law w w'.history did.changes did.result stands.stands unshared (judged_apart w.tier writes did.changes did.stand_for free) did.call.history in
     record {
       shows = stands.shows ∙ sym stays.same ∙ ap (shown_state w'.history) (sym did.tier);
+      hides = hides_later t w w'.history stands (around_longer w (WritesForeign did.changes did.result) w'.history (foreign_longer did.changes did.result) did.call.history);
       stands = stands_as w w' did.tier stays.stands;
       waits = subst (λ (a : Tier). AreLast a.log a.unsettled) (sym did.tier) stands.waits;
     }
@@ -153,7 +157,7 @@ writes_served others law t before after request writes given reply is same serve
     record {
       world = it.world;
       at = it.at;
-      stands = record { stored = it.stored; shows = behind.shows; stands = behind.stands; waits = behind.waits };
+      stands = record { stored = it.stored; shows = behind.shows; hides = behind.hides; stands = behind.stands; waits = behind.waits };
       is = subst (λ r. Tries (DoesConsole r) w it.world reply) (sym is) (subst (λ ws. Tries (DoesConsole (console.Writes ws)) w it.world reply) same it.is);
     }
 

@@ -33,8 +33,10 @@ use Rattle.cache_engine.specs.Growing.{Learns}
 use Rattle.stored_tier.specs.Performing.{IsCaused, Performs, reply_of}
 use Rattle.outside.specs.Sites.{SiteState}
 use Rattle.stored_tier.specs.Stored.{IsSound, IsStoredAs, rows_of}
-use Rattle.cache_engine.proofs.AskingLaws.{AroundLaw, CalledAt}
+use Rattle.cache_engine.proofs.AskingLaws.{AroundLaw, CalledAt, hidden_learned}
 use Rattle.stored_tier.proofs.BankLaws.{behind, call_behind, told_behind}
+use Rattle.stored_tier.proofs.HiddenRows.{hides_later, hides_then}
+use Rattle.stored_tier.proofs.LongerLaws.{around_longer, defines_longer}
 use Rattle.stored_tier.proofs.StandingLaws.{performed_behind, performed_here, slots_kept}
 
 -- a table without fault refers to no table of a writethrough group
@@ -131,6 +133,7 @@ table_made others tables t new before after d def done reply answer fit known ca
     (stored_defined t new w.tier def stands.stored known learns)
     (learns.rows ∙ ap (λ defs. with_tables defs (rows_of t)) more
     ∙ ap (with_tables (def ∷ [])) (stands.shows ∙ sym one.same) ∙ sym middle.same ∙ sym three.same)
+    (hides_then t new w now.there.history (hidden_learned t new (t.schema ++ def ∷ []) learns) stands (around_longer w (Defines def (Ok done)) now.there.history (defines_longer def (Ok done)) c))
     three.stands
     (created w w' d def reply free made does)
 
@@ -183,6 +186,7 @@ table_unsure others tables t before after d def reply answer fit called w at sta
     performed_behind (record t { stale = true }) before after w a now.there (λ z. Tries (CreatesTable d) w z reply) at now.told called.shares stands.waits
     (stored_stale t w.tier stands.stored)
     (stands.shows ∙ sym one.same ∙ sym middle.same ∙ sym three.same)
+    (hides_later t w now.there.history stands (around_longer w (Defines def (Err Failed)) now.there.history (defines_longer def (Err Failed)) c))
     three.stands
     (created w w' d def reply free made does)
 
@@ -221,7 +225,8 @@ table_unmade law t before after d def fit called w at stands apart =
     let w' = behind w w.tier now.there after in
     let does : Creates def w w' (reply_of (Err refused.Memory)) = record { result = Err Memory; call = call; tier = refl; answer = refl } in
     performed_behind t before after w w.tier now.there (λ z. Tries (CreatesTable d) w z (reply_of (Err refused.Memory))) at now.told called.shares stands.waits
-    stands.stored (stands.shows ∙ sym stays.same) stays.stands
+    stands.stored (stands.shows ∙ sym stays.same)
+    (hides_later t w now.there.history stands (around_longer w (Defines def (Err Memory)) now.there.history (defines_longer def (Err Memory)) c)) stays.stands
     (created w w' d def (reply_of (Err refused.Memory)) (fit.free w.tier stands.stored) (fit.made w.tier stands.stored) does)
 
 -- nothing was called: a rule is broken, or memory was wanting

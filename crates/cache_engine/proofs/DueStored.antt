@@ -164,6 +164,7 @@ timed : (t : Stored) (clock : TierClock) (base : ℕ) (line : Line) (w : World) 
 timed t clock base line w is time = record {
   stored = stored_clocked t clock w.tier (at_moment base line w.tier).now (added_by line w.tier) w.tier.sets is.stored time;
   shows = is.shows;
+  hides = is.hides;
   stands = stands_clocked w (at_moment base line w.tier).now (added_by line w.tier) w.tier.sets is.stands;
   waits = is.waits;
 }

@@ -36,6 +36,8 @@ use Rattle.stored_tier.specs.Performing.{IsPerformed, StandsFor, StaysWritten}
 use Rattle.stored_tier.specs.Sites.{IsAt}
 use Rattle.stored_tier.specs.Stored.{IsSound, without_list}
 use Rattle.stored_tier.proofs.BankLaws.{TellsBehind, behind, call_behind, told_behind}
+use Rattle.stored_tier.proofs.HiddenRows.{hides_later}
+use Rattle.stored_tier.proofs.LongerLaws.{read_longer}
 use Rattle.stored_tier.proofs.StandingLaws.{performed_behind, performed_here}
 use Rattle.dynamic_loads.specs.Bringing.{ReachesInto}
 use Rattle.dynamic_loads.specs.Taking.{GainsRoom, LeavesInstance, TakesInstance, TakesReached}
@@ -113,7 +115,8 @@ module _ (old : Stored) (tree : Tree) (u : TableId) (key : Row) (result : Result
 
   -- the tier stays, but for what is stored
   stays : (new : Stored) (does : World → Type 0) → StandsFor new w → does mid → IsPerformed new after does
-  stays new does then is = performed_behind new before after w w.tier now.there does at now.told called.shares then.waits then.stored (then.shows ∙ sym still.same) still.stands is
+  stays new does then is = performed_behind new before after w w.tier now.there does at now.told called.shares then.waits then.stored (then.shows ∙ sym still.same)
+      (hides_later new w now.there.history then (read_longer w (Reaches tree u key result) now.there.history (grows tree u key result) call.history)) still.stands is
 
 -- it failed
 pub reach_failed : (t : Stored) (tree : Tree) (u : TableId) (key : Row) (e : BankError) (reply : Reply) (before after : SiteState) → IsCalled tree u key (Err e) before after → reply ≡ bank_fault e → (place : ℕ) (want : Want) (w : World) → IsAt before w → StandsFor t w → IsUnshared w
@@ -148,7 +151,7 @@ module _ (old : Stored) (sound : IsSound old) (settled : old.unsettled.items ≡
   then_world = at_history (w.history ++ around.before) w
 
   abbrev stands_then : StandsFor old (at_history (w.history ++ around.before) w)
-  stands_then = record { stored = stands.stored; shows = stands.shows ∙ sym first.same; stands = first.stands; waits = stands.waits }
+  stands_then = record { stored = stands.stored; shows = stands.shows ∙ sym first.same; hides = hides_later old w (w.history ++ around.before) stands (record { more = around.before; is = refl }); stands = first.stands; waits = stands.waits }
 
   middle_is : around.middle ≡ w.history ++ around.before
   middle_is = around.own.0 ∙ append-nil (w.history ++ around.before)
@@ -216,6 +219,7 @@ module _ (old : Stored) (sound : IsSound old) (settled : old.unsettled.items ≡
       let on = others_go_on (with_tier T then_world) around.behind then.stands apart_then (subst (λ l. AreOthers w.shared l around.behind) middle_is around.came_behind) in
       performed_behind new before after w T now_there.there (Says place want w None) at now_there.told called.shares stands.waits then.stored
       (then.shows ∙ sym on.same ∙ ap (λ l. shown_state l T) (sym later_is))
+      (hides_later new (with_tier T then_world) now_there.there.history then (record { more = around.behind; is = later_is }))
       (subst (λ l. Rattle.cache_tier.specs.StandingBetween.Stands (with_tier T (at_history l w))) (sym later_is) on.stands)
       (told_stage (behind w T now_there.there after) None (inl (ap (λ s. record mid_world { tier = with_found_at place s want w.tier }) (sym backing_is), refl)), record { journal = refl; schema = refl })
 

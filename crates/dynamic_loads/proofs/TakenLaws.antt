@@ -30,7 +30,8 @@ use Rattle.cache_tier.proofs.SessionLaws.{known}
 use Rattle.stored_tier.specs.declared.tier.Tier.{Tier as Stored}
 use Rattle.stored_tier.specs.Lists.{AreListed, IsListed}
 use Rattle.stored_tier.specs.Performing.{StandsFor}
-use Rattle.stored_tier.specs.Stored.{IsSound, IsStoredAs, rows_of, without_list}
+use Rattle.stored_tier.specs.Stored.{IsSound, IsStoredAs, KeepsHidden, rows_of, without_list}
+use Rattle.stored_tier.proofs.HiddenRows.{hidden_as, hides_still}
 use Rattle.stored_tier.proofs.ListLaws.{hidden_long, stores_long}
 use Rattle.stored_tier.proofs.SoundParts.{changed_defs}
 use Rattle.stored_tier.proofs.StoreChanges.{form_kept, shows_changed}
@@ -85,6 +86,10 @@ module _ (old new : Stored) (place : ℕ) (store left : Kept) (becomes : StoreBe
         time = record { moment = is.time.moment; additions = is.time.additions; tried = is.time.tried; refreshes = is.time.refreshes; due = is.time.due };
       }) lists seen)
 
+  -- groups and their hidden rows stay
+  pub hidden_changed : KeepsHidden old new
+  hidden_changed = hidden_as old (record old { stores = new.stores; verified = new.verified }) new becomes.rest (record { groups = refl; hidden = refl })
+
 -- the room of a store is another
 
 pub room_stands : (old new : Stored) (place : ℕ) (w : World) → IsSound old → StandsFor old w → GainsRoom old new place → StandsFor new w
@@ -96,6 +101,7 @@ room_stands old new place w sound stands gains = record {
       (listed_set place w.tier.groups old.stores.items gains.store gains.left gains.becomes.kept (stores_long old w.tier sound stands.stored) (λ g. g) old.hidden.items (hidden_long old w.tier sound stands.stored)
       (λ g x at held is. listed_room g gains.store gains.left x.table gains.same is) stands.stored.lists)));
   shows = shows;
+  hides = hides_still old new w.history (hidden_changed old new place gains.store gains.left gains.becomes) stands.hides;
   stands = stands.stands;
   waits = stands.waits;
 }
@@ -223,4 +229,4 @@ module _ (old new : Stored) (w : World) (sound : IsSound old) (stands : StandsFo
   })
 
   pub stands_taken : StandsFor new (with_tier (with_found_at place b want w.tier) w)
-  stands_taken = record { stored = stored; shows = shows; stands = shows_keys.stands; waits = stands.waits }
+  stands_taken = record { stored = stored; shows = shows; hides = hides_still old new w.history (hidden_changed old new place took.store took.filled took.becomes) stands.hides; stands = shows_keys.stands; waits = stands.waits }

@@ -65,6 +65,7 @@ use Rattle.group_engine.proofs.ChangedLists.{changed_at, changed_long, changed_m
 use Rattle.group_engine.proofs.FreshGroup.{Changes, stateless}
 use Rattle.group_engine.proofs.FreshLaws.{IsBeside, IsRefreshed, groups_behind, stands_behind, tier_behind}
 use Rattle.group_engine.proofs.GroupRows.{AllBecome, Becomes, same_there, stands_after, there_too}
+use Rattle.stored_tier.proofs.HiddenRows.{hides_changed}
 use Rattle.stored_tier.proofs.ListLaws.{listed_changed}
 use Rattle.stored_tier.proofs.RefreshSteps.{no_group_stored, stored_group}
 use Rattle.group_engine.proofs.ShownStores.{EachShows, all_shown, each_shows}
@@ -247,6 +248,7 @@ module _ (t t' : Stored) (w : World) (place : ℕ) (st : RefreshState) (x : Stan
       stored = stored_then;
       shows = all_shown t'.schema w.history (changed (alone place) (with_state st) w.tier) t'.stores.items (x.stored.schema ∙ sym is.beside.schema) (subst (λ l. AreKept t'.schema l t'.stores.items) (sym groups_then) is.kept)
           (subst (EachShows w.history w.tier.log final) (sym is.stores) shows_then);
+      hides = hides_changed t t' w.history (alone place) (with_state st) (λ y. record { def = refl; position = refl }) is.groups is.hidden x.hides;
       stands = stands_after w x.stands final become positions;
       waits = x.waits;
     }

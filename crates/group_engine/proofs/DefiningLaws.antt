@@ -58,7 +58,8 @@ use Rattle.instances.specs.Views.{kept_at}
 use Rattle.stored_tier.specs.Filling.{HidesNone}
 use Rattle.stored_tier.specs.Grouping.{HasGroups, IsBareStore, KeepsGroups}
 use Rattle.stored_tier.specs.Lists.{AreListed}
-use Rattle.stored_tier.proofs.ListLaws.{hidden_long, hiding_more, kept_long, listed_more, no_rows_fit, none_listed, stores_long}
+use Rattle.stored_tier.proofs.HiddenRows.{hides_more}
+use Rattle.stored_tier.proofs.ListLaws.{hidden_long, hiding_long, hiding_more, kept_long, listed_more, no_rows_fit, none_listed, stores_long}
 use Rattle.stored_tier.specs.Performing.{Executes, PerformsInOver, StandsFor}
 use Rattle.outside.specs.Sites.{SiteState}
 use Rattle.stored_tier.proofs.LaterLaws.{later_more}
@@ -217,6 +218,7 @@ module _ (new_tables : HasNewTables) (writes_all : WritesAll) (apart : StandsApa
     stands_more = record {
       stored = stored;
       shows = shows_more t new w (with_tier (with_new_group d tree w.tier) w) coming store stands sound has.beside.schema refl refl has.stores stays.same no_table bare;
+      hides = hides_more t new w.history _ hidden has.groups has.hidden (hiding_long t.schema (groups_in t.catalog) t.stores.items t.hidden.items sound.hiding) none.none stands.hides;
       stands = stays.stands;
       waits = stands.waits;
     }

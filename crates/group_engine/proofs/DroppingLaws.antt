@@ -44,6 +44,7 @@ use Rattle.tier_journal.specs.declared.journal.TierJournal.{TierJournal}
 use Rattle.outside.specs.Holding.{Held}
 use Rattle.stored_tier.proofs.OverLaws.{keeps_stays}
 use Rattle.stored_tier.specs.Lists.{AreListed}
+use Rattle.stored_tier.proofs.HiddenRows.{hides_less}
 use Rattle.stored_tier.proofs.ListLaws.{hiding_less, kept_long, listed_less}
 use Rattle.stored_tier.specs.Grouping.{KeepsGroups}
 use Rattle.stored_tier.specs.Performing.{Executes, PerformsInOver, PerformsOver, StandsFor, reply_of}
@@ -123,6 +124,7 @@ module _ (law : DropLaw) (numbers : NumberLaw) (t new : Stored) (id : SessionId)
     stands_without = record {
       stored = stored;
       shows = shows_less t new w (with_tier (without_group g.def.name w.tier) w) place g sound stands at without.has.beside.schema refl left without.has.stores shows;
+      hides = hides_less t new w.history place without.has.groups without.has.hidden stands.hides;
       stands = shows.stands;
       waits = stands.waits;
     }

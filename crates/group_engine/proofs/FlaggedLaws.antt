@@ -19,6 +19,7 @@ use Rattle.stored_tier.specs.declared.tier.Tier.{Tier as Stored}
 use Rattle.stored_tier.specs.Lists.{AreListed}
 use Rattle.stored_tier.specs.Performing.{StandsFor}
 use Rattle.stored_tier.specs.Stored.{AreKept, IsStoredAs, KeepsTime, without_list}
+use Rattle.stored_tier.proofs.HiddenRows.{hides_changed}
 use Rattle.stored_tier.proofs.ListLaws.{listed_changed}
 use Rattle.group_engine.proofs.ChangedLists.{changed_at, changed_long, changed_mapped}
 use Rattle.group_engine.proofs.FlagLaws.{as_loaded}
@@ -127,6 +128,7 @@ module _ (t t' : Stored) (w : World) (place : ℕ) (g : Group) (at : slice_get w
     stored = stored_then;
     shows = all_shown t'.schema w.history (changed (alone place) as_loaded w.tier) t'.stores.items (x.stored.schema ∙ sym is.beside.schema) (subst (λ l. AreKept t'.schema l t'.stores.items) (sym groups_then) is.kept)
         (subst (EachShows w.history w.tier.log final) (sym is.stores) shows_then);
+    hides = hides_changed t t' w.history (alone place) as_loaded (λ y. record { def = refl; position = refl }) is.groups is.hidden x.hides;
     stands = stands_after w x.stands final become positions;
     waits = x.waits;
   }

@@ -283,7 +283,7 @@ module _ (h : List Entry) (log : List Sealed) (size : ℕ) (n : ℕ) (state : Ta
       by false = and_false (nat_eq k place)
 
   module _ (k : ℕ) (g : Group) (reads : chosen k g ≡ true → is_read_only g ≡ true) (gains : GainsOnly state g (gained_at place more k)) where
-    last_is : last k g ≡ record (picked k g) { state = (last k g).state; loaded = (picked k g).loaded || (anew k && is_explicit g); keys = more_keys (picked k g).keys (gained_at place more k) }
+    pub last_is : last k g ≡ record (picked k g) { state = (last k g).state; loaded = (picked k g).loaded || (anew k && is_explicit g); keys = more_keys (picked k g).keys (gained_at place more k) }
     last_is = by (nat_eq k place) refl
       where
         read : nat_eq k place ≡ true → flag ≡ true → is_read_only (picked k g) ≡ true

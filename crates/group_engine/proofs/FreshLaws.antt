@@ -2,6 +2,7 @@
 use Rattle.std.proofs.Common.{◌≡◌, ℕ, Bool, true, false, cond, ◌&&◌, ◌||◌, nat_eq, Option, Some, None, List, [], length, map, slice_get, refl, sym, ap, subst, ◌∙◌}
 use Rattle.std.proofs.lemmas.Bool.{eqb-true}
 use Rattle.std.specs.Option.{option_map}
+use Rattle.std.specs.FinMap.{empty}
 use Rattle.row_types.specs.declared.value.Value.{Value}
 use Rattle.indexed_rows.specs.Rows.{Table}
 use Rattle.table_state.specs.Tables.{TableState}
@@ -14,23 +15,25 @@ use Rattle.cache_tier.specs.Groups.{Group, is_key, is_read_only}
 use Rattle.cache_tier.specs.Sets.{Choice, OnePosition, alone, at_position, changed, changed_from, refreshed}
 use Rattle.cache_tier.specs.Shown.{shown}
 use Rattle.cache_tier.specs.StandingBetween.{HasKeys}
+use Rattle.order_laws.proofs.TruthLaws.{both_true}
 use Rattle.cache_tier.proofs.ChosenGroups.{each_at}
 use Rattle.cache_tier.specs.TierStates.{Tier}
 use Rattle.cache_tier.specs.Worlds.{World}
 use Rattle.stored_tier.specs.declared.tier.Tier.{Tier as Stored}
 use Rattle.stored_tier.specs.declared.refreshing.Made.{Made}
 use Rattle.stored_tier.specs.Filling.{is_held}
-use Rattle.stored_tier.specs.Lists.{AreHiding, AreListed, IsListed}
+use Rattle.stored_tier.specs.Lists.{AreHiding, AreListed, HidesView, IsListed, hides_keys, is_by_time}
 use Rattle.stored_tier.proofs.FillSteps.{mapped_at}
-use Rattle.stored_tier.proofs.ListLaws.{all_listed, hiding_long, hiding_same, hiding_there, kept_long, keys_held, listed_there}
+use Rattle.stored_tier.proofs.HiddenRows.{nothing_hidden, unmapped, view_same}
+use Rattle.stored_tier.proofs.ListLaws.{all_listed, hides_same, hiding_long, hiding_same, hiding_there, kept_long, keys_held, listed_there}
 use Rattle.group_engine.specs.Fresh.{AreFresh, AreGained, HasOwnKeys, IsViewed, gained_at}
 use Rattle.stored_tier.specs.Performing.{StandsFor}
 use Rattle.stored_tier.specs.Refreshing.{exchanged, is_filled, made_hidden, made_stores, positioned}
-use Rattle.stored_tier.specs.Stored.{AreKept, IsStoredAs, without_list}
+use Rattle.stored_tier.specs.Stored.{AreKept, HidesRows, IsStoredAs, without_list}
 use Rattle.group_engine.proofs.GroupRows.{AllBecome, Becomes, same_there, stands_after, there_too}
 use Rattle.group_engine.proofs.ShownStores.{EachShows, all_shown, each_shows}
 use Rattle.group_engine.proofs.ChangedLists.{changed_at, changed_long, changed_mapped, exchanged_long, exchanged_there, mapped_long, mapped_there}
-use Rattle.group_engine.proofs.FreshGroup.{Changes, GainChanges, GainsOnly, changes_none, gained_here, gains_nothing, hidden_or, store_or, last, one_becomes, one_shows, one_listed}
+use Rattle.group_engine.proofs.FreshGroup.{Changes, GainChanges, GainsOnly, changes_none, gained_here, gains_nothing, hidden_or, store_or, last, last_is, one_becomes, one_shows, one_listed}
 
 abbrev Row : Type 0
 Row = List Value
@@ -199,11 +202,44 @@ module _ (t t' : Stored) (mid : World) (flag : Bool) (place : ℕ) (chosen : Cho
     time = subst (λ c. Rattle.stored_tier.specs.Stored.KeepsTime c mid.tier.now mid.tier.added mid.tier.round mid.tier.sets mid.tier.settings) (sym is.beside.clock) x.stored.time;
   }
 
+  -- what is made anew hides nothing, and another group keeps its view
+  hides_then : HidesRows t' mid.history
+  hides_then k y x' at hides there =
+      let (h, h_at, seen) = unmapped without_list final k y (ap (λ l. slice_get l k) groups_then ∙ at) in
+      let (g, was) = there_too final gs k h (sym final_long) h_at in
+      let here = stored_there k g was in
+      let rows : x' ≡ hidden_or here.new here.rows = same_there t'.hidden.items k x' (hidden_or here.new here.rows) there here.rows_then in
+      subst (λ z. HidesView mid.history z x'.table) seen
+      (subst (λ (r : RowsHeld). HidesView mid.history (without_list h) r.table) (sym rows)
+      (by h g was here (same_there final k h (one k g) h_at (final_there k g was)) (become.one k g h was h_at).kept.def (ap hides_keys seen ∙ hides) (chosen k g) refl))
+    where
+      none_made : (g : Group) (s : Kept) (old : Table) (more : List Row) (r : RowsHeld) (o : Option Made) → IsViewed true fresh.state g s old more o → (hidden_or o r).table ≡ empty
+      none_made g s old more r None v = absurd v
+      none_made g s old more r (Some m) v = v.bare
+
+      by : (h g : Group) (was : slice_get gs k ≡ Some g) (here : IsStored k g) → h ≡ one k g → h.def ≡ g.def → hides_keys h ≡ true → (b : Bool) → chosen k g ≡ b → HidesView mid.history (without_list h) (hidden_or here.new here.rows).table
+      by h g was here same def hiding true c =
+          let hides_g : hides_keys g ≡ true = sym (hides_same g h def) ∙ hiding in
+          let dynamic : g.def.dynamic ≡ true = (both_true (is_read_only g) g.def.dynamic (both_true (is_read_only g && g.def.dynamic) (is_by_time g.def.aging) hides_g).0).1 in
+          let filled : is_filled chosen loads k g ≡ true = λ i. c i && (dynamic i || (g.loaded || is_place k loads)) in
+          nothing_hidden mid.history (without_list h) (hidden_or here.new here.rows).table
+          (none_made g here.store here.rows.table (gained_at place more k) here.rows here.new (subst (λ b. IsViewed b fresh.state g here.store here.rows.table (gained_at place more k) here.new) filled here.viewed))
+      by h g was here same def hiding false c =
+          let hides_g : hides_keys g ≡ true = sym (hides_same g h def) ∙ hiding in
+          let off : is_filled chosen loads k g ≡ false = ap (λ b. b && (g.def.dynamic || (g.loaded || is_place k loads))) c in
+          let none : here.new ≡ None = subst (λ b. IsViewed b fresh.state g here.store here.rows.table (gained_at place more k) here.new) off here.viewed in
+          let position : h.position ≡ g.position =
+          ap (λ (z : Group). z.position) (same ∙ last_is mid.history mid.tier.log (length mid.history) n fresh.state fresh.there fresh.within flag place chosen loads more change ch k g (reads k g was) (gains_at k g was))
+          ∙ ap (λ b. (cond b (at_position n fresh.state g) g).position) c in
+          subst (λ o. HidesView mid.history (without_list h) (hidden_or o here.rows).table) (sym none)
+          (view_same mid.history (without_list g) (without_list h) here.rows.table (record { def = def; position = position }) (x.hides k (without_list g) here.rows (in_catalog k g was) hides_g here.rows_at))
+
   behind_here : OnePosition final → StandsFor t' (record mid { tier = tier_behind chosen place change n fresh.state mid.tier })
   behind_here position = record {
     stored = stored_then;
     shows = all_shown t'.schema mid.history (tier_behind chosen place change n fresh.state mid.tier) t'.stores.items (x.stored.schema ∙ sym is.beside.schema)
         (subst (λ l. AreKept t'.schema l t'.stores.items) (sym groups_then) is.kept) shows_then;
+    hides = hides_then;
     stands = stands_after mid x.stands final become position;
     waits = x.waits;
   }

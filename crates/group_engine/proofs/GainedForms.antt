@@ -1,5 +1,5 @@
 -- The form of stores that were made where one group gains instances.
-use Rattle.std.proofs.Common.{◌≡◌, ℕ, Bool, true, false, cond, nat_eq, Option, Some, List, [], slice_get, sym, ap, subst, ◌∙◌}
+use Rattle.std.proofs.Common.{◌≡◌, ℕ, Bool, true, false, cond, nat_eq, Option, Some, List, [], slice_get, refl, sym, ap, subst, ◌∙◌}
 use Rattle.std.specs.FinMap as fm
 use Rattle.std.specs.Global.{Vec}
 use Rattle.outside.specs.Holding.{Held}
@@ -21,6 +21,7 @@ use Rattle.stored_tier.specs.declared.tier.Tier.{Tier as Stored}
 use Rattle.stored_tier.specs.Lists.{AreHiding, AreListed}
 use Rattle.stored_tier.specs.Performing.{IsPerformedOver, StandsFor}
 use Rattle.stored_tier.specs.Stored.{IsSound, without_list}
+use Rattle.stored_tier.proofs.HiddenRows.{hides_still}
 use Rattle.stored_tier.proofs.ListLaws.{group_kept, hidden_kept, store_kept}
 use Rattle.group_engine.specs.Fresh.{AreFormed}
 use Rattle.group_engine.specs.Gaining.{AreMadeGaining, IsMadeFor, IsMadeWith, IsSameTier, widened}
@@ -98,6 +99,7 @@ stands_swapped t hidden w same x = record {
     time = x.stored.time;
   };
   shows = x.shows;
+  hides = hides_still t (record t { hidden = hidden }) w.history (record { groups = refl; hidden = same }) x.hides;
   stands = x.stands;
   waits = x.waits;
 }

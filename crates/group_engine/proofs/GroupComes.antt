@@ -32,6 +32,7 @@ use Rattle.stored_tier.specs.Lists.{AreHiding, AreListed}
 use Rattle.stored_tier.specs.Performing.{StandsFor}
 use Rattle.stored_tier.specs.Stored.{AreKept, AreWhole, IsSound, KeepsTime, ShowsRows, are_later, named_where_cached, rows_of, without_list}
 use Rattle.group_catalog.specs.Catalogs.{HaveOwnNames, is_plain}
+use Rattle.stored_tier.proofs.HiddenRows.{hides_still}
 use Rattle.stored_tier.proofs.StoreRows.{KeepShown, are_kept, none_shown, shows_kept, kept_is_shown}
 use Rattle.stored_tier.proofs.StoreChanges.{all_over_for}
 
@@ -173,6 +174,7 @@ stands_kept t new w stands keeps = record {
     time = time_kept t new w.tier keeps.beside.clock stands.stored.time;
   };
   shows = rows_kept t new keeps ∙ stands.shows;
+  hides = hides_still t new w.history (record { groups = keeps.groups; hidden = keeps.hidden }) stands.hides;
   stands = stands.stands;
   waits = stands.waits;
 }

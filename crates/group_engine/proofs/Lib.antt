@@ -47,6 +47,7 @@ pub mod TriedLaws
 pub mod UnloadAims
 pub mod UnloadDone
 pub mod UnloadHeld
+pub mod UnloadHidden
 pub mod UnloadLaws
 pub mod UnloadListed
 pub mod UnloadLists

@@ -41,6 +41,8 @@ use Rattle.cache_tier.proofs.HistoryKeeps.{around_goes_on, others_go_on}
 use Rattle.cache_tier.proofs.SoundStates.{sound_history}
 use Rattle.stored_tier.specs.declared.tier.Tier.{Tier as Stored}
 use Rattle.stored_tier.specs.declared.refreshing.Made.{Made}
+use Rattle.stored_tier.proofs.HiddenRows.{hides_later}
+use Rattle.stored_tier.proofs.LongerLaws.{read_longer}
 use Rattle.stored_tier.proofs.ListLaws.{hidden_kept, store_kept}
 use Rattle.group_engine.specs.Fresh.{AreFormed, AreFresh, AreGained, HasOwnKeys, IsFreshFor, IsRead, IsViewed, gained_at}
 use Rattle.group_engine.specs.Gaining.{AreMadeGaining, IsMadeFor, IsMadeWith, IsStoredAt, widened}
@@ -127,6 +129,7 @@ module _ (t : Stored) (before after : SiteState) (step : List Entry → List Ent
     stands = record {
       stored = stands.stored;
       shows = stands.shows ∙ sym still.same;
+      hides = hides_later t w now.there.history stands (read_longer w step now.there.history grows called.history);
       stands = stands_then w now.there after still.stands;
       waits = stands.waits;
     };

@@ -172,6 +172,7 @@ refresh_wanting t clock b interval shows tells has shown same moments w at stand
       stands = record {
         stored = stored_clocked t clock a a.now a.added (refresh_tried interval a).sets stands.stored time;
         shows = stands.shows;
+        hides = stands.hides;
         stands = stands_clocked w a.now a.added (refresh_tried interval a).sets stands.stands;
         waits = stands.waits;
       };

@@ -39,6 +39,7 @@ use Rattle.cache_tier.specs.declared.reply.Reply.{Reply}
 use Rattle.cache_tier.specs.Conditions.{overflow_fault}
 use Rattle.cache_tier.specs.Groups.{Group, covers, is_explicit, is_key, is_writethrough, with_keys}
 use Rattle.cache_tier.specs.LoadSteps.{added_answer}
+use Rattle.cache_tier.specs.GoesOn.{IsLonger}
 use Rattle.cache_tier.specs.Reading.{Answers, TellsPosition, backing_at, state_or_none}
 use Rattle.cache_tier.specs.RefreshSteps.{judged_roots, refreshed_answer}
 use Rattle.cache_tier.specs.Rules.{broken_if, past, plain as plain_rule}
@@ -61,6 +62,8 @@ use Rattle.outside.specs.Sites.{SiteState}
 use Rattle.stored_tier.specs.Stored.{IsSound, IsStoredAs, KeepsTime, rows_of, without_list}
 use Rattle.slot_rows.specs.SlotKeys.{IsKeyedBy}
 use Rattle.stored_tier.specs.Lists.{AreListed}
+use Rattle.stored_tier.proofs.HiddenRows.{hides_changed, hides_later, hides_then}
+use Rattle.stored_tier.proofs.LongerLaws.{read_longer}
 use Rattle.stored_tier.proofs.ListLaws.{hidden_long, listed_same, stores_long}
 use Rattle.group_engine.proofs.ListsKept.{grown_listed, listed_set}
 use Rattle.group_engine.proofs.PutKeys.{are_new, put_keys}
@@ -79,7 +82,7 @@ use Rattle.kept_journal.specs.Drafts.{StaysKept}
 use Rattle.kept_journal.specs.Keeping.{KeepsOver}
 use Rattle.propagators.specs.Certainty.{KeepsCertain}
 use Rattle.tier_journal.specs.declared.journal.TierJournal.{TierJournal}
-use Rattle.group_engine.proofs.TakenParts.{rows_room, stored_room}
+use Rattle.group_engine.proofs.TakenParts.{hidden_room, rows_room, stored_room}
 use Rattle.stored_tier.proofs.StoreRows.{are_kept, kept_is_shown, shows_kept}
 
 abbrev Row : Type 0
@@ -127,7 +130,7 @@ reads_failed state possible t k d d' place x refreshes asked e reply is told fau
       world = behind w w.tier now.there (state d');
       at = behind_at w w.tier (state d) (state d') now.there at now.told shares;
       is = reads_failing refreshes x w (behind w w.tier now.there (state d')) e (record { history = call.history; journal = call.journal; faults = call.faults; disk = call.disk; moment = call.moment; shared = call.shared }) refl;
-      stands = λ whole. record { stored = stands.stored; shows = stands.shows ∙ sym stays.same; stands = stands_behind w w.tier now.there (state d') stays.stands; waits = stands.waits };
+      stands = λ whole. record { stored = stands.stored; shows = stands.shows ∙ sym stays.same; hides = hides_later t w now.there.history stands (read_longer w (TakesSnapshot asked (Err e)) now.there.history (λ a b s. s) call.history); stands = stands_behind w w.tier now.there (state d') stays.stands; waits = stands.waits };
       keeps = λ whole. keeps_called state possible k d d' w (behind w w.tier now.there (state d')) keeps certain refl refl;
     })
 
@@ -270,13 +273,16 @@ module _ {D : Type 0} (state : D → SiteState) (possible : D → ℕ → Held �
   keeps_mid : KeepsOver state possible d' k mid
   keeps_mid = keeps_called state possible k d d' w mid keeps certain refl refl
 
+  longer : IsLonger w.history later
+  longer = read_longer w (TellsPosition (Ok n)) later (λ a b s. s.0) reads_call.history
+
   -- nothing was taken in
   left_so : (new : Stored) (reply : Reply) → IsSameButRoom old new → ReadsMatching refreshes x w mid reply → IsPerformedOver state possible new k d' (Some reply) (λ w'. ReadsMatching refreshes x w w' reply)
   left_so new reply same is = record {
     world = mid;
     at = at_mid;
     is = is;
-    stands = λ whole. record { stored = stored_room old new same w.tier stands.stored; shows = rows_room old new same ∙ stands.shows ∙ sym read.shown; stands = stands_behind w w.tier now.there (state d') read.stands; waits = stands.waits };
+    stands = λ whole. record { stored = stored_room old new same w.tier stands.stored; shows = rows_room old new same ∙ stands.shows ∙ sym read.shown; hides = hides_then old new w later (hidden_room old new same) stands longer; stands = stands_behind w w.tier now.there (state d') read.stands; waits = stands.waits };
     keeps = λ whole. keeps_mid;
   }
 
@@ -414,7 +420,7 @@ module _ {D : Type 0} (state : D → SiteState) (possible : D → ℕ → Held �
     shown_rows = shows_kept new (with_tier T ended) (stands.stored.schema ∙ sym took.rest.schema) (are_kept new T sound_new stored) keep
 
     pub stands_done : StandsFor new (with_tier T mid)
-    stands_done = record { stored = stored; shows = shown_rows; stands = stands_behind w T now.there (state d') shows_keys.stands; waits = stands.waits }
+    stands_done = record { stored = stored; shows = shown_rows; hides = hides_changed old new later (alone place) as_loaded (λ y. record { def = refl; position = refl }) took.groups (λ i. (took.rest.hidden i).items) (hides_later old w later stands longer); stands = stands_behind w T now.there (state d') shows_keys.stands; waits = stands.waits }
 
     coming_is : coming_in c took.group.def.tree took.store which ≡ chosen (comes which took.store) R
     coming_is = ap (λ (d : GroupDef). coming_in c d.tree took.store which) def_is ∙ ap (chosen (comes which took.store)) copied_roots
@@ -477,7 +483,7 @@ module _ {D : Type 0} (state : D → SiteState) (possible : D → ℕ → Held �
       world = mid;
       at = at_mid;
       is = is;
-      stands = λ whole. record { stored = stands.stored; shows = stands.shows ∙ sym read.shown; stands = stands_behind w w.tier now.there (state d') read.stands; waits = stands.waits };
+      stands = λ whole. record { stored = stands.stored; shows = stands.shows ∙ sym read.shown; hides = hides_later old w later stands longer; stands = stands_behind w w.tier now.there (state d') read.stands; waits = stands.waits };
       keeps = λ whole. keeps_mid;
     }
 

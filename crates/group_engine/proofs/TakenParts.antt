@@ -20,7 +20,7 @@ use Rattle.stored_tier.proofs.WriterLaws.{writers_same}
 use Rattle.stored_tier.specs.declared.clock.TierClock.{TierClock}
 use Rattle.stored_tier.specs.declared.tier.Tier.{Tier as Stored}
 use Rattle.stored_tier.specs.Gathering.{gathered_in}
-use Rattle.stored_tier.specs.Stored.{AreKept, IsSound, IsStoredAs, KeepsTime, are_later, named_where_cached, rows_of}
+use Rattle.stored_tier.specs.Stored.{AreKept, IsSound, IsStoredAs, KeepsHidden, KeepsTime, are_later, named_where_cached, rows_of}
 use Rattle.group_catalog.specs.Catalogs.{HaveOwnNames, is_plain}
 use Rattle.group_engine.specs.Taking.{Pairs, IsSameButRoom, TakesIn, TakesMatching}
 use Rattle.slot_rows.specs.SlotKeys.{RowsHeld}
@@ -38,6 +38,9 @@ use Rattle.group_engine.proofs.StorePairs.{SameForm, filled_form, form_set, hous
 module _ (old new : Stored) (same : IsSameButRoom old new) where
   pub rows_room : rows_of new ≡ rows_of old
   rows_room = ap (λ d. shown_by d new.stores.items) same.rest.schema ∙ rows_still old.schema old.stores.items new.stores.items same.stores
+
+  pub hidden_room : KeepsHidden old new
+  hidden_room = record { groups = ap groups_in same.catalog; hidden = λ i. (same.rest.hidden i).items }
 
   pub stored_room : (a : Tier) → IsStoredAs old a → IsStoredAs new a
   stored_room a is = record {

@@ -43,6 +43,8 @@ use Rattle.stored_tier.specs.Performing.{IsPerformedOver, StandsFor}
 use Rattle.stored_tier.specs.Sites.{IsAt}
 use Rattle.stored_tier.specs.Stored.{IsSound, without_list}
 use Rattle.stored_tier.proofs.BankLaws.{TellsBehind, behind}
+use Rattle.stored_tier.proofs.HiddenRows.{hides_later}
+use Rattle.stored_tier.proofs.LongerLaws.{read_longer}
 use Rattle.stored_tier.proofs.OverLaws.{keeps_called}
 use Rattle.stored_tier.proofs.ListLaws.{group_kept, hidden_kept, store_kept, stored_keys}
 use Rattle.stored_tier.proofs.StandingLaws.{stands_behind}
@@ -141,7 +143,7 @@ module _ {D : Type 0} (state : D → SiteState) (possible : D → ℕ → Held �
   keeps_mid = keeps_called state possible k d d' w mid keeps certain refl refl
 
   stands_mid : StandsFor old mid
-  stands_mid = record { stored = stands.stored; shows = stands.shows ∙ sym read.shown; stands = stands_behind w w.tier now.there (state d') read.stands; waits = stands.waits }
+  stands_mid = record { stored = stands.stored; shows = stands.shows ∙ sym read.shown; hides = hides_later old w now.there.history stands (read_longer w (TellsPosition (Ok snapshot.position.0)) now.there.history (λ a b s. s.0) reads_call.history); stands = stands_behind w w.tier now.there (state d') read.stands; waits = stands.waits }
 
   seen_at : slice_get (groups_in old.catalog) place ≡ Some (without_list x.group)
   seen_at = group_kept old w.tier place x.group stands.stored here.there

@@ -167,6 +167,7 @@ stands_entered t c w same moments x = record {
     };
   };
   shows = x.shows;
+  hides = x.hides;
   stands = x.stands;
   waits = x.waits;
 }
@@ -186,6 +187,7 @@ stands_noted t c w interval same sets has x = record {
     due = x.stored.time.due ∙ sym same.due;
   });
   shows = x.shows;
+  hides = x.hides;
   stands = stands_tried w (refresh_tried interval w.tier).sets x.stands;
   waits = x.waits;
 }

@@ -9,6 +9,7 @@ use Rattle.indexed_rows.specs.Rows.{Table}
 use Rattle.instances.specs.Views.{kept_at}
 use Rattle.instances.specs.declared.tree.Tree.{Tree}
 use Rattle.table_defs.specs.declared.definition.TableDef.{TableDef}
+use Rattle.table_state.specs.declared.history.Entry.{Entry}
 use Rattle.table_state.specs.Tables.{TableState}
 use Rattle.open_sessions.specs.Opening.{AreSessions, seen_all}
 use Rattle.row_types.specs.declared.rule.Refused.{Refused}
@@ -47,10 +48,11 @@ use Rattle.stored_tier.specs.Grouping.{SameTree}
 use Rattle.stored_tier.specs.Performing.{Executes, PerformsInOver, StandsFor, reply_of}
 use Rattle.outside.specs.Sites.{SiteState}
 use Rattle.stored_tier.proofs.LaterLaws.{later_by}
-use Rattle.stored_tier.specs.Stored.{AreKept, AreWhole, HasSession, IsSound, IsStoredAs, are_later, named_where_cached, without_list}
+use Rattle.stored_tier.specs.Stored.{AreKept, AreWhole, HasSession, HidesRows, IsSound, IsStoredAs, are_later, named_where_cached, without_list}
 use Rattle.group_engine.specs.Taking.{IsOfTarget}
 use Rattle.slot_rows.specs.SlotKeys.{RowsHeld}
 use Rattle.stored_tier.specs.Lists.{AreHiding, AreListed, IsListed, hides_keys}
+use Rattle.stored_tier.proofs.HiddenRows.{SameView, hides_changed}
 use Rattle.stored_tier.proofs.ListLaws.{hidden_long, hides_there, hiding_defined, hiding_long, kept_long, listed_same, stores_long}
 use Rattle.group_engine.proofs.GroupRows.{same_there}
 use Rattle.group_engine.proofs.ListsKept.{hides_none, hiding_set, listed_set, unhidden, writes_hides}
@@ -93,7 +95,7 @@ cut_tree (k ∷ keys) s =
     let r = cut_tree keys (cut_store 0 k s) in
     record { table = r.table; key = r.key; foreign = r.foreign; layers = r.layers }
 
-cut_long : (keys : List (List Value)) (s : Kept) → length (cut_all keys s).tables ≡ length s.tables
+pub cut_long : (keys : List (List Value)) (s : Kept) → length (cut_all keys s).tables ≡ length s.tables
 cut_long [] s = refl
 cut_long (k ∷ keys) s = cut_long keys (cut_store 0 k s) ∙ keep_long (λ place key. not (leads s.layers s.tables 0 k (length s.layers) place key)) s.tables
 
@@ -178,6 +180,15 @@ sound_left t new place all does sound c tree long =
           (long ∙ sound.whole place c.store c.kept ∙ ap (λ ls. suc (length ls)) (sym tree.layers)))
       | inr other ↦ sound.whole k s (sym (get_there t.stores.items place k c.left other.1) ∙ at)
     ]
+
+-- what it hides is as it was
+pub hides_left : (t new : Stored) (place : ℕ) (all : Bool) (does : Group → Kept → Kept → Type 0) → LeavesGroup t new place all does → (history : List Entry) → HidesRows t history → HidesRows new history
+hides_left t new place all does c history hides =
+    hides_changed t new history (alone place) (marked all) (same all) (c.groups ∙ sym (marked_all all place (groups_in t.catalog))) (λ i. (c.hidden i).items) hides
+  where
+    same : (b : Bool) (g : Group) → SameView g (marked b g)
+    same true g = record { def = refl; position = refl }
+    same false g = record { def = refl; position = refl }
 
 -- and the lists
 pub left_listed : (t new : Stored) (place : ℕ) (all : Bool) (does : Group → Kept → Kept → Type 0) → (c : LeavesGroup t new place all does) → (a : Tier) (p : ℕ) → p ≡ place → (f : Group → Group) → IsSound t → IsStoredAs t a
@@ -283,6 +294,7 @@ module _ (law : UnloadLaw) (drops : (state : TableState) (tree : Tree) → Keeps
       its = λ u p e. ap (λ ts. kept_at ts p) left_is ∙ sym (behind.its stands.stands.flow.stand.over.virtual u p stands.stands.flow.stand.over.virtual_is e);
       others = behind.others;
     });
+    hides = hides_left t new aim.place all _ cut w.history stands.hides;
     stands = behind.stands;
     waits = stands.waits;
   }

@@ -67,7 +67,7 @@ use Rattle.group_engine.proofs.GroupRows.{same_there}
 use Rattle.group_engine.proofs.MatchedRoots.{fits_is, leaving_is, leaving_long}
 use Rattle.group_engine.proofs.ReadOnlyUnloads.{tables_stay, tables_then, unheld, unload_stands}
 use Rattle.group_engine.proofs.ReadyLaws.{full_then}
-use Rattle.group_engine.proofs.UnloadDone.{left_listed, left_tree, marked, marked_all, unloaded_def}
+use Rattle.group_engine.proofs.UnloadDone.{hides_left, left_listed, left_tree, marked, marked_all, unloaded_def}
 use Rattle.group_engine.proofs.UnloadLists.{shrunk_listed, without_alike}
 use Rattle.group_engine.proofs.UnloadWhole.{unload_so}
 
@@ -91,16 +91,16 @@ listed_so groups place g asked at =
 
 -- it has no flag
 
-no_flag : (g : Group) → is_read_only g ≡ true → g.def.dynamic ≡ true → has_flag g ≡ false
+pub no_flag : (g : Group) → is_read_only g ≡ true → g.def.dynamic ≡ true → has_flag g ≡ false
 no_flag g reads dynamic = λ i. not (reads i) || not (dynamic i)
 
-unloaded_listed : (gone : List Row) (all : Bool) (g : Group) → is_read_only g ≡ true → g.def.dynamic ≡ true → unloaded gone all g ≡ record g { keys = without_keys gone g.keys }
+pub unloaded_listed : (gone : List Row) (all : Bool) (g : Group) → is_read_only g ≡ true → g.def.dynamic ≡ true → unloaded gone all g ≡ record g { keys = without_keys gone g.keys }
 unloaded_listed gone false g reads dynamic = refl
 unloaded_listed gone true g reads dynamic = ap (λ b. cond b (record g { keys = without_keys gone g.keys; loaded = false }) (record g { keys = without_keys gone g.keys })) (no_flag g reads dynamic)
 
 -- it shows what is listed
 
-shows_listed : (s : TableState) (g : Group) (row : Row) → is_read_only g ≡ true → g.def.dynamic ≡ true → shows_root s g row ≡ (is_key g.keys (root_key s g row) && exceeds g row)
+pub shows_listed : (s : TableState) (g : Group) (row : Row) → is_read_only g ≡ true → g.def.dynamic ≡ true → shows_root s g row ≡ (is_key g.keys (root_key s g row) && exceeds g row)
 shows_listed s g row reads dynamic =
     ap (λ b. cond b (cond (is_explicit g) g.loaded (is_key g.keys (root_key s g row)) && exceeds g row) (is_key g.keys (root_key s g row))) reads
     ∙ ap (λ b. cond (not b) g.loaded (is_key g.keys (root_key s g row)) && exceeds g row) dynamic
@@ -134,7 +134,7 @@ list_gone w x reads dynamic hides k =
     key_in_map (rows_where (matches x.filter x.id (no_rows w.tier) x.group) (listed_in (state_behind w.history w.tier.log x.group) x.group)) k
     ∙ ap (λ (m : Table). fm.contains_key (rows_where (matches x.filter x.id (no_rows w.tier) x.group) m) k) (listed_shown (state_behind w.history w.tier.log x.group) x.group reads dynamic hides)
 
-shuffled : (a e g : Bool) → ((a && e) && not g) ≡ ((a && not g) && e)
+pub shuffled : (a e g : Bool) → ((a && e) && not g) ≡ ((a && not g) && e)
 shuffled false e g = refl
 shuffled true true true = refl
 shuffled true true false = refl
@@ -244,6 +244,7 @@ module _ (drops : Drops) (t new : Stored) (aim : Aim) (n : ℕ) (sound : IsSound
       its = λ u p e. shown_then u p e ∙ sym (tables_then w stands.stands x.place x.group there reads gone all u (ap Rattle.std.proofs.Common.is_some e));
       others = tables_stay w stands.stands x.place x.group there reads gone all;
     });
+    hides = hides_left t new aim.place false _ cut w.history stands.hides;
     stands = unload_stands w stands.stands x.place x.group there reads gone all;
     waits = stands.waits;
   }

@@ -64,7 +64,7 @@ use Rattle.group_engine.proofs.ReadOnlyUnloads.{explicit_bare, unheld, unload_sh
 use Rattle.stored_tier.proofs.SoundParts.{changed_defs}
 use Rattle.stored_tier.proofs.StoreChanges.{form_kept, shows_changed}
 use Rattle.stored_tier.proofs.StoreRows.{form_here, kept_is_shown}
-use Rattle.group_engine.proofs.UnloadDone.{left_listed, marked, sound_left, unloaded_def}
+use Rattle.group_engine.proofs.UnloadDone.{hides_left, left_listed, marked, sound_left, unloaded_def}
 
 abbrev Row : Type 0
 Row = List Value
@@ -180,6 +180,7 @@ module _ (t new : Stored) (id : SessionId) (aim : Aim) (n : ℕ) (sound : IsSoun
       its = λ u p e. ap (λ ts. kept_at ts p) cleared.did.0.gone.tables ∙ none_at cleared.store.tables p ∙ sym (behind.its u (ap Rattle.std.proofs.Common.is_some e));
       others = behind.others;
     });
+    hides = hides_left t new aim.place true _ cleared w.history stands.hides;
     stands = behind.stands;
     waits = stands.waits;
   }

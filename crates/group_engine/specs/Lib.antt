@@ -12,4 +12,5 @@ pub mod Readying
 pub mod Taking
 pub mod Touching
 pub mod UnloadLocks
+pub mod UnloadHidden
 pub mod Unloading

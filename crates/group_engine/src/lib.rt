@@ -16,6 +16,7 @@ pub mod loading_written;
 mod ready;
 mod readying;
 mod touching;
+mod unload_hidden;
 mod unload_listed;
 pub mod unload_locks;
 pub mod unloading;

@@ -10,6 +10,7 @@ ghost use Rattle.group_engine.specs.Unloading.{UnloadsReady, lists_shown};
 
 use crate::aiming::Aim;
 use crate::ready::{Ready, answer_behind, slot_is_full};
+use crate::unload_hidden::unload_hidden;
 use crate::unloading::{cut_group, judge_roots};
 use cache_tier::reply::Reply;
 use group_store::laws::drop_instance_law;
@@ -21,9 +22,9 @@ use stored_tier::tier::Tier;
 use tier_journal::TierJournal;
 use tier_statements::done;
 
-/// The instances that match leave of the READONLY group at a place, where it is dynamic and hides none; or 120 of the
-/// condition on a root row, then 119. Else, and where memory was wanting, want of memory is told, and all stays. No
-/// session writes in it, and it has no flag.
+/// The instances that match leave of the READONLY group at a place, where it is dynamic; or 120 of the condition on a
+/// root row, then 119. Else, and where memory was wanting, want of memory is told, and all stays. No session writes in
+/// it, and it has no flag.
 pub(crate) fn unload_listed<P: Site>(
     tier: &mut Tier,
     alloc: Global,
@@ -41,7 +42,7 @@ pub(crate) fn unload_listed<P: Site>(
     ensures cause { IsCausedOver journal.old (P.Disk.state site.old) (P.Disk.state site.new) (reply_of result) }
 {
     if !lists_shown(tier, aim.place) {
-        return Err(Refused::Memory);
+        return unload_hidden(tier, alloc, site, journal, aim, ready);
     }
     match judge_roots(tier, aim) {
         Err(refused) => Err(refused),

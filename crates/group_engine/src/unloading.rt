@@ -465,8 +465,8 @@ fn overflows(store: &Store, which: &ResolvedWhich) -> bool
     false
 }
 
-// The keys of the root rows that match.
-fn leaving(
+/// The keys of the root rows that match.
+pub(crate) fn leaving(
     alloc: Global,
     store: &Store,
     columns: &[usize],
@@ -489,8 +489,8 @@ fn leaving(
     Ok(keys)
 }
 
-// The instances of these root keys leave. It takes no memory.
-fn cut_all(store: &mut Store, keys: &[Key])
+/// The instances of these root keys leave. It takes no memory.
+pub(crate) fn cut_all(store: &mut Store, keys: &[Key])
     ensures { SameButSpare (cut_all keys.now store.old) store.new }
 {
     for key in keys {

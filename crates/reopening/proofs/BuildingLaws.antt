@@ -40,6 +40,7 @@ use Rattle.stored_tier.specs.Performing.{StandsFor}
 use Rattle.stored_tier.specs.Stored.{AreKept, AreWhole, IsSound, IsStoredAs, are_later, first_unsettled, pace_of, without_list}
 use Rattle.group_catalog.specs.Catalogs.{HaveOwnNames, is_plain}
 use Rattle.stored_tier.proofs.FillSteps.{take_one, take_past}
+use Rattle.stored_tier.proofs.HiddenRows.{nothing_hidden}
 use Rattle.stored_tier.proofs.ListLaws.{no_rows_fit, none_listed}
 use Rattle.stored_tier.proofs.StoreChanges.{all_over_for}
 use Rattle.stored_tier.proofs.StoreRows.{are_kept, shows_kept}
@@ -286,6 +287,7 @@ module _ (start : Start) (a : Tier) (begins : BeginsAs start a) (t : Stored) (bu
         (λ k g s u p at kept placed.
         rows_bare start.schema (groups_in start.catalog) t.stores.items built.stores k s kept p
         ∙ sym (none_shown w.history w.tier stands.flow.stand.over.virtual u bare stands.flow.stand.over.virtual_is));
+    hides = λ k g x at hides there. nothing_hidden w.history g x.table (hidden_bare start.schema (groups_in start.catalog) t.hidden.items built.hidden k x there);
     stands = stands;
     waits = record { settled = w.tier.log; behind = []; is = sym (append-nil w.tier.log); waits = ap (λ (x : Tier). x.unsettled) is };
   }

@@ -34,13 +34,14 @@ use Rattle.stored_tier.specs.Performing.{IsPerformed, Performs, StandsFor}
 use Rattle.stored_tier.specs.Sites.{IsAt}
 use Rattle.stored_tier.specs.Stored.{IsSound, without_list}
 use Rattle.stored_tier.proofs.FillSteps.{drop_one, drop_past}
+use Rattle.stored_tier.proofs.HiddenRows.{hides_still}
 use Rattle.stored_tier.proofs.OverLaws.{stands_written}
 use Rattle.group_engine.specs.Fresh.{IsRead as IsCallRead}
 use Rattle.group_engine.specs.Loaded.{whole_target}
 use Rattle.group_engine.specs.Taking.{AsksTree, IsOfTarget, IsSameButRoom, IsSettledAt, MayTake, TakesIn, TakesMatching}
 use Rattle.group_engine.proofs.ReadLaws.{not_called, read_failed, snapshot_grows, unmapped, was_read}
 use Rattle.group_engine.proofs.TakenLaws as taken
-use Rattle.group_engine.proofs.TakenParts.{rows_room, stored_room}
+use Rattle.group_engine.proofs.TakenParts.{hidden_room, rows_room, stored_room}
 use Rattle.reopening.specs.Reloading.{HoldsIfWanted, IsHeldTo, IsQuiet, IsStillHeld, all_instances, held_again, is_held_at}
 use Rattle.reopening.proofs.ViewingLaws.{IsSameBut, still_held, still_passed}
 
@@ -177,6 +178,7 @@ held_none old new before after place asked snapshot e told faults moment shares 
       stands = record {
         stored = stored_room old new same r.world.tier r.stands.stored;
         shows = rows_room old new same ∙ r.stands.shows;
+        hides = hides_still old new r.world.history (hidden_room old new same) r.stands.hides;
         stands = r.stands.stands;
         waits = r.stands.waits;
       };

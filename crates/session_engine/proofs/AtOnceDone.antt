@@ -55,8 +55,10 @@ use Rattle.stored_tier.specs.Lists.{AreListed}
 use Rattle.stored_tier.specs.Performing.{Executes, IsCaused, IsPerformed, StandsFor, reply_of}
 use Rattle.stored_tier.specs.Refusing.{TellsDifference}
 use Rattle.stored_tier.specs.Sites.{IsAt}
-use Rattle.stored_tier.specs.Stored.{HasSession, IsSound, IsStoredAs, KeepsTime, are_later, are_on, rows_of}
+use Rattle.stored_tier.specs.Stored.{HasSession, IsSound, IsStoredAs, KeepsHidden, KeepsTime, are_later, are_on, rows_of}
 use Rattle.stored_tier.proofs.BankLaws.{behind, behind_at, call_behind, told_behind}
+use Rattle.stored_tier.proofs.HiddenRows.{hidden_as, hidden_then, hides_then}
+use Rattle.stored_tier.proofs.LongerLaws.{around_longer, once_longer}
 use Rattle.stored_tier.proofs.OwnSeen.{NumberLaw, own_found}
 use Rattle.stored_tier.proofs.QuietLaws.{its_session, stands_still}
 use Rattle.stored_tier.proofs.SessionLaws.{ChangeLaw, session_changed}
@@ -193,6 +195,9 @@ weaker_call one other w w' weaker c = record {
 pub ended_none : (new : Stored) (doubt : Option Doubt) (seen : SiteState) (does : World → Type 0) → doubt ≡ None → IsPerformed new seen does → IsEnded new doubt seen does
 ended_none new doubt seen does none p = subst (λ d. IsEnded new d seen does) (sym none) (record { world = p.world; at = p.at; left = p.stands; is = p.is })
 
+pub hidden_finished : (old new : Stored) (id : SessionId) → Finishes old new id → KeepsHidden old new
+hidden_finished old new id fin = hidden_as old (record old { stores = new.stores; sessions = new.sessions; verified = new.verified }) new fin.rest (record { groups = refl; hidden = refl })
+
 -- what is stored with a ticket drawn
 
 module _ (t mid : Stored) (id : SessionId) (ready : Ready) (draws : Draws t mid id ready) where
@@ -211,6 +216,12 @@ module _ (t mid : Stored) (id : SessionId) (ready : Ready) (draws : Draws t mid 
     doubt = is.doubt;
     time = subst (λ (z : Stored). KeepsTime z.clock a.now a.added a.round a.sets a.settings) (sym draws.rest) is.time;
   }
+
+  hidden_drawn : KeepsHidden t mid
+  hidden_drawn = hidden_as t (record t { stores = mid.stores; next = t.next + 1 }) mid draws.rest (record { groups = refl; hidden = refl })
+
+  hidden_before : KeepsHidden t (record mid { next = t.next })
+  hidden_before = record { groups = hidden_drawn.groups; hidden = hidden_drawn.hidden }
 
   -- as if it weren't
   stored_before : (a : Tier) → IsStoredAs t a → IsStoredAs (record mid { next = t.next }) a
@@ -275,7 +286,8 @@ module _ (laws : AreLaws) (numbers : NumberLaw) (changes : ChangeLaw) (t mid new
         (subst (λ z. IsPerformed z after (λ w'. AppliesDrawn s w w' reply)) (sym new_is)
         (performed_behind mid before after w (with_ticket w.tier) now.there (λ w'. AppliesDrawn s w w' reply) at now.told called.shares is.waits
         (stored_drawn t mid id ready draws w.tier is.stored)
-        (rows_drawn t mid id ready draws ∙ is.shows ∙ sym stays.same) stays.stands
+        (rows_drawn t mid id ready draws ∙ is.shows ∙ sym stays.same)
+        (hides_then t mid w now.there.history (hidden_drawn t mid id ready draws) is (around_longer w (AppliesOnce (sealed_own w.tier s) [] result) now.there.history (once_longer (sealed_own w.tier s) [] result) call.history)) stays.stands
         (executes (behind w (with_ticket w.tier) now.there after) reply told
         (weaker_call (AppliesOnce (sealed_own w.tier s) [] result) (AppliesOnce (sealed_own w.tier s) [] told) w (behind w (with_ticket w.tier) now.there after) same call) tier answer)))
 
@@ -299,6 +311,7 @@ module _ (laws : AreLaws) (numbers : NumberLaw) (changes : ChangeLaw) (t mid new
         (last_at_once w.tier.log w.tier.unsettled (sealed_own w.tier s) (none_met w.tier.groups s.own w.tier.unsettled is.stands.catalog.apart on_own later) is.waits)
         (stored_finished fin)
         (rows_then laws.commit numbers t new w id s sound is has (shown_state now.there.history a) (ap (λ (z : Stored). z.schema) fin.rest ∙ ap (λ (z : Stored). z.schema) draws.rest) (stores_finished fin) leads)
+        (hides_then t new w now.there.history (hidden_then t mid new (hidden_drawn t mid id ready draws) (hidden_finished mid new id fin)) is (around_longer w (AppliesOnce (sealed_own w.tier s) [] result) now.there.history (once_longer (sealed_own w.tier s) [] result) around))
         stands
         (executes (behind w a now.there after) reply result call tier answer))
       where
@@ -338,7 +351,7 @@ module _ (laws : AreLaws) (numbers : NumberLaw) (changes : ChangeLaw) (t mid new
           at = behind_at w a before after now.there at now.told called.shares;
           left = subst (λ z. CommitIsInDoubt z (record { ticket = t.next; session = id; of = Commit (open_ops id (seen_all mid.sessions)); entered = ready.entered }) w') (sym new_is) (record {
             was = w;
-            stands = stands_still t (record mid { next = t.next }) w is (stored_before t mid id ready draws w.tier is.stored) (rows_drawn t mid id ready draws);
+            stands = stands_still t (record mid { next = t.next }) w is (stored_before t mid id ready draws w.tier is.stored) (rows_drawn t mid id ready draws) (hidden_before t mid id ready draws);
             unshared = unshared;
             session = s;
             has = has_drawn t mid id ready draws s has;
@@ -403,6 +416,7 @@ refused_by numbers t id sound some on s has w is refused.Memory broken = inr (re
 -- no ticket is left, or memory was wanting
 pub undrawn : (t new : Stored) → Rooms t new → (w : World) → StandsFor t w → StandsFor new w
 undrawn t new rooms w is = stands_still t new w is (stored_same w.tier is.stored) rows_same
+    (hidden_as t (record t { stores = new.stores }) new rooms.rest (record { groups = refl; hidden = refl }))
   where
     rows_same : rows_of new ≡ rows_of t
     rows_same = ap (λ (z : Stored). Rattle.group_store.specs.Shown.shown_by z.schema new.stores.items) rooms.rest ∙ same_shown t.schema t.stores.items new.stores.items rooms.stores

@@ -33,13 +33,14 @@ use Rattle.session_engine.specs.Changing.{Changed, ChangesUnwritten, Holds, Hold
 use Rattle.stored_tier.specs.Performing.{IsPerformed, StandsFor, reply_of}
 use Rattle.stored_tier.specs.Sites.{IsAt}
 use Rattle.outside.specs.Sites.{SiteState}
-use Rattle.stored_tier.specs.Stored.{HasSession, IsSound, IsStoredAs, IsVerified, rows_of, without_list}
+use Rattle.stored_tier.specs.Stored.{HasSession, IsSound, IsStoredAs, IsVerified, KeepsHidden, rows_of, without_list}
 use Rattle.statement_uses.specs.Uses.{HaveUses, roots_of_ops}
 use Rattle.statement_uses.proofs.UseLaws.{ops_are}
 use Rattle.tier_base.specs.declared.code.Code.TheVariants as code
+use Rattle.stored_tier.proofs.HiddenRows.{hidden_as, hidden_then}
 use Rattle.stored_tier.proofs.QuietLaws.{at_still, its_session, stands_behind, stands_still}
 use Rattle.session_engine.proofs.SeenStates.{sees}
-use Rattle.session_engine.proofs.TouchedLaws.{rows_touched}
+use Rattle.session_engine.proofs.TouchedLaws.{hidden_touched, rows_touched}
 use Rattle.session_engine.proofs.UsedStored.{distinct_keys, stored_touched}
 use Rattle.stored_tier.proofs.OwnSeen.{NumberLaw, any_map}
 use Rattle.stored_tier.proofs.SessionLaws.{ChangeLaw, open_unheld, session_changed}
@@ -94,13 +95,20 @@ rows_same old new rest = ap rows_of rest
 pub rows_used : (t new : Stored) (id : SessionId) (ops : List Op) → HoldsUsed t new id ops → rows_of new ≡ rows_of t
 rows_used t new id ops used = rows_touched used.held new used.uses used.touches ∙ rows_same t used.held used.holds.rest
 
+-- groups and their hidden rows stay
+pub hidden_same : (old new : Stored) → new ≡ record old { sessions = new.sessions } → KeepsHidden old new
+hidden_same old new rest = hidden_as old (record old { sessions = new.sessions }) new rest (record { groups = refl; hidden = refl })
+
+pub hidden_used : (t new : Stored) (id : SessionId) (ops : List Op) → HoldsUsed t new id ops → KeepsHidden t new
+hidden_used t new id ops used = hidden_then t used.held new (hidden_same t used.held used.holds.rest) (hidden_touched used.held new used.uses used.touches)
+
 -- memory is wanting
 pub wanting_still : (new : Stored) (site : SiteState) (change : Change) (s : Session) (w : World) → IsAt site w → StandsFor new w → IsPerformed new site (λ w'. ChangesUnwritten change s w w' (faulty code.Memory))
 wanting_still new site change s w at is = record { world = w; at = at; stands = is; is = (inr (refl, refl), record { journal = refl; schema = refl }) }
 
 pub unheld : (t new : Stored) (w : World) → HoldsNothing t new → StandsFor t w → StandsFor new w
 unheld t new w holds is =
-    stands_still t new w is (subst (λ x. IsStoredAs x w.tier) (sym holds.rest) (open_unheld t new.sessions w.tier is.stored holds.seen)) (rows_same t new holds.rest)
+    stands_still t new w is (subst (λ x. IsStoredAs x w.tier) (sym holds.rest) (open_unheld t new.sessions w.tier is.stored holds.seen)) (rows_same t new holds.rest) (hidden_same t new holds.rest)
 
 -- a session may write so
 pub may_write : OverIsApplied → NumberLaw → (t new : Stored) (w : World) (s : Session) (id : SessionId) (ops : List Op) → IsSound t → IsVerified t → StandsFor t w → HasSession t id s → IsUnbroken t id ops → Holds t new id ops
@@ -133,7 +141,7 @@ changed_done over_law number_law change_law law t new site w s id change p (Ok r
       at = at_still site w after at;
       stands = stands_behind t new w after is is.waits
           (stored_written change_law t new w s id p.ops (seen_by s w.history w.tier) sound is has used (uses_seen over_law number_law t new w s id p.ops sound verified is has used))
-          (rows_used t new id p.ops used) stays;
+          (rows_used t new id p.ops used) (hidden_used t new id p.ops used) stays;
       is = (prepared.leads (with_tier after w) reply (changes_done s p.table p.ops w (with_tier after w) reply (no_insert p.ops changes) quiet), record { journal = refl; schema = refl });
     }
 changed_done over_law number_law change_law law t new site w s id change p (Err (refused.Rule rule)) sound verified at is has changes unbroken prepared changed = absurd changed

@@ -43,7 +43,7 @@ use Rattle.stored_tier.specs.declared.tier.Tier.{Tier as Stored}
 use Rattle.session_engine.specs.Committing.{SparesHidden, StoresCommit, are_deferred, bare, bare_all, commit_answer, commit_fault, ops_at}
 use Rattle.stored_tier.specs.Lists.{AreHiding}
 use Rattle.stored_tier.specs.Performing.{Executes, StandsFor}
-use Rattle.stored_tier.specs.Stored.{AreKept, AreWhole, HasSession, IsSound, IsStoredAs, IsVerified, are_later, named_where_cached, rows_of}
+use Rattle.stored_tier.specs.Stored.{AreKept, AreWhole, HasSession, IsSound, IsStoredAs, IsVerified, KeepsHidden, are_later, named_where_cached, rows_of}
 use Rattle.group_catalog.specs.Catalogs.{is_plain}
 use Rattle.session_engine.proofs.KindLaws.{bare_deferred, deferred_not}
 use Rattle.session_engine.proofs.CommittedStores.{bare_like, committed_like, hiding_ops, like_bare}
@@ -53,6 +53,7 @@ use Rattle.pending_writes.specs.Noting.{TellsWriters}
 use Rattle.stored_tier.specs.Stored.{first_unsettled}
 use Rattle.stored_tier.proofs.WriterLaws.{writers_told}
 use Rattle.stored_tier.proofs.QuietLaws.{its_session, stands_still}
+use Rattle.stored_tier.proofs.HiddenRows.{hides_still}
 use Rattle.stored_tier.proofs.OwnSeen.{NumberLaw, own_found}
 use Rattle.stored_tier.proofs.SoundParts.{housed_exchanged}
 use Rattle.stored_tier.proofs.StandingLaws.{last_more}
@@ -299,20 +300,22 @@ module _ (law : CommitLaw) (numbers : NumberLaw) (t new : Stored) (w : World) (i
       ∙ ops_shown t.schema w.tier.groups t.directory s.own (bare_all t.stores.items) n bare_housed bare_are (whole_bare t.stores.items sound.whole) through
       (ap (applied_all s.own) (shown_bare t.schema t.stores.items ∙ is.shows) ∙ leads)
 
-  pub stands_then : commit_fault s w.tier ≡ None → IsStoredAs new (commit_answer s w.tier).0 → StoresCommit t (open_ops id (seen_all t.sessions)) new.stores.items → StandsFor new (with_tier (commit_answer s w.tier).0 w)
-  stands_then none stored commit =
+  pub stands_then : commit_fault s w.tier ≡ None → IsStoredAs new (commit_answer s w.tier).0 → StoresCommit t (open_ops id (seen_all t.sessions)) new.stores.items → KeepsHidden t new → StandsFor new (with_tier (commit_answer s w.tier).0 w)
+  stands_then none stored commit hidden =
       let own = takes none in
       record {
         stored = stored;
         shows = rows_then (shown_state w.history (commit_answer s w.tier).0) (sym stored.schema ∙ is.stored.schema) commit own.leads;
+        hides = hides_still t new w.history hidden is.hides;
         stands = own.stands;
         waits = last_more w.tier.log w.tier.unsettled (sealed_own w.tier s) is.waits;
       }
 
-  pub stays : IsStoredAs new w.tier → bare_all new.stores.items ≡ bare_all t.stores.items → StandsFor new w
-  stays stored bares =
+  pub stays : IsStoredAs new w.tier → bare_all new.stores.items ≡ bare_all t.stores.items → KeepsHidden t new → StandsFor new w
+  stays stored bares hidden =
       stands_still t new w is stored
       (ap (λ defs. shown_by defs new.stores.items) (sym stored.schema ∙ is.stored.schema) ∙ same_shown t.schema t.stores.items new.stores.items bares)
+      hidden
 
   some_own : (open_ops id (seen_all t.sessions) ≡ [] → ⊥) → s.own ≡ [] → ⊥
   some_own some e = some (own_is ∙ e)

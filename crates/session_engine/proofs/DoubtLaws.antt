@@ -31,14 +31,17 @@ use Rattle.cache_tier.specs.Worlds.{BankCall, World}
 use Rattle.cache_tier.specs.declared.reply.Note.{Note}
 use Rattle.cache_tier.specs.declared.reply.Reply.{Reply}
 use Rattle.cache_tier.specs.Events.{StaysShown, at_history, with_tier}
+use Rattle.cache_tier.specs.GoesOn.{IsLonger}
 use Rattle.cache_tier.specs.StandingBetween.{AreReadAt, Stands}
 use Rattle.order_laws.specs.Commits.{KeepsCommitOrder}
 use Rattle.stored_tier.specs.declared.tier.Tier.{Tier as Stored}
 use Rattle.stored_tier.specs.Lists.{AreListed}
 use Rattle.stored_tier.specs.Performing.{StandsFor}
 use Rattle.stored_tier.specs.Sites.{IsAt}
-use Rattle.stored_tier.specs.Stored.{IsSound, IsStoredAs, KeepsTime, are_later, rows_of}
+use Rattle.stored_tier.specs.Stored.{IsSound, IsStoredAs, KeepsHidden, KeepsTime, are_later, rows_of}
 use Rattle.stored_tier.proofs.BankLaws.{behind, behind_at, call_behind, told_behind}
+use Rattle.stored_tier.proofs.HiddenRows.{hidden_as, hides_then}
+use Rattle.stored_tier.proofs.LongerLaws.{around_longer, once_longer}
 use Rattle.stored_tier.proofs.OwnSeen.{NumberLaw, own_found}
 use Rattle.stored_tier.proofs.QuietLaws.{its_session}
 use Rattle.stored_tier.proofs.SessionLaws.{ChangeLaw, session_changed}
@@ -49,6 +52,7 @@ use Rattle.session_engine.specs.Doubting.{CommitIsInDoubt, IsEnded, IsInDoubt, I
 use Rattle.session_engine.specs.Settling.{Forgets, end_of, note_of}
 use Rattle.session_engine.specs.declared.doubt.Doubt.{Doubt}
 use Rattle.session_engine.specs.declared.doubt.Doubted.{Doubted}
+use Rattle.session_engine.proofs.AtOnceDone.{hidden_finished}
 use Rattle.session_engine.proofs.AtOnceLaws.{AreLaws, came_leads, came_stands, came_to, drawn, none_came, stands_last, unused}
 use Rattle.session_engine.proofs.CommitLaws.{groups_kept}
 use Rattle.session_engine.proofs.CommitPerformed.{own_through, rows_then}
@@ -177,9 +181,13 @@ module _ (laws : AreLaws) (numbers : NumberLaw) (changes : ChangeLaw) (t : Store
   stands_drawn = record {
     stored = stored;
     shows = x.stands.shows ∙ sym took.same;
+    hides = x.stands.hides;
     stands = took.stands;
     waits = x.stands.waits;
   }
+
+  hidden_drawn : (new : Stored) → KeepsHidden t new → KeepsHidden (record t { next = d.ticket }) new
+  hidden_drawn new keeps = record { groups = keeps.groups; hidden = keeps.hidden }
 
   abbrev pub in_doubt : Doubtful
   in_doubt = record { ticket = was.tier.next; session = s.label; of = ACommit }
@@ -194,6 +202,9 @@ module _ (laws : AreLaws) (numbers : NumberLaw) (changes : ChangeLaw) (t : Store
   module _ (h : List Entry) (more : CameBy w.shared w.history h) where
     abbrev pub around : Around was.shared (FailedStep own_sealed) was.history h
     around = joined was.shared own_sealed was.history w.history h x.call.history (subst (λ tables. CameBy tables w.history h) shared_is more)
+
+    pub longer : IsLonger was.history h
+    longer = around_longer was (FailedStep own_sealed) h (once_longer own_sealed [] (Err Failed)) around
 
     pub stands_still_in : StandsInDoubt was h
     stands_still_in = in_doubt_stands laws was s x.stands.stands x.unshared there room later x.on h around
@@ -291,6 +302,7 @@ module _ (laws : AreLaws) (numbers : NumberLaw) (changes : ChangeLaw) (t : Store
       stored = stored_finished fin;
       shows = rows_then laws.commit numbers t new (with_tier (with_ticket was.tier) was) d.session s sound stands_drawn x.has (shown_state h (committed own_sealed s.label (with_ticket was.tier)))
           (ap (λ (z : Stored). z.schema) fin.rest) fin.stores (ap (applied_all s.own) took.same ∙ leads_in h more comes);
+      hides = hides_then (record t { next = d.ticket }) new was h (hidden_drawn new (hidden_finished t new d.session fin)) x.stands (longer h more);
       stands = stands_with (committed own_sealed s.label (with_ticket was.tier)) h was v (stands_in h more comes);
       waits = last_at_once was.tier.log was.tier.unsettled own_sealed (none_met was.tier.groups s.own was.tier.unsettled x.stands.stands.catalog.apart x.on later) x.stands.waits;
     }
@@ -304,6 +316,7 @@ module _ (laws : AreLaws) (numbers : NumberLaw) (changes : ChangeLaw) (t : Store
         record {
           stored = stored_forgot f;
           shows = ap (λ (z : Stored). rows_of z) f.rest ∙ x.stands.shows ∙ sym (rest.same ∙ out.same);
+          hides = hides_then (record t { next = d.ticket }) new was h (hidden_drawn new (hidden_as t (record t { sessions = new.sessions }) new f.rest (record { groups = refl; hidden = refl }))) x.stands (longer h more);
           stands = stands_with (ends s (with_ticket was.tier)) h was v rest.stands;
           waits = x.stands.waits;
         }

@@ -57,12 +57,14 @@ use Rattle.stored_tier.specs.Performing.{AreLast, IsCalm, IsCaused, IsPerformed,
 use Rattle.session_engine.proofs.WaitingLaws.{waits_split}
 use Rattle.stored_tier.specs.Sites.{IsAt}
 use Rattle.outside.specs.Sites.{SiteState}
-use Rattle.stored_tier.specs.Stored.{HasSession, IsSound, IsStoredAs, IsVerified, rows_of, without_list}
+use Rattle.stored_tier.specs.Stored.{HasSession, HidesRows, IsSound, IsStoredAs, IsVerified, rows_of, without_list}
 use Rattle.stored_tier.proofs.BankLaws.{behind, call_behind, told_behind}
-use Rattle.session_engine.proofs.ChangedLaws.{WrittenLaw, rows_used, stored_written, through_seen, unheld, uses_seen}
+use Rattle.session_engine.proofs.ChangedLaws.{WrittenLaw, hidden_used, rows_used, stored_written, through_seen, unheld, uses_seen}
 use Rattle.session_engine.proofs.InsertLaws.{seen_schema}
 use Rattle.session_engine.proofs.InsertedLaws.{EntriesLaw, IsLeftIn, KnowsIn, PendingLaw, asked, behind_call}
 use Rattle.session_engine.proofs.OthersLaws.{only_reads}
+use Rattle.stored_tier.proofs.HiddenRows.{hides_later, hides_then}
+use Rattle.stored_tier.proofs.LongerLaws.{around_longer, row_longer}
 use Rattle.stored_tier.proofs.QuietLaws.{calm_by, its_session}
 use Rattle.stored_tier.proofs.OwnSeen.{NumberLaw, any_map, own_found}
 use Rattle.stored_tier.proofs.SessionLaws.{ChangeLaw}
@@ -117,7 +119,8 @@ stays_behind : AroundLaw → (new : Stored) (before after : SiteState) (w : Worl
     → does (behind w w.tier c.held after) → IsPerformed new after does
 stays_behind law new before after w t key result does at is apart c done =
     let stays = law w c.held.history is.stands apart (only_reads w.shared (TellsRow t key result) w.history c.held.history (row_reads t key result) (c.call w.tier).history) in
-    performed_behind new before after w w.tier c.held does at c.told c.shares is.waits is.stored (is.shows ∙ sym stays.same) stays.stands done
+    performed_behind new before after w w.tier c.held does at c.told c.shares is.waits is.stored (is.shows ∙ sym stays.same)
+    (hides_later new w c.held.history is (around_longer w (TellsRow t key result) c.held.history (row_longer t key result) (c.call w.tier).history)) stays.stands done
 
 -- the part of the line
 inserts_by : (s : Session) (change : Change) (w w' : World) (p : Prepared) (t : TableId) (row : List Value) (reply : Reply) → IsPrepared s change w p → p.ops ≡ Insert t row ∷ [] → has_key_in (seen_by s w.history w.tier) t row ≡ false → StaysWritten w w' → Finds s t row w w' reply → ChangesUnwritten change s w w' reply
@@ -156,10 +159,10 @@ answer_refused law new before after w s change p t row found has rule at is apar
 pub answer_taken : AroundLaw → WrittenLaw → (new : Stored) (before after : SiteState) (w : World) (s : Session) (change : Change) (p : Prepared) (t : TableId) (row : List Value) (found : Option (List Value)) → IsAt before w → IsUnshared w → Stands w → AreLast w.tier.log w.tier.unsettled → rows_of new ≡ shown_state w.history w.tier → IsPrepared s change w p → p.ops ≡ Insert t row ∷ [] → has_key_in (seen_by s w.history w.tier) t row ≡ false
     → (c : Called before after w t (key_in (slice_get w.tier.schema t.0) row) (Ok found)) → has_key_in (written_on s (w.history ++ (c.call (written s t (Insert t row ∷ []) w).0).history.before) w.tier) t row ≡ false
     → apply_fault s w (Insert t row ∷ []) ≡ None
-    → IsStoredAs new (written s t (Insert t row ∷ []) w).0
+    → IsStoredAs new (written s t (Insert t row ∷ []) w).0 → HidesRows new c.held.history
     → (Stands (at_history c.held.history w) → MayWriteMore (at_history c.held.history w) s (Insert t row ∷ []))
     → IsPerformed new after (λ w'. ChangesUnwritten change s w w' (only (Done (rows_in t (Insert t row ∷ [])))))
-answer_taken around law new before after w s change p t row found at apart stands waits shows prepared ops hidden c asked fault stored may =
+answer_taken around law new before after w s change p t row found at apart stands waits shows prepared ops hidden c asked fault stored hides may =
     let ins = Insert t row ∷ [] in
     let done = written s t ins w in
     let stays = around w c.held.history stands apart (only_reads w.shared (TellsRow t (key_in (slice_get w.tier.schema t.0) row) (Ok found)) w.history c.held.history (row_reads t (key_in (slice_get w.tier.schema t.0) row) (Ok found)) (c.call w.tier).history) in
@@ -167,7 +170,7 @@ answer_taken around law new before after w s change p t row found at apart stand
     let after_law = law later s t ins stays.stands (may stays.stands) in
     let tiers : (written s t ins later).0 ≡ done.0 = ap (λ st. with_session s.label (with_writes ins) (after_writes over ins (all_over s.own st) w.tier)) stays.same in
     performed_behind new before after w done.0 c.held (λ w'. ChangesUnwritten change s w w' (only (Done (rows_in t (Insert t row ∷ []))))) at c.told c.shares waits stored
-    (shows ∙ sym stays.same ∙ sym after_law.same ∙ ap (shown_state c.held.history) tiers)
+    (shows ∙ sym stays.same ∙ sym after_law.same ∙ ap (shown_state c.held.history) tiers) hides
     (subst (λ a. Stands (with_tier a later)) tiers after_law.stands)
     (inserts_by s change w (behind w done.0 c.held after) p t row (only (Done (rows_in t (Insert t row ∷ [])))) prepared ops hidden (record { journal = refl; schema = refl })
     (record {
@@ -309,7 +312,8 @@ module _ (over_law : OverIsApplied) (numbers : NumberLaw) (changes : ChangeLaw) 
         subst (λ r. IsPerformed new after (λ w'. ChangesUnwritten change s w w' r)) (sym says)
         (answer_taken around law new before after w s change p weighed.table weighed.row found at apart is.stands is.waits (rows_used t new id ins used ∙ is.shows) prepared weighed.is hidden c
         (told (written s weighed.table ins w).0 ∙ e) (ap rule_of_apply unbroken)
-        (stored_written changes t new w s id ins (seen_by s w.history w.tier) sound is has used (uses_seen over_law numbers t new w s id ins sound noted is has used)) may)
+        (stored_written changes t new w s id ins (seen_by s w.history w.tier) sound is has used (uses_seen over_law numbers t new w s id ins sound noted is has used))
+        (hides_then t new w c.held.history (hidden_used t new id ins used) is (around_longer w (TellsRow weighed.table its_key (Ok found)) c.held.history (row_longer weighed.table its_key (Ok found)) (c.call w.tier).history)) may)
 
     free : (result : Result Reply Refused) (fault : Option Rule) → has_row x.known found ≡ false → TellsRule fault (broken_by_all ins (seen_by s w.history w.tier)) → TakenFree t new id p fault result → IsPerformed new after (λ w'. ChangesUnwritten change s w w' (reply_of result))
     free result (Some rule) e tells taken_in =

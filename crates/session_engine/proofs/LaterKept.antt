@@ -28,7 +28,7 @@ use Rattle.cache_tier.specs.Worlds.{Passes, World}
 use Rattle.cache_tier.specs.declared.reply.Reply.{Reply}
 use Rattle.stored_tier.specs.declared.tier.Tier.{Tier as Stored}
 use Rattle.stored_tier.specs.Performing.{Executes, PerformsIn, PerformsInOver, StandsFor, reply_of}
-use Rattle.stored_tier.specs.Stored.{HasSession, IsSound, IsStoredAs}
+use Rattle.stored_tier.specs.Stored.{HasSession, IsSound, IsStoredAs, KeepsHidden}
 use Rattle.stored_tier.proofs.OverLaws.{answered_over, ended_over, flush_breaks, keeps_stays, keeps_tier}
 use Rattle.stored_tier.proofs.OwnSeen.{NumberLaw, number_found, own_found}
 use Rattle.session_engine.specs.Committing.{AnswersInWorlds, StoresOps, are_deferred, bare_all, commit_answer, commit_fault, sealed_next}
@@ -109,17 +109,17 @@ module _ {D : Type 0} (state : D → SiteState) (possible : D → ℕ → Held �
         )))
 
     -- it is refused behind that
-    pub unanswered_over : (new : Stored) (d : D) (why : Refused) → AnswersInWorlds t new id commit_fault commit_answer (Err why) → StoresOps t new id (Err why) → PerformsInOver state possible t new k k' d d id (Executes statement.Commit) (Err why)
-    unanswered_over new d why answers bares = stayed_over state possible t new k k' d id why kept (λ s has w is keeps. by s has w is why (answers w s is has) bares)
+    pub unanswered_over : (new : Stored) (d : D) (why : Refused) → AnswersInWorlds t new id commit_fault commit_answer (Err why) → StoresOps t new id (Err why) → KeepsHidden t new → PerformsInOver state possible t new k k' d d id (Executes statement.Commit) (Err why)
+    unanswered_over new d why answers bares hidden = stayed_over state possible t new k k' d id why kept (λ s has w is keeps. by s has w is why (answers w s is has) bares)
       where
         by : (s : Session) → HasSession t id s → (w : World) → StandsFor t w → (why : Refused) → Rattle.stored_tier.specs.Answering.Replies new w.tier (commit_fault s w.tier) (commit_answer s w.tier) (Err why) → bare_all new.stores.items ≡ bare_all t.stores.items
             → StandsFor new w × Executes statement.Commit s w w (reply_of (Err why))
-        by s has w is (refused.Rule rule) replies same = (stays law numbers t new w id s sound is has replies.1 same, refused_by law numbers t new w id s sound is has some deferred rule (broken_later s w rule replies.0))
-        by s has w is refused.Memory replies same = (stays law numbers t new w id s sound is has replies same, inr (refl, refl))
+        by s has w is (refused.Rule rule) replies same = (stays law numbers t new w id s sound is has replies.1 same hidden, refused_by law numbers t new w id s sound is has some deferred rule (broken_later s w rule replies.0))
+        by s has w is refused.Memory replies same = (stays law numbers t new w id s sound is has replies same hidden, inr (refl, refl))
 
     -- it is done, and its entry is recorded
     module _ (new : Stored) (k'' : Option TierJournal) (d d' : D) (durable : Bool) (reply : Reply) (fits : is_full_draft draft ≡ false) (durable_is : (s : Session) → HasSession t id s → durable ≡ s.durable)
-        (answers : AnswersInWorlds t new id commit_fault commit_answer (Ok reply)) (bares : StoresOps t new id (Ok reply)) where
+        (answers : AnswersInWorlds t new id commit_fault commit_answer (Ok reply)) (bares : StoresOps t new id (Ok reply)) (hidden : KeepsHidden t new) where
       written_in : (stop : Option Reply) → ((e : JournalEntry) → WritesDraft state possible k' k'' d d' draft e stop (Records durable e)) → (s : Session) → HasSession t id s → (w : World) → w.moment ≡ (state d).moment → StandsFor t w → KeepsOver state possible d k' w
           → IsWrittenOver state possible k'' d d' stop (Records s.durable (Commits (sealed_own w.tier s))) w
       written_in stop writes s has w now is keeps =
@@ -137,7 +137,7 @@ module _ {D : Type 0} (state : D → SiteState) (possible : D → ℕ → Held �
           let x = written_in None writes s has w at.moment is here in
           let said = answers w s is has in
           let it = answered_over state possible new k'' d d' w (Records s.durable (Commits (sealed_own w.tier s))) (later_answer s w) reply at x cause.bank cause.shared
-          (stands_then law numbers t new w id s sound is has said.0 said.1 bares) refl refl said.2 in
+          (stands_then law numbers t new w id s sound is has said.0 said.1 bares hidden) refl refl said.2 in
           record {
             world = it.world;
             at = it.at;

@@ -45,8 +45,10 @@ use Rattle.cache_tier.proofs.ShownTables.{live_of}
 use Rattle.stored_tier.specs.declared.tier.Tier.{Tier as Stored}
 use Rattle.stored_tier.specs.Performing.{StandsFor, is_written, meets}
 use Rattle.stored_tier.specs.Sites.{IsAt}
-use Rattle.stored_tier.specs.Stored.{HasSession, IsSound, IsStoredAs, are_later, are_on, rows_of}
+use Rattle.stored_tier.specs.Stored.{HasSession, HidesRows, IsSound, IsStoredAs, KeepsHidden, are_later, are_on, rows_of}
 use Rattle.stored_tier.proofs.BankLaws.{TellsBehind, behind, behind_at, call_behind, told_behind}
+use Rattle.stored_tier.proofs.HiddenRows.{hidden_as, hides_then}
+use Rattle.stored_tier.proofs.LongerLaws.{alone_longer, around_longer}
 use Rattle.stored_tier.proofs.QuietLaws.{its_session, stands_still}
 use Rattle.stored_tier.proofs.StandingLaws.{last_at_once, performed_behind}
 use Rattle.session_engine.specs.Doubting.{IsEnded}
@@ -227,6 +229,9 @@ module _ (t mid : Stored) (drawn : mid ≡ record t { next = t.next + 1 }) where
   rows_mid : rows_of mid ≡ rows_of t
   rows_mid = ap (λ (z : Stored). rows_of z) drawn
 
+  hidden_mid : KeepsHidden t mid
+  hidden_mid = hidden_as t (record t { next = t.next + 1 }) mid drawn (record { groups = refl; hidden = refl })
+
   has_mid : (id : SessionId) (s : Session) → HasSession t id s → HasSession mid id s
   has_mid id s has = subst (λ (z : Stored). HasSession z id s) (sym drawn) (record { seen = has.seen; found = has.found; number = has.number; is = has.is })
 
@@ -279,6 +284,9 @@ module _ (t mid : Stored) (id : SessionId) (drawn : mid ≡ record t { next = t.
           answer = answer;
         }
 
+    hides_now : HidesRows mid now.there.history
+    hides_now = hides_then t mid w now.there.history (hidden_mid t mid drawn) is (around_longer w (CommitsAlone w.tier.next change result) now.there.history (alone_longer w.tier.next change result) around)
+
     -- the ticket alone is drawn
     not_come : (reply : Reply) → ((o n : List Entry) → CommitsAlone w.tier.next change result o n → Grows [] o n) → after_passed s w.tier.next around.own.ops result (with_ticket w.tier) ≡ with_ticket w.tier → reply ≡ passed_reply result
         → IsEnded mid None after (λ w'. PassesDrawn (change_seen change) s w w' reply)
@@ -287,7 +295,7 @@ module _ (t mid : Stored) (id : SessionId) (drawn : mid ≡ record t { next = t.
         ended_none mid None after (λ w'. PassesDrawn (change_seen change) s w w' reply) refl
         (performed_behind mid before after w (with_ticket w.tier) now.there (λ w'. PassesDrawn (change_seen change) s w w' reply) at now.told called.shares is.waits
         (stored_mid t mid drawn w.tier is.stored)
-        (rows_mid t mid drawn ∙ is.shows ∙ sym stays.same) stays.stands
+        (rows_mid t mid drawn ∙ is.shows ∙ sym stays.same) hides_now stays.stands
         (subst (λ (a : Tier). PassesDrawn (change_seen change) s w (behind w a now.there after) reply) same (executes reply answer)))
 
     -- it came
@@ -301,7 +309,7 @@ module _ (t mid : Stored) (id : SessionId) (drawn : mid ≡ record t { next = t.
         (performed_behind mid before after w (passed_tier w.tier around.own.ops) now.there (λ w'. PassesDrawn (change_seen change) s w w' reply) at now.told called.shares
         (last_at_once w.tier.log w.tier.unsettled (numbered w.tier.next around.own.ops) free is.waits)
         (stored_told t mid drawn w.tier around.own.ops is.stored)
-        (rows_mid t mid drawn ∙ is.shows ∙ sym here.same) here.stands
+        (rows_mid t mid drawn ∙ is.shows ∙ sym here.same) hides_now here.stands
         (subst (λ (a : Tier). PassesDrawn (change_seen change) s w (behind w a now.there after) reply) same (executes reply answer)))
 
   -- nobody knows
@@ -317,7 +325,7 @@ module _ (t mid : Stored) (id : SessionId) (drawn : mid ≡ record t { next = t.
         at = behind_at w a before after seen.there at seen.told called.shares;
         left = record {
           was = w;
-          stands = stands_still t (record mid { next = t.next }) w is (stored_before t mid drawn w.tier is.stored) (rows_mid t mid drawn);
+          stands = stands_still t (record mid { next = t.next }) w is (stored_before t mid drawn w.tier is.stored) (rows_mid t mid drawn) (record { groups = (hidden_mid t mid drawn).groups; hidden = (hidden_mid t mid drawn).hidden });
           unshared = unshared;
           session = s;
           has = has_mid t mid drawn id s has;

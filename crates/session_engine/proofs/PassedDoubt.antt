@@ -27,8 +27,10 @@ use Rattle.cache_tier.specs.StandingBetween.{AreReadAt}
 use Rattle.stored_tier.specs.declared.tier.Tier.{Tier as Stored}
 use Rattle.stored_tier.specs.Performing.{StandsFor}
 use Rattle.stored_tier.specs.Sites.{IsAt}
-use Rattle.stored_tier.specs.Stored.{IsSound, IsStoredAs, are_later}
+use Rattle.stored_tier.specs.Stored.{HidesRows, IsSound, IsStoredAs, are_later}
 use Rattle.stored_tier.proofs.BankLaws.{TellsBehind, behind, behind_at, call_behind, told_behind}
+use Rattle.stored_tier.proofs.HiddenRows.{hides_later}
+use Rattle.stored_tier.proofs.LongerLaws.{around_longer, passes_longer}
 use Rattle.stored_tier.proofs.QuietLaws.{its_session}
 use Rattle.stored_tier.proofs.StandingLaws.{last_at_once}
 use Rattle.session_engine.specs.Doubting.{IsEnded, IsInDoubt, WriteIsInDoubt}
@@ -127,6 +129,9 @@ module _ (t : Stored) (d : Doubt) (w : World) (sound : IsSound t) (x : WriteIsIn
     abbrev around : Around was.shared Failing was.history h
     around = joined was.shared Failing was.history w.history h x.call.history (subst (λ tables. CameBy tables w.history h) x.call.shared more)
 
+    hides_in : HidesRows t h
+    hides_in = hides_later (record t { next = d.ticket }) was h x.stands (around_longer was Failing h (passes_longer was.tier.next x.change x.ops (Err Failed)) around)
+
     stands_still_in : StandsUnknown was h
     stands_still_in = unknown_stands was s x.stands.stands x.unshared there room x.change x.off x.ops h around
 
@@ -142,6 +147,7 @@ module _ (t : Stored) (d : Doubt) (w : World) (sound : IsSound t) (x : WriteIsIn
       gone_for v = record {
         stored = stored_out;
         shows = x.stands.shows ∙ sym stays_out.same;
+        hides = hides_in;
         stands = stands_with (with_ticket was.tier) h was v stays_out.stands;
         waits = x.stands.waits;
       }
@@ -174,6 +180,7 @@ module _ (t : Stored) (d : Doubt) (w : World) (sound : IsSound t) (x : WriteIsIn
       came_for v = record {
         stored = stored_in;
         shows = x.stands.shows ∙ sym took.same;
+        hides = hides_in;
         stands = stands_with (passed_tier was.tier x.ops) h was v took.stands;
         waits = last_at_once was.tier.log was.tier.unsettled own
             (none_met_off was.tier.groups x.ops was.tier.unsettled (off_ops was x.stands.stands x.unshared room x.change x.off x.ops n around.before around.middle around.behind around.came_before writes around.came_behind) later)

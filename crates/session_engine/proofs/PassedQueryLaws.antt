@@ -47,6 +47,8 @@ use Rattle.stored_tier.specs.declared.tier.Tier.{Tier as Stored}
 use Rattle.stored_tier.specs.Performing.{IsCaused, IsPerformed, StandsFor, StaysWritten, reply_of}
 use Rattle.stored_tier.specs.Sites.{IsAt}
 use Rattle.stored_tier.proofs.BankLaws.{TellsBehind, behind, call_behind, told_behind}
+use Rattle.stored_tier.proofs.HiddenRows.{hides_later}
+use Rattle.stored_tier.proofs.LongerLaws.{read_longer}
 use Rattle.stored_tier.proofs.StandingLaws.{performed_behind, slots_kept}
 use Rattle.session_engine.specs.Selecting.{PassesQuery}
 use Rattle.session_engine.proofs.OthersLaws.{only_reads}
@@ -158,7 +160,8 @@ module _ (t : Stored) (asked : List TableId) (before after : SiteState) (result 
   still = around_goes_on w now.there.history stands.stands apart (only_reads w.shared (TakesSnapshot asked result) w.history now.there.history (snapshot_grows asked result) call.history)
 
   passed : (does : World → Type 0) → does mid → IsPerformed t after does
-  passed does is = performed_behind t before after w w.tier now.there does at now.told called.shares stands.waits stands.stored (stands.shows ∙ sym still.same) still.stands is
+  passed does is = performed_behind t before after w w.tier now.there does at now.told called.shares stands.waits stands.stored (stands.shows ∙ sym still.same)
+      (hides_later t w now.there.history stands (read_longer w (TakesSnapshot asked result) now.there.history (snapshot_grows asked result) call.history)) still.stands is
 
   -- the position of the copy
   reads : (query : ResolvedQuery) (reply : Reply) (told : Result ℕ BankError) → ((a b : List Entry) → TakesSnapshot asked result a b → TellsPosition told a b)

@@ -30,7 +30,7 @@ use Rattle.tier_statements.specs.Answering.{IsAnswerTo}
 use Rattle.statement_uses.specs.Uses.{HaveUses, roots_of_query, roots_of_rows}
 use Rattle.statement_uses.proofs.UseLaws.{rows_are}
 use Rattle.session_engine.specs.Selecting.{AnswersInEach, IsSelected, SelectsOver, SelectsUnwritten}
-use Rattle.session_engine.proofs.TouchedLaws.{rows_touched}
+use Rattle.session_engine.proofs.TouchedLaws.{hidden_touched, rows_touched}
 use Rattle.session_engine.proofs.UsedStored.{distinct_keys, stored_touched}
 use Rattle.session_engine.proofs.SeenStates.{sees}
 use Rattle.stored_tier.proofs.OwnSeen.{NumberLaw}
@@ -91,7 +91,7 @@ answered_done law over_law number_law t new site id s query w reply sound verifi
       at = at_still site w after at;
       stands = stands_behind t new w after is is.waits
           (stored_touched t new w.tier here.uses (λ g. roots_of_rows (sight s w) g.def.tree (keys_of query s w)) (used_rows (sight s w) (keys_of query s w)) is.stored (distinct_keys w is.stands) here.touches uses (λ g. refl) (λ g. rows_are (sight s w) (keys_of query s w) g))
-          (rows_touched t new here.uses here.touches) (law w (sight s w) (keys_of query s w) is.stands);
+          (rows_touched t new here.uses here.touches) (hidden_touched t new here.uses here.touches) (law w (sight s w) (keys_of query s w) is.stands);
       is = (
         inl (record { resolved = query; stands_for = refl; result = Ok answer.rows; answers = answer.answers; quiet = (refl, answer.is) }),
         record { journal = refl; schema = refl },

@@ -20,7 +20,8 @@ use Rattle.statement_uses.proofs.TouchLaws.{touched_form}
 use Rattle.session_engine.specs.Using.{Touches, Uses}
 use Rattle.stored_tier.specs.declared.tier.Tier.{Tier as Stored}
 use Rattle.stored_tier.specs.Lists.{AreHiding}
-use Rattle.stored_tier.specs.Stored.{AreKept, AreWhole, IsSound, IsVerified, rows_of}
+use Rattle.stored_tier.specs.Stored.{AreKept, AreWhole, IsSound, IsVerified, KeepsHidden, rows_of}
+use Rattle.stored_tier.proofs.HiddenRows.{hidden_as}
 use Rattle.stored_tier.proofs.SoundParts.{housed_exchanged}
 
 abbrev Row : Type 0
@@ -173,6 +174,9 @@ pub rows_touched : (t new : Stored) (uses : Uses) → Touches t new uses → row
 rows_touched t new uses touches =
     ap (λ (z : Stored). shown_by z.schema new.stores.items) touches.rest
     ∙ shown_like t.schema t.stores.items new.stores.items (all_like uses t.stores.items new.stores.items touches.stores)
+
+pub hidden_touched : (old new : Stored) (uses : Uses) → Touches old new uses → KeepsHidden old new
+hidden_touched old new uses touches = hidden_as old (record old { stores = new.stores }) new touches.rest (record { groups = refl; hidden = refl })
 
 pub sound_touched : (t new : Stored) (uses : Uses) → IsSound t → Touches t new uses → IsSound new
 sound_touched t new uses sound touches =

@@ -18,7 +18,7 @@ ghost use Rattle.cache_tier.specs.TierStates.{Session as OneSession, Tier as Abs
 ghost use Rattle.session_engine.specs.Committing.{AnswersInWorlds, CommitsOps, HaveRoomFor, SparesHidden, are_deferred, bare_all, commit_answer, commit_fault, is_deferred, ops_at, StoresOps};
 ghost use Rattle.stored_tier.specs.Lists.{hides_keys};
 ghost use Rattle.stored_tier.specs.Performing.{IsCalm, reply_of};
-ghost use Rattle.stored_tier.specs.Stored.{IsSound, IsStoredAs};
+ghost use Rattle.stored_tier.specs.Stored.{IsSound, IsStoredAs, KeepsHidden};
 
 use crate::noting::{is_verified_for, note_verified};
 use cache_tier::reply::Reply;
@@ -48,6 +48,7 @@ pub fn commit_writes(tier: &mut Tier, alloc: Global, id: SessionId) -> Result<Re
     requires deferred { are_deferred (groups_in tier.old.catalog) (open_ops id (seen_all tier.old.sessions)) ≡ true }
     ensures answers { AnswersInWorlds tier.old tier.new id commit_fault commit_answer result }
     ensures stores { StoresOps tier.old tier.new id result }
+    ensures hidden { KeepsHidden tier.old tier.new }
     ensures sound { IsSound tier.new }
     ensures calm { IsCalm (reply_of result) }
 {

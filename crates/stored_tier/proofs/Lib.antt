@@ -1,8 +1,10 @@
 pub mod AnewLaws
 pub mod BankLaws
 pub mod DrainLaws
+pub mod HiddenRows
 pub mod LaterLaws
 pub mod ListLaws
+pub mod LongerLaws
 pub mod NamingLaws
 pub mod NewSlotLaws
 pub mod OverLaws

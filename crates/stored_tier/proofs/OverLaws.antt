@@ -49,6 +49,7 @@ pub stands_written : (t : Stored) (w : World) (j : Journal) (faults moment : ℕ
 stands_written t w j faults moment is = record {
   stored = is.stored;
   shows = is.shows;
+  hides = is.hides;
   stands = stands_over_disk w j faults moment is.stands;
   waits = is.waits;
 }

@@ -24,7 +24,8 @@ use Rattle.stored_tier.specs.Answering.{Replies}
 use Rattle.stored_tier.specs.Performing.{AreLast, Executes, IsCalm, IsPerformed, KeepsSlots, PerformsIn, StandsFor, reply_of}
 use Rattle.stored_tier.specs.Sites.{IsAt}
 use Rattle.outside.specs.Sites.{SiteState}
-use Rattle.stored_tier.specs.Stored.{HasSession, IsStoredAs, KeepsTime, rows_of}
+use Rattle.stored_tier.specs.Stored.{HasSession, IsStoredAs, KeepsHidden, KeepsTime, rows_of}
+use Rattle.stored_tier.proofs.HiddenRows.{hides_still}
 use Rattle.stored_tier.proofs.SeenLaws.{find_seen}
 
 -- replies that tell no fault
@@ -63,16 +64,17 @@ at_still site w a at = record {
   shared = at.shared;
 }
 
-pub stands_behind : (old new : Stored) (w : World) (a : Tier) → StandsFor old w → AreLast a.log a.unsettled → IsStoredAs new a → rows_of new ≡ rows_of old → StaysShown w (with_tier a w) → StandsFor new (with_tier a w)
-stands_behind old new w a is waits stored rows stays = record {
+pub stands_behind : (old new : Stored) (w : World) (a : Tier) → StandsFor old w → AreLast a.log a.unsettled → IsStoredAs new a → rows_of new ≡ rows_of old → KeepsHidden old new → StaysShown w (with_tier a w) → StandsFor new (with_tier a w)
+stands_behind old new w a is waits stored rows hidden stays = record {
   stored = stored;
   shows = rows ∙ is.shows ∙ sym stays.same;
+  hides = hides_still old new w.history hidden is.hides;
   stands = stays.stands;
   waits = waits;
 }
 
-pub stands_still : (old new : Stored) (w : World) → StandsFor old w → IsStoredAs new w.tier → rows_of new ≡ rows_of old → StandsFor new w
-stands_still old new w is stored rows = record { stored = stored; shows = rows ∙ is.shows; stands = is.stands; waits = is.waits }
+pub stands_still : (old new : Stored) (w : World) → StandsFor old w → IsStoredAs new w.tier → rows_of new ≡ rows_of old → KeepsHidden old new → StandsFor new w
+stands_still old new w is stored rows hidden = record { stored = stored; shows = rows ∙ is.shows; hides = hides_still old new w.history hidden is.hides; stands = is.stands; waits = is.waits }
 
 -- the same with another note of what is verified
 pub stored_noted : (t : Stored) (b : Bool) (a : Tier) → IsStoredAs t a → IsStoredAs (record t { verified = b }) a
@@ -89,7 +91,7 @@ stored_noted t b a is = record {
 }
 
 pub stands_noted : (t : Stored) (b : Bool) (w : World) → StandsFor t w → StandsFor (record t { verified = b }) w
-stands_noted t b w is = stands_still t (record t { verified = b }) w is (stored_noted t b w.tier is.stored) refl
+stands_noted t b w is = stands_still t (record t { verified = b }) w is (stored_noted t b w.tier is.stored) refl (record { groups = refl; hidden = refl })
 
 pub session_noted : (t : Stored) (b : Bool) (id : SessionId) (s : Session) → HasSession t id s → HasSession (record t { verified = b }) id s
 session_noted t b id s has = record { seen = has.seen; found = has.found; number = has.number; is = has.is }
@@ -113,19 +115,19 @@ refusing new site fault part w rule broken at is = record {
 }
 
 -- what an answer that breaks no rule does, or the rule that is broken
-pub answered_quietly : (old new : Stored) (site : SiteState) (w : World) (fault : Option Rule) (answer : Answer) (result : Result Reply Refused) → IsAt site w → StandsFor old w → AreLast answer.0.log answer.0.unsettled → rows_of new ≡ rows_of old
+pub answered_quietly : (old new : Stored) (site : SiteState) (w : World) (fault : Option Rule) (answer : Answer) (result : Result Reply Refused) → IsAt site w → StandsFor old w → AreLast answer.0.log answer.0.unsettled → rows_of new ≡ rows_of old → KeepsHidden old new
     → (fault ≡ None → StaysShown w (with_tier answer.0 w)) → Replies new w.tier fault answer result
     → IsPerformed new site (λ w'. Tries (Unless fault (Quiet answer)) w w' (reply_of result))
-answered_quietly old new site w fault answer (Ok reply) at is waits rows stays replies = record {
+answered_quietly old new site w fault answer (Ok reply) at is waits rows hidden stays replies = record {
   world = with_tier answer.0 w;
   at = at_still site w answer.0 at;
-  stands = stands_behind old new w answer.0 is waits replies.1 rows (stays replies.0);
+  stands = stands_behind old new w answer.0 is waits replies.1 rows hidden (stays replies.0);
   is = inl (subst (λ f. Unless f (Quiet answer) w (with_tier answer.0 w) reply) (sym replies.0) (refl, replies.2));
 }
-answered_quietly old new site w fault answer (Err (refused.Rule rule)) at is waits rows stays replies =
-    refusing new site fault (Quiet answer) w rule replies.0 at (stands_still old new w is replies.1 rows)
-answered_quietly old new site w fault answer (Err refused.Memory) at is waits rows stays replies =
-    wanting new site (Unless fault (Quiet answer)) w at (stands_still old new w is replies rows)
+answered_quietly old new site w fault answer (Err (refused.Rule rule)) at is waits rows hidden stays replies =
+    refusing new site fault (Quiet answer) w rule replies.0 at (stands_still old new w is replies.1 rows hidden)
+answered_quietly old new site w fault answer (Err refused.Memory) at is waits rows hidden stays replies =
+    wanting new site (Unless fault (Quiet answer)) w at (stands_still old new w is replies rows hidden)
 
 pub refused_quietly : (new : Stored) (site : SiteState) (fault : Option Rule) (part : Part) (w : World) (e : Refused) → IsRefusedBy fault e → IsAt site w → StandsFor new w → IsPerformed new site (λ w'. Tries (Unless fault part) w w' (reply_of (Err e)))
 refused_quietly new site fault part w (refused.Rule rule) broken at is = refusing new site fault part w rule broken at is

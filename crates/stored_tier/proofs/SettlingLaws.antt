@@ -37,6 +37,7 @@ use Rattle.cache_tier.specs.declared.reply.Reply.{Reply}
 use Rattle.cache_tier.specs.Events.{StaysShown, at_history, settled_to}
 use Rattle.cache_tier.specs.StandingBetween.{Stands, live_groups_of}
 use Rattle.cache_tier.proofs.GroupTables.{live_table}
+use Rattle.cache_tier.proofs.HistoryKeeps.{follows_longer}
 use Rattle.group_catalog.specs.Catalogs.{groups_in}
 use Rattle.stored_tier.specs.declared.tier.Tier.{Tier as Stored}
 use Rattle.propagators.specs.Certainty.{KeepsCertain}
@@ -51,6 +52,7 @@ use Rattle.stored_tier.proofs.LaterLaws.{later_rest}
 use Rattle.pending_writes.specs.Noting.{TellsWriters}
 use Rattle.stored_tier.specs.Stored.{IsSound, IsStoredAs, are_later, first_unsettled, rows_of}
 use Rattle.stored_tier.proofs.BankLaws.{behind, told_behind}
+use Rattle.stored_tier.proofs.HiddenRows.{hidden_as, hides_then}
 use Rattle.stored_tier.proofs.OverLaws.{at_written, caused_broken, caused_turned, flush_breaks, keeps_called, never_both, stands_written, unsettled_kept}
 use Rattle.stored_tier.proofs.RoundLaws.{LeftLaw, is_left, round_seen, unsure_at}
 use Rattle.stored_tier.proofs.WriterLaws.{writers_rest}
@@ -164,10 +166,12 @@ applied laws t new before after few end tried round all sound w at stands apart 
     let bank = round_of w t new before few at.there now.there at.shared at.history stands.stored.unsettled now.is in
     let seen = round_seen laws.left w left now.there few 1 t.next rise bank in
     let x = stands.stands in
-    let stays = laws.shown w x bank.events now.there.history left w.tier.now
-    (laws.follow w.shared (live_tables (live_groups_of w.tier.groups)) x.flow.stand.over.backing.schema bank.events
+    let follows =
+    laws.follow w.shared (live_tables (live_groups_of w.tier.groups)) x.flow.stand.over.backing.schema bank.events
     w.history now.there.history w.tier.unsettled left x.flow.stand.over.backing (unshared_live w apart)
-    x.flow.stand.over.leaves bank.leads) in
+    x.flow.stand.over.leaves bank.leads in
+    let longer = follows_longer x.flow.stand.over.backing.schema (live_tables (live_groups_of w.tier.groups)) bank.events w.history w.tier.unsettled now.there.history left follows in
+    let stays = laws.shown w x bank.events now.there.history left w.tier.now follows in
     let applies : Applies w (behind w a now.there after) (round_stop w.tier end) = record {
       result = end;
       came = seen.came;
@@ -189,6 +193,7 @@ applied laws t new before after few end tried round all sound w at stands apart 
     (last_rest w.tier.log w.tier.unsettled (left_in bank.events) left (laws.left w.shared few w.tier.unsettled left w.history now.there.history bank) stands.waits)
     (stored_settled t new w.tier stands.stored tried)
     (rows_settled t new tried ∙ stands.shows ∙ sym stays.same)
+    (hides_then t new w now.there.history (hidden_as t (record t { unsettled = new.unsettled; clock = record t.clock { round = t.clock.now } }) new tried (record { groups = refl; hidden = refl })) stands (record { more = longer.0; is = longer.1 }))
     stays.stands
     applies
 

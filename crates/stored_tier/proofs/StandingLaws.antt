@@ -13,7 +13,7 @@ use Rattle.stored_tier.specs.declared.tier.Tier.{Tier as Stored}
 use Rattle.stored_tier.specs.Performing.{AreLast, IsPerformed, KeepsSlots, StandsFor, Waits, meets}
 use Rattle.stored_tier.specs.Sites.{IsAt}
 use Rattle.outside.specs.Sites.{SiteState}
-use Rattle.stored_tier.specs.Stored.{IsStoredAs, rows_of}
+use Rattle.stored_tier.specs.Stored.{HidesRows, IsStoredAs, rows_of}
 use Rattle.stored_tier.proofs.BankLaws.{behind, behind_at}
 
 -- the transactions that are unsettled are the last ones: behind a commit, and where some have left
@@ -112,11 +112,11 @@ stands_behind w a held seen x = stands_counted (with_tier a (at_history held.his
 
 -- the world behind a call, with this tier
 pub performed_behind : (new : Stored) (before after : SiteState) (w : World) (a : Tier) (held : Held) (does : World → Type 0) → IsAt before w → after.held ≡ Some held → after.shared ≡ before.shared → AreLast a.log a.unsettled
-    → IsStoredAs new a → rows_of new ≡ shown_state held.history a → Stands (with_tier a (at_history held.history w)) → does (behind w a held after) → IsPerformed new after does
-performed_behind new before after w a held does at told shares waits stored shows stands is = record {
+    → IsStoredAs new a → rows_of new ≡ shown_state held.history a → HidesRows new held.history → Stands (with_tier a (at_history held.history w)) → does (behind w a held after) → IsPerformed new after does
+performed_behind new before after w a held does at told shares waits stored shows hides stands is = record {
   world = behind w a held after;
   at = behind_at w a before after held at told shares;
-  stands = record { stored = stored; shows = shows; stands = stands_behind w a held after stands; waits = waits };
+  stands = record { stored = stored; shows = shows; hides = hides; stands = stands_behind w a held after stands; waits = waits };
   is = is;
 }
 

@@ -3,11 +3,16 @@
 
 use Rattle.std.specs.Prelude.{◌≡◌, ◌≤◌, List, [], ◌∷◌, Bool, true, false, ◌&&◌, ◌||◌, Option, Some, None}
 use Rattle.std.specs.Bool.{MatchBool}
-use Rattle.std.specs.FinMap.{contains_key, empty, len}
+use Rattle.std.specs.FinMap.{contains_key, empty, get, len}
+use Rattle.std.specs.Option.{option_and_then}
 use Rattle.row_types.specs.declared.value.Value.{Value}
 use Rattle.indexed_rows.specs.Rows.{Table}
 use Rattle.table_defs.specs.declared.definition.TableDef.{TableDef}
-use Rattle.instances.specs.Views.{kept_at}
+use Rattle.table_state.specs.declared.history.Entry.{Entry}
+use Rattle.table_state.specs.Histories.{state_at}
+use Rattle.table_state.specs.Tables.{TableState}
+use Rattle.instances.specs.declared.tree.Root.{Root}
+use Rattle.instances.specs.Views.{kept_at, root_rows}
 use Rattle.slot_rows.specs.SlotKeys.{RowsHeld}
 use Rattle.group_store.specs.Keeping.{primary_of}
 use Rattle.group_store.specs.Stores.{Kept}
@@ -65,3 +70,14 @@ AreHiding schema (g ∷ groups) stores [] = ⊥
 AreHiding schema (g ∷ groups) [] (h ∷ hidden) = ⊥
 AreHiding schema (g ∷ groups) (s ∷ stores) (h ∷ hidden) =
     IsHidingFor schema g s h × AreHiding schema groups stores hidden
+
+-- the root rows of a view of a state, where there is one
+abbrev pub view_roots : Option TableState → Root → Table
+view_roots None root = empty
+view_roots (Some s) root = root_rows s root
+
+-- the hidden root rows of a group are those of its view of the backing state at its position
+abbrev pub HidesView : List Entry → Group → Table → Type 0
+HidesView history g hidden =
+    (key row : List Value) → get hidden key ≡ Some row
+    → get (view_roots (option_and_then (state_at history) g.position) g.def.tree.root) key ≡ Some row

@@ -28,7 +28,7 @@ use Rattle.stored_tier.specs.Sites.{IsAt}
 use Rattle.outside.specs.Sites.{SiteState}
 use Rattle.tier_journal.specs.declared.journal.TierJournal.{TierJournal}
 use Rattle.kept_journal.specs.Keeping.{KeepsOver, is_broken}
-use Rattle.stored_tier.specs.Stored.{HasSession, IsStoredAs, ShowsRows}
+use Rattle.stored_tier.specs.Stored.{HasSession, HidesRows, IsStoredAs, ShowsRows}
 
 -- an operation of these is on the table
 abbrev pub is_written : List Op → TableId → Bool
@@ -53,11 +53,13 @@ pub record AreLast (log unsettled : List Sealed) : Type 0 where
   pub is : log ≡ settled ++ behind
   pub waits : Waits [] behind unsettled
 
--- The stored tier stands for the one of a world: what is stored is its own, the stored rows are what is shown, and the
--- abstract tier stands in its world. What is unsettled committed last, but for what was settled at once.
+-- The stored tier stands for the one of a world: what is stored is its own, the stored rows are what is shown, those
+-- that are hidden are rows of the backing state, and the abstract tier stands in its world. What is unsettled committed
+-- last, but for what was settled at once.
 pub record StandsFor (t : Stored) (w : World) : Type 0 where
   pub stored : IsStoredAs t w.tier
   pub shows : ShowsRows t w
+  pub hides : HidesRows t w.history
   pub stands : Stands w
   pub waits : AreLast w.tier.log w.tier.unsettled
 

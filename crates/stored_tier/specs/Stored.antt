@@ -4,6 +4,7 @@ use Rattle.std.specs.Prelude.{◌≡◌, ℕ, suc, List, [], ◌∷◌, All, Non
 use Rattle.std.specs.List.{list_all}
 use Rattle.tier_base.specs.declared.number.SessionId.{SessionId}
 use Rattle.table_defs.specs.declared.definition.TableDef.{TableDef}
+use Rattle.table_state.specs.declared.history.Entry.{Entry}
 use Rattle.table_state.specs.declared.history.Sealed.{Sealed}
 use Rattle.table_state.specs.declared.operation.Op.{Op}
 use Rattle.table_state.specs.Operations.{applied_all, table_of}
@@ -25,7 +26,8 @@ use Rattle.cache_tier.specs.Shown.{shown_state}
 use Rattle.cache_tier.specs.TierStates.{Session, SetState, Settings, Tier}
 use Rattle.cache_tier.specs.Worlds.{World}
 use Rattle.tier_statements.specs.Seen.{session_seen}
-use Rattle.stored_tier.specs.Lists.{AreHiding, AreListed}
+use Rattle.slot_rows.specs.SlotKeys.{RowsHeld}
+use Rattle.stored_tier.specs.Lists.{AreHiding, AreListed, HidesView, hides_keys}
 use Rattle.stored_tier.specs.Moments.{refreshed_in, set_seen}
 use Rattle.stored_tier.specs.declared.clock.Pace.{Pace}
 use Rattle.stored_tier.specs.declared.clock.TierClock.{TierClock}
@@ -74,6 +76,17 @@ rows_of t = shown_by t.schema t.stores.items
 -- they are what the cache shows
 abbrev pub ShowsRows : Stored → World → Type 0
 ShowsRows t w = rows_of t ≡ shown_state w.history w.tier
+
+-- the hidden root rows of each group that hides some are those of its view at its position of this history
+abbrev pub HidesRows : Stored → List Entry → Type 0
+HidesRows t history =
+    (k : ℕ) (g : Group) (h : RowsHeld) → slice_get (groups_in t.catalog) k ≡ Some g → hides_keys g ≡ true
+    → slice_get t.hidden.items k ≡ Some h → HidesView history g h.table
+
+-- groups and their hidden root rows stay
+pub record KeepsHidden (t new : Stored) : Type 0 where
+  pub groups : groups_in new.catalog ≡ groups_in t.catalog
+  pub hidden : new.hidden.items ≡ t.hidden.items
 
 -- the definitions at their places, where a table of no group has no name
 abbrev pub named_where_cached : List Group → List TableDef → List TableDef

@@ -21,7 +21,7 @@ use tier_statements::done;
 impl Tier {
     ghost use Rattle.stored_tier.specs.Answering.{Answers, AnswersIn, FindsSession};
     ghost use Rattle.stored_tier.specs.Performing.{IsCalm, reply_of};
-    ghost use Rattle.stored_tier.specs.Stored.{IsSound, rows_of};
+    ghost use Rattle.stored_tier.specs.Stored.{IsSound, KeepsHidden, rows_of};
 
     /// The number of the open session of a label.
     ///
@@ -49,6 +49,7 @@ impl Tier {
         ensures answers { Answers self.old self.new (λ a. open_fault a label.now)
             (λ a. open_answer a label.now options) result }
         ensures rows { rows_of self.new ≡ rows_of self.old }
+        ensures hidden { KeepsHidden self.old self.new }
         ensures sound { IsSound self.new }
         ensures calm { IsCalm (reply_of result) }
     {
@@ -71,6 +72,7 @@ impl Tier {
         requires { IsSound self.old }
         ensures answers { AnswersIn self.old self.new id (λ s a. None) (λ s a. close_answer a s.label) (Ok result) }
         ensures rows { rows_of self.new ≡ rows_of self.old }
+        ensures hidden { KeepsHidden self.old self.new }
         ensures sound { IsSound self.new }
         ensures calm { IsCalm result }
     {
@@ -85,6 +87,7 @@ impl Tier {
         requires { IsSound self.old }
         ensures answers { AnswersIn self.old self.new id (λ s a. None) (λ s a. (ends s a, only (Done 0))) (Ok result) }
         ensures rows { rows_of self.new ≡ rows_of self.old }
+        ensures hidden { KeepsHidden self.old self.new }
         ensures sound { IsSound self.new }
         ensures calm { IsCalm result }
     {
@@ -100,6 +103,7 @@ impl Tier {
         ensures answers { AnswersIn self.old self.new id (λ s a. None) (λ s a. flag_answer a s.label level)
             (Ok result) }
         ensures rows { rows_of self.new ≡ rows_of self.old }
+        ensures hidden { KeepsHidden self.old self.new }
         ensures sound { IsSound self.new }
         ensures calm { IsCalm result }
     {

@@ -7,19 +7,6 @@ use Rattle.group_engine.proofs.UnloadWhole.{whole_wanting}
 use Rattle.stored_tier.proofs.QuietLaws.{calm_refused}
 use Rattle.group_engine.proofs.unload_listed.unload_listed.Goals as goal
 
-pub returns-then-not-lists_shown-clause-performs : goal.returns-then-not-lists_shown-clause-performs
-returns-then-not-lists_shown-clause-performs g c = λ id all.
-    whole_wanting g.P.Disk.state g.P.Disk.possible c.args.tier.now c.args.tier.now c.args.journal.now c.args.site.now c.args.ready.now id c.args.aim.now all
-    (record {
-      beside = record { schema = refl; stale = refl; sessions = refl; unsettled = refl; writers = refl; next = refl; clock = refl };
-      groups = refl;
-      stores = refl;
-      hidden = refl;
-      visible = refl;
-      directory = refl;
-      verified = refl;
-    })
-
 pub returns-in-Err-clause-performs : goal.returns-in-Err-clause-performs
 returns-in-Err-clause-performs g c = λ id all.
     listed_refused g.P.Disk.state g.P.Disk.possible c.args.tier.now c.args.journal.now c.args.site.now c.args.ready.now id c.args.aim.now all c.requires.kind c.requires.sound c.in-Err.refused c.in-Err.ensures

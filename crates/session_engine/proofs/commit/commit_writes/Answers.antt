@@ -63,6 +63,11 @@ returns-clause-stores c =
     subst (λ (z : Stored). StoresCommit c.args.tier.now own z.stores.items) (sym c.note_verified.ensures.same) (commit_made c.args.tier.now own c.in_ok-ops.ops c.in_ok-entered.entered c.as_slice-3.result.now c.reserve_all.new.stores.items c.commit_ops.new.stores.items (c.in_ok-ops.ensures ∙ c.ops-2.ensures) c.as_slice-3.ensures c.in_ok-reserve_all.ensures.same
     (subst (λ stores. HaveEntered (groups_in c.args.tier.now.catalog) stores c.in_ok-ops.ops c.in_ok-entered.entered) c.as_slice.ensures.value c.in_ok-entered.ensures) c.commit_ops.ensures)
 
+pub returns-clause-hidden : goal.returns-clause-hidden
+returns-clause-hidden c =
+    let same = c.note_verified.ensures.same in
+    record { groups = ap (λ (t : Stored). groups_in t.catalog) same; hidden = ap (λ (t : Stored). t.hidden.items) same }
+
 pub returns-clause-calm : goal.returns-clause-calm
 returns-clause-calm c = calm_done c.args.tier.now.next c.done.result c.done.ensures
 

@@ -33,7 +33,7 @@ returns-then-is_full-clause-cause g c = calm_over c.args.journal.now (g.P.Disk.s
 pub returns-in-Err-commit_writes-clause-performs : goal.returns-in-Err-commit_writes-clause-performs
 returns-in-Err-commit_writes-clause-performs g c =
     unanswered_over g.P.Disk.state g.P.Disk.possible c.commit_shown_law.ensures c.label_law.ensures.number c.args.tier.now c.args.id c.requires.sound c.requires.some c.requires.deferred c.args.journal.now c.draft_commit.new.journal c.in-Ok.ensures.kept
-    c.in-Ok.draft c.in-Ok.ensures.draft c.commit_writes.new.tier c.args.site.now c.in-Err-commit_writes.refused c.in-Err-commit_writes.ensures.answers c.in-Err-commit_writes.ensures.stores
+    c.in-Ok.draft c.in-Ok.ensures.draft c.commit_writes.new.tier c.args.site.now c.in-Err-commit_writes.refused c.in-Err-commit_writes.ensures.answers c.in-Err-commit_writes.ensures.stores c.commit_writes.ensures.hidden
 
 pub returns-in-Err-commit_writes-clause-cause : goal.returns-in-Err-commit_writes-clause-cause
 returns-in-Err-commit_writes-clause-cause g c = calm_over c.args.journal.now (g.P.Disk.state c.args.site.now) _ (calm_refused c.in-Err-commit_writes.refused)
@@ -42,7 +42,7 @@ pub returns-in-Ok-record_draft-clause-performs : goal.returns-in-Ok-record_draft
 returns-in-Ok-record_draft-clause-performs g c =
     recorded g.P.Disk.state g.P.Disk.possible c.commit_shown_law.ensures c.label_law.ensures.number c.args.tier.now c.args.id c.requires.sound c.requires.some c.requires.deferred c.args.journal.now c.draft_commit.new.journal c.in-Ok.ensures.kept
     c.in-Ok.draft c.in-Ok.ensures.draft c.commit_writes.new.tier c.record_draft.new.journal c.args.site.now c.record_draft.new.disk c.is_durable-durable.result c.in-Ok-commit_writes.reply
-    (sym c.is_full.ensures ∙ c.if-is_full.false) c.is_durable-durable.ensures c.in-Ok-commit_writes.ensures.answers c.in-Ok-commit_writes.ensures.stores
+    (sym c.is_full.ensures ∙ c.if-is_full.false) c.is_durable-durable.ensures c.in-Ok-commit_writes.ensures.answers c.in-Ok-commit_writes.ensures.stores c.commit_writes.ensures.hidden
     c.in-Ok-record_draft.ensures.records c.in-Ok-record_draft.ensures.cause
 
 pub returns-in-Ok-record_draft-clause-cause : goal.returns-in-Ok-record_draft-clause-cause
@@ -54,7 +54,7 @@ pub returns-clause-performs : goal.returns-clause-performs
 returns-clause-performs g c =
     unrecorded g.P.Disk.state g.P.Disk.possible c.commit_shown_law.ensures c.label_law.ensures.number c.args.tier.now c.args.id c.requires.sound c.requires.some c.requires.deferred c.args.journal.now c.draft_commit.new.journal c.in-Ok.ensures.kept
     c.in-Ok.draft c.in-Ok.ensures.draft c.commit_writes.new.tier c.record_draft.new.journal c.args.site.now c.record_draft.new.disk c.is_durable-durable.result c.in-Ok-commit_writes.reply
-    (sym c.is_full.ensures ∙ c.if-is_full.false) c.is_durable-durable.ensures c.in-Ok-commit_writes.ensures.answers c.in-Ok-commit_writes.ensures.stores
+    (sym c.is_full.ensures ∙ c.if-is_full.false) c.is_durable-durable.ensures c.in-Ok-commit_writes.ensures.answers c.in-Ok-commit_writes.ensures.stores c.commit_writes.ensures.hidden
     c.in-Err-record_draft.fault c.in-Err-record_draft.ensures.records c.in-Err-record_draft.ensures.cause
 
 pub returns-clause-cause : goal.returns-clause-cause

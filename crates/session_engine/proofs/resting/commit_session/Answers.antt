@@ -15,7 +15,7 @@ returns-then-ops-eq0-clause-performs g c =
     unwritten_over g.P.Disk.state g.P.Disk.possible c.label_law.ensures.number c.args.tier.now _ c.args.journal.now c.args.site.now c.args.id (Ok c.rollback.result) c.requires
     (sym c.ops.ensures ∙ none_long c.ops.result.now c.if-ops-eq0.true)
     (λ s has w at is unshared. answered_quietly c.args.tier.now c.rollback.new.self site w None (ends s w.tier, only (Done 0)) (Ok c.rollback.result) at is is.waits
-    c.rollback.ensures.rows
+    c.rollback.ensures.rows c.rollback.ensures.hidden
     (λ none. c.session_law.ensures.ends w s is.stands (its_session c.args.tier.now w.tier c.args.id s is.stored has))
     (c.rollback.ensures.answers w.tier s is.stored has))
 
