@@ -1,5 +1,5 @@
 -- The rows that a cycle hides are root rows of the group's view.
-use Rattle.std.proofs.Common.{◌≡◌, ℕ, ◌⊎◌, inl, inr, Bool, true, false, cond, ◌&&◌, Option, Some, None, List, [], ◌∷◌, length, slice_get, refl, sym, ap, subst, ◌∙◌}
+use Rattle.std.proofs.Common.{◌≡◌, ℕ, ◌⊎◌, inl, inr, Bool, true, false, cond, ◌&&◌, Option, Some, None, List, [], ◌∷◌, slice_get, refl, sym, ap, subst, ◌∙◌}
 use Rattle.std.specs.FinMap as fm
 use Rattle.std.specs.Option.{option_and_then}
 use Rattle.row_types.specs.declared.value.Value.{Value}

@@ -1,9 +1,11 @@
 -- The own steps of calls put entries behind the history.
 use Rattle.std.proofs.Common.{inl, inr, ℕ, Bool, Option, Result, Ok, Err, List, [], ◌∷◌}
 use Rattle.row_types.specs.declared.value.Value.{Value}
+use Rattle.tier_base.specs.declared.number.Position.{Position}
 use Rattle.tier_base.specs.declared.number.TableId.{TableId}
 use Rattle.tier_base.specs.declared.number.Ticket.{Ticket}
 use Rattle.table_defs.specs.declared.definition.TableDef.{TableDef}
+use Rattle.table_state.specs.declared.footprint.RowKey.{RowKey}
 use Rattle.table_state.specs.declared.history.Entry.{Entry}
 use Rattle.table_state.specs.declared.history.Entry.TheVariants.{Definition, Foreign, Own}
 use Rattle.table_state.specs.declared.history.Sealed.{Sealed}
@@ -11,11 +13,13 @@ use Rattle.table_state.specs.Histories.{entry_of}
 use Rattle.evaluator.specs.declared.change.Change.{Change}
 use Rattle.instances.specs.declared.tree.Tree.{Tree}
 use Rattle.outside.specs.Bank.{AppliesOnce, Defines, TellsRecorded, TellsRow, TellsSchema, WaitsForOne}
+use Rattle.outside.specs.Changes.{TakesChanges}
 use Rattle.outside.specs.Console.{TakesSnapshot, WritesForeign}
 use Rattle.outside.specs.Passing.{CommitsAlone}
 use Rattle.outside.specs.Reaching.{Reaches}
 use Rattle.outside.specs.declared.fault.BankError.{BankError}
 use Rattle.outside.specs.declared.fault.BankError.TheVariants.{Failed, Memory}
+use Rattle.outside.specs.declared.changes.Changes.{Changes}
 use Rattle.outside.specs.declared.site.Applied.{Applied}
 use Rattle.outside.specs.declared.site.Applied.TheVariants.{Now, Before, NotReady, Differs}
 use Rattle.outside.specs.declared.site.Done.{Done}
@@ -76,3 +80,7 @@ snapshot_grows asked (Err e) old new h = ([], h)
 pub reach_grows : (tree : Tree) (table : TableId) (key : List Value) (result : Result Reached BankError) (old new : List Entry) → Reaches tree table key result old new → Extends old new
 reach_grows tree table key (Ok reached) old new h = ([], h.0)
 reach_grows tree table key (Err e) old new h = ([], h)
+
+pub changes_grows : (since : Position) (trees : List Tree) (wants : List RowKey) (result : Result Changes BankError) (old new : List Entry) → TakesChanges since trees wants result old new → Extends old new
+changes_grows since trees wants (Ok changes) old new h = ([], h.0)
+changes_grows since trees wants (Err e) old new h = ([], h)

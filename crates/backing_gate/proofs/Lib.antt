@@ -7,3 +7,4 @@ pub mod GrowthLaws
 pub mod MomentLaws
 pub mod PlanLaws
 pub mod TicketLaws
+pub mod TouchLaws

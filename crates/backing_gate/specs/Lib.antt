@@ -7,6 +7,7 @@ pub mod Plans
 pub mod SiteCode
 pub mod SiteLaws
 pub mod Tickets
+pub mod Touching
 pub mod Sharing
 pub mod VisitCode
 pub mod Visits

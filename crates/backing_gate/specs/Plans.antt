@@ -3,7 +3,7 @@
 use Rattle.std.specs.Prelude.{ℕ, ◌+◌, ◌-◌, ◌^◌, List, [], ◌∷◌, ◌++◌, Option, Bool, true, false, ◌&&◌, ◌==◌, min, find}
 use Rattle.std.specs.Option.{option_map}
 use Rattle.backing_gate.specs.declared.plan.CallKind.{CallKind}
-use Rattle.backing_gate.specs.declared.plan.CallKind.TheVariants.{Schema, Define, ApplyOnce, Recorded, Find, Foreign, Passed, Snapshot, Reach, Len, ReadAt, WriteAt, Cut, Sync}
+use Rattle.backing_gate.specs.declared.plan.CallKind.TheVariants.{Schema, Define, ApplyOnce, Recorded, Find, Foreign, Passed, Snapshot, Reach, Changes, Len, ReadAt, WriteAt, Cut, Sync}
 use Rattle.backing_gate.specs.declared.plan.CallCounts.{CallCounts}
 use Rattle.backing_gate.specs.declared.plan.Outcome.{Outcome}
 use Rattle.backing_gate.specs.declared.plan.Plan.{Plan}
@@ -24,6 +24,7 @@ no_calls = record {
   passed = 0;
   snapshot = 0;
   reach = 0;
+  changes = 0;
   len = 0;
   read_at = 0;
   write_at = 0;
@@ -44,6 +45,7 @@ number_of Foreign calls = calls.foreign
 number_of Passed calls = calls.passed
 number_of Snapshot calls = calls.snapshot
 number_of Reach calls = calls.reach
+number_of Changes calls = calls.changes
 number_of Len calls = calls.len
 number_of ReadAt calls = calls.read_at
 number_of WriteAt calls = calls.write_at
@@ -64,6 +66,7 @@ counted Foreign calls = record calls { foreign = one_more calls.foreign }
 counted Passed calls = record calls { passed = one_more calls.passed }
 counted Snapshot calls = record calls { snapshot = one_more calls.snapshot }
 counted Reach calls = record calls { reach = one_more calls.reach }
+counted Changes calls = record calls { changes = one_more calls.changes }
 counted Len calls = record calls { len = one_more calls.len }
 counted ReadAt calls = record calls { read_at = one_more calls.read_at }
 counted WriteAt calls = record calls { write_at = one_more calls.write_at }
@@ -80,6 +83,7 @@ same_kind Foreign Foreign = true
 same_kind Passed Passed = true
 same_kind Snapshot Snapshot = true
 same_kind Reach Reach = true
+same_kind Changes Changes = true
 same_kind Len Len = true
 same_kind ReadAt ReadAt = true
 same_kind WriteAt WriteAt = true

@@ -8,6 +8,7 @@ ghost use Rattle.table_state.specs.Tables.{TableState, table_at};
 ghost use Rattle.table_state.specs.Histories.{entry_of, has_ticket, state_of};
 ghost use Rattle.table_state.specs.Refusals.{IsFault, SaysNone, broken_by_all};
 ghost use Rattle.outside.specs.Bank.{AppliesOnce, HasAll};
+ghost use Rattle.outside.specs.Changes.{TellsChanges};
 ghost use Rattle.outside.specs.Console.{IsCopyOf, Writes, WritesForeign};
 ghost use Rattle.outside.specs.Others.{are_on_shared, is_shared};
 ghost use Rattle.outside.specs.Passing.{CommitsAlone};
@@ -24,15 +25,17 @@ ghost use Rattle.backing_gate.specs.Tickets.{FirstMissing};
 use crate::difference::{first_difference, row_at};
 use crate::ledger::Ledger;
 use crate::reaching::instance_with;
+use crate::touching::{all_touched, covered_tables};
+use change_log::{logged, net};
 use evaluator::Change;
 use instances::Tree;
-use outside::{Applied, BankError, Done, Reached, Receipt, Snapshot};
+use outside::{Applied, BankError, Changes, Done, Reached, Receipt, Snapshot};
 use row_types::{Key, Row};
 use std::alloc::{AllocError, Global};
 use std::marker::Model;
 use std::slice::from_ref;
 use table_defs::{BackingSchema, TableDef};
-use table_state::{ApplyError, Entry, History, Op, Sealed, Tables, UndoLog, copied_ops};
+use table_state::{ApplyError, Entry, History, Op, RowKey, Sealed, Tables, UndoLog, copied_ops};
 use tier_base::{Position, Seq, TableId, Ticket};
 use transactions::writing::write_each;
 use transactions::{Written, write_all};
@@ -326,6 +329,37 @@ impl MemoryBank {
         let instance = instance_with(alloc, tree, &self.tables, table, key)?;
         let position = Position(self.ledger.entries().len() as u64);
         Ok(Reached { position, instance })
+    }
+
+    /// What changed since a position in the tables of the trees, and the instances that this touches or that a want
+    /// names. It goes through the history behind the position, which has each operation. It fails for want of memory
+    /// alone.
+    pub(crate) fn changes(
+        &self,
+        alloc: Global,
+        since: Position,
+        trees: &[Tree],
+        wants: &[RowKey],
+    ) -> Result<Changes, AllocError>
+        ensures { IfOk result (λ changes. TellsChanges self.now since trees.now wants.now changes) }
+    {
+        let entries = self.ledger.entries().as_slice();
+        let position = Position(entries.len() as u64);
+        let begin = since.0.min(position.0) as usize;
+        let covered = covered_tables(alloc, trees)?;
+        let whole = logged(
+            alloc,
+            self.tables.schema(),
+            &entries[begin..],
+            covered.as_slice(),
+        )?;
+        let log = net(alloc, &whole)?;
+        let touched = all_touched(alloc, trees, &self.tables, log.as_slice(), wants)?;
+        Ok(Changes {
+            position,
+            log,
+            touched,
+        })
     }
 
     /// Applies and records a transaction where its ticket is new, those of `after` are there and its operations

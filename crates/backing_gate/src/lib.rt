@@ -13,6 +13,7 @@ pub mod memory_site;
 mod own_steps;
 pub mod plan;
 mod reaching;
+mod touching;
 pub mod visit;
 mod visits;
 

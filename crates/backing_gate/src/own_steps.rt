@@ -3,6 +3,7 @@
 ghost use Rattle.std.specs.Prelude.{◌≡◌, ◌≤◌, ◌⊎◌, [], ◌∷◌};
 ghost use Rattle.table_state.specs.declared.history.Entry.{Entry};
 ghost use Rattle.outside.specs.Bank.{AppliesOnce, Defines, Grows, TellsRecorded, TellsRow, TellsSchema};
+ghost use Rattle.outside.specs.Changes.{TakesChanges};
 ghost use Rattle.outside.specs.Console.{TakesSnapshot, WritesForeign};
 ghost use Rattle.outside.specs.Faults.{BankHasCause, Rose};
 ghost use Rattle.outside.specs.Passing.{CommitsAlone};
@@ -16,11 +17,11 @@ use crate::memory_site::MemorySite;
 use crate::plan::{Outcome, When};
 use evaluator::Change;
 use instances::Tree;
-use outside::{Applied, BankError, Done, Reached, Snapshot};
+use outside::{Applied, BankError, Changes, Done, Reached, Snapshot};
 use row_types::{Key, Row};
 use table_defs::{BackingSchema, TableDef, copied_schema};
-use table_state::Sealed;
-use tier_base::{TableId, Ticket};
+use table_state::{RowKey, Sealed};
+use tier_base::{Position, TableId, Ticket};
 
 impl MemorySite {
     // Counts a failed call.
@@ -209,6 +210,32 @@ impl MemorySite {
             Some(Outcome::Refused) => Err(BankError::Memory),
             None => match self.bank.reach(self.alloc, tree, table, key) {
                 Ok(reached) => Ok(reached),
+                Err(_) => Err(BankError::Memory),
+            },
+        }
+    }
+
+    /// What changed since a position.
+    pub(crate) fn changes_as(
+        &mut self,
+        outcome: Option<Outcome>,
+        since: Position,
+        trees: &[Tree],
+        wants: &[RowKey],
+    ) -> Result<Changes, BankError>
+        ensures own { TakesChanges since trees.now wants.now result self.old.history self.new.history }
+        ensures heeds { HeedsAs outcome self.old self.new result (λ begun done. done ≡ begun) }
+        ensures cause { BankHasCause (site_state self.old) (site_state self.new) result }
+        ensures kept { self.new ≡ record self.old { history = self.new.history; bank_faults = self.new.bank_faults } }
+    {
+        match outcome {
+            Some(Outcome::Failed(_)) => {
+                self.count_failure();
+                Err(BankError::Failed)
+            }
+            Some(Outcome::Refused) => Err(BankError::Memory),
+            None => match self.bank.changes(self.alloc, since, trees, wants) {
+                Ok(changes) => Ok(changes),
                 Err(_) => Err(BankError::Memory),
             },
         }

@@ -27,6 +27,8 @@ pub enum CallKind {
     Snapshot,
     /// `reach`.
     Reach,
+    /// `changes`.
+    Changes,
     /// `len` of the disk.
     Len,
     /// `read_at` of the disk.
@@ -89,6 +91,8 @@ pub struct CallCounts {
     pub snapshot: u64,
     /// Of `reach`.
     pub reach: u64,
+    /// Of `changes`.
+    pub changes: u64,
     /// Of `len`.
     pub len: u64,
     /// Of `read_at`.
@@ -116,6 +120,7 @@ impl CallCounts {
             CallKind::Passed => self.passed,
             CallKind::Snapshot => self.snapshot,
             CallKind::Reach => self.reach,
+            CallKind::Changes => self.changes,
             CallKind::Len => self.len,
             CallKind::ReadAt => self.read_at,
             CallKind::WriteAt => self.write_at,
@@ -138,6 +143,7 @@ impl CallCounts {
             CallKind::Passed => self.passed = self.passed.saturating_add(1),
             CallKind::Snapshot => self.snapshot = self.snapshot.saturating_add(1),
             CallKind::Reach => self.reach = self.reach.saturating_add(1),
+            CallKind::Changes => self.changes = self.changes.saturating_add(1),
             CallKind::Len => self.len = self.len.saturating_add(1),
             CallKind::ReadAt => self.read_at = self.read_at.saturating_add(1),
             CallKind::WriteAt => self.write_at = self.write_at.saturating_add(1),
@@ -184,6 +190,7 @@ impl Plans {
                 passed: 0,
                 snapshot: 0,
                 reach: 0,
+                changes: 0,
                 len: 0,
                 read_at: 0,
                 write_at: 0,

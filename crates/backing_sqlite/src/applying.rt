@@ -6,7 +6,8 @@ use crate::fault::StoreFault;
 use crate::judging::{Difference, difference_at};
 use crate::reading::{first_missing, position_of};
 use crate::shelf::Shelf;
-use crate::writing::{add_entry, do_op, record};
+use crate::values::LogPlace;
+use crate::writing::{add_entry, do_op, next_entry, record};
 use outside::{Applied, Receipt};
 use sqlite::{Alter, Connection, Transaction};
 use std::alloc::Global;
@@ -72,9 +73,10 @@ fn do_all<S: Alter>(
     shelf: &Shelf,
     ops: &[Op],
 ) -> Result<Option<Difference>, StoreFault> {
-    for op in ops {
+    let position = next_entry(tx)?;
+    for (number, op) in ops.iter().enumerate() {
         match difference_at(alloc, tx, shelf, op)? {
-            None => do_op(alloc, tx, shelf, op)?,
+            None => do_op(alloc, tx, shelf, op, LogPlace { position, number })?,
             Some(difference) => return Ok(Some(difference)),
         }
     }

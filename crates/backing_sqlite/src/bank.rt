@@ -6,6 +6,7 @@ ghost use Rattle.backing_sqlite.specs.Counting.{Counts, answer_of};
 
 use crate::applying::apply_once;
 use crate::catalog::open_catalog;
+use crate::changing::changes;
 use crate::defining::define;
 use crate::fault::{OpenError, StoreFault};
 use crate::foreign::{foreign, snapshot};
@@ -15,14 +16,14 @@ use crate::reading::{find, recorded};
 use crate::shelf::Shelf;
 use evaluator::Change;
 use instances::Tree;
-use outside::{Applied, BankError, Done, Reached, Snapshot};
+use outside::{Applied, BankError, Changes, Done, Reached, Snapshot};
 use row_types::{Key, Row};
 use sqlite::{Connection, File, FileStore};
 use std::alloc::Global;
 use std::marker::Model;
 use table_defs::{BackingSchema, TableDef, copied_schema};
-use table_state::Sealed;
-use tier_base::{TableId, Ticket};
+use table_state::{RowKey, Sealed};
+use tier_base::{Position, TableId, Ticket};
 
 /// The backing database in a SQLite file, which it holds alone while it is open. It doesn't tell what it holds. Each call
 /// is one transaction of the store, and each failed one is counted. Clauses see how many have failed.
@@ -177,6 +178,19 @@ impl SqliteBank {
         ensures counts { Counts self.old self.new result }
     {
         let done = reach(self.alloc, &mut self.conn, &self.shelf, tree, table, key);
+        self.answer(done)
+    }
+
+    /// What changed since a position of the history, and the instances that this touches or that a want names.
+    pub fn changes(
+        &mut self,
+        since: Position,
+        trees: &[Tree],
+        wants: &[RowKey],
+    ) -> Result<Changes, BankError>
+        ensures counts { Counts self.old self.new result }
+    {
+        let done = changes(self.alloc, &mut self.conn, &self.shelf, since, trees, wants);
         self.answer(done)
     }
 }

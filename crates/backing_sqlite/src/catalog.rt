@@ -6,9 +6,11 @@ use crate::fault::StoreFault;
 use crate::reading::first_row;
 use crate::schema_rows::read_def;
 use crate::shelf::Shelf;
+use crate::texts::log_text;
 use crate::writing::give;
 use sqlite::{Alter, Connection, Transaction};
 use std::alloc::Global;
+use table_defs::TableDef;
 
 /// How many entries the history has, in one row.
 const HISTORY: &str =
@@ -72,7 +74,19 @@ fn read_catalog<S: Alter>(alloc: Global, tx: &mut Transaction<'_, S>) -> Result<
     let mut shelf = Shelf::new(alloc);
     for (place, row) in stored.iter().enumerate() {
         let def = read_def(alloc, tx, place, row)?;
+        make_log(alloc, tx, &def)?;
         shelf.push(alloc, def)?;
     }
     Ok(shelf)
+}
+
+// A file from before the logs has none.
+fn make_log<S: Alter>(
+    alloc: Global,
+    tx: &mut Transaction<'_, S>,
+    def: &TableDef,
+) -> Result<(), StoreFault> {
+    let text = log_text(alloc, def)?;
+    let _ = give(tx, text.as_str(), &[])?;
+    Ok(())
 }

@@ -4,7 +4,7 @@ use crate::fault::StoreFault;
 use crate::judging::table_at;
 use crate::schema_rows::write_def;
 use crate::shelf::Shelf;
-use crate::texts::{create_text, index_text};
+use crate::texts::{create_text, index_text, log_text};
 use crate::writing::{add_entry, give};
 use sqlite::{Alter, Connection, Transaction};
 use std::alloc::Global;
@@ -55,6 +55,7 @@ fn make_in<S: Alter>(
 ) -> Result<(), StoreFault> {
     make_table(alloc, tx, shelf, def)?;
     make_index(alloc, tx, def)?;
+    let _ = give(tx, log_text(alloc, def)?.as_str(), &[])?;
     write_def(tx, place, def)?;
     let _ = add_entry(tx)?;
     Ok(())

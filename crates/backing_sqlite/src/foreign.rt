@@ -5,7 +5,8 @@ use crate::fault::StoreFault;
 use crate::loading::load;
 use crate::reading::entries;
 use crate::shelf::Shelf;
-use crate::writing::{add_entry, do_op};
+use crate::values::LogPlace;
+use crate::writing::{add_entry, do_op, next_entry};
 use evaluator::Change;
 use outside::{Done, Snapshot};
 use sqlite::{Alter, Connection, Transaction};
@@ -82,8 +83,9 @@ fn write_ops<S: Alter>(
     shelf: &Shelf,
     ops: &[Op],
 ) -> Result<(), StoreFault> {
-    for op in ops {
-        do_op(alloc, tx, shelf, op)?;
+    let position = next_entry(tx)?;
+    for (number, op) in ops.iter().enumerate() {
+        do_op(alloc, tx, shelf, op, LogPlace { position, number })?;
     }
     Ok(())
 }

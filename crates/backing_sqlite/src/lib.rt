@@ -4,6 +4,7 @@
 mod applying;
 pub mod bank;
 mod catalog;
+mod changing;
 mod closure;
 mod defining;
 mod fault;

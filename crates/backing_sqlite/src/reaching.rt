@@ -49,9 +49,9 @@ fn instance_with<S: Alter>(
     }
 }
 
-// The key of the root row that the row of a key is reached from, whatever the WHERE conditions say. It goes over at most
-// as many foreign keys as the tree has children.
-fn root_of<S: Alter>(
+/// The key of the root row that the row of a key is reached from, whatever the WHERE conditions say. It goes over at most
+/// as many foreign keys as the tree has children.
+pub(crate) fn root_of<S: Alter>(
     alloc: Global,
     tx: &mut Transaction<'_, S>,
     shelf: &Shelf,
@@ -100,8 +100,8 @@ fn parent_key<S: Alter>(
     }
 }
 
-// For each table of the tree the rows of the view that are reached from the root row of this key.
-fn rows_under<S: Alter>(
+/// For each table of the tree the rows of the view that are reached from the root row of this key.
+pub(crate) fn rows_under<S: Alter>(
     alloc: Global,
     tx: &mut Transaction<'_, S>,
     shelf: &Shelf,

@@ -8,11 +8,11 @@ ghost use Rattle.backing_sqlite.specs.Untold.{untold_state};
 use crate::bank::SqliteBank;
 use evaluator::Change;
 use instances::Tree;
-use outside::{Applied, BankError, Disk, DiskFault, Done, Reached, Site, Slot, Snapshot};
+use outside::{Applied, BankError, Changes, Disk, DiskFault, Done, Reached, Site, Slot, Snapshot};
 use row_types::{Key, Row};
 use table_defs::{BackingSchema, TableDef};
-use table_state::Sealed;
-use tier_base::{TableId, Ticket};
+use table_state::{RowKey, Sealed};
+use tier_base::{Position, TableId, Ticket};
 
 /// A disk, and the backing database in a file, as one site. It tells nothing of what it holds, whatever the disk tells.
 /// Its disk's faults are those of the disk, and its bank's those of the bank.
@@ -109,5 +109,14 @@ impl<D: Disk> Site for RealSite<D> {
 
     fn reach(&mut self, tree: &Tree, table: TableId, key: &Key) -> Result<Reached, BankError> {
         self.bank.reach(tree, table, key)
+    }
+
+    fn changes(
+        &mut self,
+        since: Position,
+        trees: &[Tree],
+        wants: &[RowKey],
+    ) -> Result<Changes, BankError> {
+        self.bank.changes(since, trees, wants)
     }
 }

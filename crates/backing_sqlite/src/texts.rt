@@ -29,6 +29,10 @@ pub(crate) struct TableTexts {
     pub child: Option<String>,
     /// All rows that refer to a key, where there is a foreign key.
     pub children: Option<String>,
+    /// One entry more of the log: position, number, whether there was a row before, and that row or its key.
+    pub enter: String,
+    /// The log behind a position: the key, whether there was a row before, and that row.
+    pub logged: String,
 }
 
 impl Drop for TableTexts {
@@ -41,6 +45,8 @@ impl Drop for TableTexts {
             delete: _,
             child: _,
             children: _,
+            enter: _,
+            logged: _,
         } = self;
     }
 }
@@ -55,6 +61,8 @@ impl TableTexts {
         let delete = delete_text(alloc, def)?;
         let child = child_text(alloc, def)?;
         let children = children_text(alloc, def)?;
+        let enter = enter_text(alloc, def)?;
+        let logged = logged_text(alloc, def)?;
         Ok(TableTexts {
             find,
             all,
@@ -63,6 +71,8 @@ impl TableTexts {
             delete,
             child,
             children,
+            enter,
+            logged,
         })
     }
 }
@@ -156,6 +166,61 @@ fn children_text(alloc: Global, def: &TableDef) -> Result<Option<String>, StoreF
     }
 }
 
+fn enter_text(alloc: Global, def: &TableDef) -> Result<String, StoreFault> {
+    let mut out = String::from_str(alloc, "INSERT INTO ")?;
+    put_log(&mut out, &def.name)?;
+    out.push_str(" (\"log-position\", \"log-number\", \"log-was\", ")?;
+    put_all_columns(&mut out, def)?;
+    out.push_str(") VALUES (?, ?, ?")?;
+    for _ in 0..def.columns.len() {
+        out.push_str(", ?")?;
+    }
+    out.push_str(")")?;
+    Ok(out)
+}
+
+fn logged_text(alloc: Global, def: &TableDef) -> Result<String, StoreFault> {
+    let mut out = String::from_str(alloc, "SELECT ")?;
+    put_columns(&mut out, def, def.primary_key.as_slice())?;
+    out.push_str(", \"log-was\", ")?;
+    put_all_columns(&mut out, def)?;
+    out.push_str(" FROM ")?;
+    put_log(&mut out, &def.name)?;
+    out.push_str(" WHERE \"log-position\" > ? ORDER BY \"log-position\", \"log-number\"")?;
+    Ok(out)
+}
+
+/// The text that makes the log of the table, where it isn't there.
+pub(crate) fn log_text(alloc: Global, def: &TableDef) -> Result<String, StoreFault> {
+    let mut out = String::from_str(alloc, "CREATE TABLE IF NOT EXISTS ")?;
+    put_log(&mut out, &def.name)?;
+    out.push_str(
+        " (\"log-position\" INTEGER NOT NULL, \"log-number\" INTEGER NOT NULL, \"log-was\" INTEGER NOT NULL, ",
+    )?;
+    for column in def.columns.as_slice() {
+        put_quoted(&mut out, &column.name)?;
+        out.push_str(type_text(column))?;
+        out.push_str(", ")?;
+    }
+    out.push_str("PRIMARY KEY (\"log-position\", \"log-number\")) STRICT")?;
+    Ok(out)
+}
+
+fn type_text(column: &Column) -> &'static str {
+    match column.ty {
+        Ty::Varchar2(_) => " TEXT",
+        _ => " INTEGER",
+    }
+}
+
+// The name of the log of a table.
+fn put_log(out: &mut String, name: &Name) -> Result<(), StoreFault> {
+    out.push_str("\"log of ")?;
+    out.push_str(text_of(name)?)?;
+    out.push_str("\"")?;
+    Ok(())
+}
+
 /// The text that makes the table. `parent` is the definition of the table that its foreign key refers to.
 pub(crate) fn create_text(
     alloc: Global,
@@ -178,10 +243,7 @@ pub(crate) fn create_text(
 
 fn put_declaration(out: &mut String, column: &Column) -> Result<(), StoreFault> {
     put_quoted(out, &column.name)?;
-    out.push_str(match column.ty {
-        Ty::Varchar2(_) => " TEXT",
-        _ => " INTEGER",
-    })?;
+    out.push_str(type_text(column))?;
     out.push_str(if column.not_null { " NOT NULL, " } else { ", " })?;
     Ok(())
 }

@@ -15,6 +15,23 @@ const FIRST_SECOND: i64 = -62_135_596_800;
 
 const LAST_SECOND: i64 = 253_402_300_799;
 
+/// Where an entry stands in the log.
+#[derive(Clone, Copy, Debug, PartialEq, Eq)]
+pub(crate) struct LogPlace {
+    /// The position of the history behind it.
+    pub position: u64,
+    /// Its number in its transaction, from 0.
+    pub number: usize,
+}
+
+/// A number as SQLite keeps it.
+pub(crate) fn whole(number: u64) -> Result<i64, StoreFault> {
+    match i64::try_from(number) {
+        Ok(number) => Ok(number),
+        Err(_) => Err(StoreFault::Failed),
+    }
+}
+
 /// The value as SQLite keeps it.
 fn lent(value: &Value) -> ValueRef<'_> {
     match value {
@@ -56,15 +73,51 @@ pub(crate) fn lent_update<'a>(
     Ok(out)
 }
 
+/// The values of an entry of the log: position, number, whether there was a row before, and that row, or of a new row
+/// those of its key.
+pub(crate) fn lent_entry<'a>(
+    alloc: Global,
+    def: &TableDef,
+    at: LogPlace,
+    was: bool,
+    row: &'a Row,
+) -> Result<Vec<ValueRef<'a>>, StoreFault> {
+    let position = whole(at.position)?;
+    let number = whole(at.number as u64)?;
+    let mut out = Vec::with_capacity(alloc, row.values().len())?;
+    out.push(ValueRef::Int(position))?;
+    out.push(ValueRef::Int(number))?;
+    out.push(ValueRef::Int(i64::from(was)))?;
+    for (place, value) in row.values().iter().enumerate() {
+        if was || def.primary_key.as_slice().contains(&place) {
+            out.push(lent(value))?;
+        } else {
+            out.push(ValueRef::Null)?;
+        }
+    }
+    Ok(out)
+}
+
 /// The row of these columns, in their order. It fails where a value isn't one that its column holds.
 pub(crate) fn row_of(
     alloc: Global,
     columns: &[Column],
     stored: &sqlite::Row,
 ) -> Result<Row, StoreFault> {
+    row_behind(alloc, columns, stored, 0)
+}
+
+/// The same, where so many other values stand before it.
+pub(crate) fn row_behind(
+    alloc: Global,
+    columns: &[Column],
+    stored: &sqlite::Row,
+    others: usize,
+) -> Result<Row, StoreFault> {
     let mut values = Vec::with_capacity(alloc, columns.len())?;
     for (place, column) in columns.iter().enumerate() {
-        values.push(value_of(alloc, column, stored.get_ref(place)?)?)?;
+        let stored = stored.get_ref(others.saturating_add(place))?;
+        values.push(value_of(alloc, column, stored)?)?;
     }
     Ok(Row::from_vec(values))
 }

@@ -4,7 +4,7 @@ use crate::fault::StoreFault;
 use crate::judging::named_row;
 use crate::reading::entries;
 use crate::shelf::Shelf;
-use crate::values::{lent_all, lent_update};
+use crate::values::{LogPlace, lent_all, lent_entry, lent_update, whole};
 use row_types::{Key, Row};
 use sqlite::types::ValueRef;
 use sqlite::{Alter, Transaction};
@@ -36,8 +36,42 @@ fn give_one<S: Alter>(
     }
 }
 
-/// Does an operation, which applies.
+/// Does an operation, which applies, and enters it into the log at this place.
 pub(crate) fn do_op<S: Alter>(
+    alloc: Global,
+    tx: &mut Transaction<'_, S>,
+    shelf: &Shelf,
+    op: &Op,
+    at: LogPlace,
+) -> Result<(), StoreFault> {
+    write(alloc, tx, shelf, op)?;
+    enter(alloc, tx, shelf, op, at)
+}
+
+// An entry of the log has the row before, where there was one.
+fn enter<S: Alter>(
+    alloc: Global,
+    tx: &mut Transaction<'_, S>,
+    shelf: &Shelf,
+    op: &Op,
+    at: LogPlace,
+) -> Result<(), StoreFault> {
+    let Some(def) = shelf.def(op.table()) else {
+        return Err(StoreFault::Failed);
+    };
+    let was = match op {
+        Op::Insert(_, _) => false,
+        _ => true,
+    };
+    let values = lent_entry(alloc, def, at, was, named_row(op))?;
+    give_one(
+        tx,
+        shelf.texts(op.table())?.enter.as_str(),
+        values.as_slice(),
+    )
+}
+
+fn write<S: Alter>(
     alloc: Global,
     tx: &mut Transaction<'_, S>,
     shelf: &Shelf,
@@ -105,14 +139,18 @@ fn delete<S: Alter>(
     give_one(tx, shelf.texts(table)?.delete.as_str(), values.as_slice())
 }
 
+/// How many entries the history has with one more.
+pub(crate) fn next_entry<S: Alter>(tx: &mut Transaction<'_, S>) -> Result<u64, StoreFault> {
+    match entries(tx)?.checked_add(1) {
+        None => Err(StoreFault::Failed),
+        Some(count) => Ok(count),
+    }
+}
+
 /// Counts one entry more, and tells how many there are then.
 pub(crate) fn add_entry<S: Alter>(tx: &mut Transaction<'_, S>) -> Result<u64, StoreFault> {
-    let Some(count) = entries(tx)?.checked_add(1) else {
-        return Err(StoreFault::Failed);
-    };
-    let Ok(number) = i64::try_from(count) else {
-        return Err(StoreFault::Failed);
-    };
+    let count = next_entry(tx)?;
+    let number = whole(count)?;
     let text = "UPDATE \"ttcache-history\" SET entries = ?";
     give_one(tx, text, &[ValueRef::Int(number)])?;
     Ok(count)

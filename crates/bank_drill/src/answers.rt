@@ -3,9 +3,10 @@
 use crate::error::DrillError;
 use crate::telling::{end_line, put, tell_column, tell_name, tell_number, tell_places, tell_row};
 use backing_sqlite::{OpenError, SqliteBank};
+use change_log::RowChange;
 use indexed_rows::Rows;
 use instances::Tree;
-use outside::{Applied, BankError, Done, Instance, Reached, Snapshot};
+use outside::{Applied, BankError, Changes, Done, Instance, Reached, Snapshot, Touched};
 use row_types::{Detail, Key, Row, Rule, print_key_into};
 use std::alloc::Global;
 use table_defs::{BackingSchema, TableDef};
@@ -229,4 +230,52 @@ fn tell_place(
         }
     }
     end_line(out)
+}
+
+/// The position, what changed, and for each tree the instances that are given.
+pub fn tell_changes(
+    out: &mut Vec<u8>,
+    known: &BackingSchema,
+    trees: &[Tree],
+    changes: &Changes,
+) -> Result<(), DrillError> {
+    tell_counted(out, b"position ", changes.position.0)?;
+    for change in changes.log.as_slice() {
+        tell_change(out, known, change)?;
+    }
+    for (tree, touched) in trees.iter().zip(changes.touched.as_slice()) {
+        for one in touched.as_slice() {
+            tell_touched(out, known, tree, one)?;
+        }
+    }
+    Ok(())
+}
+
+fn tell_change(
+    out: &mut Vec<u8>,
+    known: &BackingSchema,
+    change: &RowChange,
+) -> Result<(), DrillError> {
+    put(out, b"changed ")?;
+    if let Some(def) = known.get(change.table.0 as usize) {
+        tell_name(out, &def.name)?;
+    }
+    tell_key(out, &change.key)?;
+    end_line(out)?;
+    put(out, b"- ")?;
+    tell_found(out, &change.old)?;
+    put(out, b"+ ")?;
+    tell_found(out, &change.new)
+}
+
+fn tell_touched(
+    out: &mut Vec<u8>,
+    known: &BackingSchema,
+    tree: &Tree,
+    touched: &Touched,
+) -> Result<(), DrillError> {
+    if touched.wanted {
+        tell_lines(out, b"wanted")?;
+    }
+    tell_instance(out, known, tree, &touched.instance)
 }

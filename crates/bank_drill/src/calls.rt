@@ -1,19 +1,19 @@
 //! Calls of the site, as a script asks for them.
 
 use crate::answers::{
-    tell_applied, tell_bank_error, tell_done, tell_found, tell_lines, tell_reached, tell_schema,
-    tell_snapshot,
+    tell_applied, tell_bank_error, tell_changes, tell_done, tell_found, tell_lines, tell_reached,
+    tell_schema, tell_snapshot,
 };
 use crate::asking::{asked, changes_of, key_of, ops_of, table_of, tables_of, tickets_of};
 use crate::error::DrillError;
-use crate::trees::tree_of;
+use crate::trees::{tree_of, trees_of, wants_of};
 use outside::Site;
 use row_types::TableDeclaration;
 use sql_subset::request::ConsoleRequest;
 use std::alloc::Global;
 use table_defs::{BackingSchema, TableDef};
 use table_state::Sealed;
-use tier_base::Ticket;
+use tier_base::{Position, Ticket};
 
 /// Makes a table, or does the writes of a transaction of the console.
 pub fn console<T: Site>(
@@ -156,6 +156,25 @@ pub fn reach<T: Site>(
     let tree = tree_of(alloc, &known, tree, line)?;
     match site.reach(&tree, table, &key) {
         Ok(reached) => tell_reached(out, &known, &tree, &reached),
+        Err(error) => tell_bank_error(out, error),
+    }
+}
+
+/// Tells what changed since a position.
+pub fn changes<T: Site>(
+    alloc: Global,
+    site: &mut T,
+    since: u64,
+    wants: &str,
+    trees: &str,
+    line: usize,
+    out: &mut Vec<u8>,
+) -> Result<(), DrillError> {
+    let known = site.schema()?;
+    let wants = wants_of(alloc, &known, wants, line)?;
+    let trees = trees_of(alloc, &known, trees, line)?;
+    match site.changes(Position(since), trees.as_slice(), wants.as_slice()) {
+        Ok(changes) => tell_changes(out, &known, trees.as_slice(), &changes),
         Err(error) => tell_bank_error(out, error),
     }
 }

@@ -20,6 +20,9 @@ pub enum Command<'a> {
     /// `!reach TABLE VALUE,.. in TREE`: the instance that the row at a key is in. The tree has its tables with `; ` between,
     /// the root first, each with its WHERE where it has one.
     Reach(&'a str, &'a str),
+    /// `!changes N WANTS in TREES`: what changed since the position. Wants are `TABLE VALUE,..` with `; ` between; there may
+    /// be none. Trees have ` / ` between.
+    Changes(u64, &'a str, &'a str),
     /// `!put TEXT`: the bytes are written into the second slot behind its first byte, and synced.
     Put(&'a str),
     /// `!get`: the bytes of the second slot behind its first one.
@@ -71,6 +74,15 @@ fn parse_call(text: &str) -> Option<Command<'_>> {
         "reach" => {
             let (table, rest) = first_word(rest);
             Some(Command::Reach(table, rest))
+        }
+        "changes" => {
+            let (since, rest) = first_word(rest);
+            let since = since.parse::<u64>().ok()?;
+            let (wants, trees) = match rest.strip_prefix("in ") {
+                Some(trees) => ("", trees),
+                None => rest.split_once(" in ")?,
+            };
+            Some(Command::Changes(since, wants, trees))
         }
         "schema" => Some(Command::Schema),
         "snapshot" => Some(Command::Snapshot(rest)),

@@ -1,7 +1,7 @@
 //! The site, and what a script keeps beside it.
 
 use crate::answers::{tell_bank_error, tell_lines, tell_opening};
-use crate::calls::{apply, console, find, passed, reach, schema, seal, snapshot};
+use crate::calls::{apply, changes, console, find, passed, reach, schema, seal, snapshot};
 use crate::command::Command;
 use crate::error::DrillError;
 use backing_sqlite::{RealSite, SqliteBank};
@@ -99,6 +99,9 @@ impl Stage {
             }
             Command::Find(table, key) => find(alloc, &mut self.site, table, key, line, out),
             Command::Reach(table, rest) => reach(alloc, &mut self.site, table, rest, line, out),
+            Command::Changes(since, wants, trees) => {
+                changes(alloc, &mut self.site, since, wants, trees, line, out)
+            }
             Command::Schema => schema(&mut self.site, out),
             Command::Snapshot(tables) => snapshot(alloc, &mut self.site, tables, line, out),
             Command::Put(text) => put(&mut self.site, text.as_bytes()),

@@ -1,6 +1,6 @@
 //! Trees as a script spells them.
 
-use crate::asking::asked;
+use crate::asking::{asked, key_of, table_of};
 use crate::error::DrillError;
 use expressions::Cond;
 use instances::{Child, Root, Tree};
@@ -9,6 +9,7 @@ use sql_query::{Delete, Write};
 use sql_subset::request::ConsoleRequest;
 use std::alloc::Global;
 use table_defs::{BackingSchema, TableDef, find_table};
+use table_state::RowKey;
 use tier_base::{Seq, TableId};
 
 /// The tree of these tables, with `; ` between, the root first, each with its WHERE where it has one.
@@ -94,4 +95,37 @@ fn covered_by(
         Ok(filter) => Ok((table, filter.into_cond())),
         Err(_) => Err(DrillError::Line(line)),
     }
+}
+
+/// Trees, with ` / ` between.
+pub fn trees_of(
+    alloc: Global,
+    schema: &BackingSchema,
+    text: &str,
+    line: usize,
+) -> Result<Vec<Tree>, DrillError> {
+    let mut trees = Vec::new(alloc);
+    for part in text.split(" / ") {
+        trees.push(tree_of(alloc, schema, part, line)?)?;
+    }
+    Ok(trees)
+}
+
+/// The rows that are wanted, each a table and a key, with `; ` between.
+pub fn wants_of(
+    alloc: Global,
+    schema: &BackingSchema,
+    text: &str,
+    line: usize,
+) -> Result<Vec<RowKey>, DrillError> {
+    let mut wants = Vec::new(alloc);
+    for part in text.split("; ") {
+        if !part.is_empty() {
+            let (table, key) = part.split_once(' ').unwrap_or((part, ""));
+            let table = table_of(alloc, schema, table, line)?;
+            let key = key_of(alloc, key, line)?;
+            wants.push(RowKey { table, key })?;
+        }
+    }
+    Ok(wants)
 }

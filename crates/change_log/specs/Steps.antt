@@ -55,6 +55,11 @@ logged_from [] s = []
 logged_from (entry ∷ entries) None = []
 logged_from (entry ∷ entries) (Some s) = entry_changes s.schema entry ++ logged_from entries (after_entry entry s)
 
+-- the log of entries over the definitions that stand behind them
+abbrev pub logged_over : List TableDef → List Entry → List RowChange
+logged_over schema [] = []
+logged_over schema (entry ∷ entries) = entry_changes schema entry ++ logged_over schema entries
+
 -- the entries of these tables
 abbrev pub of_tables : List TableId → List RowChange → List RowChange
 of_tables tables [] = []

@@ -52,7 +52,8 @@ fn changes_of(
     Ok(out)
 }
 
-fn is_one_of(tables: &[TableId], table: TableId) -> bool
+/// Whether the table is one of these.
+pub(crate) fn is_one_of(tables: &[TableId], table: TableId) -> bool
     ensures { result ≡ is_one_of tables.now table }
 {
     tables.iter().any(|one| one.0 == table.0)

@@ -4,10 +4,12 @@
 pub mod changing;
 pub mod laws;
 pub mod log;
+pub mod logging;
 pub mod netting;
 mod tags;
 
 pub use changing::changed;
 pub use laws::net_law;
 pub use log::{Log, RowChange};
+pub use logging::logged;
 pub use netting::net;

@@ -166,6 +166,7 @@ fn parse_kind(word: &str) -> Option<CallKind> {
         "passed" => Some(CallKind::Passed),
         "snapshot" => Some(CallKind::Snapshot),
         "reach" => Some(CallKind::Reach),
+        "changes" => Some(CallKind::Changes),
         "read" => Some(CallKind::ReadAt),
         "write" => Some(CallKind::WriteAt),
         "sync" => Some(CallKind::Sync),

@@ -1,10 +1,12 @@
 pub mod Bank
 pub mod Calls
+pub mod Changes
 pub mod Clocks
 pub mod Console
 pub mod Differences
 pub mod Faults
 pub mod Holding
+pub mod Laws
 pub mod Others
 pub mod Passing
 pub mod Reaching

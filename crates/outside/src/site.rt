@@ -2,12 +2,14 @@
 
 ghost use Rattle.outside.specs.Bank.{AppliesOnce, Defines, TellsRecorded, TellsRow, TellsSchema, WaitsForOne};
 ghost use Rattle.outside.specs.Calls.{BankGoesOn, BankTold};
+ghost use Rattle.outside.specs.Changes.{TakesChanges};
 ghost use Rattle.outside.specs.Console.{TakesSnapshot, WritesForeign};
 ghost use Rattle.outside.specs.Faults.{BankHasCause};
 ghost use Rattle.outside.specs.Passing.{CommitsAlone};
 ghost use Rattle.outside.specs.Reaching.{Reaches};
 ghost use Rattle.table_defs.specs.Declarations.{IsChecked};
 
+use crate::changes::Changes;
 use crate::disk::Disk;
 use crate::fault::BankError;
 use evaluator::Change;
@@ -15,7 +17,7 @@ use indexed_rows::Rows;
 use instances::Tree;
 use row_types::{Key, Row, Rule};
 use table_defs::{BackingSchema, TableDef};
-use table_state::{Sealed, Tables};
+use table_state::{RowKey, Sealed, Tables};
 use tier_base::{Position, Seq, TableId, Ticket};
 
 /// That a transaction of the tier stands in the backing history.
@@ -174,5 +176,23 @@ pub trait Site: Disk {
     fn reach(&mut self, tree: &Tree, table: TableId, key: &Key) -> Result<Reached, BankError>
         ensures told { BankTold (Self.state self.old) (Self.state self.new) (Reaches tree.now table key.now result) }
         ensures crash { BankGoesOn Self.state Self.possible self.old self.new (Reaches tree.now table key.now result) }
+        ensures cause { BankHasCause (Self.state self.old) (Self.state self.new) result };
+
+    /// What changed since a position of the history in the tables of the trees, and of each tree the instances of which a
+    /// row changed, came or left, and those that a want names, as they are now: all at one position. Rows lead to their
+    /// instances whatever the WHERE conditions say; an instance has the rows of the view alone. So an instance that isn't
+    /// told has the rows that it had (`changes_law`).
+    ///
+    /// (TimesTen Cache User's Guide, "Automatically refreshing a cache group".)
+    fn changes(
+        &mut self,
+        since: Position,
+        trees: &[Tree],
+        wants: &[RowKey],
+    ) -> Result<Changes, BankError>
+        ensures told { BankTold (Self.state self.old) (Self.state self.new)
+            (TakesChanges since trees.now wants.now result) }
+        ensures crash { BankGoesOn Self.state Self.possible self.old self.new
+            (TakesChanges since trees.now wants.now result) }
         ensures cause { BankHasCause (Self.state self.old) (Self.state self.new) result };
 }

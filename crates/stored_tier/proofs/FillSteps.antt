@@ -4,7 +4,6 @@ use Rattle.std.specs.Option.{option_map}
 use Rattle.std.specs.FinMap as fm
 use Rattle.std.specs.FinMap.{empty}
 use Rattle.row_types.specs.declared.value.Value.{Value}
-use Rattle.tier_base.specs.declared.number.TableId.{TableId}
 use Rattle.table_defs.specs.declared.definition.TableDef.{TableDef}
 use Rattle.indexed_rows.specs.Rows.{Table}
 use Rattle.instances.specs.declared.tree.Child.{Child}
@@ -16,7 +15,7 @@ use Rattle.group_store.specs.Keeping.{layer_for, primary_of}
 use Rattle.group_store.specs.Stores.{AddsChild, IsNewStore, Kept, SameButSpare, put_rows, put_store, put_tables}
 use Rattle.group_store.specs.Shown.{foreign_key_of}
 use Rattle.group_store.specs.Trees.{key_at}
-use Rattle.stored_tier.proofs.StoreForms.{layers_put, row_more, same_both, same_rows, same_tables, table_more}
+use Rattle.stored_tier.proofs.StoreForms.{layers_put, row_more, same_rows, table_more}
 use Rattle.stored_tier.specs.Filling.{bare_front, bare_store, parent_key}
 
 -- lists by place

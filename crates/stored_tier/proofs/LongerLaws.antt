@@ -1,5 +1,5 @@
 -- The history goes on over calls of the bank.
-use Rattle.std.proofs.Common.{◌≡◌, inl, inr, ℕ, List, [], ◌∷◌, Option, Result, Ok, Err, sym, ◌∙◌}
+use Rattle.std.proofs.Common.{inl, inr, ℕ, List, [], Option, Result, Ok, Err, sym}
 use Rattle.std.proofs.lemmas.List.{append-nil}
 use Rattle.row_types.specs.declared.value.Value.{Value}
 use Rattle.tier_base.specs.declared.number.TableId.{TableId}

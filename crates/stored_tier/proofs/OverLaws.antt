@@ -1,16 +1,14 @@
 -- What may write to the journal: worlds behind it, and what it keeps of a site.
 use Rattle.std.proofs.Common.{◌≡◌, ◌≤◌, ℕ, ◌+◌, ◌-◌, ◌^◌, min, Bool, true, false, Option, Some, None, List, [], ◌∷◌, refl, sym, ap, subst, ◌∙◌, arith}
 use Rattle.std.specs.Bool.{MatchBool}
-use Rattle.std.proofs.lemmas.Option.{same_Some}
 use Rattle.tier_base.specs.declared.code.Code.TheVariants as code
-use Rattle.table_state.specs.declared.history.Sealed.{Sealed}
 use Rattle.outside.specs.Faults.{Rose}
-use Rattle.outside.specs.Holding.{Held, Slots}
+use Rattle.outside.specs.Holding.{Held}
 use Rattle.outside.specs.Sites.{SiteState}
 use Rattle.propagators.specs.Certainty.{KeepsCertain}
 use Rattle.tier_journal.specs.declared.journal.TierJournal.{TierJournal}
 use Rattle.tier_journal.specs.Keeping.{Keeps}
-use Rattle.kept_journal.specs.Keeping.{DiskIsCaused, IsOver, IsWrittenOver, KeepsOver, is_broken, over_disk}
+use Rattle.kept_journal.specs.Keeping.{DiskIsCaused, IsWrittenOver, KeepsOver, is_broken, over_disk}
 use Rattle.cache_tier.specs.declared.reply.Reply.{Reply}
 use Rattle.cache_tier.specs.Journals.{Journal, JournalEntry}
 use Rattle.tier_base.specs.declared.limit.Limit.TheVariants as limit

@@ -1,45 +1,25 @@
 -- What a session of the stored tier sees: the tables by name, and the rows with its own writes over them.
-use Rattle.std.proofs.Common.{◌≡◌, ◌<◌, ◌≤◌, ℕ, zero, suc, Bool, true, false, not, cond, nat_lt, ◌&&◌, ◌||◌, Option, Some, None, Result, Ok, Err, List, [], ◌∷◌, All, map, filter, find, fold, position, slice_get, unwrap_or, IfErr, IfOk, inl, refl, sym, ap, ◌∙◌, subst}
+use Rattle.std.proofs.Common.{◌≡◌, ℕ, suc, Bool, true, false, not, cond, ◌&&◌, ◌||◌, Some, List, [], ◌∷◌, All, map, find, unwrap_or, refl, sym, ap, ◌∙◌}
 use Rattle.std.specs.List.{list_all, list_any}
-use Rattle.std.specs.Option.{option_and_then, option_map}
-use Rattle.std.proofs.lemmas.Bool.{le-ltb, lt-ltb}
+use Rattle.std.specs.Option.{option_map}
 use Rattle.std.proofs.lemmas.List.Elements.{All-head, All-tail}
-use Rattle.row_types.specs.declared.rule.Refused.{Refused}
-use Rattle.row_types.specs.declared.rule.Refused.TheVariants as refused
-use Rattle.row_types.specs.declared.rule.Rule.{Rule}
-use Rattle.row_types.specs.declared.value.Value.{Value}
 use Rattle.tier_base.specs.declared.number.SessionId.{SessionId}
 use Rattle.tier_base.specs.declared.number.TableId.{TableId}
 use Rattle.table_defs.specs.declared.definition.TableDef.{TableDef}
-use Rattle.table_state.specs.declared.history.Entry.{Entry}
-use Rattle.table_state.specs.declared.footprint.RowKey.{RowKey}
-use Rattle.table_state.specs.declared.operation.Op.{Op}
 use Rattle.table_state.specs.Operations.{applied_all}
 use Rattle.table_state.specs.Tables.{TableState}
 use Rattle.own_rows.specs.OwnTables.{AreShown}
-use Rattle.session_state.specs.Sessions.{OpenSession, has_id, level_of as stored_level}
+use Rattle.session_state.specs.Sessions.{OpenSession, has_id}
 use Rattle.open_sessions.specs.declared.sessions.Sessions.{Sessions}
 use Rattle.open_sessions.specs.Lookups.{of_label, of_number, open_ops}
 use Rattle.open_sessions.specs.Opening.{AreSessions, seen_all}
 use Rattle.group_catalog.specs.Catalogs.{groups_in}
-use Rattle.evaluator.specs.declared.plan.Plan.{Plan}
-use Rattle.resolution.specs.declared.resolved.ResolvedQuery.{ResolvedQuery}
-use Rattle.resolution.specs.Queries.{PlacedQuery, query_seen, resolved_query}
-use Rattle.cache_tier.specs.declared.reply.Last.TheVariants.{No}
-use Rattle.cache_tier.specs.declared.reply.Reply.{Reply}
-use Rattle.cache_tier.specs.DynamicLoads.{Brings}
 use Rattle.cache_tier.specs.Facts.{OverIsApplied}
-use Rattle.cache_tier.specs.Groups.{Group, covers, definitions_of, group_over, is_defined_on, is_read_only, is_table_of, place_over}
-use Rattle.cache_tier.specs.Recency.{after_query, row_key, selected_rows, used_root, used_row, used_rows}
-use Rattle.cache_tier.specs.Routes as route
-use Rattle.cache_tier.specs.Routes.{hidden, hidden_where, is_cached, query_route, visible}
-use Rattle.cache_tier.specs.SelectSteps.{AnswersQuery, Selects, SelectsBy, SelectsPlaced, SelectsShown, plan_of, rows_reply}
-use Rattle.cache_tier.specs.Shown.{all_over, instance_key, seen_by, shown_state}
-use Rattle.cache_tier.specs.TierStates.{Session, Tier, level_of}
-use Rattle.cache_tier.specs.Wants.{Want, is_missing, is_off, loaded_want, loads_on_demand, wanted_by_query}
-use Rattle.cache_tier.specs.Worlds.{World, only}
-use Rattle.tier_statements.specs.Answering.{IsAnswerTo, IsAnswered}
-use Rattle.tier_statements.specs.Seen.{session_seen}
+use Rattle.cache_tier.specs.Groups.{Group, definitions_of, is_defined_on, is_table_of}
+use Rattle.cache_tier.specs.Routes.{hidden, hidden_where, is_cached, visible}
+use Rattle.cache_tier.specs.Shown.{all_over, seen_by}
+use Rattle.cache_tier.specs.TierStates.{Session, Tier}
+use Rattle.cache_tier.specs.Worlds.{World}
 use Rattle.stored_tier.specs.declared.tier.Tier.{Tier as Stored}
 use Rattle.stored_tier.specs.Stored.{HasSession, IsSound, IsStoredAs, IsVerified, ShowsRows, rows_of, without_list}
 

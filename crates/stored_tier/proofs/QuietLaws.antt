@@ -1,6 +1,6 @@
 -- What the cache answers by itself: the tier alone changes, and what is shown stays.
-use Rattle.std.proofs.Common.{◌≡◌, ◌≤◌, ◌⊎◌, ℕ, Bool, true, false, Option, Some, None, Result, Ok, Err, List, [], ◌∷◌, IfOk, find, inl, inr, refl, sym, ap, subst, ◌∙◌, arith}
-use Rattle.std.specs.Option.{option_map, option_or}
+use Rattle.std.proofs.Common.{◌≡◌, ℕ, Bool, false, Option, Some, None, Result, Ok, Err, [], find, inl, inr, refl, sym, ap, subst, ◌∙◌, arith}
+use Rattle.std.specs.Option.{option_map}
 use Rattle.tier_base.specs.declared.code.Code.TheVariants as code
 use Rattle.tier_base.specs.declared.number.SessionId.{SessionId}
 use Rattle.row_types.specs.declared.rule.Refused.{Refused}
@@ -10,12 +10,11 @@ use Rattle.table_defs.specs.Declarations.{IsRefusedBy}
 use Rattle.outside.specs.Holding.{Held}
 use Rattle.sql_subset.specs.declared.stmt.Stmt.{Stmt}
 use Rattle.cache_tier.specs.Order.{refusal}
-use Rattle.cache_tier.specs.declared.reply.Last.{Last}
 use Rattle.cache_tier.specs.declared.reply.Last.TheVariants.{Done, No}
 use Rattle.cache_tier.specs.declared.reply.Reply.{Reply}
 use Rattle.cache_tier.specs.Steps.{DoesStatement, tells}
 use Rattle.cache_tier.specs.TierStates.{Session, Tier, is_labelled, session_of}
-use Rattle.cache_tier.specs.Worlds.{Answer, IsUnshared, Part, Quiet, Tries, Unless, World, faulty, only}
+use Rattle.cache_tier.specs.Worlds.{Answer, Part, Quiet, Tries, Unless, World, faulty, only}
 use Rattle.open_sessions.specs.Opening.{seen_all}
 use Rattle.cache_tier.specs.Events.{StaysShown, with_tier}
 use Rattle.tier_statements.specs.Seen.{session_seen}
@@ -24,7 +23,7 @@ use Rattle.stored_tier.specs.Answering.{Replies}
 use Rattle.stored_tier.specs.Performing.{AreLast, Executes, IsCalm, IsPerformed, KeepsSlots, PerformsIn, StandsFor, reply_of}
 use Rattle.stored_tier.specs.Sites.{IsAt}
 use Rattle.outside.specs.Sites.{SiteState}
-use Rattle.stored_tier.specs.Stored.{HasSession, IsStoredAs, KeepsHidden, KeepsTime, rows_of}
+use Rattle.stored_tier.specs.Stored.{HasSession, IsStoredAs, KeepsHidden, rows_of}
 use Rattle.stored_tier.proofs.HiddenRows.{hides_still}
 use Rattle.stored_tier.proofs.SeenLaws.{find_seen}
 

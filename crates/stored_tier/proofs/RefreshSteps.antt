@@ -4,7 +4,6 @@ use Rattle.std.proofs.lemmas.Bool.{eq-eqb, eqb-true}
 use Rattle.std.proofs.lemmas.List.{append-nil, length-map, map-append}
 use Rattle.std.proofs.lemmas.List.Sums.{count_by_more_no, count_by_more_yes}
 use Rattle.std.specs.Option.{option_map}
-use Rattle.std.specs.List.{list_any}
 use Rattle.std.specs.FinMap.{contains_key, empty_of_len, entries, get-empty, len, len-entries}
 use Rattle.row_types.specs.Order.{key_order}
 use Rattle.row_types.specs.declared.value.Value.{Value}
@@ -28,7 +27,7 @@ use Rattle.stored_tier.specs.declared.refreshing.Made.{Made}
 use Rattle.stored_tier.specs.declared.tier.Tier.{Tier as Stored}
 use Rattle.stored_tier.specs.Stored.{IsStoredAs, without_list}
 use Rattle.stored_tier.specs.Refreshing.{AreMade, IsMade, IsMadeAt, exchanged, has_moment, is_chosen_by, is_chosen_in, is_noted, moment_in, moments_with, put_at, tables_read}
-use Rattle.stored_tier.specs.Moments.{refreshed_in, set_seen}
+use Rattle.stored_tier.specs.Moments.{set_seen}
 use Rattle.stored_tier.proofs.FillSteps.{drop_one, drop_past, mapped_at, take_one, take_past}
 
 drop_none : {X : Type 0} (l : List X) → drop 0 l ≡ l

@@ -1,5 +1,5 @@
 -- What is stored behind a change of the open sessions alone.
-use Rattle.std.proofs.Common.{◌≡◌, ◌<◌, ◌≤◌, ℕ, Bool, true, false, not, cond, Option, Some, None, Ok, Err, List, [], ◌∷◌, ◌++◌, All, length, map, filter, find, refl, sym, ap, ◌∙◌, subst}
+use Rattle.std.proofs.Common.{◌≡◌, ◌≤◌, ℕ, Bool, true, false, not, cond, Option, Some, None, Ok, Err, List, [], ◌∷◌, ◌++◌, All, length, map, filter, find, refl, sym, ap, ◌∙◌, subst}
 use Rattle.std.specs.List.{list_any}
 use Rattle.std.specs.Option.{option_map, option_or}
 use Rattle.std.proofs.lemmas.Bool.{le-leb, lt-leb}
@@ -10,8 +10,7 @@ use Rattle.tier_base.specs.declared.limit.Limit.TheVariants as limit
 use Rattle.tier_base.specs.declared.number.SessionId.{SessionId}
 use Rattle.row_types.specs.declared.rule.Rule.{Rule}
 use Rattle.row_types.specs.declared.rule.Refused.TheVariants as refused
-use Rattle.cache_tier.specs.declared.reply.Last.TheVariants.{Done}
-use Rattle.cache_tier.specs.Worlds.{Answer, only}
+use Rattle.cache_tier.specs.Worlds.{Answer}
 use Rattle.sql_subset.specs.declared.request.OpenOptions.{OpenOptions}
 use Rattle.table_defs.specs.declared.definition.TableDef.{TableDef}
 use Rattle.own_rows.specs.OwnTables.{AreShown}
@@ -19,12 +18,11 @@ use Rattle.session_state.specs.Sessions.{OpenSession, at_rest as rested, begun, 
 use Rattle.open_sessions.specs.declared.sessions.Sessions.{Sessions}
 use Rattle.open_sessions.specs.Lookups.{has_label, of_label}
 use Rattle.open_sessions.specs.Opening.{AreSessions, Opens, closed, on_session, seen_all}
-use Rattle.cache_tier.specs.CommitSteps.{ends}
 use Rattle.cache_tier.specs.Rules.{at_limit, broken_if, labelled, past}
-use Rattle.cache_tier.specs.SessionSteps.{close_answer, flag_answer, new_session, open_answer, open_fault}
+use Rattle.cache_tier.specs.SessionSteps.{new_session, open_fault}
 use Rattle.cache_tier.specs.TierStates.{Session, Tier, is_labelled}
 use Rattle.stored_tier.specs.declared.tier.Tier.{Tier as Stored}
-use Rattle.stored_tier.specs.Answering.{FindsSession, IsSessionOf, Replies}
+use Rattle.stored_tier.specs.Answering.{FindsSession, Replies}
 use Rattle.stored_tier.specs.Stored.{HasSession, IsSound, IsStoredAs, IsVerified, rows_of}
 use Rattle.tier_statements.specs.Seen.{session_seen}
 use Rattle.stored_tier.proofs.SeenLaws.{all_changed, any_seen, changed_seen, find_seen, found_label, left_seen}

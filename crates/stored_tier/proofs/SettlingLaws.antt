@@ -1,5 +1,5 @@
 -- A round by the stored tier: the tier stands for the abstract one behind it.
-use Rattle.std.proofs.Common.{◌≡◌, ◌≤◌, ◌<◌, ℕ, zero, suc, ◌+◌, ◌-◌, ◌^◌, Bool, true, false, cond, not, ◌&&◌, min, nat_eq, nat_lt, Option, Some, None, List, [], ◌∷◌, ◌++◌, All, length, map, filter, refl, sym, ap, ◌∙◌, subst, inl, inr, arith}
+use Rattle.std.proofs.Common.{◌≡◌, ◌≤◌, ℕ, zero, suc, ◌+◌, ◌-◌, ◌^◌, Bool, true, false, not, min, nat_eq, nat_lt, Option, Some, None, List, [], ◌∷◌, ◌++◌, length, filter, refl, sym, ap, ◌∙◌, subst, inl, inr, arith}
 use Rattle.std.specs.Prelude.{Result, Ok, Err}
 use Rattle.std.specs.Bool.{MatchBool}
 use Rattle.std.specs.List.{slice_get}
@@ -26,9 +26,8 @@ use Rattle.propagators.specs.Rounds.{AreUnshared, HoldsRound, IsRestOf, Leads, R
 use Rattle.cache_tier.specs.JournalSteps.{Flushes}
 use Rattle.cache_tier.specs.Groups.{Group, is_table_of, is_writethrough}
 use Rattle.cache_tier.specs.Rotations.{RotatesIfLong}
-use Rattle.cache_tier.specs.Rounds.{AllLeft, Applies, Differing, Drained, Drains, Failing, Round, RoundEnd, RoundIfUnsettled, Wanting, is_unsettled, round_stop}
+use Rattle.cache_tier.specs.Rounds.{AllLeft, Applies, Differing, Drained, Drains, Failing, Round, RoundEnd, RoundIfUnsettled, Wanting, round_stop}
 use Rattle.cache_tier.specs.Routes.{table_name}
-use Rattle.cache_tier.specs.Shown.{shown_state}
 use Rattle.cache_tier.specs.Steps.{tells}
 use Rattle.cache_tier.specs.TierStates.{Tier}
 use Rattle.cache_tier.specs.Worlds.{IsUnshared, Passes, Tries, World, faulty, only}
@@ -44,9 +43,8 @@ use Rattle.propagators.specs.Certainty.{KeepsCertain}
 use Rattle.tier_journal.specs.declared.journal.TierJournal.{TierJournal}
 use Rattle.kept_journal.specs.Keeping.{DiskIsCaused, WritesOver, is_broken, over_disk}
 use Rattle.stored_tier.specs.Draining.{AppliesAll, IsEnded, SettlesAll, settled_reply, settled_stop}
-use Rattle.stored_tier.specs.Performing.{IsCaused, IsCausedOver, IsPerformed, KeepsSlots, Performs, PerformsOver, StandsFor, stop_of}
+use Rattle.stored_tier.specs.Performing.{IsCaused, IsCausedOver, Performs, PerformsOver, StandsFor, stop_of}
 use Rattle.stored_tier.specs.Refusing.{TellsDifference, TellsRoundEnd}
-use Rattle.stored_tier.specs.Sites.{IsAt}
 use Rattle.outside.specs.Sites.{SiteState}
 use Rattle.stored_tier.proofs.LaterLaws.{later_rest}
 use Rattle.pending_writes.specs.Noting.{TellsWriters}
@@ -56,7 +54,7 @@ use Rattle.stored_tier.proofs.HiddenRows.{hidden_as, hides_then}
 use Rattle.stored_tier.proofs.OverLaws.{at_written, caused_broken, caused_turned, flush_breaks, keeps_called, never_both, stands_written, unsettled_kept}
 use Rattle.stored_tier.proofs.RoundLaws.{LeftLaw, is_left, round_seen, unsure_at}
 use Rattle.stored_tier.proofs.WriterLaws.{writers_rest}
-use Rattle.stored_tier.proofs.StandingLaws.{last_rest, performed_behind, performed_here, slots_kept}
+use Rattle.stored_tier.proofs.StandingLaws.{last_rest, performed_behind, slots_kept}
 
 -- the laws of a round
 

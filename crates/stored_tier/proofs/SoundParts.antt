@@ -1,15 +1,14 @@
 -- What holds of the parts behind stores that were exchanged, and groups that keep their definitions.
-use Rattle.std.proofs.Common.{◌≡◌, ◌≤◌, ℕ, zero, suc, ◌+◌, Bool, true, false, cond, not, ◌&&◌, ◌||◌, Option, Some, None, is_none, is_some, List, [], ◌∷◌, length, map, slice_get, unwrap_or, refl, sym, ap, subst, ◌∙◌, arith}
-use Rattle.std.specs.List.{list_all, list_any}
+use Rattle.std.proofs.Common.{◌≡◌, ℕ, zero, suc, Bool, true, false, cond, not, ◌&&◌, ◌||◌, Option, Some, List, [], ◌∷◌, length, slice_get, refl, sym, ap, ◌∙◌}
+use Rattle.std.specs.List.{list_all}
 use Rattle.std.specs.Option.{option_map, option_or}
 use Rattle.tier_base.specs.declared.number.TableId.{TableId}
 use Rattle.table_defs.specs.declared.definition.TableDef.{TableDef}
-use Rattle.group_store.specs.Keeping.{IsFor}
-use Rattle.group_store.specs.Shown.{AreHoused, home_from, home_of, homes_from, homes_of}
+use Rattle.group_store.specs.Shown.{AreHoused, home_from, home_of, homes_from}
 use Rattle.group_store.specs.Stores.{Kept, place_in}
 use Rattle.group_store.specs.declared.directory.Home.{Home}
 use Rattle.cache_tier.specs.declared.group.GroupDef.{GroupDef}
-use Rattle.cache_tier.specs.Groups.{Group, covers, definitions_of, is_defined_on, is_synchronous, is_table_of}
+use Rattle.cache_tier.specs.Groups.{Group, definitions_of, is_defined_on, is_table_of}
 use Rattle.cache_tier.specs.Routes.{hidden_where}
 use Rattle.cache_tier.specs.Sets.{Choice, changed_from}
 use Rattle.group_catalog.specs.Catalogs.{groups_in}

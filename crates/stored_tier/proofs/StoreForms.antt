@@ -1,5 +1,5 @@
 -- The form of a store, and rows that are put in whatever its room.
-use Rattle.std.proofs.Common.{◌≡◌, ℕ, zero, suc, ◌+◌, arith, List, [], ◌∷◌, length, map, Option, Some, None, slice_get, unwrap_or, refl, sym, ap, subst, ◌∙◌}
+use Rattle.std.proofs.Common.{◌≡◌, ℕ, zero, suc, ◌+◌, arith, List, [], ◌∷◌, map, Option, Some, None, slice_get, unwrap_or, refl, sym, ap, subst, ◌∙◌}
 use Rattle.indexed_rows.proofs.MapLaws.{slice_get_map}
 use Rattle.std.specs.Option.{option_map}
 use Rattle.row_types.specs.declared.value.Value.{Value}

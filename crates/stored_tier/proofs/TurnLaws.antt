@@ -1,6 +1,5 @@
 -- A rotation by the stored tier: whether the journal is long, and what is done where it is.
-use Rattle.std.proofs.Common.{◌≡◌, ◌<◌, ◌+◌, ℕ, zero, suc, Bool, true, false, ◌&&◌, nat_eq, nat_lt, Option, Some, None, List, [], ◌∷◌, length, refl, sym, ap, ◌∙◌, subst, arith}
-use Rattle.std.specs.Prelude.{Result, Ok, Err}
+use Rattle.std.proofs.Common.{◌≡◌, ℕ, suc, Bool, true, false, ◌&&◌, nat_eq, nat_lt, Option, Some, None, List, [], ◌∷◌, length, refl, sym, ap, ◌∙◌, subst, arith}
 use Rattle.std.proofs.lemmas.Bool.{eqb-true}
 use Rattle.std.specs.Bool.{MatchBool}
 use Rattle.table_state.specs.declared.history.Sealed.{Sealed}
@@ -8,20 +7,18 @@ use Rattle.outside.specs.Holding.{Held}
 use Rattle.outside.specs.Sites.{SiteState}
 use Rattle.group_catalog.specs.Catalogs.{groups_in}
 use Rattle.cache_tier.specs.declared.reply.Reply.{Reply}
-use Rattle.cache_tier.specs.Rotations.{Kept, Rotates, RotatesIfLong, is_long, slot_entries}
-use Rattle.cache_tier.specs.TierStates.{Settings}
+use Rattle.cache_tier.specs.Rotations.{Kept, Rotates, RotatesIfLong, is_long}
 use Rattle.cache_tier.specs.Worlds.{Passes, World}
 use Rattle.tier_journal.specs.declared.batch.Batch.{Batch}
 use Rattle.tier_journal.specs.declared.journal.TierJournal.{TierJournal}
 use Rattle.tier_journal.specs.Batches.{Holds}
 use Rattle.table_defs.specs.declared.definition.TableDef.{TableDef}
-use Rattle.kept_journal.specs.Keeping.{DiskIsCaused, KeepsOver, is_broken, over_disk}
+use Rattle.kept_journal.specs.Keeping.{DiskIsCaused, KeepsOver, over_disk}
 use Rattle.kept_journal.specs.Turning.{TurnsOver, is_long_kept}
 use Rattle.stored_tier.specs.declared.clock.Pace.{Pace}
 use Rattle.stored_tier.specs.declared.tier.Tier.{Tier as Stored}
 use Rattle.stored_tier.specs.NewSlots.{begun_entries}
-use Rattle.stored_tier.specs.Performing.{IsPerformedOver, PerformsOver, StandsFor}
-use Rattle.stored_tier.specs.Stored.{pace_of}
+use Rattle.stored_tier.specs.Performing.{PerformsOver, StandsFor}
 use Rattle.stored_tier.proofs.NewSlotLaws.{slot_so}
 use Rattle.stored_tier.proofs.OverLaws.{at_written, over_here, stands_written}
 

@@ -1,5 +1,5 @@
 -- Stored rows over which sessions read and write.
-use Rattle.std.proofs.Common.{◌≡◌, ℕ, zero, suc, ◌+◌, ◌<◌, ◌≤◌, ◌^◌, Bool, true, false, Option, Some, None, is_some, List, [], ◌∷◌, All, length, map, get_or, slice_get, refl, sym, ap, ◌∙◌, subst, arith, ◌⊎◌, inl, inr, unwrap_or}
+use Rattle.std.proofs.Common.{◌≡◌, ℕ, zero, suc, ◌+◌, ◌<◌, ◌≤◌, true, Option, Some, None, is_some, List, [], ◌∷◌, All, length, map, get_or, slice_get, refl, sym, ap, ◌∙◌, subst, arith, ◌⊎◌, inl, inr, unwrap_or}
 use Rattle.std.specs.Option.{option_and_then, option_or}
 use Rattle.std.proofs.lemmas.Bool.{cases_lt}
 use Rattle.std.proofs.lemmas.List.{length-map}
@@ -10,7 +10,7 @@ use Rattle.row_types.specs.declared.value.Value.{Value}
 use Rattle.row_types.specs.Order.{key_order}
 use Rattle.tier_base.specs.declared.number.TableId.{TableId}
 use Rattle.table_defs.specs.declared.definition.TableDef.{TableDef}
-use Rattle.indexed_rows.specs.Rows.{Table, key_of}
+use Rattle.indexed_rows.specs.Rows.{Table}
 use Rattle.indexed_rows.proofs.EntryLaws.{has_at, mapped_at, read, there}
 use Rattle.table_state.specs.declared.operation.Op.{Op}
 use Rattle.table_state.specs.declared.refusal.ApplyError.{ApplyError}
@@ -29,7 +29,7 @@ use Rattle.session_state.specs.declared.session.Session.{Session}
 use Rattle.open_sessions.specs.Opening.{seen_all}
 use Rattle.group_catalog.specs.Catalogs.{groups_in}
 use Rattle.group_store.specs.Keeping.{IsFor}
-use Rattle.group_store.specs.Shown.{shown_by, stored_rows, tables_by}
+use Rattle.group_store.specs.Shown.{stored_rows, tables_by}
 use Rattle.group_store.specs.Stores.{Kept, key_columns, place_in}
 use Rattle.group_store.specs.declared.directory.Home.{Home}
 use Rattle.group_store.proofs.FormLaws.{key_for, place_same, primary, stands_there}

@@ -1,14 +1,13 @@
 -- What a statement answers that asks nothing of the outside. (This project's model.)
 
 use Rattle.std.specs.Prelude.{◌≡◌, ℕ, List, Option, Some, None, Result, Ok, Err}
-use Rattle.std.specs.Option.{is_none}
 use Rattle.tier_base.specs.declared.code.Code.TheVariants as code
 use Rattle.tier_base.specs.declared.number.SessionId.{SessionId}
 use Rattle.row_types.specs.declared.rule.Refused.{Refused}
 use Rattle.row_types.specs.declared.rule.Refused.TheVariants as refused
 use Rattle.row_types.specs.declared.rule.Rule.{Rule}
 use Rattle.cache_tier.specs.declared.reply.Reply.{Reply}
-use Rattle.cache_tier.specs.Rules.{broken_if, labelled}
+use Rattle.cache_tier.specs.Rules.{labelled}
 use Rattle.cache_tier.specs.TierStates.{Session, Tier, session_of}
 use Rattle.cache_tier.specs.Worlds.{Answer}
 use Rattle.stored_tier.specs.declared.tier.Tier.{Tier as Stored}

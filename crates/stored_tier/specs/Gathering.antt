@@ -1,7 +1,7 @@
 -- Instances that a load gathers from the tables of a snapshot. (TimesTen SQL Reference, "LOAD CACHE GROUP", "REFRESH
 -- CACHE GROUP".)
 
-use Rattle.std.specs.Prelude.{◌≡◌, ℕ, List, [], ◌∷◌, Bool, true, false, map, Result, Ok, Err}
+use Rattle.std.specs.Prelude.{◌≡◌, List, [], ◌∷◌, Bool, true, false, map, Result, Ok, Err}
 use Rattle.std.specs.FinMap.{values}
 use Rattle.tier_base.specs.declared.code.Code.TheVariants as code
 use Rattle.row_types.specs.declared.rule.Refused.{Refused}

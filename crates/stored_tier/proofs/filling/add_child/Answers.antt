@@ -1,4 +1,4 @@
-use Rattle.std.proofs.Common.{◌≡◌, ◌∙◌, arith, sym}
+use Rattle.std.proofs.Common.{◌∙◌, arith, sym}
 use Rattle.stored_tier.proofs.FillSteps.{adds_so, child_added, if_ok, parent_long}
 use Rattle.stored_tier.proofs.filling.add_child.Goals as goal
 

@@ -1,6 +1,6 @@
-use Rattle.std.proofs.Common.{◌≡◌, ◌∙◌, arith, length}
+use Rattle.std.proofs.Common.{◌∙◌}
 use Rattle.std.specs.FinMap.{values}
-use Rattle.stored_tier.proofs.FillSteps.{all_tables, at_index, layers_kept, one_table}
+use Rattle.stored_tier.proofs.FillSteps.{at_index, layers_kept, one_table}
 use Rattle.stored_tier.proofs.filling.fill.Goals as goal
 
 pub loop-place-preserved : goal.loop-place-preserved

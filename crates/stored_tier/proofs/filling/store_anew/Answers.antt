@@ -1,4 +1,4 @@
-use Rattle.std.proofs.Common.{◌≡◌, ◌≤◌, ◌+◌, ◌∷◌, [], ◌∙◌, ap, length, subst, sym}
+use Rattle.std.proofs.Common.{◌≤◌, ◌+◌, ◌∷◌, [], ◌∙◌, ap, length, subst, sym}
 use Rattle.instances.specs.Views.{with_children}
 use Rattle.group_catalog.specs.Kept.{group_seen}
 use Rattle.stored_tier.proofs.AnewLaws.{anew_fits, made_anew}

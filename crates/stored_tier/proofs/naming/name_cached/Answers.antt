@@ -1,4 +1,4 @@
-use Rattle.std.proofs.Common.{◌≡◌, ◌<◌, ◌++◌, ◌∷◌, [], ap, ◌∙◌, sym, length, arith, take}
+use Rattle.std.proofs.Common.{◌<◌, ◌++◌, ◌∷◌, [], ap, ◌∙◌, sym, length, arith, take}
 use Rattle.group_catalog.specs.Catalogs.{groups_in}
 use Rattle.stored_tier.specs.Stored.{named_where_cached}
 use Rattle.stored_tier.proofs.NamingLaws.{named_more}

@@ -1,7 +1,5 @@
-use Rattle.std.proofs.Common.{◌∙◌, ap, rules, subst, sym}
-use Rattle.cache_tier.specs.Journals.{Defines}
-use Rattle.stored_tier.specs.NewSlots.{AddsAll}
-use Rattle.stored_tier.proofs.NewSlotLaws.{adds_one, definition_added}
+use Rattle.std.proofs.Common.{◌∙◌, rules}
+use Rattle.stored_tier.proofs.NewSlotLaws.{definition_added}
 use Rattle.stored_tier.proofs.new_slot.with_definition.Goals as goal
 
 pub returns-clause-adds : goal.returns-clause-adds

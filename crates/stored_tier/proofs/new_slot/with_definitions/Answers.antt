@@ -1,7 +1,6 @@
 use Rattle.std.proofs.Common.{◌∙◌, arith, refl, rules}
-use Rattle.std.specs.List.{slice_get}
 use Rattle.group_catalog.specs.Catalogs.{groups_in}
-use Rattle.stored_tier.specs.NewSlots.{AddsAll, definition_entries}
+use Rattle.stored_tier.specs.NewSlots.{definition_entries}
 use Rattle.stored_tier.proofs.NewSlotLaws.{adds_none, all_taken, definitions_step}
 use Rattle.stored_tier.proofs.new_slot.with_definitions.Goals as goal
 

@@ -1,4 +1,4 @@
-use Rattle.std.specs.Prelude.{List, true}
+use Rattle.std.specs.Prelude.{List}
 use Rattle.std.proofs.Common.{subst, ◌∙◌, rules, sym}
 use Rattle.table_defs.specs.declared.definition.TableDef.{TableDef}
 use Rattle.cache_tier.specs.Journals.{SetsState}

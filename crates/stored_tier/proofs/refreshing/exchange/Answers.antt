@@ -1,4 +1,4 @@
-use Rattle.std.proofs.Common.{◌≡◌, ◌∙◌, ap, length, sym}
+use Rattle.std.proofs.Common.{◌≡◌, ◌∙◌, length, sym}
 use Rattle.stored_tier.specs.declared.refreshing.Made.{Made}
 use Rattle.stored_tier.proofs.RefreshSteps.{none_more, none_put, put_last}
 use Rattle.stored_tier.proofs.refreshing.exchange.Goals as goal

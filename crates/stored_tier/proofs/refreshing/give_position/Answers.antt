@@ -1,8 +1,7 @@
-use Rattle.std.proofs.Common.{◌≡◌, ◌∙◌, ap, arith, length, sym}
-use Rattle.cache_tier.specs.Sets.{changed_from}
+use Rattle.std.proofs.Common.{◌∙◌, ap, arith, sym}
 use Rattle.group_catalog.specs.Catalogs.{groups_in}
 use Rattle.stored_tier.specs.Refreshing.{choice_of, positioned}
-use Rattle.stored_tier.proofs.RefreshSteps.{before_place, chosen_within, position_given, position_kept, positions_begun, positions_end}
+use Rattle.stored_tier.proofs.RefreshSteps.{chosen_within, position_given, position_kept, positions_begun, positions_end}
 use Rattle.stored_tier.proofs.refreshing.give_position.Goals as goal
 use Rattle.stored_tier.proofs.refreshing.give_position.Goals.{then-is_chosen_at, else-is_chosen_at}
 

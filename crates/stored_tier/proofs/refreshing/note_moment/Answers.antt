@@ -1,4 +1,4 @@
-use Rattle.std.proofs.Common.{◌≡◌, ◌<◌, ◌∙◌, ap, arith, cond, length, set, sym}
+use Rattle.std.proofs.Common.{◌≡◌, ◌<◌, ◌∙◌, ap, arith, length, set, sym}
 use Rattle.stored_tier.proofs.RefreshSteps.{moment_passed, not_noted, noted_here, same_got, set_at, set_long, set_same, there_now}
 use Rattle.stored_tier.proofs.refreshing.note_moment.Goals as goal
 use Rattle.stored_tier.proofs.refreshing.note_moment.Goals.{then-index-interval, else-index-interval}

@@ -1,4 +1,4 @@
-use Rattle.std.proofs.Common.{◌≡◌, ◌∙◌, ap, arith, sym}
+use Rattle.std.proofs.Common.{◌∙◌, ap, arith, sym}
 use Rattle.stored_tier.proofs.RefreshSteps.{all_pushed, child_pushed, none_pushed}
 use Rattle.stored_tier.proofs.refreshing.push_tables.Goals as goal
 use Rattle.stored_tier.proofs.refreshing.push_tables.Goals.{in-None, in-Some+in_ok-push-in-Some}

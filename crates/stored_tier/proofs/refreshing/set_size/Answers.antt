@@ -1,4 +1,4 @@
-use Rattle.std.proofs.Common.{◌≡◌, arith, sym}
+use Rattle.std.proofs.Common.{arith, sym}
 use Rattle.cache_tier.specs.Sets.{is_in_set}
 use Rattle.group_catalog.specs.Catalogs.{groups_in}
 use Rattle.group_catalog.specs.Kept.{group_seen}

@@ -1,4 +1,4 @@
-use Rattle.std.proofs.Common.{◌≡◌, ◌<◌, ◌≤◌, ◌+◌, ◌∙◌, ◌||◌, ap, arith, drop, length, sym}
+use Rattle.std.proofs.Common.{◌<◌, ◌≤◌, ◌+◌, ◌∙◌, ◌||◌, ap, arith, drop, length, sym}
 use Rattle.cache_tier.specs.Sets.{shows_something}
 use Rattle.stored_tier.proofs.ListLaws.{grouped_long}
 use Rattle.stored_tier.proofs.RefreshSteps.{all_shown, none_shown, shows_there}

@@ -1,4 +1,4 @@
-use Rattle.std.proofs.Common.{◌≡◌, ◌∙◌, ◌++◌, ◌+◌, ap, arith, drop, sym}
+use Rattle.std.proofs.Common.{◌∙◌, ◌++◌, ◌+◌, ap, arith, drop, sym}
 use Rattle.group_catalog.specs.Catalogs.{groups_in}
 use Rattle.group_catalog.specs.Kept.{group_seen}
 use Rattle.stored_tier.specs.Refreshing.{choice_of, tables_read}

@@ -1,6 +1,6 @@
 use Rattle.std.proofs.Common.{arith}
 use Rattle.instances.specs.Views.{kept_at}
-use Rattle.stored_tier.proofs.VerifyLaws.{fit_all, one_more_fits}
+use Rattle.stored_tier.proofs.VerifyLaws.{fit_all}
 use Rattle.stored_tier.proofs.verifying.have_fit.Goals as goal
 
 pub returns-clause-fit : goal.returns-clause-fit

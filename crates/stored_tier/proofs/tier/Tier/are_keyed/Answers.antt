@@ -1,5 +1,5 @@
 use Rattle.stored_tier.proofs.VerifyLaws.{keyed_rows}
-use Rattle.std.proofs.Common.{ap, arith, length}
+use Rattle.std.proofs.Common.{arith}
 use Rattle.stored_tier.proofs.tier.Tier.are_keyed.Goals as goal
 
 pub returns : goal.returns

@@ -1,9 +1,6 @@
-use Rattle.std.proofs.Common.{[], refl, subst, sym}
-use Rattle.std.specs.Prelude.{Err, Ok}
-use Rattle.stored_tier.specs.Draining.{settled_reply}
-use Rattle.stored_tier.specs.Performing.{IsCausedOver}
+use Rattle.std.proofs.Common.{[], refl}
 use Rattle.stored_tier.proofs.OverLaws.{caused_stopped, caused_then}
-use Rattle.stored_tier.proofs.SettlingLaws.{end_caused, ended_caused, flush_ended, settled_over, sound_settled}
+use Rattle.stored_tier.proofs.SettlingLaws.{ended_caused, flush_ended, settled_over, sound_settled}
 use Rattle.stored_tier.proofs.tier.Tier.settle.Goals as goal
 
 pub returns-in-Err-clause-performs : goal.returns-in-Err-clause-performs
