@@ -20,33 +20,28 @@ use Rattle.cache_tier.specs.Aging.{after_aging, aged, aged_rule, expired, is_age
 use Rattle.cache_tier.specs.Groups.{Group, definitions_of, has_list, is_read_only, without_keys}
 use Rattle.cache_tier.specs.Locks.{is_busy}
 use Rattle.cache_tier.specs.Shown.{shows_root}
-use Rattle.cache_tier.specs.Standing.{AreDistinct}
 use Rattle.cache_tier.specs.TierStates.{Settings, Tier}
 use Rattle.cache_tier.specs.Worlds.{World}
 use Rattle.cache_tier.specs.Events.{with_tier}
-use Rattle.cache_tier.specs.StandingBetween.{HasKeys, Stands}
+use Rattle.cache_tier.specs.StandingBetween.{Stands}
 use Rattle.cache_tier.proofs.AgingLaws.{aging_stands}
-use Rattle.cache_tier.proofs.ChosenGroups.{each_at}
 use Rattle.stored_tier.specs.declared.tier.Tier.{Tier as Stored}
 use Rattle.stored_tier.specs.Lists.{AreListed, HasKeysOf, IsHidingFor, IsListed, hides_keys, is_by_use}
 use Rattle.stored_tier.specs.Performing.{StandsFor}
-use Rattle.stored_tier.specs.Stored.{AreKept, IsSound, IsStoredAs, KeepsTime, ShowsRows, pace_of, rows_of, without_list}
-use Rattle.stored_tier.proofs.QuietLaws.{stands_over}
+use Rattle.stored_tier.specs.Stored.{AreKept, IsSound, IsStoredAs, KeepsTime, ShowsRows, pace_of, without_list}
 use Rattle.stored_tier.proofs.StoreChanges.{kept_defined}
 use Rattle.stored_tier.proofs.StoreRows.{shows_kept, store_here}
 use Rattle.aging_cycles.specs.Ages.{Ages}
 use Rattle.aging_cycles.specs.Busy.{is_busy_in, owns_of}
-use Rattle.aging_cycles.specs.Cycles.{AreCycles, IsCycle, IsCycleOf, IsOrdered, IsReady, NoneIsDue, horizon_behind, is_due, is_due_by, leaving_by}
-use Rattle.aging_cycles.specs.Running.{HasLeft, HaveRun, RunsIn}
-use Rattle.aging_cycles.specs.declared.cycles.Cycle.{Cycle}
+use Rattle.aging_cycles.specs.Cycles.{horizon_behind, is_due, is_due_at, is_due_by, is_due_in, keys_leaving, leaving_by}
+use Rattle.aging_cycles.specs.Running.{HasLeft, HaveRun, RunsAt, StaysAt}
 use Rattle.aging_cycles.proofs.HiddenViews.{hides_run}
+use Rattle.aging_cycles.proofs.LeavingKeys.{leaving_is}
 use Rattle.aging_cycles.proofs.Places.{PlaceAged, time_read, time_write, use_listed, use_unlisted, was_true}
 use Rattle.aging_cycles.proofs.RootRows.{Drops}
 use Rattle.aging_cycles.proofs.ShownPlaces.{shown_of_place}
 use Rattle.aging_cycles.proofs.Shows.{left_shows}
 use Rattle.aging_cycles.proofs.SoundRun.{cycle_runs, hiding_at, hiding_long, kept_long, kept_then, nothing_left}
-use Rattle.aging_cycles.proofs.Walks.{there_too}
-use Rattle.aging_cycles.proofs.Writers.{busy_is}
 
 abbrev Row : Type 0
 Row = List Value
@@ -124,7 +119,7 @@ pub record PlaceStands (w : World) (new : Stored) (k : ℕ) (g h : Group) : Type
   pub behind_is : slice_get new.hidden.items k ≡ Some behind
   pub is : PlaceAged w g h left behind.table
 
-module _ (drops : Drops) (t new : Stored) (w : World) (cycles : List (Option Cycle)) (sound : IsSound t) (ready : IsReady t) (are : AreCycles t cycles) (run : HaveRun t new cycles) (stands : StandsFor t w) where
+module _ (drops : Drops) (t new : Stored) (w : World) (sound : IsSound t) (run : HaveRun t new) (stands : StandsFor t w) where
   abbrev turn : Group → Group
   turn = λ g. cond (is_aging_due w.tier g) (aged w.history w.tier g) g
 
@@ -149,7 +144,7 @@ module _ (drops : Drops) (t new : Stored) (w : World) (cycles : List (Option Cyc
     listed = listed_at w.tier.groups t.stores.items t.hidden.items k g (store_here t w sound stands k g at).store hidden stands.stored.lists at kept hides.1
 
     -- it isn't due
-    still : is_aging_due w.tier g ≡ false → RunsIn t new k None → PlaceStands w new k g (turn g)
+    still : is_aging_due w.tier g ≡ false → StaysAt t new k → PlaceStands w new k g (turn g)
     still idle stays = subst (PlaceStands w new k g) (sym (ap (λ b. cond b (aged w.history w.tier g) g) idle)) (record {
       left = (store_here t w sound stands k g at).store;
       behind = hidden;
@@ -166,54 +161,37 @@ module _ (drops : Drops) (t new : Stored) (w : World) (cycles : List (Option Cyc
         and_true true = refl
         and_true false = refl
 
-    -- its cycle, by what the world has
-    its_cycle : (c : Cycle) → IsCycle t.clock.pace t.clock.now (is_busy_in (rows_of t) (owns_of t.sessions) (without_list g)) (without_list g) (store_here t w sound stands k g at).store c
-        → IsCycle (pace_of w.tier.settings) w.tier.now (is_busy w.history w.tier g) (without_list g) (store_here t w sound stands k g at).store c
-    its_cycle c is =
-        let busy : ◌≡◌ {A = Row → Bool} (is_busy_in (rows_of t) (owns_of t.sessions) (without_list g)) (is_busy w.history w.tier g) = λ i q. busy_is t w sound ready stands k g at q i in
-        subst (λ b. IsCycle (pace_of w.tier.settings) w.tier.now b (without_list g) (store_here t w sound stands k g at).store c) busy
-        (subst (λ p. IsCycle p w.tier.now (is_busy_in (rows_of t) (owns_of t.sessions) (without_list g)) (without_list g) (store_here t w sound stands k g at).store c) (sym stands.stored.time.due)
-        (subst (λ n. IsCycle t.clock.pace n (is_busy_in (rows_of t) (owns_of t.sessions) (without_list g)) (without_list g) (store_here t w sound stands k g at).store c) (sym stands.stored.time.moment) is))
-
-    -- where the order of keys plays a part each stands once
-    ordered : IsOrdered (without_list g) (store_here t w sound stands k g at).store
-    ordered = by (has_list g && is_by_use g.def.aging) listed
-      where
-        apart : AreDistinct g.keys
-        apart = (each_at (HasKeys stands.stands.flow.stand.over.virtual) w.tier.groups k g stands.stands.keys at).distinct
-
-        by : (b : Bool) → MatchBool b (g.keys ≡ (store_here t w sound stands k g at).store.keys) (MatchBool g.def.dynamic (HasKeysOf g.keys (store_here t w sound stands k g at).store hidden.table) (Unit {0})) → MatchBool b (AreDistinct (store_here t w sound stands k g at).store.keys) (Unit {0})
-        by true same = subst AreDistinct same apart
-        by false none = tt
+    -- the keys that leave, by what the world has
+    keys_are : (o : Option AgingRule) → g.def.aging ≡ o → keys_leaving t (without_list g) (store_here t w sound stands k g at).store
+        ≡ leaving_by (pace_of w.tier.settings) w.tier.now (is_busy w.history w.tier g) (without_list g) (store_here t w sound stands k g at).store o
+    keys_are o e =
+        (λ i. leaving_by (sym stands.stored.time.due i) (sym stands.stored.time.moment i) (is_busy_in t.schema (owns_of t.sessions) (without_list g) (store_here t w sound stands k g at).store) (without_list g) (store_here t w sound stands k g at).store (e i))
+        ∙ leaving_is t w sound stands k g at (store_here t w sound stands k g at).store kept hidden.table listed (pace_of w.tier.settings) w.tier.now o e
 
     -- it is due, and has run
-    runs : (c : Cycle) → is_aging_due w.tier g ≡ true → IsCycle (pace_of w.tier.settings) w.tier.now (is_busy w.history w.tier g) (without_list g) (store_here t w sound stands k g at).store c
-        → (left : Kept) (behind : RowsHeld) → HasLeft (without_list g) c.keys.items (store_here t w sound stands k g at).store left hidden behind
+    runs : is_aging_due w.tier g ≡ true → (left : Kept) (behind : RowsHeld) → HasLeft (without_list g) (keys_leaving t (without_list g) (store_here t w sound stands k g at).store) (store_here t w sound stands k g at).store left hidden behind
         → PlaceAged w g (aged w.history w.tier g) left behind.table
-    runs c due cycle left behind does = by g.def.aging refl
+    runs due left behind does = by g.def.aging refl
       where
         nothing : hides_keys g ≡ false → hidden.table ≡ empty
         nothing hidesnt = hides.2.none hidesnt
-
-        keys_are : (o : Option AgingRule) → g.def.aging ≡ o → c.keys.items ≡ leaving_by (pace_of w.tier.settings) w.tier.now (is_busy w.history w.tier g) (without_list g) (store_here t w sound stands k g at).store o
-        keys_are o e = cycle.leave ordered ∙ ap (leaving_by (pace_of w.tier.settings) w.tier.now (is_busy w.history w.tier g) (without_list g) (store_here t w sound stands k g at).store) e
 
         same_keys : (has_list g && is_by_use g.def.aging) ≡ true → (store_here t w sound stands k g at).store.keys ≡ g.keys
         same_keys chosen = sym (was_true (has_list g && is_by_use g.def.aging) (g.keys ≡ (store_here t w sound stands k g at).store.keys) (MatchBool g.def.dynamic (HasKeysOf g.keys (store_here t w sound stands k g at).store hidden.table) (Unit {0})) chosen listed)
 
         used : (b : Bool) → has_list g ≡ b → g.def.aging ≡ Some LastUse → PlaceAged w g (record (aged_rule w.history w.tier (Some LastUse) g) { aged = w.tier.now }) left behind.table
         used true has e =
-            use_listed t w sound ready stands k g at (store_here t w sound stands k g at).store kept hidden.table listed nothing c.keys.items left does.gone behind.table does.rows e w.tier.settings.lru_high w.tier.settings.lru_low drops has
+            use_listed t w sound stands k g at (store_here t w sound stands k g at).store kept hidden.table listed nothing (keys_leaving t (without_list g) (store_here t w sound stands k g at).store) left does.gone behind.table does.rows e w.tier.settings.lru_high w.tier.settings.lru_low drops has
             (keys_are (Some LastUse) e ∙ ap (λ b. cond b (leaving w.tier.settings.lru_high w.tier.settings.lru_low (is_busy w.history w.tier g) (store_here t w sound stands k g at).store.keys) []) has
             ∙ ap (leaving w.tier.settings.lru_high w.tier.settings.lru_low (is_busy w.history w.tier g)) (same_keys (λ i. has i && is_by_use (e i))))
         used false has e =
-            use_unlisted t w sound ready stands k g at (store_here t w sound stands k g at).store kept hidden.table listed nothing c.keys.items left does.gone behind.table does.rows e w.tier.settings.lru_high w.tier.settings.lru_low drops has
+            use_unlisted t w sound stands k g at (store_here t w sound stands k g at).store kept hidden.table listed nothing (keys_leaving t (without_list g) (store_here t w sound stands k g at).store) left does.gone behind.table does.rows e w.tier.settings.lru_high w.tier.settings.lru_low drops has
             (keys_are (Some LastUse) e ∙ ap (λ b. cond b (leaving w.tier.settings.lru_high w.tier.settings.lru_low (is_busy w.history w.tier g) (store_here t w sound stands k g at).store.keys) []) has)
 
         timed : (rule : TimeRule) → g.def.aging ≡ Some (ByTime rule) → (b : Bool) → is_read_only g ≡ b
             → PlaceAged w g (record (cond b (with_horizon w.tier.now rule g) (record (with_horizon w.tier.now rule g) { keys = without_keys (expired w.history w.tier (with_horizon w.tier.now rule g)) g.keys })) { aged = w.tier.now }) left behind.table
-        timed rule e true reads = time_read t w sound ready stands k g at (store_here t w sound stands k g at).store kept hidden.table listed nothing c.keys.items left does.gone behind.table does.rows rule e (keys_are (Some (ByTime rule)) e) drops reads
-        timed rule e false reads = time_write t w sound ready stands k g at (store_here t w sound stands k g at).store kept hidden.table listed nothing c.keys.items left does.gone behind.table does.rows rule e (keys_are (Some (ByTime rule)) e) drops reads
+        timed rule e true reads = time_read t w sound stands k g at (store_here t w sound stands k g at).store kept hidden.table listed nothing (keys_leaving t (without_list g) (store_here t w sound stands k g at).store) left does.gone behind.table does.rows rule e (keys_are (Some (ByTime rule)) e) drops reads
+        timed rule e false reads = time_write t w sound stands k g at (store_here t w sound stands k g at).store kept hidden.table listed nothing (keys_leaving t (without_list g) (store_here t w sound stands k g at).store) left does.gone behind.table does.rows rule e (keys_are (Some (ByTime rule)) e) drops reads
 
         by : (o : Option AgingRule) → g.def.aging ≡ o → PlaceAged w g (record (aged_rule w.history w.tier o g) { aged = w.tier.now }) left behind.table
         by None e = let never : false ≡ true = sym (ap (is_aged_by w.tier.settings w.tier.now g) e) ∙ due in cc
@@ -221,24 +199,25 @@ module _ (drops : Drops) (t new : Stored) (w : World) (cycles : List (Option Cyc
         by (Some (ByTime rule)) e = timed rule e (is_read_only g) refl
 
     pub place_stands : PlaceStands w new k g (turn g)
-    place_stands =
-        let o = there_too (groups_in t.catalog) cycles k (without_list g) are.long seen_at in
-        by o.0 (are.each k o.0 o.1 (without_list g) (store_here t w sound stands k g at).store seen_at kept) (run.each k o.0 o.1)
+    place_stands = by (is_due_at t k) refl (run.each k)
       where
-        by : (o : Option Cycle) → IsCycleOf t.clock.pace t.clock.now (rows_of t) (owns_of t.sessions) (without_list g) (store_here t w sound stands k g at).store o → RunsIn t new k o → PlaceStands w new k g (turn g)
-        by None idle stays = still (sym (due_is t w stands g) ∙ idle) stays
-        by (Some c) (due, cycle) ran =
-            let yes : is_aging_due w.tier g ≡ true = sym (due_is t w stands g) ∙ due in
-            let r = cycle_runs t new k (without_list g) (store_here t w sound stands k g at).store hidden c seen_at kept hides.1 ran in
+        its : is_due_at t k ≡ is_aging_due w.tier g
+        its = ap (is_due_in t) seen_at ∙ due_is t w stands g
+
+        by : (b : Bool) → is_due_at t k ≡ b → MatchBool b (RunsAt t new k) (StaysAt t new k) → PlaceStands w new k g (turn g)
+        by false idle stays = still (sym its ∙ idle) stays
+        by true due ran =
+            let yes : is_aging_due w.tier g ≡ true = sym its ∙ due in
+            let r = cycle_runs t new k (without_list g) (store_here t w sound stands k g at).store hidden seen_at kept hides.1 ran in
             subst (PlaceStands w new k g) (sym (ap (λ b. cond b (aged w.history w.tier g) g) yes)) (record {
               left = r.left;
               behind = r.behind;
               group_is = r.group_is
-                  ∙ (λ i. Some (record (without_list g) { horizon = (cycle.horizon ∙ ap (λ n. horizon_behind n g.def.aging g.horizon) (sym stands.stored.time.moment)) i; aged = sym stands.stored.time.moment i }))
+                  ∙ (λ i. Some (record (without_list g) { horizon = horizon_behind (sym stands.stored.time.moment i) g.def.aging g.horizon; aged = sym stands.stored.time.moment i }))
                   ∙ sym (ap Some (seen_aged w.history w.tier g g.def.aging));
               left_is = r.left_is;
               behind_is = r.behind_is;
-              is = runs c yes (its_cycle c cycle) r.left r.behind r.does;
+              is = runs yes r.left r.behind r.does;
             })
 
   stand_then : Stands (with_tier after w)
@@ -288,7 +267,7 @@ module _ (drops : Drops) (t new : Stored) (w : World) (cycles : List (Option Cyc
 
   kept_after : AreKept new.schema after.groups new.stores.items
   kept_after = subst (λ d. AreKept d after.groups new.stores.items) (sym run.form.beside.schema)
-      (kept_defined t.schema (groups_in new.catalog) after.groups new.stores.items (sym (defs_unlisted after.groups) ∙ ap definitions_of groups_then) (kept_then t new cycles sound are.long run))
+      (kept_defined t.schema (groups_in new.catalog) after.groups new.stores.items (sym (defs_unlisted after.groups) ∙ ap definitions_of groups_then) (kept_then t new sound run))
 
   shows_then : ShowsRows new (with_tier after w)
   shows_then = shows_kept new (with_tier after w) (stands.stored.schema ∙ sym run.form.beside.schema) kept_after (λ k h s u p at kept place.
@@ -301,27 +280,10 @@ module _ (drops : Drops) (t new : Stored) (w : World) (cycles : List (Option Cyc
   stands_behind = record {
     stored = stored_then;
     shows = shows_then;
-    hides = hides_run t new w cycles sound are run stands;
+    hides = hides_run t new w sound run stands;
     stands = stand_then;
     waits = stands.waits;
   }
 
-pub ages_run : Drops → (t new : Stored) (cycles : List (Option Cycle)) → IsSound t → IsReady t → AreCycles t cycles → HaveRun t new cycles → Ages t new
-ages_run drops t new cycles sound ready are run w stands = stands_behind drops t new w cycles sound ready are run stands
-
--- where none is due, nothing changes
-pub none_ages : (t : Stored) → NoneIsDue t → Ages t t
-none_ages t none w stands = subst (λ gs. StandsFor t (with_tier (record w.tier { groups = gs }) w)) (sym same) stands
-  where
-    same : map (λ g. cond (is_aging_due w.tier g) (aged w.history w.tier g) g) w.tier.groups ≡ w.tier.groups
-    same = same_lists (map (λ g. cond (is_aging_due w.tier g) (aged w.history w.tier g) g) w.tier.groups) w.tier.groups
-        (length-map w.tier.groups (λ g. cond (is_aging_due w.tier g) (aged w.history w.tier g) g))
-        (λ k x at.
-        let m = get_mapped (λ g. cond (is_aging_due w.tier g) (aged w.history w.tier g) g) w.tier.groups k x at in
-        let seen : slice_get (groups_in t.catalog) k ≡ Some (without_list m.0) = ap (λ gs. slice_get gs k) (sym stands.stored.groups) ∙ slice_get_map without_list w.tier.groups k m.0 m.1 in
-        let idle : is_aging_due w.tier m.0 ≡ false = sym (due_is t w stands m.0) ∙ none k (without_list m.0) seen in
-        m.1 ∙ sym (ap Some (m.2 ∙ ap (λ b. cond b (aged w.history w.tier m.0) m.0) idle)))
-
--- the same from a tier of which it is known whether sessions may read and write
-pub ages_noted : (t mid new : Stored) → mid ≡ record t { verified = mid.verified } → Ages mid new → Ages t new
-ages_noted t mid new same ages w stands = ages w (stands_over t mid w same stands)
+pub ages_run : Drops → (t new : Stored) → IsSound t → HaveRun t new → Ages t new
+ages_run drops t new sound run w stands = stands_behind drops t new w sound run stands

@@ -1,5 +1,6 @@
 -- The rows that a cycle hides are root rows of the group's view.
 use Rattle.std.proofs.Common.{◌≡◌, ℕ, ◌⊎◌, inl, inr, Bool, true, false, cond, ◌&&◌, Option, Some, None, List, [], ◌∷◌, slice_get, refl, sym, ap, subst, ◌∙◌}
+use Rattle.std.specs.Bool.{MatchBool}
 use Rattle.std.specs.FinMap as fm
 use Rattle.std.specs.Option.{option_and_then}
 use Rattle.row_types.specs.declared.value.Value.{Value}
@@ -15,7 +16,6 @@ use Rattle.order_laws.proofs.TruthLaws.{both_true, same_some}
 use Rattle.slot_rows.specs.SlotKeys.{RowsHeld}
 use Rattle.group_store.specs.Hiding.{hidden_with}
 use Rattle.group_store.specs.Stores.{Kept, cut_store}
-use Rattle.group_catalog.specs.Catalogs.{groups_in}
 use Rattle.cache_tier.specs.Groups.{Group, is_read_only}
 use Rattle.cache_tier.specs.Shown.{shown_where, shows_root, state_behind}
 use Rattle.cache_tier.specs.Worlds.{World}
@@ -25,13 +25,11 @@ use Rattle.stored_tier.specs.Lists.{HidesView, hides_keys, is_by_time, view_root
 use Rattle.stored_tier.specs.Performing.{StandsFor}
 use Rattle.stored_tier.specs.Stored.{HidesRows, IsSound, without_list}
 use Rattle.stored_tier.proofs.HiddenRows.{group_behind}
-use Rattle.aging_cycles.specs.Cycles.{AreCycles}
-use Rattle.aging_cycles.specs.Running.{HaveRun, RunsIn, hidden_all}
-use Rattle.aging_cycles.specs.declared.cycles.Cycle.{Cycle}
+use Rattle.aging_cycles.specs.Cycles.{is_due_at, keys_leaving}
+use Rattle.aging_cycles.specs.Running.{HaveRun, RunsAt, StaysAt, behind_cycle, hidden_all}
 use Rattle.aging_cycles.proofs.KeyLists.{root_cut}
 use Rattle.aging_cycles.proofs.RootRows.{nothing_kept}
 use Rattle.aging_cycles.proofs.Shows.{roots_are, store_root}
-use Rattle.aging_cycles.proofs.Walks.{there_too}
 
 abbrev Row : Type 0
 Row = List Value
@@ -90,16 +88,13 @@ store_view t w sound stands place g at store kept reads q r e = by (state_behind
 hides_reads : (g : Group) → hides_keys g ≡ true → is_read_only g ≡ true
 hides_reads g hides = (both_true (is_read_only g) g.def.dynamic (both_true (is_read_only g && g.def.dynamic) (is_by_time g.def.aging) hides).0).0
 
-pub hides_run : (t new : Stored) (w : World) (cycles : List (Option Cycle)) → IsSound t → AreCycles t cycles → HaveRun t new cycles → StandsFor t w → HidesRows new w.history
-hides_run t new w cycles sound are run stands k g x at hides there =
-    let before = there_too (groups_in new.catalog) (groups_in t.catalog) k g (sym run.form.groups) at in
-    let o = there_too (groups_in t.catalog) cycles k before.0 are.long before.1 in
-    by o.0 (run.each k o.0 o.1)
+pub hides_run : (t new : Stored) (w : World) → IsSound t → HaveRun t new → StandsFor t w → HidesRows new w.history
+hides_run t new w sound run stands k g x at hides there = by (is_due_at t k) (run.each k)
   where
-    by : (o : Option Cycle) → RunsIn t new k o → HidesView w.history g x.table
-    by None stays = stands.hides k g x (sym stays.groups ∙ at) hides (sym stays.hidden ∙ there)
-    by (Some c) ran =
-        let same : record ran.group { horizon = c.horizon; aged = t.clock.now } ≡ g = same_some (sym ran.group_is ∙ at) in
+    by : (b : Bool) → MatchBool b (RunsAt t new k) (StaysAt t new k) → HidesView w.history g x.table
+    by false stays = stands.hides k g x (sym stays.groups ∙ at) hides (sym stays.hidden ∙ there)
+    by true ran =
+        let same : behind_cycle t.clock.now ran.group ≡ g = same_some (sym ran.group_is ∙ at) in
         let rows : ran.behind ≡ x = same_some (sym ran.behind_is ∙ there) in
         let hiding : hides_keys ran.group ≡ true = ap hides_keys same ∙ hides in
         subst (λ y. HidesView w.history y x.table) same (subst (λ (y : RowsHeld). HidesView w.history ran.group y.table) rows (behind hiding))
@@ -109,7 +104,7 @@ hides_run t new w cycles sound are run stands k g x at hides there =
 
         behind : hides_keys ran.group ≡ true → HidesView w.history ran.group ran.behind.table
         behind hiding q r e =
-            from (hidden_from c.keys.items ran.store ran.hidden.table q r (sym (ap (λ (m : Table). fm.get m q) (ran.does.rows ∙ ap (λ b. cond b (hidden_all c.keys.items ran.store ran.hidden.table) ran.hidden.table) hiding)) ∙ e))
+            from (hidden_from (keys_leaving t ran.group ran.store) ran.store ran.hidden.table q r (sym (ap (λ (m : Table). fm.get m q) (ran.does.rows ∙ ap (λ b. cond b (hidden_all (keys_leaving t ran.group ran.store) ran.store ran.hidden.table) ran.hidden.table) hiding)) ∙ e))
           where
             from : (fm.get ran.hidden.table q ≡ Some r) ⊎ (fm.get (kept_at ran.store.tables 0) q ≡ Some r) → fm.get (view_roots (option_and_then (state_at w.history) ran.group.position) ran.group.def.tree.root) q ≡ Some r
             from (inl before) = stands.hides k ran.group ran.hidden ran.there hiding ran.hid q r before

@@ -1,5 +1,8 @@
 -- Which keys leave, and which stay in a list or are hidden.
-use Rattle.std.proofs.Common.{◌≡◌, ℕ, zero, suc, Bool, true, false, not, cond, ◌&&◌, ◌||◌, Option, Some, None, is_some, List, [], ◌∷◌, length, refl, sym, ap, ◌∙◌}
+use Rattle.std.proofs.Common.{◌≡◌, ℕ, zero, suc, Bool, true, false, not, cond, ◌&&◌, ◌||◌, Option, Some, None, is_some, List, [], ◌∷◌, filter, length, map, reverse, refl, sym, ap, ◌∙◌}
+use Rattle.std.specs.List.{list_any}
+use Rattle.std.proofs.lemmas.List.{reverse-append}
+use Rattle.std.proofs.lemmas.List.Folds.{list_any-append}
 use Rattle.std.specs.FinMap as fm
 use Rattle.row_types.specs.declared.value.Value.{Value}
 use Rattle.row_types.proofs.OrderLaws.{key_total}
@@ -143,3 +146,27 @@ hidden_has (k ∷ ks) s hid q =
         ap (λ b. (fm.contains_key hid q || (is_some (fm.get (kept_at s.tables 0) k) && b)) || (is_key ks q && is_some (cond b None (fm.get (kept_at s.tables 0) q)))) e
         ∙ of_false (fm.contains_key hid q) (is_some (fm.get (kept_at s.tables 0) k)) (fm.contains_key (kept_at s.tables 0) q) (is_key ks q)
         ∙ sym (ap (λ b. fm.contains_key hid q || ((b || is_key ks q) && fm.contains_key (kept_at s.tables 0) q)) e)
+
+-- keys from the last row to the first are the same keys
+
+any_turned : (p : Row → Bool) (xs : List Row) → list_any p (reverse xs) ≡ list_any p xs
+any_turned p [] = refl
+any_turned p (x ∷ xs) =
+    ap (list_any p) (reverse-append (x ∷ []) xs) ∙ list_any-append p (reverse xs) (x ∷ []) ∙ ap (λ b. b || list_any p (x ∷ [])) (any_turned p xs) ∙ by (list_any p xs) (p x)
+  where
+    by : (a b : Bool) → (a || (b || false)) ≡ (b || a)
+    by true true = refl
+    by true false = refl
+    by false true = refl
+    by false false = refl
+
+any_picked : (f : Row → Row) (t : Row → Bool) (k : Row) (xs : List Row) → is_key (map f (filter t xs)) k ≡ list_any (λ x. t x && is_same k (f x)) xs
+any_picked f t k [] = refl
+any_picked f t k (x ∷ xs) = by (t x) (any_picked f t k xs)
+  where
+    by : (b : Bool) → is_key (map f (filter t xs)) k ≡ list_any (λ y. t y && is_same k (f y)) xs → is_key (map f (cond b (x ∷ filter t xs) (filter t xs))) k ≡ ((b && is_same k (f x)) || list_any (λ y. t y && is_same k (f y)) xs)
+    by true e = ap (λ b. is_same k (f x) || b) e
+    by false e = e
+
+pub key_turned : (f : Row → Row) (t : Row → Bool) (xs : List Row) (k : Row) → is_key (map f (filter t (reverse xs))) k ≡ is_key (map f (filter t xs)) k
+key_turned f t xs k = any_picked f t k (reverse xs) ∙ any_turned (λ x. t x && is_same k (f x)) xs ∙ sym (any_picked f t k xs)

@@ -6,7 +6,7 @@ use Rattle.std.specs.FinMap as fm
 use Rattle.row_types.specs.declared.value.Value.{Value}
 use Rattle.row_types.specs.declared.value.Value.TheVariants.{Null, Number, Text, Time}
 use Rattle.row_types.specs.Order.{key_order}
-use Rattle.indexed_rows.specs.Rows.{Table, value_at}
+use Rattle.indexed_rows.specs.Rows.{Table, key_of, value_at}
 use Rattle.table_state.specs.Tables.{TableState}
 use Rattle.instances.specs.Views.{kept_at, passes, root_rows}
 use Rattle.group_store.specs.Stores.{Kept, SameButSpare}
@@ -24,15 +24,14 @@ use Rattle.cache_tier.proofs.SessionLaws.{known}
 use Rattle.stored_tier.specs.declared.tier.Tier.{Tier as Stored}
 use Rattle.stored_tier.specs.Lists.{HasKeysOf, IsListed, hides_keys, is_by_time, is_by_use}
 use Rattle.stored_tier.specs.Performing.{StandsFor}
-use Rattle.stored_tier.specs.Stored.{IsSound, rows_of}
-use Rattle.aging_cycles.specs.Busy.{is_written_in, owns_of}
-use Rattle.aging_cycles.specs.Cycles.{IsReady, expired_in, is_expired}
+use Rattle.stored_tier.specs.Stored.{IsSound}
+use Rattle.aging_cycles.specs.Cycles.{expired_in, is_expired}
 use Rattle.aging_cycles.specs.Running.{cut_all, hidden_all}
-use Rattle.aging_cycles.proofs.KeyLists.{cut_keys, hidden_has}
+use Rattle.aging_cycles.proofs.KeyLists.{cut_keys, hidden_has, key_turned}
 use Rattle.aging_cycles.proofs.RootRows.{Drops, keys_picked, nothing_kept}
 use Rattle.aging_cycles.proofs.ShownPlaces.{shown_by_keys, shown_virtual}
 use Rattle.aging_cycles.proofs.Shows.{keyed, left_shows, root_is, roots_are, store_root}
-use Rattle.aging_cycles.proofs.Writers.{busy_is}
+use Rattle.aging_cycles.proofs.Writers.{idle}
 
 abbrev Row : Type 0
 Row = List Value
@@ -120,7 +119,7 @@ dynamic_list true ro e h = refl
 dynamic_list false true e h = cc
 dynamic_list false false e h = cc
 
-module _ (t : Stored) (w : World) (sound : IsSound t) (ready : IsReady t) (stands : StandsFor t w) (place : ℕ) (g : Group) (at : slice_get w.tier.groups place ≡ Some g) (store : Kept) (kept : slice_get t.stores.items place ≡ Some store) (hidden : Table) (listed : IsListed g store hidden)
+module _ (t : Stored) (w : World) (sound : IsSound t) (stands : StandsFor t w) (place : ℕ) (g : Group) (at : slice_get w.tier.groups place ≡ Some g) (store : Kept) (kept : slice_get t.stores.items place ≡ Some store) (hidden : Table) (listed : IsListed g store hidden)
     (nothing : hides_keys g ≡ false → hidden ≡ fm.empty) where
   abbrev S : Table
   S = kept_at store.tables 0
@@ -156,7 +155,9 @@ module _ (t : Stored) (w : World) (sound : IsSound t) (ready : IsReady t) (stand
 
   -- the keys that leave by time
   expired_key : (horizon : ℤ) (column : ℕ) (q : Row) → is_key (expired_in (Some horizon) column busy store.key (kept_at store.tables 0)) q ≡ passes (is_expired (Some horizon) column busy q) (fm.get (kept_at store.tables 0) q)
-  expired_key horizon column q = keys_picked store.key (is_expired (Some horizon) column busy) (kept_at store.tables 0) (keyed t w sound stands place g at store kept) q
+  expired_key horizon column q =
+      key_turned (key_of store.key) (λ row. is_expired (Some horizon) column busy (key_of store.key row) row) (fm.values (kept_at store.tables 0)) q
+      ∙ keys_picked store.key (is_expired (Some horizon) column busy) (kept_at store.tables 0) (keyed t w sound stands place g at store kept) q
 
   module _ (ks : List Row) (left : Kept) (gone : SameButSpare (cut_all ks store) left) (behind : Table) (rows : behind ≡ cond (hides_keys g) (hidden_all ks store hidden) hidden) where
     left_keys : left.keys ≡ without_keys ks store.keys
@@ -245,8 +246,8 @@ module _ (t : Stored) (w : World) (sound : IsSound t) (ready : IsReady t) (stand
             (by_choice g.def.dynamic (HasKeysOf g.keys left behind) still_listed);
       }
         where
-          idle : (k : Row) → busy k ≡ false
-          idle k = sym (busy_is t w sound ready stands place g at k) ∙ ap (λ b. not b && is_written_in (rows_of t) g.def.tree (owns_of t.sessions) k) ro
+          idles : (k : Row) → busy k ≡ false
+          idles k = idle t w sound stands place g at store kept ro k
 
           -- of a root row in the state
           ks_root : (s : TableState) (is : state_behind w.history w.tier.log g ≡ Some s) (k r : Row) → fm.get (root_rows s g.def.tree.root) k ≡ Some r
@@ -267,7 +268,7 @@ module _ (t : Stored) (w : World) (sound : IsSound t) (ready : IsReady t) (stand
           fits s is k r e =
               ap (λ b. shows_root s g r && not b) (ks_root s is k r e)
               ∙ ap (λ b. b && not (b && (not (is_past (Some horizon) (value_at r rule.column)) && not (busy k)))) (read_so s r g ro ∙ ap (λ x. cond (is_explicit g) g.loaded (is_key g.keys (root_key s g r)) && x) (exceeds_old r))
-              ∙ time_fits (cond (is_explicit g) g.loaded (is_key g.keys (root_key s g r))) (is_past g.horizon (value_at r rule.column)) (is_past (Some horizon) (value_at r rule.column)) (busy k) (idle k) (past_grows g.horizon (horizon_at w.tier.now rule) (value_at r rule.column))
+              ∙ time_fits (cond (is_explicit g) g.loaded (is_key g.keys (root_key s g r))) (is_past g.horizon (value_at r rule.column)) (is_past (Some horizon) (value_at r rule.column)) (busy k) (idles k) (past_grows g.horizon (horizon_at w.tier.now rule) (value_at r rule.column))
               ∙ ap (λ x. cond (is_explicit g) g.loaded (is_key g.keys (root_key s g r)) && x) (sym (exceeds_new r))
               ∙ sym (read_so s r read_group ro)
 

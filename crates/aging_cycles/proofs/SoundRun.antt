@@ -1,5 +1,6 @@
 -- What the parts of a tier ask of one another holds behind its cycles.
-use Rattle.std.proofs.Common.{◌≡◌, ℕ, zero, suc, Bool, true, false, cond, not, All, Option, Some, None, List, [], ◌∷◌, length, slice_get, refl, sym, ap, subst, ◌∙◌, arith}
+use Rattle.std.proofs.Common.{◌≡◌, ℕ, zero, suc, Bool, true, false, cond, not, All, Some, List, [], ◌∷◌, length, slice_get, refl, sym, ap, subst, ◌∙◌, arith}
+use Rattle.std.specs.Bool.{MatchBool}
 use Rattle.row_types.specs.declared.value.Value.{Value}
 use Rattle.table_defs.specs.declared.definition.TableDef.{TableDef}
 use Rattle.indexed_rows.specs.Rows.{Table}
@@ -24,8 +25,8 @@ use Rattle.stored_tier.proofs.LaterLaws.{later_by}
 use Rattle.stored_tier.proofs.SoundParts.{all_plain, housed_exchanged, named_by, visible_by}
 use Rattle.stored_tier.proofs.StoreChanges.{kept_defined}
 use Rattle.stored_tier.proofs.StoreRows.{store_of}
-use Rattle.aging_cycles.specs.Running.{HasLeft, HaveRun, RunsAt, RunsIn, behind_cycle, cut_all, hidden_all}
-use Rattle.aging_cycles.specs.declared.cycles.Cycle.{Cycle}
+use Rattle.aging_cycles.specs.Cycles.{is_due_at, keys_leaving}
+use Rattle.aging_cycles.specs.Running.{HasLeft, HaveRun, RunsAt, RunsIn, StaysAt, behind_cycle, cut_all, hidden_all}
 use Rattle.aging_cycles.proofs.Walks.{there_too}
 
 abbrev Row : Type 0
@@ -125,53 +126,56 @@ pub record PlaceRuns (t new : Stored) (k : ℕ) (g : Group) (s : Kept) (h : Rows
   pub does : HasLeft g keys s left h behind
 
 -- a cycle has run there
-pub record CycleRuns (t new : Stored) (k : ℕ) (g : Group) (s : Kept) (h : RowsHeld) (c : Cycle) : Type 0 where
+pub record CycleRuns (t new : Stored) (k : ℕ) (g : Group) (s : Kept) (h : RowsHeld) : Type 0 where
   pub left : Kept
   pub behind : RowsHeld
-  pub group_is : slice_get (groups_in new.catalog) k ≡ Some (behind_cycle t.clock.now c g)
+  pub group_is : slice_get (groups_in new.catalog) k ≡ Some (behind_cycle t.clock.now g)
   pub left_is : slice_get new.stores.items k ≡ Some left
   pub behind_is : slice_get new.hidden.items k ≡ Some behind
-  pub does : HasLeft g c.keys.items s left h behind
+  pub does : HasLeft g (keys_leaving t g s) s left h behind
 
-pub cycle_runs : (t new : Stored) (k : ℕ) (g : Group) (s : Kept) (h : RowsHeld) (c : Cycle) → slice_get (groups_in t.catalog) k ≡ Some g → slice_get t.stores.items k ≡ Some s → slice_get t.hidden.items k ≡ Some h → RunsAt t new k c → CycleRuns t new k g s h c
-cycle_runs t new k g s h c at kept hid r =
+pub cycle_runs : (t new : Stored) (k : ℕ) (g : Group) (s : Kept) (h : RowsHeld) → slice_get (groups_in t.catalog) k ≡ Some g → slice_get t.stores.items k ≡ Some s → slice_get t.hidden.items k ≡ Some h → RunsAt t new k → CycleRuns t new k g s h
+cycle_runs t new k g s h at kept hid r =
     let same_group : r.group ≡ g = same_some (sym r.there ∙ at) in
     let same_store : r.store ≡ s = same_some (sym r.kept ∙ kept) in
     let same_hidden : r.hidden ≡ h = same_some (sym r.hid ∙ hid) in
     record {
       left = r.left;
       behind = r.behind;
-      group_is = r.group_is ∙ ap (λ x. Some (behind_cycle t.clock.now c x)) same_group;
+      group_is = r.group_is ∙ ap (λ x. Some (behind_cycle t.clock.now x)) same_group;
       left_is = r.left_is;
       behind_is = r.behind_is;
-      does = subst (λ x. HasLeft x c.keys.items s r.left h r.behind) same_group (subst (λ y. HasLeft r.group c.keys.items y r.left h r.behind) same_store (subst (λ z. HasLeft r.group c.keys.items r.store r.left z r.behind) same_hidden r.does));
+      does = subst (λ x. HasLeft x (keys_leaving t x s) s r.left h r.behind) same_group (subst (λ y. HasLeft r.group (keys_leaving t r.group y) y r.left h r.behind) same_store (subst (λ z. HasLeft r.group (keys_leaving t r.group r.store) r.store r.left z r.behind) same_hidden r.does));
     }
 
-place_runs : (t new : Stored) (k : ℕ) (g : Group) (s : Kept) (h : RowsHeld) (o : Option Cycle) → slice_get (groups_in t.catalog) k ≡ Some g → slice_get t.stores.items k ≡ Some s → slice_get t.hidden.items k ≡ Some h → RunsIn t new k o → PlaceRuns t new k g s h
-place_runs t new k g s h None at kept hid r = record {
-  group = g;
-  left = s;
-  behind = h;
-  keys = [];
-  group_is = r.groups ∙ at;
-  left_is = r.stores ∙ kept;
-  behind_is = r.hidden ∙ hid;
-  def = refl;
-  does = nothing_left g s h;
-}
-place_runs t new k g s h (Some c) at kept hid r =
-    let p = cycle_runs t new k g s h c at kept hid r in
-    record {
-      group = behind_cycle t.clock.now c g;
-      left = p.left;
-      behind = p.behind;
-      keys = c.keys.items;
-      group_is = p.group_is;
-      left_is = p.left_is;
-      behind_is = p.behind_is;
+place_runs : (t new : Stored) (k : ℕ) (g : Group) (s : Kept) (h : RowsHeld) → slice_get (groups_in t.catalog) k ≡ Some g → slice_get t.stores.items k ≡ Some s → slice_get t.hidden.items k ≡ Some h → RunsIn t new k → PlaceRuns t new k g s h
+place_runs t new k g s h at kept hid r = by (is_due_at t k) r
+  where
+    by : (b : Bool) → MatchBool b (RunsAt t new k) (StaysAt t new k) → PlaceRuns t new k g s h
+    by false stays = record {
+      group = g;
+      left = s;
+      behind = h;
+      keys = [];
+      group_is = stays.groups ∙ at;
+      left_is = stays.stores ∙ kept;
+      behind_is = stays.hidden ∙ hid;
       def = refl;
-      does = p.does;
+      does = nothing_left g s h;
     }
+    by true runs =
+        let p = cycle_runs t new k g s h at kept hid runs in
+        record {
+          group = behind_cycle t.clock.now g;
+          left = p.left;
+          behind = p.behind;
+          keys = keys_leaving t g s;
+          group_is = p.group_is;
+          left_is = p.left_is;
+          behind_is = p.behind_is;
+          def = refl;
+          does = p.does;
+        }
 
 -- what there is at a place of the new lists comes of what there was
 pub record Came (t new : Stored) (k : ℕ) (x : Group) : Type 0 where
@@ -186,23 +190,25 @@ pub record Came (t new : Stored) (k : ℕ) (x : Group) : Type 0 where
   pub runs : PlaceRuns t new k group store hidden
   pub same : runs.group ≡ x
 
-module _ (t new : Stored) (cycles : List (Option Cycle)) (sound : IsSound t) (are : length cycles ≡ length (groups_in t.catalog)) (run : HaveRun t new cycles) where
+module _ (t new : Stored) (sound : IsSound t) (run : HaveRun t new) where
   pub came : (k : ℕ) (x : Group) → slice_get (groups_in new.catalog) k ≡ Some x → Came t new k x
   came k x at =
       let (g, there) = there_too (groups_in new.catalog) (groups_in t.catalog) k x (sym run.form.groups) at in
-      let (o, cycle) = there_too (groups_in t.catalog) cycles k g are there in
       let st = store_of t.schema (groups_in t.catalog) t.stores.items k g sound.kept there in
       let same : st.group ≡ g = same_some (sym st.there ∙ there) in
       let (h, hid, hides) = hiding_at t.schema (groups_in t.catalog) t.stores.items t.hidden.items k g st.store sound.hiding there st.kept in
-      let p = place_runs t new k g st.store h o there st.kept hid (run.each k o cycle) in
-      record {
+      by g there st.store st.kept h hid (subst (λ (y : Group). IsFor t.schema y.def.tree st.store) same st.form) hides (place_runs t new k g st.store h there st.kept hid (run.each k))
+    where
+      by : (g : Group) → slice_get (groups_in t.catalog) k ≡ Some g → (s : Kept) → slice_get t.stores.items k ≡ Some s → (h : RowsHeld) → slice_get t.hidden.items k ≡ Some h → IsFor t.schema g.def.tree s → IsHidingFor t.schema g s h
+          → PlaceRuns t new k g s h → Came t new k x
+      by g there s kept h hid form hides p = record {
         group = g;
-        store = st.store;
+        store = s;
         hidden = h;
         there = there;
-        kept = st.kept;
+        kept = kept;
         hid = hid;
-        form = subst (λ (y : Group). IsFor t.schema y.def.tree st.store) same st.form;
+        form = form;
         hides = hides;
         runs = p;
         same = same_some (sym p.group_is ∙ at);

@@ -1,16 +1,14 @@
 -- Walks over keys, rows and places.
-use Rattle.std.proofs.Common.{◌≡◌, ◌<◌, ◌≤◌, ◌+◌, ◌-◌, ℕ, zero, suc, Bool, true, false, cond, ◌||◌, nat_lt, Some, None, Option, option_and_then, List, [], ◌∷◌, ◌++◌, append_assoc, filter, get_or, length, map, take, drop, slice_get, le-ltb, lt-ltb, eqb-true, arith, refl, sym, ap, subst, ◌∙◌}
+use Rattle.std.proofs.Common.{◌≡◌, ◌<◌, ◌≤◌, ◌+◌, ◌-◌, ℕ, zero, suc, Bool, true, false, not, cond, ◌||◌, nat_lt, Some, List, [], ◌∷◌, ◌++◌, append_assoc, filter, get_or, length, map, take, drop, slice_get, le-ltb, lt-ltb, eqb-true, arith, refl, sym, ap, ◌∙◌}
 use Rattle.std.specs.Bool.{◌==◌}
-use Rattle.std.specs.FinMap as fm
 use Rattle.row_types.specs.declared.value.Value.{Value}
-use Rattle.indexed_rows.specs.Rows.{Table, is_same, key_of}
+use Rattle.indexed_rows.specs.Rows.{is_same}
 use Rattle.indexed_rows.proofs.EntryLaws.{same_itself, same_values}
 use Rattle.recency.specs.Rings.{keys_without, next_key}
-use Rattle.slot_rows.specs.SlotKeys.{IsKeyedBy}
 use Rattle.group_store.specs.Stores.{Kept, SameButSpare, cut_store}
 use Rattle.group_store.specs.Trees.{cut_from}
 use Rattle.cache_tier.specs.Aging.{leaving, oldest}
-use Rattle.cache_tier.specs.Groups.{is_key}
+use Rattle.cache_tier.specs.Groups.{is_key, without_keys}
 use Rattle.cache_tier.specs.Standing.{AreDistinct}
 use Rattle.aging_cycles.specs.Running.{cut_all}
 
@@ -35,12 +33,6 @@ pub got : {X : Type 0} (xs : List X) (i : ℕ) (x : X) → i < length xs → x �
 got [] i x lt is = absurd (omega arith)
 got (y ∷ xs) zero x lt is = ap Some (sym is)
 got (y ∷ xs) (suc i) x lt is = got xs i x (omega arith) is
-
-pub take_past : {X : Type 0} (xs : List X) (n : ℕ) → slice_get xs n ≡ None → take (n + 1) xs ≡ take n xs
-take_past [] zero e = let one : zero + 1 ≡ 1 = omega arith in ap (λ k. take k []) one
-take_past [] (suc n) e = let one : suc n + 1 ≡ suc (suc n) = omega arith in ap (λ k. take k []) one
-take_past (x ∷ xs) zero e = cc
-take_past (x ∷ xs) (suc n) e = let one : suc n + 1 ≡ suc (n + 1) = omega arith in ap (λ k. take k (x ∷ xs)) one ∙ ap (λ ys. x ∷ ys) (take_past xs n e)
 
 pub take_next : {X : Type 0} (xs : List X) (n : ℕ) (x : X) → slice_get xs n ≡ Some x → take (n + 1) xs ≡ take n xs ++ x ∷ []
 take_next [] n x at = cc
@@ -70,7 +62,7 @@ take_all [] (suc n) le = refl
 take_all (x ∷ xs) zero le = absurd (omega arith)
 take_all (x ∷ xs) (suc n) le = ap (λ ys. x ∷ ys) (take_all xs n (omega arith))
 
-filter_end : {X : Type 0} (p : X → Bool) (xs : List X) (x : X) → filter p (xs ++ x ∷ []) ≡ filter p xs ++ cond (p x) (x ∷ []) []
+pub filter_end : {X : Type 0} (p : X → Bool) (xs : List X) (x : X) → filter p (xs ++ x ∷ []) ≡ filter p xs ++ cond (p x) (x ∷ []) []
 filter_end p [] x = refl
 filter_end p (y ∷ xs) x = by (p y) (filter_end p xs x)
   where
@@ -137,7 +129,7 @@ leaving_many high low busy keys lt = sym (ap (λ b. cond b (oldest (length keys 
 
 -- the key behind another
 
-not_there : (keys : List Row) (i : ℕ) (k : Row) → slice_get keys i ≡ Some k → is_key keys k ≡ true
+pub not_there : (keys : List Row) (i : ℕ) (k : Row) → slice_get keys i ≡ Some k → is_key keys k ≡ true
 not_there [] i k at = cc
 not_there (q ∷ keys) zero k at = let same : q ≡ k = cc in ap (λ b. b || is_key keys k) (same_itself k q (sym same))
 not_there (q ∷ keys) (suc i) k at = by (is_same k q) (not_there keys i k at)
@@ -146,37 +138,60 @@ not_there (q ∷ keys) (suc i) k at = by (is_same k q) (not_there keys i k at)
     by true e = refl
     by false e = e
 
-pub next_there : (keys : List Row) (i : ℕ) (k : Row) → AreDistinct keys → slice_get keys i ≡ Some k → next_key is_same k keys ≡ slice_get keys (i + 1)
-next_there [] i k apart at = cc
-next_there (q ∷ keys) zero k apart at =
-    let same : q ≡ k = cc in
-    let one : zero + 1 ≡ 1 = omega arith in
-    ap (λ b. cond b (slice_get keys 0) (next_key is_same k keys)) (same_itself k q (sym same)) ∙ sym (ap (slice_get (q ∷ keys)) one)
-next_there (q ∷ keys) (suc i) k apart at =
-    let one : suc i + 1 ≡ suc (i + 1) = omega arith in
-    ap (λ b. cond b (slice_get keys 0) (next_key is_same k keys)) (other (is_same k q) refl) ∙ next_there keys i k apart.1 at ∙ sym (ap (slice_get (q ∷ keys)) one)
+-- no key is there twice
+pub apart_there : (keys : List Row) (i j : ℕ) (k q : Row) → AreDistinct keys → slice_get keys i ≡ Some k → slice_get keys j ≡ Some q → is_same q k ≡ true → i ≡ j
+apart_there [] i j k q apart at there same = cc
+apart_there (x ∷ keys) zero zero k q apart at there same = refl
+apart_there (x ∷ keys) zero (suc j) k q apart at there same =
+    let is : x ≡ k = cc in
+    let wrong : true ≡ false = sym (not_there keys j q there) ∙ ap (is_key keys) (same_values q k same ∙ sym is) ∙ apart.0 in cc
+apart_there (x ∷ keys) (suc i) zero k q apart at there same =
+    let is : x ≡ q = cc in
+    let wrong : true ≡ false = sym (not_there keys i k at) ∙ ap (is_key keys) (sym (same_values q k same) ∙ sym is) ∙ apart.0 in cc
+apart_there (x ∷ keys) (suc i) (suc j) k q apart at there same = ap suc (apart_there keys i j k q apart.1 at there same)
+
+-- the key behind another is another one
+pub next_other : (keys : List Row) (k q : Row) → AreDistinct keys → next_key is_same k keys ≡ Some q → is_same q k ≡ false
+next_other [] k q apart e = cc
+next_other (x ∷ keys) k q apart e = by (is_same k x) refl e (λ z. next_other keys k q apart.1 z)
   where
-    other : (b : Bool) → is_same k q ≡ b → b ≡ false
-    other true e = let z : true ≡ false = sym (ap (is_key keys) (sym (same_values k q e)) ∙ not_there keys i k at) ∙ apart.0 in cc
+    isnt : (b : Bool) → is_same q k ≡ b → is_same k x ≡ true → slice_get keys 0 ≡ Some q → b ≡ false
+    isnt true h same at = let wrong : true ≡ false = sym (not_there keys 0 q at) ∙ ap (is_key keys) (same_values q k h ∙ same_values k x same) ∙ apart.0 in cc
+    isnt false h same at = refl
+
+    by : (b : Bool) → is_same k x ≡ b → cond b (slice_get keys 0) (next_key is_same k keys) ≡ Some q → (next_key is_same k keys ≡ Some q → is_same q k ≡ false) → is_same q k ≡ false
+    by true same at rest = isnt (is_same q k) refl same at
+    by false same at rest = rest at
+
+-- the key behind another, where some before it have left
+pub next_left : (ks keys : List Row) (n : ℕ) (key : Row) → AreDistinct keys → slice_get keys n ≡ Some key → ((i : ℕ) (q : Row) → n ≤ i → slice_get keys i ≡ Some q → is_key ks q ≡ false) → next_key is_same key (without_keys ks keys) ≡ slice_get keys (n + 1)
+next_left ks [] n key apart at ahead = cc
+next_left ks (x ∷ keys) zero key apart at ahead =
+    let is : x ≡ key = cc in
+    let one : zero + 1 ≡ 1 = omega arith in
+    ap (λ b. next_key is_same key (cond (not b) (x ∷ without_keys ks keys) (without_keys ks keys))) (ahead 0 x (omega arith) refl)
+    ∙ ap (λ b. cond b (slice_get (without_keys ks keys) 0) (next_key is_same key (without_keys ks keys))) (same_itself key x (sym is))
+    ∙ ap (λ l. slice_get l 0) (all_stay keys (λ i q e. ahead (suc i) q (omega arith) e))
+    ∙ sym (ap (slice_get (x ∷ keys)) one)
+  where
+    all_stay : (l : List Row) → ((i : ℕ) (q : Row) → slice_get l i ≡ Some q → is_key ks q ≡ false) → without_keys ks l ≡ l
+    all_stay [] h = refl
+    all_stay (y ∷ l) h = ap (λ b. cond (not b) (y ∷ without_keys ks l) (without_keys ks l)) (h 0 y refl) ∙ ap (λ z. y ∷ z) (all_stay l (λ i q e. h (suc i) q e))
+next_left ks (x ∷ keys) (suc n) key apart at ahead =
+    let one : suc n + 1 ≡ suc (n + 1) = omega arith in
+    by (is_key ks x) ∙ next_left ks keys n key apart.1 at (λ i q le e. ahead (suc i) q (omega (arith, le)) e) ∙ sym (ap (slice_get (x ∷ keys)) one)
+  where
+    other : (b : Bool) → is_same key x ≡ b → b ≡ false
+    other true e = let wrong : true ≡ false = sym (ap (is_key keys) (sym (same_values key x e)) ∙ not_there keys n key at) ∙ apart.0 in cc
     other false e = refl
 
--- the row of the key at a place
-
-some_row : (rows : Table) (o : Option Row) (row : Row) → option_and_then (fm.get rows) o ≡ Some row → (k : Row) × (o ≡ Some k) × (fm.get rows k ≡ Some row)
-some_row rows None row e = cc
-some_row rows (Some k) row e = (k, refl, e)
-
-pub walk_at : (keys : List Row) (rows : Table) (columns : List ℕ) (n : ℕ) (row key : Row) → IsKeyedBy columns rows → Some row ≡ option_and_then (fm.get rows) (slice_get keys n) → key ≡ key_of columns row → slice_get keys n ≡ Some key
-walk_at keys rows columns n row key keyed here is =
-    let (k, at, there) = some_row rows (slice_get keys n) row (sym here) in
-    at ∙ ap Some (sym (is ∙ keyed k row there))
-
-pub walk_next : (keys : List Row) (rows : Table) (n : ℕ) (key : Row) (o : Option Row) → AreDistinct keys → slice_get keys n ≡ Some key → o ≡ option_and_then (fm.get rows) (next_key is_same key keys) → o ≡ option_and_then (fm.get rows) (slice_get keys (n + 1))
-walk_next keys rows n key o apart at is = is ∙ ap (option_and_then (fm.get rows)) (next_there keys n key apart at)
+    by : (b : Bool) → next_key is_same key (cond (not b) (x ∷ without_keys ks keys) (without_keys ks keys)) ≡ next_key is_same key (without_keys ks keys)
+    by true = refl
+    by false = ap (λ b. cond b (slice_get (without_keys ks keys) 0) (next_key is_same key (without_keys ks keys))) (other (is_same key x) refl)
 
 -- stores
 
-cut_same : (key : Row) (a b : Kept) → SameButSpare a b → SameButSpare (cut_store 0 key a) (cut_store 0 key b)
+pub cut_same : (key : Row) (a b : Kept) → SameButSpare a b → SameButSpare (cut_store 0 key a) (cut_store 0 key b)
 cut_same key a b same = record {
   table = same.table;
   key = same.key;
@@ -196,11 +211,6 @@ same_two a b c x y = record {
   keys = y.keys ∙ x.keys;
 }
 
-cut_end : (keys : List Row) (key : Row) (s : Kept) → cut_all (keys ++ key ∷ []) s ≡ cut_store 0 key (cut_all keys s)
+pub cut_end : (keys : List Row) (key : Row) (s : Kept) → cut_all (keys ++ key ∷ []) s ≡ cut_store 0 key (cut_all keys s)
 cut_end [] key s = refl
 cut_end (k ∷ keys) key s = cut_end keys key (cut_store 0 k s)
-
-pub cut_more : (keys : List Row) (n : ℕ) (key : Row) (old mid new : Kept) → n < length keys → key ≡ get_or keys n key → SameButSpare (cut_all (take n keys) old) mid → SameButSpare (cut_store 0 key mid) new → SameButSpare (cut_all (take (n + 1) keys) old) new
-cut_more keys n key old mid new lt is before step =
-    subst (λ s. SameButSpare s new) (sym (ap (λ l. cut_all l old) (take_next keys n key (got keys n key lt is)) ∙ cut_end (take n keys) key old))
-    (same_two (cut_store 0 key (cut_all (take n keys) old)) (cut_store 0 key mid) new (cut_same key (cut_all (take n keys) old) mid before) step)

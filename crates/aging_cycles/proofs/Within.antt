@@ -1,5 +1,5 @@
 -- The rows of instances are those that a root row is reached from.
-use Rattle.std.proofs.Common.{◌≡◌, ℕ, zero, suc, ◌+◌, ◌≤◌, Bool, true, false, cond, ◌&&◌, ◌||◌, nat_eq, Option, Some, None, is_some, List, [], ◌∷◌, length, map, slice_get, unwrap_or, refl, sym, ap, subst, ◌∙◌, arith, eq-eqb, eqb-true}
+use Rattle.std.proofs.Common.{◌≡◌, ℕ, zero, suc, ◌+◌, ◌≤◌, Bool, true, false, cond, ◌&&◌, ◌||◌, nat_eq, Option, Some, None, is_some, List, [], ◌∷◌, length, map, slice_get, refl, sym, ap, subst, ◌∙◌, arith, eq-eqb, eqb-true}
 use Rattle.std.specs.Option.{option_and_then, option_map}
 use Rattle.std.specs.List.{list_any}
 use Rattle.std.proofs.lemmas.List.Folds.{list_any-append}
@@ -15,23 +15,20 @@ use Rattle.table_state.specs.declared.footprint.RowKey.{RowKey}
 use Rattle.table_state.specs.declared.operation.Op.{Op}
 use Rattle.table_state.specs.Footprints.{footprint_of, is_among, is_in, same_row_key}
 use Rattle.table_state.specs.Tables.{TableState, table_at}
-use Rattle.table_state.specs.Keyed.{IsKeyed}
-use Rattle.evaluator.specs.Cascades.{key_in}
 use Rattle.instances.specs.declared.tree.Child.{Child}
 use Rattle.instances.specs.declared.tree.Tree.{Tree}
-use Rattle.instances.specs.Roots.{parent_key, root_within}
+use Rattle.instances.specs.Roots.{parent_key, root_of, root_within}
 use Rattle.instances.specs.Trees.{is_sound, place_of, table_of}
 use Rattle.instances.specs.Views.{kept_at, passes, root_rows, rows_where}
 use Rattle.instances.proofs.Gathering.{entry_found, get_where}
 use Rattle.session_state.proofs.ApartLaws.{any_false, any_or, any_same}
 use Rattle.order_laws.proofs.TruthLaws.{both_true, or_true}
-use Rattle.cache_tier.specs.Groups.{Group}
+use Rattle.cache_tier.specs.Groups.{Group, is_key}
 use Rattle.cache_tier.specs.Locks.{instance_rows, keys_in_children, keys_in_table, tree_tables}
 use Rattle.cache_tier.specs.Shown.{instances_where, root_key}
 use Rattle.cache_tier.specs.StandingBetween.{has_no_where}
-use Rattle.cache_tier.proofs.ShownTables.{AtChild, AtRoot, InTree, child_plain, in_tree_at, root_plain, same_id, some_def}
+use Rattle.cache_tier.proofs.ShownTables.{AtChild, AtRoot, InTree, child_plain, in_tree_at, root_plain, same_id}
 use Rattle.cache_tier.proofs.ShownTrees.{SoundChild, at_place, child_kept, front_kept, get_child, place_there, sound_child}
-use Rattle.aging_cycles.specs.Busy.{is_within, touches}
 use Rattle.aging_cycles.proofs.RootRows.{plain_roots}
 
 abbrev Row : Type 0
@@ -122,15 +119,27 @@ listed p (t ∷ ts) (m ∷ ms) h =
     (λ here. (let r = in_entries p t (fm.entries m) here in record { place = 0; table = t; key = r.1.0; row = r.1.1; there = refl; found = entry_found m r.0 r.1 r.2; passes = r.3 }))
     (λ later. (let r = listed p ts ms later in record { place = suc r.place; table = r.table; key = r.key; row = r.row; there = r.there; found = r.found; passes = r.passes }))
 
--- rows stand under their keys
-under : (s : TableState) (t : TableId) (def : TableDef) (k row : Row) → IsKeyed s → slice_get s.schema t.0 ≡ Some def → fm.get (table_at s t) k ≡ Some row → key_of def.primary_key row ≡ k
-under s t def k row keyed is e = by (slice_get s.tables t.0) refl
-  where
-    by : (o : Option Table) → slice_get s.tables t.0 ≡ o → key_of def.primary_key row ≡ k
-    by None none = let wrong : None ≡ Some row = sym (fm.get-empty key_order k) ∙ ap (λ o. fm.get (unwrap_or o fm.empty) k) (sym none) ∙ e in cc
-    by (Some m) there = (keyed t.0 def m is there).0 k row (ap (λ o. fm.get (unwrap_or o fm.empty) k) (sym there) ∙ e)
+-- ---- what is reached from roots
 
-module _ (s : TableState) (g : Group) (test : Row → Bool) (sound : is_sound s.schema g.def.tree ≡ true) (plain : has_no_where g.def.tree ≡ true) (keyed : IsKeyed s) where
+-- the root key alone
+abbrev pub is_only : List Value → List Value → Bool
+is_only root other = is_key (root ∷ []) other
+
+-- the key's row is reached from a root whose key passes
+abbrev pub is_within : TableState → Tree → (List Value → Bool) → RowKey → Bool
+is_within s tree test key = passes test (root_of s tree key.table key.key)
+
+-- so is one of those that operations hold
+abbrev pub touches : TableState → Tree → (List Value → Bool) → List Op → Bool
+touches s tree test ops =
+    list_any (is_within s tree test) (footprint_of s.schema ops).written
+    || list_any (is_within s tree test) (footprint_of s.schema ops).referred
+
+-- root rows stand under their keys
+abbrev pub IsRooted : TableState → Group → Type 0
+IsRooted s g = (k r : Row) → fm.get (table_at s g.def.tree.root.table) k ≡ Some r → root_key s g r ≡ k
+
+module _ (s : TableState) (g : Group) (test : Row → Bool) (sound : is_sound s.schema g.def.tree ≡ true) (plain : has_no_where g.def.tree ≡ true) (rooted : IsRooted s g) where
   abbrev tree : Tree
   tree = g.def.tree
 
@@ -159,8 +168,7 @@ module _ (s : TableState) (g : Group) (test : Row → Bool) (sound : is_sound s.
       by : (o : Option Row) → fm.get (table_at s g.def.tree.root.table) q ≡ o → passes test (cond (is_some (fm.get (table_at s g.def.tree.root.table) q)) (Some q) None) ≡ is_some (cond (passes (λ row. test (root_key s g row)) (fm.get (table_at s g.def.tree.root.table) q)) (fm.get (table_at s g.def.tree.root.table) q) None)
       by None e = (λ i. passes test (cond (is_some (e i)) (Some q) None)) ∙ sym (λ i. is_some (cond (passes (λ row. test (root_key s g row)) (e i)) (e i) None))
       by (Some row) e =
-          let d = some_def (slice_get s.schema g.def.tree.root.table.0) (both_true (is_some (slice_get s.schema g.def.tree.root.table.0)) (Rattle.instances.specs.Trees.are_sound s.schema g.def.tree 0 g.def.tree.children) sound).0 in
-          let key : root_key s g row ≡ q = ap (λ o. key_in o row) d.1 ∙ under s g.def.tree.root.table d.0 q row keyed d.1 e in
+          let key : root_key s g row ≡ q = rooted q row e in
           (λ i. passes test (cond (is_some (e i)) (Some q) None)) ∙ ap test (sym key)
           ∙ sym ((λ i. is_some (cond (passes (λ r. test (root_key s g r)) (e i)) (e i) None)) ∙ some_at (test (root_key s g row)) row)
 

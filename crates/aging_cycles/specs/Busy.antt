@@ -1,62 +1,42 @@
--- Roots in whose instances sessions have uncommitted writes, over what is stored. (This project's rule: the rows of an
--- instance are those that a root row is reached from.)
+-- Instances in which sessions have uncommitted writes, over what a store keeps. (This project's rule: a key is held by
+-- the open operations that write it or name it as a parent.)
 
-use Rattle.std.specs.Prelude.{◌≡◌, List, [], ◌∷◌, Bool, ◌&&◌, ◌||◌, ◌==◌, length, map}
-use Rattle.std.specs.FinMap.{contains_key}
-use Rattle.std.specs.List.{list_all, list_any}
+use Rattle.std.specs.Prelude.{List, Bool, ◌&&◌, ◌||◌, map}
+use Rattle.std.specs.List.{list_any}
+use Rattle.tier_base.specs.declared.number.TableId.{TableId}
 use Rattle.row_types.specs.declared.value.Value.{Value}
-use Rattle.indexed_rows.specs.Rows.{Table}
-use Rattle.table_state.specs.declared.footprint.RowKey.{RowKey}
+use Rattle.table_defs.specs.declared.definition.TableDef.{TableDef}
 use Rattle.table_state.specs.declared.operation.Op.{Op}
-use Rattle.table_state.specs.Footprints.{footprint_of}
-use Rattle.table_state.specs.Tables.{TableState}
-use Rattle.instances.specs.declared.tree.Tree.{Tree}
-use Rattle.instances.specs.Roots.{root_of}
-use Rattle.instances.specs.Views.{passes}
+use Rattle.table_state.specs.Footprints.{footprint_of, is_in}
+use Rattle.session_state.specs.Holding.{is_held}
 use Rattle.session_state.specs.Sessions.{OpenSession}
+use Rattle.session_state.specs.declared.session.Session.{Session}
 use Rattle.open_sessions.specs.Opening.{seen_all}
 use Rattle.open_sessions.specs.declared.sessions.Sessions.{Sessions}
-use Rattle.cache_tier.specs.Groups.{Group, is_key, is_writethrough}
-use Rattle.cache_tier.specs.Shown.{all_over}
-
--- the root key alone
-abbrev pub is_only : List Value → List Value → Bool
-is_only root other = is_key (root ∷ []) other
-
--- the key's row is reached from a root whose key passes
-abbrev pub is_within : TableState → Tree → (List Value → Bool) → RowKey → Bool
-is_within s tree test key = passes test (root_of s tree key.table key.key)
-
--- so is one of those that operations hold
-abbrev pub touches : TableState → Tree → (List Value → Bool) → List Op → Bool
-touches s tree test ops =
-    list_any (is_within s tree test) (footprint_of s.schema ops).written
-    || list_any (is_within s tree test) (footprint_of s.schema ops).referred
-
--- in the rows as they are, or with the operations over them
-abbrev pub writes_within : TableState → Tree → (List Value → Bool) → List Op → Bool
-writes_within s tree test ops = touches s tree test ops || touches (all_over ops s) tree test ops
-
--- some operations of these do so in the instance of a root key
-abbrev pub is_written_in : TableState → Tree → List (List Op) → List Value → Bool
-is_written_in s tree owns root = list_any (writes_within s tree (is_only root)) owns
-
--- A session has uncommitted writes in the instance. Of a READONLY group none has: sessions write through the others.
-abbrev pub is_busy_in : TableState → List (List Op) → Group → List Value → Bool
-is_busy_in s owns g root = is_writethrough g && is_written_in s g.def.tree owns root
+use Rattle.group_store.specs.Held.{is_instance_held}
+use Rattle.group_store.specs.Stores.{Kept}
+use Rattle.cache_tier.specs.Groups.{Group, is_writethrough}
 
 -- the open operations of each session
 abbrev pub owns_of : Sessions → List (List Op)
 owns_of sessions = map (λ (x : OpenSession). x.ops) (seen_all sessions)
 
--- no session has written
-abbrev pub have_rested : List (List Op) → Bool
-have_rested owns = list_all (λ ops. length ops == 0) owns
+-- some of these operations hold the key
+abbrev pub is_held_by : List TableDef → List (List Op) → TableId → List Value → Bool
+is_held_by schema owns table key =
+    list_any (λ ops. is_in (footprint_of schema ops) (record { table = table; key = key })) owns
 
--- the keys of a map are those of another, and those that pass
-abbrev pub GainsRoots : Table → Table → (List Value → Bool) → Type 0
-GainsRoots old new test = (root : List Value) → contains_key new root ≡ (contains_key old root || test root)
+-- A session has uncommitted writes in the instance: it holds the key of one of its rows. Of a READONLY group none has:
+-- sessions write through the others.
+abbrev pub is_busy_in : List TableDef → List (List Op) → Group → Kept → List Value → Bool
+is_busy_in schema owns g s root = is_writethrough g && is_instance_held (is_held_by schema owns) s root
 
--- they are those that pass
-abbrev pub HasRoots : (List Value → Bool) → Table → Type 0
-HasRoots test roots = (root : List Value) → contains_key roots root ≡ test root
+-- a session keeps the key among those that it writes, or names as parents
+abbrev pub is_kept_by : List Session → TableId → List Value → Bool
+is_kept_by sessions table key =
+    list_any (λ s. is_held s.written (record { table = table; key = key })
+    || is_held s.referred (record { table = table; key = key })) sessions
+
+-- the same by what sessions keep
+abbrev pub is_busy_at : List Session → Kept → List Value → Bool
+is_busy_at sessions s root = is_instance_held (is_kept_by sessions) s root

@@ -1,9 +1,9 @@
 //! When the cycle of a group is due, and the horizon that it leaves.
 
-ghost use Rattle.std.specs.Prelude.{◌≡◌, ◌≤◌, ◌^◌, IfSome, MatchOption};
+ghost use Rattle.std.specs.Prelude.{◌≡◌, ◌≤◌, ◌^◌, MatchOption};
 ghost use Rattle.group_catalog.specs.Kept.{group_seen};
 ghost use Rattle.cache_tier.specs.Aging.{horizon_at, is_over, later};
-ghost use Rattle.aging_cycles.specs.Cycles.{is_due, span_of};
+ghost use Rattle.aging_cycles.specs.Cycles.{horizon_behind, is_due, span_of};
 
 use cache_tier::group::{AgingRule, TimeRule};
 use group_catalog::KeptGroup;
@@ -42,22 +42,26 @@ fn is_over(now: u64, last: u64, span: u64) -> bool
     }
 }
 
-/// The horizon behind a cycle at this moment: a lifetime before it, or that of the group where that is later. None
-/// where 64 signed bits don't have the lifetime.
-pub(crate) fn horizon_behind(now: u64, rule: &TimeRule, horizon: Option<i64>) -> Option<i64>
-    ensures { IfSome result (λ behind. behind ≡ later horizon (horizon_at now rule.now)) }
+/// The group's horizon behind a cycle at this moment: by time a lifetime before it, or what the group had where that is
+/// later; by last use it stays.
+pub(crate) fn horizon_of(now: u64, group: &KeptGroup) -> Option<i128>
+    ensures { result ≡ horizon_behind now (group_seen group.now).def.aging (group_seen group.now).horizon }
 {
-    match (i64::try_from(now / 1000), i64::try_from(rule.lifetime)) {
-        (Ok(seconds), Ok(lifetime)) => match seconds.checked_sub(lifetime) {
-            None => None,
-            Some(at) => Some(later(horizon, at)),
-        },
-        _ => None,
+    match &group.def.aging {
+        Some(AgingRule::ByTime(rule)) => Some(later(group.horizon, horizon_at(now, rule))),
+        _ => group.horizon,
     }
 }
 
+// A lifetime before this moment.
+fn horizon_at(now: u64, rule: &TimeRule) -> i128
+    ensures { result ≡ horizon_at now rule.now }
+{
+    i128::from(now / 1000) - i128::from(rule.lifetime)
+}
+
 // The later of two horizons.
-fn later(horizon: Option<i64>, at: i64) -> i64
+fn later(horizon: Option<i128>, at: i128) -> i128
     ensures { result ≡ later horizon at }
 {
     match horizon {

@@ -2,10 +2,10 @@
 #![tactic(auto)]
 
 mod busy;
-mod cycles;
+mod by_time;
+mod by_use;
 mod due;
 mod leaving;
 mod running;
-mod taking;
 
 pub use running::age;

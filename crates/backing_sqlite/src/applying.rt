@@ -74,11 +74,13 @@ fn do_all<S: Alter>(
     ops: &[Op],
 ) -> Result<Option<Difference>, StoreFault> {
     let position = next_entry(tx)?;
+    let mut before = None;
     for (number, op) in ops.iter().enumerate() {
         match difference_at(alloc, tx, shelf, op)? {
-            None => do_op(alloc, tx, shelf, op, LogPlace { position, number })?,
+            None => do_op(alloc, tx, shelf, before, op, LogPlace { position, number })?,
             Some(difference) => return Ok(Some(difference)),
         }
+        before = Some(op);
     }
     Ok(None)
 }

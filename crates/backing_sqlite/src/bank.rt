@@ -181,16 +181,21 @@ impl SqliteBank {
         self.answer(done)
     }
 
-    /// What changed since a position of the history, and the instances that this touches or that a want names.
+    /// What changed since a position of the history, and the instances that this touches or that a want names. What the
+    /// logs have up to the least position that calls to come ask from is forgotten by later writes.
+    ///
+    /// It fails, too, where an earlier call, or the opening of the file, said that no call asks from there.
     pub fn changes(
         &mut self,
         since: Position,
+        least: Position,
         trees: &[Tree],
         wants: &[RowKey],
     ) -> Result<Changes, BankError>
         ensures counts { Counts self.old self.new result }
     {
         let done = changes(self.alloc, &mut self.conn, &self.shelf, since, trees, wants);
+        self.shelf.keep_from(least.0);
         self.answer(done)
     }
 }

@@ -3,11 +3,12 @@
 //! Its tables have a hyphen in their names, which no name of a backing table has.
 
 use crate::fault::StoreFault;
-use crate::reading::first_row;
+use crate::judging::table_at;
+use crate::reading::{entries, first_row};
 use crate::schema_rows::read_def;
 use crate::shelf::Shelf;
 use crate::texts::log_text;
-use crate::writing::give;
+use crate::writing::{forget, give};
 use sqlite::{Alter, Connection, Transaction};
 use std::alloc::Global;
 use table_defs::TableDef;
@@ -72,15 +73,17 @@ fn read_catalog<S: Alter>(alloc: Global, tx: &mut Transaction<'_, S>) -> Result<
     let text = "SELECT name, parent, cascades FROM \"ttcache-tables\" ORDER BY place";
     let stored = tx.query_all(text, &[])?;
     let mut shelf = Shelf::new(alloc);
+    shelf.keep_from(entries(tx)?);
     for (place, row) in stored.iter().enumerate() {
         let def = read_def(alloc, tx, place, row)?;
         make_log(alloc, tx, &def)?;
         shelf.push(alloc, def)?;
+        forget(tx, &shelf, table_at(place)?)?;
     }
     Ok(shelf)
 }
 
-// A file from before the logs has none.
+// A file from before the logs has none. No call asks since a position from before the opening, so they begin anew.
 fn make_log<S: Alter>(
     alloc: Global,
     tx: &mut Transaction<'_, S>,

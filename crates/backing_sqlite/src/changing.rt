@@ -18,7 +18,7 @@ use table_state::RowKey;
 use tier_base::{Position, Seq, TableId};
 
 /// What changed since a position in the tables of the trees, and of each tree the instances that this touches, and those
-/// that a want names, read in a transaction of its own.
+/// that a want names, read in a transaction of its own. It fails where the logs don't go back so far.
 pub(crate) fn changes<S: Alter>(
     alloc: Global,
     conn: &mut Connection<S>,
@@ -27,7 +27,7 @@ pub(crate) fn changes<S: Alter>(
     trees: &[Tree],
     wants: &[RowKey],
 ) -> Result<Changes, StoreFault> {
-    if !conn.is_autocommit() {
+    if !conn.is_autocommit() || since.0 < shelf.kept() {
         return Err(StoreFault::Failed);
     }
     let mut tx = conn.transaction();

@@ -84,8 +84,10 @@ fn write_ops<S: Alter>(
     ops: &[Op],
 ) -> Result<(), StoreFault> {
     let position = next_entry(tx)?;
+    let mut before = None;
     for (number, op) in ops.iter().enumerate() {
-        do_op(alloc, tx, shelf, op, LogPlace { position, number })?;
+        do_op(alloc, tx, shelf, before, op, LogPlace { position, number })?;
+        before = Some(op);
     }
     Ok(())
 }

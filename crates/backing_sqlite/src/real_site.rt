@@ -114,9 +114,10 @@ impl<D: Disk> Site for RealSite<D> {
     fn changes(
         &mut self,
         since: Position,
+        least: Position,
         trees: &[Tree],
         wants: &[RowKey],
     ) -> Result<Changes, BankError> {
-        self.bank.changes(since, trees, wants)
+        self.bank.changes(since, least, trees, wants)
     }
 }

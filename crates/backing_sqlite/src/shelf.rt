@@ -6,10 +6,12 @@ use std::alloc::Global;
 use table_defs::{BackingSchema, TableDef};
 use tier_base::{Seq, TableId};
 
-/// The definitions of the backing tables, with the texts of the statements on them.
+/// The definitions of the backing tables, with the texts of the statements on them, and the position from which on the
+/// logs are kept.
 pub(crate) struct Shelf {
     schema: BackingSchema,
     texts: Vec<TableTexts>,
+    kept: u64,
 }
 
 impl Drop for Shelf {
@@ -17,6 +19,7 @@ impl Drop for Shelf {
         let Self {
             schema: _,
             texts: _,
+            kept: _,
         } = self;
     }
 }
@@ -27,7 +30,18 @@ impl Shelf {
         Shelf {
             schema: Seq::new(alloc),
             texts: Vec::new(alloc),
+            kept: 0,
         }
+    }
+
+    /// The least position since which the logs tell what changed.
+    pub(crate) fn kept(&self) -> u64 {
+        self.kept
+    }
+
+    /// The logs need to tell no more what came up to this position. That is never taken back.
+    pub(crate) fn keep_from(&mut self, position: u64) {
+        self.kept = self.kept.max(position);
     }
 
     /// The definitions.

@@ -33,6 +33,8 @@ pub(crate) struct TableTexts {
     pub enter: String,
     /// The log behind a position: the key, whether there was a row before, and that row.
     pub logged: String,
+    /// The log up to a position leaves.
+    pub forget: String,
 }
 
 impl Drop for TableTexts {
@@ -47,6 +49,7 @@ impl Drop for TableTexts {
             children: _,
             enter: _,
             logged: _,
+            forget: _,
         } = self;
     }
 }
@@ -63,6 +66,7 @@ impl TableTexts {
         let children = children_text(alloc, def)?;
         let enter = enter_text(alloc, def)?;
         let logged = logged_text(alloc, def)?;
+        let forget = forget_text(alloc, def)?;
         Ok(TableTexts {
             find,
             all,
@@ -73,6 +77,7 @@ impl TableTexts {
             children,
             enter,
             logged,
+            forget,
         })
     }
 }
@@ -187,6 +192,13 @@ fn logged_text(alloc: Global, def: &TableDef) -> Result<String, StoreFault> {
     out.push_str(" FROM ")?;
     put_log(&mut out, &def.name)?;
     out.push_str(" WHERE \"log-position\" > ? ORDER BY \"log-position\", \"log-number\"")?;
+    Ok(out)
+}
+
+fn forget_text(alloc: Global, def: &TableDef) -> Result<String, StoreFault> {
+    let mut out = String::from_str(alloc, "DELETE FROM ")?;
+    put_log(&mut out, &def.name)?;
+    out.push_str(" WHERE \"log-position\" <= ?")?;
     Ok(out)
 }
 

@@ -36,16 +36,40 @@ fn give_one<S: Alter>(
     }
 }
 
-/// Does an operation, which applies, and enters it into the log at this place.
+/// Does an operation of a transaction, which applies, and enters it into the log at this place. Where the operation
+/// before it was on another table, what its table's log needs to tell no more is forgotten first.
 pub(crate) fn do_op<S: Alter>(
     alloc: Global,
     tx: &mut Transaction<'_, S>,
     shelf: &Shelf,
+    before: Option<&Op>,
     op: &Op,
     at: LogPlace,
 ) -> Result<(), StoreFault> {
+    if !is_on(before, op.table()) {
+        forget(tx, shelf, op.table())?;
+    }
     write(alloc, tx, shelf, op)?;
     enter(alloc, tx, shelf, op, at)
+}
+
+fn is_on(op: Option<&Op>, table: TableId) -> bool {
+    match op {
+        None => false,
+        Some(op) => op.table() == table,
+    }
+}
+
+/// What the log of a table needs to tell no more is taken out.
+pub(crate) fn forget<S: Alter>(
+    tx: &mut Transaction<'_, S>,
+    shelf: &Shelf,
+    table: TableId,
+) -> Result<(), StoreFault> {
+    let kept = whole(shelf.kept())?;
+    let text = shelf.texts(table)?.forget.as_str();
+    let _ = give(tx, text, &[ValueRef::Int(kept)])?;
+    Ok(())
 }
 
 // An entry of the log has the row before, where there was one.

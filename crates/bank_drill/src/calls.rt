@@ -160,11 +160,11 @@ pub fn reach<T: Site>(
     }
 }
 
-/// Tells what changed since a position.
+/// Tells what changed since a position, where no call to come asks since one before another.
 pub fn changes<T: Site>(
     alloc: Global,
     site: &mut T,
-    since: u64,
+    from: (Position, Position),
     wants: &str,
     trees: &str,
     line: usize,
@@ -173,7 +173,8 @@ pub fn changes<T: Site>(
     let known = site.schema()?;
     let wants = wants_of(alloc, &known, wants, line)?;
     let trees = trees_of(alloc, &known, trees, line)?;
-    match site.changes(Position(since), trees.as_slice(), wants.as_slice()) {
+    let (since, least) = from;
+    match site.changes(since, least, trees.as_slice(), wants.as_slice()) {
         Ok(changes) => tell_changes(out, &known, trees.as_slice(), &changes),
         Err(error) => tell_bank_error(out, error),
     }

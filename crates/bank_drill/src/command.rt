@@ -20,9 +20,9 @@ pub enum Command<'a> {
     /// `!reach TABLE VALUE,.. in TREE`: the instance that the row at a key is in. The tree has its tables with `; ` between,
     /// the root first, each with its WHERE where it has one.
     Reach(&'a str, &'a str),
-    /// `!changes N WANTS in TREES`: what changed since the position. Wants are `TABLE VALUE,..` with `; ` between; there may
-    /// be none. Trees have ` / ` between.
-    Changes(u64, &'a str, &'a str),
+    /// `!changes N WANTS in TREES`, or `N/M` in place of `N`: what changed since the position N, where no call to come asks
+    /// since one before M. Wants are `TABLE VALUE,..` with `; ` between; there may be none. Trees have ` / ` between.
+    Changes(u64, u64, &'a str, &'a str),
     /// `!put TEXT`: the bytes are written into the second slot behind its first byte, and synced.
     Put(&'a str),
     /// `!get`: the bytes of the second slot behind its first one.
@@ -76,13 +76,15 @@ fn parse_call(text: &str) -> Option<Command<'_>> {
             Some(Command::Reach(table, rest))
         }
         "changes" => {
-            let (since, rest) = first_word(rest);
+            let (from, rest) = first_word(rest);
+            let (since, least) = from.split_once('/').unwrap_or((from, "0"));
             let since = since.parse::<u64>().ok()?;
+            let least = least.parse::<u64>().ok()?;
             let (wants, trees) = match rest.strip_prefix("in ") {
                 Some(trees) => ("", trees),
                 None => rest.split_once(" in ")?,
             };
-            Some(Command::Changes(since, wants, trees))
+            Some(Command::Changes(since, least, wants, trees))
         }
         "schema" => Some(Command::Schema),
         "snapshot" => Some(Command::Snapshot(rest)),

@@ -8,6 +8,7 @@ use backing_sqlite::{RealSite, SqliteBank};
 use file_disk::FileDisk;
 use outside::{Disk, Slot};
 use table_state::Sealed;
+use tier_base::Position;
 
 /// How many bytes of a slot are told.
 const TOLD: usize = 64;
@@ -99,8 +100,9 @@ impl Stage {
             }
             Command::Find(table, key) => find(alloc, &mut self.site, table, key, line, out),
             Command::Reach(table, rest) => reach(alloc, &mut self.site, table, rest, line, out),
-            Command::Changes(since, wants, trees) => {
-                changes(alloc, &mut self.site, since, wants, trees, line, out)
+            Command::Changes(since, least, wants, trees) => {
+                let from = (Position(since), Position(least));
+                changes(alloc, &mut self.site, from, wants, trees, line, out)
             }
             Command::Schema => schema(&mut self.site, out),
             Command::Snapshot(tables) => snapshot(alloc, &mut self.site, tables, line, out),

@@ -91,8 +91,7 @@ aging_defs history t =
     (λ g. cond_def (is_aging_due t g) g (aged history t g) g (rule_def history t g.def.aging g) refl) t.groups
 
 aging_keeps : ItemKeeps DueAging
-aging_keeps w w' notes stop (inr p) = who_same w w' p.0
-aging_keeps w w' notes stop (inl p) =
+aging_keeps w w' notes stop p =
     who_on w (record w { tier = after_aging w.history w.tier }) w'
     (record { sessions = refl; groups = aging_defs w.history w.tier; shared = refl }) (who_same _ w' p.0)
 

@@ -24,7 +24,7 @@ use Rattle.cache_tier.specs.Events.{with_tier}
 use Rattle.stored_tier.specs.declared.clock.TierClock.{TierClock}
 use Rattle.stored_tier.specs.declared.tier.Tier.{Tier as Stored}
 use Rattle.cache_engine.specs.Due.{IsDueCaused}
-use Rattle.cache_engine.specs.DueItems.{DoesItem, DueRest, EndsCycles, Footing, KeepsSets, RunsCycles, due_at, due_of, is_due_at, note_of, round_is_due}
+use Rattle.cache_engine.specs.DueItems.{DoesItem, DueRest, Footing, KeepsSets, RunsCycles, due_at, due_of, is_due_at, note_of, round_is_due}
 use Rattle.outside.specs.Holding.{Held}
 use Rattle.tier_journal.specs.declared.journal.TierJournal.{TierJournal}
 use Rattle.stored_tier.specs.Performing.{IsStopCausedOver, PerformsOver, StandsFor}
@@ -71,7 +71,7 @@ module _ {D : Type 0} (state : D → SiteState) (possible : D → ℕ → Held �
         record {
           world = with_tier aged w;
           at = at_still (state b.disk) w aged at;
-          is = subst (λ l. DueAging w (with_tier aged w) l None) (sym (since_self notes)) (inl (refl, refl, refl));
+          is = subst (λ l. DueAging w (with_tier aged w) l None) (sym (since_self notes)) (refl, refl, refl);
           stands = λ whole. runs.ages w stands;
           keeps = λ whole. keeps_tier state possible b.disk b.journal w aged refl keeps;
         };
@@ -81,27 +81,6 @@ module _ {D : Type 0} (state : D → SiteState) (possible : D → ℕ → Held �
     groups = runs.groups;
     entries = λ i there. subst (λ (c : TierClock). has_moment c.sets.items i ≡ true) (sym runs.clock) there;
   }
-
-  -- memory was wanting for them
-  wanting_item : (old new : Stored) (b : Footing D) (notes : List Note) (reply : Reply) → reply ≡ faulty code.Memory → new ≡ record old { verified = new.verified } → DoesItem state possible DueAging old new b b notes notes (Some reply)
-  wanting_item old new b notes reply told same = record {
-    performs = λ w at stands apart keeps. record {
-      world = w;
-      at = at;
-      is = subst (λ l. DueAging w w l (Some reply)) (sym (since_self notes)) (inr (refl, refl, ap Some told));
-      stands = λ whole. stands_over old new w same stands;
-      keeps = λ whole. keeps;
-    };
-    order = sym (append-nil notes) ∙ ap (λ l. notes ++ l) (sym (since_self notes));
-    cause = subst (λ l. IsDueCaused b.journal (state b.disk) (state b.disk) (due_of l (Some reply))) (sym (since_self notes)) (subst (λ r. IsDueCaused b.journal (state b.disk) (state b.disk) (due_of [] (Some r))) (sym told) (wanting_caused b.journal (state b.disk)));
-    none = λ none. none;
-    groups = ap (λ (t : Stored). definitions_of (groups_in t.catalog)) same;
-    entries = λ i there. subst (λ (t : Stored). has_moment t.clock.sets.items i ≡ true) (sym same) there;
-  }
-
-  aging_item : (old new : Stored) (b : Footing D) (notes : List Note) (stop : Option Reply) → EndsCycles old new stop → DoesItem state possible DueAging old new b b notes notes stop
-  aging_item old new b notes None runs = aged_item old new b notes runs
-  aging_item old new b notes (Some reply) wants = wanting_item old new b notes reply wants.0 wants.1
 
   pub due_stopped : (old new : Stored) (b a : Footing D) (earlier notes : List Note) (end : Reply) → DoesItem state possible DueRound old new b a earlier notes (Some end) → DoesItem state possible DueRest old new b a earlier notes (Some end)
   due_stopped old new b a earlier notes end does = stopped_item state possible DueRound (ThenItem DueSets DueAging) old new b a earlier notes end does
@@ -115,12 +94,12 @@ module _ {D : Type 0} (state : D → SiteState) (possible : D → ℕ → Held �
       then_items state possible DueRound (ThenItem DueSets DueAging) old mid new b m a earlier between notes (Some end) first
       (stopped_item state possible DueSets DueAging mid new m a between notes end (sets_item intervals mid new m a between notes (Some end) (due ∙ due_kept old mid keeps) second))
 
-  pub due_done : (intervals : List ℕ) (old mid fresh new : Stored) (b m a : Footing D) (earlier between notes : List Note) (stop : Option Reply) → KeepsSets old mid → intervals ≡ due_at old.clock.now old.clock.sets.items (groups_in old.catalog)
-      → DoesItem state possible DueRound old mid b m earlier between None → DoesItem state possible (DueSetsOf intervals) mid fresh m a between notes None → EndsCycles fresh new stop → DoesItem state possible DueRest old new b a earlier notes stop
-  due_done intervals old mid fresh new b m a earlier between notes stop keeps due first second third =
-      then_items state possible DueRound (ThenItem DueSets DueAging) old mid new b m a earlier between notes stop first
-      (then_items state possible DueSets DueAging mid fresh new m a a between notes notes stop
-      (sets_item intervals mid fresh m a between notes None (due ∙ due_kept old mid keeps) second) (aging_item fresh new a notes stop third))
+  pub due_done : (intervals : List ℕ) (old mid fresh new : Stored) (b m a : Footing D) (earlier between notes : List Note) → KeepsSets old mid → intervals ≡ due_at old.clock.now old.clock.sets.items (groups_in old.catalog)
+      → DoesItem state possible DueRound old mid b m earlier between None → DoesItem state possible (DueSetsOf intervals) mid fresh m a between notes None → RunsCycles fresh new → DoesItem state possible DueRest old new b a earlier notes None
+  due_done intervals old mid fresh new b m a earlier between notes keeps due first second third =
+      then_items state possible DueRound (ThenItem DueSets DueAging) old mid new b m a earlier between notes None first
+      (then_items state possible DueSets DueAging mid fresh new m a a between notes notes None
+      (sets_item intervals mid fresh m a between notes None (due ∙ due_kept old mid keeps) second) (aged_item fresh new a notes third))
 
   -- a round that isn't due
 

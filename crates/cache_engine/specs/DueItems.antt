@@ -86,8 +86,3 @@ pub record RunsCycles (old new : Stored) : Type 0 where
   pub ages : Ages old new
   pub groups : definitions_of (groups_in new.catalog) ≡ definitions_of (groups_in old.catalog)
   pub clock : new.clock ≡ old.clock
-
--- or memory was wanting for them, and that ends the line
-abbrev pub EndsCycles : Stored → Stored → Option Reply → Type 0
-EndsCycles old new None = RunsCycles old new
-EndsCycles old new (Some reply) = (reply ≡ faulty code.Memory) × (new ≡ record old { verified = new.verified })

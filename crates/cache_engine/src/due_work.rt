@@ -7,7 +7,7 @@ ghost use Rattle.cache_tier.specs.Groups.{definitions_of};
 ghost use Rattle.cache_tier.specs.Sets.{RefreshesIfShown};
 ghost use Rattle.group_catalog.specs.Catalogs.{groups_in};
 ghost use Rattle.cache_engine.specs.Due.{IsDueCaused};
-ghost use Rattle.cache_engine.specs.DueItems.{DoesItem, DueRest, EndsCycles, KeepsSets, due_at, due_of, note_of, over, round_is_due};
+ghost use Rattle.cache_engine.specs.DueItems.{DoesItem, DueRest, KeepsSets, RunsCycles, due_at, due_of, note_of, over, round_is_due};
 ghost use Rattle.session_engine.specs.Doubting.{IsReady, LeadsOver};
 ghost use Rattle.stored_tier.specs.Performing.{stop_of, IsStopCaused, Performs};
 ghost use Rattle.stored_tier.specs.Refreshing.{has_moment};
@@ -22,12 +22,12 @@ use group_engine::fresh::refresh_members;
 use outside::Site;
 use session_engine::doubt::Doubt;
 use session_engine::settling::settle_doubt;
-use std::alloc::{AllocError, Global};
+use std::alloc::Global;
 use stored_tier::refreshing::shows_something;
 use stored_tier::tier::Tier;
 use tier_base::Code;
 use tier_journal::TierJournal;
-use tier_statements::{bank_fault, faulty};
+use tier_statements::bank_fault;
 
 // A commit in doubt is settled, and then what is due is done. All its notes are told, and it is the reply that ends the
 // line.
@@ -103,21 +103,21 @@ fn do_due<P: Site>(
         Some(stop) => Some(stop),
         None => match refresh_sets(tier, alloc, site, intervals, notes) {
             Some(stop) => Some(stop),
-            None => age_due(tier, alloc),
+            None => {
+                age_due(tier);
+                None
+            }
         },
     }
 }
 
-// The cycles of aging that are due. Where memory is wanting for them none is run, and that ends the line.
-fn age_due(tier: &mut Tier, alloc: Global) -> Option<Reply>
+// The cycles of aging that are due. It takes no memory.
+fn age_due(tier: &mut Tier)
     requires { IsSound tier.old }
-    ensures ends { EndsCycles tier.old tier.new result }
+    ensures runs { RunsCycles tier.old tier.new }
     ensures sound { IsSound tier.new }
 {
-    match age(tier, alloc) {
-        Ok(()) => None,
-        Err(AllocError) => Some(faulty(alloc, Code::Memory)),
-    }
+    age(tier);
 }
 
 // A round, where it is due.

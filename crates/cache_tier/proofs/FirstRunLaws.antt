@@ -26,7 +26,7 @@ idle n sessions =
         behind = [];
         end = None;
         first = record { end = None; does = (refl, refl); told = refl; ends = refl };
-        next = record { mid = at n sessions; before = []; behind = []; end = None; first = (refl, refl, refl); next = inl (refl, refl, refl); all = refl };
+        next = record { mid = at n sessions; before = []; behind = []; end = None; first = (refl, refl, refl); next = (refl, refl, refl); all = refl };
         all = refl;
       };
       all = refl;

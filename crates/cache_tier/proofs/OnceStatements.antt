@@ -540,8 +540,7 @@ due_sets_leads : ItemLeads DueSets
 due_sets_leads w w' notes stop q = due_sets_of_leads (due_sets w.tier) w w' notes stop q
 
 due_aging_leads : ItemLeads DueAging
-due_aging_leads w w' notes stop (inl q) = subst (λ x. Keeps w x) (sym q.0) (tiered w _ (kept w.tier))
-due_aging_leads w w' notes stop (inr q) = same w w' q.0
+due_aging_leads w w' notes stop q = subst (λ x. Keeps w x) (sym q.0) (tiered w _ (kept w.tier))
 
 due_doubt_leads : ItemLeads DueDoubt
 due_doubt_leads w w' notes stop q = doubt_leads w.tier.doubt w w' notes stop q

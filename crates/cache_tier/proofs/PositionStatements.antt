@@ -533,12 +533,11 @@ due_sets_leads : ItemLeads DueSets
 due_sets_leads w w' notes stop q = due_sets_of_leads (due_sets w.tier) w w' notes stop q
 
 due_aging_leads : ItemLeads DueAging
-due_aging_leads w w' notes stop (inl q) = of_tier w w' (after_aging w.history w.tier) (ap (λ (x : World). x.tier) q.0) (map_one (λ g. cond (is_aging_due w.tier g) (aged w.history w.tier g) g) (λ g. inl (by (is_aging_due w.tier g) g)) w.tier.groups)
+due_aging_leads w w' notes stop q = of_tier w w' (after_aging w.history w.tier) (ap (λ (x : World). x.tier) q.0) (map_one (λ g. cond (is_aging_due w.tier g) (aged w.history w.tier g) g) (λ g. inl (by (is_aging_due w.tier g) g)) w.tier.groups)
   where
     by : (b : Bool) (g : Group) → Weaker g (cond b (aged w.history w.tier g) g)
     by true g = aged_weaker w.history w.tier g
     by false g = same_group g
-due_aging_leads w w' notes stop (inr q) = same w w' q.0
 
 due_doubt_leads : ItemLeads DueDoubt
 due_doubt_leads w w' notes stop q = doubt_leads w.tier.doubt w w' notes stop q

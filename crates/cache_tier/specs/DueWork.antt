@@ -112,15 +112,8 @@ abbrev pub DueSets : Item
 DueSets w w' notes stop = DueSetsOf (due_sets w.tier) w w' notes stop
 
 -- each group that is due has its cycle
-abbrev pub DoesAging : Item
-DoesAging w w' notes stop = (w' ≡ record w { tier = after_aging w.history w.tier }) × (notes ≡ []) × (stop ≡ None)
-
--- memory was wanting for the cycles: none is done, and the line ends with that
-abbrev pub WantsForAging : Item
-WantsForAging w w' notes stop = (w' ≡ w) × (notes ≡ []) × (stop ≡ Some (faulty code.Memory))
-
 abbrev pub DueAging : Item
-DueAging w w' notes stop = DoesAging w w' notes stop ⊎ WantsForAging w w' notes stop
+DueAging w w' notes stop = (w' ≡ record w { tier = after_aging w.history w.tier }) × (notes ≡ []) × (stop ≡ None)
 
 abbrev pub DueDoubt : Item
 DueDoubt w w' notes stop = SettlesDoubt w.tier.doubt w w' notes stop

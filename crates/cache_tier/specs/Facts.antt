@@ -103,13 +103,12 @@ RunsGoOn =
     (w mid last : World) (lines more : List Asked) (replies others : List (Option Reply)) → Run w lines replies mid
     → Run mid more others last → Run w (lines ++ more) (replies ++ others) last
 
--- where nothing is due but aging, the due work leaves the outside untouched, and tells nothing; it ends the line only
--- where memory is wanting
+-- where nothing is due but aging, the due work leaves the outside untouched, tells nothing, and doesn't end the line
 abbrev pub IdleIsUntouched : Type 0
 IdleIsUntouched =
     (w w' : World) (notes : List Note) (stop : Option Reply) → w.tier.doubt ≡ None → is_round_due w.tier ≡ false
     → due_sets w.tier ≡ [] → DueWork w w' notes stop
-    → IsUntouched w w' × (notes ≡ []) × ((stop ≡ None) ⊎ (stop ≡ Some (faulty code.Memory)))
+    → IsUntouched w w' × (notes ≡ []) × (stop ≡ None)
 
 -- a statement that the order of refusals refuses leaves all as it was
 abbrev pub RefusedIsAsBefore : Type 0

@@ -167,7 +167,7 @@ impl Catalog {
     }
 
     /// Gives the group at a place another horizon, in seconds since 1970.
-    pub fn with_horizon(&mut self, place: usize, horizon: Option<i64>)
+    pub fn with_horizon(&mut self, place: usize, horizon: Option<i128>)
         requires { place < length (groups_in self.old) }
         ensures { groups_in self.new
             ≡ changed_from (alone place) (λ g. record g { horizon = horizon }) 0 (groups_in self.old) }

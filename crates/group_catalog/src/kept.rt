@@ -20,7 +20,7 @@ pub struct KeptGroup {
     /// the position in the backing history at which a READONLY group was refreshed last
     pub position: Option<Position>,
     /// instances whose time, in seconds since 1970, is at or under it have left
-    pub horizon: Option<i64>,
+    pub horizon: Option<i128>,
     /// the moment of its last aging cycle, or of its definition or recovery
     pub aged: Moment,
 }

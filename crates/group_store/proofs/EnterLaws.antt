@@ -147,7 +147,7 @@ module _ (old : List Row) where
 pub at_root : (s : Kept) (t : TableId) → same_table s.table t ≡ true → place_in s t ≡ Some 0
 at_root s t e = ap (λ b. cond b (Some 0) (option_map suc (position (λ l. same_table l.table t) s.layers))) e
 
-not_first : (i : ℕ) → nat_eq (suc i) 0 ≡ false
+pub not_first : (i : ℕ) → nat_eq (suc i) 0 ≡ false
 not_first i = nat_eq_other (suc i) 0 (λ z. absurd (omega (arith, z)))
 
 -- a store like another in its root's table id and key

@@ -113,7 +113,7 @@ layer_got [] i l e = cc
 layer_got (c ∷ cs) zero l e = (c, refl, (let z : layer_of c ≡ l = ap (λ o. unwrap_or o l) e in z))
 layer_got (c ∷ cs) (suc i) l e = layer_got cs i l e
 
-inside : (cs : List ChildRows) (i : ℕ) (c : ChildRows) → slice_get cs i ≡ Some c → i < length cs
+pub inside : (cs : List ChildRows) (i : ℕ) (c : ChildRows) → slice_get cs i ≡ Some c → i < length cs
 inside [] i c e = cc
 inside (x ∷ cs) zero c e = omega arith
 inside (x ∷ cs) (suc i) c e = let r = inside cs i c e in omega (arith, r)

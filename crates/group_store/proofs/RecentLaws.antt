@@ -243,7 +243,7 @@ module _ (slots : SlotKeys) (recent : List ℕ) (are : AreRecent slots recent) w
       pub next_is : next_key is_same key (keys_of slots recent) ≡ option_map (key_in slots) (next_key nat_eq slot recent)
       next_is = ap (λ k. next_key is_same k (keys_of slots recent)) (sym (in_slot slots slot key e)) ∙ next_keys recent (own_key slot e only)
 
-  next_there : (slot s : ℕ) (xs : List ℕ) → next_key nat_eq slot xs ≡ Some s → (i : ℕ) × (slice_get xs i ≡ Some s)
+  pub next_there : (slot s : ℕ) (xs : List ℕ) → next_key nat_eq slot xs ≡ Some s → (i : ℕ) × (slice_get xs i ≡ Some s)
   next_there slot s [] e = cc
   next_there slot s (x ∷ xs) e = by (nat_eq slot x) e (next_there slot s xs)
     where

@@ -77,7 +77,7 @@ keep_is P (s ∷ ss) (t ∷ ts) long h =
     λ j. first j ∷ rest j
 
 -- tests of places and keys
-abbrev at_it : ℕ → Row → ℕ → Row → Bool
+abbrev pub at_it : ℕ → Row → ℕ → Row → Bool
 at_it place key q k = nat_eq q place && is_same k key
 
 both : (a b : Bool) → (a && b) ≡ true → (a ≡ true) × (b ≡ true)

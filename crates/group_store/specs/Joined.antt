@@ -3,10 +3,11 @@ use Rattle.std.specs.Prelude.{◌≡◌, ◌≢◌, ℕ, ◌<◌, ◌≤◌, Lis
 use Rattle.std.specs.FinMap.{entries, get, remove}
 use Rattle.row_types.specs.declared.value.Value.{Value}
 use Rattle.indexed_rows.specs.Places.{IsKeyAt}
-use Rattle.indexed_rows.specs.Rows.{Table, key_of}
+use Rattle.indexed_rows.specs.Rows.{Table, is_same, key_of}
+use Rattle.recency.specs.Rings.{keys_without}
 use Rattle.instances.specs.Views.{kept_at}
 use Rattle.cache_store.specs.Operating.{change_at}
-use Rattle.group_store.specs.Trees.{Layer, foreign_at, key_at}
+use Rattle.group_store.specs.Trees.{IsBare, Layer, cut_from, foreign_at, key_at}
 use Rattle.group_store.specs.declared.tree_rows.ChildRows.{ChildRows}
 use Rattle.group_store.specs.declared.tree_rows.TreeRows.{TreeRows}
 
@@ -53,6 +54,24 @@ pub record TakesChild (old new : TreeRows) (place spot : ℕ) : Type 0 where
   pub spare : least_spare old ≤ least_spare new
   pub leaves : (key : List Value) → IsKeyAt (entries (kept_at (tables_of old) place)) key spot →
       tables_of new ≡ change_at place (λ t. remove t key) (tables_of old)
+
+-- rows of child tables left, and all else stays
+pub record LeavesChildren (old new : TreeRows) : Type 0 where
+  pub roots : new.roots ≡ old.roots
+  pub layers : layers_of new ≡ layers_of old
+  pub joined : AreJoined new
+  pub spare : least_spare old ≤ least_spare new
+
+-- of what leads to the row of a key the row alone is left
+pub record IsBared (old new : TreeRows) (top : ℕ) (key : List Value) : Type 0 where
+  pub bare : IsBare (layers_of new) (tables_of new) top key
+  pub cut : cut_from (layers_of new) (tables_of new) top key ≡ cut_from (layers_of old) (tables_of old) top key
+
+-- a root's row was taken out, with all that leads to it and its key
+pub record CutsRoot (old new : TreeRows) (key : List Value) (row : Option (List Value)) : Type 0 where
+  pub was : row ≡ get old.roots.table key
+  pub tables : tables_of new ≡ cut_from (layers_of old) (tables_of old) 0 key
+  pub keys : new.roots.keys ≡ keys_without is_same key old.roots.keys
 
 -- a child row of one table that names the parent's key; none only where no row does
 abbrev pub IsRowOf : ChildRows → ℕ → List Value → Option (List Value) → Type 0

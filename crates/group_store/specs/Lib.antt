@@ -1,7 +1,10 @@
+pub mod ByUse
 pub mod Entering
+pub mod Held
 pub mod Hiding
 pub mod Joined
 pub mod Keeping
+pub mod Passing
 pub mod Recent
 pub mod Shown
 pub mod Stores

@@ -79,6 +79,12 @@ abbrev pub IsRowPlace : Table → List Value → Option ℕ → Type 0
 IsRowPlace table key None = fm.contains_key table key ≡ false
 IsRowPlace table key (Some place) = IsKeyAt (fm.entries table) key place
 
+-- the place in key order of a key's row; none where there is no key
+abbrev pub StandsAt : Table → Option (List Value) → Option ℕ → Type 0
+StandsAt table None place = place ≡ None
+StandsAt table (Some key) None = ⊥
+StandsAt table (Some key) (Some place) = IsKeyAt (fm.entries table) key place
+
 -- a key's row was taken out, and the key
 pub record TakesRecent (old new : RecentHeld) (key : List Value) (row : Option (List Value)) : Type 0 where
   pub was : row ≡ fm.get old.table key

@@ -1,6 +1,6 @@
 -- What a cache group keeps, and what becomes of it. (TimesTen Cache User's Guide, "Cache groups" and "Implementing
 -- aging in a cache group".)
-use Rattle.std.specs.Prelude.{◌≡◌, ℕ, suc, List, [], ◌∷◌, ◌++◌, ◌+◌, Option, Some, None, true, filter, length, nat_eq, position, refl, if◌then◌else◌}
+use Rattle.std.specs.Prelude.{◌≡◌, ℕ, suc, List, [], ◌∷◌, ◌++◌, ◌+◌, Option, Some, None, true, filter, length, nat_eq, position, refl, slice_get, if◌then◌else◌}
 use Rattle.std.specs.Option.{option_map}
 use Rattle.std.specs.Coded.{Coded, code_by, coded×, coded_list, coded_ℕ}
 use Rattle.std.specs.FinMap as fm
@@ -133,6 +133,16 @@ put_rows place (row ∷ rows) s = put_rows place rows (put_store place row s)
 abbrev pub put_tables : ℕ → List (List (List Value)) → Kept → Kept
 put_tables place [] s = s
 put_tables place (rows ∷ tables) s = put_tables (suc place) tables (put_rows place rows s)
+
+-- the first of the tables is one row of this key, which these columns are
+pub record IsInstanceUnder (columns : List ℕ) (root : List Value) (tables : List (List (List Value))) : Type 0 where
+  pub row : List Value
+  pub first : slice_get tables 0 ≡ Some (row ∷ [])
+  pub key : key_of columns row ≡ root
+
+-- with these rows in place of a root's instance; the keys stay in the order of last use
+abbrev pub renewed_store : List Value → List (List (List Value)) → Kept → Kept
+renewed_store root tables s = record (put_tables 0 tables (cut_store 0 root s)) { keys = s.keys }
 
 -- how many rows they are
 abbrev pub count_all : List (List (List Value)) → ℕ

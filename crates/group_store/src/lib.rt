@@ -1,8 +1,10 @@
 //! What a cache group keeps: the rows of its tree of tables, and its root keys in the order of last use.
 #![tactic(auto)]
 
+mod by_use;
 mod columns;
 mod directory;
+mod held;
 pub mod laws;
 mod recent;
 mod shown;
@@ -10,6 +12,7 @@ mod store;
 mod tree_rows;
 
 pub use directory::{Directory, Home};
+pub use held::Holds;
 pub use recent::RecentRows;
 pub use shown::Shown;
 pub use store::Store;

@@ -9,7 +9,7 @@ ghost use Rattle.indexed_rows.specs.Places.{IsKeyAt};
 ghost use Rattle.row_types.specs.declared.value.Value.{Value as OneValue};
 ghost use Rattle.slot_rows.specs.SlotKeys.{IsKeyedBy};
 ghost use Rattle.slot_rows.specs.Orders.{place_from};
-ghost use Rattle.group_store.specs.Recent.{HasItsKeys, HasNoRows, HasOrders, IsRowPlace, LosesRecent, TakesRecent, entered_last};
+ghost use Rattle.group_store.specs.Recent.{HasItsKeys, HasNoRows, HasOrders, IsRowPlace, LosesRecent, TakesRecent, StandsAt, entered_last};
 
 use crate::columns::{joined, place_of_child};
 use recency::Recency;
@@ -165,6 +165,30 @@ impl RecentRows {
         }
     }
 
+    /// The place in key order of the row that was not used for longest.
+    pub fn oldest_at(&self) -> Option<usize>
+        ensures { StandsAt self.now.table (slice_get self.now.keys 0) result }
+    {
+        match self.recent.oldest() {
+            None => None,
+            Some(slot) => place_in(&self.rows, *slot),
+        }
+    }
+
+    /// The place in key order of the row whose key is behind another's in the order of last use. The other row is at a
+    /// place in key order, which is below the length.
+    pub fn newer_at(&self, place: usize) -> Option<usize>
+        requires { place < map.len self.now.table }
+        ensures { (key : List OneValue) → IsKeyAt (map.entries self.now.table) key place →
+            StandsAt self.now.table (next_key is_same key self.now.keys) result }
+    {
+        let used = self.rows.slot_at(place);
+        match self.recent.newer(&used) {
+            None => None,
+            Some(slot) => place_in(&self.rows, *slot),
+        }
+    }
+
     /// Makes room for so many more rows, so that they go in without memory.
     ///
     /// It fails for want of memory alone.
@@ -279,6 +303,19 @@ impl RecentRows {
             None => {}
             Some(slot) => self.recent.touch(&slot),
         }
+    }
+}
+
+// The place in key order of the row in a slot.
+fn place_in(rows: &SlotRows, slot: usize) -> Option<usize>
+    ensures { (key : List OneValue) → map.get rows.now.slots slot ≡ Some key →
+        StandsAt rows.now.table (Some key) result }
+{
+    rows.slots_law();
+    let _held = rows.len();
+    match rows.row_in(slot) {
+        None => None,
+        Some(row) => rows.place_of(row),
     }
 }
 

@@ -4,7 +4,7 @@ ghost use Rattle.std.specs.Prelude.{◌≡◌, ◌≤◌, ◌<◌, ◌+◌, ◌^
 ghost use Rattle.std.specs.Option.{option_and_then};
 ghost use Rattle.std.specs.FinMap as map;
 ghost use Rattle.recency.specs.Rings.{keys_without, next_key};
-ghost use Rattle.indexed_rows.specs.Rows.{is_same};
+ghost use Rattle.indexed_rows.specs.Rows.{is_same, key_of};
 ghost use Rattle.table_state.specs.Operations.{table_of};
 ghost use Rattle.instances.specs.Trees.{same_table};
 ghost use Rattle.instances.specs.Views.{kept_at};
@@ -13,7 +13,7 @@ ghost use Rattle.slot_rows.specs.SlotKeys.{IsKeyedBy};
 ghost use Rattle.group_store.specs.Trees.{key_at};
 ghost use Rattle.group_store.specs.Entering.{commit_done, entered, keys_of_rows, root_entered};
 ghost use Rattle.group_store.specs.Hiding.{hidden_with};
-ghost use Rattle.group_store.specs.Stores.{AddsChild, HasRootKeys, IsNewStore, SameButSpare, cleared_store, count_all, foreign_columns, key_columns, cut_store, op_done, ops_done, place_in, put_rows, put_store, put_tables, touched_store};
+ghost use Rattle.group_store.specs.Stores.{AddsChild, HasRootKeys, IsInstanceUnder, IsNewStore, SameButSpare, cleared_store, count_all, foreign_columns, key_columns, cut_store, op_done, ops_done, place_in, put_rows, put_store, put_tables, renewed_store, touched_store};
 
 use crate::columns::joined;
 use crate::recent::RecentRows;
@@ -32,8 +32,8 @@ use tier_base::{Seq, TableId};
 ///
 /// (TimesTen Cache User's Guide, "Cache groups" and "Implementing aging in a cache group".)
 pub struct Store {
-    table: TableId,
-    rows: TreeRows,
+    pub(crate) table: TableId,
+    pub(crate) rows: TreeRows,
 }
 
 impl Drop for Store {
@@ -298,8 +298,48 @@ impl Store {
         ensures put { SameButSpare (put_tables 0 tables self.old) self.new }
         ensures spare { self.old.spare ≤ self.new.spare + count_all tables }
     {
-        let mut place = 0;
-        for rows in tables.into_vec() {
+        self.put_from(0, tables.into_vec());
+    }
+
+    /// The instance of a root key that has a row becomes these rows, the root's first, by place of the tree. It isn't a
+    /// use: the key keeps its place in the order of last use. It takes no memory.
+    pub fn renew_instance(&mut self, root: &Key, tables: Seq<Seq<Row>>)
+        requires within { length tables ≤ length self.old.layers + 1 }
+        requires room { count_all tables ≤ self.old.spare }
+        requires there { map.contains_key (kept_at self.old.tables 0) root.now ≡ true }
+        requires under { IsInstanceUnder self.old.key root.now tables }
+        ensures renewed { SameButSpare (renewed_store root.now tables self.old) self.new }
+        ensures spare { self.old.spare ≤ self.new.spare + count_all tables }
+    {
+        let mut tables = tables.into_vec();
+        let rows = tables.remove(0);
+        let mut rows = rows.into_vec();
+        let row = rows.remove(0);
+        self.renew_root(root, row);
+        self.put_from(1, tables);
+    }
+
+    // A row of the root's key becomes this one, and what leads to it goes.
+    fn renew_root(&mut self, root: &Key, row: Row)
+        requires room { 0 < self.old.spare }
+        requires there { map.contains_key (kept_at self.old.tables 0) root.now ≡ true }
+        requires under { key_of self.old.key row ≡ root.now }
+        ensures renewed { SameButSpare (renewed_store root.now ((row ∷ []) ∷ []) self.old) self.new }
+        ensures spare { self.old.spare ≤ self.new.spare + 1 }
+    {
+        self.rows.bare(0, root.values());
+        self.rows.replace(0, row);
+    }
+
+    // Puts rows into the tables from a place of the tree on, where their keys have none there.
+    fn put_from(&mut self, mut place: usize, tables: Vec<Seq<Row>>)
+        requires within { place + length tables.items ≤ length self.old.layers + 1 }
+        requires fits { place + length tables.items < 2 ^ 64 }
+        requires room { count_all tables.items ≤ self.old.spare }
+        ensures put { SameButSpare (put_tables place tables.items self.old) self.new }
+        ensures spare { self.old.spare ≤ self.new.spare + count_all tables.items }
+    {
+        for rows in tables {
             self.put_rows(place, rows);
             place += 1;
         }

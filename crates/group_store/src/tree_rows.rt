@@ -1,16 +1,18 @@
 //! The rows of a group's tree of tables.
 
-ghost use Rattle.std.specs.Prelude.{◌≡◌, ◌≤◌, ◌<◌, ◌+◌, ◌^◌, ◌++◌, ◌∷◌, [], Some, slice_get, MatchOption, OnOk, length, option_copied, if◌then◌else◌, nat_eq};
+ghost use Rattle.std.specs.Prelude.{◌≡◌, ◌≤◌, ◌<◌, ◌+◌, ◌^◌, ◌++◌, ◌∷◌, [], List, Some, slice_get, MatchOption, OnOk, length, option_copied, if◌then◌else◌, nat_eq};
 ghost use Rattle.std.specs.FinMap as map;
 ghost use Rattle.indexed_rows.specs.Rows.{is_same, key_of, put_in, put_over};
+ghost use Rattle.indexed_rows.specs.Places.{IsKeyAt};
+ghost use Rattle.row_types.specs.declared.value.Value.{Value as OneValue};
 ghost use Rattle.instances.specs.Views.{kept_at};
 ghost use Rattle.recency.specs.Rings.{keys_without};
 ghost use Rattle.cache_store.specs.Operating.{change_at};
 ghost use Rattle.slot_rows.specs.Orders.{place_from};
 ghost use Rattle.slot_rows.specs.SlotKeys.{IsKeyedBy};
 ghost use Rattle.group_store.specs.Recent.{IsRowPlace, entered_last};
-ghost use Rattle.group_store.specs.Trees.{all_empty, CanGo, IsBare, IsChild, IsChildless, IsLeaf, cut_from};
-ghost use Rattle.group_store.specs.Joined.{AreJoined, IsRowOf, KeepsTree, TakesChild, foreign_there, layers_of, least_spare, places_at, tables_of};
+ghost use Rattle.group_store.specs.Trees.{all_empty, CanGo, IsChild, IsChildless, IsLeaf, cut_from};
+ghost use Rattle.group_store.specs.Joined.{AreJoined, CutsRoot, IsBared, IsRowOf, KeepsTree, LeavesChildren, TakesChild, foreign_there, layers_of, least_spare, places_at, tables_of};
 
 use crate::columns::place_of_child;
 use crate::recent::RecentRows;
@@ -157,6 +159,17 @@ impl TreeRows {
         self.children[place - 1].rows.place_of(row)
     }
 
+    // The place in key order of the row of a key in the table at a place.
+    fn spot_at(&self, place: usize, key: &[Value]) -> Option<usize>
+        requires { place ≤ length self.now.children.items }
+        ensures { IsRowPlace (kept_at (tables_of self.now) place) key.now result }
+    {
+        match self.get(place, key) {
+            None => None,
+            Some(row) => self.spot_of(place, row),
+        }
+    }
+
     // A row that refers to a row of the table at a place.
     fn child_of(&self, place: usize, row: &Row) -> Option<Found<'_>>
         requires joined { AreJoined self.now }
@@ -191,15 +204,17 @@ impl TreeRows {
         }
     }
 
-    // Of the rows that lead to the one at the top, one that no row refers to: the place of its table, and its place
-    // there.
-    fn lowest(&self, top: usize, key: &[Value]) -> Option<(usize, usize)>
+    // Of the rows that lead to the one at the top, which is at a place in key order, one that no row refers to: the
+    // place of its table, and its place there.
+    fn lowest(&self, top: usize, at: usize) -> Option<(usize, usize)>
         requires joined { AreJoined self.now }
         requires within { top ≤ length self.now.children.items }
-        ensures { MatchOption result (IsBare (layers_of self.now) (tables_of self.now) top key.now)
-            (λ spot. CanGo (layers_of self.now) (tables_of self.now) top key.now spot.0 spot.1) }
+        ensures { (key : List OneValue) → IsKeyAt (map.entries (kept_at (tables_of self.now) top)) key at →
+            MatchOption result (IsChildless (layers_of self.now) (tables_of self.now) top key)
+            (λ spot. CanGo (layers_of self.now) (tables_of self.now) top key spot.0 spot.1) }
     {
-        match self.get(top, key) {
+        let _held = self.len(top);
+        match self.row(top, at) {
             None => None,
             Some(row) => match self.child_of(top, row) {
                 None => None,
@@ -324,6 +339,47 @@ impl TreeRows {
         }
     }
 
+    // Takes out all rows that lead to the one at a place in key order of the table at the top, and not that row. It
+    // takes no memory.
+    fn bare_at(&mut self, top: usize, at: usize)
+        requires joined { AreJoined self.old }
+        requires within { top ≤ length self.old.children.items }
+        requires there { at < map.len (kept_at (tables_of self.old) top) }
+        ensures same { LeavesChildren self.old self.new }
+        ensures bared { (key : List OneValue) → IsKeyAt (map.entries (kept_at (tables_of self.old) top)) key at →
+            IsBared self.old self.new top key }
+    {
+        while let Some((place, spot)) = self.lowest(top, at) {
+            self.take_child(place, spot);
+        }
+    }
+
+    // Takes out all rows that lead to the row of a key in the table at the top, and not that row. It takes no memory.
+    pub(crate) fn bare(&mut self, top: usize, key: &[Value])
+        requires joined { AreJoined self.old }
+        requires within { top ≤ length self.old.children.items }
+        ensures same { LeavesChildren self.old self.new }
+        ensures bared { IsBared self.old self.new top key.now }
+    {
+        match self.spot_at(top, key) {
+            None => {}
+            Some(at) => self.bare_at(top, at),
+        }
+    }
+
+    // Takes out the root row at a place in key order, and all rows that lead to it. It takes no memory.
+    pub(crate) fn cut_at(&mut self, at: usize) -> Option<Row>
+        requires joined { AreJoined self.old }
+        requires there { at < map.len self.old.roots.table }
+        ensures cut { (key : List OneValue) → IsKeyAt (map.entries self.old.roots.table) key at →
+            CutsRoot self.old self.new key result }
+        ensures same { KeepsTree self.old self.new }
+        ensures spare { least_spare self.old ≤ least_spare self.new }
+    {
+        self.bare_at(0, at);
+        self.roots.remove_at(at)
+    }
+
     // Takes out the row of a key in the table at a place, and all rows that lead to it. It takes no memory.
     pub(crate) fn cut(&mut self, top: usize, key: &[Value]) -> Option<Row>
         requires joined { AreJoined self.old }
@@ -335,9 +391,7 @@ impl TreeRows {
             self.old.roots.keys) }
         ensures spare { least_spare self.old ≤ least_spare self.new }
     {
-        while let Some((place, spot)) = self.lowest(top, key) {
-            self.take_child(place, spot);
-        }
+        self.bare(top, key);
         self.take_key(top, key)
     }
 }

@@ -209,5 +209,4 @@ pub due_sets_kept : KeepsJournalDue DueSets
 due_sets_kept w w' early notes stop stands j apart q ok = sets_goes (due_sets w.tier) w w' early notes stop j apart q ok
 
 pub due_aging_kept : KeepsJournalDue DueAging
-due_aging_kept w w' early notes stop stands j apart (inl q) ok = subst (λ x. IsJournalledOn x early) (sym q.0) (quiet_on w early (after_aging w.history w.tier) j (aging_quiet w.history w.tier))
-due_aging_kept w w' early notes stop stands j apart (inr q) ok = same_on w w' early q.0 j
+due_aging_kept w w' early notes stop stands j apart q ok = subst (λ x. IsJournalledOn x early) (sym q.0) (quiet_on w early (after_aging w.history w.tier) j (aging_quiet w.history w.tier))

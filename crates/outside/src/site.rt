@@ -183,10 +183,14 @@ pub trait Site: Disk {
     /// instances whatever the WHERE conditions say; an instance has the rows of the view alone. So an instance that isn't
     /// told has the rows that it had (`changes_law`).
     ///
+    /// `least` says that no call to come asks since a position before it, so the log up to it may be forgotten. A site
+    /// that has forgotten what is asked answers that the call failed.
+    ///
     /// (TimesTen Cache User's Guide, "Automatically refreshing a cache group".)
     fn changes(
         &mut self,
         since: Position,
+        least: Position,
         trees: &[Tree],
         wants: &[RowKey],
     ) -> Result<Changes, BankError>

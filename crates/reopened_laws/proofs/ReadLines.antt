@@ -66,8 +66,7 @@ due_sets_keeps : ItemKeeps DueSets
 due_sets_keeps w w' notes stop q r = due_sets_of_keeps (due_sets w.tier) w w' notes stop q r
 
 due_aging_keeps : ItemKeeps DueAging
-due_aging_keeps w w' notes stop (inl q) r = same _ w' q.0 (tiered w _ (aging_rests w.history w.tier) r)
-due_aging_keeps w w' notes stop (inr q) r = same w w' q.0 r
+due_aging_keeps w w' notes stop q r = same _ w' q.0 (tiered w _ (aging_rests w.history w.tier) r)
 
 due_doubt_keeps : ItemKeeps DueDoubt
 due_doubt_keeps w w' notes stop q r = doubt_keeps w.tier.doubt w w' notes stop q r

@@ -257,8 +257,7 @@ due_sets_ready w w' early notes stop r q ok = sets_ready (due_sets w.tier) w w' 
 -- ---- aging
 
 pub due_aging_ready : (w w' : World) (early : List Sealed) (notes : List Note) (stop : Option Reply) → Ready w early → DueAging w w' notes stop → ReadyOn w' early
-due_aging_ready w w' early notes stop r (inr q) = ready_same w w' early q.0 r
-due_aging_ready w w' early notes stop r (inl q) =
+due_aging_ready w w' early notes stop r q =
     let t = after_aging w.history w.tier in
     let quiet = aging_quiet w.history w.tier in
     subst (λ x. ReadyOn x early) (sym q.0)

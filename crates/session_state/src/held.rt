@@ -77,8 +77,8 @@ impl HeldKeys {
         hold_all(self.tables.as_mut_slice(), marks);
     }
 
-    /// Whether the key of a row, whose values stand at these places, is held.
-    pub(crate) fn has_key_of(&self, table: TableId, places: &[usize], row: &Row) -> bool
+    /// Whether the key of a row, whose values stand at these places, is held. It takes no memory.
+    pub fn has_key_of(&self, table: TableId, places: &[usize], row: &Row) -> bool
         ensures { result ≡ is_held self.now (record { table = table; key = key_of places.now row.now }) }
     {
         match keys_of(self.tables.as_slice(), table) {

@@ -86,11 +86,56 @@ fn order_to_parts(
     }
 }
 
+// How the key of a row stands to a row's values at some columns with another row's values at others behind them.
+fn order_to_both(
+    places: &[usize],
+    row: &[Value],
+    columns: &[usize],
+    parent: &[Value],
+    rest: &[usize],
+    other: &[Value],
+) -> Ordering
+    ensures { result ≡ key_order (key_of places.now row.now)
+        (key_of columns.now parent.now ++ key_of rest.now other.now) }
+{
+    match columns.split_first() {
+        None => order_of_rows(places, row, rest, other),
+        Some((column, columns)) => match places.split_first() {
+            None => Ordering::Less,
+            Some((place, places)) => {
+                let null = Value::Null;
+                match order(
+                    value_at(row, *place, &null),
+                    value_at(parent, *column, &null),
+                ) {
+                    Ordering::Equal => order_to_both(places, row, columns, parent, rest, other),
+                    decided => decided,
+                }
+            }
+        },
+    }
+}
+
 // Whether a row has a key.
 pub(crate) fn is_key_of(places: &[usize], row: &[Value], key: &[Value]) -> bool
     ensures { result ≡ is_same (key_of places.now row.now) key.now }
 {
     match order_to_key(places, row, key) {
+        Ordering::Equal => true,
+        _ => false,
+    }
+}
+
+// Whether a row's key is a row's values at some columns.
+pub(crate) fn is_key_of_row(
+    places: &[usize],
+    row: &[Value],
+    columns: &[usize],
+    other: &[Value],
+) -> bool
+    ensures { result ≡ is_same (key_of places.now row.now) (key_of columns.now other.now) }
+{
+    match order_of_rows(places, row, columns, other) {
         Ordering::Equal => true,
         _ => false,
     }
@@ -204,6 +249,37 @@ impl<'a> Probe<Entry> for ByParts<'a> {
                 values_in(self.rows, entry.slot),
                 self.values,
                 self.columns,
+                self.row,
+            ),
+            decided => decided,
+        }
+    }
+}
+
+// The entry of a row's values at some columns with another row's values at others behind them, whose lead is beside it.
+#[derive(Drop)]
+pub(crate) struct ByBoth<'a> {
+    pub(crate) rows: &'a Slab<Row>,
+    pub(crate) places: &'a [usize],
+    pub(crate) columns: &'a [usize],
+    pub(crate) parent: &'a [Value],
+    pub(crate) rest: &'a [usize],
+    pub(crate) row: &'a [Value],
+    pub(crate) lead: u64,
+}
+
+impl<'a> Probe<Entry> for ByBoth<'a> {
+    ghost order_gives = { λ sought. entry_order sought.rows.now sought.places.now sought.lead
+        (key_of sought.columns.now sought.parent.now ++ key_of sought.rest.now sought.row.now) };
+
+    fn order(&self, entry: &Entry) -> Ordering {
+        match entry.lead.cmp(&self.lead) {
+            Ordering::Equal => order_to_both(
+                self.places,
+                values_in(self.rows, entry.slot),
+                self.columns,
+                self.parent,
+                self.rest,
                 self.row,
             ),
             decided => decided,

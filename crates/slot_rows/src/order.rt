@@ -8,7 +8,7 @@ ghost use Rattle.indexed_rows.specs.Rows.{key_of};
 ghost use Rattle.slot_rows.specs.Orders.{Awaits, EmptiesOrder, EntersOrder, Includes, IsSlotWith, IsStart, SameOrder, LeavesOrder};
 ghost use Rattle.slot_rows.specs.Slots.{AreOrdered, slot_at_front, slots_of, table_in};
 
-use crate::compare::{ByKey, ByOther, ByParts, ByRow, is_key_of, values_in};
+use crate::compare::{ByBoth, ByKey, ByOther, ByParts, ByRow, is_key_of, is_key_of_row, values_in};
 use crate::lead::{lead_of_key, lead_of_row};
 use long_list::{LongList, Spare};
 use row_types::{Row, Value};
@@ -156,6 +156,60 @@ impl Order {
         }) {
             Ok(place) => place,
             Err(place) => place,
+        }
+    }
+
+    // The place of the first entry that isn't below a row's values at some columns with another row's values at others
+    // behind them.
+    pub(crate) fn first_for(
+        &self,
+        rows: &Slab<Row>,
+        columns: &[usize],
+        parent: &[Value],
+        rest: &[usize],
+        row: &[Value],
+    ) -> usize
+        requires ordered { AreOrdered rows.now self.now.places self.now.entries }
+        requires some { 0 < length columns.now }
+        ensures { IsStart (table_in rows.now self.now.places self.now.entries)
+            (key_of columns.now parent.now ++ key_of rest.now row.now) result }
+    {
+        match self.entries.search(&ByBoth {
+            rows,
+            places: self.places.as_slice(),
+            columns,
+            parent,
+            rest,
+            row,
+            lead: lead_of_row(columns, parent),
+        }) {
+            Ok(place) => place,
+            Err(place) => place,
+        }
+    }
+
+    // The slot at a place, where there is one and its row has at the first columns the values that a row of another
+    // table has at these columns.
+    pub(crate) fn slot_at_front_for(
+        &self,
+        rows: &Slab<Row>,
+        place: usize,
+        columns: &[usize],
+        parent: &[Value],
+    ) -> Option<usize>
+        requires { length columns.now ≤ length self.now.places }
+        ensures { result ≡ slot_at_front rows.now (take (length columns.now) self.now.places)
+            (key_of columns.now parent.now) (slice_get (slots_of self.now.entries) place) }
+    {
+        if place >= self.entries.len() {
+            return None;
+        }
+        let (places, _) = self.places.as_slice().split_at(columns.len());
+        let slot = self.slot_at(place);
+        if is_key_of_row(places, values_in(rows, slot), columns, parent) {
+            Some(slot)
+        } else {
+            None
         }
     }
 

@@ -209,6 +209,36 @@ impl SlotRows {
         }
     }
 
+    /// The first place in key order, from a place on, of a row that has at the columns that another order has before
+    /// the key's the values that a row of another table has at some columns, as a child has its parent's key. It costs
+    /// O(log n) comparisons.
+    pub fn next_for(&self, order: usize, columns: &[usize], row: &Row, from: usize) -> Option<usize>
+        requires there { order < length self.now.orders }
+        requires some { 0 < length columns.now }
+        requires before { HasBefore self.now.orders order self.now.places (length columns.now) }
+        ensures { result ≡ place_from self.now.table (first_columns self.now.orders order (length columns.now))
+            (key_of columns.now row.now) from }
+    {
+        if from >= self.by_key.entries.len() {
+            return None;
+        }
+        let places = self.by_key.places.as_slice();
+        let least = values_in(&self.rows, self.by_key.slot_at(from));
+        let other = &self.others[order];
+        let parent = row.values();
+        let start = other.first_for(&self.rows, columns, parent, places, least);
+        match other.slot_at_front_for(&self.rows, start, columns, parent) {
+            None => None,
+            Some(slot) => match self
+                .by_key
+                .search_row(&self.rows, values_in(&self.rows, slot))
+            {
+                Ok(place) => Some(place),
+                Err(_) => None,
+            },
+        }
+    }
+
     /// The row at a place in key order, which is below the length.
     pub fn row_at(&self, place: usize) -> Option<&Row>
         requires { place < map.len self.now.table }

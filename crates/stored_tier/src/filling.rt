@@ -115,13 +115,13 @@ pub fn exceeds(group: &KeptGroup, row: &Row) -> bool
 }
 
 // Whether the time in a column exceeds the horizon; where there is none, each row does.
-fn is_past(horizon: Option<i64>, row: &Row, column: usize) -> bool
+fn is_past(horizon: Option<i128>, row: &Row, column: usize) -> bool
     ensures { result ≡ is_past horizon (value_at row.now column) }
 {
     match horizon {
         None => true,
         Some(horizon) => match row.values().get(column) {
-            Some(Value::Time(time)) => horizon < time.seconds(),
+            Some(Value::Time(time)) => horizon < i128::from(time.seconds()),
             _ => false,
         },
     }

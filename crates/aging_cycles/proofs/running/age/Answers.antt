@@ -1,8 +1,15 @@
-use Rattle.aging_cycles.proofs.AgesRun.{ages_noted, none_ages}
+use Rattle.aging_cycles.proofs.AgesRun.{ages_run}
+use Rattle.aging_cycles.proofs.SoundRun.{defs, sound_run}
 use Rattle.aging_cycles.proofs.running.age.Goals as goal
 
-pub returns-then-not-some_is_due-clause-ages : goal.returns-then-not-some_is_due-clause-ages
-returns-then-not-some_is_due-clause-ages c = none_ages c.args.tier.now (c.some_is_due.ensures c.if-not-some_is_due.true)
-
 pub returns-clause-ages : goal.returns-clause-ages
-returns-clause-ages c = ages_noted c.args.tier.now c.make_ready.new.tier c.run_all.new.tier c.make_ready.ensures.same c.run_all.ensures.ages
+returns-clause-ages c = ages_run c.drop_instance_law.ensures c.args.tier.now c.run_each.new.tier c.requires c.run_each.ensures
+
+pub returns-clause-sound : goal.returns-clause-sound
+returns-clause-sound c = sound_run c.args.tier.now c.run_each.new.tier c.requires c.run_each.ensures
+
+pub returns-clause-groups : goal.returns-clause-groups
+returns-clause-groups c = defs c.args.tier.now c.run_each.new.tier c.requires c.run_each.ensures
+
+pub returns-clause-clock : goal.returns-clause-clock
+returns-clause-clock c = c.run_each.ensures.form.beside.clock

@@ -1,25 +1,20 @@
-use Rattle.std.proofs.Common.{◌∙◌, refl, sym}
-use Rattle.group_catalog.specs.Catalogs.{groups_in}
+use Rattle.std.proofs.Common.{sym}
 use Rattle.group_catalog.specs.Kept.{group_seen}
-use Rattle.aging_cycles.proofs.Steps.{left_cut, left_hidden, no_place}
+use Rattle.aging_cycles.proofs.LeaveLaws.{leaves_at}
 use Rattle.aging_cycles.proofs.running.leave_at.Goals as goal
 
-pub returns-in-None-clause-leaves : goal.returns-in-None-clause-leaves
-returns-in-None-clause-leaves c = absurd (no_place (groups_in c.args.tier.now.catalog) c.args.place c.requires.groups c.in-None.ensures)
+pub leave_from-gone-requires-clause-key : goal.leave_from-gone-requires-clause-key
+leave_from-gone-requires-clause-key c = λ s h kept hid. (c.requires.hides (group_seen c.in-Some.group.now) s h (sym c.in-Some.ensures) kept hid).0
 
-pub returns-in-None-clause-same : goal.returns-in-None-clause-same
-returns-in-None-clause-same c = absurd (no_place (groups_in c.args.tier.now.catalog) c.args.place c.requires.groups c.in-None.ensures)
+pub leave_from-gone-requires-clause-room : goal.leave_from-gone-requires-clause-room
+leave_from-gone-requires-clause-room c = λ s h kept hid yes. (c.requires.hides (group_seen c.in-Some.group.now) s h (sym c.in-Some.ensures) kept hid).1.room yes
 
-pub hide_at-requires-clause-key : goal.hide_at-requires-clause-key
-hide_at-requires-clause-key c = λ s h kept hid. (c.requires.hides (group_seen c.in-Some.group.now) s h (sym c.in-Some.ensures) kept hid).0
+pub returns-then-gone-clause-leaves : goal.returns-then-gone-clause-leaves
+returns-then-gone-clause-leaves c =
+    leaves_at c.args.tier.now _ c.args.place (group_seen c.in-Some.group.now) c.as_slice.result.now c.writers-sessions.result.now c.in-Some.ensures (c.as_slice.ensures.kept c.args.tier.now.schema c.requires.sessions) c.as_slice.ensures.seen
+    c.writers-sessions.ensures c.leave_from-gone.ensures.left
 
-pub hide_at-requires-clause-room : goal.hide_at-requires-clause-room
-hide_at-requires-clause-room c = λ s h kept hid. (c.requires.hides (group_seen c.in-Some.group.now) s h (sym c.in-Some.ensures) kept hid).1.room (sym c.hides_keys.ensures ∙ c.if-hides_keys.true)
-
-pub returns-then-hides_keys-clause-leaves : goal.returns-then-hides_keys-clause-leaves
-returns-then-hides_keys-clause-leaves c =
-    left_hidden c.args.tier.now _ c.args.place c.args.keys.now (group_seen c.in-Some.group.now) c.hide_at.new.stores.items c.hide_at.new.hidden.items (sym c.in-Some.ensures) (sym c.hides_keys.ensures ∙ c.if-hides_keys.true) c.hide_at.ensures refl refl
-
-pub returns-else-hides_keys-clause-leaves : goal.returns-else-hides_keys-clause-leaves
-returns-else-hides_keys-clause-leaves c =
-    left_cut c.args.tier.now _ c.args.place c.args.keys.now (group_seen c.in-Some.group.now) c.cut_at.new.stores.items (sym c.in-Some.ensures) (sym c.hides_keys.ensures ∙ c.if-hides_keys.false) c.cut_at.ensures c.requires.hidden refl refl
+pub returns-else-gone-clause-leaves : goal.returns-else-gone-clause-leaves
+returns-else-gone-clause-leaves c =
+    leaves_at c.args.tier.now _ c.args.place (group_seen c.in-Some.group.now) c.as_slice.result.now c.writers-sessions.result.now c.in-Some.ensures (c.as_slice.ensures.kept c.args.tier.now.schema c.requires.sessions) c.as_slice.ensures.seen
+    c.writers-sessions.ensures c.leave_from-gone.ensures.left

@@ -20,6 +20,6 @@ pub returns-in-None-refresh_sets-clause-does : goal.returns-in-None-refresh_sets
 returns-in-None-refresh_sets-clause-does g c =
     due_done g.P.Disk.state g.P.Disk.possible c.args.intervals.now c.args.tier.now c.settle_due.new.tier c.refresh_sets.new.tier c.age_due.new.tier (over c.args.journal.now c.args.site.now)
     (over c.settle_due.new.journal c.settle_due.new.site) (over c.settle_due.new.journal c.refresh_sets.new.site)
-    c.args.notes.now.items c.settle_due.new.notes.items c.refresh_sets.new.notes.items c.age_due.result
+    c.args.notes.now.items c.settle_due.new.notes.items c.refresh_sets.new.notes.items
     c.in-None.ensures.same c.requires.due c.in-None.ensures.does
-    (c.in-None-refresh_sets.ensures.does c.settle_due.new.journal) c.age_due.ensures.ends
+    (c.in-None-refresh_sets.ensures.does c.settle_due.new.journal) c.age_due.ensures.runs
