@@ -8,11 +8,11 @@ use Rattle.cache_tier.specs.Groups.{Group, is_on, is_read_only}
 use Rattle.cache_tier.specs.Reading.{TellsPosition, backing_at}
 use Rattle.cache_tier.specs.Sets.{Choice, OnePosition, RefreshesSet, alone, at_position, changed_from, is_in_set, of_set, refreshed}
 use Rattle.cache_tier.specs.TierStates.{Tier, refresh_tried}
-use Rattle.cache_tier.specs.Worlds.{BankCall, World, bank_fault}
+use Rattle.cache_tier.specs.Worlds.{BankCall, IsUnshared, World, bank_fault}
 use Rattle.cache_tier.proofs.SetLaws.{refresh_has_one_position}
-use Rattle.group_engine.specs.declared.fresh.Fresh.{Fresh}
 use Rattle.stored_tier.specs.declared.tier.Tier.{Tier as Stored}
-use Rattle.group_engine.specs.Fresh.{AreFresh, ReadsFresh}
+use Rattle.group_engine.specs.Fresh.{AreFresh, IsRead}
+use Rattle.group_engine.specs.Noted.{IsNoted}
 use Rattle.stored_tier.specs.Performing.{Performs, StandsFor}
 use Rattle.stored_tier.specs.Refreshing.{is_filled, positioned}
 use Rattle.stored_tier.specs.Sites.{IsAt}
@@ -65,28 +65,28 @@ one_call step w mid a c = record { history = c.history; journal = c.journal; fau
 moved_at : (site : SiteState) (w : World) (a : Tier) → IsAt site w → IsAt site (record w { tier = a })
 moved_at site w a at = record { there = at.there; told = at.told; history = at.history; faults = at.faults; moment = at.moment; shared = at.shared }
 
--- the refresh of a set that was noted
-pub set_refreshed : (t noted new : Stored) (before behind : SiteState) (interval : ℕ) (fresh : Fresh) → ((w : World) → StandsFor t w → StandsFor noted (record w { tier = refresh_tried interval w.tier }))
-    → ReadsFresh noted before behind (is_filled (of_set interval None) None) (Ok fresh) → IsRefreshed noted new (of_set interval None) 0 (λ g. g) fresh.position.0 fresh.made.items → Performs t new before behind (λ w w'. RefreshesSet interval w w' None)
-set_refreshed t noted new before behind interval fresh notes reads is = λ w at stands apart.
+-- the refresh of a set that was noted, where but for room the tier behind the call is the noted one
+pub set_refreshed : (t noted mid new : Stored) (before behind : SiteState) (interval n : ℕ) (made : List (Option Made)) → IsNoted interval t noted
+    → ((w : World) → IsAt before w → StandsFor noted w → IsUnshared w → (r : IsRead mid behind (Ok n) w) × AreFresh mid r.world (is_filled (of_set interval None) None) n made)
+    → IsRefreshed mid new (of_set interval None) 0 (λ g. g) n made → Performs t new before behind (λ w w'. RefreshesSet interval w w' None)
+set_refreshed t noted mid new before behind interval n made notes reads is = λ w at stands apart.
     let r = reads (record w { tier = refresh_tried interval w.tier }) (moved_at before w (refresh_tried interval w.tier) at) (notes w stands) apart in
-    let n = fresh.position.0 in
     record {
-      world = record r.0.world { tier = refreshed (of_set interval None) fresh.position.0 (backing_at r.0.world fresh.position.0) r.0.world.tier };
-      at = moved_at behind r.0.world (refreshed (of_set interval None) fresh.position.0 (backing_at r.0.world fresh.position.0) r.0.world.tier) r.0.at;
-      stands = set_stands noted new r.0.world interval fresh.position.0 fresh.made.items r.0.stands r.1 is;
+      world = record r.0.world { tier = refreshed (of_set interval None) n (backing_at r.0.world n) r.0.world.tier };
+      at = moved_at behind r.0.world (refreshed (of_set interval None) n (backing_at r.0.world n) r.0.world.tier) r.0.at;
+      stands = set_stands mid new r.0.world interval n made r.0.stands r.1 is;
       is = record {
-        result = Ok fresh.position.0;
+        result = Ok n;
         mid = r.0.world;
-        call = one_call (TellsPosition (Ok fresh.position.0)) w r.0.world (refresh_tried interval w.tier) r.0.call;
+        call = one_call (TellsPosition (Ok n)) w r.0.world (refresh_tried interval w.tier) r.0.call;
         tier = r.0.tier;
         goes_on = inl (refl, refl);
       };
     }
 
-pub set_failed : (t noted : Stored) (before behind : SiteState) (interval : ℕ) (e : BankError) → ((w : World) → StandsFor t w → StandsFor noted (record w { tier = refresh_tried interval w.tier }))
-    → ReadsFresh noted before behind (is_filled (of_set interval None) None) (Err e) → Performs t noted before behind (λ w w'. RefreshesSet interval w w' (Some (bank_fault e)))
-set_failed t noted before behind interval e notes reads = λ w at stands apart.
+pub set_failed : (t noted mid : Stored) (before behind : SiteState) (interval : ℕ) (e : BankError) → IsNoted interval t noted
+    → ((w : World) → IsAt before w → StandsFor noted w → IsUnshared w → IsRead mid behind (Err e) w) → Performs t mid before behind (λ w w'. RefreshesSet interval w w' (Some (bank_fault e)))
+set_failed t noted mid before behind interval e notes reads = λ w at stands apart.
     let r = reads (record w { tier = refresh_tried interval w.tier }) (moved_at before w (refresh_tried interval w.tier) at) (notes w stands) apart in
     record {
       world = r.world;

@@ -6,6 +6,7 @@ pub mod Dropping
 pub mod Fresh
 pub mod Gaining
 pub mod Loaded
+pub mod Noted
 pub mod Putting
 pub mod Ready
 pub mod Readying

@@ -1,15 +1,20 @@
 //! What is read of the backing database for a refresh of READONLY groups, and how it comes to be shown.
 
-ghost use Rattle.std.specs.Prelude.{◌≡◌, ℕ, IfOk, true};
+ghost use Rattle.std.specs.Prelude.{◌≡◌, ℕ, IfOk, None, Some, true};
 ghost use Rattle.group_catalog.specs.Catalogs.{groups_in};
 ghost use Rattle.cache_tier.specs.Groups.{definitions_of};
-ghost use Rattle.cache_tier.specs.Sets.{RefreshesSet};
+ghost use Rattle.cache_tier.specs.Sets.{RefreshesSet, of_set};
+ghost use Rattle.changed_sets.specs.Since.{asked_since};
 ghost use Rattle.stored_tier.specs.Refreshing.{choice_of, end_of, has_moment, is_filled};
 ghost use Rattle.group_engine.specs.Fresh.{AreFormed, IsCalled, IsExchanged, ReadsFresh};
+ghost use Rattle.group_engine.specs.Noted.{RefreshesNoted};
 ghost use Rattle.propagators.specs.Certainty.{KeepsCertain};
 ghost use Rattle.stored_tier.specs.Performing.{Performs};
 ghost use Rattle.stored_tier.specs.Stored.{IsSound};
 
+use changed_sets::reading::read_changed;
+use changed_sets::showing::show_changed;
+use changed_sets::since::asked_since;
 use outside::{BankError, Site};
 use std::alloc::Global;
 use stored_tier::refreshing::{
@@ -94,8 +99,9 @@ pub fn show_fresh(tier: &mut Tier, chosen: Chosen, fresh: Fresh)
     tier.verified = false;
 }
 
-// The set of an interval is refreshed from one snapshot, which is noted first. It has an entry among the moments.
-//
+/// The set of an interval is refreshed, which is noted first: by what changed since its position where its groups go by
+/// changes and have one position, else from one snapshot. It has an entry among the moments.
+///
 /// It is `Failed` where the call failed, and `Memory` where memory was wanting.
 pub fn refresh_members<P: Site>(
     tier: &mut Tier,
@@ -120,11 +126,71 @@ pub fn refresh_members<P: Site>(
     ensures certain { KeepsCertain P.Disk.state P.Disk.possible site.old site.new }
 {
     note_moment(&mut tier.clock.sets, interval, tier.clock.now);
+    match asked_since(&tier.catalog, Chosen::Joined(interval, None)) {
+        None => refresh_whole(tier, alloc, site, interval),
+        Some(since) => refresh_changed(tier, alloc, site, interval, since),
+    }
+}
+
+// The set of an interval is refreshed from one snapshot.
+fn refresh_whole<P: Site>(
+    tier: &mut Tier,
+    alloc: Global,
+    site: &mut P,
+    interval: u64,
+) -> Result<(), BankError>
+    requires { IsSound tier.old }
+    ensures refreshes { RefreshesNoted interval tier.old tier.new
+        (P.Disk.state site.old)
+        (P.Disk.state site.new)
+        (end_of result) }
+    ensures groups { definitions_of (groups_in tier.new.catalog) ≡ definitions_of (groups_in tier.old.catalog) }
+    ensures clock { tier.new.clock ≡ tier.old.clock }
+    ensures sound { IsSound tier.new }
+    ensures called { IsCalled
+        (P.Disk.state site.old)
+        (P.Disk.state site.new)
+        result }
+    ensures certain { KeepsCertain P.Disk.state P.Disk.possible site.old site.new }
+{
     let chosen = Chosen::Joined(interval, None);
     match read_fresh(tier, alloc, site, chosen, None) {
         Err(error) => Err(error),
         Ok(fresh) => {
             show_fresh(tier, chosen, fresh);
+            Ok(())
+        }
+    }
+}
+
+// The set of an interval is refreshed by what changed since its position.
+fn refresh_changed<P: Site>(
+    tier: &mut Tier,
+    alloc: Global,
+    site: &mut P,
+    interval: u64,
+    since: Position,
+) -> Result<(), BankError>
+    requires sound { IsSound tier.old }
+    requires since { asked_since (of_set interval None) (groups_in tier.old.catalog) ≡ Some since.0 }
+    ensures refreshes { RefreshesNoted interval tier.old tier.new
+        (P.Disk.state site.old)
+        (P.Disk.state site.new)
+        (end_of result) }
+    ensures groups { definitions_of (groups_in tier.new.catalog) ≡ definitions_of (groups_in tier.old.catalog) }
+    ensures clock { tier.new.clock ≡ tier.old.clock }
+    ensures sound { IsSound tier.new }
+    ensures called { IsCalled
+        (P.Disk.state site.old)
+        (P.Disk.state site.new)
+        result }
+    ensures certain { KeepsCertain P.Disk.state P.Disk.possible site.old site.new }
+{
+    let chosen = Chosen::Joined(interval, None);
+    match read_changed(tier, alloc, site, chosen, since) {
+        Err(error) => Err(error),
+        Ok(changed) => {
+            show_changed(tier, chosen, changed);
             Ok(())
         }
     }
