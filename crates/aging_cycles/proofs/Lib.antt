@@ -10,6 +10,7 @@ pub mod HiddenViews
 pub mod KeyLists
 pub mod LeaveLaws
 pub mod LeavingKeys
+pub mod LeftRows
 pub mod Places
 pub mod RootPlaces
 pub mod RootRows

@@ -1,26 +1,31 @@
 //! The cycles run.
 
-ghost use Rattle.std.specs.Prelude.{◌≡◌, ◌<◌, All, Some, length, slice_get};
+ghost use Rattle.std.specs.Prelude.{◌≡◌, ◌<◌, All, Some, length, slice_get, true};
+ghost use Rattle.table_state.specs.Keyed.{IsKeyed};
 ghost use Rattle.cache_tier.specs.Groups.{Group, definitions_of};
 ghost use Rattle.group_catalog.specs.Catalogs.{groups_in};
 ghost use Rattle.open_sessions.specs.Opening.{AreSessions};
-ghost use Rattle.stored_tier.specs.Stored.{IsSound};
+ghost use Rattle.stored_tier.specs.Stored.{IsSound, rows_of};
 ghost use Rattle.aging_cycles.specs.Ages.{Ages};
 ghost use Rattle.aging_cycles.specs.Running.{DueHorizon, HaveRun, HidesAt, KeepsNote, LeavesAt, RunsOne, turned};
 
 use crate::busy::writers;
 use crate::due::{horizon_of, is_due};
 use crate::leaving::leave_from;
+use confirmed_rows::confirming::confirm;
+use confirmed_rows::laws::kept_rows_law;
 use group_store::laws::drop_instance_law;
+use std::alloc::Global;
 use stored_tier::tier::Tier;
 use tier_base::Moment;
 
 /// Each group whose aging cycle is due at the tier's moment has it: its instances leave by last use, or by the time in
 /// a column of their root rows; a READONLY DYNAMIC group hides the latter until its next refresh. Instances in which a
-/// session has uncommitted writes are skipped. It takes no memory, and always does so.
+/// session has uncommitted writes are skipped. It takes no memory for that, and always does so. Where sessions might read
+/// over the stored rows before, and instances left, it is then found out whether they still may, by what they wrote.
 ///
 /// (TimesTen Cache User's Guide, "Implementing aging on a cache group".)
-pub fn age(tier: &mut Tier)
+pub fn age(tier: &mut Tier, alloc: Global)
     requires { IsSound tier.old }
     ensures ages { Ages tier.old tier.new }
     ensures groups { definitions_of (groups_in tier.new.catalog) ≡ definitions_of (groups_in tier.old.catalog) }
@@ -28,7 +33,22 @@ pub fn age(tier: &mut Tier)
     ensures sound { IsSound tier.new }
 {
     drop_instance_law();
+    kept_rows_law();
+    let known = tier.verified;
     run_each(tier);
+    confirm_left(tier, alloc, known);
+}
+
+// Where sessions might read over the stored rows before, and instances left, it is found out whether they still may.
+fn confirm_left(tier: &mut Tier, alloc: Global, known: bool)
+    requires sound { IsSound tier.old }
+    requires keyed { known ≡ true → IsKeyed (rows_of tier.old) }
+    ensures same { tier.new ≡ record tier.old { verified = tier.new.verified } }
+    ensures sound { IsSound tier.new }
+{
+    if known && !tier.verified {
+        confirm(tier, alloc);
+    }
 }
 
 // Runs the cycles that are due one after another.

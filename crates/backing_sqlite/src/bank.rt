@@ -12,7 +12,7 @@ use crate::fault::{OpenError, StoreFault};
 use crate::foreign::{foreign, snapshot};
 use crate::passing::passed;
 use crate::reaching::reach;
-use crate::reading::{find, recorded};
+use crate::reading::{entries_now, find, recorded};
 use crate::shelf::Shelf;
 use evaluator::Change;
 use instances::Tree;
@@ -184,7 +184,7 @@ impl SqliteBank {
     /// What changed since a position of the history, and the instances that this touches or that a want names. What the
     /// logs have up to the least position that calls to come ask from is forgotten by later writes.
     ///
-    /// It fails, too, where an earlier call, or the opening of the file, said that no call asks from there.
+    /// It fails, too, where the logs don't go back so far.
     pub fn changes(
         &mut self,
         since: Position,
@@ -195,7 +195,23 @@ impl SqliteBank {
         ensures counts { Counts self.old self.new result }
     {
         let done = changes(self.alloc, &mut self.conn, &self.shelf, since, trees, wants);
-        self.shelf.keep_from(least.0);
+        if done.is_ok() {
+            self.shelf.keep_from(least.0);
+        }
         self.answer(done)
+    }
+
+    /// Whether the logs go back to a position. Where none are kept, or they have become too long, they begin now. No
+    /// failure is counted: where the history can't be read the answer is no.
+    pub fn tells_since(&mut self, since: Position) -> bool
+        ensures { self.new ≡ self.old }
+    {
+        match entries_now(&mut self.conn) {
+            Err(_) => false,
+            Ok(entries) => {
+                self.shelf.begin_logs(entries);
+                self.shelf.tells_since(since.0, entries)
+            }
+        }
     }
 }

@@ -73,17 +73,17 @@ fn read_catalog<S: Alter>(alloc: Global, tx: &mut Transaction<'_, S>) -> Result<
     let text = "SELECT name, parent, cascades FROM \"ttcache-tables\" ORDER BY place";
     let stored = tx.query_all(text, &[])?;
     let mut shelf = Shelf::new(alloc);
-    shelf.keep_from(entries(tx)?);
+    let position = entries(tx)?;
     for (place, row) in stored.iter().enumerate() {
         let def = read_def(alloc, tx, place, row)?;
         make_log(alloc, tx, &def)?;
         shelf.push(alloc, def)?;
-        forget(tx, &shelf, table_at(place)?)?;
+        forget(tx, &shelf, table_at(place)?, position)?;
     }
     Ok(shelf)
 }
 
-// A file from before the logs has none. No call asks since a position from before the opening, so they begin anew.
+// A file from before the logs has none.
 fn make_log<S: Alter>(
     alloc: Global,
     tx: &mut Transaction<'_, S>,

@@ -27,11 +27,14 @@ pub(crate) fn changes<S: Alter>(
     trees: &[Tree],
     wants: &[RowKey],
 ) -> Result<Changes, StoreFault> {
-    if !conn.is_autocommit() || since.0 < shelf.kept() {
+    if !conn.is_autocommit() {
         return Err(StoreFault::Failed);
     }
     let mut tx = conn.transaction();
     let position = Position(entries(&mut tx)?);
+    if !shelf.tells_since(since.0, position.0) {
+        return Err(StoreFault::Failed);
+    }
     let log = log_since(alloc, &mut tx, shelf, since, trees)?;
     let mut touched = Vec::with_capacity(alloc, trees.len())?;
     for tree in trees {

@@ -75,6 +75,15 @@ pub(crate) fn entries<S: Alter>(tx: &mut Transaction<'_, S>) -> Result<u64, Stor
     }
 }
 
+/// How many entries the history has, read in a transaction of its own.
+pub(crate) fn entries_now<S: Alter>(conn: &mut Connection<S>) -> Result<u64, StoreFault> {
+    if !conn.is_autocommit() {
+        return Err(StoreFault::Failed);
+    }
+    let mut tx = conn.transaction();
+    entries(&mut tx)
+}
+
 /// The position of a ticket, where it is recorded.
 pub(crate) fn position_of<S: Alter>(
     tx: &mut Transaction<'_, S>,

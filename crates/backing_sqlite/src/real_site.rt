@@ -120,4 +120,8 @@ impl<D: Disk> Site for RealSite<D> {
     ) -> Result<Changes, BankError> {
         self.bank.changes(since, least, trees, wants)
     }
+
+    fn tells_since(&mut self, since: Position) -> bool {
+        self.bank.tells_since(since)
+    }
 }

@@ -6,12 +6,15 @@ use std::alloc::Global;
 use table_defs::{BackingSchema, TableDef};
 use tier_base::{Seq, TableId};
 
+/// For so many entries of the history the logs are kept, counted from the least position that may still be asked from.
+const LONGEST: u64 = 1_000_000;
+
 /// The definitions of the backing tables, with the texts of the statements on them, and the position from which on the
-/// logs are kept.
+/// logs are kept, where they are.
 pub(crate) struct Shelf {
     schema: BackingSchema,
     texts: Vec<TableTexts>,
-    kept: u64,
+    kept: Option<u64>,
 }
 
 impl Drop for Shelf {
@@ -25,23 +28,54 @@ impl Drop for Shelf {
 }
 
 impl Shelf {
-    /// No tables. It takes no memory.
+    /// No tables, and no logs. It takes no memory.
     pub(crate) fn new(alloc: Global) -> Shelf {
         Shelf {
             schema: Seq::new(alloc),
             texts: Vec::new(alloc),
-            kept: 0,
+            kept: None,
         }
     }
 
-    /// The least position since which the logs tell what changed.
-    pub(crate) fn kept(&self) -> u64 {
-        self.kept
+    /// Whether the logs have the operations of the transaction behind which the history has so many entries.
+    pub(crate) fn has_logged(&self, entries: u64) -> bool {
+        match self.kept {
+            None => false,
+            Some(kept) => entries <= kept.saturating_add(LONGEST),
+        }
     }
 
-    /// The logs need to tell no more what came up to this position. That is never taken back.
+    /// Whether the logs tell what changed since a position, where the history has so many entries.
+    pub(crate) fn tells_since(&self, since: u64, entries: u64) -> bool {
+        match self.kept {
+            None => false,
+            Some(kept) => kept <= since && self.has_logged(entries),
+        }
+    }
+
+    /// The logs are kept from now on, where they aren't. The history has so many entries.
+    pub(crate) fn begin_logs(&mut self, entries: u64) {
+        if !self.has_logged(entries) {
+            self.kept = Some(entries);
+        }
+    }
+
+    /// The logs, where they are kept, need to tell no more what came up to this position. That is never taken back.
     pub(crate) fn keep_from(&mut self, position: u64) {
-        self.kept = self.kept.max(position);
+        if let Some(kept) = self.kept {
+            self.kept = Some(kept.max(position));
+        }
+    }
+
+    /// Up to this position the logs are empty, or to be emptied, before a transaction behind which the history has so many
+    /// entries; none where there are no logs.
+    pub(crate) fn forgotten(&self, entries: u64) -> Option<u64> {
+        let kept = self.kept?;
+        if self.has_logged(entries) {
+            Some(kept)
+        } else {
+            Some(entries)
+        }
     }
 
     /// The definitions.

@@ -36,8 +36,8 @@ fn give_one<S: Alter>(
     }
 }
 
-/// Does an operation of a transaction, which applies, and enters it into the log at this place. Where the operation
-/// before it was on another table, what its table's log needs to tell no more is forgotten first.
+/// Does an operation of a transaction, which applies, and enters it into the log at this place, where logs are kept. Where
+/// the operation before it was on another table, what its table's log needs to tell no more is forgotten first.
 pub(crate) fn do_op<S: Alter>(
     alloc: Global,
     tx: &mut Transaction<'_, S>,
@@ -47,10 +47,25 @@ pub(crate) fn do_op<S: Alter>(
     at: LogPlace,
 ) -> Result<(), StoreFault> {
     if !is_on(before, op.table()) {
-        forget(tx, shelf, op.table())?;
+        make_ready(tx, shelf, op.table(), at)?;
     }
     write(alloc, tx, shelf, op)?;
-    enter(alloc, tx, shelf, op, at)
+    if shelf.has_logged(at.position) {
+        return enter(alloc, tx, shelf, op, at);
+    }
+    Ok(())
+}
+
+fn make_ready<S: Alter>(
+    tx: &mut Transaction<'_, S>,
+    shelf: &Shelf,
+    table: TableId,
+    at: LogPlace,
+) -> Result<(), StoreFault> {
+    match shelf.forgotten(at.position) {
+        None => Ok(()),
+        Some(position) => forget(tx, shelf, table, position),
+    }
 }
 
 fn is_on(op: Option<&Op>, table: TableId) -> bool {
@@ -60,15 +75,16 @@ fn is_on(op: Option<&Op>, table: TableId) -> bool {
     }
 }
 
-/// What the log of a table needs to tell no more is taken out.
+/// What the log of a table has up to a position is taken out.
 pub(crate) fn forget<S: Alter>(
     tx: &mut Transaction<'_, S>,
     shelf: &Shelf,
     table: TableId,
+    position: u64,
 ) -> Result<(), StoreFault> {
-    let kept = whole(shelf.kept())?;
+    let position = whole(position)?;
     let text = shelf.texts(table)?.forget.as_str();
-    let _ = give(tx, text, &[ValueRef::Int(kept)])?;
+    let _ = give(tx, text, &[ValueRef::Int(position)])?;
     Ok(())
 }
 

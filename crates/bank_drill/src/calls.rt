@@ -180,6 +180,15 @@ pub fn changes<T: Site>(
     }
 }
 
+/// Tells whether it tells what changed since a position.
+pub fn tells<T: Site>(site: &mut T, since: Position, out: &mut Vec<u8>) -> Result<(), DrillError> {
+    if site.tells_since(since) {
+        tell_lines(out, b"yes")
+    } else {
+        tell_lines(out, b"no")
+    }
+}
+
 /// Tells the definitions.
 pub fn schema<T: Site>(site: &mut T, out: &mut Vec<u8>) -> Result<(), DrillError> {
     match site.schema() {

@@ -23,6 +23,8 @@ pub enum Command<'a> {
     /// `!changes N WANTS in TREES`, or `N/M` in place of `N`: what changed since the position N, where no call to come asks
     /// since one before M. Wants are `TABLE VALUE,..` with `; ` between; there may be none. Trees have ` / ` between.
     Changes(u64, u64, &'a str, &'a str),
+    /// `!tells N`: whether it tells what changed since the position N.
+    Tells(u64),
     /// `!put TEXT`: the bytes are written into the second slot behind its first byte, and synced.
     Put(&'a str),
     /// `!get`: the bytes of the second slot behind its first one.
@@ -85,6 +87,10 @@ fn parse_call(text: &str) -> Option<Command<'_>> {
                 None => rest.split_once(" in ")?,
             };
             Some(Command::Changes(since, least, wants, trees))
+        }
+        "tells" => {
+            let since = rest.parse::<u64>().ok()?;
+            Some(Command::Tells(since))
         }
         "schema" => Some(Command::Schema),
         "snapshot" => Some(Command::Snapshot(rest)),

@@ -1,7 +1,7 @@
 //! The site, and what a script keeps beside it.
 
 use crate::answers::{tell_bank_error, tell_lines, tell_opening};
-use crate::calls::{apply, changes, console, find, passed, reach, schema, seal, snapshot};
+use crate::calls::{apply, changes, console, find, passed, reach, schema, seal, snapshot, tells};
 use crate::command::Command;
 use crate::error::DrillError;
 use backing_sqlite::{RealSite, SqliteBank};
@@ -104,6 +104,7 @@ impl Stage {
                 let from = (Position(since), Position(least));
                 changes(alloc, &mut self.site, from, wants, trees, line, out)
             }
+            Command::Tells(since) => tells(&mut self.site, Position(since), out),
             Command::Schema => schema(&mut self.site, out),
             Command::Snapshot(tables) => snapshot(alloc, &mut self.site, tables, line, out),
             Command::Put(text) => put(&mut self.site, text.as_bytes()),

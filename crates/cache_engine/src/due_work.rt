@@ -104,20 +104,20 @@ fn do_due<P: Site>(
         None => match refresh_sets(tier, alloc, site, intervals, notes) {
             Some(stop) => Some(stop),
             None => {
-                age_due(tier);
+                age_due(tier, alloc);
                 None
             }
         },
     }
 }
 
-// The cycles of aging that are due. It takes no memory.
-fn age_due(tier: &mut Tier)
+// The cycles of aging that are due.
+fn age_due(tier: &mut Tier, alloc: Global)
     requires { IsSound tier.old }
     ensures runs { RunsCycles tier.old tier.new }
     ensures sound { IsSound tier.new }
 {
-    age(tier);
+    age(tier, alloc);
 }
 
 // A round, where it is due.

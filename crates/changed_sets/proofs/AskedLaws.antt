@@ -3,7 +3,7 @@ use Rattle.std.proofs.Common.{◌≡◌, ℕ, zero, suc, ◌+◌, Bool, true, fa
 use Rattle.std.proofs.lemmas.Bool.{eqb-true}
 use Rattle.instances.specs.Trees.{is_place}
 use Rattle.order_laws.proofs.TruthLaws.{both_true}
-use Rattle.cache_tier.specs.Groups.{Group, is_read_only}
+use Rattle.cache_tier.specs.Groups.{Group, is_on, is_read_only}
 use Rattle.cache_tier.specs.Sets.{Choice}
 use Rattle.stored_tier.specs.Lists.{is_by_use}
 use Rattle.stored_tier.specs.Refreshing.{is_filled}
@@ -12,7 +12,7 @@ use Rattle.changed_sets.specs.Since.{are_ready_since, asked_since, first_positio
 -- a group that goes by what changed since a position
 pub record GoesSince (n : ℕ) (g : Group) : Type 0 where
   pub reads : is_read_only g ≡ true
-  pub unused : is_by_use g.def.aging ≡ false
+  pub unused : g.def.dynamic ≡ false → is_by_use g.def.aging ≡ false
   pub there : g.position ≡ Some n
   pub full : (g.def.dynamic || g.loaded) ≡ true
 
@@ -38,14 +38,15 @@ one_ready : (chosen : Choice) (n k : ℕ) (g : Group) → is_ready_since chosen 
 one_ready chosen n k g ready filled =
     let parts = both_true (chosen k g) (g.def.dynamic || (g.loaded || false)) filled in
     let keeps : (g.def.dynamic || g.loaded) ≡ true = ap (λ b. g.def.dynamic || b) (sym (or_false g.loaded)) ∙ parts.1 in
-    let here : (goes_by_changes g && (not (g.def.dynamic || g.loaded) || is_place n g.position)) ≡ true =
-    sym (ap (λ b. not b || (goes_by_changes g && (not (g.def.dynamic || g.loaded) || is_place n g.position))) parts.0) ∙ ready in
-    let two = both_true (goes_by_changes g) (not (g.def.dynamic || g.loaded) || is_place n g.position) here in
-    let goes = both_true (is_read_only g && not (is_full g.def.mode)) (not (is_by_use g.def.aging)) two.0 in
-    let place : is_place n g.position ≡ true = sym (ap (λ b. not b || is_place n g.position) keeps) ∙ two.1 in
+    let here : (goes_by_changes g && (not (g.def.dynamic || g.loaded) || (is_on g.state && is_place n g.position))) ≡ true =
+    sym (ap (λ b. not b || (goes_by_changes g && (not (g.def.dynamic || g.loaded) || (is_on g.state && is_place n g.position)))) parts.0) ∙ ready in
+    let two = both_true (goes_by_changes g) (not (g.def.dynamic || g.loaded) || (is_on g.state && is_place n g.position)) here in
+    let goes = both_true (is_read_only g && not (is_full g.def.mode)) (g.def.dynamic || not (is_by_use g.def.aging)) two.0 in
+    let on : (is_on g.state && is_place n g.position) ≡ true = sym (ap (λ b. not b || (is_on g.state && is_place n g.position)) keeps) ∙ two.1 in
+    let place = (both_true (is_on g.state) (is_place n g.position) on).1 in
     record {
       reads = (both_true (is_read_only g) (not (is_full g.def.mode)) goes.0).0;
-      unused = not_true (is_by_use g.def.aging) goes.1;
+      unused = λ explicit. not_true (is_by_use g.def.aging) (sym (ap (λ d. d || not (is_by_use g.def.aging)) explicit) ∙ goes.1);
       there = placed n g.position place;
       full = keeps;
     }

@@ -2,6 +2,7 @@
 use Rattle.std.proofs.Common.{◌≡◌, ◌&&◌, Bool, not, cond, nat_lt, nat_le, is_some, position, ℕ, zero, suc, ◌+◌, ◌≤◌, Option, Some, None, List, [], ◌∷◌, ◌++◌, length, take, slice_get, refl, sym, ap, subst, ◌∙◌}
 use Rattle.std.specs.List.{prefix_len}
 use Rattle.std.specs.Option.{option_and_then, option_map}
+use Rattle.std.specs.FinMap.{contains_key, get}
 use Rattle.row_types.specs.declared.value.Value.{Value}
 use Rattle.tier_base.specs.declared.number.TableId.{TableId}
 use Rattle.table_defs.specs.declared.definition.TableDef.{TableDef}
@@ -12,7 +13,9 @@ use Rattle.expressions.specs.declared.condition.Comparator.TheVariants as is
 use Rattle.expressions.specs.Expressions.{eval}
 use Rattle.instances.specs.declared.tree.Child.{Child}
 use Rattle.instances.specs.declared.tree.Tree.{Tree}
-use Rattle.indexed_rows.specs.Rows.{Table}
+use Rattle.indexed_rows.specs.Rows.{Table, key_of}
+use Rattle.table_defs.specs.Declarations.{foreign_places}
+use Rattle.instances.specs.Roots.{parent_key, root_of, root_within}
 use Rattle.instances.specs.Views.{child_rows, instance_of, kept_at, only, refers_to_one, root_rows, rows_where, with_children}
 use Rattle.table_state.specs.Tables.{TableState, table_at}
 use Rattle.stored_tier.proofs.FillSteps.{take_one, take_past}
@@ -141,3 +144,39 @@ alike_sound schema tree copy a =
     let rest = alike_children schema tree copy 0 tree.children copy.children a a.children in
     let table = a.table in
     λ i. is_some (slice_get schema (table i).0) && rest i
+
+-- they lead to the same roots
+
+alike_within : (s : TableState) (tree copy : Tree) → IsAlike tree copy → (n place : ℕ) (key : List Value) → root_within n s copy place key ≡ root_within n s tree place key
+alike_within s tree copy a n zero key = at_root n
+  where
+    at_root : (m : ℕ) → root_within m s copy zero key ≡ root_within m s tree zero key
+    at_root zero = ap (λ (t : TableId). cond (contains_key (table_at s t) key) (Some key) None) a.table
+    at_root (suc m) = ap (λ (t : TableId). cond (contains_key (table_at s t) key) (Some key) None) a.table
+alike_within s tree copy a zero (suc place) key = refl
+alike_within s tree copy a (suc n) (suc place) key = by tree.children copy.children place a.children (λ p q. alike_within s tree copy a n p q)
+  where
+    above : ((p : ℕ) (q : List Value) → root_within n s copy p q ≡ root_within n s tree p q) → (o : Option (List Value)) (parent : ℕ) → option_and_then (root_within n s copy parent) o ≡ option_and_then (root_within n s tree parent) o
+    above rest None parent = refl
+    above rest (Some q) parent = rest parent q
+
+    by : (children copies : List Child) (i : ℕ) → AreAlike children copies → ((p : ℕ) (q : List Value) → root_within n s copy p q ≡ root_within n s tree p q)
+        → option_and_then (λ (c : Child). option_and_then (root_within n s copy c.parent) (parent_key s c key)) (slice_get copies i)
+        ≡ option_and_then (λ (c : Child). option_and_then (root_within n s tree c.parent) (parent_key s c key)) (slice_get children i)
+    by [] [] i are rest = refl
+    by [] (d ∷ copies) i are rest = absurd are
+    by (c ∷ children) [] i are rest = absurd are
+    by (c ∷ children) (d ∷ copies) zero are rest =
+        (λ i. option_and_then (root_within n s copy (are.0.parent i)) (option_and_then (λ row. option_map (λ (def : TableDef). key_of (foreign_places def.foreign_key) row) (slice_get s.schema (are.0.table i).0)) (get (table_at s (are.0.table i)) key)))
+        ∙ above rest (parent_key s c key) c.parent
+    by (c ∷ children) (d ∷ copies) (suc i) are rest = by children copies i are.1 rest
+
+pub alike_root : (s : TableState) (tree copy : Tree) → IsAlike tree copy → (t : TableId) (key : List Value) → root_of s copy t key ≡ root_of s tree t key
+alike_root s tree copy a t key =
+    ap (option_and_then (λ place. root_within (length copy.children) s copy place key)) (alike_place tree copy t a)
+    ∙ ap (λ n. option_and_then (λ place. root_within n s copy place key) (place_of tree t)) (alike_long tree.children copy.children a.children)
+    ∙ by (place_of tree t)
+  where
+    by : (o : Option ℕ) → option_and_then (λ place. root_within (length tree.children) s copy place key) o ≡ option_and_then (λ place. root_within (length tree.children) s tree place key) o
+    by None = refl
+    by (Some place) = alike_within s tree copy a (length tree.children) place key

@@ -1,12 +1,11 @@
 -- What a group shows behind what was told of its tree.
-use Rattle.std.proofs.Common.{◌≡◌, ◌≤◌, ◌⊎◌, inl, inr, ℕ, zero, suc, Bool, true, false, not, cond, ◌&&◌, ◌||◌, nat_eq, Option, Some, None, is_some, List, [], ◌∷◌, ◌++◌, length, map, slice_get, take, drop, unwrap_or, refl, sym, ap, subst, ◌∙◌, arith}
+use Rattle.std.proofs.Common.{◌≡◌, ◌≤◌, ◌⊎◌, inl, inr, ℕ, zero, suc, Bool, true, false, not, cond, ◌&&◌, ◌||◌, nat_eq, Option, Some, None, is_some, List, [], ◌∷◌, ◌++◌, length, map, slice_get, take, drop, unwrap_or, refl, sym, ap, subst, ◌∙◌}
 use Rattle.std.proofs.lemmas.List.{take-append-le}
 use Rattle.std.proofs.lemmas.List.Folds.{list_any-append}
 use Rattle.std.specs.List.{flat_map}
 use Rattle.std.specs.Option.{option_and_then, option_map}
 use Rattle.std.specs.FinMap as fm
 use Rattle.row_types.specs.declared.value.Value.{Value}
-use Rattle.row_types.proofs.OrderLaws.{key_exact}
 use Rattle.tier_base.specs.declared.number.Position.{Position}
 use Rattle.tier_base.specs.declared.number.TableId.{TableId}
 use Rattle.table_defs.specs.declared.definition.TableDef.{TableDef}
@@ -23,7 +22,7 @@ use Rattle.change_log.specs.declared.log.RowChange.{RowChange}
 use Rattle.instances.specs.declared.tree.Child.{Child}
 use Rattle.instances.specs.declared.tree.Tree.{Tree}
 use Rattle.instances.specs.Trees.{is_sound}
-use Rattle.instances.specs.Views.{instance_of, kept_at, only, passes, root_rows}
+use Rattle.instances.specs.Views.{instance_of, kept_at, passes, root_rows}
 use Rattle.outside.specs.Changes.{AllTouched, AreTouched, IsChangesOf, has_changed, is_wanted, tree_tables}
 use Rattle.outside.specs.Laws.{is_told}
 use Rattle.outside.specs.Reaching.{instance_under}
@@ -33,7 +32,7 @@ use Rattle.outside.specs.declared.site.Instance.{Instance}
 use Rattle.outside.proofs.RowLaws.{is_same_self}
 use Rattle.outside.proofs.StayLaws.{same_instance}
 use Rattle.order_laws.proofs.CountLaws.{get_front}
-use Rattle.order_laws.proofs.TruthLaws.{or_true}
+use Rattle.order_laws.proofs.TruthLaws.{both_true, or_true}
 use Rattle.order_laws.specs.Commits.{virtual_state}
 use Rattle.group_store.specs.Keeping.{IsFor, KeepsOthers, KeepsShown, layer_for, primary_of}
 use Rattle.group_store.specs.Shown.{foreign_key_of}
@@ -41,7 +40,6 @@ use Rattle.group_store.specs.Stores.{HasRootKeys, Kept}
 use Rattle.group_store.proofs.FormLaws.{defined}
 use Rattle.slot_rows.specs.SlotKeys.{RowsHeld}
 use Rattle.cache_store.specs.Shown.{shown_of}
-use Rattle.cache_store.proofs.OwnLaws.{keeps}
 use Rattle.cache_tier.specs.Groups.{Group, is_explicit, is_key, is_read_only}
 use Rattle.cache_tier.specs.Shown.{exceeds, root_key, shows_root, state_behind}
 use Rattle.cache_tier.specs.Worlds.{World}
@@ -57,12 +55,15 @@ use Rattle.aging_cycles.proofs.Behind.{IsBehind}
 use Rattle.aging_cycles.proofs.RootRows.{children_alike}
 use Rattle.aging_cycles.proofs.Shows as shows
 use Rattle.changed_sets.specs.Alike.{IsAlike}
-use Rattle.changed_sets.specs.Fresh.{is_fresh}
+use Rattle.changed_sets.specs.Fresh.{is_fresh, keys_touched}
 use Rattle.changed_sets.specs.Told.{TellsTree}
-use Rattle.changed_sets.specs.Turning.{is_shown_told, turn_of, turned}
+use Rattle.changed_sets.specs.Turning.{cut_of, is_shown_told, turn_of, turned}
 use Rattle.changed_sets.proofs.CopyLaws.{alike_instance, alike_sound}
+use Rattle.changed_sets.proofs.GainLaws.{AreGains}
+use Rattle.changed_sets.proofs.KeyTurns.{keys_in_order}
+use Rattle.changed_sets.proofs.LeftLaws.{first_shown, instance_root}
 use Rattle.changed_sets.proofs.ReadLaws.{ReadsState}
-use Rattle.changed_sets.proofs.ToldLaws.{shows_changed}
+use Rattle.changed_sets.proofs.ToldLaws.{shows_changed, stays_there}
 
 abbrev Row : Type 0
 Row = List Value
@@ -105,6 +106,12 @@ not_changed s log wants tree touched root are left = by (has_changed s tree log 
         let found = are.whole root (ap (λ y. y || is_wanted s tree wants root) e) in
         let told : is_told touched root ≡ true = told_at touched found.0 found.1 root found.2 found.3 in
         cc
+
+-- what is wanted is told
+wanted_told : (s : TableState) (log : List RowChange) (wants : List RowKey) (tree : Tree) (touched : List Touched) (root : Row) → AreTouched s log wants tree touched → is_wanted s tree wants root ≡ true → is_told touched root ≡ true
+wanted_told s log wants tree touched root are e =
+    let found = are.whole root (ap (λ y. has_changed s tree log root || y) e ∙ or_true (has_changed s tree log root)) in
+    told_at touched found.0 found.1 root found.2 found.3
 
 -- the definitions of a state play no part in what changed since
 over_rows : (tables : List TableId) (from to : TableState) (defs : List TableDef) (log : List RowChange) → IsChanged tables from to log → IsChanged tables (record from { schema = defs }) to log
@@ -169,7 +176,8 @@ module _ (drops : (state : TableState) (tree : Tree) → KeepsOthers state tree)
   to = reads.state
 
   module _ (k : ℕ) (h : Group) (h_at : slice_get w.tier.groups k ≡ Some h) (readonly : is_read_only h ≡ true) (pos : h.position ≡ Some since.0) (s : Kept) (kept : slice_get t.stores.items k ≡ Some s) (x : RowsHeld) (held : slice_get t.hidden.items k ≡ Some x)
-      (u : Tree) (i : ℕ) (u_at : slice_get copies i ≡ Some u) (alike : IsAlike h.def.tree u) (told : List Touched) (told_is : slice_get changes.touched i ≡ Some told) (full : (h.def.dynamic || h.loaded) ≡ true) (has : HasRootKeys s) where
+      (u : Tree) (i : ℕ) (u_at : slice_get copies i ≡ Some u) (alike : IsAlike h.def.tree u) (told : List Touched) (told_is : slice_get changes.touched i ≡ Some told) (full : (h.def.dynamic || h.loaded) ≡ true) (has : HasRootKeys s)
+      (gains : Bool) (more : List Row) (gained : AreGains reads.state (without_list h) s x.table gains (is_wanted reads.state u wants) more) where
     abbrev tree : Tree
     tree = h.def.tree
 
@@ -250,42 +258,62 @@ module _ (drops : (state : TableState) (tree : Tree) → KeepsOthers state tree)
         ∙ ap (with_rows y.instance.root) (alike_instance reads.state h.def.tree u y.instance.root alike)
 
     tells : TellsTree old reads.state h.def.tree told
-    tells = record { now = told_now; stays = stays }
-
-    -- the root row of an instance
-    root_of_instance : (state : TableState) (root : Row) → fm.get (kept_at (instance_of state h.def.tree root) 0) root ≡ fm.get (root_rows state h.def.tree.root) root
-    root_of_instance state root =
-        ap (λ (m : Table). fm.get m root) (keeps state h.def.tree.children (only root (root_rows state h.def.tree.root) ∷ []) 0 (omega arith))
-        ∙ fm.get-retain_keys (root_rows state h.def.tree.root) (λ other. is_same other root) root (λ y tie. ap (λ q. is_same q root) (sym (key_exact root y tie)))
-        ∙ ap (λ b. cond b (fm.get (root_rows state h.def.tree.root) root) None) (is_same_self root)
+    tells = record { now = told_now; once = are.once; stays = stays }
 
     abbrev shown_then : Row → Bool
-    shown_then = is_fresh reads.state (without_list h) s x.table []
+    shown_then = is_fresh reads.state (without_list h) s x.table more
 
     abbrev shows_told : Touched → Bool
-    shows_told = is_shown_told (without_list h) s x.table
+    shows_told = is_shown_told (without_list h) s x.table gains
+
+    abbrev past : Row → Bool
+    past = λ root. passes (exceeds h) (fm.get (root_rows reads.state h.def.tree.root) root)
 
     or_false : (a : Bool) → (a || false) ≡ a
     or_false true = refl
     or_false false = refl
 
+    and_none : (a : Bool) → (a && false) ≡ false
+    and_none true = refl
+    and_none false = refl
+
+    -- of a root row in the view, past the horizon, that the group doesn't have
+    same_gains : (root : Row) → ((not h.def.dynamic || (is_held s x.table root || (gains && is_wanted reads.state u wants root))) && past root) ≡ ((not h.def.dynamic || (is_held s x.table root || is_key more root)) && past root)
+    same_gains root = by (is_held s x.table root) refl (past root) refl
+      where
+        by : (a : Bool) → is_held s x.table root ≡ a → (b : Bool) → past root ≡ b → ((not h.def.dynamic || (is_held s x.table root || (gains && is_wanted reads.state u wants root))) && past root) ≡ ((not h.def.dynamic || (is_held s x.table root || is_key more root)) && past root)
+        by true e b f =
+            ap (λ c. (not h.def.dynamic || (c || (gains && is_wanted reads.state u wants root))) && past root) e
+            ∙ sym (ap (λ c. (not h.def.dynamic || (c || is_key more root)) && past root) e)
+        by false e true f = ap (λ c. (not h.def.dynamic || (is_held s x.table root || c)) && past root) (gained.same root f e)
+        by false e false f =
+            ap (λ c. (not h.def.dynamic || (is_held s x.table root || (gains && is_wanted reads.state u wants root))) && c) f
+            ∙ and_none (not h.def.dynamic || (is_held s x.table root || (gains && is_wanted reads.state u wants root)))
+            ∙ sym (ap (λ c. (not h.def.dynamic || (is_held s x.table root || is_key more root)) && c) f ∙ and_none (not h.def.dynamic || (is_held s x.table root || is_key more root)))
+
     chosen : (j : ℕ) (y : Touched) → slice_get told j ≡ Some y → shows_told y ≡ shown_then y.instance.root
     chosen j y at =
-        ap (λ (z : Instance). (not h.def.dynamic || is_held s x.table y.instance.root) && passes (exceeds h) (fm.get (kept_at z.rows 0) y.instance.root)) (told_now j y at)
-        ∙ ap (λ o. (not h.def.dynamic || is_held s x.table y.instance.root) && passes (exceeds h) o) (root_of_instance reads.state y.instance.root)
-        ∙ ap (λ b. (not h.def.dynamic || b) && passes (exceeds h) (fm.get (root_rows reads.state h.def.tree.root) y.instance.root)) (sym (or_false (is_held s x.table y.instance.root)))
+        ap (λ (z : Instance). (not h.def.dynamic || (is_held s x.table y.instance.root || (gains && y.wanted))) && passes (exceeds h) (fm.get (kept_at z.rows 0) y.instance.root)) (told_now j y at)
+        ∙ ap (λ o. (not h.def.dynamic || (is_held s x.table y.instance.root || (gains && y.wanted))) && passes (exceeds h) o) (instance_root reads.state h.def.tree y.instance.root)
+        ∙ ap (λ (z : Touched). (not h.def.dynamic || (is_held s x.table y.instance.root || (gains && z.wanted))) && past y.instance.root) (are.sound j y at).1
+        ∙ same_gains y.instance.root
 
     same_root : (root : Row) → is_told told root ≡ false → fm.get (root_rows reads.state h.def.tree.root) root ≡ fm.get (root_rows was.0 h.def.tree.root) root
-    same_root root left = sym (root_of_instance reads.state root) ∙ ap (λ ts. fm.get (kept_at ts 0) root) (stays root left) ∙ root_of_instance old root
+    same_root root left = sym (instance_root reads.state h.def.tree root) ∙ ap (λ ts. fm.get (kept_at ts 0) root) (stays root left) ∙ instance_root old h.def.tree root
 
     others : (root : Row) → is_told told root ≡ false → shown_then root ≡ shown_before root
     others root left =
-        ap (λ o. (not h.def.dynamic || (is_held s x.table root || false)) && passes (exceeds h) o) (same_root root left)
+        ap (λ b. (not h.def.dynamic || (is_held s x.table root || b)) && past root) (none_gained (is_key more root) refl)
+        ∙ ap (λ o. (not h.def.dynamic || (is_held s x.table root || false)) && passes (exceeds h) o) (same_root root left)
         ∙ by (fm.get (root_rows was.0 h.def.tree.root) root) refl
       where
         and_false : (a : Bool) → (a && false) ≡ false
         and_false true = refl
         and_false false = refl
+
+        none_gained : (b : Bool) → is_key more root ≡ b → is_key more root ≡ false
+        none_gained true e = let wrong : true ≡ false = sym (wanted_told reads.state changes.log wants u told root are (gained.told root e)) ∙ left in cc
+        none_gained false e = e
 
         listed : h.def.dynamic ≡ true → is_key h.keys root ≡ is_held s x.table root
         listed dynamic = stored_keys t w.tier k h s x sound stands.stored h_at kept held has dynamic root
@@ -303,5 +331,57 @@ module _ (drops : (state : TableState) (tree : Tree) → KeepsOthers state tree)
             ap (λ b. b && exceeds h row) (held_now h.def.dynamic refl row e)
             ∙ sym (ap (λ b. cond b (cond (is_explicit h) h.loaded (is_key h.keys (root_key was.0 h row)) && exceeds h row) (is_key h.keys (root_key was.0 h row))) readonly)
 
-    pub group_shown : (turned (map (turn_of shows_told) told) s).tables ≡ shown_of reads.state h.def.tree shown_then
+    pub group_shown : (turned (map (cut_of shows_told) told) (map (turn_of shows_told) told) s).tables ≡ shown_of reads.state h.def.tree shown_then
     group_shown = (shows_changed drops old reads.state h.def.tree told shows_told shown_before shown_then s reads.sound.keyed sound_now form_now tells (record { chosen = chosen; others = others }) kept_before).tables
+
+    -- ---- and its keys are in the order of last use
+
+    -- a root row that is there is one that is shown then
+    record IsShown (root : Row) : Type 0 where
+      shown : shown_then root ≡ true
+      row : Row
+      there : fm.get (root_rows reads.state h.def.tree.root) root ≡ Some row
+
+    module _ (m : Kept) (tables : m.tables ≡ shown_of reads.state h.def.tree shown_then) (dynamic : h.def.dynamic ≡ true) (none : x.table ≡ fm.empty) where
+      looked : (q : Row) → fm.contains_key (kept_at m.tables 0) q ≡ is_some (cond (shown_then q) (fm.get (root_rows reads.state h.def.tree.root) q) None)
+      looked q = ap (λ ts. fm.contains_key (kept_at ts 0) q) tables ∙ ap is_some (first_shown reads.state h.def.tree shown_then q)
+
+      is_shown : (q : Row) → fm.contains_key (kept_at m.tables 0) q ≡ true → IsShown q
+      is_shown q e = by (shown_then q) refl (fm.get (root_rows reads.state h.def.tree.root) q) refl (sym (looked q) ∙ e)
+        where
+          by : (b : Bool) → shown_then q ≡ b → (o : Option Row) → fm.get (root_rows reads.state h.def.tree.root) q ≡ o → is_some (cond b o None) ≡ true → IsShown q
+          by true f (Some row) g there = record { shown = f; row = row; there = g }
+          by true f None g there = cc
+          by false f o g there = cc
+
+      gained_then : (q : Row) → fm.contains_key (kept_at m.tables 0) q ≡ true → fm.contains_key (kept_at s.tables 0) q ≡ false → is_key more q ≡ true
+      gained_then q e absent =
+          let not_held : is_held s x.table q ≡ false = (λ i. absent i || fm.contains_key (none i) q) ∙ ap is_some (fm.get-empty {X = Row} Rattle.row_types.specs.Order.key_order q) in
+          sym (ap (λ b. b || is_key more q) not_held)
+          ∙ sym (ap (λ d. not d || (is_held s x.table q || is_key more q)) dynamic)
+          ∙ (both_true (not h.def.dynamic || (is_held s x.table q || is_key more q)) (past q) (is_shown q e).shown).0
+
+      comes_then : (q : Row) → is_key more q ≡ true → fm.contains_key (kept_at m.tables 0) q ≡ true
+      comes_then q e =
+          let there = gained.past q e in
+          let shown : shown_then q ≡ true =
+          (λ i. (not h.def.dynamic || (is_held s x.table q || e i)) && there i)
+          ∙ ap (λ b. (not h.def.dynamic || b) && true) (or_true (is_held s x.table q)) ∙ ap (λ b. b && true) (or_true (not h.def.dynamic)) in
+          looked q ∙ ap (λ b. is_some (cond b (fm.get (root_rows reads.state h.def.tree.root) q) None)) shown
+          ∙ by (fm.get (root_rows reads.state h.def.tree.root) q) there
+        where
+          by : (o : Option Row) → passes (exceeds h) o ≡ true → is_some o ≡ true
+          by None f = cc
+          by (Some row) f = refl
+
+      pub group_order : m.keys ≡ (turned (map (cut_of shows_told) told) (map (turn_of shows_told) told) s).keys → HasRootKeys m → m.keys ≡ keys_touched more (keys_touched s.keys m.keys)
+      group_order keys_are new =
+          keys_in_order (map (cut_of shows_told) told) (map (turn_of shows_told) told) s m has new keys_are more
+          (λ q e was_there. (
+          let now = is_shown q e in
+          stays_there drops old reads.state h.def.tree told shows_told shown_before shown_then s reads.sound.keyed sound_now form_now tells (record { chosen = chosen; others = others }) kept_before q now.row now.shown now.there was_there))
+          gained_then comes_then (λ q e. unheld q (fm.contains_key (kept_at s.tables 0) q) (gained.unheld q e)) gained.few
+        where
+          unheld : (q : Row) (a : Bool) → (a || fm.contains_key x.table q) ≡ false → a ≡ false
+          unheld q true f = f
+          unheld q false f = refl

@@ -1,34 +1,33 @@
 -- An instance of a state whose rows stand under their keys, put into a store that shows others.
-use Rattle.std.proofs.Common.{◌≡◌, ℕ, zero, suc, ◌+◌, Bool, true, false, cond, ◌||◌, List, [], ◌∷◌, length, map, slice_get, Option, Some, None, refl, sym, ap, subst, ◌∙◌, arith}
+use Rattle.std.proofs.Common.{◌≡◌, ℕ, zero, suc, ◌+◌, Bool, true, false, cond, List, [], ◌∷◌, slice_get, Option, Some, None, refl, sym, ap, subst, ◌∙◌, arith}
 use Rattle.std.specs.Option.{option_map}
 use Rattle.std.specs.FinMap as fm
 use Rattle.row_types.specs.declared.value.Value.{Value}
 use Rattle.row_types.proofs.OrderLaws.{key_exact}
 use Rattle.tier_base.specs.declared.number.TableId.{TableId}
-use Rattle.indexed_rows.specs.Rows.{Table, is_same, key_of}
+use Rattle.indexed_rows.specs.Rows.{Table, key_of}
 use Rattle.table_state.specs.Tables.{TableState, table_at}
 use Rattle.instances.specs.declared.tree.Child.{Child}
 use Rattle.instances.specs.declared.tree.Tree.{Tree}
 use Rattle.instances.specs.Trees.{is_sound, table_of}
-use Rattle.instances.specs.Views.{instance_of, kept_at, passes, root_rows, selects}
+use Rattle.instances.specs.Views.{kept_at, passes, root_rows, selects}
 use Rattle.instances.proofs.Gathering.{get_where}
 use Rattle.slot_rows.specs.SlotKeys.{IsKeyedBy}
-use Rattle.cache_store.specs.Shown.{shown_of, tables_with}
+use Rattle.cache_store.specs.Shown.{shown_of}
 use Rattle.cache_store.proofs.AboveLaws.{above}
 use Rattle.cache_store.proofs.OwnLaws.{keeps}
-use Rattle.cache_store.proofs.ShownLaws.{shown_length}
-use Rattle.group_store.specs.Keeping.{IsFor, KeepsShown}
-use Rattle.group_store.specs.Stores.{Kept, put_tables}
+use Rattle.group_store.specs.Keeping.{IsFor}
+use Rattle.group_store.specs.Stores.{Kept}
 use Rattle.group_store.specs.Trees.{key_at}
 use Rattle.group_store.proofs.FormLaws.{defined, key_for, primary}
-use Rattle.stored_tier.proofs.PutLaws.{AreKeyed, form_tables, shown_with, tables_put}
+use Rattle.stored_tier.proofs.PutLaws.{AreKeyed}
 use Rattle.changed_sets.specs.Told.{AreUnderKeys}
 
 abbrev Row : Type 0
 Row = List Value
 
 module _ (s : TableState) (tree : Tree) (is : AreUnderKeys s) (sound : is_sound s.schema tree ≡ true) (k : Kept) (form : IsFor s.schema tree k) (q : Row → Bool) where
-  under : (place : ℕ) (t : TableId) → table_of tree place ≡ Some t → (key row : Row) → fm.get (table_at s t) key ≡ Some row → key_of (key_at k.key k.layers place) row ≡ key
+  pub under : (place : ℕ) (t : TableId) → table_of tree place ≡ Some t → (key row : Row) → fm.get (table_at s t) key ≡ Some row → key_of (key_at k.key k.layers place) row ≡ key
   under place t there key row found =
       let d = defined s.schema tree sound place t there in
       ap (λ ps. key_of ps row) (key_for s.schema tree k form place t there ∙ primary s.schema t d.0 d.1) ∙ is t d.0 d.1 key row found
@@ -55,14 +54,3 @@ module _ (s : TableState) (tree : Tree) (is : AreUnderKeys s) (sound : is_sound 
 
   pub are_keyed : AreKeyed 0 (shown_of s tree q) k
   are_keyed i b at = let z : 0 + i ≡ i = omega arith in subst (IsKeyedBy (key_at k.key k.layers (0 + i))) (at_place_of (shown_of s tree q) i b at) (subst (λ p. IsKeyedBy (key_at k.key k.layers p) (kept_at (shown_of s tree q) i)) (sym z) (shown_keyed i))
-
-pub keeps_more : (s : TableState) (tree : Tree) → AreUnderKeys s → is_sound s.schema tree ≡ true → (p : Row → Bool) (root : Row) (k : Kept) → KeepsShown s tree p k → KeepsShown s tree (λ x. p x || is_same x root) (put_tables 0 (map fm.values (instance_of s tree root)) k)
-keeps_more s tree is sound p root k kept =
-    let f = form_tables 0 (map fm.values (instance_of s tree root)) k in
-    let form = kept.form in
-    record {
-      form = record { table = f.table ∙ form.table; key = f.key ∙ form.key; foreign = f.foreign ∙ form.foreign; layers = f.layers ∙ form.layers };
-      tables =
-          tables_put (instance_of s tree root) k (are_keyed s tree is sound k form (λ key. is_same key root)) (ap length kept.tables ∙ shown_length s tree p ∙ sym (shown_length s tree (λ key. is_same key root)))
-          ∙ ap (λ ts. tables_with ts (instance_of s tree root)) kept.tables ∙ shown_with s tree p (λ key. is_same key root);
-    }

@@ -1,9 +1,15 @@
 pub mod AskedLaws
 pub mod CopyLaws
+pub mod CutLaws
+pub mod DownLaws
 pub mod Exchanged
+pub mod GainLaws
 pub mod GroupLaws
+pub mod KeyTurns
 pub mod KeyedLaws
+pub mod LeftLaws
 pub mod ListSteps
+pub mod OrderLaws
 pub mod PrepareSteps
 pub mod ReadLaws
 pub mod ReadingLaws

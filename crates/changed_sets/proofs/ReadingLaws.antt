@@ -1,5 +1,5 @@
 -- What was read shows the instances of its state.
-use Rattle.std.proofs.Common.{◌≡◌, ◌+◌, ℕ, zero, suc, Bool, true, false, cond, Option, Some, None, List, [], ◌∷◌, length, slice_get, refl, sym, ap, subst, ◌∙◌, arith}
+use Rattle.std.proofs.Common.{◌≡◌, ◌+◌, ℕ, zero, suc, Bool, true, false, cond, ◌&&◌, Option, Some, None, List, [], ◌∷◌, length, map, nat_eq, slice_get, refl, sym, ap, subst, ◌∙◌, arith}
 use Rattle.std.proofs.lemmas.List.{length-map}
 use Rattle.std.specs.FinMap as fm
 use Rattle.row_types.specs.declared.value.Value.{Value}
@@ -12,6 +12,7 @@ use Rattle.instances.specs.declared.tree.Tree.{Tree}
 use Rattle.instances.specs.Trees.{is_sound}
 use Rattle.instances.specs.Views.{kept_at, passes, selects}
 use Rattle.instances.proofs.Gathering.{get_where}
+use Rattle.outside.specs.Changes.{is_wanted}
 use Rattle.outside.specs.declared.changes.Changes.{Changes}
 use Rattle.outside.specs.declared.changes.Touched.{Touched}
 use Rattle.group_catalog.specs.Catalogs.{groups_in}
@@ -19,7 +20,10 @@ use Rattle.group_store.specs.Keeping.{KeepsOthers, layer_for}
 use Rattle.group_store.specs.Stores.{Kept, SameButSpare}
 use Rattle.group_store.proofs.FormLaws.{defined}
 use Rattle.slot_rows.specs.SlotKeys.{RowsHeld}
-use Rattle.cache_tier.specs.Groups.{Group}
+use Rattle.cache_tier.specs.Groups.{Group, is_read_only}
+use Rattle.cache_tier.specs.Wants.{Want}
+use Rattle.cache_tier.specs.declared.group.AgingRule.{AgingRule}
+use Rattle.cache_tier.specs.declared.group.AgingRule.TheVariants.{ByTime, LastUse}
 use Rattle.cache_tier.specs.Sets.{Choice}
 use Rattle.cache_tier.specs.StandingBetween.{IsCatalogued}
 use Rattle.cache_tier.specs.Worlds.{World}
@@ -31,18 +35,21 @@ use Rattle.stored_tier.specs.Filling.{HidesNone}
 use Rattle.stored_tier.specs.Performing.{StandsFor}
 use Rattle.stored_tier.specs.Refreshing.{is_filled}
 use Rattle.stored_tier.specs.Stored.{IsSound, without_list}
-use Rattle.stored_tier.proofs.ListLaws.{hidden_kept}
+use Rattle.stored_tier.specs.Lists.{is_by_time, is_by_use}
+use Rattle.stored_tier.proofs.ListLaws.{hidden_kept, hiding_there}
 use Rattle.stored_tier.proofs.StoreRows.{form_at}
 use Rattle.changed_sets.specs.Alike.{AllAlike}
-use Rattle.changed_sets.specs.Fresh.{AreFresh, HasOwnKeys, IsFreshFor, IsViewed}
+use Rattle.changed_sets.specs.Fresh.{HasOwnKeys, IsFreshFor, IsViewed, gained_at, keys_touched}
+use Rattle.changed_sets.specs.Gains.{AreGainedBy, gained_keys, rows_wanted}
 use Rattle.changed_sets.specs.Preparing.{ArePatches, IsPrepared, count_before}
 use Rattle.changed_sets.specs.Reading.{HaveRoom}
 use Rattle.changed_sets.specs.Showing.{AllCame, AreReady, CameOf, IsRoomier, Pairs}
 use Rattle.changed_sets.specs.Since.{asked_since, trees_of}
-use Rattle.changed_sets.specs.Turning.{FitTurns, IsPatchFor, IsTurned, count_turns, turned}
+use Rattle.changed_sets.specs.Turning.{AreUnder, FitTurns, IsPatchFor, IsTurned, count_cuts, count_turns, cut_of, is_shown_told, turn_of, turned}
 use Rattle.changed_sets.specs.declared.turns.Patch.{Patch}
 use Rattle.changed_sets.proofs.AskedLaws.{GoesSince, asked_law}
-use Rattle.changed_sets.proofs.GroupLaws.{group_shown}
+use Rattle.changed_sets.proofs.GainLaws.{AreGains, gains_here}
+use Rattle.changed_sets.proofs.GroupLaws.{group_order, group_shown}
 use Rattle.changed_sets.proofs.ReadLaws.{ReadsState, unmapped}
 use Rattle.changed_sets.proofs.TreeSteps.{copy_of}
 use Rattle.changed_sets.proofs.TurnSteps.{same_turned, whole}
@@ -69,7 +76,19 @@ there_too (x ∷ xs) (y ∷ ys) (suc k) a long at = there_too xs ys k a (omega (
 
 module _ (drops : (state : TableState) (tree : Tree) → KeepsOthers state tree) (t : Stored) (w mid : World) (sound : IsSound t) (stands : StandsFor t w) (since : Position) (copies : List Tree) (wants : List RowKey) (changes : Changes) (reads : ReadsState t w mid since copies wants changes)
     (chosen : Choice) (asks : asked_since chosen (groups_in t.catalog) ≡ Some since.0) (alike : AllAlike (trees_of (is_filled chosen None) 0 (groups_in t.catalog)) copies)
-    (patches : List (Option Patch)) (are : ArePatches t (is_filled chosen None) changes.touched patches) (stores : List Kept) (room : Pairs SameButSpare t.stores.items stores) (made : List (Option Made)) (came : AllCame patches stores made) where
+    (patches : List (Option Patch)) (place : ℕ) (want : Option Want) (asked : wants ≡ rows_wanted want) (are : ArePatches t (is_filled chosen None) place changes.touched patches)
+    (new : Stored) (room : Pairs SameButSpare t.stores.items new.stores.items) (made : List (Option Made)) (came : AllCame patches new.stores.items made) where
+  -- the tier with more room
+  abbrev roomy : Stored
+  roomy = record t { stores = new.stores }
+
+  -- what the group at a place gains, and what each does
+  abbrev all_more : List Row
+  all_more = gained_keys (record t { stores = new.stores }) place want reads.state
+
+  abbrev more_of : ℕ → List Row
+  more_of k = gained_at place (gained_keys (record t { stores = new.stores }) place want reads.state) k
+
   abbrev filled : Choice
   filled = is_filled chosen None
 
@@ -88,79 +107,112 @@ module _ (drops : (state : TableState) (tree : Tree) → KeepsOthers state tree)
       ap (λ o. key_in o row) d.1 ∙ reads.sound.keyed g.def.tree.root.table d.0 d.1 key row found
 
   -- one that keeps rows
-  module _ (k : ℕ) (g : Group) (s n : Kept) (x : RowsHeld) (p : Patch) (m : Made) (at : slice_get (groups_in t.catalog) k ≡ Some g) (kept : slice_get t.stores.items k ≡ Some s) (same : SameButSpare s n) (held : slice_get t.hidden.items k ≡ Some x)
-      (f : is_filled chosen None k g ≡ true) (told : List Touched) (told_is : slice_get changes.touched (count_before (is_filled chosen None) k (groups_in t.catalog)) ≡ Some told) (patch : IsPatchFor t.schema g s x.table told p) (is : IsTurned p n m.store) (hid : m.hidden ≡ p.hidden) where
+  module _ (k : ℕ) (g : Group) (s n : Kept) (x : RowsHeld) (p : Patch) (m : Made) (at : slice_get (groups_in t.catalog) k ≡ Some g) (kept : slice_get t.stores.items k ≡ Some s) (roomier : slice_get new.stores.items k ≡ Some n) (same : SameButSpare s n) (held : slice_get t.hidden.items k ≡ Some x)
+      (f : is_filled chosen None k g ≡ true) (told : List Touched) (told_is : slice_get changes.touched (count_before (is_filled chosen None) k (groups_in t.catalog)) ≡ Some told) (patch : IsPatchFor t.schema g s x.table (nat_eq k place) told p) (is : IsTurned p n m.store) (hid : m.hidden ≡ p.hidden) where
     goes : GoesSince since.0 g
     goes = asked_law chosen (groups_in t.catalog) since.0 asks k g at f
 
-    fresh_with : (h : Group) → slice_get w.tier.groups k ≡ Some h → without_list h ≡ g → IsFreshFor reads.state g (record s { spare = n.spare }) x.table [] m
+    -- where instances leave by last use, none is hidden
+    none_hidden : is_by_use g.def.aging ≡ true → x.table ≡ fm.empty
+    none_hidden leaves =
+        (hiding_there t.schema (groups_in t.catalog) t.stores.items t.hidden.items k g s x sound.hiding at kept held).none
+        (ap (λ b. (is_read_only g && g.def.dynamic) && b) (by g.def.aging leaves) ∙ and_none (is_read_only g && g.def.dynamic))
+      where
+        and_none : (a : Bool) → (a && false) ≡ false
+        and_none true = refl
+        and_none false = refl
+
+        by : (o : Option AgingRule) → is_by_use o ≡ true → is_by_time o ≡ false
+        by None e = refl
+        by (Some LastUse) e = refl
+        by (Some (ByTime rule)) e = cc
+
+    fresh_with : (h : Group) → slice_get w.tier.groups k ≡ Some h → without_list h ≡ g → IsFreshFor reads.state g (record s { spare = n.spare }) x.table (more_of k) m
     fresh_with h h_at seen =
         let c = copy_of (is_filled chosen None) (groups_in t.catalog) copies k g alike at f in
         let goes_h : GoesSince since.0 (without_list h) = subst (GoesSince since.0) (sym seen) goes in
         let alike_h = subst (λ (y : Group). Rattle.changed_sets.specs.Alike.IsAlike y.def.tree c.0) (sym seen) c.2 in
-        let turns_h = subst (λ (y : Group). IsPatchFor t.schema y s x.table told p) (sym seen) patch in
-        let shown = group_shown drops t w mid sound stands since copies wants changes reads k h h_at goes_h.reads goes_h.there s kept x held c.0 (count_before (is_filled chosen None) k (groups_in t.catalog)) c.1 alike_h told told_is goes_h.full patch.keyed in
-        subst (λ (y : Group). IsFreshFor reads.state y (record s { spare = n.spare }) x.table [] m) seen (record {
-          rows = is.store.tables ∙ (same_turned p.turns s n same).tables ∙ ap (λ l. (turned l s).tables) turns_h.turns.are ∙ shown;
-          before = [];
-          order = λ leaves. (let no : true ≡ false = sym leaves ∙ goes_h.unused in cc);
+        let patch_h = subst (λ (y : Group). IsPatchFor t.schema y s x.table (nat_eq k place) told p) (sym seen) patch in
+        let gains : AreGains reads.state g s x.table (nat_eq k place) (is_wanted reads.state c.0 wants) (more_of k) =
+        subst (λ l. AreGains reads.state g s x.table (nat_eq k place) (is_wanted reads.state c.0 l) (more_of k)) (sym asked)
+        (gains_here (record t { stores = new.stores }) place want reads.state k g s n x c.0 c.2 at roomier same.tables held) in
+        let gains_h = subst (λ (y : Group). AreGains reads.state y s x.table (nat_eq k place) (is_wanted reads.state c.0 wants) (more_of k)) (sym seen) gains in
+        let turned_is : turned p.cuts p.turns s ≡ turned (map (cut_of (is_shown_told (without_list h) s x.table (nat_eq k place))) told) (map (turn_of (is_shown_told (without_list h) s x.table (nat_eq k place))) told) s =
+        (λ i. turned (patch_h.cuts.are i) (patch_h.turns.are i) s) in
+        let shown = group_shown drops t w mid sound stands since copies wants changes reads k h h_at goes_h.reads goes_h.there s kept x held c.0 (count_before (is_filled chosen None) k (groups_in t.catalog)) c.1 alike_h told told_is goes_h.full patch.keyed (nat_eq k place) (more_of k) gains_h in
+        let rows = is.store.tables ∙ (same_turned p.cuts p.turns s n same).tables ∙ ap (λ (y : Kept). y.tables) turned_is ∙ shown in
+        subst (λ (y : Group). IsFreshFor reads.state y (record s { spare = n.spare }) x.table (more_of k) m) seen (record {
+          rows = rows;
+          before = m.store.keys;
+          order = λ leaves. order h seen leaves h.def.dynamic refl goes_h (λ dynamic none.
+              group_order drops t w mid sound stands since copies wants changes reads k h h_at goes_h.reads goes_h.there s kept x held c.0 (count_before (is_filled chosen None) k (groups_in t.catalog)) c.1 alike_h told told_is goes_h.full patch.keyed (nat_eq k place) (more_of k) gains_h
+              m.store rows dynamic none (is.store.keys ∙ (same_turned p.cuts p.turns s n same).keys ∙ ap (λ (y : Kept). y.keys) turned_is) is.keyed);
           old = record { are = patch.keyed.are; once = patch.keyed.once };
           new = is.keyed;
           bare = ap (λ (y : RowsHeld). y.table) hid ∙ patch.hiding.none;
         })
+      where
+        order : (h : Group) → without_list h ≡ g → is_by_use h.def.aging ≡ true → (d : Bool) → h.def.dynamic ≡ d → GoesSince since.0 (without_list h) → (h.def.dynamic ≡ true → x.table ≡ fm.empty → m.store.keys ≡ keys_touched (more_of k) (keys_touched s.keys m.store.keys))
+            → m.store.keys ≡ keys_touched (more_of k) (keys_touched s.keys m.store.keys)
+        order h seen leaves true e goes_h stays = stays e (none_hidden (ap (λ (y : Group). is_by_use y.def.aging) (sym seen) ∙ leaves))
+        order h seen leaves false e goes_h stays = let wrong : true ≡ false = sym leaves ∙ goes_h.unused e in cc
 
-    fresh_one : IsFreshFor reads.state g n x.table [] m
+    fresh_one : IsFreshFor reads.state g n x.table (more_of k) m
     fresh_one =
         let a = abstract_group k g at in
-        subst (λ y. IsFreshFor reads.state g y x.table [] m) (whole s n same) (fresh_with a.0 a.1 a.2)
+        subst (λ y. IsFreshFor reads.state g y x.table (more_of k) m) (whole s n same) (fresh_with a.0 a.1 a.2)
 
-  views : (k : ℕ) (g : Group) (n : Kept) (x : RowsHeld) (o : Option Made) → slice_get (groups_in t.catalog) k ≡ Some g → slice_get stores k ≡ Some n → slice_get t.hidden.items k ≡ Some x → slice_get made k ≡ Some o → IsViewed (is_filled chosen None k g) reads.state g n x.table [] o
+  views : (k : ℕ) (g : Group) (n : Kept) (x : RowsHeld) (o : Option Made) → slice_get (groups_in t.catalog) k ≡ Some g → slice_get new.stores.items k ≡ Some n → slice_get t.hidden.items k ≡ Some x → slice_get made k ≡ Some o → IsViewed (is_filled chosen None k g) reads.state g n x.table (more_of k) o
   views k g n x o at kept held made_o =
-      let old = pairs_there t.stores.items stores k n room kept in
+      let old = pairs_there t.stores.items new.stores.items k n room kept in
       let patch = there_too (groups_in t.catalog) patches k g are.long at in
       by (is_filled chosen None k g) refl patch.0 (slice_get changes.touched (count_before (is_filled chosen None) k (groups_in t.catalog))) refl o old.0 old.1 old.2
       (are.each k g patch.0 at patch.1 g old.0 x at old.1 held) (came.each k patch.0 n o patch.1 kept made_o)
     where
       by : (b : Bool) → is_filled chosen None k g ≡ b → (q : Option Patch) (r : Option (List Touched)) → slice_get changes.touched (count_before (is_filled chosen None) k (groups_in t.catalog)) ≡ r → (o : Option Made) (s : Kept) → slice_get t.stores.items k ≡ Some s → SameButSpare s n
-          → IsPrepared (is_filled chosen None k g) t.schema g s x.table (slice_get changes.touched (count_before (is_filled chosen None) k (groups_in t.catalog))) q → CameOf q n o → IsViewed (is_filled chosen None k g) reads.state g n x.table [] o
+          → IsPrepared (is_filled chosen None k g) t.schema g s x.table (nat_eq k place) (slice_get changes.touched (count_before (is_filled chosen None) k (groups_in t.catalog))) q → CameOf q n o → IsViewed (is_filled chosen None k g) reads.state g n x.table (more_of k) o
       by false f q r told o s was same is c =
-          let none : q ≡ None = subst (λ b. IsPrepared b t.schema g s x.table (slice_get changes.touched (count_before (is_filled chosen None) k (groups_in t.catalog))) q) f is in
+          let none : q ≡ None = subst (λ b. IsPrepared b t.schema g s x.table (nat_eq k place) (slice_get changes.touched (count_before (is_filled chosen None) k (groups_in t.catalog))) q) f is in
           let out : o ≡ None = subst (λ y. CameOf y n o) none c in
-          subst (λ b. IsViewed b reads.state g n x.table [] o) (sym f) out
-      by true f None r told o s was same is c = absurd (subst (λ b. IsPrepared b t.schema g s x.table (slice_get changes.touched (count_before (is_filled chosen None) k (groups_in t.catalog))) None) f is)
+          subst (λ b. IsViewed b reads.state g n x.table (more_of k) o) (sym f) out
+      by true f None r told o s was same is c = absurd (subst (λ b. IsPrepared b t.schema g s x.table (nat_eq k place) (slice_get changes.touched (count_before (is_filled chosen None) k (groups_in t.catalog))) None) f is)
       by true f (Some p) None told o s was same is c =
-          absurd (subst (λ l. IsPrepared true t.schema g s x.table l (Some p)) told (subst (λ b. IsPrepared b t.schema g s x.table (slice_get changes.touched (count_before (is_filled chosen None) k (groups_in t.catalog))) (Some p)) f is))
+          absurd (subst (λ l. IsPrepared true t.schema g s x.table (nat_eq k place) l (Some p)) told (subst (λ b. IsPrepared b t.schema g s x.table (nat_eq k place) (slice_get changes.touched (count_before (is_filled chosen None) k (groups_in t.catalog))) (Some p)) f is))
       by true f (Some p) (Some l) told None s was same is c = absurd c
       by true f (Some p) (Some l) told (Some m) s was same is c =
-          let patch = subst (λ y. IsPrepared true t.schema g s x.table y (Some p)) told (subst (λ b. IsPrepared b t.schema g s x.table (slice_get changes.touched (count_before (is_filled chosen None) k (groups_in t.catalog))) (Some p)) f is) in
-          subst (λ b. IsViewed b reads.state g n x.table [] (Some m)) (sym f) (fresh_one k g s n x p m at was same held f l told patch c.0 c.1)
+          let patch = subst (λ y. IsPrepared true t.schema g s x.table (nat_eq k place) y (Some p)) told (subst (λ b. IsPrepared b t.schema g s x.table (nat_eq k place) (slice_get changes.touched (count_before (is_filled chosen None) k (groups_in t.catalog))) (Some p)) f is) in
+          subst (λ b. IsViewed b reads.state g n x.table (more_of k) (Some m)) (sym f) (fresh_one k g s n x p m at was kept same held f l told patch c.0 c.1)
 
 -- so it is in the tier with more room
 pub all_fresh : (drops : (state : TableState) (tree : Tree) → KeepsOthers state tree) (t new : Stored) (w mid : World) (sound : IsSound t) (stands : StandsFor t w) (since : Position) (copies : List Tree) (wants : List RowKey) (changes : Changes) (reads : ReadsState t w mid since copies wants changes)
-    (chosen : Choice) → asked_since chosen (groups_in t.catalog) ≡ Some since.0 → AllAlike (trees_of (is_filled chosen None) 0 (groups_in t.catalog)) copies → (patches : List (Option Patch)) → ArePatches t (is_filled chosen None) changes.touched patches
-    → IsRoomier t new → (made : List (Option Made)) → AllCame patches new.stores.items made → AreFresh new mid (is_filled chosen None) changes.position.0 made
-all_fresh drops t new w mid sound stands since copies wants changes reads chosen asks alike patches are room made came =
-    subst (λ y. AreFresh y mid (is_filled chosen None) changes.position.0 made) (sym room.rest) (record {
-      state = reads.state;
-      there = reads.there;
-      within = reads.within;
-      keyed = λ k g at. own_keys drops t w mid sound stands since copies wants changes reads chosen asks alike patches are new.stores.items room.stores made came k g at;
-      views = λ k g n x o at kept held made_o. views drops t w mid sound stands since copies wants changes reads chosen asks alike patches are new.stores.items room.stores made came k g n x o at kept held made_o;
+    (chosen : Choice) → asked_since chosen (groups_in t.catalog) ≡ Some since.0 → AllAlike (trees_of (is_filled chosen None) 0 (groups_in t.catalog)) copies → (patches : List (Option Patch)) (place : ℕ) (want : Option Want) → wants ≡ rows_wanted want → ArePatches t (is_filled chosen None) place changes.touched patches
+    → IsRoomier t new → (made : List (Option Made)) → AllCame patches new.stores.items made → AreGainedBy new mid (is_filled chosen None) place want changes.position.0 made
+all_fresh drops t new w mid sound stands since copies wants changes reads chosen asks alike patches place want asked are room made came =
+    subst (λ y. AreGainedBy y mid (is_filled chosen None) place want changes.position.0 made) (sym room.rest) (record {
+      more = gained_keys (record t { stores = new.stores }) place want reads.state;
+      gained = record {
+        state = reads.state;
+        there = reads.there;
+        within = reads.within;
+        keyed = λ k g at. own_keys drops t w mid sound stands since copies wants changes reads chosen asks alike patches place want asked are new room.stores made came k g at;
+        views = λ k g n x o at kept held made_o. views drops t w mid sound stands since copies wants changes reads chosen asks alike patches place want asked are new room.stores made came k g n x o at kept held made_o;
+      };
+      are = refl;
     })
 
 -- ---- and all is ready for its showing
 
-prepared_some : (b : Bool) (schema : List TableDef) (g : Group) (s : Kept) (hidden : Rattle.indexed_rows.specs.Rows.Table) (o : Option (List Touched)) (p : Patch) → IsPrepared b schema g s hidden o (Some p) → (told : List Touched) × IsPatchFor schema g s hidden told p
-prepared_some true schema g s hidden None p is = absurd is
-prepared_some true schema g s hidden (Some told) p is = (told, is)
-prepared_some false schema g s hidden o p is = cc
+prepared_some : (b : Bool) (schema : List TableDef) (g : Group) (s : Kept) (hidden : Rattle.indexed_rows.specs.Rows.Table) (gains : Bool) (o : Option (List Touched)) (p : Patch) → IsPrepared b schema g s hidden gains o (Some p) → (told : List Touched) × IsPatchFor schema g s hidden gains told p
+prepared_some true schema g s hidden gains None p is = absurd is
+prepared_some true schema g s hidden gains (Some told) p is = (told, is)
+prepared_some false schema g s hidden gains o p is = cc
 
-module _ (t new : Stored) (sound : IsSound t) (filled : Choice) (touched : List (List Touched)) (patches : List (Option Patch)) (are : ArePatches t filled touched patches) (room : IsRoomier t new) (have : HaveRoom patches new.stores.items) where
+module _ (t new : Stored) (sound : IsSound t) (filled : Choice) (place : ℕ) (touched : List (List Touched)) (patches : List (Option Patch)) (are : ArePatches t filled place touched patches) (room : IsRoomier t new) (have : HaveRoom patches new.stores.items) where
   patch_of : (k : ℕ) (g : Group) (p : Patch) (s : Kept) → slice_get (groups_in t.catalog) k ≡ Some g → slice_get patches k ≡ Some (Some p) → slice_get t.stores.items k ≡ Some s
-      → (x : RowsHeld) × (told : List Touched) × IsPatchFor t.schema g s x.table told p
+      → (x : RowsHeld) × (told : List Touched) × IsPatchFor t.schema g s x.table (nat_eq k place) told p
   patch_of k g p s at is was =
       let x = hidden_kept t k g sound at in
-      let one = prepared_some (filled k g) t.schema g s x.0.table (slice_get touched (count_before filled k (groups_in t.catalog))) p (are.each k g (Some p) at is g s x.0 at was x.1) in
+      let one = prepared_some (filled k g) t.schema g s x.0.table (nat_eq k place) (slice_get touched (count_before filled k (groups_in t.catalog))) p (are.each k g (Some p) at is g s x.0 at was x.1) in
       (x.0, one.0, one.1)
 
   pub all_ready : AreReady new patches
@@ -174,10 +226,11 @@ module _ (t new : Stored) (sound : IsSound t) (filled : Choice) (touched : List 
         let long : length n.layers ≡ length g.0.def.tree.children = ap length old.2.layers ∙ ap length form.layers ∙ length-map g.0.def.tree.children (layer_for t.schema) in
         record {
           room = have k p n is kept;
+          under = subst (λ columns. AreUnder columns p.cuts) (sym old.2.key) patch.2.cuts.under;
           fits = subst (λ m. FitTurns (m + 1) p.turns) (sym long) patch.2.turns.fit;
         };
     hiding = λ k g p n at is kept.
         let old = pairs_there t.stores.items new.stores.items k n room.stores kept in
         let patch = patch_of k g p old.0 at is old.1 in
-        subst (λ m. HidesNone t.schema g (m + count_turns p.turns) p.hidden) (sym (ap (λ ts. fm.len (kept_at ts 0)) old.2.tables)) patch.2.hiding;
+        subst (λ m. HidesNone t.schema g (m + (count_cuts p.cuts + count_turns p.turns)) p.hidden) (sym (ap (λ ts. fm.len (kept_at ts 0)) old.2.tables)) patch.2.hiding;
   })

@@ -4,7 +4,7 @@ use Rattle.std.proofs.lemmas.Bool.{cases_lt}
 use Rattle.std.specs.Prelude.{Result, Ok, Err, OnOk}
 use Rattle.std.specs.declared.alloc.AllocError.{AllocError}
 use Rattle.group_store.specs.Stores.{Kept, SameButSpare}
-use Rattle.changed_sets.specs.Turning.{count_turns}
+use Rattle.changed_sets.specs.Turning.{count_cuts, count_turns}
 use Rattle.changed_sets.specs.Reading.{HasRoomAt, HaveRoom}
 use Rattle.changed_sets.specs.Showing.{Pairs, PatchedAt}
 use Rattle.changed_sets.specs.declared.turns.Patch.{Patch}
@@ -59,11 +59,11 @@ got_set (x ∷ xs) zero y s lt at = cc
 got_set (x ∷ xs) (suc place) y s lt at = got_set xs place y s (omega (arith, lt)) at
 
 -- room was made for a patch
-pub room_made : (place : ℕ) (patches : List (Option Patch)) (xs : List Kept) (y : Kept) (p : Patch) (count : ℕ) (result : Result (Unit {0}) AllocError) → place < length xs → slice_get patches place ≡ Some (Some p) → count ≡ count_turns p.turns
+pub room_made : (place : ℕ) (patches : List (Option Patch)) (xs : List Kept) (y : Kept) (p : Patch) (count : ℕ) (result : Result (Unit {0}) AllocError) → place < length xs → slice_get patches place ≡ Some (Some p) → count ≡ count_cuts p.cuts + count_turns p.turns
     → OnOk result (count ≤ y.spare) → OnOk result (HasRoomAt place patches (slice_set xs place y))
 room_made place patches xs y p count (Ok done) lt here counted room = λ q s is at.
     let one : Some (Some p) ≡ Some (Some q) = sym here ∙ is in
     let same : p ≡ q = cc in
     let it : y ≡ s = got_set xs place y s lt at in
-    subst (λ z. count_turns q.turns ≤ z.spare) it (subst (λ z. count_turns z.turns ≤ y.spare) same (subst (λ m. m ≤ y.spare) counted room))
+    subst (λ z. count_cuts q.cuts + count_turns q.turns ≤ z.spare) it (subst (λ (z : Patch). count_cuts z.cuts + count_turns z.turns ≤ y.spare) same (subst (λ m. m ≤ y.spare) counted room))
 room_made place patches xs y p count (Err e) lt here counted room = room

@@ -10,7 +10,7 @@ use Rattle.stored_tier.proofs.StoreRows.{form_at}
 use Rattle.changed_sets.specs.Fresh.{AreFormed}
 use Rattle.changed_sets.specs.Showing.{AllCame, AreReady}
 use Rattle.changed_sets.specs.declared.turns.Patch.{Patch}
-use Rattle.changed_sets.proofs.ShowSteps.{came_some, turned_form, turned_hides}
+use Rattle.changed_sets.proofs.ShowSteps.{came_some, turned_has_form, turned_hides}
 
 module _ (t : Stored) (patches : List (Rattle.std.specs.Prelude.Option Patch)) (sound : IsSound t) (ready : AreReady t patches) (made : List (Rattle.std.specs.Prelude.Option Made)) (came : AllCame patches t.stores.items made) where
   there_too : {A B : Type 0} (xs : List A) (ys : List B) (k : ℕ) (a : A) → length ys ≡ length xs → slice_get xs k ≡ Some a → (b : B) × (slice_get ys k ≡ Some b)
@@ -25,14 +25,14 @@ module _ (t : Stored) (patches : List (Rattle.std.specs.Prelude.Option Patch)) (
     form = λ k g m at there.
         let (s, kept) = store_kept t k g sound at in
         let (p, is, turned, hid) = came_some patches t.stores.items made came k s m kept there in
-        let f = turned_form p s m.store turned in
+        let f = turned_has_form p s m.store turned in
         let form = form_at t.schema (groups_in t.catalog) t.stores.items k g s sound.kept at kept in
         record { table = f.table ∙ form.table; key = f.key ∙ form.key; foreign = f.foreign ∙ form.foreign; layers = f.layers ∙ form.layers };
     whole = λ k m there.
         let (g, at) = there_too made (groups_in t.catalog) k (Some m) (sym (came.long ∙ ready.long)) there in
         let (s, kept) = store_kept t k g sound at in
         let (p, is, turned, hid) = came_some patches t.stores.items made came k s m kept there in
-        let f = turned_form p s m.store turned in
+        let f = turned_has_form p s m.store turned in
         f.long ∙ sound.whole k s kept ∙ ap (λ ls. suc (length ls)) (sym f.layers);
     hiding = λ k g m at there.
         let (s, kept) = store_kept t k g sound at in

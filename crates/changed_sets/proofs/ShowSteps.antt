@@ -8,7 +8,7 @@ use Rattle.indexed_rows.specs.Rows.{Table, key_of, put_in}
 use Rattle.table_defs.specs.declared.definition.TableDef.{TableDef}
 use Rattle.instances.specs.Views.{kept_at}
 use Rattle.cache_store.specs.Operating.{change_at}
-use Rattle.group_store.specs.Stores.{Kept, count_all, cut_store, put_rows, put_store, put_tables}
+use Rattle.group_store.specs.Stores.{Kept, count_all, cut_store, put_rows, put_store, put_tables, renewed_store}
 use Rattle.group_store.specs.Trees.{keep, leads}
 use Rattle.slot_rows.specs.SlotKeys.{RowsHeld}
 use Rattle.cache_tier.specs.Groups.{Group}
@@ -19,9 +19,11 @@ use Rattle.stored_tier.specs.Refreshing.{exchanged, made_hidden, made_stores}
 use Rattle.stored_tier.specs.declared.refreshing.Made.{Made}
 use Rattle.stored_tier.proofs.PutLaws.{long_tables}
 use Rattle.changed_sets.specs.Showing.{AllCame, CameOf, HiddenBy, Patched, PatchedAt, TurnedBy}
-use Rattle.changed_sets.specs.Turning.{IsTurned, count_shown, count_turns, put_back, put_shown, taken_out, turned}
+use Rattle.changed_sets.specs.Turning.{IsTurned, count_cuts, count_shown, count_turns, cut_all, cut_by, put_back, put_shown}
+use Rattle.changed_sets.specs.declared.turns.Cut.{Cut}
 use Rattle.changed_sets.specs.declared.turns.Patch.{Patch}
 use Rattle.changed_sets.specs.declared.turns.Turn.{Turn}
+use Rattle.changed_sets.proofs.TurnSteps.{turned_form}
 
 -- ---- one place, and all of them
 
@@ -174,37 +176,44 @@ pub record HasForm (a b : Kept) : Type 0 where
   pub layers : b.layers ≡ a.layers
   pub long : length b.tables ≡ length a.tables
 
-same_form : (a : Kept) → HasForm a a
-same_form a = record { table = refl; key = refl; foreign = refl; layers = refl; long = refl }
-
-both_forms : (a b c : Kept) → HasForm a b → HasForm b c → HasForm a c
-both_forms a b c f g = record { table = g.table ∙ f.table; key = g.key ∙ f.key; foreign = g.foreign ∙ f.foreign; layers = g.layers ∙ f.layers; long = g.long ∙ f.long }
-
 keep_long : (test : ℕ → List Value → Bool) (ts : List Table) → length (keep test ts) ≡ length ts
 keep_long test [] = refl
 keep_long test (t ∷ ts) = ap suc (keep_long (λ place. test (suc place)) ts)
 
-out_form : (turns : List Turn) (s : Kept) → HasForm s (taken_out turns s)
-out_form [] s = same_form s
-out_form (t ∷ turns) s = both_forms s (cut_store 0 t.root s) (taken_out turns (cut_store 0 t.root s))
-    (record { table = refl; key = refl; foreign = refl; layers = refl; long = keep_long (λ place key. Rattle.std.proofs.Common.not (leads s.layers s.tables 0 t.root (length s.layers) place key)) s.tables })
-    (out_form turns (cut_store 0 t.root s))
+cut_long : (root : List Value) (s : Kept) → length (cut_store 0 root s).tables ≡ length s.tables
+cut_long root s = keep_long (λ place key. Rattle.std.proofs.Common.not (leads s.layers s.tables 0 root (length s.layers) place key)) s.tables
 
-shown_form : (rows : Option (List (List (List Value)))) (s : Kept) → HasForm s (put_shown rows s)
-shown_form None s = same_form s
-shown_form (Some rows) s =
-    let f = Rattle.stored_tier.proofs.PutLaws.form_tables 0 rows s in
-    record { table = f.table; key = f.key; foreign = f.foreign; layers = f.layers; long = long_tables 0 rows s }
+one_long : (bare : Option (List (List (List Value)))) (root : List Value) (s : Kept) → length (cut_by bare root s).tables ≡ length s.tables
+one_long None root s = cut_long root s
+one_long (Some rows) root s = by (fm.contains_key (kept_at s.tables 0) root)
+  where
+    by : (c : Bool) → length (cond c (renewed_store root rows s) (cut_store 0 root s)).tables ≡ length s.tables
+    by true = long_tables 0 rows (cut_store 0 root s) ∙ cut_long root s
+    by false = cut_long root s
 
-back_form : (turns : List Turn) (s : Kept) → HasForm s (put_back turns s)
-back_form [] s = same_form s
-back_form (t ∷ turns) s = both_forms s (put_shown t.rows s) (put_back turns (put_shown t.rows s)) (shown_form t.rows s) (back_form turns (put_shown t.rows s))
+cuts_long : (cuts : List Cut) (s : Kept) → length (cut_all cuts s).tables ≡ length s.tables
+cuts_long [] s = refl
+cuts_long (c ∷ cuts) s = cuts_long cuts (cut_by c.bare c.root s) ∙ one_long c.bare c.root s
 
-pub turned_form : (p : Patch) (s m : Kept) → IsTurned p s m → HasForm s m
-turned_form p s m is =
-    let f = both_forms s (taken_out p.turns s) (turned p.turns s) (out_form p.turns s) (back_form p.turns (taken_out p.turns s)) in
+shown_long : (rows : Option (List (List (List Value)))) (s : Kept) → length (put_shown rows s).tables ≡ length s.tables
+shown_long None s = refl
+shown_long (Some rows) s = long_tables 0 rows s
+
+back_long : (turns : List Turn) (s : Kept) → length (put_back turns s).tables ≡ length s.tables
+back_long [] s = refl
+back_long (t ∷ turns) s = back_long turns (put_shown t.rows s) ∙ shown_long t.rows s
+
+pub turned_has_form : (p : Patch) (s m : Kept) → IsTurned p s m → HasForm s m
+turned_has_form p s m is =
+    let f = turned_form p.cuts p.turns s in
     let same = is.store in
-    record { table = same.table ∙ f.table; key = same.key ∙ f.key; foreign = same.foreign ∙ f.foreign; layers = same.layers ∙ f.layers; long = ap length same.tables ∙ f.long }
+    record {
+      table = same.table ∙ f.table;
+      key = same.key ∙ f.key;
+      foreign = same.foreign ∙ f.foreign;
+      layers = same.layers ∙ f.layers;
+      long = ap length same.tables ∙ back_long p.turns (cut_all p.cuts s) ∙ cuts_long p.cuts s;
+    }
 
 -- ---- how many root rows there are
 
@@ -255,22 +264,36 @@ back_least (t ∷ turns) s =
     let one = shown_least t.rows s in
     omega (arith, rest, one)
 
-out_least : (turns : List Turn) (s : Kept) → fm.len (kept_at (taken_out turns s).tables 0) ≤ fm.len (kept_at s.tables 0)
-out_least [] s = omega arith
-out_least (t ∷ turns) s =
-    let rest = out_least turns (cut_store 0 t.root s) in
-    let one = first_kept (λ place key. Rattle.std.proofs.Common.not (leads s.layers s.tables 0 t.root (length s.layers) place key)) s.tables in
+cut_least : (root : List Value) (s : Kept) → fm.len (kept_at (cut_store 0 root s).tables 0) ≤ fm.len (kept_at s.tables 0)
+cut_least root s = first_kept (λ place key. Rattle.std.proofs.Common.not (leads s.layers s.tables 0 root (length s.layers) place key)) s.tables
+
+one_least : (bare : Option (List (List (List Value)))) (root : List Value) (s : Kept) → fm.len (kept_at (cut_by bare root s).tables 0) ≤ fm.len (kept_at s.tables 0) + count_shown bare
+one_least None root s = let one = cut_least root s in omega (arith, one)
+one_least (Some rows) root s = by (fm.contains_key (kept_at s.tables 0) root)
+  where
+    by : (c : Bool) → fm.len (kept_at (cond c (renewed_store root rows s) (cut_store 0 root s)).tables 0) ≤ fm.len (kept_at s.tables 0) + count_all rows
+    by true =
+        let put = tables_least 0 rows (cut_store 0 root s) in
+        let one = cut_least root s in
+        omega (arith, put, one)
+    by false = let one = cut_least root s in omega (arith, one)
+
+cuts_least : (cuts : List Cut) (s : Kept) → fm.len (kept_at (cut_all cuts s).tables 0) ≤ fm.len (kept_at s.tables 0) + count_cuts cuts
+cuts_least [] s = omega arith
+cuts_least (c ∷ cuts) s =
+    let rest = cuts_least cuts (cut_by c.bare c.root s) in
+    let one = one_least c.bare c.root s in
     omega (arith, rest, one)
 
-pub turned_least : (p : Patch) (s m : Kept) → IsTurned p s m → fm.len (kept_at m.tables 0) ≤ fm.len (kept_at s.tables 0) + count_turns p.turns
+pub turned_least : (p : Patch) (s m : Kept) → IsTurned p s m → fm.len (kept_at m.tables 0) ≤ fm.len (kept_at s.tables 0) + (count_cuts p.cuts + count_turns p.turns)
 turned_least p s m is =
-    let back = back_least p.turns (taken_out p.turns s) in
-    let out = out_least p.turns s in
+    let back = back_least p.turns (cut_all p.cuts s) in
+    let down = cuts_least p.cuts s in
     let same = ap (λ ts. fm.len (kept_at ts 0)) is.store.tables in
-    omega (arith, back, out, same)
+    omega (arith, back, down, same)
 
 -- so the new hidden rows are those of the new store
-pub turned_hides : (schema : List TableDef) (g : Group) (p : Patch) (s m : Kept) → HidesNone schema g (fm.len (kept_at s.tables 0) + count_turns p.turns) p.hidden → IsTurned p s m → IsHidingFor schema g m p.hidden
+pub turned_hides : (schema : List TableDef) (g : Group) (p : Patch) (s m : Kept) → HidesNone schema g (fm.len (kept_at s.tables 0) + (count_cuts p.cuts + count_turns p.turns)) p.hidden → IsTurned p s m → IsHidingFor schema g m p.hidden
 turned_hides schema g p s m hides is = record {
   key = hides.key;
   room = λ e. (let room = hides.room e in let least = turned_least p s m is in omega (arith, room, least));

@@ -1,48 +1,37 @@
 -- What a refresh by the changed instances shows.
-use Rattle.std.proofs.Common.{◌≡◌, ℕ, suc, Bool, true, false, ◌&&◌, ◌||◌, not, cond, Option, Some, None, List, [], ◌∷◌, map, slice_get, refl, sym, ap, subst, ◌∙◌}
+use Rattle.std.proofs.Common.{◌≡◌, ℕ, zero, suc, ◌+◌, Bool, true, false, ◌&&◌, ◌||◌, not, cond, Option, Some, None, is_some, List, [], ◌∷◌, length, map, slice_get, refl, sym, ap, subst, ◌∙◌}
+use Rattle.std.specs.Option.{option_or}
 use Rattle.std.specs.FinMap as fm
 use Rattle.row_types.specs.declared.value.Value.{Value}
-use Rattle.indexed_rows.specs.Rows.{is_same}
+use Rattle.indexed_rows.specs.Rows.{Table, is_same}
 use Rattle.indexed_rows.proofs.EntryLaws.{same_values}
 use Rattle.table_state.specs.Tables.{TableState}
 use Rattle.instances.specs.declared.tree.Tree.{Tree}
-use Rattle.instances.specs.Roots.{root_at}
 use Rattle.instances.specs.Trees.{is_sound}
-use Rattle.instances.specs.Views.{instance_of, kept_at, view_of}
+use Rattle.instances.specs.Views.{instance_of, kept_at, root_rows}
 use Rattle.outside.specs.Laws.{is_told}
 use Rattle.outside.specs.declared.changes.Touched.{Touched}
-use Rattle.outside.proofs.RowLaws.{is_same_self}
-use Rattle.cache_store.specs.Shown.{has_root, shown_of}
-use Rattle.cache_store.proofs.JoinLaws.{same_tables}
-use Rattle.cache_store.proofs.ShownLaws.{gets_chosen, shown_length, view_root}
-use Rattle.group_store.specs.Keeping.{IsFor, KeepsOthers, KeepsShown}
-use Rattle.group_store.specs.Stores.{Kept, cut_store, put_tables}
-use Rattle.changed_sets.specs.Told.{AreUnderKeys, ChoosesTold, ShowsChanged}
-use Rattle.changed_sets.specs.Turning.{put_back, put_shown, taken_out, turn_of, turned}
-use Rattle.changed_sets.proofs.KeyedLaws.{keeps_more}
+use Rattle.cache_store.specs.Shown.{shown_of, tables_with}
+use Rattle.cache_store.proofs.JoinLaws.{get_joined, length_joined, same_tables}
+use Rattle.cache_store.proofs.ShownLaws.{shown_length}
+use Rattle.group_store.specs.Keeping.{IsFor, KeepsShown}
+use Rattle.group_store.specs.Stores.{Kept, put_tables}
+use Rattle.stored_tier.proofs.PutLaws.{form_tables, shown_with, tables_put}
+use Rattle.changed_sets.specs.Told.{AreUnderKeys, ChoosesTold, ShowsChanged, TellsTree}
+use Rattle.changed_sets.specs.Turning.{cut_all, cut_of, put_back, put_shown, turn_of, turned}
+use Rattle.changed_sets.proofs.CutLaws.{cut_tables, tables_cut}
+use Rattle.changed_sets.proofs.KeyedLaws.{are_keyed}
+use Rattle.changed_sets.proofs.TurnSteps.{cut_form, turned_form}
+use Rattle.changed_sets.proofs.LeftLaws.{AreNow, Drops, Test, first_shown, is_chosen, left, same_shown}
+use Rattle.changed_sets.proofs.DownLaws.{IsCutDown, and_true, cut_down}
 
 abbrev Row : Type 0
 Row = List Value
 
-abbrev Test : Type 0
-Test = Row → Bool
-
-abbrev Drops : Type 0
-Drops = (state : TableState) (tree : Tree) → KeepsOthers state tree
-
--- the instances that were told leave the store, whatever they were
-abbrev without_told : List Touched → Kept → Kept
-without_told [] s = s
-without_told (t ∷ told) s = without_told told (cut_store 0 t.instance.root s)
-
--- those of them that are shown come in, as they are now
+-- those of the told instances that are shown come in, as they are now
 abbrev with_told : (Touched → Bool) → List Touched → Kept → Kept
 with_told shown [] s = s
 with_told shown (t ∷ told) s = with_told shown told (cond (shown t) (put_tables 0 (map fm.values t.instance.rows) s) s)
-
-out_same : (shown : Touched → Bool) (told : List Touched) (s : Kept) → taken_out (map (turn_of shown) told) s ≡ without_told told s
-out_same shown [] s = refl
-out_same shown (t ∷ told) s = out_same shown told (cut_store 0 t.instance.root s)
 
 back_same : (shown : Touched → Bool) (told : List Touched) (s : Kept) → put_back (map (turn_of shown) told) s ≡ with_told shown told s
 back_same shown [] s = refl
@@ -51,98 +40,6 @@ back_same shown (t ∷ told) s = ap (put_back (map (turn_of shown) told)) (by (s
     by : (b : Bool) → put_shown (cond b (Some (map fm.values t.instance.rows)) None) s ≡ cond b (put_tables 0 (map fm.values t.instance.rows) s) s
     by true = refl
     by false = refl
-
-turned_same : (shown : Touched → Bool) (told : List Touched) (s : Kept) → turned (map (turn_of shown) told) s ≡ with_told shown told (without_told told s)
-turned_same shown told s = ap (put_back (map (turn_of shown) told)) (out_same shown told s) ∙ back_same shown told (without_told told s)
-
--- ---- told instances leave
-
--- roots that pass, but for the told ones
-abbrev left : Test → List Touched → Test
-left p told k = p k && not (is_told told k)
-
-left_more : (p : Test) (t : Touched) (told : List Touched) → left (λ k. p k && not (is_same k t.instance.root)) told ≡ left p (t ∷ told)
-left_more p t told = λ i k. by (p k) (is_same k t.instance.root) (is_told told k) i
-  where
-    by : (a b c : Bool) → ((a && not b) && not c) ≡ (a && not (b || c))
-    by true true c = refl
-    by true false c = refl
-    by false b c = refl
-
-left_none : (p : Test) → left p [] ≡ p
-left_none p = λ i k. by (p k) i
-  where
-    by : (a : Bool) → (a && true) ≡ a
-    by true = refl
-    by false = refl
-
-left_shown : Drops → (state : TableState) (tree : Tree) (told : List Touched) (p : Test) (s : Kept) → KeepsShown state tree p s → KeepsShown state tree (left p told) (without_told told s)
-left_shown drops state tree [] p s keeps = subst (λ q. KeepsShown state tree q s) (sym (left_none p)) keeps
-left_shown drops state tree (t ∷ told) p s keeps =
-    subst (λ q. KeepsShown state tree q (without_told told (cut_store 0 t.instance.root s))) (left_more p t told)
-    (left_shown drops state tree told (λ k. p k && not (is_same k t.instance.root)) (cut_store 0 t.instance.root s) (drops state tree p t.instance.root s keeps))
-
--- the tables and keys of the tree stay
-left_form : (schema : List Rattle.table_defs.specs.declared.definition.TableDef.TableDef) (tree : Tree) (told : List Touched) (s : Kept) → IsFor schema tree s → IsFor schema tree (without_told told s)
-left_form schema tree [] s form = form
-left_form schema tree (t ∷ told) s form =
-    left_form schema tree told (cut_store 0 t.instance.root s) (record { table = form.table; key = form.key; foreign = form.foreign; layers = form.layers })
-
--- ---- the others are in the second state what they were
-
-none_of : {X : Type 0} (b : Bool) → ◌≡◌ {A = Option X} (cond b None None) None
-none_of true = refl
-none_of false = refl
-
--- of a value that is there only where a test passes, the test passes
-record IsThere (b : Bool) (v : Option Row) (row : Row) : Type 0 where
-  passes : b ≡ true
-  is : v ≡ Some row
-
-there : (b : Bool) (v : Option Row) (row : Row) → cond b v None ≡ Some row → IsThere b v row
-there true v row e = record { passes = refl; is = e }
-there false v row e = cc
-
--- the root that a shown row is reached from
-record HasRoot (s : TableState) (tree : Tree) (p : Test) (place : ℕ) (key row : Row) : Type 0 where
-  root : Row
-  reached : root_at s tree place key ≡ Some root
-  passes : p root ≡ true
-  viewed : fm.get (kept_at (view_of s tree) place) key ≡ Some row
-
-root_there : (s : TableState) (tree : Tree) (p : Test) (place : ℕ) (key row : Row) → fm.get (kept_at (shown_of s tree p) place) key ≡ Some row → HasRoot s tree p place key row
-root_there s tree p place key row e =
-    let is : IsThere (has_root p (root_at s tree place key)) (fm.get (kept_at (view_of s tree) place) key) row = there _ _ row (sym (gets_chosen s tree p place key) ∙ e) in
-    let r = view_root s tree place key row is.is in
-    record { root = r.0; reached = r.1; passes = ap (has_root p) (sym r.1) ∙ is.passes; viewed = is.is }
-
-shown_there : (s : TableState) (tree : Tree) (p : Test) (place : ℕ) (key row : Row) → HasRoot s tree p place key row → fm.get (kept_at (shown_of s tree p) place) key ≡ Some row
-shown_there s tree p place key row has =
-    gets_chosen s tree p place key
-    ∙ ap (λ b. cond b (fm.get (kept_at (view_of s tree) place) key) None) (ap (has_root p) has.reached ∙ has.passes)
-    ∙ has.viewed
-
--- a row that one state shows another one shows, too, where the instances of the roots are the same
-moves : (a b : TableState) (tree : Tree) (p : Test) (same : (root : Row) → p root ≡ true → instance_of b tree root ≡ instance_of a tree root) (place : ℕ) (key row : Row)
-    → fm.get (kept_at (shown_of a tree p) place) key ≡ Some row → fm.get (kept_at (shown_of b tree p) place) key ≡ Some row
-moves a b tree p same place key row e =
-    let has = root_there a tree p place key row e in
-    let own : fm.get (kept_at (instance_of a tree has.root) place) key ≡ Some row = shown_there a tree (λ k. is_same k has.root) place key row (record { root = has.root; reached = has.reached; passes = is_same_self has.root; viewed = has.viewed }) in
-    let other : HasRoot b tree (λ k. is_same k has.root) place key row = root_there b tree (λ k. is_same k has.root) place key row (ap (λ ts. fm.get (kept_at ts place) key) (same has.root has.passes) ∙ own) in
-    shown_there b tree p place key row (record { root = other.root; reached = other.reached; passes = ap p (same_values other.root has.root other.passes) ∙ has.passes; viewed = other.viewed })
-
-same_shown : (a b : TableState) (tree : Tree) (p : Test) → ((root : Row) → p root ≡ true → instance_of b tree root ≡ instance_of a tree root) → shown_of a tree p ≡ shown_of b tree p
-same_shown a b tree p same =
-    same_tables (shown_of a tree p) (shown_of b tree p) (shown_length a tree p ∙ sym (shown_length b tree p))
-    (λ place key. by place key (fm.get (kept_at (shown_of a tree p) place) key) refl (fm.get (kept_at (shown_of b tree p) place) key) refl)
-  where
-    by : (place : ℕ) (key : Row) (o : Option Row) → fm.get (kept_at (shown_of a tree p) place) key ≡ o → (u : Option Row) → fm.get (kept_at (shown_of b tree p) place) key ≡ u
-        → fm.get (kept_at (shown_of a tree p) place) key ≡ fm.get (kept_at (shown_of b tree p) place) key
-    by place key (Some row) e u f = e ∙ sym (moves a b tree p same place key row e)
-    by place key None e None f = e ∙ sym f
-    by place key None e (Some row) f = moves b a tree p (λ root passes. sym (same root passes)) place key row f ∙ sym f
-
--- ---- told instances come
 
 -- with the roots of those that are shown
 abbrev joined : Test → (Touched → Bool) → List Touched → Test
@@ -156,18 +53,57 @@ or_false p = λ i k. by (p k) i
     by true = refl
     by false = refl
 
-joined_shown : (state : TableState) (tree : Tree) → AreUnderKeys state → is_sound state.schema tree ≡ true
-    → (told : List Touched) → ((i : ℕ) (t : Touched) → slice_get told i ≡ Some t → t.instance.rows ≡ instance_of state tree t.instance.root)
-    → (shown : Touched → Bool) (p : Test) (s : Kept) → KeepsShown state tree p s → KeepsShown state tree (joined p shown told) (with_told shown told s)
-joined_shown state tree is sound [] now shown p s keeps = keeps
-joined_shown state tree is sound (t ∷ told) now shown p s keeps =
-    joined_shown state tree is sound told (λ i u at. now (suc i) u at) shown (λ k. p k || (shown t && is_same k t.instance.root)) (cond (shown t) (put_tables 0 (map fm.values t.instance.rows) s) s) (by (shown t))
-  where
-    by : (b : Bool) → KeepsShown state tree (λ k. p k || (b && is_same k t.instance.root)) (cond b (put_tables 0 (map fm.values t.instance.rows) s) s)
-    by true =
-        subst (λ rows. KeepsShown state tree (λ k. p k || is_same k t.instance.root) (put_tables 0 (map fm.values rows) s)) (sym (now 0 t refl))
-        (keeps_more state tree is sound p t.instance.root s keeps)
-    by false = subst (λ q. KeepsShown state tree q s) (sym (or_false p)) keeps
+-- the tables show instances of a state, and beside them root rows alone
+record IsBeside (s : TableState) (tree : Tree) (p bare : Test) (ts : List Table) : Type 0 where
+  long : length ts ≡ 1 + length tree.children
+  roots : (key : Row) → fm.get (kept_at ts 0) key ≡ fm.get (kept_at (shown_of s tree (λ k. p k || bare k)) 0) key
+  later : (i : ℕ) (key : Row) → fm.get (kept_at ts (suc i)) key ≡ fm.get (kept_at (shown_of s tree p) (suc i)) key
+
+module _ (state : TableState) (tree : Tree) (is : AreUnderKeys state) (sound : is_sound state.schema tree ≡ true) (bare : Test) where
+  one_joined : (root : Row) (p : Test) (s : Kept) → IsFor state.schema tree s → IsBeside state tree p bare s.tables → IsBeside state tree (λ k. p k || is_same k root) bare (put_tables 0 (map fm.values (instance_of state tree root)) s).tables
+  one_joined root p s form beside = record {
+    long = ap length put ∙ length_joined s.tables (instance_of state tree root) long ∙ beside.long;
+    roots = λ key. got 0 key ∙ ap (λ o. option_or o (fm.get (kept_at (instance_of state tree root) 0) key)) (beside.roots key) ∙ sym (of (λ k. p k || bare k) 0 key) ∙ ap (λ q. fm.get (kept_at (shown_of state tree q) 0) key) reordered;
+    later = λ i key. got (suc i) key ∙ ap (λ o. option_or o (fm.get (kept_at (instance_of state tree root) (suc i)) key)) (beside.later i key) ∙ sym (of p (suc i) key);
+  }
+    where
+      long : length s.tables ≡ length (instance_of state tree root)
+      long = beside.long ∙ sym (shown_length state tree (λ k. is_same k root))
+
+      put : (put_tables 0 (map fm.values (instance_of state tree root)) s).tables ≡ tables_with s.tables (instance_of state tree root)
+      put = tables_put (instance_of state tree root) s (are_keyed state tree is sound s form (λ k. is_same k root)) long
+
+      got : (i : ℕ) (key : Row) → fm.get (kept_at (put_tables 0 (map fm.values (instance_of state tree root)) s).tables i) key ≡ option_or (fm.get (kept_at s.tables i) key) (fm.get (kept_at (instance_of state tree root) i) key)
+      got i key = ap (λ ts. fm.get (kept_at ts i) key) put ∙ get_joined s.tables (instance_of state tree root) long i key
+
+      of : (q : Test) (i : ℕ) (key : Row) → fm.get (kept_at (shown_of state tree (λ k. q k || is_same k root)) i) key ≡ option_or (fm.get (kept_at (shown_of state tree q) i) key) (fm.get (kept_at (instance_of state tree root) i) key)
+      of q i key =
+          sym (ap (λ ts. fm.get (kept_at ts i) key) (shown_with state tree q (λ k. is_same k root)))
+          ∙ get_joined (shown_of state tree q) (instance_of state tree root) (shown_length state tree q ∙ sym (shown_length state tree (λ k. is_same k root))) i key
+
+      reordered : ◌≡◌ {A = Test} (λ k. (p k || bare k) || is_same k root) (λ k. (p k || is_same k root) || bare k)
+      reordered = λ i k. by (p k) (bare k) (is_same k root) i
+        where
+          by : (a b c : Bool) → ((a || b) || c) ≡ ((a || c) || b)
+          by true b c = refl
+          by false true true = refl
+          by false true false = refl
+          by false false true = refl
+          by false false false = refl
+
+  joined_beside : (told : List Touched) → AreNow state tree told → (shown : Touched → Bool) (p : Test) (s : Kept) → IsFor state.schema tree s → IsBeside state tree p bare s.tables → IsBeside state tree (joined p shown told) bare (with_told shown told s).tables
+  joined_beside [] now shown p s form beside = beside
+  joined_beside (t ∷ told) now shown p s form beside =
+      let one = by (shown t) in
+      joined_beside told (λ i u at. now (suc i) u at) shown (λ k. p k || (shown t && is_same k t.instance.root)) (cond (shown t) (put_tables 0 (map fm.values t.instance.rows) s) s) (formed (shown t)) one
+    where
+      formed : (b : Bool) → IsFor state.schema tree (cond b (put_tables 0 (map fm.values t.instance.rows) s) s)
+      formed true = let f = form_tables 0 (map fm.values t.instance.rows) s in record { table = f.table ∙ form.table; key = f.key ∙ form.key; foreign = f.foreign ∙ form.foreign; layers = f.layers ∙ form.layers }
+      formed false = form
+
+      by : (b : Bool) → IsBeside state tree (λ k. p k || (b && is_same k t.instance.root)) bare (cond b (put_tables 0 (map fm.values t.instance.rows) s) s).tables
+      by true = subst (λ rows. IsBeside state tree (λ k. p k || is_same k t.instance.root) bare (put_tables 0 (map fm.values rows) s).tables) (sym (now 0 t refl)) (one_joined t.instance.root p s form beside)
+      by false = subst (λ q. IsBeside state tree q bare s.tables) (sym (or_false p)) beside
 
 -- these are the told ones that are shown, beside the others
 joined_is : (now : Test) (shown : Touched → Bool) (told : List Touched) → ((i : ℕ) (t : Touched) → slice_get told i ≡ Some t → shown t ≡ now t.instance.root)
@@ -198,11 +134,25 @@ joined_is now shown (t ∷ told) same p k =
     by false true c d = refl
     by false false c d = refl
 
+-- so are the root rows that were left
+chosen_now : (now : Test) (shown : Touched → Bool) (told : List Touched) → ((i : ℕ) (t : Touched) → slice_get told i ≡ Some t → shown t ≡ now t.instance.root) → (k : Row) → is_chosen shown told k ≡ true → now k ≡ true
+chosen_now now shown [] same k e = cc
+chosen_now now shown (t ∷ told) same k e = by (shown t) (same 0 t refl) (is_same k t.instance.root) refl e (chosen_now now shown told (λ i u at. same (suc i) u at) k)
+  where
+    by : (a : Bool) → a ≡ now t.instance.root → (b : Bool) → is_same k t.instance.root ≡ b → ((a && b) || is_chosen shown told k) ≡ true → (is_chosen shown told k ≡ true → now k ≡ true) → now k ≡ true
+    by true f true g h rest = ap now (same_values k t.instance.root g) ∙ sym f
+    by true f false g h rest = rest h
+    by false f b g h rest = rest h
+
 -- ---- so all that are shown then are shown
 
-module _ (drops : Drops) (from to : TableState) (tree : Tree) where
-  all_is : (told : List Touched) (shown : Touched → Bool) (was now : Test) → ChoosesTold told shown was now → joined (left was told) shown told ≡ now
-  all_is told shown was now chooses = λ i k. each k i
+module _ (drops : Drops) (from to : TableState) (tree : Tree) (told : List Touched) (shown : Touched → Bool) (was now : Test) (s : Kept) (is : AreUnderKeys to) (sound : is_sound to.schema tree ≡ true) (form : IsFor to.schema tree s) (tells : TellsTree from to tree told)
+    (chooses : ChoosesTold told shown was now) (keeps_shown : KeepsShown from tree was s) where
+  abbrev cut : Kept
+  cut = cut_all (map (cut_of shown) told) s
+
+  all_is : joined (left was told) shown told ≡ now
+  all_is = λ i k. each k i
     where
       by : (b : Bool) (w n : Bool) → (b ≡ false → n ≡ w) → ((w && not b) || (n && b)) ≡ n
       by true true true same = refl
@@ -216,18 +166,109 @@ module _ (drops : Drops) (from to : TableState) (tree : Tree) where
       each : (k : Row) → joined (left was told) shown told k ≡ now k
       each k = joined_is now shown told chooses.chosen (left was told) k ∙ by (is_told told k) (was k) (now k) (λ e. chooses.others k e)
 
-  pub shows_changed : ShowsChanged from to tree
-  shows_changed told shown was now s is sound form tells chooses keeps =
-      let kept : KeepsShown from tree (left was told) (without_told told s) = left_shown drops from tree told was s keeps in
-      let stay : KeepsShown to tree (left was told) (without_told told s) = record {
-        form = left_form to.schema tree told s form;
-        tables = kept.tables ∙ same_shown from to tree (left was told) (λ root passes. tells.stays root (not_told (was root) (is_told told root) passes));
-      } in
-      subst (KeepsShown to tree now) (sym (turned_same shown told s))
-      (subst (λ q. KeepsShown to tree q (with_told shown told (without_told told s))) (all_is told shown was now chooses)
-      (joined_shown to tree is sound told (λ i t at. ap (λ (x : Rattle.outside.specs.declared.site.Instance.Instance). x.rows) (tells.now i t at)) shown (left was told) (without_told told s) stay))
+  rows_now : AreNow to tree told
+  rows_now i t at = ap (λ (x : Rattle.outside.specs.declared.site.Instance.Instance). x.rows) (tells.now i t at)
+
+  down : IsCutDown drops from to tree is sound s form keeps_shown.form shown told was s.tables (cut_tables s.layers s.key shown told s.tables)
+  down = cut_down drops from to tree is sound s form keeps_shown.form shown told tells.once rows_now was s.tables keeps_shown.tables
+
+  stay : shown_of from tree (left was told) ≡ shown_of to tree (left was told)
+  stay = same_shown from to tree (left was told) (λ root passes. tells.stays root (not_told (was root) (is_told told root) passes))
     where
       not_told : (a b : Bool) → (a && not b) ≡ true → b ≡ false
       not_told true true e = cc
       not_told true false e = refl
       not_told false b e = cc
+
+  beside : IsBeside to tree (left was told) down.bare cut.tables
+  beside = subst (IsBeside to tree (left was told) down.bare) (sym (tables_cut shown told s)) (record {
+    long = down.long;
+    roots = λ key.
+        down.roots key
+        ∙ ap (λ ts. option_or (fm.get (kept_at ts 0) key) (cond (down.bare key) (fm.get (root_rows to tree.root) key) None)) stay
+        ∙ ap (λ o. option_or o (cond (down.bare key) (fm.get (root_rows to tree.root) key) None)) (first_shown to tree (left was told) key)
+        ∙ either (left was told key) (down.bare key) (fm.get (root_rows to tree.root) key)
+        ∙ sym (first_shown to tree (λ k. left was told k || down.bare k) key);
+    later = λ i key. down.later i key ∙ ap (λ ts. fm.get (kept_at ts (suc i)) key) stay;
+  })
+    where
+      either : (a b : Bool) (v : Option Row) → option_or (cond a v None) (cond b v None) ≡ cond (a || b) v None
+      either true true None = refl
+      either true true (Some x) = refl
+      either true false None = refl
+      either true false (Some x) = refl
+      either false b v = refl
+
+  form_cut : IsFor to.schema tree cut
+  form_cut = let f = cut_form (map (cut_of shown) told) s in record { table = f.table ∙ form.table; key = f.key ∙ form.key; foreign = f.foreign ∙ form.foreign; layers = f.layers ∙ form.layers }
+
+  pub all_shown : (turned (map (cut_of shown) told) (map (turn_of shown) told) s).tables ≡ shown_of to tree now
+  all_shown =
+      ap (λ (x : Kept). x.tables) (back_same shown told cut)
+      ∙ same_tables (with_told shown told cut).tables (shown_of to tree now) (then_.long ∙ sym (shown_length to tree now)) at
+    where
+      then_ : IsBeside to tree now down.bare (with_told shown told cut).tables
+      then_ = subst (λ q. IsBeside to tree q down.bare (with_told shown told cut).tables) all_is
+          (joined_beside to tree is sound down.bare told rows_now shown (left was told) cut form_cut beside)
+
+      among : ◌≡◌ {A = Test} (λ k. now k || down.bare k) now
+      among = λ i k. by (now k) refl (down.bare k) refl i
+        where
+          by : {k : Row} (a : Bool) → now k ≡ a → (b : Bool) → down.bare k ≡ b → (a || b) ≡ a
+          by true e b f = refl
+          by {k} false e true f = let wrong : true ≡ false = sym (chosen_now now shown told chooses.chosen k (down.within k f)) ∙ e in cc
+          by false e false f = refl
+
+      at : (i : ℕ) (key : Row) → fm.get (kept_at (with_told shown told cut).tables i) key ≡ fm.get (kept_at (shown_of to tree now) i) key
+      at zero key = then_.roots key ∙ ap (λ q. fm.get (kept_at (shown_of to tree q) 0) key) among
+      at (suc i) key = then_.later i key
+
+  -- a root row that was there, and is shown then, stays where others are cut down
+  pub stays_there : (k row : Row) → now k ≡ true → fm.get (root_rows to tree.root) k ≡ Some row → fm.contains_key (kept_at s.tables 0) k ≡ true → fm.contains_key (kept_at cut.tables 0) k ≡ true
+  stays_there k row shows has there_before =
+      ap (λ ts. fm.contains_key (kept_at ts 0) k) (tables_cut shown told s)
+      ∙ ap is_some (down.roots k)
+      ∙ by (is_told told k) refl
+    where
+      was_shown : is_some (cond (was k) (fm.get (root_rows from tree.root) k) None) ≡ true
+      was_shown = sym (ap is_some (first_shown from tree was k)) ∙ sym (ap (λ ts. fm.contains_key (kept_at ts 0) k) keeps_shown.tables) ∙ there_before
+
+      some_or : (a b : Option Row) → is_some b ≡ true → is_some (option_or a b) ≡ true
+      some_or None b e = e
+      some_or (Some x) b e = refl
+
+      first_or : (a b : Option Row) → is_some a ≡ true → is_some (option_or a b) ≡ true
+      first_or None b e = cc
+      first_or (Some x) b e = refl
+
+      found : (told : List Touched) → is_told told k ≡ true → (i : ℕ) × (t : Touched) × (slice_get told i ≡ Some t) × (k ≡ t.instance.root)
+      found [] e = cc
+      found (t ∷ more) e = of (is_same k t.instance.root) refl e (found more)
+        where
+          of : (b : Bool) → is_same k t.instance.root ≡ b → (b || is_told more k) ≡ true → (is_told more k ≡ true → (i : ℕ) × (u : Touched) × (slice_get more i ≡ Some u) × (k ≡ u.instance.root)) → (i : ℕ) × (u : Touched) × (slice_get (t ∷ more) i ≡ Some u) × (k ≡ u.instance.root)
+          of true f g rest = (0, t, refl, same_values k t.instance.root f)
+          of false f g rest = let r = rest g in (suc r.0, r.1, r.2, r.3)
+
+      by : (b : Bool) → is_told told k ≡ b → is_some (option_or (fm.get (kept_at (shown_of from tree (left was told)) 0) k) (cond (down.bare k) (fm.get (root_rows to tree.root) k) None)) ≡ true
+      by false e =
+          first_or (fm.get (kept_at (shown_of from tree (left was told)) 0) k) (cond (down.bare k) (fm.get (root_rows to tree.root) k) None)
+          (ap is_some (first_shown from tree (left was told) k)
+          ∙ ap (λ b. is_some (cond (was k && not b) (fm.get (root_rows from tree.root) k) None)) e
+          ∙ ap (λ b. is_some (cond b (fm.get (root_rows from tree.root) k) None)) (and_true (was k))
+          ∙ was_shown)
+      by true e =
+          let f = found told e in
+          let same : k ≡ f.1.instance.root = f.3 in
+          let bare : down.bare k ≡ true =
+          ap down.bare same
+          ∙ down.kept f.0 f.1 f.2 (chooses.chosen f.0 f.1 f.2 ∙ ap now (sym same) ∙ shows) row (ap (fm.get (root_rows to tree.root)) (sym same) ∙ has) (ap (fm.contains_key (kept_at s.tables 0)) (sym same) ∙ there_before) in
+          some_or (fm.get (kept_at (shown_of from tree (left was told)) 0) k) (cond (down.bare k) (fm.get (root_rows to tree.root) k) None)
+          (λ i. is_some (cond (bare i) (has i) None))
+
+pub shows_changed : (drops : Drops) (from to : TableState) (tree : Tree) → ShowsChanged from to tree
+shows_changed drops from to tree told shown was now s is sound form tells chooses keeps_shown =
+    let f = turned_form (map (cut_of shown) told) (map (turn_of shown) told) s in
+    record {
+      form = record { table = f.table ∙ form.table; key = f.key ∙ form.key; foreign = f.foreign ∙ form.foreign; layers = f.layers ∙ form.layers };
+      tables = all_shown drops from to tree told shown was now s is sound form tells chooses keeps_shown;
+    }

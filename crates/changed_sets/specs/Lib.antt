@@ -1,5 +1,6 @@
 pub mod Alike
 pub mod Fresh
+pub mod Gains
 pub mod Preparing
 pub mod Reading
 pub mod Showing

@@ -12,7 +12,7 @@ use Rattle.stored_tier.specs.Filling.{HidesNone}
 use Rattle.stored_tier.specs.declared.refreshing.Made.{Made}
 use Rattle.stored_tier.specs.declared.tier.Tier.{Tier as Stored}
 use Rattle.changed_sets.specs.Fresh.{AreFormed, IsExchanged}
-use Rattle.changed_sets.specs.Turning.{IsReadyFor, IsTurned, count_turns}
+use Rattle.changed_sets.specs.Turning.{IsReadyFor, IsTurned, count_cuts, count_turns}
 use Rattle.changed_sets.specs.declared.turns.Patch.{Patch}
 
 -- two lists, pair by pair
@@ -72,7 +72,7 @@ pub record AreReady (t : Stored) (patches : List (Option Patch)) : Type 0 where
       → IsReadyFor s p
   pub hiding : (k : ℕ) (g : Group) (p : Patch) (s : Kept) → slice_get (groups_in t.catalog) k ≡ Some g
       → slice_get patches k ≡ Some (Some p) → slice_get t.stores.items k ≡ Some s
-      → HidesNone t.schema g (len (kept_at s.tables 0) + count_turns p.turns) p.hidden
+      → HidesNone t.schema g (len (kept_at s.tables 0) + (count_cuts p.cuts + count_turns p.turns)) p.hidden
 
 -- the patches are done, and the chosen groups are at the position; all else stays
 pub record ShowsPatches (old new : Stored) (chosen : Choice) (n : ℕ) (patches : List (Option Patch)) : Type 0 where

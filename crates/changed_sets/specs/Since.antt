@@ -6,7 +6,7 @@ use Rattle.instances.specs.declared.tree.Tree.{Tree}
 use Rattle.instances.specs.Trees.{is_place}
 use Rattle.sql_subset.specs.declared.stmt.RefreshMode.{RefreshMode}
 use Rattle.sql_subset.specs.declared.stmt.RefreshMode.TheVariants.{Full, Incremental}
-use Rattle.cache_tier.specs.Groups.{Group, is_read_only}
+use Rattle.cache_tier.specs.Groups.{Group, is_on, is_read_only}
 use Rattle.cache_tier.specs.Sets.{Choice}
 use Rattle.stored_tier.specs.Lists.{is_by_use}
 use Rattle.stored_tier.specs.Refreshing.{is_filled}
@@ -15,14 +15,18 @@ abbrev pub is_full : RefreshMode → Bool
 is_full Incremental = false
 is_full Full = true
 
--- a READONLY group of MODE INCREMENTAL whose instances don't leave by last use
+-- A READONLY group of MODE INCREMENTAL. Where its instances leave by last use it is dynamic: of an explicit one those that
+-- are new at the bank would come as the newest.
 abbrev pub goes_by_changes : Group → Bool
-goes_by_changes g = is_read_only g && not (is_full g.def.mode) && not (is_by_use g.def.aging)
+goes_by_changes g =
+    is_read_only g && not (is_full g.def.mode) && (g.def.dynamic || not (is_by_use g.def.aging))
 
--- where the group is chosen, it goes by changes, and where it keeps rows it is at this position
+-- Where the group is chosen, it goes by changes, and where it keeps rows its STATE is ON, and it is at this position. (The
+-- bank keeps what changed since the positions of groups that are ON.)
 abbrev pub is_ready_since : Choice → ℕ → ℕ → Group → Bool
 is_ready_since chosen n place g =
-    not (chosen place g) || (goes_by_changes g && (not (g.def.dynamic || g.loaded) || is_place n g.position))
+    not (chosen place g)
+    || (goes_by_changes g && (not (g.def.dynamic || g.loaded) || (is_on g.state && is_place n g.position)))
 
 -- so it is of each, from a place on
 abbrev pub are_ready_since : Choice → ℕ → ℕ → List Group → Bool

@@ -1,6 +1,6 @@
 //! What becomes of the chosen groups, made ready.
 
-ghost use Rattle.std.specs.Prelude.{◌≡◌, ◌≤◌, ◌+◌, IfOk, IsTrue, None, length, map, slice_get};
+ghost use Rattle.std.specs.Prelude.{◌≡◌, ◌≤◌, ◌+◌, IfOk, IsTrue, None, Some, length, map, nat_eq, slice_get};
 ghost use Rattle.group_store.specs.Stores.{count_all};
 ghost use Rattle.std.specs.FinMap as finite;
 ghost use Rattle.std.specs.Option.{option_copied};
@@ -11,13 +11,13 @@ ghost use Rattle.group_catalog.specs.Kept.{group_seen};
 ghost use Rattle.stored_tier.specs.Filling.{is_held};
 ghost use Rattle.stored_tier.specs.Refreshing.{choice_of, is_chosen_in, is_filled};
 ghost use Rattle.changed_sets.specs.Preparing.{ArePatches, IsPatchOf};
-ghost use Rattle.changed_sets.specs.Turning.{IsPatchFor, IsTurnFor, AreTurns, count_turns, count_shown, is_shown_told};
+ghost use Rattle.changed_sets.specs.Turning.{IsBareUnder, IsCutFor, IsPatchFor, IsOneUnder, IsTurnFor, AreCuts, AreTurns, bare_of, count_cuts, count_turns, count_shown, is_shown_told};
 
 use crate::since::keeps_rows;
-use crate::turns::{Patch, Turn};
+use crate::turns::{Cut, Patch, Turn};
 use group_catalog::KeptGroup;
 use group_store::Store;
-use indexed_rows::Rows;
+use indexed_rows::{Rows, key_at};
 use instances::Tree;
 use outside::{Instance, Touched};
 use row_types::{Key, Row};
@@ -29,21 +29,25 @@ use stored_tier::tier::Tier;
 use table_defs::BackingSchema;
 use tier_base::Seq;
 
-/// What becomes of the chosen groups that keep rows, of which these instances were told; nothing of the others. It fails
-/// for want of memory, and where the bank told of fewer trees, or of more tables than a tree has.
+/// What becomes of the chosen groups that keep rows, of which these instances were told; nothing of the others. The one at
+/// a place gains what is wanted. It fails for want of memory, and where the bank told of fewer trees, of more tables than
+/// a tree has, or of a root row under another key.
 pub(crate) fn prepare(
     alloc: Global,
     tier: &Tier,
     chosen: Chosen,
+    gaining: usize,
     touched: &[Seq<Touched>],
 ) -> Result<Vec<Option<Patch>>, AllocError>
-    ensures { IfOk result (λ patches. ArePatches tier.now (is_filled (choice_of chosen) None) touched.now patches.items) }
+    ensures { IfOk result (λ patches. ArePatches tier.now (is_filled (choice_of chosen) None) gaining
+        touched.now patches.items) }
 {
     let mut patches = Vec::new(alloc);
     let mut at = 0;
     for place in 0..tier.catalog.len() {
         let filled = is_filled_at(tier, chosen, place);
-        let patch = patch_at(alloc, tier, place, filled, told_at(touched, at))?;
+        let told = told_at(touched, at);
+        let patch = patch_at(alloc, tier, place, filled, place == gaining, told)?;
         patches.push(patch)?;
         if filled {
             at += 1;
@@ -74,9 +78,10 @@ fn patch_at(
     tier: &Tier,
     place: usize,
     filled: bool,
+    gains: bool,
     told: Option<&Seq<Touched>>,
 ) -> Result<Option<Patch>, AllocError>
-    ensures { IfOk result (IsPatchOf tier.now filled place (option_copied told.entry)) }
+    ensures { IfOk result (IsPatchOf tier.now filled gains place (option_copied told.entry)) }
 {
     match tier.catalog.get(place) {
         None => Err(AllocError),
@@ -97,6 +102,7 @@ fn patch_at(
                                 group,
                                 store,
                                 hidden,
+                                gains,
                                 told.as_slice(),
                             )?;
                             Ok(Some(patch))
@@ -114,21 +120,106 @@ fn patch_for(
     group: &KeptGroup,
     store: &Store,
     hidden: &SlotRows,
+    gains: bool,
     told: &[Touched],
 ) -> Result<Patch, AllocError>
     ensures { IfOk result
-        (IsPatchFor schema.now (group_seen group.now) store.now hidden.now.table told.now) }
+        (IsPatchFor schema.now (group_seen group.now) store.now hidden.now.table gains told.now) }
 {
     store.keys_law();
-    let turns = turns_of(alloc, group, store, hidden, told)?;
-    let count = count_turns(turns.as_slice())?;
+    let cuts = cuts_of(alloc, group, store, hidden, gains, told)?;
+    let turns = turns_of(alloc, group, store, hidden, gains, told)?;
+    let count = count_both(cuts.as_slice(), turns.as_slice())?;
     match store.len(0).checked_add(count) {
         None => Err(AllocError),
         Some(roots) => {
             let hidden = none_hidden(alloc, schema, group, roots)?;
-            Ok(Patch { turns, hidden })
+            Ok(Patch {
+                cuts,
+                turns,
+                hidden,
+            })
         }
     }
+}
+
+fn cuts_of(
+    alloc: Global,
+    group: &KeptGroup,
+    store: &Store,
+    hidden: &SlotRows,
+    gains: bool,
+    told: &[Touched],
+) -> Result<Seq<Cut>, AllocError>
+    ensures { IfOk result (AreCuts (group_seen group.now) store.now hidden.now.table gains told.now) }
+{
+    let mut cuts = Vec::with_capacity(alloc, told.len())?;
+    for touched in told {
+        let cut = cut_for(alloc, group, store, hidden, gains, touched)?;
+        cuts.push(cut)?;
+    }
+    Ok(Seq::from_vec(cuts))
+}
+
+fn cut_for(
+    alloc: Global,
+    group: &KeptGroup,
+    store: &Store,
+    hidden: &SlotRows,
+    gains: bool,
+    touched: &Touched,
+) -> Result<Cut, AllocError>
+    ensures { IfOk result (IsCutFor (group_seen group.now) store.now hidden.now.table gains touched.now) }
+{
+    let root = touched.instance.root.copied(alloc)?;
+    if !is_shown_told(group, store, hidden, gains, touched) {
+        return Ok(Cut { root, bare: None });
+    }
+    let bare = bare_of(alloc, store.key(), &touched.instance)?;
+    Ok(Cut { root, bare })
+}
+
+// The root row of an instance alone, where it has one.
+fn bare_of(
+    alloc: Global,
+    columns: &[usize],
+    instance: &Instance,
+) -> Result<Option<Seq<Seq<Row>>>, AllocError>
+    ensures bare { IfOk result (λ bare. bare
+        ≡ bare_of (finite.get (kept_at instance.now.rows 0) instance.now.root)) }
+    ensures under { IfOk result (λ bare. IsBareUnder columns.now instance.now.root bare) }
+{
+    match instance.rows.get(0) {
+        None => Ok(None),
+        Some(rows) => match rows.get(&instance.root) {
+            None => Ok(None),
+            Some(row) => {
+                let bare = one_under(alloc, columns, &instance.root, row)?;
+                Ok(Some(bare))
+            }
+        },
+    }
+}
+
+// A row alone, where it stands under its key.
+fn one_under(
+    alloc: Global,
+    columns: &[usize],
+    root: &Key,
+    row: &Row,
+) -> Result<Seq<Seq<Row>>, AllocError>
+    ensures bare { IfOk result (λ bare. Some bare ≡ bare_of (Some row.now)) }
+    ensures under { IfOk result (IsOneUnder columns.now root.now) }
+{
+    let key = key_at(alloc, columns, row)?;
+    if !key.same(root) {
+        return Err(AllocError);
+    }
+    let mut rows = Vec::new(alloc);
+    rows.push(row.copied(alloc)?)?;
+    let mut tables = Vec::new(alloc);
+    tables.push(Seq::from_vec(rows))?;
+    Ok(Seq::from_vec(tables))
 }
 
 fn turns_of(
@@ -136,13 +227,14 @@ fn turns_of(
     group: &KeptGroup,
     store: &Store,
     hidden: &SlotRows,
+    gains: bool,
     told: &[Touched],
 ) -> Result<Seq<Turn>, AllocError>
-    ensures { IfOk result (AreTurns (group_seen group.now) store.now hidden.now.table told.now) }
+    ensures { IfOk result (AreTurns (group_seen group.now) store.now hidden.now.table gains told.now) }
 {
     let mut turns = Vec::with_capacity(alloc, told.len())?;
     for touched in told {
-        let turn = turn_for(alloc, group, store, hidden, touched)?;
+        let turn = turn_for(alloc, group, store, hidden, gains, touched)?;
         turns.push(turn)?;
     }
     Ok(Seq::from_vec(turns))
@@ -153,30 +245,35 @@ fn turn_for(
     group: &KeptGroup,
     store: &Store,
     hidden: &SlotRows,
+    gains: bool,
     touched: &Touched,
 ) -> Result<Turn, AllocError>
-    ensures { IfOk result (IsTurnFor (group_seen group.now) store.now hidden.now.table touched.now) }
+    ensures { IfOk result (IsTurnFor (group_seen group.now) store.now hidden.now.table gains touched.now) }
 {
-    let root = touched.instance.root.copied(alloc)?;
-    if !is_shown_told(group, store, hidden, touched) {
-        return Ok(Turn { root, rows: None });
+    if !is_shown_told(group, store, hidden, gains, touched) {
+        return Ok(Turn { rows: None });
     }
     let tables = touched.instance.rows.as_slice();
     if !fits(&group.def.tree, tables) {
         return Err(AllocError);
     }
     let rows = listed(alloc, tables)?;
-    Ok(Turn {
-        root,
-        rows: Some(rows),
-    })
+    Ok(Turn { rows: Some(rows) })
 }
 
 // Whether an instance that was told is shown then.
-fn is_shown_told(group: &KeptGroup, store: &Store, hidden: &SlotRows, touched: &Touched) -> bool
-    ensures { result ≡ is_shown_told (group_seen group.now) store.now hidden.now.table touched.now }
+fn is_shown_told(
+    group: &KeptGroup,
+    store: &Store,
+    hidden: &SlotRows,
+    gains: bool,
+    touched: &Touched,
+) -> bool
+    ensures { result ≡ is_shown_told (group_seen group.now) store.now hidden.now.table gains touched.now }
 {
-    (!group.def.dynamic || is_held(store, hidden, &touched.instance.root))
+    (!group.def.dynamic
+        || is_held(store, hidden, &touched.instance.root)
+        || gains && touched.wanted)
         && is_past(group, &touched.instance)
 }
 
@@ -234,21 +331,42 @@ fn listed_rows(alloc: Global, rows: &Rows) -> Result<Seq<Row>, AllocError>
     Ok(Seq::from_vec(list))
 }
 
-// How many rows come in.
-pub(crate) fn count_turns(turns: &[Turn]) -> Result<usize, AllocError>
-    ensures { IfOk result (λ count. count ≡ count_turns turns.now) }
+// How many rows come in, at first and then.
+pub(crate) fn count_both(cuts: &[Cut], turns: &[Turn]) -> Result<usize, AllocError>
+    ensures { IfOk result (λ count. count ≡ count_cuts cuts.now + count_turns turns.now) }
+{
+    let first = count_cuts(cuts)?;
+    let then = count_turns(turns)?;
+    match first.checked_add(then) {
+        None => Err(AllocError),
+        Some(count) => Ok(count),
+    }
+}
+
+fn count_cuts(cuts: &[Cut]) -> Result<usize, AllocError>
+    ensures { IfOk result (λ count. count ≡ count_cuts cuts.now) }
 {
     let mut count = 0;
-    for turn in turns {
-        count = count_more(count, turn)?;
+    for cut in cuts {
+        count = count_more(count, &cut.bare)?;
     }
     Ok(count)
 }
 
-fn count_more(count: usize, turn: &Turn) -> Result<usize, AllocError>
-    ensures { IfOk result (λ more. more ≡ count + count_shown turn.now.rows) }
+fn count_turns(turns: &[Turn]) -> Result<usize, AllocError>
+    ensures { IfOk result (λ count. count ≡ count_turns turns.now) }
 {
-    match &turn.rows {
+    let mut count = 0;
+    for turn in turns {
+        count = count_more(count, &turn.rows)?;
+    }
+    Ok(count)
+}
+
+fn count_more(count: usize, rows: &Option<Seq<Seq<Row>>>) -> Result<usize, AllocError>
+    ensures { IfOk result (λ more. more ≡ count + count_shown rows.now) }
+{
+    match rows {
         None => Ok(count),
         Some(tables) => {
             let more = count_all(tables.as_slice())?;

@@ -6,7 +6,7 @@ ghost use Rattle.group_store.specs.Stores.{SameButSpare};
 ghost use Rattle.changed_sets.specs.Reading.{HasRoomAt, HaveRoom};
 ghost use Rattle.changed_sets.specs.Showing.{Pairs, PatchedAt};
 
-use crate::preparing::count_turns;
+use crate::preparing::count_both;
 use crate::turns::Patch;
 use group_store::Store;
 use std::alloc::{AllocError, Global};
@@ -41,7 +41,7 @@ fn room_at(
         Some(patch) => match patch {
             None => Ok(()),
             Some(patch) => {
-                let count = count_turns(patch.turns.as_slice())?;
+                let count = count_both(patch.cuts.as_slice(), patch.turns.as_slice())?;
                 stores[place].reserve(alloc, count)
             }
         },

@@ -43,8 +43,8 @@ impl Changed {
     }
 }
 
-/// What changed is shown: told instances leave their stores, and those of them that are shown then come in; no root row
-/// is hidden, and the chosen groups are at the position. It takes no memory.
+/// What changed is shown: told instances leave their stores, but for the root rows of those that are shown then, and these
+/// have all their rows again; no root row is hidden, and the chosen groups are at the position. It takes no memory.
 pub fn show_changed(tier: &mut Tier, chosen: Chosen, changed: Changed)
     requires sound { IsSound tier.old }
     requires ready { AreReady tier.old changed.patches.items }
@@ -88,9 +88,9 @@ fn turn_at(stores: &mut Vec<Store>, place: usize, patch: Patch) -> SlotRows
     ensures stores { PatchedAt TurnedBy place (Some patch) stores.old.items stores.new.items }
     ensures hidden { result ≡ patch.hidden }
 {
-    let (turns, hidden) = patch.into_parts();
+    let (cuts, turns, hidden) = patch.into_parts();
     if place < stores.len() {
-        turn(&mut stores[place], turns);
+        turn(&mut stores[place], cuts, turns);
         return hidden;
     }
     hidden

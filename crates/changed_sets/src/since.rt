@@ -1,8 +1,9 @@
 //! Which sets are refreshed by what changed.
 
-ghost use Rattle.std.specs.Prelude.{◌≡◌, ◌&&◌, ◌||◌, not};
+ghost use Rattle.std.specs.Prelude.{◌≡◌, ◌&&◌, ◌||◌, IfSome, Some, not};
 ghost use Rattle.instances.specs.Trees.{is_place};
 ghost use Rattle.std.specs.Option.{option_map};
+ghost use Rattle.outside.specs.Calls.{OnlyLooks};
 ghost use Rattle.tier_base.specs.declared.number.Position.{Position as OnePosition};
 ghost use Rattle.cache_tier.specs.Sets.{is_in_set};
 ghost use Rattle.group_catalog.specs.Catalogs.{groups_in};
@@ -11,14 +12,15 @@ ghost use Rattle.stored_tier.specs.Refreshing.{choice_of, is_filled};
 ghost use Rattle.changed_sets.specs.Since.{are_ready_since, asked_since, first_position, goes_by_changes, is_full, is_ready_since, since_where};
 
 use group_catalog::{Catalog, KeptGroup};
+use outside::Site;
 use sql_subset::stmt::RefreshMode;
 use stored_tier::filling::is_by_use;
 use stored_tier::refreshing::{Chosen, is_on, is_read_only, is_shown_again};
 use tier_base::Position;
 
 /// The position since which the chosen groups are refreshed by what changed: that of those that keep rows, where each
-/// of them has it. There is none where none of the chosen groups keeps rows, and where one isn't READONLY, has MODE FULL,
-/// or its instances leave by last use; then they are read whole.
+/// of them has it, and STATE ON. There is none where none of the chosen groups keeps rows, and where one isn't READONLY,
+/// has MODE FULL, or is explicit and its instances leave by last use; then they are read whole.
 pub fn asked_since(catalog: &Catalog, chosen: Chosen) -> Option<Position>
     ensures { option_map (λ (p : OnePosition). p.0) result ≡ asked_since (choice_of chosen) (groups_in catalog.now) }
 {
@@ -26,6 +28,25 @@ pub fn asked_since(catalog: &Catalog, chosen: Chosen) -> Option<Position>
         None => None,
         Some(since) => {
             if are_ready_since(catalog, chosen, since) {
+                Some(since)
+            } else {
+                None
+            }
+        }
+    }
+}
+
+/// The position since which the chosen groups are refreshed by what changed, where they have one and the bank tells what
+/// changed since. Nothing that is known of the site changes.
+pub fn told_since<P: Site>(catalog: &Catalog, site: &mut P, chosen: Chosen) -> Option<Position>
+    ensures since { IfSome result (λ since.
+        asked_since (choice_of chosen) (groups_in catalog.now) ≡ Some since.0) }
+    ensures looks { OnlyLooks P.Disk.state P.Disk.possible site.old site.new }
+{
+    match asked_since(catalog, chosen) {
+        None => None,
+        Some(since) => {
+            if site.tells_since(since) {
                 Some(since)
             } else {
                 None
@@ -73,13 +94,16 @@ fn is_ready_since(chosen: Chosen, since: Position, place: usize, group: &KeptGro
     ensures { result ≡ is_ready_since (choice_of chosen) since.0 place (group_seen group.now) }
 {
     !is_chosen(chosen, place, group)
-        || goes_by_changes(group) && (!(group.def.dynamic || group.loaded) || is_at(since, group))
+        || goes_by_changes(group)
+            && (!(group.def.dynamic || group.loaded) || is_on(group.state) && is_at(since, group))
 }
 
 fn goes_by_changes(group: &KeptGroup) -> bool
     ensures { result ≡ goes_by_changes (group_seen group.now) }
 {
-    is_read_only(group) && !is_full(group.def.mode) && !is_by_use(&group.def.aging)
+    is_read_only(group)
+        && !is_full(group.def.mode)
+        && (group.def.dynamic || !is_by_use(&group.def.aging))
 }
 
 fn is_full(mode: RefreshMode) -> bool

@@ -1,6 +1,3 @@
-pub mod ConfirmedRows
-pub mod EnteredRows
-pub mod FitLaws
 pub mod FoundRoots
 pub mod JoinedLoads
 pub mod JoinedStatements

@@ -20,8 +20,10 @@ use Rattle.stored_tier.proofs.PutLaws.{long_tables}
 use Rattle.stored_tier.proofs.ListLaws.{store_kept}
 use Rattle.stored_tier.proofs.StoreForms.{same_itself}
 use Rattle.stored_tier.proofs.StoreRows.{form_at}
-use Rattle.dynamic_loads.specs.Taking.{AreFit, AreListedFit, FillsAt, HasPlaceFor, HasPut, IsFilledAt, MayPut, PutsRows, StoreBecomes, TakesWhere, is_viewed}
-use Rattle.dynamic_loads.proofs.ConfirmedRows.{keyed_then, listed_fit}
+use Rattle.confirmed_rows.specs.Coming.{HaveRowsOf, StayKeyed}
+use Rattle.confirmed_rows.specs.Fitting.{AreFit, AreListedFit}
+use Rattle.confirmed_rows.proofs.RowsOf.{all_set, listed_fit, rows_alike, rows_put, rows_through}
+use Rattle.dynamic_loads.specs.Taking.{FillsAt, HasPlaceFor, HasPut, IsFilledAt, MayPut, PutsRows, StoreBecomes, TakesWhere, is_viewed}
 use Rattle.dynamic_loads.proofs.ListsSet.{hides_none, same_there}
 use Rattle.dynamic_loads.proofs.RootRows.{Row}
 use Rattle.dynamic_loads.proofs.TakenSound.{becomes_sound, filled_tree}
@@ -71,8 +73,16 @@ module _ (old : Stored) (stores : Vec Kept) (place : ℕ) (rows : List (List Row
     filled_sound = becomes_sound old after place f.store f.filled sound becomes (filled_tree rows f.store f.filled f.rows_in) (ap length f.rows_in.tables ∙ long_tables 0 rows f.store)
         (λ g x at is. hides_none old.schema g f.store f.filled x (ap is_read_only (same_there (groups_in old.catalog) place g may.group at may.there) ∙ may.writes) is)
 
-    pub filled_keyed : known ≡ true → IsKeyed (rows_of (record old { stores = stores; verified = false }))
-    filled_keyed noted = keyed_then old stores place rows may.group f sound may.there (may.knows noted).verified (may.knows noted).fit filled_sound
+    rows_came : known ≡ true → HaveRowsOf old.schema old.stores.items stores.items
+    rows_came noted =
+        let form = form_at old.schema (groups_in old.catalog) old.stores.items place may.group f.store sound.kept may.there f.kept in
+        subst (HaveRowsOf old.schema old.stores.items) (sym f.is)
+        (all_set old.schema old.stores.items place f.store f.filled f.kept
+        (rows_through old.schema f.store (put_tables 0 rows f.store) f.filled (rows_put old.schema may.group.def.tree rows f.store form (may.knows noted).fit)
+        (rows_alike old.schema (put_tables 0 rows f.store) f.filled f.rows_in)))
+
+    pub filled_keyed : StayKeyed → known ≡ true → IsKeyed (rows_of (record old { stores = stores; verified = false }))
+    filled_keyed law noted = law old after sound (may.knows noted).verified (record { schema = refl; stores = rows_came noted })
 
     pub put_unknown : HasPut old (record old { stores = stores; verified = false }) place rows
     put_unknown = record { store = f.store; filled = f.filled; keyed = f.keyed; rows_in = f.rows_in; becomes = becomes }

@@ -6,13 +6,6 @@ use Rattle.std.specs.FinMap.{get, values}
 use Rattle.std.specs.declared.alloc.AllocError.{AllocError}
 use Rattle.row_types.specs.declared.value.Value.{Value}
 use Rattle.instances.specs.Views.{kept_at, passes}
-use Rattle.table_defs.specs.declared.definition.TableDef.{TableDef}
-use Rattle.table_state.specs.Keyed.{HasFit}
-use Rattle.table_state.specs.Tables.{fits_columns}
-use Rattle.tier_base.specs.declared.number.TableId.{TableId}
-use Rattle.indexed_rows.specs.Rows.{Table}
-use Rattle.instances.specs.declared.tree.Tree.{Tree}
-use Rattle.instances.specs.Trees.{table_of}
 use Rattle.outside.specs.declared.site.Instance.{Instance}
 use Rattle.group_catalog.specs.Catalogs.{groups_in}
 use Rattle.group_store.specs.Stores.{HasRootKeys, Kept, SameButSpare, put_tables}
@@ -20,6 +13,7 @@ use Rattle.cache_tier.specs.Groups.{Group, is_read_only}
 use Rattle.cache_tier.specs.Shown.{exceeds}
 use Rattle.stored_tier.specs.declared.tier.Tier.{Tier as Stored}
 use Rattle.stored_tier.specs.Stored.{IsVerified}
+use Rattle.confirmed_rows.specs.Fitting.{AreListedFit}
 
 -- the instance has its root row, which is past the group's horizon
 abbrev pub is_viewed : Group → Instance → Bool
@@ -100,19 +94,6 @@ FillsAt place rows old new (Ok done) = IsFilledAt place rows old new
 FillsAt place rows old new (Err e) = (new ≡ old) ⊎ IsRoomAt place old new
 
 -- ---- rows that fit
-
--- the rows of each table of a tree fit its columns
-abbrev pub AreFit : List TableDef → Tree → List Table → Type 0
-AreFit schema tree tables =
-    (i : ℕ) (rows : Table) (t : TableId) (def : TableDef) → slice_get tables i ≡ Some rows → table_of tree i ≡ Some t
-    → slice_get schema t.0 ≡ Some def → HasFit def.columns rows
-
--- so do these rows, table by table
-abbrev pub AreListedFit : List TableDef → Tree → List (List (List Value)) → Type 0
-AreListedFit schema tree lists =
-    (i j : ℕ) (rows : List (List Value)) (row : List Value) (t : TableId) (def : TableDef)
-    → slice_get lists i ≡ Some rows → slice_get rows j ≡ Some row → table_of tree i ≡ Some t
-    → slice_get schema t.0 ≡ Some def → fits_columns def.columns row ≡ true
 
 -- sessions may read over the stored rows, and these rows fit the group's tables
 pub record IsKnown (t : Stored) (g : Group) (rows : List (List (List Value))) : Type 0 where

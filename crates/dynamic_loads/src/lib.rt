@@ -4,7 +4,6 @@
 pub mod bringing;
 mod bringing_whole;
 pub mod bringing_written;
-mod confirming;
 pub mod loading;
 pub mod querying;
 mod taking;

@@ -4,9 +4,12 @@ ghost use Rattle.std.specs.Prelude.{◌≡◌, ◌≤◌, ◌+◌, IfOk, IsTrue,
 ghost use Rattle.std.specs.FinMap as finite;
 ghost use Rattle.group_catalog.specs.Kept.{group_seen};
 ghost use Rattle.stored_tier.specs.Stored.{IsSound, IsVerified};
-ghost use Rattle.dynamic_loads.specs.Taking.{AreFit, FillsAt, HasPlaceFor, MayPut, PutsRows, TakesReached, TakesWhere, is_viewed};
+ghost use Rattle.confirmed_rows.specs.Fitting.{AreFit};
+ghost use Rattle.dynamic_loads.specs.Taking.{FillsAt, HasPlaceFor, MayPut, PutsRows, TakesReached, TakesWhere, is_viewed};
 
-use crate::confirming::{are_fit, confirm};
+use confirmed_rows::confirming::confirm;
+use confirmed_rows::fitting::are_fit;
+use confirmed_rows::laws::kept_rows_law;
 use group_catalog::KeptGroup;
 use group_store::Store;
 use indexed_rows::Rows;
@@ -93,6 +96,7 @@ fn put_rows(
     requires may { MayPut tier.old place rows known }
     ensures { PutsRows tier.old tier.new place rows result }
 {
+    kept_rows_law();
     tier.verified = false;
     match fill_at(alloc, &mut tier.stores, place, rows) {
         Err(error) => Err(error),

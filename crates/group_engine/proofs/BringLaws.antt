@@ -50,7 +50,8 @@ use Rattle.stored_tier.specs.Stored.{IsSound, without_list}
 use Rattle.stored_tier.proofs.ListLaws.{group_kept, hidden_kept, hiding_there, store_kept, stored_keys}
 use Rattle.stored_tier.proofs.OverLaws.{at_written, keeps_called, keeps_tier, stands_written}
 use Rattle.group_engine.specs.declared.ready.Ready.{Ready}
-use Rattle.group_engine.specs.Bringing.{BringsNoted, IsBrought, found_in, found_row, found_under}
+use Rattle.group_engine.specs.Bringing.{BringsNoted, FindsRoot, IsBrought, found_in, found_row, found_under}
+use Rattle.group_engine.proofs.BringBehind.{done_behind, full_behind, wanting_behind}
 use Rattle.group_engine.specs.Fresh.{AreGained, IsRead}
 use Rattle.group_engine.specs.Gaining.{IsStoredAt}
 use Rattle.group_engine.specs.Loaded.{IsDynamicAt}
@@ -71,48 +72,11 @@ use Rattle.group_engine.proofs.WholeLaws.{alone_two, chosen_there, loads_group}
 abbrev Row : Type 0
 Row = List Value
 
--- the flag of a dynamic READONLY group isn't kept
-
-no_flag : (g : Group) → is_read_only g ≡ true → g.def.dynamic ≡ true → has_flag g ≡ false
-no_flag g reads dynamic = λ i. not (reads i) || not (dynamic i)
-
-pub state_alone : (g : Group) → is_read_only g ≡ true → g.def.dynamic ≡ true → load_entries g ≡ state_entries g
-state_alone g reads dynamic = ap (λ b. state_entries g ++ cond (b && not g.loaded) (Rattle.cache_tier.specs.Journals.SetsLoaded g.def.name true ∷ []) []) (no_flag g reads dynamic) ∙ by (is_read_only g && is_paused g.state)
-  where
-    by : (b : Bool) → cond b (SetsState g.def.name On ∷ []) [] ++ [] ≡ cond b (SetsState g.def.name On ∷ []) []
-    by true = refl
-    by false = refl
-
--- what is made ready, flushed, and then done
-
-module _ {D : Type 0} (state : D → SiteState) (possible : D → ℕ → Held → Type 0) where
-  pub record Flushes (old : Option TierJournal) (new : Option TierJournal) (d d' : D) (ready : Ready) (stop : Option Reply) : Type 0 where
-    pub writes : WritesReady state possible old new d d' ready stop
-    pub cause : DiskIsCaused old (state d) (state d') stop
-
 -- The snapshot came.
 module _ {D : Type 0} (state : D → SiteState) (possible : D → ℕ → Held → Type 0) (old : Stored) (k : Option TierJournal) (d d' : D) (place interval : ℕ) (want : Want) (g : Group) (reads : is_read_only g ≡ true) (interval_is : g.def.interval ≡ interval)
     (sound : IsSound old) (dynamic_at : IsDynamicAt (groups_in old.catalog) place) (asked : List TableId) (read : asked ≡ Rattle.stored_tier.specs.Refreshing.tables_read (of_set interval (Some place)) 0 (groups_in old.catalog)) (snapshot : Snapshot)
     (told : site.Told (state d).held (state d').held (site.BankCall (state d).shared (TakesSnapshot asked (Ok snapshot)))) (faults : (state d).bank_faults ≤ (state d').bank_faults) (moment : (state d).moment ≤ (state d').moment) (shares : (state d').shared ≡ (state d).shared)
     (certain : KeepsCertain state possible d d') (w : World) (at : IsAt (state d) w) (stands : StandsFor old w) (apart : IsUnshared w) (keeps : KeepsOver state possible d k w) (there : slice_get w.tier.groups place ≡ Some g) where
-  abbrev n : ℕ
-  n = snapshot.position.0
-
-  seen_at : slice_get (groups_in old.catalog) place ≡ Some (without_list g)
-  seen_at = group_kept old w.tier place g stands.stored there
-
-  dynamic : g.def.dynamic ≡ true
-  dynamic = dynamic_at (without_list g) seen_at
-
-  store : (s : Kept) × (slice_get old.stores.items place ≡ Some s)
-  store = store_kept old place (without_list g) sound seen_at
-
-  hides : (h : RowsHeld) × (slice_get old.hidden.items place ≡ Some h)
-  hides = hidden_kept old place (without_list g) sound seen_at
-
-  stored_at : IsStoredAt old place (without_list g) store.0 hides.0
-  stored_at = record { there = seen_at; kept = store.1; held = hides.1 }
-
   pub r : IsRead old (state d') (Ok snapshot.position.0) w
   r = read_here old (state d) (state d') asked snapshot (of_set interval (Some place)) read told faults moment shares w at stands apart
 
@@ -124,68 +88,22 @@ module _ {D : Type 0} (state : D → SiteState) (possible : D → ℕ → Held �
   picks : (y : Group) → of_set interval (Some place) place y ≡ true
   picks y = ap (λ i. of_set i (Some place) place y) (sym interval_is) ∙ chosen_there (record g { state = On }) place y
 
-  root_table : table_at snapshot.tables g.def.tree.root.table ≡ table_at rs.state g.def.tree.root.table
-  root_table = rs.copied place (without_list g) seen_at (picks (without_list g)) g.def.tree.root.table (first_one g.def.tree.root.table (map (λ (c : Child). c.table) g.def.tree.children))
+  root_table : (y : Group) → slice_get (groups_in old.catalog) place ≡ Some y → table_at snapshot.tables y.def.tree.root.table ≡ table_at rs.state y.def.tree.root.table
+  root_table y y_at = rs.copied place y y_at (picks y) y.def.tree.root.table (first_one y.def.tree.root.table (map (λ (c : Child). c.table) y.def.tree.children))
 
-  root_same : root_of snapshot.tables g.def.tree want.table want.key ≡ root_of rs.state g.def.tree want.table want.key
-  root_same = root_copied rs.state snapshot.tables rs.schema g.def.tree (rs.copied place (without_list g) seen_at (picks (without_list g))) want.table want.key
-
-  backing_is : backing_at r.world n ≡ rs.state
-  backing_is = ap state_or_none rs.there
-
-  keeps_mid : KeepsOver state possible d' k r.world
-  keeps_mid = keeps_called state possible k d d' w r.world keeps certain r.call.journal (ap (λ (t : Tier). t.schema) r.tier)
-
-  -- a reply behind the call
-  told_so : (w' : World) (stop : Option Reply) → ThenStage (FlushesSome (state_entries g)) (Becomes (joined_tier place g want n)) r.world w' stop → BringsNoted place g want w w' stop
-  told_so w' stop is = record { result = Ok n; mid = r.world; call = r.call; tier = r.tier; goes_on = inl is }
+  root_same : (y : Group) → slice_get (groups_in old.catalog) place ≡ Some y → root_of snapshot.tables y.def.tree want.table want.key ≡ root_of rs.state y.def.tree want.table want.key
+  root_same y y_at = root_copied rs.state snapshot.tables rs.schema y.def.tree (rs.copied place y y_at (picks y)) want.table want.key
 
   -- memory was wanting for what was read
   pub bring_wanting : (reply : Reply) → reply ≡ faulty code.Memory → IsPerformedOver state possible old k d' (Some reply) (λ w'. BringsNoted place g want w w' (Some reply))
-  bring_wanting reply is = record {
-    world = r.world;
-    at = r.at;
-    is = record { result = Ok n; mid = r.world; call = r.call; tier = r.tier; goes_on = inr (refl, ap (λ y. Some y) is) };
-    stands = λ whole. r.stands;
-    keeps = λ whole. keeps_mid;
-  }
+  bring_wanting = wanting_behind state possible old k d d' place interval want g reads interval_is sound dynamic_at snapshot.position.0 w r certain keeps there
 
   -- 119 of the journal
   pub bring_full : (ready : Ready) → IsReadyFor r.world.tier.schema k ready (load_entries g) → is_full_ready ready ≡ true → (reply : Reply) → reply ≡ only (No (past limit.JournalSlot)) → IsPerformedOver state possible old k d' (Some reply) (λ w'. BringsNoted place g want w w' (Some reply))
-  bring_full ready of_ready full reply is = record {
-    world = r.world;
-    at = r.at;
-    is = told_so r.world (Some reply) (record {
-      mid = r.world;
-      stop = Some (only (No (past limit.JournalSlot)));
-      first = full_stage state possible k d' r.world ready (state_entries g) keeps_mid (subst (IsReadyFor r.world.tier.schema k ready) (state_alone g reads dynamic) of_ready) full;
-      next = (refl, ap (λ y. Some y) is);
-    });
-    stands = λ whole. r.stands;
-    keeps = λ whole. keeps_mid;
-  }
+  bring_full = full_behind state possible old k d d' place interval want g reads interval_is sound dynamic_at snapshot.position.0 w r certain keeps there
 
   -- the instance comes
-  module _ (new : Stored) (made : List (Option Made)) (b : IsBrought old place want (is_filled (of_set interval (Some place)) (Some place)) snapshot.tables made) (is : IsRefreshed old new (of_set interval (Some place)) place loads_group n made) where
-    abbrev more : List Row
-    more = fm.keys b.rows
-
-    held : (q : Row) → is_key g.keys q ≡ is_held store.0 hides.0.table q
-    held = stored_keys old w.tier place g store.0 hides.0 sound stands.stored there store.1 hides.1 (b.found (without_list g) store.0 hides.0 stored_at).0 dynamic
-
-    rows_are : b.rows ≡ found_in g store.0 hides.0.table want rs.state
-    rows_are =
-        (b.found (without_list g) store.0 hides.0 stored_at).1
-        ∙ ap (found_under g store.0 hides.0.table snapshot.tables) root_same
-        ∙ by (root_of rs.state g.def.tree want.table want.key)
-      where
-        by : (o : Option Row) → found_under g store.0 hides.0.table snapshot.tables o ≡ found_under g store.0 hides.0.table rs.state o
-        by None = refl
-        by (Some key) = ap (λ (m : Table). found_row g store.0 hides.0.table key (fm.get m key)) root_table
-
-    keys_are : fm.keys b.rows ≡ filter (λ q. not (is_key g.keys q)) (found_root rs.state g want)
-    keys_are = ap fm.keys rows_are ∙ found_keys rs.state g store.0 hides.0.table held want
-
+  module _ (new : Stored) (made : List (Option Made)) (b : IsBrought old place want (is_filled (of_set interval (Some place)) (Some place)) snapshot.tables made) (is : IsRefreshed old new (of_set interval (Some place)) place loads_group snapshot.position.0 made) where
     from_snapshot : (y : Group) (s : Kept) (h : RowsHeld) → IsStoredAt old place y s h → (q row : Row) → fm.get b.rows q ≡ Some row → fm.get (table_at snapshot.tables y.def.tree.root.table) q ≡ Some row
     from_snapshot y s h here q row e = found_from y s h.table want snapshot.tables q row (ap (λ (m : Table). fm.get m q) (sym (b.found y s h here).1) ∙ e)
 
@@ -197,122 +115,23 @@ module _ {D : Type 0} (state : D → SiteState) (possible : D → ℕ → Held �
     same_state : fresh.state ≡ rs.state
     same_state = let both : Some fresh.state ≡ Some rs.state = sym fresh.there ∙ rs.there in Prim.cc
 
-    both : (q : Row) → is_key (fm.keys b.rows) q ≡ true → (is_key (found_root rs.state g want) q ≡ true) × (not (is_key g.keys q) ≡ true)
-    both q e = both_true (is_key (found_root rs.state g want) q) (not (is_key g.keys q)) (sym (key_left (λ y. not (is_key g.keys y)) (found_root rs.state g want) q) ∙ ap (λ l. is_key l q) (sym keys_are) ∙ e)
-
-    gains : GainsOnly rs.state g (fm.keys b.rows)
-    gains = record {
-      apart = rows_apart b.rows;
-      unheld = λ q e. turned (is_key g.keys q) (both q e).1;
-      past = λ q e. found_past rs.state g want q (both q e).0;
-    }
+    found_here : FindsRoot old place want fresh.state b.rows
+    found_here y s h here =
+        let f = b.found y s h here in (
+          f.0,
+          f.1
+              ∙ ap (found_under y s h.table snapshot.tables) (root_same y here.there)
+              ∙ by (root_of rs.state y.def.tree want.table want.key)
+              ∙ ap (λ z. found_in y s h.table want z) (sym same_state),
+        )
       where
-        turned : (c : Bool) → not c ≡ true → c ≡ false
-        turned true e = Prim.cc
-        turned false e = refl
+        by : (o : Option Row) → found_under y s h.table snapshot.tables o ≡ found_under y s h.table rs.state o
+        by None = refl
+        by (Some key) = ap (λ (m : Table). found_row y s h.table key (fm.get m key)) (root_table y here.there)
 
-    there_mid : slice_get r.world.tier.groups place ≡ Some g
-    there_mid = ap (λ (t : Tier). slice_get t.groups place) r.tier ∙ there
-
-    group_is : (y : Group) → slice_get r.world.tier.groups place ≡ Some y → g ≡ y
-    group_is y y_at = same_there r.world.tier.groups place g y there_mid y_at
-
-    changes : GainChanges true place (of_set interval (Some place)) (Some place) (fm.keys b.rows) (grows (fm.keys b.rows))
-    changes = record {
-      flagged = grown_flagged (fm.keys b.rows);
-      loads_is = refl;
-      chosen_is = λ y e. picks y;
-      unlisted = λ i y. refl;
-      gaining = λ y e. absurd (never_both (of_set interval (Some place) place y) (picks y) e);
-    }
-
-    stands_last : StandsFor new (record r.world { tier = tier_behind (of_set interval (Some place)) place (grows (fm.keys b.rows)) n (backing_at r.world n) r.world.tier })
-    stands_last = gained_behind old new r.world true place (of_set interval (Some place)) (Some place) (fm.keys b.rows) (grows (fm.keys b.rows)) loads_group changes n made r.stands fresh is
-        (λ y y_at. subst (λ s. GainsOnly s y (fm.keys b.rows)) (sym same_state) (subst (λ z. GainsOnly rs.state z (fm.keys b.rows)) (group_is y y_at) gains))
-        (λ i y y_at c. joined_reads r.world.tier.groups place g there_mid reads i y y_at (ap (λ j. of_set j (Some place) i y) interval_is ∙ c))
-        (grown_mapped (fm.keys b.rows))
-        (λ s. subst (λ j. OnePosition (groups_behind (of_set j (Some place)) place (grows (fm.keys b.rows)) n s r.world.tier.groups)) interval_is (grown_joined (fm.keys b.rows) r.world.tier.groups place n g s there_mid r.stands.stands.read.one))
-
-    -- its list
-    keys_so : (s : TableState) → s ≡ rs.state → more_keys (filter (is_in_view s g) g.keys) (fm.keys b.rows) ≡ with_keys (found_root s g want) (filter (is_in_view s g) g.keys)
-    keys_so s e = subst (λ z. more_keys (filter (is_in_view z g) g.keys) (fm.keys b.rows) ≡ with_keys (found_root z g want) (filter (is_in_view z g) g.keys)) (sym e)
-        (more_is (filter (is_in_view rs.state g) g.keys) (fm.keys b.rows)
-        ∙ ap (λ l. filter (is_in_view rs.state g) g.keys ++ l)
-        (keys_are
-        ∙ filter_same (λ q. not (is_key g.keys q)) (λ q. not (is_key (filter (is_in_view rs.state g) g.keys) q)) (found_root rs.state g want) (λ q f.
-        ap not (sym (key_left (is_in_view rs.state g) g.keys q ∙ ap (λ c. is_key g.keys q && c) (found_past rs.state g want q f) ∙ and_true (is_key g.keys q))))))
-      where
-        and_true : (c : Bool) → (c && true) ≡ c
-        and_true true = refl
-        and_true false = refl
-
-    abbrev S : TableState
-    S = backing_at r.world n
-
-    abbrev P : Group
-    P = at_position n (backing_at r.world n) g
-
-    abbrev grown : Group
-    grown = record (at_position n (backing_at r.world n) g) { keys = more_keys (filter (is_in_view (backing_at r.world n) g) g.keys) (fm.keys b.rows) }
-
-    grown_is : with_found (backing_at r.world n) want (state_loaded (at_position n (backing_at r.world n) g)) ≡ grows (fm.keys b.rows) (at_position n (backing_at r.world n) g)
-    grown_is =
-        ap (λ l. record (state_loaded (at_position n (backing_at r.world n) g)) { keys = with_keys l (filter (is_in_view (backing_at r.world n) g) g.keys) }) (found_same (backing_at r.world n) g (state_loaded (at_position n (backing_at r.world n) g)) want refl refl)
-        ∙ ap (λ l. record (state_loaded (at_position n (backing_at r.world n) g)) { keys = l }) (sym (keys_so (backing_at r.world n) backing_is))
-        ∙ sym (ap (λ c. cond c (record (state_loaded grown) { loaded = true }) (state_loaded grown)) (no_flag grown reads dynamic))
-
-    tier_is : tier_behind (of_set interval (Some place)) place (grows (fm.keys b.rows)) n (backing_at r.world n) r.world.tier ≡ joined_tier place g want n r.world
-    tier_is =
-        ap (λ gs. record r.world.tier { groups = gs })
-        (sym (alone_two place (with_found (backing_at r.world n) want) state_loaded (grows (fm.keys b.rows)) (changed_from (of_set interval (Some place)) (at_position n (backing_at r.world n)) 0 r.world.tier.groups) one))
-        ∙ ap (λ j. record r.world.tier { groups = changed_from (alone place) (with_found (backing_at r.world n) want) 0 (changed_from (alone place) state_loaded 0 (changed_from (of_set j (Some place)) (at_position n (backing_at r.world n)) 0 r.world.tier.groups)) }) (sym interval_is)
-      where
-        picked : (y : Group) → slice_get (changed_from (of_set interval (Some place)) (at_position n (backing_at r.world n)) 0 r.world.tier.groups) place ≡ Some y → at_position n (backing_at r.world n) g ≡ y
-        picked y y_at =
-            sym (ap (λ c. cond c (at_position n (backing_at r.world n) g) g) (picks g))
-            ∙ same_there (changed_from (of_set interval (Some place)) (at_position n (backing_at r.world n)) 0 r.world.tier.groups) place (cond (of_set interval (Some place) place g) (at_position n (backing_at r.world n) g) g) y
-            (changed_at (of_set interval (Some place)) (at_position n (backing_at r.world n)) r.world.tier.groups place g there_mid) y_at
-
-        one : (y : Group) → slice_get (changed_from (of_set interval (Some place)) (at_position n (backing_at r.world n)) 0 r.world.tier.groups) place ≡ Some y → with_found (backing_at r.world n) want (state_loaded y) ≡ grows (fm.keys b.rows) y
-        one y y_at = subst (λ z. with_found (backing_at r.world n) want (state_loaded z) ≡ grows (fm.keys b.rows) z) (picked y y_at) grown_is
-
-    stands_joined : StandsFor new (with_tier (joined_tier place g want n r.world) r.world)
-    stands_joined = subst (λ (t : Tier). StandsFor new (with_tier t r.world)) tier_is stands_last
-
-    -- behind the flush of its record
-    module _ (k' : Option TierJournal) (last : D) (ready : Ready) (of_ready : IsReadyFor r.world.tier.schema k ready (load_entries g)) (fits : is_full_ready ready ≡ false) where
-      of_state : IsReadyFor r.world.tier.schema k ready (state_entries g)
-      of_state = subst (IsReadyFor r.world.tier.schema k ready) (state_alone g reads dynamic) of_ready
-
-      flushed : Flushes state possible k k' d' last ready None → IsPerformedOver state possible new k' last None (λ w'. BringsNoted place g want w w' None)
-      flushed f =
-          let x = f.writes r.world (state_entries g) r.at.moment keeps_mid of_state in
-          let w1 : World = over_disk x.journal x.faults (state last).moment r.world in
-          let at1 = at_written state possible k' d' last r.world None (FlushesSome (state_entries g)) r.at x f.cause.bank f.cause.shared in
-          record {
-            world = with_tier (joined_tier place g want n r.world) w1;
-            at = record { there = at1.there; told = at1.told; history = at1.history; faults = at1.faults; moment = at1.moment; shared = at1.shared };
-            is = told_so (with_tier (joined_tier place g want n r.world) w1) None (record { mid = w1; stop = None; first = x.is; next = (refl, refl) });
-            stands = λ whole. stands_written new (with_tier (joined_tier place g want n r.world) r.world) x.journal x.faults (state last).moment stands_joined;
-            keeps = λ whole. keeps_tier state possible last k' w1 (joined_tier place g want n r.world) refl (x.keeps refl);
-          }
-
-      failed : (fault : Reply) → Flushes state possible k k' d' last ready (Some fault) → IsPerformedOver state possible new k' last (Some fault) (λ w'. BringsNoted place g want w w' (Some fault))
-      failed fault f =
-          let x = f.writes r.world (state_entries g) r.at.moment keeps_mid of_state in
-          let w1 : World = over_disk x.journal x.faults (state last).moment r.world in
-          let broken = breaks state possible r.world w1 (state_entries g) fault (λ some. full_ready state possible k d' r.world ready (state_entries g) keeps_mid of_state some ∙ fits) x.is in
-          record {
-            world = w1;
-            at = at_written state possible k' d' last r.world (Some fault) (FlushesSome (state_entries g)) r.at x f.cause.bank f.cause.shared;
-            is = told_so w1 (Some fault) (record { mid = w1; stop = Some fault; first = x.is; next = (refl, refl) });
-            stands = λ whole. absurd (never_both (is_broken (Some fault)) broken whole);
-            keeps = λ whole. absurd (never_both (is_broken (Some fault)) broken whole);
-          }
-
-      pub bring_done : (stop : Option Reply) → WritesReady state possible k k' d' last ready stop → DiskIsCaused k (state d') (state last) stop → IsPerformedOver state possible new k' last stop (λ w'. BringsNoted place g want w w' stop)
-      bring_done None writes cause = flushed (record { writes = writes; cause = cause })
-      bring_done (Some fault) writes cause = failed fault (record { writes = writes; cause = cause })
+    pub bring_done : (k' : Option TierJournal) (last : D) (ready : Ready) → IsReadyFor r.world.tier.schema k ready (load_entries g) → is_full_ready ready ≡ false → (stop : Option Reply) → WritesReady state possible k k' d' last ready stop → DiskIsCaused k (state d') (state last) stop
+        → IsPerformedOver state possible new k' last stop (λ w'. BringsNoted place g want w w' stop)
+    bring_done = done_behind state possible old k d d' place interval want g reads interval_is sound dynamic_at snapshot.position.0 w r certain keeps there new made b.rows fresh found_here is
 
 -- the call failed, or wasn't made
 

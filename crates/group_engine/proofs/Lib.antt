@@ -1,5 +1,7 @@
 pub mod AimLaws
 pub mod AlteringLaws
+pub mod BringBehind
+pub mod BringChanged
 pub mod BringLaws
 pub mod BringRoots
 pub mod BringTried
@@ -36,6 +38,7 @@ pub mod ReadLaws
 pub mod ReadOnlyUnloads
 pub mod ReadyLaws
 pub mod RefreshedSets
+pub mod SameSites
 pub mod ShownStores
 pub mod SnapshotLaws
 pub mod StorePairs
@@ -48,6 +51,7 @@ pub mod UnloadAims
 pub mod UnloadDone
 pub mod UnloadHeld
 pub mod UnloadHidden
+pub mod UnloadKept
 pub mod UnloadLaws
 pub mod UnloadListed
 pub mod UnloadLists

@@ -168,7 +168,7 @@ sound_left t new place all does sound c tree long =
       numbered = subst (λ us. RiseBetween 1 us new.next) (sym (ap (λ u. u.items) c.beside.unsettled)) (subst (RiseBetween 1 t.unsettled.items) (sym c.beside.next) sound.numbered);
       later = ap (λ u. are_later (groups_in new.catalog) u.items) c.beside.unsettled ∙ later_by (groups_in t.catalog) (groups_in new.catalog) t.unsettled.items defs sound.later;
       writers = writers_same t new schema (ap (λ u. u.items) c.beside.unsettled) c.beside.next c.beside.writers sound;
-      verified = λ e. absurd (never_both new.verified e c.unverified);
+      verified = c.known;
     }
   where
     whole : AreWhole (set t.stores.items place c.left)
@@ -412,7 +412,7 @@ group_cleared t mid new place n seen at whole cleared same then groups = record 
   visible = ap (λ (y : Stored). y.visible) then ∙ ap (λ (y : Stored). y.visible) same;
   directory = ap (λ (y : Stored). y.directory) then ∙ ap (λ (y : Stored). y.directory) same;
   hidden = ap (λ (y : Stored). y.hidden) then ∙ ap (λ (y : Stored). y.hidden) same;
-  unverified = ap (λ (y : Stored). y.verified) then;
+  known = λ e. absurd (never_both new.verified e (ap (λ (y : Stored). y.verified) then));
 }
 
 pub group_cut : (t mid new : Stored) (aim : Aim) (all : Bool) (n : ℕ) (seen : Group) (def : TableDef) (columns : List ℕ) → slice_get (groups_in t.catalog) aim.place ≡ Some seen → hides_keys seen ≡ false → slice_get t.schema seen.def.tree.root.table.0 ≡ Some def → columns ≡ def.primary_key
@@ -441,5 +441,5 @@ group_cut t mid new aim all n seen def columns at hides defined are cut same the
       visible = ap (λ (y : Stored). y.visible) then ∙ ap (λ (y : Stored). y.visible) same;
       directory = ap (λ (y : Stored). y.directory) then ∙ ap (λ (y : Stored). y.directory) same;
       hidden = ap (λ (y : Stored). y.hidden) then ∙ ap (λ (y : Stored). y.hidden) same;
-      unverified = ap (λ (y : Stored). y.verified) then;
+      known = λ e. absurd (never_both new.verified e (ap (λ (y : Stored). y.verified) then));
     }

@@ -59,6 +59,8 @@ use Rattle.stored_tier.specs.Lists.{AreHiding, AreListed, HasKeysOf, IsHidingFor
 use Rattle.stored_tier.specs.Performing.{StandsFor}
 use Rattle.stored_tier.specs.Stored.{AreKept, AreWhole, HidesRows, IsSound, IsStoredAs, without_list}
 use Rattle.stored_tier.proofs.HiddenRows.{hides_listed}
+use Rattle.group_engine.proofs.UnloadKept.{sound_confirmed}
+use Rattle.stored_tier.proofs.QuietLaws.{stands_over}
 use Rattle.stored_tier.proofs.ListLaws.{all_hiding, all_listed, hidden_long, hiding_long, hiding_there, kept_long, listed_same, listed_there, stored_keys, stores_long}
 use Rattle.stored_tier.proofs.SoundParts.{changed_defs}
 use Rattle.stored_tier.proofs.StoreChanges.{form_kept, get_here, get_there, housed_set, kept_set, shows_changed}
@@ -574,7 +576,8 @@ module _ (drops : Drops) (t : Stored) (stores : Vec Kept) (hid : Vec RowsHeld) (
 
 pub sound_hidden : (t new : Stored) (aim : Aim) (n : ℕ) → IsSound t → true ≡ hides_some (slice_get (groups_in t.catalog) aim.place) → IsCutHiding t new aim n → IsSound new
 sound_hidden t new aim n sound asked cut =
-    subst IsSound (sym cut.is) (sound_behind t new.stores new.hidden aim n sound cut.group cut.there (hides_so (groups_in t.catalog) aim.place cut.group asked cut.there).hides cut.cut)
+    sound_confirmed (record t { stores = new.stores; hidden = new.hidden; verified = false }) new
+    (sound_behind t new.stores new.hidden aim n sound cut.group cut.there (hides_so (groups_in t.catalog) aim.place cut.group asked cut.there).hides cut.cut) cut.is cut.known
 
 module _ {D : Type 0} (state : D → SiteState) (possible : D → ℕ → Held → Type 0) (t : Stored) (k : Option TierJournal) (d : D) (ready : Ready) (id : SessionId) (aim : Aim) (all : Bool) (kind : aim.read_only ≡ true) (sound : IsSound t) where
   pub hidden_here : Drops → true ≡ hides_some (slice_get (groups_in t.catalog) aim.place) → (new : Stored) (k' : Option TierJournal) (d' : D) (n : ℕ) (told reply : Reply) → FitsIn t aim → IsCutHiding t new aim n → AnswersBehind state possible k k' d d' ready told reply → told ≡ only (Done n)
@@ -586,7 +589,7 @@ module _ {D : Type 0} (state : D → SiteState) (possible : D → ℕ → Held �
       let its : AreCutAt aim.place (primary_of t.schema x.group.def.tree.root.table) aim.which t.stores.items t.hidden.items new.stores.items new.hidden.items n =
       subst (λ (g : Group). AreCutAt aim.place (primary_of t.schema g.def.tree.root.table) aim.which t.stores.items t.hidden.items new.stores.items new.hidden.items n) (same_there (groups_in t.catalog) aim.place cut.group (without_list x.group) cut.there seen) cut.cut in
       let p = answers new w (unload_entries all x.group) (unload_answer x all) at keeps ready_for
-      (subst (λ (y : Stored). StandsFor y (with_tier (unload_answer x all w).0 w)) (sym cut.is) (stands_hidden drops t new.stores new.hidden aim n sound w x stands here of h all its)) refl (λ j faults moment. refl)
+      (stands_over (record t { stores = new.stores; hidden = new.hidden; verified = false }) new (with_tier (unload_answer x all w).0 w) cut.is (stands_hidden drops t new.stores new.hidden aim n sound w x stands here of h all its)) refl (λ j faults moment. refl)
       (counted_hidden drops t new.stores new.hidden aim n sound w x stands here of h all its told is) in
       record {
         world = p.world;
@@ -602,11 +605,13 @@ pub group_hidden : (t new : Stored) (aim : Aim) (n : ℕ) (seen : Group) (def : 
     → AreCutAt aim.place columns aim.which t.stores.items t.hidden.items new.stores.items new.hidden.items n → new ≡ record t { stores = new.stores; hidden = new.hidden; verified = false } → IsCutHiding t new aim n
 group_hidden t new aim n seen def columns at defined are cut same =
     let its : columns ≡ primary_of t.schema seen.def.tree.root.table = are ∙ sym (ap (λ o. unwrap_or (option_map (λ (d : TableDef). d.primary_key) o) []) defined) in
+    let unverified : new.verified ≡ false = ap (λ (y : Stored). y.verified) same in
     record {
       group = seen;
       there = at;
       cut = subst (λ cs. AreCutAt aim.place cs aim.which t.stores.items t.hidden.items new.stores.items new.hidden.items n) its cut;
-      is = same;
+      is = same ∙ (λ i. record t { stores = new.stores; hidden = new.hidden; verified = sym unverified i });
+      known = λ noted. absurd (never_both new.verified noted unverified);
     }
 
 -- one after another

@@ -80,10 +80,13 @@ none_at [] (suc p) = refl
 none_at (t ∷ ts) zero = refl
 none_at (t ∷ ts) (suc p) = none_at ts p
 
-pub sound_cleared : (t new : Stored) (aim : Aim) (n : ℕ) → IsSound t → IsClearedGroup t new aim.place n → IsSound new
-sound_cleared t new aim n sound cleared =
-    sound_left t new aim.place true _ sound cleared (cleared_tree cleared.store cleared.left cleared.did.0.gone)
+pub sound_cleared_at : (t new : Stored) (place n : ℕ) → IsSound t → IsClearedGroup t new place n → IsSound new
+sound_cleared_at t new place n sound cleared =
+    sound_left t new place true _ sound cleared (cleared_tree cleared.store cleared.left cleared.did.0.gone)
     (ap (λ (ts : List Table). length ts) cleared.did.0.gone.tables ∙ length-map cleared.store.tables (λ t. empty))
+
+pub sound_cleared : (t new : Stored) (aim : Aim) (n : ℕ) → IsSound t → IsClearedGroup t new aim.place n → IsSound new
+sound_cleared t new aim n sound cleared = sound_cleared_at t new aim.place n sound cleared
 
 -- nothing is asked of the rows
 

@@ -24,8 +24,9 @@ use Rattle.tier_journal.specs.declared.journal.TierJournal.{TierJournal}
 use Rattle.stored_tier.specs.declared.refreshing.Made.{Made}
 use Rattle.stored_tier.specs.declared.tier.Tier.{Tier as Stored}
 use Rattle.stored_tier.specs.Filling.{is_held}
-use Rattle.group_engine.specs.Gaining.{AreMadeGaining, IsStoredAt, is_past_row}
+use Rattle.group_engine.specs.Gaining.{AreMadeGaining, IsStoredAt}
 use Rattle.group_engine.specs.Taking.{IsGroupAt, PerformsWhere}
+pub use Rattle.changed_sets.specs.Gains.{found_in, found_row, found_under}
 
 -- what is wanted is brought into the group at a place, where that is READONLY
 abbrev pub BringsWhole : ℕ → Want → Stage
@@ -48,20 +49,6 @@ BringsJoined state possible old new k k' d d' place interval want stop =
     (g : Group) → is_read_only g ≡ true → g.def.interval ≡ interval
     → PerformsWhere (IsGroupAt place g) state possible old new k k' d d' stop
     (λ w w'. BringsNoted place g want w w' stop)
-
--- the root row that the group gains: it is in the view, past the horizon, and the group doesn't have its key
-abbrev pub found_row : Group → Kept → Table → List Value → Option (List Value) → Table
-found_row g s hidden key None = empty
-found_row g s hidden key (Some row) =
-    if is_past_row g row && not (is_held s hidden key) then put_in empty key row else empty
-
-abbrev pub found_under : Group → Kept → Table → TableState → Option (List Value) → Table
-found_under g s hidden state None = empty
-found_under g s hidden state (Some key) = found_row g s hidden key (get (table_at state g.def.tree.root.table) key)
-
--- that of the root which the wanted row is reached from
-abbrev pub found_in : Group → Kept → Table → Want → TableState → Table
-found_in g s hidden want state = found_under g s hidden state (root_of state g.def.tree want.table want.key)
 
 -- what is asked of the group at a place
 abbrev pub FindsRoot : Stored → ℕ → Want → TableState → Table → Type 0

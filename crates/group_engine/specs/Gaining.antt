@@ -22,10 +22,7 @@ use Rattle.stored_tier.specs.declared.tier.Tier.{Tier as Stored}
 use Rattle.stored_tier.specs.Choosing.{chosen, matches_at}
 use Rattle.stored_tier.specs.Filling.{HidesNone, is_held, store_anew, touched_all}
 use Rattle.group_engine.specs.declared.gaining.Gained.{Gained}
-
--- the root row is in the view, and past the horizon
-abbrev pub is_past_row : Group → List Value → Bool
-is_past_row g row = selects g.def.tree.root.filter row && exceeds g row
+pub use Rattle.changed_sets.specs.Gains.{is_past_row}
 
 -- the condition is judged on it: for REFRESH the group has the instance
 abbrev pub is_judged : Bool → Group → Kept → Table → List Value → List Value → Bool

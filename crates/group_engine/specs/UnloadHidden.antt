@@ -1,7 +1,7 @@
 -- UNLOAD of a READONLY group that hides instances. (TimesTen SQL Reference, "UNLOAD CACHE GROUP"; that those which aging
 -- hides leave too is this project's rule.)
 
-use Rattle.std.specs.Prelude.{◌≡◌, ℕ, List, [], ◌∷◌, Bool, false, Option, Some, None, set, slice_get}
+use Rattle.std.specs.Prelude.{◌≡◌, ℕ, List, [], ◌∷◌, Bool, false, true, Option, Some, None, set, slice_get}
 use Rattle.std.specs.FinMap.{remove}
 use Rattle.row_types.specs.declared.value.Value.{Value}
 use Rattle.indexed_rows.specs.Rows.{Table}
@@ -14,6 +14,7 @@ use Rattle.cache_tier.specs.Groups.{Group}
 use Rattle.group_engine.specs.declared.aiming.Aim.{Aim}
 use Rattle.group_engine.specs.Unloading.{IsCutBy, leaving}
 use Rattle.stored_tier.specs.Lists.{hides_keys}
+use Rattle.stored_tier.specs.Stored.{IsVerified}
 use Rattle.stored_tier.specs.declared.tier.Tier.{Tier as Stored}
 
 -- the group hides instances that its list has
@@ -53,10 +54,12 @@ pub record AreCutAt (place : ℕ) (columns : List ℕ) (which : ResolvedWhich) (
   pub stores : new ≡ set old place left
   pub rows : hidden ≡ set hid place behind
 
--- so it is of the group at a place, and nothing else changed
+-- So it is of the group at a place, and nothing else changed. Where it is noted that sessions may read over the stored
+-- rows, they may.
 pub record IsCutHiding (t new : Stored) (aim : Aim) (n : ℕ) : Type 0 where
   pub group : Group
   pub there : slice_get (groups_in t.catalog) aim.place ≡ Some group
   pub cut : AreCutAt aim.place (primary_of t.schema group.def.tree.root.table) aim.which t.stores.items t.hidden.items
       new.stores.items new.hidden.items n
-  pub is : new ≡ record t { stores = new.stores; hidden = new.hidden; verified = false }
+  pub is : new ≡ record t { stores = new.stores; hidden = new.hidden; verified = new.verified }
+  pub known : new.verified ≡ true → IsVerified new

@@ -40,7 +40,7 @@ use Rattle.tier_journal.specs.declared.journal.TierJournal.{TierJournal}
 use Rattle.kept_journal.specs.Keeping.{KeepsOver}
 use Rattle.group_engine.specs.declared.ready.Ready.{Ready}
 use Rattle.group_engine.specs.Ready.{IsReadyFor}
-use Rattle.stored_tier.specs.Stored.{HasSession, IsStoredAs}
+use Rattle.stored_tier.specs.Stored.{HasSession, IsStoredAs, IsVerified}
 use Rattle.group_engine.specs.Taking.{IsOfTarget}
 use Rattle.cache_tier.specs.JournalSteps.{FlushesSome}
 use Rattle.cache_tier.specs.Reading.{Answers}
@@ -114,7 +114,8 @@ pub record OverflowsIn (place : ℕ) (which : ResolvedWhich) (stores : List Kept
 abbrev pub flagged : Bool → ℕ → List Group → List Group
 flagged all place groups = if all then changed_from (alone place) (λ g. record g { loaded = false }) 0 groups else groups
 
--- instances left the store of the group at a place so, and nothing else changed but its flag
+-- Instances left the store of the group at a place so, and nothing else changed but its flag. Where it is noted that
+-- sessions may read over the stored rows, they may.
 pub record LeavesGroup (t new : Stored) (place : ℕ) (all : Bool) (does : Group → Kept → Kept → Type 0) : Type 0 where
   pub group : Group
   pub store : Kept
@@ -129,7 +130,7 @@ pub record LeavesGroup (t new : Stored) (place : ℕ) (all : Bool) (does : Group
   pub visible : new.visible ≡ t.visible
   pub directory : new.directory ≡ t.directory
   pub hidden : new.hidden ≡ t.hidden
-  pub unverified : new.verified ≡ false
+  pub known : new.verified ≡ true → IsVerified new
 
 -- the group at a place is explicit
 abbrev pub IsWholeAt : Stored → ℕ → Type 0

@@ -5,6 +5,8 @@ ghost use Rattle.std.specs.FinMap.{empty, get};
 ghost use Rattle.indexed_rows.specs.Rows.{put_in};
 ghost use Rattle.table_state.specs.Tables.{table_at};
 ghost use Rattle.cache_tier.specs.Groups.{is_read_only};
+ghost use Rattle.cache_tier.specs.Sets.{of_set};
+ghost use Rattle.changed_sets.specs.Since.{asked_since};
 ghost use Rattle.group_catalog.specs.Catalogs.{groups_in};
 ghost use Rattle.group_catalog.specs.Kept.{group_seen};
 ghost use Rattle.kept_journal.specs.Keeping.{DiskIsCaused};
@@ -22,6 +24,9 @@ use crate::gaining::{add_copy, hidden_at, is_held, is_past_row, make_gaining, st
 use crate::loading_whole::ready_to_load;
 use crate::ready::{Ready, flush_ready, slot_is_full};
 use cache_tier::reply::Reply;
+use changed_sets::reading::read_changed;
+use changed_sets::showing::show_changed;
+use changed_sets::since::told_since;
 use group_catalog::KeptGroup;
 use group_store::Store;
 use indexed_rows::Rows;
@@ -36,12 +41,13 @@ use stored_tier::refreshing::{
 };
 use stored_tier::tier::Tier;
 use table_state::Tables;
-use tier_base::Code;
+use tier_base::{Code, Position};
 use tier_journal::TierJournal;
 use tier_statements::{bank_fault, faulty};
 
 /// The instance that a statement wants of the dynamic READONLY group at a place is brought in with its whole set, which
-/// is refreshed from one snapshot; PAUSED becomes ON, which is flushed. Where the root that the wanted row is reached
+/// is refreshed: by what changed since its position, where it has one since which the bank tells that, and else from one
+/// snapshot. PAUSED becomes ON, which is flushed. Where the root that the wanted row is reached
 /// from isn't there, isn't in the view, or isn't past the horizon, it does all but gain an instance.
 ///
 /// The line ends early with 201 where the bank's call failed; with 119 where the journal has no room; with 202 where a
@@ -131,8 +137,48 @@ fn gains_with_set(group: &KeptGroup) -> bool
     is_read_only(group) && group.def.dynamic
 }
 
-// The same where it is noted that a refresh of the set of this interval is tried; the group's STATE becomes this one.
+// The same where it is noted that a refresh of the set of this interval is tried; the group's STATE becomes this one. The
+// set is refreshed by what changed since its position, where it has one since which the bank tells that; else from one
+// snapshot.
 fn bring_joined<P: Site>(
+    tier: &mut Tier,
+    alloc: Global,
+    site: &mut P,
+    journal: &mut Option<TierJournal>,
+    place: usize,
+    want: &Want,
+    interval: u64,
+    ready: &Ready,
+    state: RefreshState,
+) -> Result<(), Reply>
+    requires sound { IsSound tier.old }
+    requires within { place < length (groups_in tier.old.catalog) }
+    requires state { IsStateAt (groups_in tier.old.catalog) place state }
+    requires dynamic { IsDynamicAt (groups_in tier.old.catalog) place }
+    requires ready { IsReadyToLoad (groups_in tier.old.catalog) journal.old place ready.now }
+    requires placed { IsPlacedReady journal.old ready.now }
+    ensures brings { BringsJoined P.Disk.state P.Disk.possible tier.old tier.new journal.old journal.new
+        site.old site.new place interval (want_seen want.now) (stop_of result) }
+    ensures none { journal.old ≡ None → journal.new ≡ None }
+    ensures sessions { tier.new.sessions ≡ tier.old.sessions }
+    ensures sound { IsSound tier.new }
+    ensures cause { IsStopCausedOver journal.old
+        (P.Disk.state site.old)
+        (P.Disk.state site.new)
+        (stop_of result) }
+{
+    match told_since(&tier.catalog, site, Chosen::Joined(interval, Some(place))) {
+        None => bring_snapshot(
+            tier, alloc, site, journal, place, want, interval, ready, state,
+        ),
+        Some(since) => bring_changed(
+            tier, alloc, site, journal, place, want, interval, ready, state, since,
+        ),
+    }
+}
+
+// The same from one snapshot.
+fn bring_snapshot<P: Site>(
     tier: &mut Tier,
     alloc: Global,
     site: &mut P,
@@ -179,6 +225,50 @@ fn bring_joined<P: Site>(
                 }
             }
         },
+    }
+}
+
+// The same by what changed since the position of the set.
+fn bring_changed<P: Site>(
+    tier: &mut Tier,
+    alloc: Global,
+    site: &mut P,
+    journal: &mut Option<TierJournal>,
+    place: usize,
+    want: &Want,
+    interval: u64,
+    ready: &Ready,
+    state: RefreshState,
+    since: Position,
+) -> Result<(), Reply>
+    requires sound { IsSound tier.old }
+    requires since { asked_since (of_set interval (Some place)) (groups_in tier.old.catalog) ≡ Some since.0 }
+    requires within { place < length (groups_in tier.old.catalog) }
+    requires state { IsStateAt (groups_in tier.old.catalog) place state }
+    requires dynamic { IsDynamicAt (groups_in tier.old.catalog) place }
+    requires ready { IsReadyToLoad (groups_in tier.old.catalog) journal.old place ready.now }
+    requires placed { IsPlacedReady journal.old ready.now }
+    ensures brings { BringsJoined P.Disk.state P.Disk.possible tier.old tier.new journal.old journal.new
+        site.old site.new place interval (want_seen want.now) (stop_of result) }
+    ensures none { journal.old ≡ None → journal.new ≡ None }
+    ensures sessions { tier.new.sessions ≡ tier.old.sessions }
+    ensures sound { IsSound tier.new }
+    ensures cause { IsStopCausedOver journal.old
+        (P.Disk.state site.old)
+        (P.Disk.state site.new)
+        (stop_of result) }
+{
+    let chosen = Chosen::Joined(interval, Some(place));
+    match read_changed(tier, alloc, site, chosen, since, place, Some(want)) {
+        Err(error) => Err(bank_fault(alloc, error)),
+        Ok(changed) => {
+            if ready.is_full() {
+                return Err(slot_is_full(alloc));
+            }
+            show_changed(tier, chosen, changed);
+            tier.catalog.with_state(place, state);
+            flush_kept(alloc, site, journal, ready)
+        }
     }
 }
 

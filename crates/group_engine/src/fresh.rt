@@ -14,7 +14,7 @@ ghost use Rattle.stored_tier.specs.Stored.{IsSound};
 
 use changed_sets::reading::read_changed;
 use changed_sets::showing::show_changed;
-use changed_sets::since::asked_since;
+use changed_sets::since::told_since;
 use outside::{BankError, Site};
 use std::alloc::Global;
 use stored_tier::refreshing::{
@@ -100,7 +100,7 @@ pub fn show_fresh(tier: &mut Tier, chosen: Chosen, fresh: Fresh)
 }
 
 /// The set of an interval is refreshed, which is noted first: by what changed since its position where its groups go by
-/// changes and have one position, else from one snapshot. It has an entry among the moments.
+/// changes and have one position, since which the bank tells them; else from one snapshot. It has an entry among the moments.
 ///
 /// It is `Failed` where the call failed, and `Memory` where memory was wanting.
 pub fn refresh_members<P: Site>(
@@ -126,7 +126,7 @@ pub fn refresh_members<P: Site>(
     ensures certain { KeepsCertain P.Disk.state P.Disk.possible site.old site.new }
 {
     note_moment(&mut tier.clock.sets, interval, tier.clock.now);
-    match asked_since(&tier.catalog, Chosen::Joined(interval, None)) {
+    match told_since(&tier.catalog, site, Chosen::Joined(interval, None)) {
         None => refresh_whole(tier, alloc, site, interval),
         Some(since) => refresh_changed(tier, alloc, site, interval, since),
     }
@@ -187,7 +187,7 @@ fn refresh_changed<P: Site>(
     ensures certain { KeepsCertain P.Disk.state P.Disk.possible site.old site.new }
 {
     let chosen = Chosen::Joined(interval, None);
-    match read_changed(tier, alloc, site, chosen, since) {
+    match read_changed(tier, alloc, site, chosen, since, 0, None) {
         Err(error) => Err(error),
         Ok(changed) => {
             show_changed(tier, chosen, changed);

@@ -17,6 +17,7 @@ mod ready;
 mod readying;
 mod touching;
 mod unload_hidden;
+mod unload_kept;
 mod unload_listed;
 pub mod unload_locks;
 pub mod unloading;

@@ -12,6 +12,7 @@ ghost use Rattle.group_engine.specs.UnloadHidden.{AreCutAt, AreCutBy, AreOut, Is
 
 use crate::aiming::Aim;
 use crate::ready::{Ready, answer_behind, slot_is_full};
+use crate::unload_kept::hide_kept;
 use crate::unloading::{cut_all, judge_roots, leaving};
 use cache_tier::reply::Reply;
 use group_catalog::ResolvedWhich;
@@ -56,7 +57,7 @@ pub(crate) fn unload_hidden<P: Site>(
                 return Ok(slot_is_full(alloc));
             }
             drop_instance_law();
-            match cut_hiding(tier, alloc, aim) {
+            match hide_kept(tier, alloc, aim) {
                 Err(AllocError) => Err(Refused::Memory),
                 Ok(count) => {
                     Ok(answer_behind(alloc, site, journal, ready, done(alloc, count as u64)))
@@ -76,9 +77,9 @@ fn hides_some(tier: &Tier, place: usize) -> bool
     }
 }
 
-// The instances that match leave the store of the group, and the hidden root rows that do; how many were shown. It fails
-// for want of memory alone, and all then stays.
-fn cut_hiding(tier: &mut Tier, alloc: Global, aim: &Aim) -> Result<usize, AllocError>
+/// The instances that match leave the store of the group, and the hidden root rows that do; how many were shown. It fails
+/// for want of memory alone, and all then stays.
+pub(crate) fn cut_hiding(tier: &mut Tier, alloc: Global, aim: &Aim) -> Result<usize, AllocError>
     ensures ok { IfOk result (IsCutHiding tier.old tier.new aim.now) }
     ensures err { OnErr result (KeepsGroups tier.old tier.new) }
 {

@@ -11,7 +11,8 @@ ghost use Rattle.group_engine.specs.Unloading.{UnloadsReady, lists_shown};
 use crate::aiming::Aim;
 use crate::ready::{Ready, answer_behind, slot_is_full};
 use crate::unload_hidden::unload_hidden;
-use crate::unloading::{cut_group, judge_roots};
+use crate::unload_kept::cut_kept;
+use crate::unloading::judge_roots;
 use cache_tier::reply::Reply;
 use group_store::laws::drop_instance_law;
 use outside::Site;
@@ -51,7 +52,7 @@ pub(crate) fn unload_listed<P: Site>(
                 return Ok(slot_is_full(alloc));
             }
             drop_instance_law();
-            match cut_group(tier, alloc, aim, false) {
+            match cut_kept(tier, alloc, aim, false) {
                 Err(AllocError) => Err(Refused::Memory),
                 Ok(count) => {
                     Ok(answer_behind(alloc, site, journal, ready, done(alloc, count as u64)))

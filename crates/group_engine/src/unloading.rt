@@ -27,6 +27,7 @@ use crate::aiming::{Aim, about, aim_by, asks_all, is_read_only, is_whole_only, j
 use crate::dropping::refuse_locked;
 use crate::ready::{Ready, answer_behind, slot_is_full};
 use crate::readying::ready_unload;
+use crate::unload_kept::{clear_kept, cut_kept};
 use crate::unload_listed::unload_listed;
 use crate::unload_locks::writer_within;
 use cache_tier::laws::tier_law;
@@ -161,7 +162,7 @@ fn unload_matching<P: Site>(
             if ready.is_full() {
                 return Ok(slot_is_full(alloc));
             }
-            match cut_group(tier, alloc, aim, all) {
+            match cut_kept(tier, alloc, aim, all) {
                 Err(AllocError) => Err(Refused::Memory),
                 Ok(count) => {
                     Ok(answer_behind(alloc, site, journal, ready, done(alloc, count as u64)))
@@ -194,7 +195,7 @@ fn unload_whole<P: Site>(
     if ready.is_full() {
         return Ok(slot_is_full(alloc));
     }
-    match clear_group(tier, alloc, aim.place) {
+    match clear_kept(tier, alloc, aim.place) {
         Err(AllocError) => Err(Refused::Memory),
         Ok(count) => Ok(answer_behind(alloc, site, journal, ready, done(alloc, count as u64))),
     }
@@ -318,8 +319,8 @@ pub(crate) fn cut_group(
     }
 }
 
-// All instances of the group at a place leave its store; how many. Its flag is cleared.
-fn clear_group(tier: &mut Tier, alloc: Global, place: usize) -> Result<usize, AllocError>
+/// All instances of the group at a place leave its store; how many. Its flag is cleared.
+pub(crate) fn clear_group(tier: &mut Tier, alloc: Global, place: usize) -> Result<usize, AllocError>
     ensures ok { IfOk result (IsClearedGroup tier.old tier.new place) }
     ensures err { OnErr result (KeepsGroups tier.old tier.new) }
 {

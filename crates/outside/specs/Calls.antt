@@ -24,6 +24,13 @@ pub record GoesOn {D : Type 0} (state : D → SiteState) (possible : D → ℕ �
   pub since : (k : ℕ) (p : Held) → (state old).moment < k → k ≤ (state new).moment → possible new k p
       → (q : Held) × possible old (state old).moment q × step q p
 
+-- What is known stays, and what a crash might leave stays possible at each moment.
+pub record OnlyLooks {D : Type 0} (state : D → SiteState) (possible : D → ℕ → Held → Type 0) (old new : D) : Type 0
+  where
+    pub same : state new ≡ state old
+    pub past : (k : ℕ) (p : Held) → possible new k p → possible old k p
+    pub kept : (k : ℕ) (p : Held) → possible old k p → possible new k p
+
 -- all stays
 abbrev pub Stays : Held → Held → Type 0
 Stays old new = new ≡ old

@@ -1,7 +1,7 @@
 //! The backing database, with the journal's disk beside it.
 
 ghost use Rattle.outside.specs.Bank.{AppliesOnce, Defines, TellsRecorded, TellsRow, TellsSchema, WaitsForOne};
-ghost use Rattle.outside.specs.Calls.{BankGoesOn, BankTold};
+ghost use Rattle.outside.specs.Calls.{BankGoesOn, BankTold, OnlyLooks};
 ghost use Rattle.outside.specs.Changes.{TakesChanges};
 ghost use Rattle.outside.specs.Console.{TakesSnapshot, WritesForeign};
 ghost use Rattle.outside.specs.Faults.{BankHasCause};
@@ -184,7 +184,7 @@ pub trait Site: Disk {
     /// told has the rows that it had (`changes_law`).
     ///
     /// `least` says that no call to come asks since a position before it, so the log up to it may be forgotten. A site
-    /// that has forgotten what is asked answers that the call failed.
+    /// that has no log from there on answers that the call failed; `tells_since` says so before.
     ///
     /// (TimesTen Cache User's Guide, "Automatically refreshing a cache group".)
     fn changes(
@@ -199,4 +199,10 @@ pub trait Site: Disk {
         ensures crash { BankGoesOn Self.state Self.possible self.old self.new
             (TakesChanges since trees.now wants.now result) }
         ensures cause { BankHasCause (Self.state self.old) (Self.state self.new) result };
+
+    /// Whether the log goes back to a position, so that `changes` can tell what changed since. A site that keeps no log
+    /// begins one. Where the answer is no the tables are to be read whole. It isn't a call that can fail, and all that is
+    /// known of the site stays.
+    fn tells_since(&mut self, since: Position) -> bool
+        ensures looks { OnlyLooks Self.state Self.possible self.old self.new };
 }

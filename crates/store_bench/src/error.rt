@@ -7,12 +7,15 @@ use thiserror::Error;
 /// Why the measures end early.
 #[derive(Debug, Drop, Error)]
 pub enum BenchError {
-    /// The word is no number of rows within the limits.
-    #[error("usage: store_bench ROWS, from 1000 to 10000000")]
+    /// The first word is no number of rows within the limits, or the second is none of the words.
+    #[error("usage: store_bench ROWS [keys | slots | index | order | overlay], ROWS from 1000 to 10000000")]
     Word,
     /// Memory is wanting.
     #[error("memory is wanting")]
     Memory,
+    /// A row doesn't fit its table, or a session's operation doesn't apply.
+    #[error("a row or an operation of the measures is refused")]
+    Refused,
     /// What is told can't be written, or the system has no clock.
     #[error("{0}")]
     System(#[from] io::Error),

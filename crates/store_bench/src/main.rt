@@ -1,23 +1,29 @@
-//! `store_bench`: what calls of `slot_rows` and `group_store` cost beside those of `indexed_rows`, in one run.
+//! `store_bench`: what calls of `slot_rows` and `group_store` cost beside those of `indexed_rows`, in one run, and a look-up
+//! through a session's own writes beside one in the rows alone.
 //!
 //! Its first word is a number of rows, 1,000 to 10,000,000. Standard output has what the calls found, and standard error the
-//! nanoseconds of a call. A second word `keys` or `slots` measures those rows alone, so that the memory of the process is
-//! theirs. Its status is 0, or 1 where the words are others, memory is wanting or the system has no clock.
+//! nanoseconds of a call. A second word measures one of them alone, so that the memory of the process is its own: `keys` or
+//! `slots` rows by key, `index` or `order` child rows with their order by parent, `overlay` a session's look-ups. Its status
+//! is 0, or 1 where the words are others, memory is wanting or the system has no clock.
 #![tactic(auto)]
 
 mod error;
 mod groups;
+mod overlay;
 mod parents;
 mod rows;
+mod stock;
 mod watch;
+mod writing;
 
 use error::BenchError;
 use groups::measure_instances;
-use parents::measure_indexed;
+use overlay::measure_overlay;
+use parents::{measure_indexed, measure_ordered};
 use rows::{measure_keyed, measure_slots};
 use std::env;
-use std::io::Write;
 use std::process::ExitCode;
+use watch::tell;
 
 /// The fewest rows that are measured.
 const LEAST: usize = 1_000;
@@ -38,18 +44,30 @@ fn main(rt: HostRuntime) -> ExitCode {
 fn run(rt: &HostRuntime) -> Result<(), BenchError> {
     let words = env::args(rt)?.collect::<Vec<String>>(rt.alloc())?;
     let rows = rows_asked(words.as_slice())?;
-    let only = words.get(2).map(|word| word.as_str());
-    if only != Some("slots") {
-        tell(rt, "rows by key found", measure_keyed(rt, rows)?)?;
+    match words.get(2) {
+        None => measure_all(rt, rows),
+        Some(word) => measure_one(rt, rows, word.as_str()),
     }
-    if only != Some("keys") {
-        tell(rt, "rows in slots found", measure_slots(rt, rows)?)?;
+}
+
+fn measure_all(rt: &HostRuntime, rows: usize) -> Result<(), BenchError> {
+    measure_one(rt, rows, "keys")?;
+    measure_one(rt, rows, "slots")?;
+    measure_one(rt, rows, "index")?;
+    measure_one(rt, rows, "order")?;
+    tell(rt, "instances left", measure_instances(rt, rows)?)?;
+    measure_one(rt, rows, "overlay")
+}
+
+fn measure_one(rt: &HostRuntime, rows: usize, word: &str) -> Result<(), BenchError> {
+    match word {
+        "keys" => tell(rt, "rows by key found", measure_keyed(rt, rows)?),
+        "slots" => tell(rt, "rows in slots found", measure_slots(rt, rows)?),
+        "index" => tell(rt, "children by index found", measure_indexed(rt, rows)?),
+        "order" => tell(rt, "children by order found", measure_ordered(rt, rows)?),
+        "overlay" => measure_overlay(rt, rows),
+        _ => Err(BenchError::Word),
     }
-    if only.is_none() {
-        tell(rt, "children by index found", measure_indexed(rt, rows)?)?;
-        tell(rt, "instances left", measure_instances(rt, rows)?)?;
-    }
-    Ok(())
 }
 
 // The number that the first word is, behind the program's own name.
@@ -58,9 +76,4 @@ fn rows_asked(words: &[String]) -> Result<usize, BenchError> {
         Some(rows) if rows >= LEAST && rows <= MOST => Ok(rows),
         _ => Err(BenchError::Word),
     }
-}
-
-fn tell(rt: &HostRuntime, what: &str, count: usize) -> Result<(), BenchError> {
-    println!(rt; "{what}: {count}")?;
-    Ok(())
 }

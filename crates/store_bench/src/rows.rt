@@ -1,5 +1,7 @@
 //! Rows by key: today's lists of keys and rows, and rows in slots.
 
+ghost use Rattle.std.specs.Prelude.{◌≡◌, length};
+
 use crate::error::BenchError;
 use crate::watch::{mixed, tell_calls};
 use indexed_rows::Rows;
@@ -16,7 +18,9 @@ pub fn row_of(alloc: Global, id: usize, parent: usize) -> Result<Row, AllocError
 }
 
 /// The key of one number.
-pub fn key_of(id: usize) -> Key {
+pub fn key_of(id: usize) -> Key
+    ensures { length result ≡ 1 }
+{
     Key::one(number(id))
 }
 

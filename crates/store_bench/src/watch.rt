@@ -1,6 +1,7 @@
-//! How long calls take.
+//! How long calls take, and what they found.
 
 use crate::error::BenchError;
+use std::io::Write;
 use std::time::Instant;
 
 /// Writes to standard error how many nanoseconds each of so many calls took since a moment.
@@ -17,6 +18,12 @@ pub fn tell_calls(
         spent.as_nanos() / calls as u128
     };
     eprintln!(rt; "{what}: {each} ns")?;
+    Ok(())
+}
+
+/// Writes to standard output how many of something there are.
+pub fn tell(rt: &HostRuntime, what: &str, count: usize) -> Result<(), BenchError> {
+    println!(rt; "{what}: {count}")?;
     Ok(())
 }
 

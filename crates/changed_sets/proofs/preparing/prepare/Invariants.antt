@@ -9,6 +9,6 @@ use Rattle.changed_sets.proofs.preparing.prepare.Given as goal
 
 abbrev pub invariant-loop-place : goal.invariant-loop-place
 invariant-loop-place l = record {
-  patches : UpTo (PatchAt (is_filled (choice_of l.chosen) None) l.tier l.touched) l.place l.patches.items;
+  patches : UpTo (PatchAt (is_filled (choice_of l.chosen) None) l.tier l.gaining l.touched) l.place l.patches.items;
   at : l.at ≡ count_before (is_filled (choice_of l.chosen) None) l.place (groups_in l.tier.catalog);
 }

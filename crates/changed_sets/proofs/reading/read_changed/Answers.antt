@@ -1,7 +1,9 @@
-use Rattle.std.proofs.Common.{◌≡◌, None, [], refl, rules, subst, sym}
+use Rattle.std.proofs.Common.{◌≡◌, ◌∙◌, None, refl, rules, subst, sym}
+use Rattle.std.specs.Option.{option_copied, option_map}
 use Rattle.std.specs.Prelude.{Ok, Err}
 use Rattle.outside.specs.declared.fault.BankError.TheVariants.{Memory}
 use Rattle.propagators.proofs.CertainLaws.{bank_certain}
+use Rattle.statement_uses.specs.Wanting.{want_seen}
 use Rattle.group_catalog.specs.Catalogs.{groups_in}
 use Rattle.stored_tier.specs.Refreshing.{choice_of, is_filled}
 use Rattle.changed_sets.specs.Alike.{AllAlike}
@@ -19,14 +21,20 @@ returns-in_default-clause-same g c = roomier_itself c.args.tier.now
 pub returns-in_default-clause-reads : goal.returns-in_default-clause-reads
 returns-in_default-clause-reads g c = λ w at stands apart. not_called c.args.tier.now _ w at stands
 
+pub returns-in_default-rows_wanted-clause-same : goal.returns-in_default-rows_wanted-clause-same
+returns-in_default-rows_wanted-clause-same g c = roomier_itself c.args.tier.now
+
+pub returns-in_default-rows_wanted-clause-reads : goal.returns-in_default-rows_wanted-clause-reads
+returns-in_default-rows_wanted-clause-reads g c = λ w at stands apart. not_called c.args.tier.now _ w at stands
+
 pub returns-in_err-changes-clause-same : goal.returns-in_err-changes-clause-same
 returns-in_err-changes-clause-same g c = roomier_itself c.args.tier.now
 
 pub returns-in_err-changes-clause-reads : goal.returns-in_err-changes-clause-reads
 returns-in_err-changes-clause-reads g c = λ w at stands apart.
     let told : Err c.in_err-changes.field-0.0 ≡ c.from_residual.result = Prim.search rules in
-    subst (ReadsChangedIn c.args.tier.now _ (is_filled (choice_of c.args.chosen) None) w) told
-    (read_failed c.args.tier.now _ _ c.args.since c.as_slice.result.now [] c.in_err-changes.field-0.0 (Err c.in_err-changes.field-0.0) c.in_err-changes.ensures.told c.in_err-changes.ensures.cause.later c.in_err-changes.ensures.crash.later c.in_err-changes.ensures.cause.shared w at stands apart)
+    subst (ReadsChangedIn c.args.tier.now _ (is_filled (choice_of c.args.chosen) None) c.args.place (option_map want_seen (option_copied c.args.want)) w) told
+    (read_failed c.args.tier.now _ _ c.args.since c.as_slice.result.now c.as_slice-2.result.now c.in_err-changes.field-0.0 (Err c.in_err-changes.field-0.0) c.in_err-changes.ensures.told c.in_err-changes.ensures.cause.later c.in_err-changes.ensures.crash.later c.in_err-changes.ensures.cause.shared w at stands apart)
 
 pub returns-in_err-changes-clause-certain : goal.returns-in_err-changes-clause-certain
 returns-in_err-changes-clause-certain g c = bank_certain g.P.Disk.state g.P.Disk.possible g.met.P.Disk.certain c.args.site.now c.changes.new.self _ c.in_err-changes.ensures.told c.in_err-changes.ensures.crash
@@ -59,7 +67,7 @@ returns-clause-sound g c =
 
 pub returns-clause-ready : goal.returns-clause-ready
 returns-clause-ready g c =
-    all_ready c.args.tier.now (record c.args.tier.now { stores = c.make_room.new.stores }) c.requires.sound (is_filled (choice_of c.args.chosen) None) c.as_slice-2.result.now c.in-Ok-prepare.patches.items c.in-Ok-prepare.ensures
+    all_ready c.args.tier.now (record c.args.tier.now { stores = c.make_room.new.stores }) c.requires.sound (is_filled (choice_of c.args.chosen) None) c.args.place c.as_slice-3.result.now c.in-Ok-prepare.patches.items c.in-Ok-prepare.ensures
     (record { rest = refl; stores = c.make_room.ensures.same })
     (subst (λ ps. Rattle.changed_sets.specs.Reading.HaveRoom ps c.make_room.new.stores.items) c.as_slice-in-Ok-prepare.ensures.value c.in-Ok-make_room.ensures.room)
 
@@ -69,8 +77,8 @@ returns-clause-reads g c = λ w at stands apart.
     let r = read_here c.args.tier.now _ _ c.args.since c.as_slice.result.now _ c.in_ok-changes.changes ok.told ok.cause.later ok.crash.later ok.cause.shared w at stands apart in
     let alike : AllAlike (trees_of (is_filled (choice_of c.args.chosen) None) 0 (groups_in c.args.tier.now.catalog)) c.as_slice.result.now =
     subst (AllAlike (trees_of (is_filled (choice_of c.args.chosen) None) 0 (groups_in c.args.tier.now.catalog))) (sym c.as_slice.ensures.value) c.in-Ok.ensures in
-    let are : ArePatches c.args.tier.now (is_filled (choice_of c.args.chosen) None) c.in_ok-changes.changes.touched c.in-Ok-prepare.patches.items =
-    subst (λ l. ArePatches c.args.tier.now (is_filled (choice_of c.args.chosen) None) l c.in-Ok-prepare.patches.items) c.as_slice-2.ensures c.in-Ok-prepare.ensures in (
+    let are : ArePatches c.args.tier.now (is_filled (choice_of c.args.chosen) None) c.args.place c.in_ok-changes.changes.touched c.in-Ok-prepare.patches.items =
+    subst (λ l. ArePatches c.args.tier.now (is_filled (choice_of c.args.chosen) None) c.args.place l c.in-Ok-prepare.patches.items) c.as_slice-3.ensures c.in-Ok-prepare.ensures in (
       record {
         world = r.world;
         at = r.at;
@@ -80,7 +88,7 @@ returns-clause-reads g c = λ w at stands apart.
       },
       λ made came. all_fresh c.drop_instance_law.ensures c.args.tier.now (record c.args.tier.now { stores = c.make_room.new.stores }) w _ c.requires.sound stands c.args.since c.as_slice.result.now _ c.in_ok-changes.changes
           (reads_state c.args.tier.now _ _ c.args.since c.as_slice.result.now _ c.in_ok-changes.changes ok.told ok.cause.later ok.crash.later ok.cause.shared w at stands apart)
-          (choice_of c.args.chosen) c.requires.since alike c.in-Ok-prepare.patches.items are (record { rest = refl; stores = c.make_room.ensures.same }) made came,
+          (choice_of c.args.chosen) c.requires.since alike c.in-Ok-prepare.patches.items c.args.place (option_map want_seen (option_copied c.args.want)) (c.as_slice-2.ensures.value ∙ c.in-Ok-rows_wanted.ensures) are (record { rest = refl; stores = c.make_room.ensures.same }) made came,
     )
 
 pub returns-clause-certain : goal.returns-clause-certain

@@ -1,4 +1,5 @@
-use Rattle.std.proofs.Common.{◌≡◌, ◌∙◌, None, Some, ap, rules, sym}
+use Rattle.std.proofs.Common.{◌≡◌, ◌+◌, ◌∙◌, None, Some, ap, rules, sym}
+use Rattle.changed_sets.specs.Turning.{count_cuts, count_turns}
 use Rattle.changed_sets.proofs.ListSteps.{found}
 use Rattle.changed_sets.proofs.RoomSteps.{Room, room_made, room_same}
 use Rattle.changed_sets.proofs.ShowSteps.{at_set}
@@ -32,4 +33,4 @@ returns-in_ok-count-in-Some-patch-clause-room c =
     let some : c.in-Some.patch.now ≡ Some c.in-Some-patch.patch = first_of (search rules, cc) in
     room_made c.args.place c.args.patches.now c.args.stores.now.items c.reserve.new.self c.in-Some-patch.patch c.in_ok-count-in-Some-patch.count c.reserve.result c.requires
     (sym c.in-Some.ensures ∙ ap Some some)
-    (c.in_ok-count-in-Some-patch.ensures ∙ ap Rattle.changed_sets.specs.Turning.count_turns c.as_slice.ensures) c.reserve.ensures.ok
+    (c.in_ok-count-in-Some-patch.ensures ∙ (λ i. count_cuts (c.as_slice.ensures i) + count_turns (c.as_slice-in-Some-patch.ensures i))) c.reserve.ensures.ok

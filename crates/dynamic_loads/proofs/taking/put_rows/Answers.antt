@@ -8,7 +8,7 @@ pub confirm-requires-clause-sound : goal.confirm-requires-clause-sound
 confirm-requires-clause-sound c = filled_sound c.args.tier.now c.fill_at.new.stores c.args.place c.args.rows c.args.known c.requires.sound c.requires.may c.in-Ok.ensures
 
 pub confirm-requires-clause-keyed : goal.confirm-requires-clause-keyed
-confirm-requires-clause-keyed c = filled_keyed c.args.tier.now c.fill_at.new.stores c.args.place c.args.rows c.args.known c.requires.sound c.requires.may c.in-Ok.ensures c.if-known.true
+confirm-requires-clause-keyed c = filled_keyed c.args.tier.now c.fill_at.new.stores c.args.place c.args.rows c.args.known c.requires.sound c.requires.may c.in-Ok.ensures c.kept_rows_law.ensures.keyed c.if-known.true
 
 pub returns-in-Err : goal.returns-in-Err
 returns-in-Err c = put_wanting c.args.tier.now c.fill_at.new.stores c.args.place c.args.rows c.args.known c.requires.sound c.requires.may c.in-Err.error c.in-Err.ensures

@@ -34,18 +34,18 @@ returns-then-is_full-clause-performs g c = λ id all.
 pub returns-then-is_full-clause-cause : goal.returns-then-is_full-clause-cause
 returns-then-is_full-clause-cause g c = calm_cause _ _ c.slot_is_full.result c.slot_is_full.ensures.calm
 
-pub returns-in-Err-cut_hiding-clause-performs : goal.returns-in-Err-cut_hiding-clause-performs
-returns-in-Err-cut_hiding-clause-performs g c = λ id all.
-    whole_wanting g.P.Disk.state g.P.Disk.possible c.args.tier.now c.cut_hiding.new.tier c.args.journal.now c.args.site.now c.args.ready.now id c.args.aim.now all c.in-Err-cut_hiding.ensures.err
+pub returns-in-Err-hide_kept-clause-performs : goal.returns-in-Err-hide_kept-clause-performs
+returns-in-Err-hide_kept-clause-performs g c = λ id all.
+    whole_wanting g.P.Disk.state g.P.Disk.possible c.args.tier.now c.hide_kept.new.tier c.args.journal.now c.args.site.now c.args.ready.now id c.args.aim.now all c.in-Err-hide_kept.ensures.err
 
-pub returns-in-Err-cut_hiding-clause-sound : goal.returns-in-Err-cut_hiding-clause-sound
-returns-in-Err-cut_hiding-clause-sound g c = sound_kept c.args.tier.now c.cut_hiding.new.tier c.requires.sound c.in-Err-cut_hiding.ensures.err
+pub returns-in-Err-hide_kept-clause-sound : goal.returns-in-Err-hide_kept-clause-sound
+returns-in-Err-hide_kept-clause-sound g c = sound_kept c.args.tier.now c.hide_kept.new.tier c.requires.sound c.in-Err-hide_kept.ensures.err
 
-pub returns-in-Ok-cut_hiding-clause-performs : goal.returns-in-Ok-cut_hiding-clause-performs
-returns-in-Ok-cut_hiding-clause-performs g c = λ id all.
-    hidden_here g.P.Disk.state g.P.Disk.possible c.args.tier.now c.args.journal.now c.args.site.now c.args.ready.now id c.args.aim.now all c.requires.kind c.requires.sound c.drop_instance_law.ensures c.if-not-hides_some.ensures c.cut_hiding.new.tier c.answer_behind.new.journal c.answer_behind.new.site
-    c.in-Ok-cut_hiding.count c.done.result c.answer_behind.result c.in-Ok.ensures c.in-Ok-cut_hiding.ensures.ok c.answer_behind.ensures.answers c.done.ensures
+pub returns-in-Ok-hide_kept-clause-performs : goal.returns-in-Ok-hide_kept-clause-performs
+returns-in-Ok-hide_kept-clause-performs g c = λ id all.
+    hidden_here g.P.Disk.state g.P.Disk.possible c.args.tier.now c.args.journal.now c.args.site.now c.args.ready.now id c.args.aim.now all c.requires.kind c.requires.sound c.drop_instance_law.ensures c.if-not-hides_some.ensures c.hide_kept.new.tier c.answer_behind.new.journal c.answer_behind.new.site
+    c.in-Ok-hide_kept.count c.done.result c.answer_behind.result c.in-Ok.ensures c.in-Ok-hide_kept.ensures.ok c.answer_behind.ensures.answers c.done.ensures
 
-pub returns-in-Ok-cut_hiding-clause-sound : goal.returns-in-Ok-cut_hiding-clause-sound
-returns-in-Ok-cut_hiding-clause-sound g c =
-    sound_hidden c.args.tier.now c.cut_hiding.new.tier c.args.aim.now c.in-Ok-cut_hiding.count c.requires.sound c.if-not-hides_some.ensures c.in-Ok-cut_hiding.ensures.ok
+pub returns-in-Ok-hide_kept-clause-sound : goal.returns-in-Ok-hide_kept-clause-sound
+returns-in-Ok-hide_kept-clause-sound g c =
+    sound_hidden c.args.tier.now c.hide_kept.new.tier c.args.aim.now c.in-Ok-hide_kept.count c.requires.sound c.if-not-hides_some.ensures c.in-Ok-hide_kept.ensures.ok

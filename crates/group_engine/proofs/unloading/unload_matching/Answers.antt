@@ -19,18 +19,18 @@ returns-then-is_full-clause-performs g c =
 pub returns-then-is_full-clause-cause : goal.returns-then-is_full-clause-cause
 returns-then-is_full-clause-cause g c = calm_cause _ _ c.slot_is_full.result c.slot_is_full.ensures.calm
 
-pub returns-in-Err-cut_group-clause-performs : goal.returns-in-Err-cut_group-clause-performs
-returns-in-Err-cut_group-clause-performs g c =
-    unload_wanting g.P.Disk.state g.P.Disk.possible c.args.tier.now c.judge_instances.new.tier c.cut_group.new.tier c.args.journal.now c.args.site.now c.args.ready.now c.args.id c.args.aim.now c.args.all c.in-Ok.ensures.same c.in-Err-cut_group.ensures.err
+pub returns-in-Err-cut_kept-clause-performs : goal.returns-in-Err-cut_kept-clause-performs
+returns-in-Err-cut_kept-clause-performs g c =
+    unload_wanting g.P.Disk.state g.P.Disk.possible c.args.tier.now c.judge_instances.new.tier c.cut_kept.new.tier c.args.journal.now c.args.site.now c.args.ready.now c.args.id c.args.aim.now c.args.all c.in-Ok.ensures.same c.in-Err-cut_kept.ensures.err
 
-pub returns-in-Err-cut_group-clause-sound : goal.returns-in-Err-cut_group-clause-sound
-returns-in-Err-cut_group-clause-sound g c = sound_kept c.judge_instances.new.tier c.cut_group.new.tier c.in-Ok.ensures.sound c.in-Err-cut_group.ensures.err
+pub returns-in-Err-cut_kept-clause-sound : goal.returns-in-Err-cut_kept-clause-sound
+returns-in-Err-cut_kept-clause-sound g c = sound_kept c.judge_instances.new.tier c.cut_kept.new.tier c.in-Ok.ensures.sound c.in-Err-cut_kept.ensures.err
 
-pub returns-in-Ok-cut_group-clause-performs : goal.returns-in-Ok-cut_group-clause-performs
-returns-in-Ok-cut_group-clause-performs g c =
-    unloaded_here g.P.Disk.state g.P.Disk.possible c.unload_statement_law.ensures c.drop_instance_law.ensures c.args.tier.now c.judge_instances.new.tier c.cut_group.new.tier c.args.journal.now c.answer_behind.new.journal c.args.site.now c.answer_behind.new.site c.args.ready.now
-    c.args.id c.args.aim.now c.args.all c.in-Ok-cut_group.count c.done.result c.answer_behind.result c.in-Ok.ensures.told c.in-Ok.ensures.same c.in-Ok.ensures.sound c.requires.kind c.in-Ok-cut_group.ensures.ok c.answer_behind.ensures.answers c.done.ensures
+pub returns-in-Ok-cut_kept-clause-performs : goal.returns-in-Ok-cut_kept-clause-performs
+returns-in-Ok-cut_kept-clause-performs g c =
+    unloaded_here g.P.Disk.state g.P.Disk.possible c.unload_statement_law.ensures c.drop_instance_law.ensures c.args.tier.now c.judge_instances.new.tier c.cut_kept.new.tier c.args.journal.now c.answer_behind.new.journal c.args.site.now c.answer_behind.new.site c.args.ready.now
+    c.args.id c.args.aim.now c.args.all c.in-Ok-cut_kept.count c.done.result c.answer_behind.result c.in-Ok.ensures.told c.in-Ok.ensures.same c.in-Ok.ensures.sound c.requires.kind c.in-Ok-cut_kept.ensures.ok c.answer_behind.ensures.answers c.done.ensures
 
-pub returns-in-Ok-cut_group-clause-sound : goal.returns-in-Ok-cut_group-clause-sound
-returns-in-Ok-cut_group-clause-sound g c =
-    sound_cut c.judge_instances.new.tier c.cut_group.new.tier c.args.aim.now c.args.all c.in-Ok-cut_group.count c.in-Ok.ensures.sound c.in-Ok-cut_group.ensures.ok
+pub returns-in-Ok-cut_kept-clause-sound : goal.returns-in-Ok-cut_kept-clause-sound
+returns-in-Ok-cut_kept-clause-sound g c =
+    sound_cut c.judge_instances.new.tier c.cut_kept.new.tier c.args.aim.now c.args.all c.in-Ok-cut_kept.count c.in-Ok.ensures.sound c.in-Ok-cut_kept.ensures.ok

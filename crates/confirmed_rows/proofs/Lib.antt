@@ -1,0 +1,4 @@
+pub mod EnteredRows
+pub mod FitLaws
+pub mod KeptRows
+pub mod RowsOf

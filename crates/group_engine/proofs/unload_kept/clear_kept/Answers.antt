@@ -1,0 +1,14 @@
+use Rattle.group_engine.proofs.UnloadKept.{cleared_keyed, leaves_noted}
+use Rattle.group_engine.proofs.UnloadWhole.{sound_cleared_at}
+use Rattle.group_engine.proofs.unload_kept.clear_kept.Goals as goal
+
+pub confirm-requires-clause-sound : goal.confirm-requires-clause-sound
+confirm-requires-clause-sound c = sound_cleared_at c.args.tier.now c.clear_group.new.tier c.args.place c.in-Ok.count c.requires c.in-Ok.ensures.ok
+
+pub confirm-requires-clause-keyed : goal.confirm-requires-clause-keyed
+confirm-requires-clause-keyed c =
+    cleared_keyed c.kept_rows_law.ensures.keyed c.args.tier.now c.clear_group.new.tier c.args.place c.in-Ok.count c.requires c.if-known.true c.in-Ok.ensures.ok
+
+pub returns-then-known-clause-ok : goal.returns-then-known-clause-ok
+returns-then-known-clause-ok c =
+    leaves_noted c.args.tier.now c.clear_group.new.tier c.confirm.new.tier c.args.place Rattle.std.proofs.Common.true _ c.in-Ok.ensures.ok c.confirm.ensures.same c.confirm.ensures.sound

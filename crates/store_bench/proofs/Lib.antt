@@ -1,0 +1,2 @@
+mod StockLaws
+mod WriteLaws
