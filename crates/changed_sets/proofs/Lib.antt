@@ -5,6 +5,7 @@ pub mod DownLaws
 pub mod Exchanged
 pub mod GainLaws
 pub mod GroupLaws
+pub mod KeptLaws
 pub mod KeyTurns
 pub mod KeyedLaws
 pub mod LeftLaws

@@ -84,7 +84,7 @@ pub cut_form : (cuts : List Cut) (s : Kept) → Form s (cut_all cuts s)
 cut_form [] s = same_form s
 cut_form (c ∷ cuts) s = both_forms s (cut_by c.bare c.root s) (cut_all cuts (cut_by c.bare c.root s)) (one_form c.bare c.root s) (cut_form cuts (cut_by c.bare c.root s))
 
-shown_form : (rows : Option (List (List (List Value)))) (s : Kept) → Form s (put_shown rows s)
+pub shown_form : (rows : Option (List (List (List Value)))) (s : Kept) → Form s (put_shown rows s)
 shown_form None s = same_form s
 shown_form (Some rows) s = form_tables 0 rows s
 

@@ -1,4 +1,5 @@
 pub mod Alike
+pub mod Fitting
 pub mod Fresh
 pub mod Gains
 pub mod Preparing

@@ -2,6 +2,7 @@
 #![tactic(auto)]
 
 mod copies;
+mod fitting;
 pub mod laws;
 mod preparing;
 pub mod reading;

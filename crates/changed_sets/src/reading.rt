@@ -1,6 +1,6 @@
 //! What changed at the backing database, read for a refresh of READONLY groups.
 
-ghost use Rattle.std.specs.Prelude.{◌≡◌, IfOk, None, Some};
+ghost use Rattle.std.specs.Prelude.{◌≡◌, IfOk, IsTrue, None, Some};
 ghost use Rattle.std.specs.Option.{option_copied, option_map};
 ghost use Rattle.group_catalog.specs.Catalogs.{groups_in};
 ghost use Rattle.propagators.specs.Certainty.{KeepsCertain};
@@ -8,6 +8,7 @@ ghost use Rattle.statement_uses.specs.Wanting.{want_seen};
 ghost use Rattle.stored_tier.specs.Refreshing.{choice_of, is_filled};
 ghost use Rattle.stored_tier.specs.Stored.{IsSound};
 ghost use Rattle.changed_sets.specs.Alike.{AllAlike};
+ghost use Rattle.changed_sets.specs.Fitting.{ArePatchesFit};
 ghost use Rattle.changed_sets.specs.Fresh.{IsCalled};
 ghost use Rattle.changed_sets.specs.Gains.{rows_wanted};
 ghost use Rattle.changed_sets.specs.Reading.{ReadsChanged};
@@ -15,6 +16,7 @@ ghost use Rattle.changed_sets.specs.Showing.{AreReady, IsRoomier};
 ghost use Rattle.changed_sets.specs.Since.{asked_since, trees_of};
 
 use crate::copies::copied_tree;
+use crate::fitting::are_known_fit;
 use crate::preparing::prepare;
 use crate::room::make_room;
 use crate::showing::Changed;
@@ -49,6 +51,8 @@ pub fn read_changed<P: Site>(
     ensures same { IsRoomier tier.old tier.new }
     ensures sound { IsSound tier.new }
     ensures ready { IfOk result (λ changed. AreReady tier.new changed.patches.items) }
+    ensures fits { IfOk result (λ changed. IsTrue changed.fit
+        → ArePatchesFit tier.new.schema (groups_in tier.new.catalog) changed.patches.items) }
     ensures reads { ReadsChanged tier.old tier.new
         (P.Disk.state site.old)
         (P.Disk.state site.new)
@@ -72,10 +76,14 @@ pub fn read_changed<P: Site>(
         Err(_) => Err(BankError::Memory),
         Ok(patches) => match make_room(alloc, &mut tier.stores, patches.as_slice()) {
             Err(_) => Err(BankError::Memory),
-            Ok(()) => Ok(Changed {
-                position: changes.position,
-                patches,
-            }),
+            Ok(()) => {
+                let fit = are_known_fit(tier, &patches);
+                Ok(Changed {
+                    position: changes.position,
+                    patches,
+                    fit,
+                })
+            }
         },
     }
 }

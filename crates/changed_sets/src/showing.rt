@@ -1,18 +1,22 @@
 //! What changed comes to be shown.
 
-ghost use Rattle.std.specs.Prelude.{◌≡◌, ℕ, Some, slice_get, slice_set};
+ghost use Rattle.std.specs.Prelude.{◌≡◌, ℕ, IsTrue, Some, slice_get, slice_set};
 ghost use Rattle.group_catalog.specs.Catalogs.{groups_in};
 ghost use Rattle.group_store.specs.Stores.{Kept};
 ghost use Rattle.stored_tier.specs.Refreshing.{choice_of};
-ghost use Rattle.stored_tier.specs.Stored.{IsSound};
+ghost use Rattle.stored_tier.specs.Stored.{IsSound, IsVerified};
+ghost use Rattle.changed_sets.specs.Fitting.{ArePatchesFit};
 ghost use Rattle.changed_sets.specs.Showing.{AreReady, HiddenBy, Patched, PatchedAt, ShowsPatches, TurnedBy};
 ghost use Rattle.changed_sets.specs.Turning.{IsReadyFor};
 ghost use Rattle.changed_sets.specs.declared.turns.Patch.{Patch as OnePatch};
 
 use crate::turning::turn;
 use crate::turns::Patch;
+use confirmed_rows::confirming::confirm;
+use confirmed_rows::laws::kept_rows_law;
 use group_store::Store;
 use slot_rows::SlotRows;
+use std::alloc::Global;
 use stored_tier::refreshing::{Chosen, give_position};
 use stored_tier::tier::Tier;
 use tier_base::Position;
@@ -23,6 +27,8 @@ pub struct Changed {
     pub(crate) position: Position,
     // what becomes of the groups that keep rows
     pub(crate) patches: Vec<Option<Patch>>,
+    // whether it is known that the rows that come in fit their tables
+    pub(crate) fit: bool,
 }
 
 impl Drop for Changed {
@@ -30,6 +36,7 @@ impl Drop for Changed {
         let Self {
             position: _,
             patches: _,
+            fit: _,
         } = self;
     }
 }
@@ -38,17 +45,52 @@ impl Changed {
     fn into_parts(self) -> (Position, Vec<Option<Patch>>)
         ensures { result ≡ (self.position, self.patches) }
     {
-        let Self { position, patches } = self;
+        let Self {
+            position,
+            patches,
+            fit: _,
+        } = self;
         (position, patches)
     }
 }
 
 /// What changed is shown: told instances leave their stores, but for the root rows of those that are shown then, and these
-/// have all their rows again; no root row is hidden, and the chosen groups are at the position. It takes no memory.
-pub fn show_changed(tier: &mut Tier, chosen: Chosen, changed: Changed)
+/// have all their rows again; no root row is hidden, and the chosen groups are at the position.
+///
+/// Where sessions might read over the stored rows before, and it is known that those that come in fit, it is found out
+/// behind it whether they still may. It takes no memory but for the judging of what sessions wrote; where that is wanting
+/// each row is looked at before the next statement.
+pub fn show_changed(tier: &mut Tier, alloc: Global, chosen: Chosen, changed: Changed)
+    requires sound { IsSound tier.old }
+    requires ready { AreReady tier.old changed.patches.items }
+    requires fits { IsTrue changed.fit
+        → ArePatchesFit tier.old.schema (groups_in tier.old.catalog) changed.patches.items }
+    ensures shown { ShowsPatches tier.old tier.new (choice_of chosen) changed.position.0 changed.patches.items }
+    ensures sound { IsSound tier.new }
+{
+    kept_rows_law();
+    let known = is_known(tier, &changed);
+    patch_tier(tier, chosen, changed);
+    if known {
+        confirm(tier, alloc);
+    }
+}
+
+// Whether sessions may read over the stored rows, and it is known that those that come in fit.
+fn is_known(tier: &Tier, changed: &Changed) -> bool
+    requires { IsSound tier.now }
+    ensures verified { IsTrue result → IsVerified tier.now }
+    ensures fit { IsTrue result → IsTrue changed.now.fit }
+{
+    tier.verified && changed.fit
+}
+
+// The patches are done, and it is forgotten whether sessions may read over the stored rows.
+fn patch_tier(tier: &mut Tier, chosen: Chosen, changed: Changed)
     requires sound { IsSound tier.old }
     requires ready { AreReady tier.old changed.patches.items }
     ensures shown { ShowsPatches tier.old tier.new (choice_of chosen) changed.position.0 changed.patches.items }
+    ensures patched { Patched TurnedBy changed.patches.items tier.old.stores.items tier.new.stores.items }
     ensures sound { IsSound tier.new }
 {
     let (position, patches) = changed.into_parts();

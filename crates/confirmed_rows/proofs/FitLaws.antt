@@ -2,13 +2,14 @@
 use Rattle.std.proofs.Common.{◌≡◌, ◌⊎◌, ◌<◌, ◌≤◌, ◌+◌, ℕ, Some, List, inl, inr, length, get_or, slice_get, arith, sym, ap, subst, ◌∙◌}
 use Rattle.std.proofs.lemmas.Bool.{cases_lt}
 use Rattle.tier_base.specs.declared.number.TableId.{TableId}
+use Rattle.row_types.specs.declared.value.Value.{Value}
 use Rattle.table_defs.specs.declared.definition.TableDef.{TableDef}
 use Rattle.indexed_rows.specs.Rows.{Table}
 use Rattle.indexed_rows.proofs.EntryLaws.{read, there}
 use Rattle.table_state.specs.Keyed.{HasFit}
 use Rattle.instances.specs.declared.tree.Tree.{Tree}
 use Rattle.instances.specs.Trees.{table_of}
-use Rattle.confirmed_rows.specs.Fitting.{AreFit}
+use Rattle.confirmed_rows.specs.Fitting.{AreFit, AreListedFit, DoFit}
 use Rattle.order_laws.proofs.TruthLaws.{same_some}
 
 -- the rows of the table at a place
@@ -42,3 +43,27 @@ pub all_tables_fit : (schema : List TableDef) (tree : Tree) (tables : List Table
 all_tables_fit schema tree tables n long all i rows t def at is known =
     let within = (read tables i rows rows at).0 in
     all i rows (Prim.omega (arith, long, within)) at t def is known
+
+-- ---- lists, one element after another
+
+abbrev pub AllBelow : {X : Type 0} → (ℕ → X → Type 0) → ℕ → List X → Type 0
+AllBelow {X} P n xs = (i : ℕ) (x : X) → i < n → slice_get xs i ≡ Some x → P i x
+
+pub one_more : {X : Type 0} (P : ℕ → X → Type 0) (xs : List X) (n : ℕ) (x : X) → slice_get xs n ≡ Some x → P n x → AllBelow P n xs → AllBelow P (n + 1) xs
+one_more {X} P xs n x here is all i other lt at = by (below i n lt)
+  where
+    by : (i < n) ⊎ (i ≡ n) → P i other
+    by (inl less) = all i other less at
+    by (inr same) = subst (P i) (same_some (sym here ∙ ap (slice_get xs) (sym same) ∙ at)) (subst (λ k. P k x) (sym same) is)
+
+pub all_elements : {X : Type 0} (P : ℕ → X → Type 0) (xs : List X) (n : ℕ) → length xs ≤ n → AllBelow P n xs → (i : ℕ) (x : X) → slice_get xs i ≡ Some x → P i x
+all_elements P xs n long all i x at =
+    let within = (read xs i x x at).0 in
+    all i x (Prim.omega (arith, long, within)) at
+
+-- the rows of a list, at a place of a tree
+abbrev pub ListFitsAt : List TableDef → Tree → ℕ → List (List Value) → Type 0
+ListFitsAt schema tree i rows = (t : TableId) (def : TableDef) → table_of tree i ≡ Some t → slice_get schema t.0 ≡ Some def → DoFit def.columns rows
+
+pub all_lists_fit : (schema : List TableDef) (tree : Tree) (lists : List (List (List Value))) (n : ℕ) → length lists ≤ n → AllBelow (ListFitsAt schema tree) n lists → AreListedFit schema tree lists
+all_lists_fit schema tree lists n long all i j rows row t def at there is known = all_elements (ListFitsAt schema tree) lists n long all i rows at t def is known j row there

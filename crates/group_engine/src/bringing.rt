@@ -265,7 +265,7 @@ fn bring_changed<P: Site>(
             if ready.is_full() {
                 return Err(slot_is_full(alloc));
             }
-            show_changed(tier, chosen, changed);
+            show_changed(tier, alloc, chosen, changed);
             tier.catalog.with_state(place, state);
             flush_kept(alloc, site, journal, ready)
         }

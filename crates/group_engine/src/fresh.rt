@@ -190,7 +190,7 @@ fn refresh_changed<P: Site>(
     match read_changed(tier, alloc, site, chosen, since, 0, None) {
         Err(error) => Err(error),
         Ok(changed) => {
-            show_changed(tier, chosen, changed);
+            show_changed(tier, alloc, chosen, changed);
             Ok(())
         }
     }
