@@ -9,6 +9,9 @@ cd "$1"
 bash "$here/crashes.sh" .
 bash "$here/journals.sh" .
 
+# Sets that are read whole.
+bash "$here/in_full.sh" .
+
 table='backing: CREATE TABLE A (ID TT_BIGINT PRIMARY KEY)'
 group='s1: CREATE ASYNCHRONOUS WRITETHROUGH CACHE GROUP GA FROM A (ID TT_BIGINT PRIMARY KEY)'
 nothing=$'-- history\n-- tables'
