@@ -387,3 +387,96 @@ lengths=$((11 + 150 * 17 + 150 * (3 + 14 + 12 + 3600 + 1) + 150 * (3 + 12 + 3600
   } | fold -w 64
   printf '\n'
 } >a_long_journal_is_begun_anew.expected
+
+# The longest line that is read, and one of a byte less, which lacks its end.
+name=longest_lines
+front="s1: INSERT INTO A VALUES (1$(printf ',1%.0s' $(seq 32754))"
+printf '%s\n' "$front" "$front)" >"$name.ttc"
+printf 'no 101 65535\nok 0\n' >"$name.expected"
+echo check >"$name.words"
+
+# A text has up to 4,000 bytes, and two quotes are one of them.
+script texts_of_4000_bytes
+inserts 1 1
+line "s1: SELECT '$(many a 4000)' FROM A" "= '$(many a 4000)'"$'\nok 1'
+line "s1: SELECT '$(many a 4001)' FROM A" 'no 105 -'
+line "s1: SELECT '$(many a 3999)''' FROM A" "= '$(many a 3999)'''"$'\nok 1'
+line "s1: SELECT '$(many a 4000)''' FROM A" 'no 105 -'
+
+# Instances are found over the bank in memory as over a file: by the same lines.
+rows='A 1|10,A 2|NULL,A 3|30,A 4|9223372036854775807,C 10|1,C 11|1,C 12|2,C 13|3,K 100|10,K 101|11,K 102|12,K 103|13,K 104|10'
+three=$'-- history\n1 definition of A\n2 definition of C\n3 definition of K\n4 others\n'
+three+=$(tr , '\n' <<<"$rows" | sed 's/^/  insert /')$'\n-- tables\n'
+three+=$(tr , '\n' <<<"$rows" | awk '$1 != table { table = $1; print table } { print "= " $2 }')
+drill three_tables_over_memory '! note Instances are found over the bank in memory as over a file.' \
+  "$here/three_tables_on_demand.ttc" 0 "$(cat "$here/three_tables_on_demand.expected")"$'\n'"$three"
+
+# A time in the journal is the seconds that `date -u` tells of it.
+cat >times <<'END'
+-62135596800 0001-01-01 00:00:00
+-62104060801 0001-12-31 23:59:59
+-62035848000 0004-02-29 12:00:00
+-2203891201 1900-02-28 23:59:59
+-1 1969-12-31 23:59:59
+0 1970-01-01 00:00:00
+951868799 2000-02-29 23:59:59
+1709212455 2024-02-29 13:14:15
+253402300799 9999-12-31 23:59:59
+END
+{
+  printf '! note A time is kept as its seconds since 1970, and is printed as it was read.\n! slots\n'
+  echo 'backing: CREATE TABLE E (ID TT_INTEGER, T TIMESTAMP, PRIMARY KEY (ID))'
+  echo 's1: OPEN'
+  echo 's1: CREATE ASYNCHRONOUS WRITETHROUGH CACHE GROUP G FROM E (ID TT_INTEGER, T TIMESTAMP, PRIMARY KEY (ID))'
+  awk '{ printf "s1: INSERT INTO E VALUES (%d, TIMESTAMP '"'%s %s'"')\n", NR, $2, $3 }' times
+  printf 's1: %s\n' 'SELECT T FROM E ORDER BY T DESC' COMMIT
+} >times_are_kept_as_seconds.drill
+kept() {
+  printf '01%016x%04x' 1 9
+  while read -r seconds _; do
+    id=$((${id:-0} + 1))
+    printf '01014502%s03%016x' "$(number $id)" "$seconds"
+  done <times
+}
+{
+  printf 'ok 0\nok 0\nok 0\n'
+  printf 'ok 1\n%.0s' 1 2 3 4 5 6 7 8 9
+  tac times | sed 's/[^ ]* /= /'
+  printf 'ok 9\nok 1\n-- history\n1 definition of E\n-- tables\nE\n-- slot 0\n'
+  {
+    printf '01020000000000000001'
+    batch "$(spelt 'CREATE ASYNCHRONOUS WRITETHROUGH CACHE GROUP G FROM E ( ID TT_INTEGER NOT NULL , T TIMESTAMP , PRIMARY KEY ( ID ) )')"
+    batch "$(kept)"
+    printf 00
+  } | fold -w 64
+  printf -- '\n-- slot 1\n00\n'
+} >times_are_kept_as_seconds.expected
+
+# The text of a definition in the journal: words in upper case, keys as clauses, defaults written out, and no parentheses but
+# those that a condition needs.
+cat >texts_of_groups.drill <<'END'
+! note The text of a definition is its normal form.
+! slots
+backing: CREATE TABLE A (ID TT_INTEGER, N TT_INTEGER, PRIMARY KEY (ID))
+backing: CREATE TABLE OWN.C (ID NUMBER(6,0), N VARCHAR2(20), PRIMARY KEY (ID))
+backing: CREATE TABLE O (ID TT_INTEGER, CID NUMBER(6,0), PRIMARY KEY (ID), FOREIGN KEY (CID) REFERENCES OWN.C (ID) ON DELETE CASCADE)
+backing: CREATE TABLE E (ID TT_INTEGER, T TIMESTAMP NOT NULL, NAME VARCHAR2(20), PRIMARY KEY (ID))
+s1: OPEN
+s1: create readonly cache group own.r from a (id tt_integer primary key, n tt_integer) where not (id = 1) and (n!=2 or (n<3 or n is not null));
+s1: create dynamic asynchronous writethrough cache group w from own.c (id number(06) primary key, n varchar2(020 byte)), o (id tt_integer, cid number(6,0), primary key(id), foreign key(cid) references own . c(id) on delete cascade)
+s1: CREATE READONLY CACHE GROUP S AUTOREFRESH MODE FULL INTERVAL 5 SECONDS STATE ON FROM E (ID TT_INTEGER, T TIMESTAMP(0) NOT NULL, NAME VARCHAR2(20), PRIMARY KEY (ID)) WHERE ((id+-007*1.50 not between - 5 and 1) or name not in ('it''s',null)) or t=timestamp'2020-01-01 00:00:00' AGING USE T LIFETIME 2 MINUTES OFF
+END
+{
+  printf 'ok 0\n%.0s' 1 2 3 4 5 6 7 8
+  printf -- '-- history\n'
+  printf '%s definition of %s\n' 1 A 2 OWN.C 3 O 4 E
+  printf '%s\n' '-- tables' A OWN.C O E '-- slot 0'
+  {
+    printf '01020000000000000001'
+    batch "$(spelt 'CREATE READONLY CACHE GROUP OWN . R AUTOREFRESH MODE INCREMENTAL INTERVAL 300000 MILLISECONDS STATE PAUSED FROM A ( ID TT_INTEGER NOT NULL , N TT_INTEGER , PRIMARY KEY ( ID ) ) WHERE NOT ID = 1 AND ( N <> 2 OR ( N < 3 OR N IS NOT NULL ) )')"
+    batch "$(spelt 'CREATE DYNAMIC ASYNCHRONOUS WRITETHROUGH CACHE GROUP W FROM OWN . C ( ID NUMBER ( 6 , 0 ) NOT NULL , N VARCHAR2 ( 20 ) , PRIMARY KEY ( ID ) ) AGING LRU ON , O ( ID TT_INTEGER NOT NULL , CID NUMBER ( 6 , 0 ) NOT NULL , PRIMARY KEY ( ID ) , FOREIGN KEY ( CID ) REFERENCES OWN . C ( ID ) ON DELETE CASCADE )')"
+    batch "$(spelt "CREATE READONLY CACHE GROUP S AUTOREFRESH MODE FULL INTERVAL 5000 MILLISECONDS STATE ON FROM E ( ID TT_INTEGER NOT NULL , T TIMESTAMP NOT NULL , NAME VARCHAR2 ( 20 ) , PRIMARY KEY ( ID ) ) AGING USE T LIFETIME 120 SECONDS CYCLE 300 SECONDS OFF WHERE ID + -007 * 1.50 NOT BETWEEN -5 AND 1 OR NAME NOT IN ( 'it''s' , NULL ) OR T = TIMESTAMP '2020-01-01 00:00:00'")"
+    printf 00
+  } | fold -w 64
+  printf -- '\n-- slot 1\n00\n'
+} >texts_of_groups.expected

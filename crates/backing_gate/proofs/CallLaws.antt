@@ -4,7 +4,7 @@ use Rattle.std.specs.Option.{IfSome}
 use Rattle.tier_base.specs.declared.number.TableId.{TableId}
 use Rattle.table_state.specs.declared.history.Entry.{Entry}
 use Rattle.evaluator.specs.declared.change.Change.{Change}
-use Rattle.outside.specs.Calls.{BankCall, GoesOn}
+use Rattle.outside.specs.Calls.{BankCall, GoesOn, MayGrow}
 use Rattle.outside.specs.Faults.{BankHasCause, Rose}
 use Rattle.outside.specs.declared.fault.BankError.{BankError}
 use Rattle.outside.specs.declared.fault.BankError.TheVariants.{Failed, Memory}
@@ -144,6 +144,7 @@ module _ (kind : CallKind) (begun : Begun) (a b c d : MemoryState) (begins : Beg
     pub told : BankCall a.visits.shared step (held_of a) (held_of d)
     told = record {
       slots = ap (λ (x : MemoryDisk). (disk_held x).slots) disk;
+      grows = let longer = extends_all a.visits.shared (next_visit Before a.visits) (next_visit Behind a.visits) step a.history b.history c.history d.history before own behind extends in record { more = longer.0; is = longer.1 };
       history = around a.visits.shared (next_visit Before a.visits) (next_visit Behind a.visits) step a.history b.history c.history d.history before own behind;
     }
 
@@ -166,5 +167,5 @@ module _ (kind : CallKind) (begun : Begun) (a b c d : MemoryState) (begins : Beg
               | inr stays ↦ inr (record { past = stays.past ∙ then ∙ ap (λ (m : Mark). a.past ++ m ∷ []) far; longer = λ e. stays.longer (e ∙ sym long) })
             ]
 
-    pub crash : GoesOn site_state possible_of a d (BankCall a.visits.shared step)
-    crash = goes_on a d a.visits.shared step disk grown moment told.history
+    pub crash : GoesOn site_state possible_of a d (MayGrow (Some (held_of d)))
+    crash = goes_on a d disk grown moment

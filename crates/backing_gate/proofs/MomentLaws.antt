@@ -7,14 +7,14 @@ use Rattle.table_state.specs.declared.history.Entry.{Entry}
 use Rattle.table_state.specs.declared.history.Entry.TheVariants.{Foreign}
 use Rattle.table_state.specs.Tables.{TableState}
 use Rattle.evaluator.specs.declared.change.Change.{Change}
-use Rattle.outside.specs.Calls.{BankCall, GoesOn}
+use Rattle.outside.specs.Calls.{GoesOn, MayGrow}
 use Rattle.outside.specs.Holding.{Held}
 use Rattle.outside.specs.Others.{AreOthers, Around}
 use Rattle.memory_disk.specs.declared.memory_disk.MemoryDisk.{MemoryDisk}
 use Rattle.memory_disk.specs.Possible.{moment_of as disk_moment, possible_of as disk_possible}
 use Rattle.backing_gate.specs.Heeding.{IsMoment, MayVisit, Visits}
 use Rattle.backing_gate.specs.Marks.{least, lesser, mark_at}
-use Rattle.backing_gate.specs.Memory.{MemoryState, alone, now_of, possible_of, site_state, then_of}
+use Rattle.backing_gate.specs.Memory.{MemoryState, alone, held_of, now_of, possible_of, site_state, then_of}
 use Rattle.backing_gate.specs.SiteLaws.{all_now, at_present}
 use Rattle.backing_gate.specs.declared.mark.Mark.{Mark}
 use Rattle.backing_gate.proofs.BankLaws.{came as entry_came}
@@ -136,7 +136,7 @@ module _ (a d : MemoryState) (step : Held → Held → Type 0) (past : d.past �
       }
 
 -- a call of the bank
-module _ (a d : MemoryState) (shared : List TableId) (step : List Entry → List Entry → Type 0) (disk : d.disk ≡ a.disk) (extends : Extends a.history d.history) (moment : IsMoment a d) (told : Around shared step a.history d.history) where
+module _ (a d : MemoryState) (disk : d.disk ≡ a.disk) (extends : Extends a.history d.history) (moment : IsMoment a d) where
   same_past : (m : ℕ) (q : Held) → m ≤ disk_moment a.disk → disk_possible d.disk m q → disk_possible a.disk m q
   same_past m q le h = subst (λ (x : MemoryDisk). disk_possible x m q) disk h
 
@@ -146,19 +146,19 @@ module _ (a d : MemoryState) (shared : List TableId) (step : List Entry → List
   same_moment : disk_moment d.disk ≡ disk_moment a.disk
   same_moment = ap disk_moment disk
 
-  bank_came : (p : Held) → p.history ≡ d.history → disk_possible d.disk (disk_moment d.disk) (alone p) → (q : Held) × (q.history ≡ a.history) × disk_possible a.disk (disk_moment a.disk) (alone q) × BankCall shared step q p
+  bank_came : (p : Held) → p.history ≡ d.history → disk_possible d.disk (disk_moment d.disk) (alone p) → (q : Held) × (q.history ≡ a.history) × disk_possible a.disk (disk_moment a.disk) (alone q) × MayGrow (Some (held_of d)) q p
   bank_came p here slots = (
     record { slots = p.slots; history = a.history },
     refl,
     subst (λ (x : MemoryDisk). disk_possible x (disk_moment x) (alone p)) disk slots,
-    record { slots = refl; history = subst (λ (h : List Entry). Around shared step a.history h) (sym here) told },
+    (refl, record { came = record { more = extends.0; is = here ∙ extends.1 }; comes = record { more = []; is = sym here ∙ sym (append-nil p.history) } }),
   )
 
   -- what a crash may leave behind it came by a step
-  pub goes_on : GoesOn site_state possible_of a d (BankCall shared step)
+  pub goes_on : GoesOn site_state possible_of a d (MayGrow (Some (held_of d)))
   goes_on = elim moment [
-    | inl none ↦ still_goes a d (BankCall shared step) none.past none.same same_moment same_past same_kept
-    | inr marks ↦ marked_goes a d (BankCall shared step) marks.past extends (omega (arith, same_moment)) same_past same_kept bank_came
+    | inl none ↦ still_goes a d (MayGrow (Some (held_of d))) none.past none.same same_moment same_past same_kept
+    | inr marks ↦ marked_goes a d (MayGrow (Some (held_of d))) marks.past extends (omega (arith, same_moment)) same_past same_kept bank_came
   ]
 
 -- what others did in a call is transactions of others

@@ -24,7 +24,9 @@ use Rattle.cache_tier.specs.declared.reply.Note.{Note}
 use Rattle.cache_tier.specs.declared.reply.Reply.{Reply}
 use Rattle.stored_tier.specs.declared.tier.Tier.{Tier as Stored}
 use Rattle.stored_tier.specs.Performing.{Performs, PerformsOver, StaysWritten}
+use Rattle.stored_tier.specs.Sites.{IsAt}
 use Rattle.stored_tier.proofs.OverLaws.{keeps_called, over_quiet}
+use Rattle.stored_tier.proofs.WayLaws.{at_history_of, grown_leaves}
 use Rattle.session_engine.specs.Doubting.{Leads, LeadsOver}
 use Rattle.session_engine.specs.declared.doubt.Doubt as kept
 use Rattle.cache_engine.specs.Growing.{BeginsWith}
@@ -114,9 +116,9 @@ console_journal request w w' reply (inr p) = ap (λ (x : World). x.journal) p.0
 
 module _ {D : Type 0} (state : D → SiteState) (possible : D → ℕ → Held → Type 0) where
   -- under a schema that has grown
-  keeps_grown : (k : Option TierJournal) (d d' : D) (w w' : World) → KeepsOver state possible d k w → KeepsCertain state possible d d' → w'.journal ≡ w.journal → BeginsWith w.tier.schema w'.tier.schema → KeepsOver state possible d' k w'
-  keeps_grown None d d' w w' keeps certain journal grows = ap (λ j. j.kept) journal ∙ keeps
-  keeps_grown (Some t) d d' w w' keeps certain journal grows =
+  keeps_grown : (k : Option TierJournal) (d d' : D) (w w' : World) → KeepsOver state possible d k w → KeepsCertain state possible d d' → w'.journal ≡ w.journal → BeginsWith w.tier.schema w'.tier.schema → IsAt (state d') w' → KeepsOver state possible d' k w'
+  keeps_grown None d d' w w' keeps certain journal grows at = ap (λ j. j.kept) journal ∙ keeps
+  keeps_grown (Some t) d d' w w' keeps certain journal grows at =
       let c = certain keeps.there keeps.certain in
       record {
         there = c.now;
@@ -126,6 +128,9 @@ module _ {D : Type 0} (state : D → SiteState) (possible : D → ℕ → Held �
             (subst (λ j. Keeps w.tier.schema t c.now.slots j) (sym journal)
             (subst (λ s. Keeps w.tier.schema t s w.journal) (sym c.slots) keeps.keeps)));
         version = keeps.version;
+        leaves =
+            grown_leaves state possible d d' t w w' keeps.there keeps.keeps c (at_history_of (state d') w' c.now at c.certain.told) journal
+            (record { more = grows.more; is = grows.is }) keeps.leaves;
       }
 
   -- a stage or a part that writes nothing, where the schema may grow
@@ -140,7 +145,7 @@ module _ {D : Type 0} (state : D → SiteState) (possible : D → ℕ → Held �
         at = it.at;
         is = it.is;
         stands = λ whole. it.stands;
-        keeps = λ whole. keeps_grown k d d' w it.world keeps certain (still w it.world it.is) to;
+        keeps = λ whole. keeps_grown k d d' w it.world keeps certain (still w it.world it.is) to it.at;
       }
 
   -- a journal to which nothing was done
@@ -167,5 +172,5 @@ module _ {D : Type 0} (state : D → SiteState) (possible : D → ℕ → Held �
         at = it.at;
         is = it.is;
         left = λ whole. it.left;
-        keeps = λ whole. keeps_called state possible k d d' w it.world keeps certain same.journal same.schema;
+        keeps = λ whole. keeps_called state possible k d d' w it.world keeps certain same.journal same.schema it.at;
       }

@@ -52,7 +52,7 @@ use Rattle.cache_tier.specs.DropSteps.{DropsAt, DropsGroup, DropsRest, drop_answ
 use Rattle.cache_tier.specs.DueWork.{DueAging, DueDoubt, DueRound, DueSets, DueSetsOf, DueWork, Item, ItemFollows, ThenItem, due_sets, is_round_due}
 use Rattle.cache_tier.specs.DynamicLoads.{Brings, BringsAt, BringsInto, BringsReadOnly, BringsWritethrough, LoadsWanted, joined_tier, state_entries}
 use Rattle.cache_tier.specs.Heeding.{HeedLeads}
-use Rattle.cache_tier.specs.GoesOn.{IsLonger, LeadsTo, RunKeepsJournal, RunLeads, StepKeepsJournal, StepLeads}
+use Rattle.cache_tier.specs.GoesOn.{IsLonger, LeadsTo, RunKeepsJournal, RunLeads, StepKeepsJournal, StepKeepsWay, StepLeads}
 use Rattle.cache_tier.specs.Groups.{Group, is_explicit, is_read_only, is_writethrough}
 use Rattle.cache_tier.specs.InsertSteps.{Finds, Inserts, insert_answer, insert_fault}
 use Rattle.cache_tier.specs.JournalSteps.{Flushes}
@@ -75,7 +75,7 @@ use Rattle.cache_tier.specs.Wants.{Want, loaded_want}
 use Rattle.cache_tier.specs.WriteSteps.{WritesBy, WritesEffects, WritesOps, WritesPlaced, WritesShown}
 use Rattle.cache_tier.specs.Undone.{is_undone}
 use Rattle.cache_tier.specs.Worlds.{Answer, Becomes, Part, ThenStage, World, unless}
-use Rattle.cache_tier.proofs.WayLaws.{kept_on_way}
+use Rattle.cache_tier.proofs.WayLaws.{kept_on_way, way_on_way}
 use Rattle.cache_tier.proofs.LeadLaws.{PartLeads, StageLeads, answers_leads, bank_leads, becomes_leads, either_leads, flushes_leads, flushes_some_leads, next_of, on, only_where_leads, passes_leads, quiet, reads_first_leads, reads_leads, records_leads, refuses_leads, round_if_unsettled_leads, round_leads, same, same_number, then_leads, then_stage_leads, tiered, tries_leads, unless_leads}
 
 -- what calls of the bank add
@@ -506,6 +506,11 @@ keeps_journal w w' l = kept_on_way w.journal w'.journal (l.journal).renewals (l.
 
 pub step_keeps_journal : StepKeepsJournal
 step_keeps_journal base w w' said reply q = keeps_journal w w' (step_leads base w w' said reply q)
+
+pub step_keeps_way : StepKeepsWay
+step_keeps_way base w w' said reply q =
+    let l = (step_leads base w w' said reply q).journal in
+    way_on_way w.journal w'.journal l.renewals l.leads
 
 pub run_keeps_journal : RunKeepsJournal
 run_keeps_journal w w' lines replies q = keeps_journal w w' (run_leads w w' lines replies q)

@@ -4,6 +4,7 @@
 use Rattle.std.specs.Prelude.{◌≡◌, ℕ, ◌≤◌, List, ◌++◌, Option}
 use Rattle.table_state.specs.declared.history.Entry.{Entry}
 use Rattle.cache_tier.specs.declared.reply.Reply.{Reply}
+use Rattle.cache_tier.specs.JournalWays.{beginning_of}
 use Rattle.cache_tier.specs.WayFacts.{IsLed}
 use Rattle.cache_tier.specs.Steps.{Asked, Run, Saying, Step}
 use Rattle.cache_tier.specs.Worlds.{World}
@@ -33,6 +34,12 @@ abbrev pub StepKeepsJournal : Type 0
 StepKeepsJournal =
     (base : ℕ) (w w' : World) (said : Saying) (reply : Option Reply) → Step base w said w' reply
     → w'.journal.kept ≡ w.journal.kept
+
+-- and so does where a way of the journal began
+abbrev pub StepKeepsWay : Type 0
+StepKeepsWay =
+    (base : ℕ) (w w' : World) (said : Saying) (reply : Option Reply) → Step base w said w' reply
+    → beginning_of w'.journal ≡ beginning_of w.journal
 
 abbrev pub RunKeepsJournal : Type 0
 RunKeepsJournal =

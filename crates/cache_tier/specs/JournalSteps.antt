@@ -11,7 +11,7 @@ use Rattle.table_state.specs.declared.operation.Op.{Op}
 use Rattle.table_state.specs.Operations.{table_of}
 use Rattle.cache_tier.specs.declared.reply.Reply.{Reply}
 use Rattle.cache_tier.specs.declared.reply.Last.TheVariants.{No}
-use Rattle.cache_tier.specs.Journals.{Journal, JournalEntry, flushed_with, is_full, with_noted}
+use Rattle.cache_tier.specs.Journals.{Journal, JournalEntry, flushed_with, is_full, on_the_way, with_noted}
 use Rattle.cache_tier.specs.Rules.{broken_if, past}
 use Rattle.cache_tier.specs.Worlds.{OnlyWhere, Stage, World, faulty, only}
 
@@ -40,7 +40,7 @@ pub data Flushed : Type 0 where
   Failing : Flushed
 
 abbrev pub journal_behind : Flushed → World → List JournalEntry → Journal
-journal_behind Whole w entries = journal_with w entries
+journal_behind Whole w entries = on_the_way (length w.history) w.journal (journal_with w entries)
 journal_behind Failing w entries = record w.journal { tail = w.journal.tail ++ entries }
 
 abbrev pub flush_stop : Flushed → Option Reply

@@ -24,14 +24,38 @@ pub data JournalEntry : Type 0 where
   SetsState : List ℕ → RefreshState → JournalEntry
   SetsLoaded : List ℕ → Bool → JournalEntry
 
+-- what the slots gave before a flush or a rotation, and how long the backing history was then
+pub record Stretch : Type 0 where
+  pub entries : List JournalEntry
+  pub until : ℕ
+
+-- A way of the journal since a moment of the site: how long the history was at that moment, and what the slots have given
+-- since, but for what they give now.
+pub record Way : Type 0 where
+  pub since : ℕ
+  pub from : ℕ
+  pub past : List Stretch
+
 -- The journal: whether the tier keeps one (where it doesn't, nothing is done to it), the entries that are flushed, those
--- in memory behind them, the length of the live slot, and its generation.
+-- in memory behind them, the length of the live slot, its generation, and its way, where one is asked for. What a line
+-- does and answers doesn't hang on the way.
 pub record Journal : Type 0 where
   pub kept : Bool
   pub flushed : List JournalEntry
   pub tail : List JournalEntry
   pub written : ℕ
   pub generation : ℕ
+  pub way : Option Way
+
+-- the way with what the slots give now behind it, up to where the history is so long
+abbrev pub passed_by : List JournalEntry → ℕ → Option Way → Option Way
+passed_by flushed until None = None
+passed_by flushed until (Some way) =
+    Some (record { since = way.since; from = way.from; past = way.past ++ record { entries = flushed; until = until } ∷ [] })
+
+-- the journal, which the other has become while the history was so long
+abbrev pub on_the_way : ℕ → Journal → Journal → Journal
+on_the_way until old new = record new { way = passed_by old.flushed until old.way }
 
 -- the bytes that a value takes, and a row, an operation, an entry
 abbrev pub value_size : Value → ℕ
@@ -89,6 +113,7 @@ flushed_batch name (e ∷ batch) j =
       tail = [];
       written = j.written + 5 + body_size name (e ∷ batch);
       generation = j.generation;
+      way = j.way;
     }
 
 abbrev pub flushed_with : (Op → ℕ) → List JournalEntry → Journal → Journal
@@ -103,15 +128,16 @@ rotated name entries j =
       tail = [];
       written = 16 + body_size name entries;
       generation = j.generation + 1;
+      way = j.way;
     }
 
 -- a new journal: a slot of eleven bytes
 abbrev pub new_journal : Journal
-new_journal = record { kept = true; flushed = []; tail = []; written = 11; generation = 1 }
+new_journal = record { kept = true; flushed = []; tail = []; written = 11; generation = 1; way = None }
 
 -- that of a tier without a journal
 abbrev pub no_journal : Journal
-no_journal = record { kept = false; flushed = []; tail = []; written = 0; generation = 0 }
+no_journal = record { kept = false; flushed = []; tail = []; written = 0; generation = 0; way = None }
 
 -- the ticket of an entry, where it has one; a mark isn't one
 abbrev pub ticket_in : JournalEntry → Option ℕ

@@ -7,6 +7,7 @@ pub mod Commits
 pub mod Conditions
 pub mod ConsoleSteps
 pub mod WayFacts
+pub mod WayPoints
 pub mod JournalWays
 pub mod DefineSteps
 pub mod Definitions

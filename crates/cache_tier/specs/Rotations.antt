@@ -6,7 +6,7 @@ use Rattle.std.specs.List.{filter}
 use Rattle.cache_tier.specs.declared.reply.Reply.{Reply}
 use Rattle.cache_tier.specs.Definitions.{text_of}
 use Rattle.cache_tier.specs.Groups.{Group, is_read_only}
-use Rattle.cache_tier.specs.Journals.{Journal, JournalEntry, Commits, Defines, Marks, SetsLoaded, SetsState, rotated}
+use Rattle.cache_tier.specs.Journals.{Journal, JournalEntry, Commits, Defines, Marks, SetsLoaded, SetsState, on_the_way, rotated}
 use Rattle.cache_tier.specs.TierStates.{Tier}
 use Rattle.cache_tier.specs.Worlds.{OnlyWhere, Stage, World, faulty}
 use Rattle.cache_tier.specs.JournalSteps.{name_sizes}
@@ -31,7 +31,8 @@ pub data Rotation : Type 0 where
   Broken : Rotation
 
 abbrev pub journal_after : Rotation → World → Journal
-journal_after Renewed w = rotated (name_sizes w) (slot_entries w.tier) w.journal
+journal_after Renewed w =
+    on_the_way (length w.history) w.journal (rotated (name_sizes w) (slot_entries w.tier) w.journal)
 journal_after Kept w = w.journal
 journal_after Broken w = w.journal
 

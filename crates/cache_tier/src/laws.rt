@@ -7,7 +7,7 @@ ghost use Rattle.cache_tier.specs.Positions.{RunKeepsOnePosition, StepKeepsOnePo
 ghost use Rattle.cache_tier.specs.Tickets.{RunKeepsOnce, StepKeepsOnce};
 ghost use Rattle.cache_tier.specs.Worked.{JournalExample, LastUseExample, SetExample, TimeExample, WantExample};
 ghost use Rattle.cache_tier.specs.FirstRun.{FirstRun};
-ghost use Rattle.cache_tier.specs.GoesOn.{RunKeepsJournal, RunLeads, StepKeepsJournal, StepLeads};
+ghost use Rattle.cache_tier.specs.GoesOn.{RunKeepsJournal, RunLeads, StepKeepsJournal, StepKeepsWay, StepLeads};
 ghost use Rattle.cache_tier.specs.MoreFacts.{AloneIsFree, LoadShowsView, RunIsCaused, StartStands};
 ghost use Rattle.cache_tier.specs.Standing.{IsStanding};
 ghost use Rattle.cache_tier.specs.Steps.{Run};
@@ -39,6 +39,7 @@ pub fn tier_law()
     ensures step_leads { StepLeads }
     ensures run_leads { RunLeads }
     ensures step_keeps_journal { StepKeepsJournal }
+    ensures step_keeps_way { StepKeepsWay }
     ensures run_keeps_journal { RunKeepsJournal }
     ensures step_keeps_once { StepKeepsOnce }
     ensures run_keeps_once { RunKeepsOnce }

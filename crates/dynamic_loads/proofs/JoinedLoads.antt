@@ -59,7 +59,7 @@ module _ {D : Type 0} (state : D → SiteState) (possible : D → ℕ → Held �
         at = second.at;
         is = inl (record { mid = m; stop = None; first = subst (λ o. LoadsWanted o w m None) (wants w.tier stands.stored) loaded; next = second.is.0 });
         stands = λ whole. second.stands;
-        keeps = λ whole. keeps_called state possible k' dm dm m second.world (first.keeps refl) (same_certain state possible dm) second.is.1.journal second.is.1.schema;
+        keeps = λ whole. keeps_called state possible k' dm dm m second.world (first.keeps refl) (same_certain state possible dm) second.is.1.journal second.is.1.schema second.at;
       }
 
   -- a write
@@ -75,7 +75,7 @@ module _ {D : Type 0} (state : D → SiteState) (possible : D → ℕ → Held �
         at = second.at;
         is = inl (record { mid = m; stop = None; first = subst (λ o. LoadsWanted o w m None) (wants w.tier stands.stored) loaded; next = second.is.0 });
         stands = λ whole. second.stands;
-        keeps = λ whole. keeps_called state possible k' dm d' m second.world (first.keeps refl) certain second.is.1.journal second.is.1.schema;
+        keeps = λ whole. keeps_called state possible k' dm d' m second.world (first.keeps refl) certain second.is.1.journal second.is.1.schema second.at;
       }
 
 -- the load ended the line

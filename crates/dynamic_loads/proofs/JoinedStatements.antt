@@ -71,7 +71,7 @@ module _ {D : Type 0} (state : D → SiteState) (possible : D → ℕ → Held �
         at = it.at;
         is = query.executes_routed s q w it.world resolved route.PassedOn (reply_of result) (routed w.tier s stands.stored has) it.is.0;
         stands = λ whole. it.stands;
-        keeps = λ whole. keeps_called state possible k d d' w it.world keeps certain it.is.1.journal it.is.1.schema;
+        keeps = λ whole. keeps_called state possible k d d' w it.world keeps certain it.is.1.journal it.is.1.schema it.at;
       }
 
   -- a query that is refused before

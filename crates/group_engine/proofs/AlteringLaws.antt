@@ -333,7 +333,7 @@ module _ (t new : Stored) (behind : SiteState) (w : World) (place n : ℕ) (g : 
 module _ {D : Type 0} (state : D → SiteState) (possible : D → ℕ → Held → Type 0) (t : Stored) (k : Option TierJournal) (d mid : D) (w : World) (place n : ℕ) (g : Group) (st : RefreshState) (ready : Ready) (chosen : Choice) (certain : KeepsCertain state possible d mid)
     (keeps : KeepsOver state possible d k w) (of : IsReadyFor w.tier.schema k ready (altered_entries g st)) where
   keeps_read : (told : Result ℕ BankError) (r : IsRead t (state mid) told w) → KeepsOver state possible mid k r.world
-  keeps_read told r = keeps_called state possible k d mid w r.world keeps certain r.call.journal (ap (λ (x : Tier). x.schema) r.tier)
+  keeps_read told r = keeps_called state possible k d mid w r.world keeps certain r.call.journal (ap (λ (x : Tier). x.schema) r.tier) r.at
 
   ready_read : (told : Result ℕ BankError) (r : IsRead t (state mid) told w) → IsReadyFor r.world.tier.schema k ready (altered_entries g st)
   ready_read told r = subst (λ (x : Tier). IsReadyFor x.schema k ready (altered_entries g st)) (sym r.tier) of

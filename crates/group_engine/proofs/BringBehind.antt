@@ -116,7 +116,7 @@ module _ {D : Type 0} (state : D → SiteState) (possible : D → ℕ → Held �
   picks y = ap (λ i. of_set i (Some place) place y) (sym interval_is) ∙ chosen_there (record g { state = On }) place y
 
   keeps_mid : KeepsOver state possible d' k r.world
-  keeps_mid = keeps_called state possible k d d' w r.world keeps certain r.call.journal (ap (λ (t : Tier). t.schema) r.tier)
+  keeps_mid = keeps_called state possible k d d' w r.world keeps certain r.call.journal (ap (λ (t : Tier). t.schema) r.tier) r.at
 
   -- a reply behind the call
   told_so : (w' : World) (stop : Option Reply) → ThenStage (FlushesSome (state_entries g)) (Becomes (joined_tier place g want n)) r.world w' stop → BringsNoted place g want w w' stop

@@ -154,5 +154,5 @@ module _ {D : Type 0} (state : D → SiteState) (possible : D → ℕ → Held �
     at = r.at;
     is = failing place g want w r.world e reply r.call r.tier is;
     stands = λ whole. r.stands;
-    keeps = λ whole. keeps_called state possible k d d' w r.world keeps certain r.call.journal (ap (λ (t : Tier). t.schema) r.tier);
+    keeps = λ whole. keeps_called state possible k d d' w r.world keeps certain r.call.journal (ap (λ (t : Tier). t.schema) r.tier) r.at;
   }

@@ -231,7 +231,7 @@ module _ {D : Type 0} (state : D → SiteState) (possible : D → ℕ → Held �
 
   -- a journal is kept over the call
   keeps_mid : KeepsOver state possible d' k r.world
-  keeps_mid = keeps_called state possible k d d' w r.world keeps certain r.call.journal (ap (λ (t : Tier). t.schema) r.tier)
+  keeps_mid = keeps_called state possible k d d' w r.world keeps certain r.call.journal (ap (λ (t : Tier). t.schema) r.tier) r.at
 
   -- memory was wanting for what was read
   wanted : (b : Bool) → ReadsDynamic b x w r.world (faulty code.Memory)
@@ -456,7 +456,7 @@ dynamic_failed state possible t k d d' refreshes x e reply is certain w keeps r 
   at = r.at;
   is = failing refreshes x w r.world e reply r.call r.tier is;
   stands = λ whole. r.stands;
-  keeps = λ whole. keeps_called state possible k d d' w r.world keeps certain r.call.journal (ap (λ (t : Tier). t.schema) r.tier);
+  keeps = λ whole. keeps_called state possible k d d' w r.world keeps certain r.call.journal (ap (λ (t : Tier). t.schema) r.tier) r.at;
 }
 
 -- STATE alone changes of a dynamic READONLY group

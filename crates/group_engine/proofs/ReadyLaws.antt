@@ -252,10 +252,13 @@ module _ {D : Type 0} (state : D → SiteState) (possible : D → ℕ → Held �
   -- a flush that was done, and one that failed
   pub ok_flush : (t t' : TierJournal) (d d' : D) (w : World) (b : Batch) (entries : List JournalEntry) → w.moment ≡ (state d).moment → (over : IsOver state possible d t w) → Holds 2 w.tier.schema b entries → (state d).moment ≤ (state d').moment
       → ((schema : List TableDef) (o : Held) (j : Journal) (entries : List JournalEntry) → Certain state possible d o → Keeps schema t o.slots j → Holds (version_in t) schema b entries → KeepsOn state possible d' schema t' o (flushed_with (name_size schema) entries j))
-      → version_in t' ≡ version_in t → IsWrittenOver state possible (Some t') d d' None (Flushes entries) w
-  ok_flush t t' d d' w b entries now over holds later flushed version =
+      → version_in t' ≡ version_in t
+      → ((schema : List TableDef) (o : Held) (j : Journal) (entries : List JournalEntry) → Certain state possible d o → Keeps schema t o.slots j → Holds (version_in t) schema b entries → Leaves state possible d d' (LeftByFlush schema o j entries))
+      → IsWrittenOver state possible (Some t') d d' None (Flushes entries) w
+  ok_flush t t' d d' w b entries now over holds later flushed version crash =
       flushed_over state possible t t' d d' w entries now over later
       (flushed w.tier.schema over.there w.journal entries over.certain over.keeps (subst (λ (v : ℕ). Holds v w.tier.schema b entries) (sym over.version) holds)) version
+      (crash w.tier.schema over.there w.journal entries over.certain over.keeps (subst (λ (v : ℕ). Holds v w.tier.schema b entries) (sym over.version) holds))
 
   pub err_flush : IsRead state possible → (t t' : TierJournal) (d d' : D) (w : World) (b : Batch) (entries : List JournalEntry) (reply : Reply) → w.moment ≡ (state d).moment → (over : IsOver state possible d t w) → Holds 2 w.tier.schema b entries
       → (IsSome (state d).held → IsSome (state d').held)

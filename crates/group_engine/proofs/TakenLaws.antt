@@ -131,7 +131,7 @@ reads_failed state possible t k d d' place x refreshes asked e reply is told fau
       at = behind_at w w.tier (state d) (state d') now.there at now.told shares;
       is = reads_failing refreshes x w (behind w w.tier now.there (state d')) e (record { history = call.history; journal = call.journal; faults = call.faults; disk = call.disk; moment = call.moment; shared = call.shared }) refl;
       stands = λ whole. record { stored = stands.stored; shows = stands.shows ∙ sym stays.same; hides = hides_later t w now.there.history stands (read_longer w (TakesSnapshot asked (Err e)) now.there.history (λ a b s. s) call.history); stands = stands_behind w w.tier now.there (state d') stays.stands; waits = stands.waits };
-      keeps = λ whole. keeps_called state possible k d d' w (behind w w.tier now.there (state d')) keeps certain refl refl;
+      keeps = λ whole. keeps_called state possible k d d' w (behind w w.tier now.there (state d')) keeps certain refl refl (behind_at w w.tier (state d) (state d') now.there at now.told shares);
     })
 
 -- the group as the catalog has it
@@ -271,7 +271,7 @@ module _ {D : Type 0} (state : D → SiteState) (possible : D → ℕ → Held �
   at_mid = behind_at w w.tier (state d) (state d') now.there at now.told shares
 
   keeps_mid : KeepsOver state possible d' k mid
-  keeps_mid = keeps_called state possible k d d' w mid keeps certain refl refl
+  keeps_mid = keeps_called state possible k d d' w mid keeps certain refl refl at_mid
 
   longer : IsLonger w.history later
   longer = read_longer w (TellsPosition (Ok n)) later (λ a b s. s.0) reads_call.history

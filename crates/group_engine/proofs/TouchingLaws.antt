@@ -140,7 +140,7 @@ module _ {D : Type 0} (state : D → SiteState) (possible : D → ℕ → Held �
   at_mid = taken.at_mid state possible old k d d' place which false x of writes sound asked asks (λ g e. refl) snapshot told faults moment shares certain w at stands apart keeps here
 
   keeps_mid : KeepsOver state possible d' k mid
-  keeps_mid = keeps_called state possible k d d' w mid keeps certain refl refl
+  keeps_mid = keeps_called state possible k d d' w mid keeps certain refl refl at_mid
 
   stands_mid : StandsFor old mid
   stands_mid = record { stored = stands.stored; shows = stands.shows ∙ sym read.shown; hides = hides_later old w now.there.history stands (read_longer w (TellsPosition (Ok snapshot.position.0)) now.there.history (λ a b s. s.0) reads_call.history); stands = stands_behind w w.tier now.there (state d') read.stands; waits = stands.waits }

@@ -260,7 +260,7 @@ module _ (t new : Stored) (behind : SiteState) (w : World) (place n : ℕ) (g : 
 module _ {D : Type 0} (state : D → SiteState) (possible : D → ℕ → Held → Type 0) (t : Stored) (k : Option TierJournal) (d mid : D) (w : World) (place : ℕ) (g : Group) (ready : Ready) (certain : KeepsCertain state possible d mid) (keeps : KeepsOver state possible d k w) (stands : StandsFor t w) (there : slice_get w.tier.groups place ≡ Some g)
     (is_ready : IsReadyToLoad (groups_in t.catalog) k place ready) where
   pub keeps_read : (told : Result ℕ BankError) (r : IsRead t (state mid) told w) → KeepsOver state possible mid k r.world
-  keeps_read told r = keeps_called state possible k d mid w r.world keeps certain r.call.journal (ap (λ (x : Tier). x.schema) r.tier)
+  keeps_read told r = keeps_called state possible k d mid w r.world keeps certain r.call.journal (ap (λ (x : Tier). x.schema) r.tier) r.at
 
   pub ready_read : (told : Result ℕ BankError) (r : IsRead t (state mid) told w) → IsReadyFor r.world.tier.schema k ready (load_entries g)
   ready_read told r = is_ready r.world.tier.schema (without_list g) (ap (λ l. slice_get l place) (sym stands.stored.groups) ∙ mapped_there w.tier.groups place g there)

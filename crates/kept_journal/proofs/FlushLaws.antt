@@ -1,16 +1,17 @@
 -- What is noted and flushed, in the worlds whose journal is kept over the disk.
-use Rattle.std.proofs.Common.{◌≡◌, ℕ, ◌+◌, ◌≤◌, Bool, true, false, ◌&&◌, cond, Option, Some, None, List, [], ◌∷◌, ◌++◌, refl, sym, ap, subst, ◌∙◌, arith}
+use Rattle.std.proofs.Common.{◌≡◌, ℕ, ◌+◌, ◌≤◌, Bool, true, false, ◌&&◌, cond, Option, Some, None, List, [], ◌∷◌, ◌++◌, refl, sym, ap, subst, ◌∙◌, arith, append-nil}
 use Rattle.std.specs.Bool.{MatchBool}
 use Rattle.std.specs.Option.{IsSome}
 use Rattle.std.proofs.lemmas.Option.{same_Some}
 use Rattle.tier_base.specs.declared.code.Code.TheVariants as code
 use Rattle.table_defs.specs.declared.definition.TableDef.{TableDef}
 use Rattle.table_state.specs.declared.history.Entry.{Entry}
+use Rattle.table_state.specs.declared.operation.Op.{Op}
 use Rattle.outside.specs.Calls.{Certain, Leaves}
 use Rattle.outside.specs.Holding.{Held, Slots}
 use Rattle.outside.specs.Sites.{SiteState}
 use Rattle.cache_tier.specs.declared.reply.Reply.{Reply}
-use Rattle.cache_tier.specs.Journals.{Journal, JournalEntry, flushed_with, with_noted}
+use Rattle.cache_tier.specs.Journals.{Journal, JournalEntry, Way, flushed_batch, flushed_with, with_noted}
 use Rattle.cache_tier.specs.JournalSteps.{Failing, Flushed, Flushes, FlushesFitting, FlushesKept, Notes, NotesKept, Records, Whole, journal_behind, journal_full, journal_with, name_size}
 use Rattle.cache_tier.specs.Rules.{past}
 use Rattle.cache_tier.specs.Worlds.{Passes, Stage, World, faulty, only}
@@ -18,7 +19,7 @@ use Rattle.cache_tier.specs.declared.reply.Last.TheVariants.{No}
 use Rattle.tier_base.specs.declared.limit.Limit.TheVariants as limit
 use Rattle.tier_journal.specs.declared.journal.TierJournal.{TierJournal}
 use Rattle.tier_journal.specs.Keeping.{Keeps, KeepsOn, version_in}
-use Rattle.tier_journal.specs.Leaving.{LeftByFlush}
+use Rattle.tier_journal.specs.Leaving.{GivesEither, LeftByFlush}
 use Rattle.tier_journal.specs.declared.batch.Batch.{Batch}
 use Rattle.tier_journal.specs.Batches.{Holds}
 use Rattle.tier_journal.specs.Keeping.{with_tail}
@@ -26,6 +27,7 @@ use Rattle.kept_journal.specs.declared.draft.Draft.{Draft}
 use Rattle.kept_journal.specs.declared.draft.Draft.TheVariants.{Fits, Full, Unkept}
 use Rattle.kept_journal.specs.Drafts.{FitsBehind, IsDraftOf, is_full_draft}
 use Rattle.kept_journal.proofs.DraftLaws.{full_so}
+use Rattle.kept_journal.proofs.WayLaws.{leaves_as, on_way, turned_leaves}
 use Rattle.kept_journal.specs.Keeping.{IsOver, IsWrittenOver, KeepsOver, TellsSame, WritesOver, is_broken, over_disk}
 
 abbrev world_of : World → Journal → ℕ → World
@@ -40,6 +42,14 @@ still_some (Some n) some = (n, refl)
 
 pub is_some : (o : Option Held) (n : Held) → o ≡ Some n → IsSome o
 is_some o n e = rw e refl
+
+-- what is flushed, also where it is nothing
+pub flushed_all : (size : Op → ℕ) (entries : List JournalEntry) (j : Journal) → (flushed_with size entries j).flushed ≡ j.flushed ++ (j.tail ++ entries)
+flushed_all size entries j = by (j.tail ++ entries)
+  where
+    by : (batch : List JournalEntry) → (flushed_batch size batch j).flushed ≡ j.flushed ++ batch
+    by [] = sym (append-nil j.flushed)
+    by (e ∷ batch) = refl
 
 module _ {D : Type 0} (state : D → SiteState) (possible : D → ℕ → Held → Type 0) where
   -- nothing is called
@@ -71,9 +81,9 @@ module _ {D : Type 0} (state : D → SiteState) (possible : D → ℕ → Held �
 
   -- the tail and the entries are on the disk
   pub flushed_over : (t t' : TierJournal) (d d' : D) (w : World) (entries : List JournalEntry) → w.moment ≡ (state d).moment → (over : IsOver state possible d t w) → (state d).moment ≤ (state d').moment
-      → KeepsOn state possible d' w.tier.schema t' over.there (flushed_with (name_size w.tier.schema) entries w.journal) → version_in t' ≡ version_in t → IsWrittenOver state possible (Some t') d d' None (Flushes entries) w
-  flushed_over t t' d d' w entries now over later on version =
-      let j : Journal = journal_with w entries in
+      → KeepsOn state possible d' w.tier.schema t' over.there (flushed_with (name_size w.tier.schema) entries w.journal) → version_in t' ≡ version_in t → Leaves state possible d d' (LeftByFlush w.tier.schema over.there w.journal entries) → IsWrittenOver state possible (Some t') d d' None (Flushes entries) w
+  flushed_over t t' d d' w entries now over later on version left =
+      let j : Journal = journal_behind Whole w entries in
       let w' : World = world_of w j (state d').moment in
       record {
         journal = j;
@@ -93,7 +103,16 @@ module _ {D : Type 0} (state : D → SiteState) (possible : D → ℕ → Held �
           shared = refl;
           end = refl;
         });
-        keeps = λ whole. record { there = on.now; certain = on.certain; keeps = on.keeps; version = version ∙ over.version };
+        keeps = λ whole. record {
+          there = on.now;
+          certain = on.certain;
+          keeps = on_way w.tier.schema t' on.now.slots (journal_with w entries) j.way on.keeps;
+          version = version ∙ over.version;
+          leaves =
+              turned_leaves state possible d d' over.there on.now w w' over.certain on.beside refl refl
+              (subst (λ (l : List JournalEntry). Leaves state possible d d' (GivesEither w.tier.schema over.there w.journal.flushed l)) (sym (flushed_all (name_size w.tier.schema) entries w.journal)) left)
+              w.journal.way over.leaves;
+        };
       }
 
   -- a call of the disk failed
@@ -142,7 +161,13 @@ module _ {D : Type 0} (state : D → SiteState) (possible : D → ℕ → Held �
         later = omega arith;
         told = λ o told. record { there = o; told = told; same = refl };
         is = kept_so d t w (NotesKept e w w' None) (Passes w w' None) over (same, refl);
-        keeps = λ whole. record { there = over.there; certain = over.certain; keeps = keeps; version = version ∙ over.version };
+        keeps = λ whole. record {
+          there = over.there;
+          certain = over.certain;
+          keeps = keeps;
+          version = version ∙ over.version;
+          leaves = leaves_as state possible d over.there w w' w.journal.way refl refl refl over.leaves;
+        };
       }
 
   -- a flush of entries that fit
@@ -198,9 +223,12 @@ module _ {D : Type 0} (state : D → SiteState) (possible : D → ℕ → Held �
 
     pub fits_flushed : (t' : TierJournal) (d' : D) → w.moment ≡ (state d).moment → (state d).moment ≤ (state d').moment
         → ((schema : List TableDef) (o : Held) (j : Journal) (entries : List JournalEntry) → Certain state possible d o → Keeps schema t o.slots j → Holds (version_in t) schema b entries → KeepsOn state possible d' schema t' o (flushed_with (name_size schema) entries j))
-        → version_in t' ≡ version_in t → IsWrittenOver state possible (Some t') d d' None (Flushes (e ∷ [])) w
-    fits_flushed t' d' now later flushed version =
+        → version_in t' ≡ version_in t
+        → ((schema : List TableDef) (o : Held) (j : Journal) (entries : List JournalEntry) → Certain state possible d o → Keeps schema t o.slots j → Holds (version_in t) schema b entries → Leaves state possible d d' (LeftByFlush schema o j entries))
+        → IsWrittenOver state possible (Some t') d d' None (Flushes (e ∷ [])) w
+    fits_flushed t' d' now later flushed version crash =
         flushed_over t t' d d' w (e ∷ []) now over_it later (flushed w.tier.schema over_it.there w.journal (e ∷ []) over_it.certain over_it.keeps holds_it) version
+        (crash w.tier.schema over_it.there w.journal (e ∷ []) over_it.certain over_it.keeps holds_it)
 
     pub fits_failed : IsRead state possible → (t' : TierJournal) (d' : D) (reply : Reply) → w.moment ≡ (state d).moment → (IsSome (state d).held → IsSome (state d').held)
         → ((schema : List TableDef) (o : Held) (j : Journal) (entries : List JournalEntry) → Certain state possible d o → Keeps schema t o.slots j → Holds (version_in t) schema b entries → Leaves state possible d d' (LeftByFlush schema o j entries))

@@ -1,3 +1,4 @@
 pub mod DraftLaws
+pub mod WayLaws
 pub mod FlushLaws
 pub mod TurnLaws

@@ -16,6 +16,7 @@ use Rattle.tier_journal.specs.Keeping.{KeepsOn, version_in}
 use Rattle.tier_journal.specs.Leaving.{LeftByRotation}
 use Rattle.kept_journal.specs.Keeping.{IsOver, IsWrittenOver, KeepsOver, TellsSame, is_broken, over_disk}
 use Rattle.kept_journal.proofs.FlushLaws.{IsRead, is_some, still_over, still_some}
+use Rattle.kept_journal.proofs.WayLaws.{on_way, turned_leaves}
 
 -- the journal stays
 stays_kept : (w : World) → Rotates w w None
@@ -44,9 +45,11 @@ module _ {D : Type 0} (state : D → SiteState) (possible : D → ℕ → Held �
 
   -- the other slot has the entries
   pub turned_over : (t t' : TierJournal) (d d' : D) (w : World) → w.moment ≡ (state d).moment → (over : IsOver state possible d t w) → (state d).moment ≤ (state d').moment
-      → KeepsOn state possible d' w.tier.schema t' over.there (rotated (name_size w.tier.schema) (slot_entries w.tier) w.journal) → version_in t' ≡ 2 → IsWrittenOver state possible (Some t') d d' None Rotates w
-  turned_over t t' d d' w now over later on version =
+      → KeepsOn state possible d' w.tier.schema t' over.there (rotated (name_size w.tier.schema) (slot_entries w.tier) w.journal) → version_in t' ≡ 2 → Leaves state possible d d' (LeftByRotation w.tier.schema over.there w.journal (slot_entries w.tier))
+      → IsWrittenOver state possible (Some t') d d' None Rotates w
+  turned_over t t' d d' w now over later on version left =
       let j : Journal = journal_after Renewed w in
+      let w' : World = over_disk j w.disk_faults (state d').moment w in
       record {
         journal = j;
         faults = w.disk_faults;
@@ -65,7 +68,13 @@ module _ {D : Type 0} (state : D → SiteState) (possible : D → ℕ → Held �
           shared = refl;
           end = refl;
         };
-        keeps = λ whole. record { there = on.now; certain = on.certain; keeps = on.keeps; version = version };
+        keeps = λ whole. record {
+          there = on.now;
+          certain = on.certain;
+          keeps = on_way w.tier.schema t' on.now.slots (rotated (name_size w.tier.schema) (slot_entries w.tier) w.journal) j.way on.keeps;
+          version = version;
+          leaves = turned_leaves state possible d d' over.there on.now w w' over.certain on.beside refl refl left w.journal.way over.leaves;
+        };
       }
 
   -- a call of the disk failed

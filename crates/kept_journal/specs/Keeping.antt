@@ -15,14 +15,17 @@ use Rattle.tier_journal.specs.declared.journal.TierJournal.{TierJournal}
 use Rattle.tier_journal.specs.Keeping.{Keeps, version_in}
 use Rattle.kept_journal.specs.declared.draft.Draft.{Draft}
 use Rattle.kept_journal.specs.Drafts.{IsDraftOf}
+use Rattle.kept_journal.specs.Leaving.{LeavesOnWay}
 
--- the journal has the world's entries, over a certain disk, in a slot that takes every number
+-- The journal has the world's entries, over a certain disk, in a slot that takes every number. Where a way is asked for, a
+-- crash since it began leaves a point of it.
 pub record IsOver {D : Type 0} (state : D → SiteState) (possible : D → ℕ → Held → Type 0) (d : D) (t : TierJournal)
     (w : World) : Type 0 where
   pub there : Held
   pub certain : Certain state possible d there
   pub keeps : Keeps w.tier.schema t there.slots w.journal
   pub version : version_in t ≡ 2
+  pub leaves : LeavesOnWay state possible d there w w.journal.way
 
 -- so it is where a journal is kept; else the world has none
 abbrev pub KeepsOver : {D : Type 0} → (D → SiteState) → (D → ℕ → Held → Type 0) → D → Option TierJournal → World

@@ -87,6 +87,9 @@ held t (Some d) w sound x = by d.of x
     by (Commit ops) x = commit_left t d w sound x
     by PassedWrite x = write_left t d w sound x
 
+pub is_left : (t : Stored) (doubt : Option Doubt) (w : World) → IsSound t → IsLeft t doubt w → IsLeftBy w.tier.doubt w
+is_left t doubt w sound x = (held t doubt w sound x).left
+
 pub goes_on : (t : Stored) (doubt : Option Doubt) (w : World) → IsSound t → IsLeft t doubt w → IsUnshared w → MayGoOn w
 goes_on t doubt w sound x apart = let h = held t doubt w sound x in record { left = h.left; unshared = apart }
 

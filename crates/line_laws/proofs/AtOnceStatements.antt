@@ -44,7 +44,7 @@ module _ (s : Session) (w : World) (early : List Sealed) (stands : Stands w) (j 
 
   -- the record is flushed, and the ticket drawn
   prepared : (m : World) → IsWhole (Prepares (sealed_own w.tier s) ∷ []) w m → IsJournalledOn (record w { tier = with_ticket w.tier; journal = m.journal }) early
-  prepared m is = prepare_kept w early s (with_ticket w.tier) m.journal stands j there (record { kept = is.journal.kept ∙ j.kept; flushed = is.journal.flushed; tail = is.journal.tail }) (still_quiet (with_ticket w.tier))
+  prepared m is = prepare_kept w early s (with_ticket w.tier) m.journal stands j there (record { kept = is.journal.batch.kept ∙ j.kept; flushed = is.journal.batch.flushed; tail = is.journal.batch.tail; way = is.journal.way }) (still_quiet (with_ticket w.tier))
 
   module _ (m : World) (is : IsWhole (Prepares (sealed_own w.tier s) ∷ []) w m) where
     abbrev drawn : World
@@ -72,8 +72,8 @@ module _ (s : Session) (w : World) (early : List Sealed) (stands : Stands w) (j 
         let st = later.stands in
         let applies = found_applies st.flow.stand.over.virtual (is_labelled s.label) w.tier.sessions s there st.sessions.virtual in
         let prep : IsPrepared base (sealed_own w.tier s) (given w.journal) = record {
-          flushed = is.journal.flushed;
-          tail = is.journal.tail;
+          flushed = is.journal.batch.flushed;
+          tail = is.journal.batch.tail;
           below = j.next;
           fresh = others_tickets w.shared before w.history w.tier.next came_before ∙ stands.flow.stand.over.below w.tier.next (omega arith);
           meets = λ b e.

@@ -63,9 +63,10 @@ recorded s w mid w' early stop j noted true q ok e =
     let is = f.0 in
     let before = with_commit_noted s w in
     let on = flushes_kept before noted.now mid.journal noted.is (record {
-      kept = is.journal.kept ∙ j.kept;
-      flushed = is.journal.flushed ∙ append_assoc w.journal.flushed w.journal.tail (Commits (sealed_own w.tier s) ∷ []);
-      tail = is.journal.tail;
+      kept = is.journal.batch.kept ∙ j.kept;
+      flushed = is.journal.batch.flushed ∙ append_assoc w.journal.flushed w.journal.tail (Commits (sealed_own w.tier s) ∷ []);
+      tail = is.journal.batch.tail;
+      way = is.journal.way;
     }) in
     let last = on_then (record before { journal = mid.journal }) early noted.now noted.more noted.grows on in (
       subst (λ x. IsJournalledOn x early) (sym e) (one_journalled_on (record before { journal = mid.journal }) (record mid { tier = committed_unsettled (sealed_own w.tier s) s.label mid.tier }) early
@@ -98,7 +99,7 @@ created : (d : CreateGroup) (tree : Tree) (w mid : World) (early : List Sealed) 
 created d tree w mid early stands j names new tree_is is =
     one_journalled_on (with_flushed_entry (with_new_group d tree mid.tier) mid.journal w) (record mid { tier = with_new_group d tree mid.tier }) early (record { tier = refl; history = is.history; journal = refl })
     (define_kept w early d (text_of d) tree (with_new_group d tree mid.tier) mid.journal stands j tree_is names new
-    (record { kept = is.journal.kept ∙ j.kept; flushed = is.journal.flushed; tail = is.journal.tail })
+    (record { kept = is.journal.batch.kept ∙ j.kept; flushed = is.journal.batch.flushed; tail = is.journal.batch.tail; way = is.journal.way })
     (subst (λ t. IsQuiet (with_new_group d tree t) (with_new_group d tree mid.tier)) is.tier (still_quiet (with_new_group d tree mid.tier))))
 
 -- where the group that comes is one that may come
@@ -174,7 +175,7 @@ drops_rest s place g w w' early reply j may q ok = by (drop_fault s g w) refl q
     gone mid unlocked is =
         one_journalled_on (with_flushed_entry (without_group g.def.name mid.tier) mid.journal w) (record mid { tier = without_group g.def.name mid.tier }) early (record { tier = refl; history = is.history; journal = refl })
         (drop_kept w early g.def.name g (without_group g.def.name mid.tier) mid.journal may.stands j (may_drop s place g w early j may unlocked) (nat_list_eq_equiv.refl g.def.name)
-        (record { kept = is.journal.kept ∙ j.kept; flushed = is.journal.flushed; tail = is.journal.tail })
+        (record { kept = is.journal.batch.kept ∙ j.kept; flushed = is.journal.batch.flushed; tail = is.journal.batch.tail; way = is.journal.way })
         (subst (λ t. IsQuiet (without_group g.def.name t) (without_group g.def.name mid.tier)) is.tier (still_quiet (without_group g.def.name mid.tier))))
 
     by : (o : Option Rule) → drop_fault s g w ≡ o → Unless o (Then (FlushesSome (Drops g.def.name ∷ [])) (Answers (drop_answer g.def.name))) w w' reply → IsJournalledOn w' early

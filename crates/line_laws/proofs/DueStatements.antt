@@ -32,6 +32,7 @@ use Rattle.cache_tier.specs.Worlds.{BankCall, IsUnshared, OnlyWhere, World}
 use Rattle.recovery.specs.Journalled.{AreAlike, IsJournalled, IsJournalledOn, IsQuiet}
 use Rattle.recovery.proofs.JournalledLaws.{alike_commit, alike_self, alike_trans}
 use Rattle.recovery.proofs.OthersLaws.{on_then, one_journalled_on, others_kept}
+use Rattle.recovery.proofs.SafeLaws.{still_safe}
 use Rattle.recovery.proofs.TablesLaws.{table_kept}
 use Rattle.line_laws.specs.Keeping.{KeepsJournalDue, KeepsJournalInDoubt, KeepsJournalWhere, KeepsJournalDue, RefersToNone, is_broken}
 use Rattle.line_laws.proofs.GroupStatements.{refreshes_if_shown}
@@ -98,6 +99,7 @@ tie_kept w early t j same up alike = record {
   alike = alike_trans j.catalog.groups w.tier.groups t.groups j.alike alike;
   tie = same ∙ j.tie;
   next = let below = j.next in omega (arith, below, up);
+  safe = still_safe w t.next j.safe up;
 }
 
 there_pending : (h : List Entry) (log : List Sealed) (s : Sealed) → has_ticket s.ticket.0 h ≡ true → pending h (log ++ s ∷ []) ≡ pending h log

@@ -49,7 +49,7 @@ numbered ticket ops = record { ticket = record { 0 = ticket }; ops = ops }
 module _ (placed : PlacedChange) (w : World) (early : List Sealed) (stands : Stands w) (j : IsJournalled w early) (apart : IsUnshared w) (off : IsOffLive placed w) (m : World) (is : IsWhole (Numbers w.tier.next ∷ []) w m) where
   -- the number is flushed, and the ticket drawn
   on : IsJournalledOn (record w { tier = with_ticket w.tier; journal = m.journal }) early
-  on = number_kept w early (with_ticket w.tier) m.journal stands j (record { kept = is.journal.kept ∙ j.kept; flushed = is.journal.flushed; tail = is.journal.tail }) (still_quiet (with_ticket w.tier))
+  on = number_kept w early (with_ticket w.tier) m.journal stands j (record { kept = is.journal.batch.kept ∙ j.kept; flushed = is.journal.batch.flushed; tail = is.journal.batch.tail; way = is.journal.way }) (still_quiet (with_ticket w.tier))
 
   -- nothing came
   without : (w' : World) (t : Tier) (before middle behind : List Entry) → AreOthers w.shared w.history before → Grows [] (w.history ++ before) middle → AreOthers w.shared middle behind → w'.history ≡ middle ++ behind → w'.journal ≡ m.journal → w'.tier ≡ t → IsQuiet (with_ticket w.tier) t → IsJournalledOn w' early
@@ -76,8 +76,8 @@ module _ (placed : PlacedChange) (w : World) (early : List Sealed) (stands : Sta
       sides_conflict_not (live_tables (live_groups_of w.tier.groups)) over.backing.schema closed (pending (w.history ++ before) w.tier.log) (numbered w.tier.next ops) st.flow.stand.live (side_off (live_tables (live_groups_of w.tier.groups)) ops beside) in
       let leads = applies_behind_pending (live_groups_of w.tier.groups) (w.history ++ before) w.tier.log w.tier.next over (numbered w.tier.next ops) done.left meets done.applies in
       let prep : IsNumbered base (numbered w.tier.next ops) (given w.journal) = record {
-        flushed = is.journal.flushed;
-        tail = is.journal.tail;
+        flushed = is.journal.batch.flushed;
+        tail = is.journal.batch.tail;
         below = j.next;
         fresh = others_tickets w.shared before w.history w.tier.next came_before ∙ stands.flow.stand.over.below w.tier.next (omega arith);
         meets = λ b e. subst (λ x. NoneConflicts (x.schema) (pending (w.history ++ before) w.tier.log) (numbered w.tier.next ops)) (same_some (sym over.leaves ∙ e)) meets;

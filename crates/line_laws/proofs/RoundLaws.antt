@@ -136,7 +136,7 @@ rotated w mid w' early turned r none q ok = by (is_long mid) refl q
         go Renewed e s = from w' k.tier k.history k.shared (one_journalled_on (record mid { journal = w'.journal }) w' early (record { tier = k.tier; history = k.history; journal = refl })
             (on_then (record mid { journal = w'.journal }) early r.on.now r.on.more r.on.grows
             (rotation_kept mid r.on.now w'.journal r.stands r.on.is none settled
-            (subst (Rattle.recovery.specs.Journalled.IsRenewed mid.tier) (sym e) (record { kept = r.on.is.kept; flushed = refl; tail = refl })))))
+            (subst (Rattle.recovery.specs.Journalled.IsRenewed mid.tier (length mid.history) mid.journal) (sym e) (record { kept = r.on.is.kept; flushed = refl; tail = refl; way = refl })))))
         go Kept e s = from w' k.tier k.history k.shared (one_journalled_on mid w' early (record { tier = k.tier; history = k.history; journal = e }) r.on)
         go Broken e s = let bad : true ≡ false = ap is_broken (sym s) ∙ ok in Prim.cc
 
@@ -172,13 +172,13 @@ round_goes w w' early stop x j apart q ok = by q.stop q.first q.next
         apart_mid t e = ap (λ (x : Tier). Rattle.cache_tier.specs.Groups.is_table_of Rattle.cache_tier.specs.Groups.is_writethrough x.groups t) is.tier ∙ apart t (ap (λ s. Rattle.outside.specs.Others.is_shared s t) (sym is.shared) ∙ e)
 
         one : Rounded q.mid next.mid flushed.now
-        one = applied q.mid next.mid flushed.now next.applied (stands_one w q.mid is.tier is.history x) flushed.is apart_mid is.journal.tail next.applies
+        one = applied q.mid next.mid flushed.now next.applied (stands_one w q.mid is.tier is.history x) flushed.is apart_mid is.journal.batch.tail next.applies
 
         ended : next.applied ≡ None → next.mid.tier.unsettled ≡ []
         ended e = drained_end q.mid.tier next.applies.result next.mid.tier.unsettled next.applies.all (sym next.applies.end ∙ e)
 
         turned : Rounded q.mid w' flushed.now
-        turned = rotated q.mid next.mid w' flushed.now next.turned one (ap (λ (k : Rattle.cache_tier.specs.Journals.Journal). k.tail) next.applies.journal ∙ is.journal.tail) next.rotates (both_broken next.applied next.turned (ap is_broken (sym next.end) ∙ ok))
+        turned = rotated q.mid next.mid w' flushed.now next.turned one (ap (λ (k : Rattle.cache_tier.specs.Journals.Journal). k.tail) next.applies.journal ∙ is.journal.batch.tail) next.rotates (both_broken next.applied next.turned (ap is_broken (sym next.end) ∙ ok))
 
         same_tier : w'.tier ≡ next.mid.tier
         same_tier = by_long (is_long next.mid) next.rotates

@@ -1,5 +1,5 @@
 -- STATEs and flags that are flushed, and the change that they tell of.
-use Rattle.std.proofs.Common.{◌≡◌, ℕ, Bool, true, false, cond, ◌&&◌, not, Option, Some, None, List, [], ◌∷◌, ◌++◌, length, map, slice_get, refl, sym, ap, subst, ◌∙◌, arith, append-nil, append_assoc}
+use Rattle.std.proofs.Common.{◌≡◌, ℕ, Bool, true, false, cond, ◌&&◌, not, ◌≤◌, Option, Some, None, List, [], ◌∷◌, ◌++◌, length, map, slice_get, refl, sym, ap, subst, ◌∙◌, arith, append-nil, append_assoc}
 use Rattle.std.specs.Bool.{MatchBool}
 use Rattle.std.proofs.lemmas.Bool.{lt-ltb}
 use Rattle.tier_base.specs.declared.code.Code.TheVariants as code
@@ -10,7 +10,7 @@ use Rattle.cache_tier.specs.AlterSteps.{altered_entries, same_state, with_state}
 use Rattle.cache_tier.specs.declared.reply.Reply.{Reply}
 use Rattle.cache_tier.specs.Groups.{Group, is_explicit, is_paused, is_read_only, is_writethrough}
 use Rattle.cache_tier.specs.JournalSteps.{Flushes, FlushesFitting, FlushesSome, journal_full}
-use Rattle.cache_tier.specs.Journals.{Commits, Defines, Drops, Journal, JournalEntry, Marks, Numbers, Prepares, SetsLoaded, SetsState}
+use Rattle.cache_tier.specs.Journals.{Commits, Defines, Drops, Journal, JournalEntry, Marks, Numbers, Prepares, SetsLoaded, SetsState, passed_by}
 use Rattle.cache_tier.specs.JournalWays.{given}
 use Rattle.cache_tier.specs.Reading.{Answers}
 use Rattle.cache_tier.specs.Sets.{alone, changed, changed_from, loaded_state}
@@ -25,8 +25,9 @@ use Rattle.recovery.proofs.DroppedLaws.{alike_apart}
 use Rattle.recovery.proofs.JournalledLaws.{alike_kind, folded, flushes_kept, loaded_kept, quiet_kept, state_kept, turned}
 use Rattle.recovery.proofs.NewestLaws.{NamesApart}
 use Rattle.recovery.proofs.OthersLaws.{on_then, one_journalled_on}
+use Rattle.recovery.proofs.SafeLaws.{flush_safe, safely, wayless, without_way}
 use Rattle.line_laws.specs.Keeping.{is_broken}
-use Rattle.line_laws.proofs.FlushLaws.{HasFlushed, IsWhole, kept_flushes}
+use Rattle.line_laws.proofs.FlushLaws.{HasBatch, HasFlushed, IsWhole, kept_flushes}
 use Rattle.line_laws.proofs.PartWords.{Any, Goes, GoesPart, GoesStage, quiet_on, same_goes, same_on}
 use Rattle.line_laws.proofs.PlaceLaws.{alike_at, same_changed, turned_at, turned_twice}
 
@@ -42,38 +43,67 @@ Told (Marks n ∷ entries) t t' = ⊥
 Told (Defines d text ∷ entries) t t' = ⊥
 Told (Drops name ∷ entries) t t' = ⊥
 
-abbrev flushed_one : JournalEntry → Journal → Journal
-flushed_one e j = record { kept = true; flushed = given j ++ e ∷ []; tail = []; written = 0; generation = 0 }
+-- no ticket is taken back
+told_next : (entries : List JournalEntry) (t t' : Tier) → Told entries t t' → t.next ≤ t'.next
+told_next [] t t' told = told.next
+told_next (SetsState name state ∷ entries) t t' told = told_next entries (with_group name (with_state state) t) t' told
+told_next (SetsLoaded name flag ∷ entries) t t' told = told_next entries (with_group name (with_loaded flag) t) t' told
+told_next (Commits s ∷ entries) t t' told = absurd told
+told_next (Prepares s ∷ entries) t t' told = absurd told
+told_next (Numbers n ∷ entries) t t' told = absurd told
+told_next (Marks n ∷ entries) t t' told = absurd told
+told_next (Defines d text ∷ entries) t t' told = absurd told
+told_next (Drops name ∷ entries) t t' told = absurd told
 
-further : (e : JournalEntry) (entries : List JournalEntry) (j new : Journal) → j.kept ≡ true → HasFlushed (e ∷ entries) j new → HasFlushed entries (flushed_one e j) new
+-- the entries one by one, with no way asked for
+
+abbrev flushed_one : JournalEntry → Journal → Journal
+flushed_one e j = record { kept = true; flushed = given j ++ e ∷ []; tail = []; written = 0; generation = 0; way = None }
+
+further : (e : JournalEntry) (entries : List JournalEntry) (j new : Journal) → j.kept ≡ true → HasBatch (e ∷ entries) j new → HasBatch entries (flushed_one e j) new
 further e entries j new kept f = record {
   kept = f.kept ∙ kept;
   flushed = f.flushed ∙ sym (append_assoc (given j) (e ∷ []) entries) ∙ ap (λ l. l ++ entries) (sym (append-nil (given j ++ e ∷ [])));
   tail = f.tail;
 }
 
-pub told_kept : (entries : List JournalEntry) (w : World) (early : List Sealed) (t : Tier) (new : Journal) → IsJournalled w early → HasFlushed entries w.journal new → Told entries w.tier t → IsJournalledOn (record w { tier = t; journal = new }) early
-told_kept [] w early t new j f told =
-    let on = flushes_kept w early new j (record { kept = f.kept ∙ j.kept; flushed = f.flushed ∙ append-nil (given w.journal); tail = f.tail }) in
-    on_then (record w { tier = t; journal = new }) early on.now on.more on.grows (quiet_on (record w { journal = new }) on.now t on.is told)
-told_kept (SetsState name state ∷ entries) w early t new j f told =
+no_way : (w : World) → w.journal.way ≡ None → None ≡ passed_by w.journal.flushed (length w.history) w.journal.way
+no_way w e = ap (λ o. passed_by w.journal.flushed (length w.history) o) (sym e)
+
+told_bare : (entries : List JournalEntry) (w : World) (early : List Sealed) (t : Tier) (new : Journal) → w.journal.way ≡ None → IsJournalled w early → HasBatch entries w.journal new → Told entries w.tier t → IsJournalledOn (wayless (record w { tier = t; journal = new })) early
+told_bare [] w early t new none j f told =
+    let last : Journal = record new { way = None } in
+    let on = flushes_kept w early last j (record { kept = f.kept ∙ j.kept; flushed = f.flushed ∙ append-nil (given w.journal); tail = f.tail; way = no_way w none }) in
+    on_then (record w { tier = t; journal = last }) early on.now on.more on.grows (quiet_on (record w { journal = last }) on.now t on.is told)
+told_bare (SetsState name state ∷ entries) w early t new none j f told =
     let t1 = with_group name (with_state state) w.tier in
     let k1 = flushed_one (SetsState name state) w.journal in
-    let on = state_kept w early name state t1 k1 j (record { kept = refl; flushed = refl; tail = refl }) (record { log = refl; next = omega arith; groups = Rattle.recovery.proofs.JournalledLaws.alike_self t1.groups }) in
-    on_then (record w { tier = t; journal = new }) early on.now on.more on.grows
-    (told_kept entries (record w { tier = t1; journal = k1 }) on.now t new on.is (further (SetsState name state) entries w.journal new j.kept f) told)
-told_kept (SetsLoaded name flag ∷ entries) w early t new j f told =
+    let on = state_kept w early name state t1 k1 j (record { kept = refl; flushed = refl; tail = refl; way = no_way w none }) (record { log = refl; next = omega arith; groups = Rattle.recovery.proofs.JournalledLaws.alike_self t1.groups }) in
+    on_then (wayless (record w { tier = t; journal = new })) early on.now on.more on.grows
+    (told_bare entries (record w { tier = t1; journal = k1 }) on.now t new refl on.is (further (SetsState name state) entries w.journal new j.kept f) told)
+told_bare (SetsLoaded name flag ∷ entries) w early t new none j f told =
     let t1 = with_group name (with_loaded flag) w.tier in
     let k1 = flushed_one (SetsLoaded name flag) w.journal in
-    let on = loaded_kept w early name flag t1 k1 j (record { kept = refl; flushed = refl; tail = refl }) (record { log = refl; next = omega arith; groups = Rattle.recovery.proofs.JournalledLaws.alike_self t1.groups }) in
-    on_then (record w { tier = t; journal = new }) early on.now on.more on.grows
-    (told_kept entries (record w { tier = t1; journal = k1 }) on.now t new on.is (further (SetsLoaded name flag) entries w.journal new j.kept f) told)
-told_kept (Commits s ∷ entries) w early t new j f told = absurd told
-told_kept (Prepares s ∷ entries) w early t new j f told = absurd told
-told_kept (Numbers n ∷ entries) w early t new j f told = absurd told
-told_kept (Marks n ∷ entries) w early t new j f told = absurd told
-told_kept (Defines d text ∷ entries) w early t new j f told = absurd told
-told_kept (Drops name ∷ entries) w early t new j f told = absurd told
+    let on = loaded_kept w early name flag t1 k1 j (record { kept = refl; flushed = refl; tail = refl; way = no_way w none }) (record { log = refl; next = omega arith; groups = Rattle.recovery.proofs.JournalledLaws.alike_self t1.groups }) in
+    on_then (wayless (record w { tier = t; journal = new })) early on.now on.more on.grows
+    (told_bare entries (record w { tier = t1; journal = k1 }) on.now t new refl on.is (further (SetsLoaded name flag) entries w.journal new j.kept f) told)
+told_bare (Commits s ∷ entries) w early t new none j f told = absurd told
+told_bare (Prepares s ∷ entries) w early t new none j f told = absurd told
+told_bare (Numbers n ∷ entries) w early t new none j f told = absurd told
+told_bare (Marks n ∷ entries) w early t new none j f told = absurd told
+told_bare (Defines d text ∷ entries) w early t new none j f told = absurd told
+told_bare (Drops name ∷ entries) w early t new none j f told = absurd told
+
+-- all of them at once, on its way
+pub told_kept : (entries : List JournalEntry) (w : World) (early : List Sealed) (t : Tier) (new : Journal) → IsJournalled w early → HasFlushed entries (length w.history) w.journal new → Told entries w.tier t → IsJournalledOn (record w { tier = t; journal = new }) early
+told_kept entries w early t new j f told =
+    let on = told_bare entries (wayless w) early t new refl (without_way w early j) (record { kept = f.batch.kept; flushed = f.batch.flushed; tail = f.batch.tail }) told in
+    record {
+      now = on.now;
+      is = safely (record w { tier = t; journal = new }) on.now on.is (flush_safe w t new on.now entries j.safe on.is (told_next entries w.tier t told) f.batch.flushed f.way);
+      more = on.more;
+      grows = on.grows;
+    }
 
 -- ---- flushed, and then the change
 

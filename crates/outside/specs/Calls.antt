@@ -105,26 +105,36 @@ ReadsFrom slot at buf result old new =
 
 -- ---- calls of the backing database
 
+-- the second history has the first in front
+pub record Lengthens (old new : List Entry) : Type 0 where
+  pub more : List Entry
+  pub is : new ≡ old ++ more
+
+-- a history between two others, of which the second has the first in front
+pub record IsBetween (old new : List Entry) (h : List Entry) : Type 0 where
+  pub came : Lengthens old h
+  pub comes : Lengthens h new
+
 -- A call of the backing database keeps the slots, and the history takes this step, with transactions of others before
--- and behind it.
+-- and behind it. It only gets longer.
 pub record BankCall (shared : List TableId) (step : List Entry → List Entry → Type 0) (old new : Held) : Type 0 where
   pub slots : new.slots ≡ old.slots
+  pub grows : Lengthens old.history new.history
   pub history : Around shared step old.history new.history
 
--- the same of what a crash may leave, where the site tells what it holds; else nothing is said
-abbrev pub MayApply : List TableId → Option Held → (List Entry → List Entry → Type 0) → Held → Held → Type 0
-MayApply shared None step old new = Unit {0}
-MayApply shared (Some seen) step old new = BankCall shared step old new
+-- What a crash may leave of such a call, where the site tells behind it what it holds: the slots as they were, and the
+-- history somewhere on its way. Else nothing is said.
+abbrev pub MayGrow : Option Held → Held → Held → Type 0
+MayGrow None old p = Unit {0}
+MayGrow (Some new) old p = (p.slots ≡ old.slots) × IsBetween old.history new.history p.history
 
 -- a call of the backing database, as it is told
 abbrev pub BankTold : SiteState → SiteState → (List Entry → List Entry → Type 0) → Type 0
 BankTold old new step = Told old.held new.held (BankCall old.shared step)
 
 -- a call of the backing database, as a crash may leave it
-abbrev pub BankGoesOn : {D : Type 0} → (D → SiteState) → (D → ℕ → Held → Type 0) → D → D
-    → (List Entry → List Entry → Type 0) → Type 0
-BankGoesOn state possible old new step =
-    GoesOn state possible old new (MayApply (state old).shared (state old).held step)
+abbrev pub BankGoesOn : {D : Type 0} → (D → SiteState) → (D → ℕ → Held → Type 0) → D → D → Type 0
+BankGoesOn state possible old new = GoesOn state possible old new (MayGrow (state new).held)
 
 -- ---- several calls
 

@@ -107,35 +107,34 @@ pub trait Site: Disk {
     /// The definitions of all tables, in the order in which they were made.
     fn schema(&mut self) -> Result<BackingSchema, BankError>
         ensures told { BankTold (Self.state self.old) (Self.state self.new) (TellsSchema result) }
-        ensures crash { BankGoesOn Self.state Self.possible self.old self.new (TellsSchema result) }
+        ensures crash { BankGoesOn Self.state Self.possible self.old self.new }
         ensures cause { BankHasCause (Self.state self.old) (Self.state self.new) result };
 
     /// Makes a table, which is behind the others then. A condition is that the definition passed `TableDef::check`.
     fn define(&mut self, def: &TableDef) -> Result<(), BankError>
         requires checked { IsChecked def.now }
         ensures told { BankTold (Self.state self.old) (Self.state self.new) (Defines def.now result) }
-        ensures crash { BankGoesOn Self.state Self.possible self.old self.new (Defines def.now result) }
+        ensures crash { BankGoesOn Self.state Self.possible self.old self.new }
         ensures cause { BankHasCause (Self.state self.old) (Self.state self.new) result };
 
     /// Applies and records a transaction, in one transaction of the bank, where its ticket isn't recorded yet and
     /// those of `after` are. What it waits for is one of `after`, also where the site tells nothing.
     fn apply_once(&mut self, sealed: &Sealed, after: &[Ticket]) -> Result<Applied, BankError>
         ensures told { BankTold (Self.state self.old) (Self.state self.new) (AppliesOnce sealed.now after.now result) }
-        ensures crash { BankGoesOn Self.state Self.possible self.old self.new
-            (AppliesOnce sealed.now after.now result) }
+        ensures crash { BankGoesOn Self.state Self.possible self.old self.new }
         ensures waits { WaitsForOne after.now result }
         ensures cause { BankHasCause (Self.state self.old) (Self.state self.new) result };
 
     /// Whether a transaction with this ticket is recorded.
     fn recorded(&mut self, ticket: Ticket) -> Result<bool, BankError>
         ensures told { BankTold (Self.state self.old) (Self.state self.new) (TellsRecorded ticket.0 result) }
-        ensures crash { BankGoesOn Self.state Self.possible self.old self.new (TellsRecorded ticket.0 result) }
+        ensures crash { BankGoesOn Self.state Self.possible self.old self.new }
         ensures cause { BankHasCause (Self.state self.old) (Self.state self.new) result };
 
     /// The row at the key of the table, none where there is none.
     fn find(&mut self, table: TableId, key: &Key) -> Result<Option<Row>, BankError>
         ensures told { BankTold (Self.state self.old) (Self.state self.new) (TellsRow table key.now result) }
-        ensures crash { BankGoesOn Self.state Self.possible self.old self.new (TellsRow table key.now result) }
+        ensures crash { BankGoesOn Self.state Self.possible self.old self.new }
         ensures cause { BankHasCause (Self.state self.old) (Self.state self.new) result };
 
     /// Does the writes of a transaction of the console, one after the other, all of them or none. It isn't the tier's,
@@ -147,7 +146,7 @@ pub trait Site: Disk {
     /// missing parent, 109 of a row with a child; 104 and 118 of a write that isn't made for its table.
     fn foreign(&mut self, changes: &[Change]) -> Result<Done, BankError>
         ensures told { BankTold (Self.state self.old) (Self.state self.new) (WritesForeign changes.now result) }
-        ensures crash { BankGoesOn Self.state Self.possible self.old self.new (WritesForeign changes.now result) }
+        ensures crash { BankGoesOn Self.state Self.possible self.old self.new }
         ensures cause { BankHasCause (Self.state self.old) (Self.state self.new) result };
 
     /// Does one write of a session that is passed on, and records it with its ticket, in one transaction of the bank. Its
@@ -159,14 +158,13 @@ pub trait Site: Disk {
     fn passed(&mut self, ticket: Ticket, change: &Change) -> Result<Done, BankError>
         ensures told { BankTold (Self.state self.old) (Self.state self.new)
             (CommitsAlone ticket.0 change.now result) }
-        ensures crash { BankGoesOn Self.state Self.possible self.old self.new
-            (CommitsAlone ticket.0 change.now result) }
+        ensures crash { BankGoesOn Self.state Self.possible self.old self.new }
         ensures cause { BankHasCause (Self.state self.old) (Self.state self.new) result };
 
     /// The definitions of all tables, and the rows of these tables, at one position of the history.
     fn snapshot(&mut self, tables: &[TableId]) -> Result<Snapshot, BankError>
         ensures told { BankTold (Self.state self.old) (Self.state self.new) (TakesSnapshot tables.now result) }
-        ensures crash { BankGoesOn Self.state Self.possible self.old self.new (TakesSnapshot tables.now result) }
+        ensures crash { BankGoesOn Self.state Self.possible self.old self.new }
         ensures cause { BankHasCause (Self.state self.old) (Self.state self.new) result };
 
     /// The instance of the tree that the row of a key is in, at one position of the history: that of the root row to
@@ -175,7 +173,7 @@ pub trait Site: Disk {
     /// (TimesTen Cache User's Guide, "Dynamically loading a cache instance".)
     fn reach(&mut self, tree: &Tree, table: TableId, key: &Key) -> Result<Reached, BankError>
         ensures told { BankTold (Self.state self.old) (Self.state self.new) (Reaches tree.now table key.now result) }
-        ensures crash { BankGoesOn Self.state Self.possible self.old self.new (Reaches tree.now table key.now result) }
+        ensures crash { BankGoesOn Self.state Self.possible self.old self.new }
         ensures cause { BankHasCause (Self.state self.old) (Self.state self.new) result };
 
     /// What changed since a position of the history in the tables of the trees, and of each tree the instances of which a
@@ -196,8 +194,7 @@ pub trait Site: Disk {
     ) -> Result<Changes, BankError>
         ensures told { BankTold (Self.state self.old) (Self.state self.new)
             (TakesChanges since trees.now wants.now result) }
-        ensures crash { BankGoesOn Self.state Self.possible self.old self.new
-            (TakesChanges since trees.now wants.now result) }
+        ensures crash { BankGoesOn Self.state Self.possible self.old self.new }
         ensures cause { BankHasCause (Self.state self.old) (Self.state self.new) result };
 
     /// Whether the log goes back to a position, so that `changes` can tell what changed since. A site that keeps no log

@@ -1,5 +1,5 @@
 -- What keeps the journal the tier's where a synchronous transaction commits.
-use Rattle.std.proofs.Common.{◌≡◌, ◌⊎◌, inl, inr, ◌+◌, ◌≤◌, Bool, true, false, cond, not, ◌||◌, max, Some, List, [], ◌∷◌, ◌++◌, map, filter, refl, sym, ap, subst, ◌∙◌, arith, append-nil, eq-eqb}
+use Rattle.std.proofs.Common.{◌≡◌, ◌⊎◌, inl, inr, ◌+◌, ◌≤◌, Bool, true, false, cond, not, ◌||◌, max, Some, List, [], ◌∷◌, ◌++◌, length, map, filter, refl, sym, ap, subst, ◌∙◌, arith, append-nil, eq-eqb}
 use Rattle.std.specs.Option.{option_and_then}
 use Rattle.std.proofs.Math.Nat.{le-max_left, le-max_right, max-le}
 use Rattle.std.proofs.lemmas.List.{map-append}
@@ -33,16 +33,17 @@ use Rattle.recovery.specs.Journalled.{IsAwaited, IsFlushedWith, IsJournalled, Is
 use Rattle.recovery.specs.Recalling.{RecallsAll, note_of, notes_of}
 use Rattle.recovery.proofs.JournalledLaws.{alike_trans, entry_journalled, fresh, given_is, le, matched, notes, on, seen}
 use Rattle.recovery.proofs.RoundedLaws.{leads_own}
+use Rattle.recovery.proofs.SafeLaws.{grow_safe, safely, wayless}
 
 -- ---- the transaction is prepared
 
-pub prepare_kept : (w : World) (early : List Sealed) (s : Session) (t : Tier) (new : Journal) → between.Stands w → IsJournalled w early → session_of w.tier s.label ≡ Some s → IsFlushedWith (Prepares (sealed_own w.tier s)) w.journal new → IsQuiet (with_ticket w.tier) t
+pub prepare_kept : (w : World) (early : List Sealed) (s : Session) (t : Tier) (new : Journal) → between.Stands w → IsJournalled w early → session_of w.tier s.label ≡ Some s → IsFlushedWith (Prepares (sealed_own w.tier s)) (length w.history) w.journal new → IsQuiet (with_ticket w.tier) t
     → IsJournalledOn (with_flushed_entry t new w) early
 prepare_kept w early s t new stands j there is quiet =
     entry_journalled w early j (Prepares (sealed_own w.tier s)) new is
     (event_keeps (seen w early j) (with_flushed (crash.given (seen w early j) ++ Prepare (sealed_own w.tier s) ∷ []) (seen w early j)) early (prepares (sealed_own w.tier s) (le w early j s stands there) (on w early j s stands there)) j.stands)
     t (record (j.catalog) { next = next_with j.catalog.next (Prepares (sealed_own w.tier s)) }) refl (alike_trans j.catalog.groups w.tier.groups t.groups j.alike quiet.groups) quiet.log
-    (ap (λ b. if_stands b (sealed_own w.tier s)) (fresh w early j s stands there)) below
+    (ap (λ b. if_stands b (sealed_own w.tier s)) (fresh w early j s stands there)) below (let up = quiet.next in omega (arith, up))
   where
     below : next_behind (given w.journal ++ Prepares (sealed_own w.tier s) ∷ []) ≤ t.next
     below =
@@ -141,10 +142,12 @@ module _ (w : World) (early : List Sealed) (j : IsJournalled w early) (s : Seale
   known : kept.stands.matched.backing.schema ≡ schema
   known = all_defined s.ops j.backing kept.stands.matched.backing (leads_own w.history s j.backing kept.stands.matched.backing j.leaves kept.stands.matched.leaves)
 
-  pub at_once_journalled : (t : Tier) → IsToldAtOnce s w.tier t → IsJournalledOn (at_history (w.history ++ entry_of s ∷ []) (record w { tier = t })) early
-  at_once_journalled t told = record {
-    now = kept.now;
-    is = record {
+  module _ (t : Tier) (told : IsToldAtOnce s w.tier t) where
+    abbrev then : World
+    then = at_history (w.history ++ entry_of s ∷ []) (record w { tier = t })
+
+    at_once_bare : IsJournalled (wayless (at_history (w.history ++ entry_of s ∷ []) (record w { tier = t }))) kept.now
+    at_once_bare = record {
       kept = j.kept;
       backing = kept.stands.matched.backing;
       leaves = kept.stands.matched.leaves;
@@ -158,10 +161,16 @@ module _ (w : World) (early : List Sealed) (j : IsJournalled w early) (s : Seale
       alike = alike_trans j.catalog.groups w.tier.groups t.groups j.alike told.groups;
       tie = tie_then t.log told.log ∙ ap (λ z. pending (w.history ++ entry_of s ∷ []) (log_in (w.history ++ entry_of s ∷ []) (notes_of z (given w.journal)))) (sym known);
       next = let below = j.next in let up = told.next in omega (arith, below, up);
-    };
-    more = kept.more;
-    grows = kept.grows;
-  }
+      safe = tt;
+    }
+
+    pub at_once_journalled : IsJournalledOn (at_history (w.history ++ entry_of s ∷ []) (record w { tier = t })) early
+    at_once_journalled = record {
+      now = kept.now;
+      is = safely then kept.now at_once_bare (grow_safe w t (entry_of s) kept.now j.safe at_once_bare told.next);
+      more = kept.more;
+      grows = kept.grows;
+    }
 
 here_now : (h : List Entry) (s : Sealed) → has_ticket s.ticket.0 (h ++ entry_of s ∷ []) ≡ true
 here_now h s = has_ticket-append s.ticket.0 h (entry_of s ∷ []) ∙ ap (λ b. has_ticket s.ticket.0 h || (b || false)) (eq-eqb s.ticket.0 s.ticket.0 refl) ∙ or_true (has_ticket s.ticket.0 h)
@@ -177,12 +186,12 @@ at_once_kept w early s front t j p told =
 
 -- ---- a write that is passed on
 
-pub number_kept : (w : World) (early : List Sealed) (t : Tier) (new : Journal) → between.Stands w → IsJournalled w early → IsFlushedWith (Numbers w.tier.next) w.journal new → IsQuiet (with_ticket w.tier) t → IsJournalledOn (with_flushed_entry t new w) early
+pub number_kept : (w : World) (early : List Sealed) (t : Tier) (new : Journal) → between.Stands w → IsJournalled w early → IsFlushedWith (Numbers w.tier.next) (length w.history) w.journal new → IsQuiet (with_ticket w.tier) t → IsJournalledOn (with_flushed_entry t new w) early
 number_kept w early t new stands j is quiet =
     entry_journalled w early j (Numbers w.tier.next) new is
     (event_keeps (seen w early j) (with_flushed (crash.given (seen w early j) ++ Number w.tier.next ∷ []) (seen w early j)) early (numbers w.tier.next under) j.stands)
     t (record (j.catalog) { next = next_with j.catalog.next (Numbers w.tier.next) }) refl (alike_trans j.catalog.groups w.tier.groups t.groups j.alike quiet.groups) quiet.log
-    (ap only_found (found_none w.tier.next w.history (stands.flow.stand.over.below w.tier.next (omega arith)))) below
+    (ap only_found (found_none w.tier.next w.history (stands.flow.stand.over.below w.tier.next (omega arith)))) below (let up = quiet.next in omega (arith, up))
   where
     under : next_of (crash.given (seen w early j)) ≤ w.tier.next
     under = subst (λ n. n ≤ w.tier.next) (Rattle.recovery.proofs.RecalledLaws.next_is j.backing.schema w.history (given w.journal) (matched w early j) ∙ ap next_of (sym (given_is w early j))) j.next

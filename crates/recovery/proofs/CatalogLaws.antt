@@ -1,5 +1,5 @@
 -- What keeps the journal the tier's where its catalog changes.
-use Rattle.std.proofs.Common.{◌≡◌, ℕ, ◌+◌, ◌≤◌, Bool, true, false, cond, not, ◌&&◌, ◌||◌, Option, Some, None, List, [], ◌∷◌, ◌++◌, map, refl, sym, ap, subst, ◌∙◌, arith}
+use Rattle.std.proofs.Common.{◌≡◌, ℕ, ◌+◌, ◌≤◌, Bool, true, false, cond, not, ◌&&◌, ◌||◌, Option, Some, None, List, [], ◌∷◌, ◌++◌, length, map, refl, sym, ap, subst, ◌∙◌, arith}
 use Rattle.std.specs.List.{list_all, list_any}
 use Rattle.std.specs.Option.{option_and_then}
 use Rattle.tier_base.specs.declared.number.TableId.{TableId}
@@ -162,12 +162,12 @@ module _ (w : World) (early : List Sealed) (j : IsJournalled w early) (stands : 
     alike_new : IsAlike (group_of j.catalog d tree) group
     alike_new = record { def = ap (λ s. defined_by s d tree) (sym folded_schema); state = λ r. refl; loaded = refl }
 
-    pub define_journalled : (t : Tier) (journal : Journal) → IsFlushedWith (Defines d text) w.journal journal → IsQuiet (with_new_group d tree w.tier) t → IsJournalledOn (with_flushed_entry t journal w) early
+    pub define_journalled : (t : Tier) (journal : Journal) → IsFlushedWith (Defines d text) (length w.history) w.journal journal → IsQuiet (with_new_group d tree w.tier) t → IsJournalledOn (with_flushed_entry t journal w) early
     define_journalled t journal flushed quiet =
         entry_journalled w early j (Defines d text) journal flushed kept t (with_new_group d tree j.catalog) recalled_as
         (alike_trans (j.catalog.groups ++ group_of j.catalog d tree ∷ []) (w.tier.groups ++ group ∷ []) t.groups (alike_last j.catalog.groups w.tier.groups (group_of j.catalog d tree) group j.alike alike_new) quiet.groups)
-        quiet.log refl (below_same w early j (Defines d text) t.next (λ n. refl) quiet.next)
+        quiet.log refl (below_same w early j (Defines d text) t.next (λ n. refl) quiet.next) quiet.next
 
 pub define_kept : (w : World) (early : List Sealed) (d : CreateGroup) (text : List ℕ) (tree : Tree) (t : Tier) (journal : Journal) → between.Stands w → IsJournalled w early → IsTreeOf (placed_tables w.tier.schema d) tree
-    → definition_names w.tier.schema (definitions_of w.tier.groups) d ≡ None → IsNewGroup w (group_of w.tier d tree) → IsFlushedWith (Defines d text) w.journal journal → IsQuiet (with_new_group d tree w.tier) t → IsJournalledOn (with_flushed_entry t journal w) early
+    → definition_names w.tier.schema (definitions_of w.tier.groups) d ≡ None → IsNewGroup w (group_of w.tier d tree) → IsFlushedWith (Defines d text) (length w.history) w.journal journal → IsQuiet (with_new_group d tree w.tier) t → IsJournalledOn (with_flushed_entry t journal w) early
 define_kept w early d text tree t journal stands j is names new flushed quiet = define_journalled w early j stands d text tree is names new t journal flushed quiet

@@ -1,5 +1,5 @@
 -- What keeps the journal the tier's where a group is dropped.
-use Rattle.std.proofs.Common.{◌≡◌, ℕ, Bool, true, false, cond, not, ◌&&◌, ◌||◌, List, [], ◌∷◌, ◌++◌, refl, sym, ap, subst, ◌∙◌}
+use Rattle.std.proofs.Common.{◌≡◌, ℕ, Bool, true, false, cond, not, ◌&&◌, ◌||◌, List, [], ◌∷◌, ◌++◌, length, refl, sym, ap, subst, ◌∙◌}
 use Rattle.std.specs.List.{filter, list_any}
 use Rattle.std.proofs.lemmas.List.Folds.{list_any-append}
 use Rattle.std.specs.Cmp.Lexicographic.{bytes_decides}
@@ -197,12 +197,12 @@ module _ (w : World) (early : List Sealed) (j : IsJournalled w early) (stands : 
   kept : StandsOn (with_flushed (crash.given (seen w early j) ++ Drop name ∷ []) (seen w early j)) early
   kept = event_keeps (seen w early j) (with_flushed (crash.given (seen w early j) ++ Drop name ∷ []) (seen w early j)) early (drops name off_given.0 off_given.1) j.stands
 
-  pub drop_journalled : (t : Tier) (journal : Journal) → IsFlushedWith (Drops name) w.journal journal → IsQuiet (without_group name w.tier) t → IsJournalledOn (with_flushed_entry t journal w) early
+  pub drop_journalled : (t : Tier) (journal : Journal) → IsFlushedWith (Drops name) (length w.history) w.journal journal → IsQuiet (without_group name w.tier) t → IsJournalledOn (with_flushed_entry t journal w) early
   drop_journalled t journal flushed quiet =
       entry_journalled w early j (Drops name) journal flushed kept t (without_group name j.catalog) refl
       (alike_trans (filter (λ k. not (is_called name k)) j.catalog.groups) (filter (λ k. not (is_called name k)) w.tier.groups) t.groups (alike_without name j.catalog.groups w.tier.groups j.alike) quiet.groups)
-      quiet.log refl (below_same w early j (Drops name) t.next (λ n. refl) quiet.next)
+      quiet.log refl (below_same w early j (Drops name) t.next (λ n. refl) quiet.next) quiet.next
 
-pub drop_kept : (w : World) (early : List Sealed) (name : List ℕ) (g : Group) (t : Tier) (journal : Journal) → between.Stands w → IsJournalled w early → MayDrop w name g → is_called name g ≡ true → IsFlushedWith (Drops name) w.journal journal
+pub drop_kept : (w : World) (early : List Sealed) (name : List ℕ) (g : Group) (t : Tier) (journal : Journal) → between.Stands w → IsJournalled w early → MayDrop w name g → is_called name g ≡ true → IsFlushedWith (Drops name) (length w.history) w.journal journal
     → IsQuiet (without_group name w.tier) t → IsJournalledOn (with_flushed_entry t journal w) early
 drop_kept w early name g t journal stands j may called flushed quiet = drop_journalled w early j stands name g may called t journal flushed quiet

@@ -1,5 +1,5 @@
 -- What keeps the journal the tier's.
-use Rattle.std.proofs.Common.{◌≡◌, ℕ, ◌+◌, ◌≤◌, Bool, true, false, cond, ◌&&◌, ◌||◌, Some, List, [], ◌∷◌, ◌++◌, map, refl, sym, ap, subst, ◌∙◌, arith, append_assoc, append-nil}
+use Rattle.std.proofs.Common.{◌≡◌, ℕ, ◌+◌, ◌≤◌, Bool, true, false, cond, ◌&&◌, ◌||◌, Some, List, [], ◌∷◌, ◌++◌, length, map, refl, sym, ap, subst, ◌∙◌, arith, append_assoc, append-nil}
 use Rattle.std.specs.List.{find, list_all, list_any}
 use Rattle.std.specs.Option.{option_and_then}
 use Rattle.std.proofs.Math.Nat.{max-le}
@@ -43,6 +43,7 @@ use Rattle.recovery.specs.Recalling.{Recalls, RecallsAll, note_of, notes_of, sta
 use Rattle.recovery.proofs.FoldLaws.{IsFolded, folds}
 use Rattle.recovery.proofs.NewestLaws.{live_plain, newest_has, seconds}
 use Rattle.recovery.proofs.RecalledLaws.{next_is}
+use Rattle.recovery.proofs.SafeLaws.{flush_safe, safely, still_safe, wayless}
 
 -- ---- entries
 
@@ -240,13 +241,14 @@ module _ (w : World) (early : List Sealed) (j : IsJournalled w early) where
         alike = alike_commit (no_rows (with_ticket w.tier)) s.own j.catalog.groups w.tier.groups j.alike;
         tie = tied_commit w.history w.tier.log notes x fresh j.tie ∙ sym (ap (λ l. pending w.history (log_in w.history l)) notes_then);
         next = subst (λ l. next_behind l ≤ w.tier.next + 1) (sym given_then) higher;
+        safe = still_safe w (w.tier.next + 1) j.safe (omega arith);
       };
       more = kept.more;
       grows = kept.grows;
     }
 
   -- the tail is flushed
-  module _ (new : Journal) (is : IsFlushed w.journal new) where
+  module _ (new : Journal) (is : IsFlushed (length w.history) w.journal new) where
     flushed_on : StandsOn (with_flushed (crash.given seen) seen) early
     flushed_on = event_keeps seen (with_flushed (crash.given seen) seen) early flushes j.stands
 
@@ -256,30 +258,35 @@ module _ (w : World) (early : List Sealed) (j : IsJournalled w early) where
     flushed_seen : crash.given seen ≡ notes_of schema new.flushed
     flushed_seen = given_is ∙ ap (notes_of schema) (sym is.flushed)
 
+    flush_bare : IsJournalled (wayless (record w { journal = new })) flushed_on.now
+    flush_bare = record {
+      kept = is.kept;
+      backing = j.backing;
+      leaves = j.leaves;
+      late = [];
+      tail = is.tail;
+      stands = subst (λ l. Stands (record { flushed = l; late = []; history = w.history; commits = flushed_on.now ++ [] }) flushed_on.now) flushed_seen
+          (subst (λ l. Stands (record { flushed = crash.given seen; late = []; history = w.history; commits = l }) flushed_on.now) flushed_on.stands.are flushed_on.stands);
+      settings = j.settings;
+      catalog = j.catalog;
+      recalls = subst (λ l. RecallsAll l (opened j.settings 0 schema) j.catalog) (sym given_same) j.recalls;
+      alike = j.alike;
+      tie = j.tie ∙ sym (ap (λ l. pending w.history (log_in w.history (notes_of schema l))) given_same);
+      next = subst (λ l. next_behind l ≤ w.tier.next) (sym given_same) j.next;
+      safe = tt;
+    }
+
     pub flush_journalled : IsJournalledOn (record w { journal = new }) early
     flush_journalled = record {
       now = flushed_on.now;
-      is = record {
-        kept = is.kept;
-        backing = j.backing;
-        leaves = j.leaves;
-        late = [];
-        tail = is.tail;
-        stands = subst (λ l. Stands (record { flushed = l; late = []; history = w.history; commits = flushed_on.now ++ [] }) flushed_on.now) flushed_seen
-            (subst (λ l. Stands (record { flushed = crash.given seen; late = []; history = w.history; commits = l }) flushed_on.now) flushed_on.stands.are flushed_on.stands);
-        settings = j.settings;
-        catalog = j.catalog;
-        recalls = subst (λ l. RecallsAll l (opened j.settings 0 schema) j.catalog) (sym given_same) j.recalls;
-        alike = j.alike;
-        tie = j.tie ∙ sym (ap (λ l. pending w.history (log_in w.history (notes_of schema l))) given_same);
-        next = subst (λ l. next_behind l ≤ w.tier.next) (sym given_same) j.next;
-      };
+      is = safely (record w { journal = new }) flushed_on.now flush_bare
+          (flush_safe w w.tier new flushed_on.now [] j.safe flush_bare (omega arith) (is.flushed ∙ sym (append-nil (given w.journal))) is.way);
       more = flushed_on.more;
       grows = flushed_on.grows;
     }
 
   -- an entry is flushed behind the tail
-  module _ (e : JournalEntry) (new : Journal) (is : IsFlushedWith e w.journal new) (kept_on : StandsOn (with_flushed (crash.given seen ++ note_of schema e ∷ []) seen) early) where
+  module _ (e : JournalEntry) (new : Journal) (is : IsFlushedWith e (length w.history) w.journal new) (kept_on : StandsOn (with_flushed (crash.given seen ++ note_of schema e ∷ []) seen) early) where
     given_with : given new ≡ given w.journal ++ e ∷ []
     given_with = (λ i. is.flushed i ++ is.tail i) ∙ append-nil (given w.journal ++ e ∷ [])
 
@@ -289,11 +296,9 @@ module _ (w : World) (early : List Sealed) (j : IsJournalled w early) where
     seen_with : crash.given seen ++ note_of schema e ∷ [] ≡ notes_of schema new.flushed
     seen_with = ap (λ l. l ++ note_of schema e ∷ []) given_is ∙ sym notes_with ∙ ap (notes_of schema) (sym is.flushed)
 
-    pub entry_journalled : (t catalog' : Tier) → Recalls e j.catalog catalog' → AreAlike catalog'.groups t.groups → t.log ≡ w.tier.log → told w.history (note_of schema e) ≡ [] → next_behind (given w.journal ++ e ∷ []) ≤ t.next
-        → IsJournalledOn (with_flushed_entry t new w) early
-    entry_journalled t catalog' one alike log silent below = record {
-      now = kept_on.now;
-      is = record {
+    module _ (t catalog' : Tier) (one : Recalls e j.catalog catalog') (alike : AreAlike catalog'.groups t.groups) (log : t.log ≡ w.tier.log) (silent : told w.history (note_of schema e) ≡ []) (below : next_behind (given w.journal ++ e ∷ []) ≤ t.next) (up : w.tier.next ≤ t.next) where
+      entry_bare : IsJournalled (wayless (with_flushed_entry t new w)) kept_on.now
+      entry_bare = record {
         kept = is.kept;
         backing = j.backing;
         leaves = j.leaves;
@@ -307,27 +312,33 @@ module _ (w : World) (early : List Sealed) (j : IsJournalled w early) where
         alike = alike;
         tie = ap (pending w.history) log ∙ tied_quiet w.history w.tier.log notes (note_of schema e) silent j.tie ∙ sym (ap (λ l. pending w.history (log_in w.history l)) (ap (notes_of schema) given_with ∙ notes_with));
         next = subst (λ l. next_behind l ≤ t.next) (sym given_with) below;
-      };
-      more = kept_on.more;
-      grows = kept_on.grows;
-    }
+        safe = tt;
+      }
+
+      pub entry_journalled : IsJournalledOn (with_flushed_entry t new w) early
+      entry_journalled = record {
+        now = kept_on.now;
+        is = safely (with_flushed_entry t new w) kept_on.now entry_bare (flush_safe w t new kept_on.now (e ∷ []) j.safe entry_bare up is.flushed is.way);
+        more = kept_on.more;
+        grows = kept_on.grows;
+      }
 
   pub below_same : (e : JournalEntry) (next : ℕ) → ((n : ℕ) → next_with n e ≡ n) → w.tier.next ≤ next → next_behind (given w.journal ++ e ∷ []) ≤ next
   below_same e next same le =
       subst (λ n. n ≤ next) (sym (fold-append next_with 1 (given w.journal) (e ∷ []) ∙ same (next_behind (given w.journal)))) (let below = j.next in omega (arith, below, le))
 
   -- a STATE, a flag
-  pub state_journalled : (name : List ℕ) (state : RefreshState) (t : Tier) (new : Journal) → IsFlushedWith (SetsState name state) w.journal new → IsQuiet (with_group name (with_state state) w.tier) t → IsJournalledOn (with_flushed_entry t new w) early
+  pub state_journalled : (name : List ℕ) (state : RefreshState) (t : Tier) (new : Journal) → IsFlushedWith (SetsState name state) (length w.history) w.journal new → IsQuiet (with_group name (with_state state) w.tier) t → IsJournalledOn (with_flushed_entry t new w) early
   state_journalled name state t new is quiet =
       entry_journalled (SetsState name state) new is (event_keeps seen (with_flushed (crash.given seen ++ Flag name (state_number state) ∷ []) seen) early (flags name (state_number state)) j.stands)
       t (with_group name (with_state state) j.catalog) refl (alike_trans (map (turned name (with_state state)) j.catalog.groups) (map (turned name (with_state state)) w.tier.groups) t.groups (alike_turned name (with_state state) (state_steady state) j.catalog.groups w.tier.groups j.alike) quiet.groups)
-      quiet.log refl (below_same (SetsState name state) t.next (λ n. refl) quiet.next)
+      quiet.log refl (below_same (SetsState name state) t.next (λ n. refl) quiet.next) quiet.next
 
-  pub loaded_journalled : (name : List ℕ) (flag : Bool) (t : Tier) (new : Journal) → IsFlushedWith (SetsLoaded name flag) w.journal new → IsQuiet (with_group name (with_loaded flag) w.tier) t → IsJournalledOn (with_flushed_entry t new w) early
+  pub loaded_journalled : (name : List ℕ) (flag : Bool) (t : Tier) (new : Journal) → IsFlushedWith (SetsLoaded name flag) (length w.history) w.journal new → IsQuiet (with_group name (with_loaded flag) w.tier) t → IsJournalledOn (with_flushed_entry t new w) early
   loaded_journalled name flag t new is quiet =
       entry_journalled (SetsLoaded name flag) new is (event_keeps seen (with_flushed (crash.given seen ++ Flag name (cond flag 4 0) ∷ []) seen) early (flags name (cond flag 4 0)) j.stands)
       t (with_group name (with_loaded flag) j.catalog) refl (alike_trans (map (turned name (with_loaded flag)) j.catalog.groups) (map (turned name (with_loaded flag)) w.tier.groups) t.groups (alike_turned name (with_loaded flag) (loaded_steady flag) j.catalog.groups w.tier.groups j.alike) quiet.groups)
-      quiet.log refl (below_same (SetsLoaded name flag) t.next (λ n. refl) quiet.next)
+      quiet.log refl (below_same (SetsLoaded name flag) t.next (λ n. refl) quiet.next) quiet.next
 
   -- nothing that an entry tells changes
   pub quiet_journalled : (t : Tier) → IsQuiet w.tier t → IsJournalled (record w { tier = t }) early
@@ -344,19 +355,20 @@ module _ (w : World) (early : List Sealed) (j : IsJournalled w early) where
     alike = alike_trans j.catalog.groups w.tier.groups t.groups j.alike quiet.groups;
     tie = ap (pending w.history) quiet.log ∙ j.tie;
     next = let below = j.next in let up = quiet.next in omega (arith, below, up);
+    safe = still_safe w t.next j.safe quiet.next;
   }
 
 pub quiet_kept : (w : World) (early : List Sealed) (t : Tier) → IsJournalled w early → IsQuiet w.tier t → IsJournalled (record w { tier = t }) early
 quiet_kept w early t j quiet = quiet_journalled w early j t quiet
 
-pub state_kept : (w : World) (early : List Sealed) (name : List ℕ) (state : RefreshState) (t : Tier) (new : Journal) → IsJournalled w early → IsFlushedWith (SetsState name state) w.journal new → IsQuiet (with_group name (with_state state) w.tier) t → IsJournalledOn (with_flushed_entry t new w) early
+pub state_kept : (w : World) (early : List Sealed) (name : List ℕ) (state : RefreshState) (t : Tier) (new : Journal) → IsJournalled w early → IsFlushedWith (SetsState name state) (length w.history) w.journal new → IsQuiet (with_group name (with_state state) w.tier) t → IsJournalledOn (with_flushed_entry t new w) early
 state_kept w early name state t new j is quiet = state_journalled w early j name state t new is quiet
 
-pub loaded_kept : (w : World) (early : List Sealed) (name : List ℕ) (flag : Bool) (t : Tier) (new : Journal) → IsJournalled w early → IsFlushedWith (SetsLoaded name flag) w.journal new → IsQuiet (with_group name (with_loaded flag) w.tier) t → IsJournalledOn (with_flushed_entry t new w) early
+pub loaded_kept : (w : World) (early : List Sealed) (name : List ℕ) (flag : Bool) (t : Tier) (new : Journal) → IsJournalled w early → IsFlushedWith (SetsLoaded name flag) (length w.history) w.journal new → IsQuiet (with_group name (with_loaded flag) w.tier) t → IsJournalledOn (with_flushed_entry t new w) early
 loaded_kept w early name flag t new j is quiet = loaded_journalled w early j name flag t new is quiet
 
 pub commits_kept : (w : World) (early : List Sealed) (s : Session) → between.Stands w → IsJournalled w early → session_of w.tier s.label ≡ Some s → IsJournalledOn (with_commit_noted s w) early
 commits_kept w early s stands j there = commit_journalled w early j s stands there
 
-pub flushes_kept : (w : World) (early : List Sealed) (new : Journal) → IsJournalled w early → IsFlushed w.journal new → IsJournalledOn (record w { journal = new }) early
+pub flushes_kept : (w : World) (early : List Sealed) (new : Journal) → IsJournalled w early → IsFlushed (length w.history) w.journal new → IsJournalledOn (record w { journal = new }) early
 flushes_kept w early new j is = flush_journalled w early j new is

@@ -1,6 +1,8 @@
 pub mod NewestLaws
 pub mod FoldLaws
 pub mod RecalledLaws
+pub mod PointLaws
+pub mod SafeLaws
 pub mod JournalledLaws
 pub mod CatalogLaws
 pub mod DroppedLaws

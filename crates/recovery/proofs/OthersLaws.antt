@@ -22,7 +22,9 @@ use Rattle.order_laws.proofs.TruthLaws.{both_true, same_some}
 use Rattle.recovery_laws.specs.Crashes.{Stands, StandsOn, others, with_entry}
 use Rattle.recovery_laws.specs.Crashes as crash
 use Rattle.recovery_laws.specs.Notes.{Note, groups_of, log_in}
+use Rattle.recovery_laws.specs.Matching.{IsMatched}
 use Rattle.recovery_laws.proofs.CrashLaws.{event_keeps}
+use Rattle.recovery_laws.proofs.EventLaws.{tail_lost}
 use Rattle.recovery_laws.proofs.PushLaws.{steady_quiet}
 use Rattle.cache_tier.specs.Events.{at_history}
 use Rattle.cache_tier.specs.JournalWays.{given}
@@ -31,7 +33,10 @@ use Rattle.cache_tier.specs.Worlds.{BankCall, IsUnshared, World}
 use Rattle.recovery.specs.Journalled.{IsJournalled, IsJournalledOn, IsQuiet, seen_as}
 use Rattle.recovery.specs.Recalling.{RecallsAll, notes_of}
 use Rattle.recovery.proofs.JournalledLaws.{alike_self, alike_trans, given_is, live}
-use Rattle.recovery.proofs.RoundedLaws.{leads_foreign}
+use Rattle.recovery.specs.SafeWays.{IsSafeOn}
+use Rattle.recovery.proofs.PointLaws.{safe_step}
+use Rattle.recovery.proofs.RoundedLaws.{Steps, leads_foreign}
+use Rattle.recovery.proofs.SafeLaws.{flushed_below, still_safe}
 
 pub some_state : (o : Option TableState) → IsSome o → (s : TableState) × (o ≡ Some s)
 some_state None e = Prim.cc
@@ -47,25 +52,39 @@ off_shared shared live (op ∷ ops) apart e =
 abbrev with_late : List Note → List Sealed → List Entry → List Sealed → crash.World
 with_late flushed late h commits = record { flushed = flushed; late = late; history = h; commits = commits }
 
--- entries and history go on, and what is pending of a log stays what is pending of both
-record GoesOn (flushed : List Note) (late : List Sealed) (schema : List TableDef) (later : List Entry) (log commits early : List Sealed) : Type 0 where
+-- entries and history go on, what is pending of a log stays what is pending of both, and this holds of the history
+record GoesOn (P : List Entry → Type 0) (flushed : List Note) (late : List Sealed) (schema : List TableDef) (later : List Entry) (log commits early : List Sealed) : Type 0 where
   now : List Sealed
   stands : Stands (with_late flushed late later commits) now
   backing : TableState
   leaves : state_of later ≡ Some backing
   schema_is : backing.schema ≡ schema
   tie : pending later log ≡ pending later (log_in later (crash.given (with_late flushed late later commits)))
+  holds : P later
   more : List Sealed
   grows : now ≡ early ++ more
 
-goes_on : (flushed : List Note) (late : List Sealed) (schema : List TableDef) (shared : List TableId) (entries h : List Entry) (log commits early : List Sealed) (st : Stands (with_late flushed late h commits) early) → st.matched.backing.schema ≡ schema
+further : (P : List Entry → Type 0) (flushed : List Note) (late : List Sealed) (schema : List TableDef) (later : List Entry) (log commits early mid more : List Sealed) → mid ≡ early ++ more → GoesOn P flushed late schema later log commits mid → GoesOn P flushed late schema later log commits early
+further P flushed late schema later log commits early mid more e g = record {
+  now = g.now;
+  stands = g.stands;
+  backing = g.backing;
+  leaves = g.leaves;
+  schema_is = g.schema_is;
+  tie = g.tie;
+  holds = g.holds;
+  more = more ++ g.more;
+  grows = g.grows ∙ ap (λ l. l ++ g.more) e ∙ append_assoc early more g.more;
+}
+
+goes_on : (P : List Entry → Type 0) (flushed : List Note) (late : List Sealed) (schema : List TableDef) (shared : List TableId) (entries h : List Entry) (log commits early : List Sealed) → Steps P schema flushed → P h → (st : Stands (with_late flushed late h commits) early) → st.matched.backing.schema ≡ schema
     → ((t : TableId) → is_shared shared t ≡ true → is_one_of (live_tables (groups_of (crash.given (with_late flushed late h commits)))) t ≡ false) → pending h log ≡ pending h (log_in h (crash.given (with_late flushed late h commits))) → AreOthers shared h entries
-    → GoesOn flushed late schema (h ++ entries) log commits early
-goes_on flushed late schema shared [] h log commits early st same apart tie f =
-    subst (λ l. GoesOn flushed late schema l log commits early) (sym (append-nil h)) (record { now = early; stands = st; backing = st.matched.backing; leaves = st.matched.leaves; schema_is = same; tie = tie; more = []; grows = sym (append-nil early) })
-goes_on flushed late schema shared (Definition def ∷ entries) h log commits early st same apart tie f = absurd f
-goes_on flushed late schema shared (Own ticket ops ∷ entries) h log commits early st same apart tie f = absurd f
-goes_on flushed late schema shared (Foreign ops ∷ entries) h log commits early st same apart tie f =
+    → GoesOn P flushed late schema (h ++ entries) log commits early
+goes_on P flushed late schema shared [] h log commits early step p st same apart tie f =
+    subst (λ l. GoesOn P flushed late schema l log commits early) (sym (append-nil h)) (record { now = early; stands = st; backing = st.matched.backing; leaves = st.matched.leaves; schema_is = same; tie = tie; holds = p; more = []; grows = sym (append-nil early) })
+goes_on P flushed late schema shared (Definition def ∷ entries) h log commits early step p st same apart tie f = absurd f
+goes_on P flushed late schema shared (Own ticket ops ∷ entries) h log commits early step p st same apart tie f = absurd f
+goes_on P flushed late schema shared (Foreign ops ∷ entries) h log commits early step p st same apart tie f =
     let (n, n_is) = some_state (state_of (h ++ Foreign ops ∷ [])) (f.1 st.matched.backing st.matched.leaves) in
     let leads = leads_foreign h ops st.matched.backing n st.matched.leaves n_is in
     let all = crash.given (with_late flushed late h commits) in
@@ -74,18 +93,11 @@ goes_on flushed late schema shared (Foreign ops ∷ entries) h log commits early
     (others ops st.matched.backing st.matched.virtual n (record { leaves = st.matched.leaves; is = st.matched.virtual_is }) leads off) st in
     let known : next.stands.matched.backing.schema ≡ schema =
     ap (λ (x : TableState). x.schema) (same_some (sym next.stands.matched.leaves ∙ n_is)) ∙ all_defined ops st.matched.backing n leads ∙ same in
-    let r = goes_on flushed late schema shared entries (h ++ Foreign ops ∷ []) log commits next.now next.stands known apart
-    (pending_foreign h ops log ∙ tie ∙ sym (pending_foreign h ops (log_in h all)) ∙ ap (pending (h ++ Foreign ops ∷ [])) (sym (steady_quiet h (Foreign ops) all tt))) f.2 in
-    subst (λ l. GoesOn flushed late schema l log commits early) (append_assoc h (Foreign ops ∷ []) entries) (record {
-      now = r.now;
-      stands = r.stands;
-      backing = r.backing;
-      leaves = r.leaves;
-      schema_is = r.schema_is;
-      tie = r.tie;
-      more = next.more ++ r.more;
-      grows = r.grows ∙ ap (λ l. l ++ r.more) next.grows ∙ append_assoc early next.more r.more;
-    })
+    let matched : IsMatched flushed (h ++ Foreign ops ∷ []) = tail_lost flushed (h ++ Foreign ops ∷ []) late next.stands.matched next.stands.ahead in
+    subst (λ l. GoesOn P flushed late schema l log commits early) (append_assoc h (Foreign ops ∷ []) entries)
+    (further P flushed late schema ((h ++ Foreign ops ∷ []) ++ entries) log commits early next.now next.more next.grows
+    (goes_on P flushed late schema shared entries (h ++ Foreign ops ∷ []) log commits next.now step (step h (Foreign ops) next.stands.matched.backing p next.stands.matched.leaves known matched) next.stands known apart
+    (pending_foreign h ops log ∙ tie ∙ sym (pending_foreign h ops (log_in h all)) ∙ ap (pending (h ++ Foreign ops ∷ [])) (sym (steady_quiet h (Foreign ops) all tt))) f.2))
 
 module _ (w : World) (early : List Sealed) (j : IsJournalled w early) (apart : IsUnshared w) (entries : List Entry) (are : AreOthers w.shared w.history entries) where
   abbrev schema : List TableDef
@@ -94,8 +106,12 @@ module _ (w : World) (early : List Sealed) (j : IsJournalled w early) (apart : I
   abbrev flushed : List Note
   flushed = notes_of schema w.journal.flushed
 
-  end : GoesOn flushed j.late schema (w.history ++ entries) w.tier.log (early ++ j.late) early
-  end = goes_on flushed j.late schema w.shared entries w.history w.tier.log (early ++ j.late) early j.stands
+  abbrev Safe : List Entry → Type 0
+  Safe h = IsSafeOn w.tier.next w.journal.flushed h w.journal.way
+
+  end : GoesOn Safe flushed j.late schema (w.history ++ entries) w.tier.log (early ++ j.late) early
+  end = goes_on Safe flushed j.late schema w.shared entries w.history w.tier.log (early ++ j.late) early
+      (λ h e b y leaves known m. safe_step w.tier.next w.journal.flushed schema w.journal.way (flushed_below w early j) h e b y leaves known m) j.safe j.stands
       (ap (λ (x : TableState). x.schema) (same_some (sym j.stands.matched.leaves ∙ j.leaves)))
       (λ t e. ap (λ l. is_one_of (live_tables (groups_of l)) t) (given_is w early j) ∙ live w early j t ∙ apart t e)
       (j.tie ∙ ap (λ l. pending w.history (log_in w.history l)) (sym (given_is w early j))) are
@@ -118,6 +134,7 @@ module _ (w : World) (early : List Sealed) (j : IsJournalled w early) (apart : I
       tie = ap (pending (w.history ++ entries)) quiet.log ∙ end.tie
           ∙ ap (λ l. pending (w.history ++ entries) (log_in (w.history ++ entries) l)) (given_is w early j ∙ ap (λ s. notes_of s (given w.journal)) (sym end.schema_is));
       next = let below = j.next in let up = quiet.next in omega (arith, below, up);
+      safe = still_safe (record w { history = w.history ++ entries }) t.next end.holds quiet.next;
     };
     more = end.more;
     grows = end.grows;
@@ -148,6 +165,7 @@ rebuilt w bank disk moment shared early j = record {
   alike = j.alike;
   tie = j.tie;
   next = j.next;
+  safe = j.safe;
 }
 
 pub one_journalled : (w w' : World) (early : List Sealed) → AreOne w w' → IsJournalled w early → IsJournalled w' early

@@ -1,5 +1,5 @@
 -- What keeps the journal the tier's where a slot is begun anew.
-use Rattle.std.proofs.Common.{◌≡◌, ℕ, ◌≤◌, Bool, true, false, cond, max, Some, List, [], ◌∷◌, ◌++◌, map, refl, sym, ap, subst, ◌∙◌, arith, append_assoc, append-nil}
+use Rattle.std.proofs.Common.{◌≡◌, ℕ, ◌≤◌, Bool, true, false, cond, max, Some, List, [], ◌∷◌, ◌++◌, inl, inr, ◌⊎◌, length, map, refl, sym, ap, subst, ◌∙◌, arith, append_assoc, append-nil}
 use Rattle.std.specs.Prelude.{fold}
 use Rattle.std.specs.List.{filter}
 use Rattle.std.proofs.Math.Nat.{max-eq_right}
@@ -16,9 +16,9 @@ use Rattle.order_laws.proofs.TruthLaws.{same_some}
 use Rattle.order_laws.proofs.WholeLaws.{stand_begins, stand_group}
 use Rattle.recovery_laws.specs.Crashes.{Among, Event, Stands, StandsOn, with_flushed}
 use Rattle.recovery_laws.specs.Crashes as crash
-use Rattle.recovery_laws.specs.Notes.{Catalog, Commit, Define, Flag, Named, Note, catalog_of, groups_of, log_in, next_of}
+use Rattle.recovery_laws.specs.Notes.{Catalog, Commit, Define, Flag, Named, Note, catalog_of, commits_in, found, groups_of, log_in, next_of}
 use Rattle.recovery_laws.specs.Rotations.{AllLater, definitions, flags_of, rotated}
-use Rattle.recovery_laws.proofs.CrashLaws.{event_keeps}
+use Rattle.recovery_laws.proofs.CrashLaws.{event_keeps, more_commits, rotation_holds}
 use Rattle.recovery_laws.proofs.MatchLaws.{matched_stands}
 use Rattle.recovery_laws.proofs.RenewLaws.{rotation_event}
 use Rattle.recovery_laws.proofs.TieLaws.{tied_rotation}
@@ -37,7 +37,10 @@ use Rattle.recovery.proofs.FoldLaws.{IsFolded, written}
 use Rattle.recovery.proofs.JournalledLaws.{alike_kind, alike_trans, commits_seen, folded, given_is, matched, notes, seen}
 use Rattle.recovery.proofs.NewestLaws.{Pair, newest, pair, plain, tie}
 use Rattle.recovery.proofs.RecalledLaws.{next_is}
+use Rattle.recovery.specs.SafeWays.{IsHeldIn}
+use Rattle.recovery.proofs.PointLaws.{commits_same}
 use Rattle.recovery.proofs.RoundedLaws.{no_late}
+use Rattle.recovery.proofs.SafeLaws.{safely, turn_safe, wayless}
 use Rattle.recovery.proofs.SlotLaws.{IsMade, all_made, begun, flag_entry, is_loaded, renewed, renewed_alike, slot_of, slot_recalled, state_entry}
 
 -- ---- where nothing is unsettled, no transaction stands over the history as all do
@@ -205,7 +208,7 @@ slot_next next gs le =
 
 -- ---- the tier
 
-module _ (w : World) (early : List Sealed) (j : IsJournalled w early) (stands : between.Stands w) (none : w.journal.tail ≡ []) (drained : w.tier.unsettled ≡ []) (new : Journal) (is : IsRenewed w.tier new) where
+module _ (w : World) (early : List Sealed) (j : IsJournalled w early) (stands : between.Stands w) (none : w.journal.tail ≡ []) (drained : w.tier.unsettled ≡ []) (new : Journal) (is : IsRenewed w.tier (length w.history) w.journal new) where
   abbrev schema : List TableDef
   schema = j.backing.schema
 
@@ -236,10 +239,13 @@ module _ (w : World) (early : List Sealed) (j : IsJournalled w early) (stands : 
   settled : pending w.history w.tier.log ≡ pending w.history []
   settled = stands.flow.rest ∙ ap (pending w.history) drained
 
+  -- nothing is pending of what the entries tell
+  gone : pending w.history (log_in w.history (crash.given (seen w early j))) ≡ []
+  gone = ap (λ l. pending w.history (log_in w.history l)) (given_is w early j) ∙ sym j.tie ∙ settled
+
   event : Event (seen w early j) (with_flushed (rotated w.tier.next (catalog_of (crash.given (seen w early j))).groups (all_flags j.catalog.groups) []) (seen w early j))
   event =
       let st = matched_stands (crash.given (seen w early j)) w.history j.stands.matched in
-      let gone : pending w.history (log_in w.history (crash.given (seen w early j))) ≡ [] = ap (λ l. pending w.history (log_in w.history l)) (given_is w early j) ∙ sym j.tie ∙ settled in
       rotation_event (seen w early j) early (all_flags j.catalog.groups) [] w.tier.next j.stands (no_late j.late (sym j.tail ∙ none)) under (none_later (groups_of (crash.given (seen w early j)))) refl
       (stands_bare (groups_of (crash.given (seen w early j))) w.history (log_in w.history (crash.given (seen w early j))) (next_of (crash.given (seen w early j))) w.tier.next st under least stands.flow.stand.over.below)
       (λ s a. subst (Among s) gone a)
@@ -256,29 +262,45 @@ module _ (w : World) (early : List Sealed) (j : IsJournalled w early) (stands : 
   notes_new : notes_of j.backing.schema (slot_of w.tier.next j.catalog.groups []) ≡ rotated w.tier.next (catalog_of (crash.given (seen w early j))).groups (all_flags j.catalog.groups) []
   notes_new = slot_notes (opened j.settings 0 j.backing.schema) w.tier.next j.catalog.groups [] (catalog_of (crash.given (seen w early j))).groups pairs made
 
+  -- what one held, the other holds
+  holds : (s : Sealed) → IsHeldIn w.journal.flushed w.history s → IsHeldIn new.flushed w.history s
+  holds s x = back (rotation_holds (crash.given (seen w early j)) w.history w.tier.next (catalog_of (crash.given (seen w early j))).groups (all_flags j.catalog.groups) [] (s ∷ []) j.stands.matched (λ y a. subst (Among y) gone a) (here x, tt)).0
+    where
+      here : IsHeldIn w.journal.flushed w.history s → Among s (commits_in (crash.given (seen w early j))) ⊎ (found s.ticket.0 w.history ≡ Some s)
+      here (inl a) = inl (more_commits (notes_of j.backing.schema w.journal.flushed) (map Commit j.late) s (subst (Among s) (sym (commits_same j.backing.schema w.journal.flushed)) a))
+      here (inr e) = inr e
+
+      back : Among s (commits_in (rotated w.tier.next (catalog_of (crash.given (seen w early j))).groups (all_flags j.catalog.groups) [])) ⊎ (found s.ticket.0 w.history ≡ Some s) → IsHeldIn new.flushed w.history s
+      back (inl a) = inl (subst (Among s) (ap commits_in (sym (ap (notes_of j.backing.schema) entries_are ∙ notes_new)) ∙ commits_same j.backing.schema new.flushed) a)
+      back (inr e) = inr e
+
+  rotation_bare : IsJournalled (wayless (record w { journal = new })) kept_on.now
+  rotation_bare = record {
+    kept = is.kept;
+    backing = j.backing;
+    leaves = j.leaves;
+    late = [];
+    tail = is.tail;
+    stands = subst (λ l. Stands (record { flushed = l; late = []; history = w.history; commits = kept_on.now ++ [] }) kept_on.now) (sym (ap (notes_of j.backing.schema) entries_are ∙ notes_new))
+        (subst (λ l. Stands (record { flushed = rotated w.tier.next (catalog_of (crash.given (seen w early j))).groups (all_flags j.catalog.groups) []; late = []; history = w.history; commits = l }) kept_on.now) kept_on.stands.are kept_on.stands);
+    settings = j.settings;
+    catalog = record (opened j.settings 0 j.backing.schema) { groups = renewed (opened j.settings 0 j.backing.schema) j.catalog.groups };
+    recalls = subst (λ l. RecallsAll l (opened j.settings 0 j.backing.schema) (record (opened j.settings 0 j.backing.schema) { groups = renewed (opened j.settings 0 j.backing.schema) j.catalog.groups })) (sym given_new)
+        (slot_recalled (opened j.settings 0 j.backing.schema) w.tier.next j.catalog.groups [] refl made f.each f.apart f.names);
+    alike = alike_trans (renewed (opened j.settings 0 j.backing.schema) j.catalog.groups) j.catalog.groups w.tier.groups (renewed_alike (opened j.settings 0 j.backing.schema) j.catalog.groups made) j.alike;
+    tie = tied_rotation w.history w.tier.log [] w.tier.next (catalog_of (crash.given (seen w early j))).groups (all_flags j.catalog.groups) settled
+        ∙ sym (ap (λ l. pending w.history (log_in w.history l)) (ap (notes_of j.backing.schema) given_new ∙ notes_new));
+    next = subst (λ l. next_behind l ≤ w.tier.next) (sym given_new) (let same = slot_next w.tier.next j.catalog.groups least in omega (arith, same));
+    safe = tt;
+  }
+
   pub rotation_journalled : IsJournalledOn (record w { journal = new }) early
   rotation_journalled = record {
     now = kept_on.now;
-    is = record {
-      kept = is.kept;
-      backing = j.backing;
-      leaves = j.leaves;
-      late = [];
-      tail = is.tail;
-      stands = subst (λ l. Stands (record { flushed = l; late = []; history = w.history; commits = kept_on.now ++ [] }) kept_on.now) (sym (ap (notes_of j.backing.schema) entries_are ∙ notes_new))
-          (subst (λ l. Stands (record { flushed = rotated w.tier.next (catalog_of (crash.given (seen w early j))).groups (all_flags j.catalog.groups) []; late = []; history = w.history; commits = l }) kept_on.now) kept_on.stands.are kept_on.stands);
-      settings = j.settings;
-      catalog = record (opened j.settings 0 j.backing.schema) { groups = renewed (opened j.settings 0 j.backing.schema) j.catalog.groups };
-      recalls = subst (λ l. RecallsAll l (opened j.settings 0 j.backing.schema) (record (opened j.settings 0 j.backing.schema) { groups = renewed (opened j.settings 0 j.backing.schema) j.catalog.groups })) (sym given_new)
-          (slot_recalled (opened j.settings 0 j.backing.schema) w.tier.next j.catalog.groups [] refl made f.each f.apart f.names);
-      alike = alike_trans (renewed (opened j.settings 0 j.backing.schema) j.catalog.groups) j.catalog.groups w.tier.groups (renewed_alike (opened j.settings 0 j.backing.schema) j.catalog.groups made) j.alike;
-      tie = tied_rotation w.history w.tier.log [] w.tier.next (catalog_of (crash.given (seen w early j))).groups (all_flags j.catalog.groups) settled
-          ∙ sym (ap (λ l. pending w.history (log_in w.history l)) (ap (notes_of j.backing.schema) given_new ∙ notes_new));
-      next = subst (λ l. next_behind l ≤ w.tier.next) (sym given_new) (let same = slot_next w.tier.next j.catalog.groups least in omega (arith, same));
-    };
+    is = safely (record w { journal = new }) kept_on.now rotation_bare (turn_safe w w.tier new kept_on.now j.safe rotation_bare (omega arith) holds is.way);
     more = kept_on.more;
     grows = kept_on.grows;
   }
 
-pub rotation_kept : (w : World) (early : List Sealed) (new : Journal) → between.Stands w → IsJournalled w early → w.journal.tail ≡ [] → w.tier.unsettled ≡ [] → IsRenewed w.tier new → IsJournalledOn (record w { journal = new }) early
+pub rotation_kept : (w : World) (early : List Sealed) (new : Journal) → between.Stands w → IsJournalled w early → w.journal.tail ≡ [] → w.tier.unsettled ≡ [] → IsRenewed w.tier (length w.history) w.journal new → IsJournalledOn (record w { journal = new }) early
 rotation_kept w early new stands j none drained is = rotation_journalled w early j stands none drained new is

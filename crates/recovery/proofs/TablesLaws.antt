@@ -37,6 +37,7 @@ use Rattle.recovery.specs.Recalling.{RecallsAll, notes_of}
 use Rattle.recovery.proofs.FoldLaws.{IsFolded}
 use Rattle.recovery.proofs.JournalledLaws.{alike_table, alike_trans, folded, given_is, live, notes, seen}
 use Rattle.recovery.proofs.LongerLaws.{all_later, longer, notes_later}
+use Rattle.recovery.proofs.SafeLaws.{grow_safe, safely, wayless}
 
 -- ---- a table more joins no live group's with others
 
@@ -132,10 +133,9 @@ module _ (w : World) (early : List Sealed) (j : IsJournalled w early) (def : Tab
   all_notes : notes_of (j.backing.schema ++ def ∷ []) (given w.journal) ≡ notes w early j
   all_notes = notes_later (def ∷ []) (given w.journal) (opened j.settings 0 j.backing.schema) j.catalog j.recalls
 
-  pub table_journalled : (t : Tier) → IsQuiet w.tier t → IsJournalledOn (at_history (w.history ++ Definition def ∷ []) (record w { tier = t })) early
-  table_journalled t quiet = record {
-    now = kept.now;
-    is = record {
+  module _ (t : Tier) (quiet : IsQuiet w.tier t) where
+    table_bare : IsJournalled (wayless (at_history (w.history ++ Definition def ∷ []) (record w { tier = t }))) kept.now
+    table_bare = record {
       kept = j.kept;
       backing = with_new def j.backing;
       leaves = leaves;
@@ -152,10 +152,16 @@ module _ (w : World) (early : List Sealed) (j : IsJournalled w early) (def : Tab
           ∙ ap (pending (w.history ++ Definition def ∷ [])) (sym (steady_quiet w.history (Definition def) (notes w early j) tt))
           ∙ ap (λ l. pending (w.history ++ Definition def ∷ []) (log_in (w.history ++ Definition def ∷ []) l)) (sym all_notes);
       next = let below = j.next in let up = quiet.next in omega (arith, below, up);
-    };
-    more = kept.more;
-    grows = kept.grows;
-  }
+      safe = tt;
+    }
+
+    pub table_journalled : IsJournalledOn (at_history (w.history ++ Definition def ∷ []) (record w { tier = t })) early
+    table_journalled = record {
+      now = kept.now;
+      is = safely (at_history (w.history ++ Definition def ∷ []) (record w { tier = t })) kept.now table_bare (grow_safe w t (Definition def) kept.now j.safe table_bare quiet.next);
+      more = kept.more;
+      grows = kept.grows;
+    }
 
 pub table_kept : (w : World) (early : List Sealed) (def : TableDef) (t : Tier) → IsJournalled w early → refers_to_writethrough w.tier def.foreign_key ≡ false → IsQuiet w.tier t → IsJournalledOn (at_history (w.history ++ Definition def ∷ []) (record w { tier = t })) early
 table_kept w early def t j apart quiet = table_journalled w early j def apart t quiet

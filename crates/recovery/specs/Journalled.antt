@@ -11,12 +11,13 @@ use Rattle.recovery_laws.specs.Crashes.{IsLeft, Stands, World as Seen}
 use Rattle.recovery_laws.specs.Notes.{log_in}
 use Rattle.cache_tier.specs.CommitSteps.{committed_unsettled, sealed_own}
 use Rattle.cache_tier.specs.Groups.{Group, is_read_only}
-use Rattle.cache_tier.specs.Journals.{Commits, Journal, JournalEntry, Numbers, Prepares, next_behind, with_noted}
+use Rattle.cache_tier.specs.Journals.{Commits, Journal, JournalEntry, Numbers, Prepares, next_behind, passed_by, with_noted}
 use Rattle.cache_tier.specs.JournalWays.{given}
 use Rattle.cache_tier.specs.Rotations.{slot_entries}
 use Rattle.cache_tier.specs.TierStates.{Session, Settings, Tier, opened}
 use Rattle.cache_tier.specs.Worlds.{World}
 use Rattle.recovery.specs.Recalling.{AreMatched, RecallsAll, notes_of}
+use Rattle.recovery.specs.SafeWays.{HasSafeWay}
 
 -- the second is the first but for what no entry tells: its first ticket, its keys, its position, its horizon, its
 -- moment, and the STATE of a group that isn't READONLY, which nothing reads
@@ -38,7 +39,7 @@ seen_as schema w early late =
 
 -- The journal is the tier's: in its tail are commits alone; its entries match the history, with these asynchronous
 -- commits held (early); they leave the tier's catalog; what is pending of all that they tell is what is pending of the
--- log; and no ticket of theirs is at or above the next one.
+-- log; no ticket of theirs is at or above the next one; and each point of its way is safe.
 pub record IsJournalled (w : World) (early : List Sealed) : Type 0 where
   pub kept : w.journal.kept ≡ true
   pub backing : TableState
@@ -53,6 +54,7 @@ pub record IsJournalled (w : World) (early : List Sealed) : Type 0 where
   pub tie : pending w.history w.tier.log
       ≡ pending w.history (log_in w.history (notes_of backing.schema (given w.journal)))
   pub next : next_behind (given w.journal) ≤ w.tier.next
+  pub safe : HasSafeWay w w.journal.way
 
 -- so it is, and what was held is held
 pub record IsJournalledOn (w : World) (early : List Sealed) : Type 0 where
@@ -69,23 +71,26 @@ with_commit_noted s w =
       journal = with_noted (Commits (sealed_own w.tier s)) w.journal;
     }
 
--- the tail is flushed with this entry behind it
-pub record IsFlushedWith (e : JournalEntry) (old new : Journal) : Type 0 where
+-- the tail is flushed with this entry behind it, while the history is so long
+pub record IsFlushedWith (e : JournalEntry) (until : ℕ) (old new : Journal) : Type 0 where
   pub kept : new.kept ≡ true
   pub flushed : new.flushed ≡ given old ++ e ∷ []
   pub tail : new.tail ≡ []
+  pub way : new.way ≡ passed_by old.flushed until old.way
 
 -- the tail is flushed
-pub record IsFlushed (old new : Journal) : Type 0 where
+pub record IsFlushed (until : ℕ) (old new : Journal) : Type 0 where
   pub kept : new.kept ≡ true
   pub flushed : new.flushed ≡ given old
   pub tail : new.tail ≡ []
+  pub way : new.way ≡ passed_by old.flushed until old.way
 
 -- the other slot is begun anew with what the tier has
-pub record IsRenewed (t : Tier) (new : Journal) : Type 0 where
+pub record IsRenewed (t : Tier) (until : ℕ) (old new : Journal) : Type 0 where
   pub kept : new.kept ≡ true
   pub flushed : new.flushed ≡ slot_entries t
   pub tail : new.tail ≡ []
+  pub way : new.way ≡ passed_by old.flushed until old.way
 
 -- the tier changes in what no entry tells
 pub record IsQuiet (old new : Tier) : Type 0 where

@@ -1,3 +1,4 @@
 pub mod Journalled
 pub mod Recalling
 pub mod Reopening
+pub mod SafeWays

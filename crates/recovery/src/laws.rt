@@ -1,7 +1,7 @@
 //! Laws of recovery, each on the contract of a function that does nothing. They are this project's rules, over recovery
 //! as the TimesTen Cache User's Guide tells of it.
 
-ghost use Rattle.std.specs.Prelude.{◌≡◌, ◌≤◌, ◌^◌, ◌++◌, ◌∷◌, Bool, ℕ, List, [], None, Some, false, true};
+ghost use Rattle.std.specs.Prelude.{◌≡◌, ◌≤◌, ◌^◌, ◌++◌, ◌∷◌, Bool, ℕ, List, [], None, Some, false, length, true};
 ghost use Rattle.table_defs.specs.declared.definition.TableDef.{TableDef};
 ghost use Rattle.table_state.specs.declared.history.Entry.{Entry};
 ghost use Rattle.table_state.specs.declared.history.Entry.TheVariants.{Definition};
@@ -27,6 +27,7 @@ ghost use Rattle.sql_subset.specs.declared.stmt.RefreshState.{RefreshState};
 ghost use Rattle.cache_tier.specs.Shown.{shown_state};
 ghost use Rattle.cache_tier.specs.StandingBetween.{Stands, live_groups_of};
 ghost use Rattle.cache_tier.specs.TierStates.{Session, Settings, Tier, opened, session_of, with_group};
+ghost use Rattle.cache_tier.specs.WayPoints.{with_way};
 ghost use Rattle.cache_tier.specs.Worlds.{BankCall, IsUnshared, World};
 ghost use Rattle.outside.specs.Bank.{Grows};
 ghost use Rattle.outside.specs.Others.{AreOthers};
@@ -54,26 +55,26 @@ pub fn recalled_law()
 /// change no table of a live writethrough group, as in a call of the bank that reads (`others`, `reads`), where a table
 /// is defined whose foreign key refers to no table of such a group, whether the tier has been told or not (`tables`),
 /// where a slot is begun anew and nothing is unsettled (`rotates`), and where the tier changes in what no entry tells
-/// (`quiet`). What was held is held.
+/// (`quiet`). What was held is held, and each point of the journal's way is safe (`HasSafeWay`).
 pub fn journalled_law()
     ensures commits { (w : World) (early : List Sealed) (s : Session) → Stands w → IsJournalled w early
         → session_of w.tier s.label ≡ Some s → IsJournalledOn (with_commit_noted s w) early }
     ensures flushes { (w : World) (early : List Sealed) (new : Journal) → IsJournalled w early
-        → IsFlushed w.journal new → IsJournalledOn (record w { journal = new }) early }
+        → IsFlushed (length w.history) w.journal new → IsJournalledOn (record w { journal = new }) early }
     ensures definitions { (w : World) (early : List Sealed) (d : CreateGroup) (text : List ℕ) (tree : Tree) (t : Tier)
         (new : Journal) → Stands w → IsJournalled w early → IsTreeOf (placed_tables w.tier.schema d) tree
         → definition_names w.tier.schema (definitions_of w.tier.groups) d ≡ None
-        → IsNewGroup w (group_of w.tier d tree) → IsFlushedWith (Defines d text) w.journal new
+        → IsNewGroup w (group_of w.tier d tree) → IsFlushedWith (Defines d text) (length w.history) w.journal new
         → IsQuiet (with_new_group d tree w.tier) t → IsJournalledOn (with_flushed_entry t new w) early }
     ensures drops { (w : World) (early : List Sealed) (name : List ℕ) (g : Group) (t : Tier) (new : Journal)
         → Stands w → IsJournalled w early → MayDrop w name g → is_called name g ≡ true
-        → IsFlushedWith (Drops name) w.journal new → IsQuiet (without_group name w.tier) t
+        → IsFlushedWith (Drops name) (length w.history) w.journal new → IsQuiet (without_group name w.tier) t
         → IsJournalledOn (with_flushed_entry t new w) early }
     ensures states { (w : World) (early : List Sealed) (name : List ℕ) (state : RefreshState) (t : Tier) (new : Journal)
-        → IsJournalled w early → IsFlushedWith (SetsState name state) w.journal new
+        → IsJournalled w early → IsFlushedWith (SetsState name state) (length w.history) w.journal new
         → IsQuiet (with_group name (with_state state) w.tier) t → IsJournalledOn (with_flushed_entry t new w) early }
     ensures flags { (w : World) (early : List Sealed) (name : List ℕ) (flag : Bool) (t : Tier) (new : Journal)
-        → IsJournalled w early → IsFlushedWith (SetsLoaded name flag) w.journal new
+        → IsJournalled w early → IsFlushedWith (SetsLoaded name flag) (length w.history) w.journal new
         → IsQuiet (with_group name (with_loaded flag) w.tier) t → IsJournalledOn (with_flushed_entry t new w) early }
     ensures round { (w : World) (early : List Sealed) (events : List Event) (later : List Entry) (left : List Sealed)
         (moment : ℕ) (stands : Stands w) → IsJournalled w early → w.journal.tail ≡ []
@@ -81,13 +82,13 @@ pub fn journalled_law()
         w.tier.unsettled later left → IsJournalledOn (settled_to left moment (at_history later w)) early }
     ensures prepares { (w : World) (early : List Sealed) (s : Session) (t : Tier) (new : Journal) → Stands w
         → IsJournalled w early → session_of w.tier s.label ≡ Some s
-        → IsFlushedWith (Prepares (sealed_own w.tier s)) w.journal new → IsQuiet (with_ticket w.tier) t
-        → IsJournalledOn (with_flushed_entry t new w) early }
+        → IsFlushedWith (Prepares (sealed_own w.tier s)) (length w.history) w.journal new
+        → IsQuiet (with_ticket w.tier) t → IsJournalledOn (with_flushed_entry t new w) early }
     ensures applies { (w : World) (early : List Sealed) (s : Sealed) (front : List JournalEntry) (t : Tier)
         → IsJournalled w early → IsPrepared w s front → IsToldAtOnce s w.tier t
         → IsJournalledOn (at_history (w.history ++ entry_of s ∷ []) (record w { tier = t })) early }
     ensures numbers { (w : World) (early : List Sealed) (t : Tier) (new : Journal) → Stands w → IsJournalled w early
-        → IsFlushedWith (Numbers w.tier.next) w.journal new → IsQuiet (with_ticket w.tier) t
+        → IsFlushedWith (Numbers w.tier.next) (length w.history) w.journal new → IsQuiet (with_ticket w.tier) t
         → IsJournalledOn (with_flushed_entry t new w) early }
     ensures passes { (w : World) (early : List Sealed) (s : Sealed) (front : List JournalEntry) (t : Tier)
         → IsJournalled w early → IsNumbered w s front → IsToldAtOnce s w.tier t
@@ -101,7 +102,7 @@ pub fn journalled_law()
         → refers_to_writethrough w.tier def.foreign_key ≡ false → IsQuiet w.tier t
         → IsJournalledOn (at_history (w.history ++ Definition def ∷ []) (record w { tier = t })) early }
     ensures rotates { (w : World) (early : List Sealed) (new : Journal) → Stands w → IsJournalled w early
-        → w.journal.tail ≡ [] → w.tier.unsettled ≡ [] → IsRenewed w.tier new
+        → w.journal.tail ≡ [] → w.tier.unsettled ≡ [] → IsRenewed w.tier (length w.history) w.journal new
         → IsJournalledOn (record w { journal = new }) early }
     ensures quiet { (w : World) (early : List Sealed) (t : Tier) → IsJournalled w early → IsQuiet w.tier t
         → IsJournalled (record w { tier = t }) early }
@@ -113,4 +114,12 @@ pub fn journalled_law()
 pub fn crash_leaves_law()
     ensures { (w : World) (early : List Sealed) (settings : Settings) (moment : ℕ) → w.tier.next ≤ 2 ^ 63
         → IsJournalled w early → CrashLeaves w early settings moment }
+{}
+
+/// A way of the journal may begin at any moment, whatever way it had: its one point is what is flushed now, over the
+/// history as it is. From then on `journalled_law` tells of each point of it that entries and history belong together,
+/// and hold all commits that were held when it began, as long as tickets are left.
+pub fn way_law()
+    ensures { (w : World) (early : List Sealed) (moment : ℕ) → IsJournalled w early
+        → IsJournalled (record w { journal = with_way moment (length w.history) w.journal }) early }
 {}

@@ -3,4 +3,4 @@
 
 mod laws;
 
-pub use laws::{crash_leaves_law, journalled_law, recalled_law};
+pub use laws::{crash_leaves_law, journalled_law, recalled_law, way_law};

@@ -34,7 +34,7 @@ never_kept e = cc
 
 module _ {D : Type 0} (state : D → SiteState) (possible : D → ℕ → Held → Type 0) where
   -- a journal is kept there
-  over_of : (d : D) (k : Option TierJournal) (w : World) → w.journal.kept ≡ true → KeepsOver state possible d k w → (t : TierJournal) × IsOver state possible d t w
+  pub over_of : (d : D) (k : Option TierJournal) (w : World) → w.journal.kept ≡ true → KeepsOver state possible d k w → (t : TierJournal) × IsOver state possible d t w
   over_of d None w kept none = absurd (never_kept (sym kept ∙ none))
   over_of d (Some t) w kept x = (t, x)
 

@@ -13,3 +13,4 @@ mod SaidLaws
 mod SchemaLaws
 mod SiteLaws
 mod SlotLaws
+mod WithinLaws

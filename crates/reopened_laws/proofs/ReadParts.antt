@@ -222,7 +222,9 @@ batch_reads name [] j r a = r
 batch_reads name (e ∷ batch) j r a = record { flushed = all_both HasText j.flushed (e ∷ batch) r.flushed a; tail = tt }
 
 behind_reads : (result : Flushed) (w : World) (entries : List JournalEntry) → AllRead entries → HasReadable w.journal → HasReadable (journal_behind result w entries)
-behind_reads Whole w entries a r = batch_reads (name_sizes w) (w.journal.tail ++ entries) w.journal r (all_both HasText w.journal.tail entries r.tail a)
+behind_reads Whole w entries a r =
+    let h = batch_reads (name_sizes w) (w.journal.tail ++ entries) w.journal r (all_both HasText w.journal.tail entries r.tail a) in
+    record { flushed = h.flushed; tail = h.tail }
 behind_reads Failing w entries a r = record { flushed = r.flushed; tail = all_both HasText w.journal.tail entries r.tail a }
 
 as_it_is : (w w' : World) → w'.history ≡ w.history → Adds w.history w'.history

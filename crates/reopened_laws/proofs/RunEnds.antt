@@ -103,6 +103,7 @@ module _ (settings : Settings) (moment : ℕ) (there : Held) (w : World) (x : Op
     kept = ap (λ (k : Journal). k.kept) x.begins.journal;
     flushed = ap (λ (k : Journal). k.flushed) x.begins.journal;
     tail = ap (λ (k : Journal). k.tail) x.begins.journal;
+    way = ap (λ (k : Journal). k.way) x.begins.journal;
   }
 
   pub begins_again : Reopened w []

@@ -16,7 +16,7 @@ use Rattle.cache_engine.specs.Requests.{Given, LineRun}
 use Rattle.session_cli.specs.declared.serving.Status.TheVariants.{Finished}
 use Rattle.session_cli.specs.Ends.{OpenedAndEnded}
 use Rattle.session_cli.specs.Opening.{begins}
-use Rattle.session_cli.specs.Outside.{WasKept, seen}
+use Rattle.session_cli.specs.Outside.{Keeping, WasKept, seen}
 use Rattle.session_cli.specs.Timing.{Coming}
 use Rattle.session_cli.specs.Serving.{Answered, GoesOn, IsLeftAlone, Origin, WasLeft}
 use Rattle.reopened_laws.specs.Leaving.{HaveOwnTableNames}
@@ -29,7 +29,8 @@ pub record MayOpenAgain (shared : List TableId) (o : Held) : Type 0 where
 
 -- A run over the lines that began with a tier opened over such a site, and of which all lines are answered, leaves one,
 -- where others change no table of a writethrough group at its end.
-abbrev pub LeavesSite : {D : Type 0} → (D → SiteState) → (D → ℕ → Held → Type 0) → (World → World → Type 0) → Type 0
+abbrev pub LeavesSite : {D : Type 0} → (D → SiteState) → (D → ℕ → Held → Type 0)
+    → (Keeping → World → World → Type 0) → Type 0
 LeavesSite state possible ends =
     (settings : Settings) (moment : ℕ) (there left : Held) (o : Origin) (lines : List (List ℕ))
     (replies : List (Option Reply)) (site : SiteState) → Opens settings moment there o.world

@@ -14,6 +14,7 @@ ghost use Rattle.tier_opening.specs.Opening.{MayOpen};
 ghost use Rattle.cache_engine.specs.Opening.{Opens};
 ghost use Rattle.cache_engine.specs.Requests.{Given, LineRun};
 ghost use Rattle.session_cli.specs.Serving.{HasFlushed, Rests};
+ghost use Rattle.reopened_laws.specs.Within.{CrashesWithinAreSafe, FlushesAreSafe};
 ghost use Rattle.reopened_laws.specs.Ending.{CrashesLeaveSites, LeavesSite, RunsLeaveSites};
 ghost use Rattle.reopened_laws.specs.Leaving.{GoesOnThrough, IsKeptAt, IsLeftAt};
 
@@ -59,4 +60,11 @@ pub fn program_law<P: Site>()
 /// of the site there.
 pub fn crash_law<P: Site>()
     ensures { CrashesLeaveSites P.Disk.state P.Disk.possible }
+{}
+
+/// And at each moment of each line, inside it too (`lines`), and of the flush behind the last one (`flush`): what the
+/// slots give then and the history belong together, and hold each commit that was held where the line, or the flush, began.
+pub fn within_law<P: Site>()
+    ensures lines { CrashesWithinAreSafe P.Disk.state P.Disk.possible }
+    ensures flush { FlushesAreSafe P.Disk.state P.Disk.possible }
 {}

@@ -4,4 +4,6 @@
 
 mod laws;
 
-pub use laws::{answered_law, crash_law, program_law, run_leaves_law, site_law, slots_law};
+pub use laws::{
+    answered_law, crash_law, program_law, run_leaves_law, site_law, slots_law, within_law,
+};

@@ -3,8 +3,8 @@
 ghost use Rattle.std.specs.Prelude.{IfOk};
 ghost use Rattle.table_state.specs.Keyed.{IsKeyed};
 
-use expressions::{Arithmetic, Comparator, Cond, Expr};
-use row_types::{Column, Key, Row, Ty, Value, print_values_into};
+use expressions::{Comparator, Cond, Expr};
+use row_types::{Column, Row, Ty, Value, print_values_into};
 use std::alloc::{AllocError, Global};
 use table_defs::{ForeignKey, TableDef};
 use table_state::{Entry, Op, Tables};
@@ -35,13 +35,9 @@ pub fn value(value: Option<i64>) -> Value {
     }
 }
 
-pub fn row(alloc: Global, id: i64, other: Option<i64>) -> Result<Row, AllocError> {
+fn row(alloc: Global, id: i64, other: Option<i64>) -> Result<Row, AllocError> {
     let values = vec![in alloc; number(id), value(other)]?;
     Ok(Row::from_vec(values))
-}
-
-pub fn key(id: i64) -> Key {
-    Key::one(number(id))
 }
 
 // The row and a blank, behind the bytes.
@@ -55,7 +51,7 @@ pub fn name(alloc: Global, text: &str) -> Result<Name, AllocError> {
     Name::new(alloc, text.as_bytes()).map_err(|_| AllocError)
 }
 
-pub fn column(alloc: Global, text: &str, ty: Ty, not_null: bool) -> Result<Column, AllocError> {
+fn column(alloc: Global, text: &str, ty: Ty, not_null: bool) -> Result<Column, AllocError> {
     let name = name(alloc, text)?;
     Ok(Column { name, ty, not_null })
 }
@@ -118,7 +114,7 @@ pub fn tables(
     run(alloc, entries.as_slice())
 }
 
-pub fn run(alloc: Global, entries: &[Entry]) -> Result<Tables, AllocError>
+fn run(alloc: Global, entries: &[Entry]) -> Result<Tables, AllocError>
     ensures { IfOk result (λ tables. IsKeyed tables) }
 {
     let mut tables = Tables::new(alloc);
@@ -146,15 +142,4 @@ pub fn either(alloc: Global, left: Cond, right: Cond) -> Result<Cond, AllocError
     let left = Box::new(alloc, left)?;
     let right = Box::new(alloc, right)?;
     Ok(Cond::Or(left, right))
-}
-
-pub fn binary(
-    alloc: Global,
-    left: Expr,
-    operation: Arithmetic,
-    right: Expr,
-) -> Result<Expr, AllocError> {
-    let left = Box::new(alloc, left)?;
-    let right = Box::new(alloc, right)?;
-    Ok(Expr::Binary(operation, left, right))
 }

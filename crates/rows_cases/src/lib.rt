@@ -1,20 +1,9 @@
-//! Values, conditions, queries, names of statements, views and footprints, against what is worked out by hand or by a slow
-//! twin: what no script reaches yet. This crate has only tests.
+//! Joins against a slow twin, and the calls that no line reaches. This crate has only tests.
 #![tactic(auto)]
 
 #[cfg(test)]
-mod amounts;
-#[cfg(test)]
 mod build;
 #[cfg(test)]
-mod conditions;
+mod calls;
 #[cfg(test)]
 mod joins;
-#[cfg(test)]
-mod resolving;
-#[cfg(test)]
-mod states;
-#[cfg(test)]
-mod values;
-#[cfg(test)]
-mod views;

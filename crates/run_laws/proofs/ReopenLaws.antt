@@ -19,6 +19,7 @@ use Rattle.cache_tier.specs.TierStates.{Session, Settings, Tier, opened}
 use Rattle.cache_tier.specs.Worlds.{Becomes, IsUnshared, OnlyWhere, StageFollows, World}
 use Rattle.recovery.specs.Journalled.{AreAlike, IsJournalled, IsQuiet}
 use Rattle.recovery.specs.Recalling.{RecallsAll, notes_of, recalled}
+use Rattle.recovery.specs.SafeWays.{HasSafeWay}
 use Rattle.recovery.specs.Reopening.{HoldAgain, HoldsAgainAt, IsReopened, Reloads, ViewsAgain, holding, is_held_again, is_viewed_again, with_sets_begun}
 use Rattle.recovery.proofs.LeftLaws.{Leaves, all_same, alike_back}
 use Rattle.recovery.proofs.OthersLaws.{on_then}
@@ -78,6 +79,7 @@ module _ (settings : Settings) (moment : ℕ) (entries : List JournalEntry) (w w
         ap (pending w.history) begun.log
         ∙ ap (λ l. pending w.history (log_in w.history (notes_of x.matched.backing.schema l))) (sym all_given);
     next = subst (λ n. n ≤ w.tier.next) (ap next_behind (sym all_given)) (subst (λ n. next_behind entries ≤ n) (sym begun.next) (omega arith));
+    safe = subst (HasSafeWay w) (sym j.way) tt;
   }
 
   -- ---- behind the round, and with the rows that come back

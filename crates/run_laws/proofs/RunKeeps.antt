@@ -1,5 +1,5 @@
 -- A list of lines keeps the journal the tier's, and behind each a crash leaves what the tier needs that is opened again.
-use Rattle.std.proofs.Common.{◌≡◌, ℕ, ◌≤◌, ◌^◌, Bool, true, false, Option, Some, None, Err, List, [], ◌∷◌, refl, sym, ap, subst, ◌∙◌, arith}
+use Rattle.std.proofs.Common.{◌≡◌, ℕ, ◌≤◌, ◌^◌, Bool, true, false, Option, Some, None, Err, List, [], ◌∷◌, length, refl, sym, ap, subst, ◌∙◌, arith}
 use Rattle.table_state.specs.declared.history.Sealed.{Sealed}
 use Rattle.outside.specs.Bank.{AppliesOnce}
 use Rattle.outside.specs.Others.{Around}
@@ -122,7 +122,7 @@ keeps_of w early left on = record {
 }
 
 -- whole or not at all: in either case what is needed is there
-pub flushed_kept : (w : World) (early : List Sealed) (new : Journal) → IsLeft w → IsJournalled w early → IsFlushed w.journal new → KeepsOn (record w { journal = new }) early
+pub flushed_kept : (w : World) (early : List Sealed) (new : Journal) → IsLeft w → IsJournalled w early → IsFlushed (length w.history) w.journal new → KeepsOn (record w { journal = new }) early
 flushed_kept w early new left j is =
     keeps_of (record w { journal = new }) early (left_moved w (record w { journal = new }) refl refl refl refl (omega arith) left) (flushes_kept w early new j is)
 

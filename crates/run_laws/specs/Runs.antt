@@ -1,7 +1,7 @@
 -- A line, and a list of lines, with a journal that is the tier's; and what a crash leaves behind each of them. (This
 -- project's rule, over recovery as the TimesTen Cache User's Guide tells of it.)
 
-use Rattle.std.specs.Prelude.{◌≡◌, ℕ, true, false, List, [], ◌∷◌, ◌++◌, Option}
+use Rattle.std.specs.Prelude.{◌≡◌, ℕ, true, false, List, [], ◌∷◌, ◌++◌, Option, None}
 use Rattle.table_state.specs.declared.history.Sealed.{Sealed}
 use Rattle.cache_tier.specs.declared.reply.Reply.{Reply}
 use Rattle.cache_tier.specs.Events.{with_tier}
@@ -73,11 +73,12 @@ KeepsThrough w early (line ∷ lines) (reply ∷ replies) w' =
 KeepsThrough w early [] (reply ∷ replies) w' = ⊥
 KeepsThrough w early (line ∷ lines) [] w' = ⊥
 
--- A journal has these entries, all of them flushed.
+-- A journal has these entries, all of them flushed, and no way is asked for yet.
 pub record IsKeptOf (entries : List JournalEntry) (j : Journal) : Type 0 where
   pub kept : j.kept ≡ true
   pub flushed : j.flushed ≡ entries
   pub tail : j.tail ≡ []
+  pub way : j.way ≡ None
 
 -- A tier that was opened again: its journal is its own, and what was held is held; others change no table of a live
 -- writethrough group still; and what is written is of one kind.

@@ -1,6 +1,6 @@
 //! Laws of whole lines, each on the contract of a function that does nothing. They are this project's rules.
 
-ghost use Rattle.std.specs.Prelude.{◌≡◌, false, ℕ, List, Option, None};
+ghost use Rattle.std.specs.Prelude.{◌≡◌, false, ℕ, List, Option, None, length};
 ghost use Rattle.table_state.specs.declared.history.Sealed.{Sealed};
 ghost use Rattle.cache_tier.specs.declared.reply.Reply.{Reply};
 ghost use Rattle.cache_tier.specs.Journals.{Journal, JournalEntry};
@@ -38,7 +38,7 @@ pub fn run_law()
 /// not.
 pub fn flush_law()
     ensures flushed { (w : World) (early : List Sealed) (new : Journal) → IsLeft w → IsJournalled w early
-        → IsFlushed w.journal new → KeepsOn (record w { journal = new }) early }
+        → IsFlushed (length w.history) w.journal new → KeepsOn (record w { journal = new }) early }
     ensures ended { (w w' : World) (early : List Sealed) (stop : Option Reply) → IsLeft w → IsJournalled w early
         → Finishes w w' stop → is_broken stop ≡ false → KeepsOn w' early }
 {}

@@ -1,16 +1,17 @@
 -- The end of the input: what waits in the journal's tail is flushed, and the last replies are written.
-use Rattle.std.proofs.Common.{◌≡◌, ℕ, List, [], ◌∷◌, ◌++◌, take, true, Option, Some, None, Result, Ok, Err, inl, inr, refl, sym, ◌∙◌, ap, subst, append-nil}
+use Rattle.std.proofs.Common.{◌≡◌, ℕ, List, [], ◌∷◌, ◌++◌, length, take, true, Option, Some, None, Result, Ok, Err, inl, inr, refl, sym, ◌∙◌, ap, subst, append-nil}
 use Rattle.std.specs.Bool.{MatchBool}
 use Rattle.std.specs.Result.{OnOk}
 use Rattle.outside.specs.Holding.{Held}
 use Rattle.outside.specs.Sites.{SiteState}
 use Rattle.table_state.specs.declared.operation.Op.{Op}
-use Rattle.cache_tier.specs.Journals.{Journal, JournalEntry, flushed_batch}
+use Rattle.cache_tier.specs.Journals.{Journal, JournalEntry, flushed_batch, on_the_way}
 use Rattle.cache_tier.specs.JournalSteps.{Failing, Flushed, Flushes, FlushesKept, Whole, flush_stop, journal_behind, name_sizes}
 use Rattle.cache_tier.specs.Replying.{replies_bytes, reply_bytes}
 use Rattle.cache_tier.specs.Rounds.{IsDrained}
 use Rattle.cache_tier.specs.Worlds.{Passes, World}
 use Rattle.cache_tier.specs.declared.reply.Reply.{Reply}
+use Rattle.kept_journal.specs.Beginning.{begun_here}
 use Rattle.kept_journal.specs.Keeping.{is_broken, over_disk}
 use Rattle.stored_tier.proofs.OverLaws.{flush_breaks, never_both}
 use Rattle.tier_journal.specs.declared.journal.TierJournal.{TierJournal}
@@ -37,7 +38,7 @@ batch_clears name (e ∷ batch) j is = (refl, refl)
 
 kept_clears : (result : Flushed) (w w' : World) (x : FlushesKept [] w w' None) → x.result ≡ result → (w'.journal.kept ≡ w.journal.kept) × (w'.journal.tail ≡ [])
 kept_clears Whole w w' x is =
-    let journal : w'.journal ≡ flushed_batch (name_sizes w) (w.journal.tail ++ []) w.journal = x.journal ∙ ap (λ r. journal_behind r w []) is in
+    let journal : w'.journal ≡ on_the_way (length w.history) w.journal (flushed_batch (name_sizes w) (w.journal.tail ++ []) w.journal) = x.journal ∙ ap (λ r. journal_behind r w []) is in
     let b = batch_clears (name_sizes w) (w.journal.tail ++ []) w.journal refl in
     (ap (λ (j : Journal). j.kept) journal ∙ b.0, ap (λ (j : Journal). j.tail) journal ∙ b.1)
 kept_clears Failing w w' x is =
@@ -47,11 +48,11 @@ kept_clears Failing w w' x is =
     no_stop : {X : Type 0} {y : X} → (None ≡ Some y) → ⊥
     no_stop e = cc
 
-flush_clears : (w w' : World) → w.journal.kept ≡ true → Flushes [] w w' None → HasFlushed w w'
+flush_clears : (w w' : World) → w.journal.kept ≡ true → Flushes [] w w' None → (w'.journal.kept ≡ true) × (w'.journal.tail ≡ [])
 flush_clears w w' kept flushed =
     let x : FlushesKept [] w w' None = subst (λ b. MatchBool b (FlushesKept [] w w' None) (Passes w w' None)) kept flushed in
     let c = kept_clears x.result w w' x refl in
-    record { flushed = flushed; kept = c.0 ∙ kept; empty = c.1 }
+    (c.0 ∙ kept, c.1)
 
 -- that all is drained asks for no journal and no count
 drained_over : (w : World) (j : Journal) (faults moment : ℕ) → IsDrained w → IsDrained (over_disk j faults moment w)
@@ -60,42 +61,54 @@ drained_over w j faults moment x = record { settled = x.settled; ordered = x.ord
 module _ {D : Type 0} (state : D → SiteState) (possible : D → ℕ → Held → Type 0) (o : Origin) (given : List ℕ) (written written' : Option (List ℕ)) (coming : Coming) (d d' : D) (engine : Engine) (k' : Option TierJournal) (waiting : List ℕ)
     (c : Closing o (all_lines given) (seen written coming state possible d) engine waiting) where
   -- the tail is flushed
-  flushed_here : IsFinished state possible k' d' None c.world → Answered HasFlushed o (all_lines given) c.replies (state d') (WasKept state possible)
-  flushed_here x =
+  flushed_here : IsFinished state possible k' d' None c.world → IsFinished state possible k' d' None (begun_here c.world) → Answered HasFlushed o (all_lines given) c.replies (state d') (WasKept state possible)
+  flushed_here x y =
       let known = known_of engine.tier engine.doubt c.world c.stands.left in
       let behind = over_disk x.journal x.faults (state d').moment c.world in
       let clears = flush_clears c.world behind c.stands.kept x.is in
+      let by = over_disk y.journal y.faults (state d').moment (begun_here c.world) in
       record {
         ran = c.world;
         comes = c.comes;
         goes = c.goes;
         last = behind;
-        ended = clears;
+        ended = record {
+          flushed = x.is;
+          kept = clears.0;
+          empty = clears.1;
+          passes = record {
+            world = by;
+            flushed = y.is;
+            journal = k';
+            kept = (flush_clears (begun_here c.world) by c.stands.kept y.is).0;
+            over = record { site = d'; at = y.at; keeps = y.keeps refl };
+          };
+        };
         at = x.at;
-        slots = in_slots state possible d' k' behind clears.kept (x.keeps refl);
+        slots = in_slots state possible d' k' behind clears.0 (x.keeps refl);
         legal = known.legal;
         drained = λ none settled. drained_over c.world x.journal x.faults (state d').moment (drained_of c.world (known.stands none) settled);
         read = known.read;
       }
 
-  pub finishes_flushed : (r : Result (Unit {0}) Stop) (waiting' : List ℕ) → (r ≡ Err stop.Disk → ⊥) → IsFinished state possible k' d' None c.world → PassesReply r written written' waiting waiting' [] → OnOk r (waiting' ≡ [])
+  pub finishes_flushed : (r : Result (Unit {0}) Stop) (waiting' : List ℕ) → (r ≡ Err stop.Disk → ⊥) → IsFinished state possible k' d' None c.world → IsFinished state possible k' d' None (begun_here c.world) → PassesReply r written written' waiting waiting' [] → OnOk r (waiting' ≡ [])
       → Finishes r o given (seen written' coming state possible d')
-  finishes_flushed (Ok done) waiting' sunk x p none = record {
+  finishes_flushed (Ok done) waiting' sunk x y p none = record {
     replies = c.replies;
-    answered = flushed_here x;
+    answered = flushed_here x y;
     tells = told_whole o.written written' (replies_bytes c.replies)
         (subst (λ (w : List ℕ). Splits (Some o.written) written' (replies_bytes c.replies) w) none
         (subst (λ (l : List ℕ). Splits (Some o.written) written' l waiting') (append-nil (replies_bytes c.replies)) (splits_then (Some o.written) written written' (replies_bytes c.replies) waiting [] waiting' c.passed p)));
   }
-  finishes_flushed (Err stop.Sink) waiting' sunk x p none =
+  finishes_flushed (Err stop.Sink) waiting' sunk x y p none =
       let b : Breaks (Some o.written) written' (replies_bytes c.replies) = subst (λ (l : List ℕ). Breaks (Some o.written) written' l) (append-nil (replies_bytes c.replies)) (breaks_then (Some o.written) written written' (replies_bytes c.replies) waiting [] c.passed p) in
       record {
         replies = c.replies;
-        answered = inr (inl (flushed_here x));
+        answered = inr (inl (flushed_here x y));
         count = b.count;
         tells = told_after o.written written' (take b.count (replies_bytes c.replies)) b.written;
       }
-  finishes_flushed (Err stop.Disk) waiting' sunk x p none = absurd (sunk refl)
+  finishes_flushed (Err stop.Disk) waiting' sunk x y p none = absurd (sunk refl)
 
   -- it couldn't be flushed
   broken_here : (reply : Reply) → IsFinished state possible k' d' (Some reply) c.world → EndBroken o (all_lines given) (c.replies ++ Some reply ∷ []) (state d') (WasKept state possible)

@@ -13,3 +13,4 @@ pub mod ServingLaws
 pub mod SlotLaws
 pub mod StopLaws
 pub mod TopLaws
+pub mod WayLaws

@@ -9,7 +9,7 @@ use Rattle.kept_journal.specs.Keeping.{is_broken}
 use Rattle.tier_journal.specs.declared.journal.TierJournal.{TierJournal}
 use Rattle.cache_engine.specs.Requests.{Given, LineGoes, LineRun, LineStep}
 use Rattle.session_cli.specs.Outside.{Keeping}
-use Rattle.session_cli.specs.Serving.{Comes, ComesBroken, GoesOn, Origin, WasLeft, bytes_of}
+use Rattle.session_cli.specs.Serving.{Comes, ComesBroken, GoesOn, Origin, PassesBy, WasLeft, bytes_of}
 use Rattle.session_cli.specs.Timing.{AreLeft, AreTimed, Coming, IsNext, TakesBase, has_base}
 
 -- a step more
@@ -21,24 +21,28 @@ run_push w (g' ∷ gs) (r' ∷ rs) w1 g r w2 (mid, first, rest) step = (mid, fir
 
 -- behind which the engine is left so, too
 pub goes_push : (once : Keeping) (w : World) (gs : List Given) (rs : List (Option Reply)) (w1 : World) (g : Given) (r : Option Reply) (w2 : World) (run : LineRun w gs rs w1) (step : LineStep g.base w1 g.bytes w2 r)
-    → GoesOn once w gs rs w1 run → IsUnshared w1 → is_broken r ≡ false → WasLeft once w2 → GoesOn once w (gs ++ g ∷ []) (rs ++ r ∷ []) w2 (run_push w gs rs w1 g r w2 run step)
+    → GoesOn once w gs rs w1 run → IsUnshared w1 → is_broken r ≡ false → WasLeft once w2 → PassesBy once g.base w1 g.bytes r → GoesOn once w (gs ++ g ∷ []) (rs ++ r ∷ []) w2 (run_push w gs rs w1 g r w2 run step)
 unfolding run_push
-goes_push once w [] [] w1 g r w2 run step goes apart whole left = (subst (WasLeft once) run goes, subst IsUnshared run apart, whole, left)
-goes_push once w [] (r' ∷ rs) w1 g r w2 run step goes apart whole left = absurd run
-goes_push once w (g' ∷ gs) [] w1 g r w2 run step goes apart whole left = absurd run
-goes_push once w (g' ∷ gs) (r' ∷ rs) w1 g r w2 (mid, first, rest) step (here, alone, well, more) apart whole left =
-    (here, alone, well, goes_push once mid gs rs w1 g r w2 rest step more apart whole left)
+goes_push once w [] [] w1 g r w2 run step goes apart whole left by = (subst (WasLeft once) run goes, subst IsUnshared run apart, whole, left, subst (λ (x : World). PassesBy once g.base x g.bytes r) run by)
+goes_push once w [] (r' ∷ rs) w1 g r w2 run step goes apart whole left by = absurd run
+goes_push once w (g' ∷ gs) [] w1 g r w2 run step goes apart whole left by = absurd run
+goes_push once w (g' ∷ gs) (r' ∷ rs) w1 g r w2 (mid, first, rest) step (here, alone, well, more, passed) apart whole left by =
+    (here, alone, well, goes_push once mid gs rs w1 g r w2 rest step more apart whole left by, passed)
 
 -- what was kept at some time was so
 left_then : (one other : Keeping) → ((k : Option TierJournal) (w : World) → one k w → other k w) → (w : World) → WasLeft one w → WasLeft other w
 left_then one other so w x = record { engine = x.engine; order = x.order; left = x.left; kept = x.kept; over = so x.engine.journal w x.over }
+
+by_then : (one other : Keeping) → ((k : Option TierJournal) (w : World) → one k w → other k w) → (base : ℕ) (w : World) (line : List ℕ) (reply : Option Reply) → PassesBy one base w line reply → PassesBy other base w line reply
+by_then one other so base w line reply x = record { world = x.world; goes = x.goes; was = left_then one other so x.world x.was }
 
 pub goes_then : (one other : Keeping) → ((k : Option TierJournal) (w : World) → one k w → other k w) → (w : World) (gs : List Given) (rs : List (Option Reply)) (w' : World) (run : LineRun w gs rs w')
     → GoesOn one w gs rs w' run → GoesOn other w gs rs w' run
 goes_then one other so w [] [] w' run left = left_then one other so w' left
 goes_then one other so w [] (r ∷ rs) w' run goes = absurd run
 goes_then one other so w (g ∷ gs) [] w' run goes = absurd run
-goes_then one other so w (g ∷ gs) (r ∷ rs) w' (mid, first, rest) (here, alone, well, more) = (left_then one other so w here, alone, well, goes_then one other so mid gs rs w' rest more)
+goes_then one other so w (g ∷ gs) (r ∷ rs) w' (mid, first, rest) (here, alone, well, more, passed) =
+    (left_then one other so w here, alone, well, goes_then one other so mid gs rs w' rest more, by_then one other so g.base w g.bytes r passed)
 
 -- a line more has its base
 timed_by : (b : Bool) (A B C D : Type 0) → (A → C) → (B → D) → MatchBool b A B → MatchBool b C D
@@ -83,13 +87,14 @@ pub record CameOn (once : Keeping) (o : Origin) (lines : List (List ℕ)) (repli
   pub left : AreLeft o.bases comes.asked coming
 
 -- how the line came that is one more
-pub record Further (once : Keeping) (w : World) (r : Option Reply) (w' : World) : Type 0 where
+pub record Further (once : Keeping) (w : World) (g : Given) (r : Option Reply) (w' : World) : Type 0 where
   pub unshared : IsUnshared w
   pub whole : is_broken r ≡ false
   pub was : WasLeft once w'
+  pub passes : PassesBy once g.base w g.bytes r
 
 pub comes_on : (once : Keeping) (o : Origin) (lines lines' : List (List ℕ)) (replies : List (Option Reply)) (w : World) (c : Comes o lines replies w) (now left : Coming) (g : Given) (r : Option Reply) (w' : World) → lines ++ g.bytes ∷ [] ≡ lines'
-    → AreLeft o.bases c.asked now → TakesBase g.bytes now left g.base → LineStep g.base w g.bytes w' r → GoesOn once o.world c.given replies w c.run → Further once w r w' → CameOn once o lines' (replies ++ r ∷ []) w' left
+    → AreLeft o.bases c.asked now → TakesBase g.bytes now left g.base → LineStep g.base w g.bytes w' r → GoesOn once o.world c.given replies w c.run → Further once w g r w' → CameOn once o lines' (replies ++ r ∷ []) w' left
 comes_on once o lines lines' replies w c now left g r w' is are took step goes x =
     let t = timed_one o.bases now left c.asked g are took in
     record {
@@ -100,7 +105,7 @@ comes_on once o lines lines' replies w c now left g r w' is are took step goes x
         timed = timed_push o.bases 1 c.given c.asked g t.after c.timed t.timed;
         run = run_push o.world c.given replies w g r w' c.run step;
       };
-      goes = goes_push once o.world c.given replies w g r w' c.run step goes x.unshared x.whole x.was;
+      goes = goes_push once o.world c.given replies w g r w' c.run step goes x.unshared x.whole x.was x.passes;
       left = t.left;
     }
 

@@ -71,7 +71,7 @@ module _ (o : Origin) (given : List ℕ) (lines : List (List ℕ)) (before behin
   came_line res is s r whole =
       let g : Given = record { base = r.base; bytes = line } in
       comes_on behind.kept_once o (ended_lines given) lines s.replies s.world s.comes before.coming behind.coming g r.reply r.world is s.left r.took (goes_step r.base s.world line r.world r.reply whole r.goes) (gone res s r)
-      (record { unshared = r.unshared; whole = whole; was = r.was whole })
+      (record { unshared = r.unshared; whole = whole; was = r.was whole; passes = r.passes whole })
 
   -- the ended lines and one more are answered
   answered_line : (res : Result (Unit {0}) Stop) → ended_lines given ++ line ∷ [] ≡ lines → (s : Serving o given before session) → (r : Responds res before behind session.output waiting' engine' s.world line)

@@ -5,6 +5,7 @@ use Rattle.std.specs.Prelude.{length, map, take}
 use Rattle.std.specs.Result.{IsErrOf}
 use Rattle.outside.specs.Faults.{Rose}
 use Rattle.order_laws.specs.Commits.{KeepsCommitOrder}
+use Rattle.kept_journal.specs.Beginning.{begun_here}
 use Rattle.kept_journal.specs.Keeping.{is_broken}
 use Rattle.cache_tier.specs.declared.reply.Reply.{Reply}
 use Rattle.cache_tier.specs.Replying.{reply_bytes, replies_bytes}
@@ -63,8 +64,17 @@ pub record WasLeft (once : Keeping) (w : World) : Type 0 where
   pub kept : w.journal.kept ≡ true
   pub over : once engine.journal w
 
+-- What a crash leaves at the moments of a line: the line leads with its reply from the same world, in which a way of the
+-- journal begins, to one in which the engine was left so. Its journal was kept over the disk there, so at each moment since
+-- the line began a crash leaves a point of that way (LeavesOnWay).
+pub record PassesBy (once : Keeping) (base : ℕ) (w : World) (line : List ℕ) (reply : Option Reply) : Type 0 where
+  pub world : World
+  pub goes : LineGoes base (begun_here w) line world reply
+  pub was : WasLeft once world
+
 -- So it was in the world in which a run begins, and in the world behind each of its lines. Where a line begins others
--- change no table of a writethrough group, and its reply tells no failed call of the journal's disk.
+-- change no table of a writethrough group, and its reply tells no failed call of the journal's disk. What a crash leaves
+-- at its moments is told.
 abbrev pub GoesOn : Keeping → (w : World) (lines : List Given) (replies : List (Option Reply)) (w' : World)
     → LineRun w lines replies w' → Type 0
 GoesOn once w [] [] w' run = WasLeft once w'
@@ -72,6 +82,7 @@ GoesOn once w [] (reply ∷ replies) w' run = ⊥
 GoesOn once w (g ∷ lines) [] w' run = ⊥
 GoesOn once w (g ∷ lines) (reply ∷ replies) w' run =
     WasLeft once w × IsUnshared w × (is_broken reply ≡ false) × GoesOn once run.0 lines replies w' run.2
+    × PassesBy once g.base w g.bytes reply
 
 -- Others change no table of a writethrough group: at no end of a line of these bytes, in whatever run, is such a group
 -- over a table that others change.
@@ -118,6 +129,7 @@ pub record Responds (result : Result (Unit {0}) Stop) (before behind : Outside) 
   pub at : IsAt behind.site world
   pub stands : is_broken reply ≡ false → StandsIn behind engine' world
   pub was : is_broken reply ≡ false → WasLeft behind.kept_once world
+  pub passes : is_broken reply ≡ false → PassesBy behind.kept_once base w line reply
   pub goes : LineGoes base w line world reply
   pub tells : TellsFault result reply
   pub passed : PassesReply result before.written behind.written waiting waiting' (reply_bytes reply)
@@ -147,14 +159,24 @@ pub record Serving (o : Origin) (given : List ℕ) (now : Outside) (session : Se
   pub passed : Splits (Some o.written) now.written (replies_bytes replies) session.output
 
 -- nothing comes behind the last line
-abbrev pub Rests : World → World → Type 0
-Rests w w' = w' ≡ w
+abbrev pub Rests : Keeping → World → World → Type 0
+Rests once w w' = w' ≡ w
 
--- the tail of the journal is flushed behind the last line, and nothing waits in it
-pub record HasFlushed (w w' : World) : Type 0 where
+-- What a crash leaves at the moments of the flush behind the last line: it leads from the same world, in which a way of
+-- the journal begins, to one over whose disk the journal was kept.
+pub record FlushesBy (once : Keeping) (w : World) : Type 0 where
+  pub world : World
+  pub flushed : tier_steps.Finishes (begun_here w) world None
+  pub journal : Option TierJournal
+  pub kept : world.journal.kept ≡ true
+  pub over : once journal world
+
+-- The tail of the journal is flushed behind the last line, and nothing waits in it. What a crash leaves meanwhile is told.
+pub record HasFlushed (once : Keeping) (w w' : World) : Type 0 where
   pub flushed : tier_steps.Finishes w w' None
   pub kept : w'.journal.kept ≡ true
   pub empty : w'.journal.tail ≡ []
+  pub passes : FlushesBy once w
 
 -- These are the replies of a run over the lines, behind each of which the engine was left so. At its end, behind what
 -- comes there, the site is as the run's last world says, whose journal is kept in its slots. There each committed
@@ -162,13 +184,13 @@ pub record HasFlushed (w w' : World) : Type 0 where
 -- unsettled, as behind a ttDrain that succeeded, each stands once, and the tables of each writethrough group are what
 -- all of its transactions make in commit order; and the READONLY groups of one set that have something to show have one
 -- position.
-pub record Answered (ends : World → World → Type 0) (o : Origin) (lines : List (List ℕ))
+pub record Answered (ends : Keeping → World → World → Type 0) (o : Origin) (lines : List (List ℕ))
     (replies : List (Option Reply)) (site : SiteState) (once : Keeping) : Type 0 where
   pub ran : World
   pub comes : Comes o lines replies ran
   pub goes : GoesOn once o.world comes.given replies ran comes.run
   pub last : World
-  pub ended : ends ran last
+  pub ended : ends once ran last
   pub at : IsAt site last
   pub slots : IsInSlots site last
   pub legal : KeepsCommitOrder last.history last.tier.log
@@ -202,7 +224,7 @@ abbrev pub Broken : Origin → List (List ℕ) → List (Option Reply) → SiteS
 Broken o lines replies site once = LineBroken o lines replies site once ⊎ EndBroken o lines replies site once
 
 -- The lines are answered, and all replies written.
-pub record Whole (ends : World → World → Type 0) (o : Origin) (lines : List (List ℕ)) (now : Outside) : Type 0 where
+pub record Whole (ends : Keeping → World → World → Type 0) (o : Origin) (lines : List (List ℕ)) (now : Outside) : Type 0 where
   pub replies : List (Option Reply)
   pub answered : Answered ends o lines replies now.site now.kept_once
   pub tells : now.written ≡ Some (o.written ++ replies_bytes replies)

@@ -109,7 +109,7 @@ module _ {D : Type 0} (state : D → SiteState) (possible : D → ℕ → Held �
             is = does_now numbers t id sound some on s has w it.world reply is (commits_now s w it.world reply (free s has w is keeps) applying);
             left = λ whole. it.left;
             keeps = λ whole. keeps_called state possible k' m d' w1 it.world (x.keeps refl) certain it.is.call.journal
-                (ap (λ (a : Tier). a.schema) it.is.tier ∙ applied_schema (sealed_own w.tier s) s.label it.is.result (with_ticket w.tier));
+                (ap (λ (a : Tier). a.schema) it.is.tier ∙ applied_schema (sealed_own w.tier s) s.label it.is.result (with_ticket w.tier)) it.at;
           }
 
       -- the flush failed

@@ -152,7 +152,7 @@ module _ {D : Type 0} (state : D → SiteState) (possible : D → ℕ → Held �
               is = passes s change w it.world reply (free w is keeps) does;
               left = λ whole. it.left;
               keeps = λ whole. keeps_called state possible k' m d' w1 it.world (x.keeps refl) certain it.is.call.journal
-                  (ap (λ (a : Tier). a.schema) it.is.tier ∙ passed_schema s w.tier.next it.is.ops it.is.result (with_ticket w.tier));
+                  (ap (λ (a : Tier). a.schema) it.is.tier ∙ passed_schema s w.tier.next it.is.ops it.is.result (with_ticket w.tier)) it.at;
             }
 
         -- the flush failed

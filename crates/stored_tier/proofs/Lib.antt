@@ -20,6 +20,7 @@ pub mod StoreChanges
 pub mod StoreLists
 pub mod StoreRows
 pub mod VerifyLaws
+pub mod WayLaws
 pub mod WriterLaws
 pub mod FillSteps
 pub mod GatherLaws

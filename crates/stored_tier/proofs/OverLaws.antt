@@ -27,6 +27,9 @@ use Rattle.cache_tier.specs.StandingBetween.{Stands}
 use Rattle.stored_tier.specs.declared.tier.Tier.{Tier as Stored}
 use Rattle.stored_tier.specs.Performing.{IsCaused, IsCausedOver, IsPerformedOver, KeepsSlots, Performs, PerformsOver, StandsFor, StaysWritten}
 use Rattle.stored_tier.specs.Sites.{IsAt}
+use Rattle.kept_journal.specs.Leaving.{HasBecome}
+use Rattle.kept_journal.proofs.WayLaws.{leaves_as, no_more}
+use Rattle.stored_tier.proofs.WayLaws.{at_history_of, grown_leaves}
 
 pub never_both : (b : Bool) → b ≡ true → b ≡ false → ⊥
 never_both true p q = cc
@@ -89,9 +92,9 @@ module _ {D : Type 0} (state : D → SiteState) (possible : D → ℕ → Held �
       record { there = t.there; told = t.told; history = at.history ∙ sym t.same; faults = at.faults ∙ sym bank; moment = refl; shared = at.shared ∙ sym shared }
 
   -- a journal is kept over calls of the bank
-  pub keeps_called : (k : Option TierJournal) (d d' : D) (w w' : World) → KeepsOver state possible d k w → KeepsCertain state possible d d' → w'.journal ≡ w.journal → w'.tier.schema ≡ w.tier.schema → KeepsOver state possible d' k w'
-  keeps_called None d d' w w' keeps certain journal schema = ap (λ (j : Journal). j.kept) journal ∙ keeps
-  keeps_called (Some t) d d' w w' keeps certain journal schema =
+  pub keeps_called : (k : Option TierJournal) (d d' : D) (w w' : World) → KeepsOver state possible d k w → KeepsCertain state possible d d' → w'.journal ≡ w.journal → w'.tier.schema ≡ w.tier.schema → IsAt (state d') w' → KeepsOver state possible d' k w'
+  keeps_called None d d' w w' keeps certain journal schema at = ap (λ (j : Journal). j.kept) journal ∙ keeps
+  keeps_called (Some t) d d' w w' keeps certain journal schema at =
       let c = certain keeps.there keeps.certain in
       record {
         there = c.now;
@@ -100,6 +103,9 @@ module _ {D : Type 0} (state : D → SiteState) (possible : D → ℕ → Held �
             (subst (λ j. Keeps w.tier.schema t c.now.slots j) (sym journal)
             (subst (λ s. Keeps w.tier.schema t s w.journal) (sym c.slots) keeps.keeps));
         version = keeps.version;
+        leaves =
+            grown_leaves state possible d d' t w w' keeps.there keeps.keeps c (at_history_of (state d') w' c.now at c.certain.told) journal
+            (subst (HasBecome w.tier.schema) (sym schema) (no_more w.tier.schema)) keeps.leaves;
       }
 
   -- what a function does besides
@@ -129,6 +135,7 @@ keeps_tier state possible d (Some t) w a schema keeps = record {
   certain = keeps.certain;
   keeps = subst (λ s. Keeps s t keeps.there.slots w.journal) (sym schema) keeps.keeps;
   version = keeps.version;
+  leaves = leaves_as state possible d keeps.there w (with_tier a w) w.journal.way schema refl refl keeps.leaves;
 }
 
 -- only room came to the journal
@@ -141,6 +148,7 @@ keeps_stays state possible d (Some t) (Some new) w stays keeps = record {
   certain = keeps.certain;
   keeps = stays.keeps w.tier.schema keeps.there.slots w.journal keeps.keeps;
   version = stays.same.version ∙ keeps.version;
+  leaves = keeps.leaves;
 }
 
 module _ {D : Type 0} (state : D → SiteState) (possible : D → ℕ → Held → Type 0) where
@@ -155,7 +163,7 @@ module _ {D : Type 0} (state : D → SiteState) (possible : D → ℕ → Held �
         at = it.at;
         is = it.is;
         stands = λ whole. it.stands;
-        keeps = λ whole. keeps_called state possible k' d d' w it.world (keeps_stays state possible d k k' w stays keeps) certain same.journal same.schema;
+        keeps = λ whole. keeps_called state possible k' d d' w it.world (keeps_stays state possible d k k' w stays keeps) certain same.journal same.schema it.at;
       }
 
   -- what is written, and then a quiet answer of the tier

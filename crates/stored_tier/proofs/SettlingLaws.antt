@@ -338,7 +338,7 @@ module _ {D : Type 0} (state : D → SiteState) (possible : D → ℕ → Held �
       let w1 : World = over_disk x.journal x.faults (state d1).moment w in
       let it = performs w1 (at_written state possible k1 d d1 w None (Flushes []) at x cause.bank cause.shared) (stands_written t w x.journal x.faults (state d1).moment stands) apart in
       let did = applied_of applied w1 it.world it.is in
-      let over = keeps_called state possible k1 d1 d2 w1 it.world (x.keeps refl) certain did.journal did.schema in
+      let over = keeps_called state possible k1 d1 d2 w1 it.world (x.keeps refl) certain did.journal did.schema it.at in
       let last = turns it.world it.at it.stands (still_apart w1 it.world did apart) over in
       record {
         world = last.world;

@@ -17,7 +17,8 @@ use Rattle.commit_journal.specs.Layout.{Reads}
 use Rattle.commit_journal.specs.Opening.{HaveBytes}
 use Rattle.propagators.specs.Certainty.{KeepsCertain}
 use Rattle.recovery_laws.specs.Notes.{commits_in}
-use Rattle.cache_tier.specs.Journals.{JournalEntry, next_behind}
+use Rattle.cache_tier.specs.Journals.{Journal, JournalEntry, next_behind}
+use Rattle.kept_journal.specs.Leaving.{LeavesOnWay}
 use Rattle.cache_tier.specs.StandingBetween.{Each, Stands}
 use Rattle.cache_tier.specs.TierStates.{Settings, opened}
 use Rattle.cache_tier.specs.Worlds.{IsUnshared, World}
@@ -113,7 +114,13 @@ module _ {D : Type 0} (state : D → SiteState) (possible : D → ℕ → Held �
             world = p.world;
             at = p.at;
             stands = p.stands;
-            keeps = record { there = c.now; certain = c.certain; keeps = subst (λ s. Keeps s k c.now.slots p.world.journal) (sym schema) kept; version = two };
+            keeps = record {
+              there = c.now;
+              certain = c.certain;
+              keeps = subst (λ s. Keeps s k c.now.slots p.world.journal) (sym schema) kept;
+              version = two;
+              leaves = subst (λ (j : Journal). LeavesOnWay state possible d3 c.now p.world j.way) (sym left.journal) tt;
+            };
             reopens = p.is;
           }
 

@@ -1,7 +1,7 @@
 use Rattle.cache_tier.proofs.ApartLaws.{age, commit, load, refresh, unload, use_one}
 use Rattle.cache_tier.proofs.PositionStatements.{run_keeps_one, step_keeps_one}
 use Rattle.cache_tier.proofs.OnceStatements.{run_keeps_once, step_keeps_once}
-use Rattle.cache_tier.proofs.StatementLaws.{run_keeps_journal, run_leads, step_keeps_journal, step_leads}
+use Rattle.cache_tier.proofs.StatementLaws.{run_keeps_journal, run_leads, step_keeps_journal, step_keeps_way, step_leads}
 use Rattle.cache_tier.proofs.WayLaws.{earlier_on_the_way, flush_leads, later_on_the_way, note_leads, rotate_leads, ways_go_on}
 use Rattle.cache_tier.proofs.FirstRunLaws.{first_run}
 use Rattle.cache_tier.proofs.KeyLaws.{taken_is_gone}
@@ -64,6 +64,9 @@ returns-clause-step_leads c = step_leads
 
 pub returns-clause-run_leads : goal.returns-clause-run_leads
 returns-clause-run_leads c = run_leads
+
+pub returns-clause-step_keeps_way : goal.returns-clause-step_keeps_way
+returns-clause-step_keeps_way c = step_keeps_way
 
 pub returns-clause-step_keeps_journal : goal.returns-clause-step_keeps_journal
 returns-clause-step_keeps_journal c = step_keeps_journal

@@ -9,7 +9,7 @@ pub returns-in-Ok-clause-flushes : goal.returns-in-Ok-clause-flushes
 returns-in-Ok-clause-flushes g c =
     batch_written g.D.Disk.state g.D.Disk.possible c.args.journal.now (Some c.flush_with.new.self) c.in-Some.journal c.args.disk.now c.flush_with.new.d c.in-Both.batch c.args.ready.now None c.in-Some.is c.in-Both.is
     (λ w entries now over holds. ok_flush g.D.Disk.state g.D.Disk.possible c.in-Some.journal c.flush_with.new.self c.args.disk.now c.flush_with.new.d w c.in-Both.batch entries now over holds
-    c.flush_with.ensures.moment c.in-Ok.ensures.flushed c.in-Ok.ensures.version)
+    c.flush_with.ensures.moment c.in-Ok.ensures.flushed c.in-Ok.ensures.version c.flush_with.ensures.crash)
 
 pub returns-in-Err-clause-flushes : goal.returns-in-Err-clause-flushes
 returns-in-Err-clause-flushes g c =

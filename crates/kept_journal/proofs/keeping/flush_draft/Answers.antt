@@ -15,7 +15,7 @@ returns-in-Ok-clause-flushes g c = λ e w now over draft.
     fitting_over g.D.Disk.state g.D.Disk.possible (Some c.flush_with.new.self) c.args.disk.now c.flush_with.new.d w (e ∷ []) None
     (not_full g.D.Disk.state g.D.Disk.possible c.args.journal.now c.in-Some.journal c.args.disk.now w c.args.draft.now c.in-Fits.batch e c.in-Some.is c.in-Fits.is over draft)
     (fits_flushed g.D.Disk.state g.D.Disk.possible c.args.journal.now c.in-Some.journal c.args.disk.now w c.args.draft.now c.in-Fits.batch e c.in-Some.is c.in-Fits.is over draft
-    c.flush_with.new.self c.flush_with.new.d now c.flush_with.ensures.moment c.in-Ok.ensures.flushed c.in-Ok.ensures.version)
+    c.flush_with.new.self c.flush_with.new.d now c.flush_with.ensures.moment c.in-Ok.ensures.flushed c.in-Ok.ensures.version c.flush_with.ensures.crash)
 
 pub returns-in-Err-clause-flushes : goal.returns-in-Err-clause-flushes
 returns-in-Err-clause-flushes g c = λ e w now over draft.

@@ -14,6 +14,7 @@ returns-in-Ok-clause-flushes g c = λ w now over.
     let it = subst (λ k. KeepsOver g.D.Disk.state g.D.Disk.possible c.args.disk.now k w) c.in-Some.is over in
     flushed_over g.D.Disk.state g.D.Disk.possible c.in-Some.journal _ c.args.disk.now c.flush.new.d w [] now it c.flush.ensures.moment
     (c.in-Ok.ensures.flushed w.tier.schema it.there w.journal it.certain it.keeps) c.in-Ok.ensures.version
+    (c.flush.ensures.crash w.tier.schema it.there w.journal it.certain it.keeps)
 
 pub returns-in-Err-clause-flushes : goal.returns-in-Err-clause-flushes
 returns-in-Err-clause-flushes g c = λ w now over.

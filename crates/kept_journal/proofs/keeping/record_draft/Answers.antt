@@ -18,7 +18,7 @@ pub returns-in-Ok-clause-records : goal.returns-in-Ok-clause-records
 returns-in-Ok-clause-records g c = λ e w now over draft.
     subst (λ b. IsWrittenOver g.D.Disk.state g.D.Disk.possible (Some c.flush_with.new.self) c.args.disk.now c.flush_with.new.d None (Records b e) w) (sym c.if-not-durable.false)
     (fits_flushed g.D.Disk.state g.D.Disk.possible c.args.journal.now c.in-Some.journal c.args.disk.now w c.args.draft.now c.in-Fits.batch e c.in-Some.is c.in-Fits.is over draft
-    c.flush_with.new.self c.flush_with.new.d now c.flush_with.ensures.moment c.in-Ok.ensures.flushed c.in-Ok.ensures.version)
+    c.flush_with.new.self c.flush_with.new.d now c.flush_with.ensures.moment c.in-Ok.ensures.flushed c.in-Ok.ensures.version c.flush_with.ensures.crash)
 
 pub returns-in-Err-clause-records : goal.returns-in-Err-clause-records
 returns-in-Err-clause-records g c = λ e w now over draft.

@@ -13,6 +13,7 @@ returns-in-Ok-clause-turns g c = λ w now over holds.
     let it = subst (λ k. KeepsOver g.D.Disk.state g.D.Disk.possible c.args.disk.now k w) c.in-Some.is over in
     turned_over g.D.Disk.state g.D.Disk.possible c.in-Some.journal _ c.args.disk.now c.rotate.new.d w now it c.rotate.ensures.moment
     (c.in-Ok.ensures.rotated w.tier.schema it.there w.journal (slot_entries w.tier) it.certain it.keeps holds) c.in-Ok.ensures.version
+    (c.rotate.ensures.crash w.tier.schema it.there w.journal (slot_entries w.tier) it.certain it.keeps holds)
 
 pub returns-in-Err-Limit-clause-turns : goal.returns-in-Err-Limit-clause-turns
 returns-in-Err-Limit-clause-turns g c = λ w now over holds.

@@ -3,6 +3,8 @@ use Rattle.cache_engine.proofs.RequestLaws.{line_kept}
 use Rattle.session_cli.proofs.OutputLaws.{splits_none}
 use Rattle.session_cli.proofs.SlotLaws.{in_slots}
 use Rattle.session_cli.proofs.StopLaws.{disk_cause, stop_none}
+use Rattle.session_cli.proofs.WayLaws.{at_begun, keeps_begun, left_begun}
+use Rattle.kept_journal.specs.Beginning.{begun_here}
 use Rattle.session_cli.specs.declared.answering.Stop.TheVariants as stop
 use Rattle.session_cli.proofs.answering.respond.Goals as goal
 
@@ -31,6 +33,19 @@ returns-in-Some-clause-serves g c = λ w at stands unshared.
         kept = kept;
         over = record { site = c.request.new.site; at = it.at; keeps = it.keeps whole };
       };
+      passes = λ whole.
+          let by = c.in-Some.ensures.performs (begun_here w) (at_begun (g.P.Disk.state c.args.site.now) w at) (left_begun c.args.engine.now.tier c.args.engine.now.doubt w stands.left) unshared (keeps_begun g.P.Disk.state g.P.Disk.possible c.args.site.now c.args.engine.now.journal w at stands.keeps) in
+          record {
+            world = by.world;
+            goes = by.is;
+            was = record {
+              engine = c.request.new.engine;
+              order = c.in-Some.ensures.order;
+              left = by.left whole;
+              kept = line_kept c.heed_law.ensures c.line_base-base.result.0 (begun_here w) c.args.line.now by.world (Some c.in-Some.reply) by.is ∙ stands.kept;
+              over = record { site = c.request.new.site; at = by.at; keeps = by.keeps whole };
+            };
+          };
       goes = it.is;
       tells = c.pass_on.ensures.tells;
       passed = c.pass_on.ensures.bytes;
@@ -65,6 +80,19 @@ returns-in-None-clause-serves g c = λ w at stands unshared.
         kept = kept;
         over = record { site = c.request.new.site; at = it.at; keeps = it.keeps whole };
       };
+      passes = λ whole.
+          let by = c.in-None.ensures.performs (begun_here w) (at_begun (g.P.Disk.state c.args.site.now) w at) (left_begun c.args.engine.now.tier c.args.engine.now.doubt w stands.left) unshared (keeps_begun g.P.Disk.state g.P.Disk.possible c.args.site.now c.args.engine.now.journal w at stands.keeps) in
+          record {
+            world = by.world;
+            goes = by.is;
+            was = record {
+              engine = c.request.new.engine;
+              order = c.in-None.ensures.order;
+              left = by.left whole;
+              kept = line_kept c.heed_law.ensures c.line_base-base.result.0 (begun_here w) c.args.line.now by.world None by.is ∙ stands.kept;
+              over = record { site = c.request.new.site; at = by.at; keeps = by.keeps whole };
+            };
+          };
       goes = it.is;
       tells = refl;
       passed = splits_none (g.K.Sink.written c.args.sink.now) c.args.output.now;

@@ -1,0 +1,255 @@
+-- Points on the way of a journal, and what keeps each of them safe.
+use Rattle.std.proofs.Common.{◌≡◌, ◌⊎◌, inl, inr, ℕ, ◌+◌, ◌≤◌, ◌<◌, ◌^◌, Bool, true, false, cond, nat_eq, Option, Some, None, List, [], ◌∷◌, ◌++◌, length, take, refl, sym, ap, subst, ◌∙◌, arith}
+use Rattle.std.specs.Prelude.{fold}
+use Rattle.std.proofs.Math.Nat.{le-max_left}
+use Rattle.std.proofs.lemmas.Bool.{cases_lt}
+use Rattle.std.proofs.lemmas.List.{length-append, take-append-le}
+use Rattle.std.proofs.lemmas.List.Sums.{fold-append}
+use Rattle.table_defs.specs.declared.definition.TableDef.{TableDef}
+use Rattle.table_state.specs.declared.history.Entry.{Entry}
+use Rattle.table_state.specs.declared.history.Entry.TheVariants.{Definition, Foreign, Own}
+use Rattle.table_state.specs.declared.history.Sealed.{Sealed}
+use Rattle.table_state.specs.Histories.{state_of}
+use Rattle.table_state.specs.Tables.{TableState}
+use Rattle.recovery_laws.specs.Crashes.{Among}
+use Rattle.recovery_laws.specs.Matching.{IsMatched}
+use Rattle.recovery_laws.specs.Notes.{commits_in, found}
+use Rattle.cache_tier.specs.Journals.{Commits, Defines, Drops, JournalEntry, Marks, Numbers, Prepares, SetsLoaded, SetsState, Stretch, Way, next_behind, next_with, passed_by}
+use Rattle.cache_tier.specs.WayPoints.{IsPoint, turned_at}
+use Rattle.recovery.specs.Recalling.{AreMatched, notes_of}
+use Rattle.cache_tier.specs.JournalWays.{first_of}
+use Rattle.recovery.specs.SafeWays.{EndBy, IsHeldIn, IsSafe, IsSafeOn, IsSafeWay, commits_of}
+
+-- ---- points
+
+abbrev pub stretch_of : List JournalEntry → ℕ → Stretch
+stretch_of entries until = record { entries = entries; until = until }
+
+-- what is flushed now
+point_now : (from : ℕ) (past : List Stretch) (flushed : List JournalEntry) (end count : ℕ) → turned_at from past ≤ count → count ≤ end → IsPoint from past flushed end flushed count
+point_now from [] flushed end count lo hi = (lo, hi, refl)
+point_now from (s ∷ past) flushed end count lo hi = inr (point_now s.until past flushed end count lo hi)
+
+turned_push : (from : ℕ) (past : List Stretch) (s : Stretch) → turned_at from (past ++ s ∷ []) ≡ s.until
+turned_push from [] s = refl
+turned_push from (x ∷ past) s = turned_push x.until past s
+
+-- once something else is flushed: a point from before, or that
+point_split : (from : ℕ) (past : List Stretch) (flushed new : List JournalEntry) (until end : ℕ) (entries : List JournalEntry) (count : ℕ) → IsPoint from (past ++ stretch_of flushed until ∷ []) new end entries count
+    → IsPoint from past flushed until entries count ⊎ ((until ≤ count) × (count ≤ end) × (entries ≡ new))
+point_split from [] flushed new until end entries count p = p
+point_split from (s ∷ past) flushed new until end entries count (inl p) = inl (inl p)
+point_split from (s ∷ past) flushed new until end entries count (inr p) = elim (point_split s.until past flushed new until end entries count p) [ inl q ↦ inl (inr q) | inr q ↦ inr q ]
+
+-- over a longer history: a point from before, or what is flushed
+point_early : (from : ℕ) (past : List Stretch) (flushed : List JournalEntry) (end later : ℕ) (entries : List JournalEntry) (count : ℕ) → IsPoint from past flushed later entries count
+    → IsPoint from past flushed end entries count ⊎ ((end < count) × (count ≤ later) × (entries ≡ flushed))
+point_early from [] flushed end later entries count p = elim (cases_lt end count) [ inl lt ↦ inr (lt, p.1, p.2) | inr le ↦ inl (p.0, le, p.2) ]
+point_early from (s ∷ past) flushed end later entries count (inl p) = inl (inl p)
+point_early from (s ∷ past) flushed end later entries count (inr p) = elim (point_early s.until past flushed end later entries count p) [ inl q ↦ inl (inr q) | inr q ↦ inr q ]
+
+point_within : (from : ℕ) (past : List Stretch) (flushed : List JournalEntry) (end : ℕ) (entries : List JournalEntry) (count : ℕ) → EndBy end past → IsPoint from past flushed end entries count → count ≤ end
+point_within from [] flushed end entries count all p = p.1
+point_within from (s ∷ past) flushed end entries count all (inl p) = let low : count ≤ s.until = p.1 in let high : s.until ≤ end = all.0 in omega (arith, low, high)
+point_within from (s ∷ past) flushed end entries count all (inr p) = point_within s.until past flushed end entries count all.1 p
+
+end_later : (end later : ℕ) (past : List Stretch) → end ≤ later → EndBy end past → EndBy later past
+end_later end later [] le all = tt
+end_later end later (s ∷ past) le all = (let high : s.until ≤ end = all.0 in omega (arith, high, le), end_later end later past le all.1)
+
+end_push : (end : ℕ) (past : List Stretch) (s : Stretch) → s.until ≤ end → EndBy end past → EndBy end (past ++ s ∷ [])
+end_push end [] s le all = (le, tt)
+end_push end (x ∷ past) s le all = (all.0, end_push end past s le all.1)
+
+first_push : (past : List Stretch) (flushed new : List JournalEntry) (until : ℕ) → first_of (past ++ stretch_of flushed until ∷ []) new ≡ first_of past flushed
+first_push [] flushed new until = refl
+first_push (s ∷ past) flushed new until = refl
+
+take_whole : {X : Type 0} (xs : List X) → take (length xs) xs ≡ xs
+take_whole [] = refl
+take_whole (x ∷ xs) = ap (λ l. x ∷ l) (take_whole xs)
+
+-- ---- what is held
+
+more_commits : (xs ys : List JournalEntry) (s : Sealed) → Among s (commits_of xs) → Among s (commits_of (xs ++ ys))
+more_commits [] ys s a = absurd a
+more_commits (Commits x ∷ xs) ys s (inl e) = inl e
+more_commits (Commits x ∷ xs) ys s (inr a) = inr (more_commits xs ys s a)
+more_commits (Prepares x ∷ xs) ys s a = more_commits xs ys s a
+more_commits (Numbers t ∷ xs) ys s a = more_commits xs ys s a
+more_commits (Marks t ∷ xs) ys s a = more_commits xs ys s a
+more_commits (Defines d text ∷ xs) ys s a = more_commits xs ys s a
+more_commits (Drops name ∷ xs) ys s a = more_commits xs ys s a
+more_commits (SetsState name state ∷ xs) ys s a = more_commits xs ys s a
+more_commits (SetsLoaded name flag ∷ xs) ys s a = more_commits xs ys s a
+
+found_longer : (t : ℕ) (h more : List Entry) (s : Sealed) → found t h ≡ Some s → found t (h ++ more) ≡ Some s
+found_longer t [] more s e = Prim.cc
+found_longer t (Definition def ∷ h) more s e = found_longer t h more s e
+found_longer t (Foreign ops ∷ h) more s e = found_longer t h more s e
+found_longer t (Own own ops ∷ h) more s e = by (nat_eq own.0 t) e (found_longer t h more s)
+  where
+    by : (b : Bool) → cond b (Some (record { ticket = own; ops = ops })) (found t h) ≡ Some s → (found t h ≡ Some s → found t (h ++ more) ≡ Some s) → cond b (Some (record { ticket = own; ops = ops })) (found t (h ++ more)) ≡ Some s
+    by true f rest = f
+    by false f rest = rest f
+
+-- in more entries
+pub held_behind : (xs ys : List JournalEntry) (h : List Entry) (s : Sealed) → IsHeldIn xs h s → IsHeldIn (xs ++ ys) h s
+held_behind xs ys h s (inl a) = inl (more_commits xs ys s a)
+held_behind xs ys h s (inr e) = inr e
+
+-- in a longer history
+held_longer : (xs : List JournalEntry) (h more : List Entry) (s : Sealed) → IsHeldIn xs h s → IsHeldIn xs (h ++ more) s
+held_longer xs h more s (inl a) = inl a
+held_longer xs h more s (inr e) = inr (found_longer s.ticket.0 h more s e)
+
+-- as the laws of crashes see them
+pub commits_same : (schema : List TableDef) (xs : List JournalEntry) → commits_in (notes_of schema xs) ≡ commits_of xs
+commits_same schema [] = refl
+commits_same schema (Commits s ∷ xs) = ap (λ l. s ∷ l) (commits_same schema xs)
+commits_same schema (Prepares s ∷ xs) = commits_same schema xs
+commits_same schema (Numbers t ∷ xs) = commits_same schema xs
+commits_same schema (Marks t ∷ xs) = commits_same schema xs
+commits_same schema (Defines d text ∷ xs) = commits_same schema xs
+commits_same schema (Drops name ∷ xs) = commits_same schema xs
+commits_same schema (SetsState name state ∷ xs) = commits_same schema xs
+commits_same schema (SetsLoaded name flag ∷ xs) = commits_same schema xs
+
+-- ---- tickets
+
+rise_one : (n : ℕ) (e : JournalEntry) → n ≤ next_with n e
+rise_one n (Commits s) = le-max_left n (s.ticket.0 + 1)
+rise_one n (Prepares s) = le-max_left n (s.ticket.0 + 1)
+rise_one n (Numbers t) = le-max_left n (t + 1)
+rise_one n (Marks t) = le-max_left n t
+rise_one n (Defines d text) = omega arith
+rise_one n (Drops name) = omega arith
+rise_one n (SetsState name state) = omega arith
+rise_one n (SetsLoaded name flag) = omega arith
+
+rises : (n : ℕ) (ys : List JournalEntry) → n ≤ fold next_with n ys
+rises n [] = omega arith
+rises n (e ∷ ys) = let one : n ≤ next_with n e = rise_one n e in let rest : next_with n e ≤ fold next_with (next_with n e) ys = rises (next_with n e) ys in omega (arith, one, rest)
+
+pub front_below : (xs ys : List JournalEntry) → next_behind xs ≤ next_behind (xs ++ ys)
+front_below xs ys = subst (λ n. next_behind xs ≤ n) (sym (fold-append next_with 1 xs ys)) (rises (next_behind xs) ys)
+
+-- ---- safe ways
+
+module _ (next later : ℕ) (flushed : List JournalEntry) (h : List Entry) (up : next ≤ later) where
+  -- the last point is what is flushed now
+  held_now : (way : Way) → IsSafeWay next flushed h way → later ≤ 2 ^ 63 → (s : Sealed) → IsHeldIn (first_of way.past flushed) (take way.from h) s → IsHeldIn flushed h s
+  held_now way y cap s x =
+      subst (λ l. IsHeldIn flushed l s) (take_whole h)
+      ((y.each (omega (arith, cap, up)) flushed (length h) (point_now way.from way.past flushed (length h) (length h) y.turned (omega arith)) (omega arith)).held s x)
+
+  still_way : (way : Way) → IsSafeWay next flushed h way → IsSafeWay later flushed h way
+  still_way way y = record { begun = y.begun; ended = y.ended; turned = y.turned; each = λ cap entries count p le. y.each (omega (arith, cap, up)) entries count p le }
+
+  -- something else is flushed
+  module _ (new : List JournalEntry) (match : later ≤ 2 ^ 63 → AreMatched new h) (step : (s : Sealed) → IsHeldIn flushed h s → IsHeldIn new h s) (way : Way) (y : IsSafeWay next flushed h way) where
+    abbrev behind : List Stretch
+    behind = way.past ++ stretch_of flushed (length h) ∷ []
+
+    abbrev SafeAt : List JournalEntry → List Entry → Type 0
+    SafeAt entries n = IsSafe (first_of way.past flushed) (take way.from h) entries n
+
+    at_end : later ≤ 2 ^ 63 → (entries : List JournalEntry) (count : ℕ) → (length h ≤ count) × (count ≤ length h) × (entries ≡ new) → IsSafe (first_of way.past flushed) (take way.from h) entries (take count h)
+    at_end cap entries count p =
+        let low : length h ≤ count = p.0 in
+        let high : count ≤ length h = p.1 in
+        let same : count ≡ length h = omega (arith, low, high) in
+        subst (λ n. SafeAt entries n) (sym (ap (λ n. take n h) same ∙ take_whole h))
+        (subst (λ l. SafeAt l h) (sym p.2) (record { matched = match cap; held = λ s x. step s (held_now way y cap s x) }))
+
+    turned_way : IsSafeWay later new h (record { since = way.since; from = way.from; past = behind })
+    turned_way = record {
+      begun = y.begun;
+      ended = end_push (length h) way.past (stretch_of flushed (length h)) (omega arith) y.ended;
+      turned = subst (λ n. n ≤ length h) (sym (turned_push way.from way.past (stretch_of flushed (length h)))) (omega arith);
+      each = λ cap entries count p le.
+          subst (λ f. IsSafe f (take way.from h) entries (take count h)) (sym (first_push way.past flushed new (length h)))
+          (elim (point_split way.from way.past flushed new (length h) (length h) entries count p) [
+            | inl old ↦ y.each (omega (arith, cap, up)) entries count old le
+            | inr now ↦ at_end cap entries count now
+          ]);
+    }
+
+  -- the history has an entry more
+  module _ (e : Entry) (match : later ≤ 2 ^ 63 → AreMatched flushed (h ++ e ∷ [])) (way : Way) (y : IsSafeWay next flushed h way) where
+    abbrev now : List Entry
+    now = h ++ e ∷ []
+
+    size : length (h ++ e ∷ []) ≡ length h + 1
+    size = length-append h (e ∷ [])
+
+    within : length h ≤ length (h ++ e ∷ [])
+    within = omega (arith, size)
+
+    abbrev SafeIn : List JournalEntry → List Entry → Type 0
+    SafeIn entries n = IsSafe (first_of way.past flushed) (take way.from (h ++ e ∷ [])) entries n
+
+    early_same : take way.from (h ++ e ∷ []) ≡ take way.from h
+    early_same = take-append-le way.from h (e ∷ []) y.begun
+
+    before : later ≤ 2 ^ 63 → (entries : List JournalEntry) (count : ℕ) → IsPoint way.from way.past flushed (length h) entries count → IsSafe (first_of way.past flushed) (take way.from (h ++ e ∷ [])) entries (take count (h ++ e ∷ []))
+    before cap entries count p =
+        let low : count ≤ length h = point_within way.from way.past flushed (length h) entries count y.ended p in
+        subst (λ n. SafeIn entries n) (sym (take-append-le count h (e ∷ []) low))
+        (subst (λ b. IsSafe (first_of way.past flushed) b entries (take count h)) (sym early_same) (y.each (omega (arith, cap, up)) entries count p low))
+
+    at_last : later ≤ 2 ^ 63 → (entries : List JournalEntry) (count : ℕ) → (length h < count) × (count ≤ length (h ++ e ∷ [])) × (entries ≡ flushed) → IsSafe (first_of way.past flushed) (take way.from (h ++ e ∷ [])) entries (take count (h ++ e ∷ []))
+    at_last cap entries count p =
+        let low : length h < count = p.0 in
+        let high : count ≤ length (h ++ e ∷ []) = p.1 in
+        let one : length (h ++ e ∷ []) ≡ length h + 1 = size in
+        let same : count ≡ length (h ++ e ∷ []) = omega (arith, low, high, one) in
+        subst (λ n. SafeIn entries n) (sym (ap (λ n. take n (h ++ e ∷ [])) same ∙ take_whole (h ++ e ∷ [])))
+        (subst (λ l. SafeIn l (h ++ e ∷ [])) (sym p.2)
+        (subst (λ b. IsSafe (first_of way.past flushed) b flushed (h ++ e ∷ [])) (sym early_same) (record { matched = match cap; held = λ s x. held_longer flushed h (e ∷ []) s (held_now way y cap s x) })))
+
+    longer_way : IsSafeWay later flushed (h ++ e ∷ []) way
+    longer_way = record {
+      begun = let low = y.begun in let more = within in omega (arith, low, more);
+      ended = end_later (length h) (length (h ++ e ∷ [])) way.past within y.ended;
+      turned = let low = y.turned in let more = within in omega (arith, low, more);
+      each = λ cap entries count p le. elim (point_early way.from way.past flushed (length h) (length (h ++ e ∷ [])) entries count p) [
+        | inl old ↦ before cap entries count old
+        | inr last ↦ at_last cap entries count last
+      ];
+    }
+
+  -- ---- where a way is asked for
+
+  pub safe_still : (way : Option Way) → IsSafeOn next flushed h way → IsSafeOn later flushed h way
+  safe_still None y = tt
+  safe_still (Some way) y = still_way way y
+
+  pub safe_turned : (new : List JournalEntry) → (later ≤ 2 ^ 63 → AreMatched new h) → ((s : Sealed) → IsHeldIn flushed h s → IsHeldIn new h s) → (way : Option Way) → IsSafeOn next flushed h way → IsSafeOn later new h (passed_by flushed (length h) way)
+  safe_turned new match step None y = tt
+  safe_turned new match step (Some way) y = turned_way new match step way y
+
+  pub safe_longer : (e : Entry) → (later ≤ 2 ^ 63 → AreMatched flushed (h ++ e ∷ [])) → (way : Option Way) → IsSafeOn next flushed h way → IsSafeOn later flushed (h ++ e ∷ []) way
+  safe_longer e match None y = tt
+  safe_longer e match (Some way) y = longer_way e match way y
+
+-- an entry more that the same notes match
+pub safe_step : (next : ℕ) (flushed : List JournalEntry) (schema : List TableDef) (way : Option Way) → next_behind flushed ≤ next → (h : List Entry) (e : Entry) (b : TableState) → IsSafeOn next flushed h way → state_of (h ++ e ∷ []) ≡ Some b → b.schema ≡ schema
+    → IsMatched (notes_of schema flushed) (h ++ e ∷ []) → IsSafeOn next flushed (h ++ e ∷ []) way
+safe_step next flushed schema way below h e b y leaves known m =
+    safe_longer next next flushed h (omega arith) e
+    (λ cap. record { backing = b; leaves = leaves; matched = subst (λ z. IsMatched (notes_of z flushed) (h ++ e ∷ [])) (sym known) m; last = omega (arith, below, cap) }) way y
+
+-- a way that begins now
+pub safe_begun : (next moment : ℕ) (flushed : List JournalEntry) (h : List Entry) → (next ≤ 2 ^ 63 → AreMatched flushed h) → IsSafeWay next flushed h (record { since = moment; from = length h; past = [] })
+safe_begun next moment flushed h match = record {
+  begun = omega arith;
+  ended = tt;
+  turned = omega arith;
+  each = λ cap entries count p le.
+      let low : length h ≤ count = p.0 in
+      let same : count ≡ length h = omega (arith, low, le) in
+      subst (λ n. IsSafe flushed (take (length h) h) entries n) (ap (λ n. take n h) (sym same))
+      (subst (λ l. IsSafe flushed (take (length h) h) l (take (length h) h)) (sym p.2)
+      (record { matched = subst (AreMatched flushed) (sym (take_whole h)) (match cap); held = λ s x. x }));
+}
